@@ -1,7 +1,7 @@
 -- What holds of a context once a lookup was lent from it that it had stored (on
 -- specs/AfterLookups.antt and specs/Skips.antt).
-use Rattle.std.proofs.Common.{◌≡◌, ℕ, true, false, List, Option, Some, None, Result, Ok, Err, refl, sym, ap, subst, ◌∙◌}
-use Rattle.std.specs.Prelude.{OnOk}
+use Rattle.std.proofs.Common.{◌≡◌, ℕ, Bool, true, false, List, Option, Some, None, Result, Ok, Err, refl, sym, ap, subst, ◌∙◌}
+use Rattle.std.specs.Prelude.{IfErr, OnOk}
 use Rattle.gimli_read.specs.Alike.{HadMemory}
 use Rattle.gimli_read.specs.declared.error.Error.{Error}
 use Rattle.gimli_read.specs.Reading.{◌>>=◌, ExactlyUnlessOom}
@@ -17,9 +17,9 @@ use Rattle.addr2line_units.specs.RangedUnits.{unit_records}
 use Rattle.addr2line_units.specs.Suspended.{IfLoad, IfOutput}
 use Rattle.addr2line_units.specs.UnitIndex.{UnitIndex, index_units}
 use Rattle.addr2line_units.specs.Views.{FirstAnswers, SplitLoad}
-use Rattle.addr2line.specs.AfterLookups.{AfterFrames, IsFoundUnit, IsLent, IsStored, Suspends}
+use Rattle.addr2line.specs.AfterLookups.{AfterFrames, AfterFramesOver, IsFoundUnit, IsLent, IsStored, NeedsNoMemory, Suspends}
 use Rattle.addr2line.specs.Context.{ContextState}
-use Rattle.addr2line.specs.Lookups.{IsLoadOf, frames_told, lookup_stop, stop_in, unit_of, unit_told}
+use Rattle.addr2line.specs.Lookups.{IsFaultOfAsked, IsLoadOf, frames_told, lookup_stop, stop_in, unit_of, unit_told}
 use Rattle.addr2line_units.specs.UnitsState.{waiting_unit}
 use Rattle.addr2line.specs.Skips.{AfterSkip, skipped_answers}
 
@@ -44,6 +44,11 @@ none_waits (Ok x) (Waits n) h = absurd cc
 none_waits (Ok x) (Finds n frames) h = refl
 none_waits (Ok x) FindsNothing h = refl
 none_waits (Err e) stop h = refl
+
+-- what is so of the refusal of a lookup is so of what is lent
+lent_alone : {X : Type 0} (walked : Result (Unit {0}) Error) (P : Error → Type 0) (o : Result X Error) → IfErr walked P → IfErr o (λ e. walked ≡ Err e) → IfErr o P
+lent_alone walked P (Ok x) h k = tt
+lent_alone walked P (Err e) h k = subst (λ w. IfErr w P) k h
 
 -- a lookup that was stored and has ended waits for no unit
 pub never_waits : (walked : Result (Unit {0}) Error) (stop : Stop) (n : ℕ) → OnOk walked (waiting_unit stop ≡ None) → walked ≡ Ok tt → stop ≡ Waits n → ⊥
@@ -72,6 +77,15 @@ module _ (faults : Faults) (probe : ℕ) (old mid : ContextState) (walked : Resu
       memory = λ few ended. h.1.memory (stop_ended walked mid.stop (lookup_stop faults mid.sections mid.answers probe) stored (ap is_waiting same_lookup ∙ ended)) (a.memory few ended);
     })
 
+    pub frames_over : {L X D S : Type 0} (shares : Bool) → (NeedsNoMemory shares faults mid probe → IfErr walked (IsFaultOfAsked faults old.sections old.answers probe)) → (new : ContextState) (result : LookupResult L (Result X Error) D S) → IfOutput result (λ o. (new ≡ mid) × IsLent walked mid.stop o)
+        → IfOutput result (λ o. AfterFramesOver shares faults probe o old new)
+    frames_over shares alone new (Load c) h = tt
+    frames_over {L = L} {X = X} {D = D} {S = S} shares alone new (Output o) h = record {
+      after = frames_after {L = L} {X = X} {D = D} {S = S} new (Output o) h;
+      no_memory = λ none ended. lent_alone walked (IsFaultOfAsked faults old.sections old.answers probe) o (alone (subst (λ n. NeedsNoMemory shares faults n probe) h.0 none))
+          (h.1.refused (stop_ended walked mid.stop (lookup_stop faults mid.sections mid.answers probe) stored (ap is_waiting same_lookup ∙ ended)));
+    }
+
     -- the rest of a lookup that waits
     pub suspends : (number : ℕ) (load : SplitLoad) (new : ContextState) → new ≡ mid → walked ≡ Ok tt → mid.stop ≡ Waits number → IsLoadOf mid.sections number load → Suspends faults probe number load old new
     suspends number load new held is waits of = record {
@@ -80,11 +94,11 @@ module _ (faults : Faults) (probe : ℕ) (old mid : ContextState) (walked : Resu
       after = subst (λ n. AfterFrames {X = Unit {0}} faults probe (Ok tt) old n) (sym held) (subst (λ r. AfterFrames {X = Unit {0}} faults probe r old mid) is a);
     }
 
-  module _ (a : AfterSkip faults probe walked old mid) where
+  module _ (shares : Bool) (a : AfterSkip shares faults probe walked old mid) where
     -- the output of a lookup of which none was answered to each load
-    pub skip_after : {L X D S : Type 0} (new : ContextState) (result : LookupResult L (Result X Error) D S) → OnOk walked (waiting_unit mid.stop ≡ None) → IfOutput result (λ o. (new ≡ mid) × IsLent walked mid.stop o) → IfOutput result (λ o. AfterSkip faults probe o old new)
+    pub skip_after : {L X D S : Type 0} (new : ContextState) (result : LookupResult L (Result X Error) D S) → OnOk walked (waiting_unit mid.stop ≡ None) → IfOutput result (λ o. (new ≡ mid) × IsLent walked mid.stop o) → IfOutput result (λ o. AfterSkip shares faults probe o old new)
     skip_after new (Load c) ended h = tt
-    skip_after {X = X} new (Output o) ended h = subst (λ n. AfterSkip {X = X} faults probe o old n) (sym h.0) (record {
+    skip_after {X = X} new (Output o) ended h = subst (λ n. AfterSkip {X = X} shares faults probe o old n) (sym h.0) (record {
       sections = a.sections;
       answers = λ told. a.answers (h.1.ready told);
       begun = a.begun;
@@ -92,6 +106,7 @@ module _ (faults : Faults) (probe : ℕ) (old mid : ContextState) (walked : Resu
       raised = a.raised;
       ready = λ told. a.ready (h.1.ready told);
       memory = λ few. h.1.memory (none_waits walked mid.stop ended) (a.memory few);
+      no_memory = λ none. lent_alone walked (IsFaultOfAsked faults mid.sections mid.answers probe) o (a.no_memory none) (h.1.refused (none_waits walked mid.stop ended));
     })
 
     pub outputs_skipped : {L V X D S : Type 0} (reading : Sections → FirstAnswers → ℕ → Result V Error) (see : X → V) (new : ContextState) (result : LookupResult L (Result X Error) D S) → IfOutput result (λ o. (new ≡ mid) × IsLent walked mid.stop o)
@@ -109,15 +124,16 @@ module _ (faults : Faults) (probe : ℕ) (old mid : ContextState) (walked : Resu
 
 -- what is lent of a lookup that has ended, of one that was refused, and of one whose load is refused
 pub lent_ok : {X : Type 0} (stop : Stop) (x : X) → IsLent (Ok tt) stop (Ok x)
-lent_ok stop x = record { ready = λ told. tt; memory = λ ended told. tt }
+lent_ok stop x = record { ready = λ told. tt; memory = λ ended told. tt; refused = λ ended. tt }
 
 pub lent_fault : {X : Type 0} (stop : Stop) (e : Error) → IsLent {X = X} (Err e) stop (Err e)
-lent_fault stop e = record { ready = λ told. told; memory = λ ended told. told }
+lent_fault stop e = record { ready = λ told. told; memory = λ ended told. told; refused = λ ended. refl }
 
 pub lent_no_load : {X : Type 0} (stop : Stop) (n : ℕ) (e : Error) → stop ≡ Waits n → IsLent {X = X} (Ok tt) stop (Err e)
 lent_no_load stop n e waits = record {
   ready = λ told. tt;
   memory = λ ended told. let f : true ≡ false = sym (ap (λ s. is_waiting (Ok s)) waits) ∙ ended in absurd cc;
+  refused = λ ended. let f : true ≡ false = sym (ap (λ s. is_waiting (Ok s)) waits) ∙ ended in absurd cc;
 }
 
 -- the frames of a lookup that has ended

@@ -2,7 +2,7 @@
 -- specs/Answers.antt and specs/Lookups.antt).
 use Rattle.std.proofs.Common.{◌≡◌, ℕ, ◌<◌, [], length, List, Option, Result, Ok, Err, refl, sym, ap, subst, ◌∙◌, true}
 use Rattle.std.proofs.lemmas.Bool.{eqb-true}
-use Rattle.std.specs.Prelude.{OnOk}
+use Rattle.std.specs.Prelude.{IfErr, OnOk}
 use Rattle.gimli_read.specs.declared.error.Error.{Error}
 use Rattle.gimli_read.specs.Reading.{◌>>=◌}
 use Rattle.gimli.specs.Sections.{Sections}
@@ -13,15 +13,16 @@ use Rattle.addr2line_units.specs.AfterUnits as left
 use Rattle.addr2line_units.specs.Cover.{cover}
 use Rattle.addr2line_units.specs.FramesLookup.{Stop, Waits, Finds, FindsNothing, main_scope, with_answer}
 use Rattle.addr2line_units.specs.LoadLaws.{IsListed}
+use Rattle.addr2line_units.specs.Loads.{load_result}
 use Rattle.addr2line_units.specs.LoadLaws as laws
 use Rattle.addr2line_units.specs.UnitIndex.{UnitIndex, index_units}
 use Rattle.addr2line_units.specs.UnitsState.{UnitsState}
 use Rattle.addr2line_units.specs.Views.{FirstAnswers}
 use Rattle.addr2line_units.proofs.LoadLawLemmas.{fewer_left, waits_listed}
-use Rattle.addr2line.specs.Answers.{AfterAnswer, answered}
+use Rattle.addr2line.specs.Answers.{AfterAnswer, answered, load_reply}
 use Rattle.addr2line.specs.Context.{IsContext, seen_context}
 use Rattle.addr2line.specs.Lookups.{loads_at, lookup_stop, stop_in, waits_for}
-use Rattle.addr2line.proofs.ContextLemmas.{at_made, or_made, still_context}
+use Rattle.addr2line.proofs.ContextLemmas.{at_made, by_made, or_made, still_context}
 
 -- a lookup that waits for the unit of a number
 waits_is : (n : ℕ) (r : Result Stop Error) → waits_for n r ≡ true → r ≡ Ok (Waits n)
@@ -39,6 +40,11 @@ module _ (ranges : List UnitRange) (u : UnitsState) (i : IsContext ranges u) whe
 
   pub loads_are : (answers : FirstAnswers) (probe : ℕ) → loads_at d answers probe ≡ laws.loads_of d u.scope.file.units answers (cover probe ranges)
   loads_are answers probe = or_made ranges u i [] (λ s xs rs. laws.loads_of s.file.sections s.file.units answers (cover probe rs))
+
+  -- the fault of a load among the units is that in the context
+  pub reply_alone : (n : ℕ) (given : Option Sections) (r : Result (Unit {0}) Error) → IfErr r (λ e. load_result d u.scope.file.units u.answers n given ≡ Err e) → IfErr r (λ e. load_reply d u.answers n given ≡ Err e)
+  reply_alone n given (Ok x) h = tt
+  reply_alone n given (Err e) h = by_made ranges u i (λ s xs rs. load_result s.file.sections s.file.units u.answers n given) ∙ h
 
   module _ (now : UnitsState) (stays : left.StayRead u now) where
     pub scope_same : now.scope ≡ u.scope

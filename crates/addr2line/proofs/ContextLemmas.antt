@@ -15,14 +15,14 @@ use Rattle.addr2line_units.specs.AfterUnits as left
 use Rattle.addr2line_units.specs.Cover.{cover, cover_range}
 use Rattle.addr2line_units.specs.FramesLookup.{FindsNothing, main_scope}
 use Rattle.addr2line_units.specs.Located.{LocationResult, along, all_lines, is_found, lines_of_unit, location_in, location_of, looks_along, or_along, spans_along, spans_of}
-use Rattle.addr2line_units.specs.Parsed.{AllAskFor, AreAllParsed, AreParsed, AreReadyForAll, AsksFor, LeadTo, ParsesOnly, StaysParsed, decides, has_parsed, ready_along}
+use Rattle.addr2line_units.specs.Parsed.{AllAskFor, AreAllParsed, AreParsed, AreReadyForAll, AsksFor, LeadTo, ParsesOnly, StaysParsed, decides, has_parsed, ready_along, takes_none_along}
 use Rattle.addr2line_units.specs.KnownEntries.{NothingKnown}
 use Rattle.addr2line_units.specs.RangedUnits.{IndexedUnit, RangedUnit, has_lines, indexed_of, ranged_units, unit_ranges_from}
 use Rattle.addr2line_units.specs.UnitIndex.{UnitIndex, index_units, sup_units}
 use Rattle.addr2line_units.specs.UnitsState.{UnitsState, first_state, new_units}
 use Rattle.addr2line_units.proofs.NewUnitsLemmas.{ok_is}
 use Rattle.addr2line_units.proofs.UnitsLemmas.{ready_both, ready_first}
-use Rattle.addr2line.specs.Context.{AfterLookup, AfterRangeLookup, ContextState, IsContext, IsReady, IsUncovered, IsReadyForAll, IsReadyForRange, ParsesToFault, Stays, lines_of_all, new_context, seen_context}
+use Rattle.addr2line.specs.Context.{AfterLookup, AfterRangeLookup, ContextState, IsContext, IsReady, IsUncovered, IsReadyForAll, IsReadyForRange, LocatesNoMemory, ParsesToFault, Stays, lines_of_all, new_context, seen_context}
 
 -- an answer that isn't OutOfMemory is exactly what is given
 pub exactly_told : {X Y : Type 0} (see : X → Y) (r : Result X Error) (given : Result Y Error) → ExactlyUnlessOom see r given → HadMemory r → Exactly see r given
@@ -178,6 +178,15 @@ module _ (ranges : List UnitRange) (u : UnitsState) (i : IsContext ranges u) whe
       counted = λ found. a.counted (k found);
       cost = of_made (λ s xs rs. now.looks ≤ u.looks + looks_along s.file.sections xs (cover probe rs)) a.cost;
     }
+
+    -- where the lookup takes no memory, a refusal is the fault of lines
+    pub located_alone : (shares : Bool) → (takes_none_along shares d u.units now.parsed probe (cover probe ranges) ≡ true → IfErr r (λ e. along d u.units probe (cover probe ranges) ≡ Err e))
+        → LocatesNoMemory shares (seen_context now) probe → IfErr r (λ e. location_of d probe ≡ Err e)
+    located_alone shares alone none = of_units r (alone (at_lines asked now a.lines (λ s xs rs. takes_none_along shares s.file.sections xs now.parsed probe (cover probe rs) ≡ true) none))
+      where
+        of_units : (q : Result (Option Y) Error) → IfErr q (λ e. along d u.units probe (cover probe ranges) ≡ Err e) → IfErr q (λ e. location_of d probe ≡ Err e)
+        of_units (Ok x) h = tt
+        of_units (Err e) h = location_is probe ∙ h
 
   -- where the sections tell that no unit covers the probe, none does
   pub covers_none : (probe : ℕ) → IsUncovered (seen_context u) probe → cover probe ranges ≡ []

@@ -1,5 +1,5 @@
 -- One answer more of a lookup, and one call more of a history (on specs/History.antt).
-use Rattle.std.proofs.Common.{◌≡◌, ◌⊎◌, inl, inr, ℕ, suc, ◌+◌, ◌<◌, add-one, append_assoc, true, false, List, [], ◌∷◌, ◌++◌, drop, get_or, length, map, take, Option, Result, Ok, Err, refl, sym, ap, subst, ◌∙◌}
+use Rattle.std.proofs.Common.{◌≡◌, ◌⊎◌, inl, inr, ℕ, suc, ◌+◌, ◌<◌, add-one, append_assoc, Bool, true, false, List, [], ◌∷◌, ◌++◌, drop, get_or, length, map, take, Option, Result, Ok, Err, refl, sym, ap, subst, ◌∙◌}
 use Rattle.std.proofs.Math.Seq.{drop-cons}
 use Rattle.std.proofs.lemmas.List.{append-nil, get_or-map, length-map, take-append-drop, take_more}
 use Rattle.gimli_read.specs.declared.error.Error.{Error}
@@ -79,24 +79,24 @@ module _ (faults : Faults) (d : Sections) (probe : ℕ) (first now : FirstAnswer
     given_last rest all e ended = ap (answers_given faults d probe first) (sym e) ∙ so (Answered x ∷ rest) ∙ given_one faults d probe now n x rest waits ∙ given_ended faults d probe (answered d now n x) rest ended
 
 -- a context after an answer with which a lookup went on
-module _ {X : Type 0} (faults : Faults) (probe n : ℕ) (x : Option Sections) (o : Result X Error) (old new : ContextState) (after : AfterResume faults probe n x o old new) where
+module _ {X : Type 0} (shares : Bool) (faults : Faults) (probe n : ℕ) (x : Option Sections) (o : Result X Error) (old new : ContextState) (after : AfterResume shares faults probe n x o old new) where
   pub resumed_sections : new.sections ≡ old.sections
-  resumed_sections = elim after [ inl (mid, a, b) ↦ b.sections ∙ a.sections | inr (e, a) ↦ a.sections ]
+  resumed_sections = elim after [ inl (mid, a, b) ↦ b.after.sections ∙ a.sections | inr (e, a, none) ↦ a.sections ]
 
   pub resumed_parsed : StaysParsed old.parsed new.parsed
   resumed_parsed = elim after [
-    | inl (mid, a, b) ↦ λ k h. b.parsed k (subst (λ p. has_parsed p k ≡ true) (sym a.parsed) h)
-    | inr (e, a) ↦ λ k h. subst (λ p. has_parsed p k ≡ true) (sym a.parsed) h
+    | inl (mid, a, b) ↦ λ k h. b.after.parsed k (subst (λ p. has_parsed p k ≡ true) (sym a.parsed) h)
+    | inr (e, a, none) ↦ λ k h. subst (λ p. has_parsed p k ≡ true) (sym a.parsed) h
   ]
 
   pub resumed_answers : HadMemory o → new.answers ≡ answered old.sections old.answers n x
   resumed_answers told = elim after [
-    | inl (mid, a, b) ↦ b.answers ∙ a.answers
-    | inr (e, a) ↦ absurd (subst HadMemory e told refl)
+    | inl (mid, a, b) ↦ b.after.answers ∙ a.answers
+    | inr (e, a, none) ↦ absurd (subst HadMemory e told refl)
   ]
 
   pub resumed_begun : (new.answers ≡ old.answers) ⊎ (new.answers ≡ answered old.sections old.answers n x)
   resumed_begun = elim after [
-    | inl (mid, a, b) ↦ inr (b.answers ∙ a.answers)
-    | inr (e, a) ↦ inl (a.refused.1)
+    | inl (mid, a, b) ↦ inr (b.after.answers ∙ a.answers)
+    | inr (e, a, none) ↦ inl (a.refused.1)
   ]

@@ -16,11 +16,11 @@ use Rattle.addr2line_units.specs.KnownEntries.{knows_at}
 use Rattle.addr2line_units.specs.Parsed.{ParsesOnly, has_parsed}
 use Rattle.addr2line_units.specs.RangedUnits.{IndexedUnit}
 use Rattle.addr2line_units.specs.UnitFrames.{FramesResult}
-use Rattle.addr2line_units.specs.UnitsState.{UnitsState, has_all_at, has_few_at, stop_of}
+use Rattle.addr2line_units.specs.UnitsState.{UnitsState, asked_by, asks_no_memory_at, has_all_at, has_few_at, stop_of}
 use Rattle.addr2line_units.specs.Views.{FirstAnswers, SplitLoad, load_of_unit}
 use Rattle.addr2line.specs.Context.{IsContext, seen_context}
-use Rattle.addr2line.specs.AfterLookups.{AfterFrames, IsKnownFew}
-use Rattle.addr2line.specs.Lookups.{IsLoadOf, lookup_stop}
+use Rattle.addr2line.specs.AfterLookups.{AfterFrames, IsKnownFew, NeedsNoMemory}
+use Rattle.addr2line.specs.Lookups.{IsFaultOfAsked, IsLoadOf, lookup_stop}
 use Rattle.addr2line.proofs.ContextLemmas.{at_made, by_made, of_made, still_context}
 
 -- a lookup that passes over faults has none
@@ -79,6 +79,19 @@ module _ (ranges : List UnitRange) (u : UnitsState) (i : IsContext ranges u) (fa
     pub walk_memory : IsKnownFew faults (seen_context now) probe → HadMemory r
     walk_memory few = w.memory (as_before (λ s xs a. holds_along (has_few_at probe now) (asked_frames faults s xs a probe) (cover probe ranges) ≡ true)
         (at_made ranges now walked_context (λ s xs rs. holds_along (few_by s xs) (asked_frames faults s xs now.answers probe) (cover probe rs) ≡ true) few))
+
+    abbrev none_by : Bool → Scope → List IndexedUnit → ℕ → Bool
+    none_by shares s xs n = asks_no_memory_at shares probe (record now { scope = s; units = xs }) n
+
+    of_units : (q : Result X Error) → IfErr q (left.IsFaultAlong faults probe u (cover probe ranges)) → IfErr q (IsFaultOfAsked faults u.scope.file.sections u.answers probe)
+    of_units (Ok x) h = tt
+    of_units (Err e) h = (i.made, i.made_is, of_made ranges u i (λ s xs rs. (n : ℕ) × LookupAsks (asked_frames faults s xs u.answers probe) (cover probe rs) n × (frames_of_number s xs u.answers probe n ≡ Err e)) h i.made i.made_is)
+
+    -- where the lookup takes no memory, a refusal is the fault of a unit that it asks
+    pub walk_alone : (shares : Bool) → (holds_along (asks_no_memory_at shares probe now) (asked_by faults probe u) (cover probe ranges) ≡ true → IfErr r (left.IsFaultAlong faults probe u (cover probe ranges)))
+        → NeedsNoMemory shares faults (seen_context now) probe → IfErr r (IsFaultOfAsked faults u.scope.file.sections u.answers probe)
+    walk_alone shares alone none = of_units r (alone (as_before (λ s xs a. holds_along (asks_no_memory_at shares probe now) (asked_frames faults s xs a probe) (cover probe ranges) ≡ true)
+        (at_made ranges now walked_context (λ s xs rs. holds_along (none_by shares s xs) (asked_frames faults s xs now.answers probe) (cover probe rs) ≡ true) none)))
 
     pub after_frames : AfterFrames faults probe r (seen_context u) (seen_context now)
     after_frames = record {

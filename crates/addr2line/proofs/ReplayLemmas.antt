@@ -1,6 +1,6 @@
 -- What recorded lookups are given, answer by answer, and the replies that they come to (on
 -- specs/History.antt).
-use Rattle.std.proofs.Common.{◌≡◌, inl, inr, ℕ, ◌+◌, ◌≤◌, true, false, List, ◌∷◌, ◌++◌, length, slice_get, take, Option, Some, None, option_map, Result, Ok, Err, refl, sym, ap, subst, ◌∙◌}
+use Rattle.std.proofs.Common.{◌≡◌, inl, inr, ℕ, ◌+◌, ◌≤◌, Bool, true, false, List, ◌∷◌, ◌++◌, length, slice_get, take, Option, Some, None, option_map, Result, Ok, Err, refl, sym, ap, subst, ◌∙◌}
 use Rattle.std.proofs.lemmas.List.{take_all}
 use Rattle.std.specs.Prelude.{IfErr, IfOk, OnOk}
 use Rattle.gimli_read.specs.declared.error.Error.{Error}
@@ -25,7 +25,7 @@ use Rattle.addr2line.proofs.HistoryLemmas.{HasGiven, given_all, given_last, give
 use Rattle.addr2line.specs.Answers.{AfterResume, SuspendsAgain, answered}
 use Rattle.addr2line.specs.Context.{ContextState}
 use Rattle.addr2line.specs.History.{Given, Answered, Abandoned, Leaves, answers_given}
-use Rattle.addr2line.specs.AfterLookups.{AfterFrames, Suspends}
+use Rattle.addr2line.specs.AfterLookups.{AfterFramesOver, Suspends}
 use Rattle.addr2line.specs.Lookups.{IsLoadOf, lookup_stop, stop_in, unit_of, unit_told}
 use Rattle.addr2line.specs.Replies.{CopiedReply, SuspendedAt}
 
@@ -115,9 +115,9 @@ module _ (faults : Faults) (probe : ℕ) (first : ContextState) (all : List Give
     pub begun_so : (new : ContextState) → new.answers ≡ now.answers → (n : ℕ) × (new.answers ≡ answers_given faults first.sections probe first.answers (take n all))
     begun_so new e = (i, e ∙ sym (given_all faults first.sections probe first.answers now.answers (take i all) so.given))
 
-    pub begun_more : {X : Type 0} (x : Option Sections) → ((rest : List Given) → take (i + 1) all ++ rest ≡ take i all ++ (Answered x ∷ rest)) → (o : Result X Error) (new : ContextState) → AfterResume faults probe number x o now new
+    pub begun_more : {X : Type 0} (shares : Bool) (x : Option Sections) → ((rest : List Given) → take (i + 1) all ++ rest ≡ take i all ++ (Answered x ∷ rest)) → (o : Result X Error) (new : ContextState) → AfterResume shares faults probe number x o now new
         → (n : ℕ) × (new.answers ≡ answers_given faults first.sections probe first.answers (take n all))
-    begun_more x more o new after = elim (resumed_begun faults probe number x o now new after) [
+    begun_more shares x more o new after = elim (resumed_begun shares faults probe number x o now new after) [
       | inl e ↦ begun_so new e
       | inr e ↦ (
         i + 1,
@@ -156,25 +156,25 @@ module _ (faults : Faults) (probe : ℕ) (first : ContextState) (all : List Give
     }
 
     -- it has ended with an answer
-    pub resumed_leaves : {L D S X Y ended : Type 0} (result : LookupResult L (Result X Error) D S) (x : Option Sections) → ((rest : List Given) → take (i + 1) all ++ rest ≡ take i all ++ (Answered x ∷ rest)) → (o : Result X Error) (new : ContextState) (asked : ℕ) → asked ≡ probe → result ≡ Output o → (lender : ContextState) → new ≡ lender → IfOutput result (λ p. AfterResume faults asked number x p now lender) → (r : Result Y Error)
+    pub resumed_leaves : {L D S X Y ended : Type 0} (shares : Bool) (result : LookupResult L (Result X Error) D S) (x : Option Sections) → ((rest : List Given) → take (i + 1) all ++ rest ≡ take i all ++ (Answered x ∷ rest)) → (o : Result X Error) (new : ContextState) (asked : ℕ) → asked ≡ probe → result ≡ Output o → (lender : ContextState) → new ≡ lender → IfOutput result (λ p. AfterResume shares faults asked number x p now lender) → (r : Result Y Error)
         → (P : Y → Type 0) → IfOk r (λ y. P y × ended) → (ended → all_given ≡ answered now.sections now.answers number x) → OnOk r (HadMemory o) → IfErr r (λ e. e ≡ OutOfMemory) → Leaves all_given SomeGiven r first new
-    resumed_leaves {ended = ended} result x more o new asked same_probe is lender ends rests r P h same told oom = record {
-      sections = resumed_sections faults asked number x o now new after ∙ so.sections;
+    resumed_leaves {ended = ended} shares result x more o new asked same_probe is lender ends rests r P h same told oom = record {
+      sections = resumed_sections shares faults asked number x o now new after ∙ so.sections;
       answers = of_ok r P h told;
       refused = of_err r oom;
-      parsed = λ k e. resumed_parsed faults asked number x o now new after k (so.parsed k e);
+      parsed = λ k e. resumed_parsed shares faults asked number x o now new after k (so.parsed k e);
     }
       where
-        after : AfterResume faults asked number x o now new
-        after = subst (λ s. AfterResume faults asked number x o now s) (sym ends) (of_output result o (λ p. AfterResume faults asked number x p now lender) is rests)
+        after : AfterResume shares faults asked number x o now new
+        after = subst (λ s. AfterResume shares faults asked number x o now s) (sym ends) (of_output result o (λ p. AfterResume shares faults asked number x p now lender) is rests)
 
         of_ok : {Y : Type 0} (r : Result Y Error) (P : Y → Type 0) → IfOk r (λ y. P y × ended) → OnOk r (HadMemory o) → OnOk r (new.answers ≡ all_given)
         of_ok (Err e) P h t = tt
-        of_ok (Ok y) P h t = resumed_answers faults asked number x o now new after t ∙ sym (same h.1)
+        of_ok (Ok y) P h t = resumed_answers shares faults asked number x o now new after t ∙ sym (same h.1)
 
         of_err : {Y : Type 0} (r : Result Y Error) → IfErr r (λ e. e ≡ OutOfMemory) → IfErr r (λ e. (e ≡ OutOfMemory) × SomeGiven new.answers)
         of_err (Ok y) k = tt
-        of_err (Err e) k = (k, begun_more x more o new (subst (λ q. AfterResume faults q number x o now new) same_probe after))
+        of_err (Err e) k = (k, begun_more shares x more o new (subst (λ q. AfterResume shares faults q number x o now new) same_probe after))
 
 -- the reply of a lookup by the first answers that it leaves
 pub reply_by : {R ended : Type 0} (seen : R → CopiedReply) (replied : FirstAnswers → CopiedReply) (r : Result R Error) (left all : FirstAnswers) → IfOk r (λ x. (seen x ≡ replied left) × ended) → (ended → all ≡ left) → IfOk r (λ x. seen x ≡ replied all)
@@ -182,23 +182,23 @@ reply_by seen replied (Err e) left all h same = tt
 reply_by seen replied (Ok x) left all h same = h.0 ∙ ap replied (sym (same h.1))
 
 -- what a lookup leaves that has ended at once
-pub looked_leaves : {X Y ended : Type 0} (faults : Faults) (probe : ℕ) (given : List Given) (o : Result X Error) (old new : ContextState) → AfterFrames faults probe o old new → (r : Result Y Error) (P : Y → Type 0)
+pub looked_leaves : {X Y ended : Type 0} (shares : Bool) (faults : Faults) (probe : ℕ) (given : List Given) (o : Result X Error) (old new : ContextState) → AfterFramesOver shares faults probe o old new → (r : Result Y Error) (P : Y → Type 0)
     → IfOk r (λ y. P y × ended) → (ended → answers_given faults old.sections probe old.answers given ≡ old.answers) → IfErr r (λ e. e ≡ OutOfMemory)
     → Leaves (answers_given faults old.sections probe old.answers given) (λ answers. (n : ℕ) × (answers ≡ answers_given faults old.sections probe old.answers (take n given))) r old new
-looked_leaves {ended = ended} faults probe given o old new a r P h same oom = record {
-  sections = a.sections;
+looked_leaves {ended = ended} shares faults probe given o old new a r P h same oom = record {
+  sections = a.after.sections;
   answers = of_ok r P h;
   refused = of_err r oom;
-  parsed = a.parsed;
+  parsed = a.after.parsed;
 }
   where
     of_ok : {Y : Type 0} (r : Result Y Error) (P : Y → Type 0) → IfOk r (λ y. P y × ended) → OnOk r (new.answers ≡ answers_given faults old.sections probe old.answers given)
     of_ok (Err e) P h = tt
-    of_ok (Ok y) P h = a.answers ∙ sym (same h.1)
+    of_ok (Ok y) P h = a.after.answers ∙ sym (same h.1)
 
     of_err : {Y : Type 0} (r : Result Y Error) → IfErr r (λ e. e ≡ OutOfMemory) → IfErr r (λ e. (e ≡ OutOfMemory) × ((n : ℕ) × (new.answers ≡ answers_given faults old.sections probe old.answers (take n given))))
     of_err (Ok y) k = tt
-    of_err (Err e) k = (k, (0, a.answers))
+    of_err (Err e) k = (k, (0, a.after.answers))
 
 -- a lookup of a unit that waits has found none
 pub unit_waiting : (d : Sections) (answers : FirstAnswers) (probe : ℕ) → is_waiting (lookup_stop PassOver d answers probe) ≡ true → unit_of d answers probe ≡ Ok None

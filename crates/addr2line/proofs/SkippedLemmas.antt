@@ -1,6 +1,7 @@
 -- Lookups of which none is answered to each load (on specs/Skips.antt).
-use Rattle.std.proofs.Common.{◌≡◌, ℕ, zero, suc, ◌+◌, ◌-◌, ◌<◌, ◌≤◌, arith, true, false, List, ◌∷◌, ◌++◌, length, Option, Some, None, Result, Ok, Err, refl, sym, ap, subst, ◌∙◌}
+use Rattle.std.proofs.Common.{◌≡◌, ℕ, zero, suc, ◌+◌, ◌-◌, ◌<◌, ◌≤◌, arith, Bool, true, false, List, ◌∷◌, ◌++◌, length, Option, Some, None, Result, Ok, Err, refl, sym, ap, subst, ◌∙◌}
 use Rattle.std.proofs.lemmas.Bool.{eq-eqb}
+use Rattle.std.specs.Prelude.{IfErr}
 use Rattle.gimli_read.specs.declared.error.Error.{Error}
 use Rattle.addr2line_units.specs.declared.frames_lookup.Faults.{Faults}
 use Rattle.addr2line_units.specs.FramesLookup.{Stop, Waits, Finds, FindsNothing, is_waiting}
@@ -10,8 +11,8 @@ use Rattle.addr2line.proofs.HistoryLemmas.{HasGiven, given_all, given_ended, giv
 use Rattle.addr2line.specs.Answers.{AfterAnswer, answered}
 use Rattle.addr2line.specs.Context.{ContextState}
 use Rattle.addr2line.specs.History.{Given, Answered, answers_given}
-use Rattle.addr2line.specs.AfterLookups.{AfterFrames, IsKnown, IsKnownFew}
-use Rattle.addr2line.specs.Lookups.{loads_at, lookup_stop, waits_for}
+use Rattle.addr2line.specs.AfterLookups.{AfterFrames, IsKnown, IsKnownFew, NeedsNoMemory}
+use Rattle.addr2line.specs.Lookups.{IsFaultOfAsked, loads_at, lookup_stop, waits_for}
 use Rattle.addr2line_units.specs.UnitsState.{waiting_unit}
 use Rattle.addr2line.specs.Skips.{AfterSkip, nones, skipped_answers}
 
@@ -43,6 +44,12 @@ told_ended stop r e w = ap is_waiting e ∙ by stop w
     by (Waits k) q = absurd cc
     by (Finds k frames) q = refl
     by FindsNothing q = refl
+
+-- the fault of a unit stays that where sections and first answers are the same
+pub fault_now : {X : Type 0} (faults : Faults) (probe : ℕ) (old new : ContextState) (r : Result X Error) → new.sections ≡ old.sections → new.answers ≡ old.answers → IfErr r (IsFaultOfAsked faults old.sections old.answers probe)
+    → IfErr r (IsFaultOfAsked faults new.sections new.answers probe)
+fault_now faults probe old new r s a h =
+    subst (λ d. IfErr r (IsFaultOfAsked faults d new.answers probe)) (sym s) (subst (λ x. IfErr r (IsFaultOfAsked faults old.sections x probe)) (sym a) h)
 
 -- of so many loads none was the answer, and no more are left than there were less these
 pub record HasSkipped (faults : Faults) (probe : ℕ) (first now : ContextState) : Type 0 where
@@ -116,8 +123,9 @@ module _ (faults : Faults) (probe : ℕ) (first : ContextState) where
         ∙ given_ended faults first.sections probe now.answers (nones (total - so.count)) (ap (λ d. is_waiting (lookup_stop faults d now.answers probe)) (sym so.sections) ∙ ended)
 
     -- the state that is left
-    pub after_skip : {X : Type 0} (r : Result X Error) → (HadMemory r → is_waiting (lookup_stop faults now.sections now.answers probe) ≡ false) → (HadMemory r → IsKnown faults now probe) → (IsKnownFew faults now probe → HadMemory r) → AfterSkip faults probe r first now
-    after_skip r ended ready memory = record {
+    pub after_skip : {X : Type 0} (shares : Bool) (r : Result X Error) → (HadMemory r → is_waiting (lookup_stop faults now.sections now.answers probe) ≡ false) → (HadMemory r → IsKnown faults now probe) → (IsKnownFew faults now probe → HadMemory r)
+        → (NeedsNoMemory shares faults now probe → IfErr r (IsFaultOfAsked faults now.sections now.answers probe)) → AfterSkip shares faults probe r first now
+    after_skip shares r ended ready memory alone = record {
       sections = so.sections;
       answers = λ told. sym (skip_end (ended told));
       begun = (so.count, sym (given_all faults first.sections probe first.answers now.answers (nones so.count) so.given));
@@ -125,6 +133,7 @@ module _ (faults : Faults) (probe : ℕ) (first : ContextState) where
       raised = so.raised;
       ready = ready;
       memory = memory;
+      no_memory = alone;
     }
 
 pub waits_true : (n : ℕ) (r : Result Stop Error) → r ≡ Ok (Waits n) → waits_for n r ≡ true

@@ -2,7 +2,7 @@
 -- parsed for them (DWARF 5, sections 3.1.2, 3.3 and 7.3.2).
 -- Own: a lookup parses what it asks for and nothing else, and nothing that is known is parsed
 -- again.
-use Rattle.std.specs.Prelude.{◌≡◌, ◌⊎◌, ℕ, ◌≤◌, Bool, true, false, ◌&&◌, ◌||◌, not, List, slice_get, Option, IfSome, Result, Ok}
+use Rattle.std.specs.Prelude.{◌≡◌, ◌⊎◌, ℕ, ◌≤◌, Bool, true, false, List, slice_get, Option, IfErr, IfSome, Result, Ok, Err}
 use Rattle.gimli_read.specs.declared.error.Error.{Error}
 use Rattle.gimli_read.specs.Reading.{◌>>=◌, ExactlyUnlessOom}
 use Rattle.gimli.specs.Sections.{Sections}
@@ -10,28 +10,38 @@ use Rattle.gimli.specs.Unit.{UnitRecord}
 use Rattle.addr2line_units.specs.declared.frames_lookup.Faults.{Faults}
 use Rattle.addr2line_units.specs.declared.parses.ReadingDepth.{ReadingDepth}
 use Rattle.addr2line_units.specs.Cover.{cover}
-use Rattle.addr2line_units.specs.FramesLookup.{Stop, Waits, LookupAsks, asks_lines_of, has_many_of, holds_along, is_waiting, main_scope, unit_found}
+use Rattle.addr2line_units.specs.FramesLookup.{Stop, Waits, LookupAsks, asks_lines_of, holds_along, is_waiting, main_scope, unit_found}
 use Rattle.addr2line_units.specs.FunctionParses.{IsReadyFor}
-use Rattle.addr2line_units.specs.KnownEntries.{KnownEntries, knows_at}
+use Rattle.addr2line_units.specs.KnownEntries.{KnownEntries}
 use Rattle.gimli_read.specs.Alike.{HadMemory}
-use Rattle.addr2line_units.specs.Parsed.{ParsesOnly, StaysParsed, has_parsed}
+use Rattle.addr2line_units.specs.Parsed.{ParsesOnly, StaysParsed}
 use Rattle.addr2line_units.specs.RangedUnits.{unit_records}
 use Rattle.addr2line_units.specs.StaysKnown.{StaysKnown}
 use Rattle.addr2line_units.specs.UnitIndex.{UnitIndex, index_units}
+use Rattle.addr2line_units.specs.UnitsState.{UnitsState, asks_no_memory_at, has_all_at, has_few_at}
 use Rattle.addr2line_units.specs.Views.{SplitLoad}
 use Rattle.addr2line.specs.Context.{ContextState}
-use Rattle.addr2line.specs.Lookups.{asked_of, lookup_stop, IsLoadOf}
+use Rattle.addr2line.specs.Lookups.{IsFaultOfAsked, asked_of, lookup_stop, IsLoadOf}
+
+-- the units of a context
+abbrev pub units_in : ContextState → UnitIndex → UnitsState
+units_in c m = record {
+  scope = main_scope c.sections m;
+  units = m.units;
+  answers = c.answers;
+  parsed = c.parsed;
+  known = c.known;
+  looks = c.looks;
+  stop = c.stop;
+}
 
 -- whether all is known that a lookup asks the unit of a number for
 abbrev pub has_all_of : ContextState → ℕ → UnitIndex → ℕ → Bool
-has_all_of c probe m n = knows_at c.known probe n
-    && (not (asks_lines_of (main_scope c.sections m) m.units c.answers probe n)
-    || has_parsed c.parsed n)
+has_all_of c probe m n = has_all_at probe (units_in c m) n
 
 -- the same, and at most 16 inlined functions stand there
 abbrev pub has_few_of : ContextState → ℕ → UnitIndex → ℕ → Bool
-has_few_of c probe m n = has_all_of c probe m n
-    && not (has_many_of (main_scope c.sections m) m.units c.answers probe n)
+has_few_of c probe m n = has_few_at probe (units_in c m) n
 
 -- all is known that a lookup of the probe asks for
 abbrev pub IsKnown : Faults → ContextState → ℕ → Type 0
@@ -44,6 +54,13 @@ abbrev pub IsKnownFew : Faults → ContextState → ℕ → Type 0
 IsKnownFew faults c probe = (m : UnitIndex) → index_units c.sections ≡ Ok m
     → holds_along (has_few_of c probe m) (asked_of faults c.sections c.answers probe m)
     (cover probe m.ranges) ≡ true
+
+-- a lookup of the probe takes no memory: of each unit that it asks all is known that it asks for,
+-- or read without memory, and at most 16 inlined functions stand there
+abbrev pub NeedsNoMemory : Bool → Faults → ContextState → ℕ → Type 0
+NeedsNoMemory shares faults c probe = (m : UnitIndex) → index_units c.sections ≡ Ok m
+    → holds_along (asks_no_memory_at shares probe (units_in c m))
+    (asked_of faults c.sections c.answers probe m) (cover probe m.ranges) ≡ true
 
 -- a lookup of the probe asks the unit of a number
 abbrev pub AsksUnit : Faults → ContextState → ℕ → UnitIndex → ℕ → Type 0
@@ -84,6 +101,15 @@ pub record AfterFrames {X : Type 0} (faults : Faults) (probe : ℕ) (result : Re
   pub memory : IsKnownFew faults new probe
       → is_waiting (lookup_stop faults old.sections old.answers probe) ≡ false → HadMemory result
 
+-- the same over readers that share their bytes or don't: where the lookup takes no memory and
+-- waits for nothing, a refusal is the fault of a unit that it asks
+pub record AfterFramesOver {X : Type 0} (shares : Bool) (faults : Faults) (probe : ℕ)
+    (result : Result X Error) (old new : ContextState) : Type 0 where
+  pub after : AfterFrames faults probe result old new
+  pub no_memory : NeedsNoMemory shares faults new probe
+      → is_waiting (lookup_stop faults old.sections old.answers probe) ≡ false
+      → IfErr result (IsFaultOfAsked faults old.sections old.answers probe)
+
 -- a context has stored what a lookup of the probe comes to, or the lookup was refused
 abbrev pub IsStored : Faults → ℕ → Result (Unit {0}) Error → ContextState → Type 0
 IsStored faults probe walked c =
@@ -94,12 +120,14 @@ abbrev pub IsFoundUnit : ContextState → Option (Sections × UnitRecord) → Ty
 IsFoundUnit c found = (m : UnitIndex) → index_units c.sections ≡ Ok m
     → found ≡ unit_found c.sections (unit_records m.units) c.answers c.stop
 
--- what is lent after a lookup: memory is refused where it was for the lookup, and elsewhere only
--- where it waits
+-- what is lent after a lookup: a refusal is that of the lookup, and elsewhere memory alone is
+-- refused, only where it waits
 pub record IsLent {X : Type 0} (walked : Result (Unit {0}) Error) (stop : Stop)
     (result : Result X Error) : Type 0 where
   pub ready : HadMemory result → HadMemory walked
   pub memory : is_waiting (walked >>= λ _. Ok stop) ≡ false → HadMemory walked → HadMemory result
+  pub refused : is_waiting (walked >>= λ _. Ok stop) ≡ false
+      → IfErr result (λ e. walked ≡ Err e)
 
 -- a lookup that waits for the unit of a number has this load
 pub record Suspends (faults : Faults) (probe number : ℕ) (wanted : SplitLoad)

@@ -1,16 +1,19 @@
 -- What an answer to the load of a unit, and to forget one, makes of a context.
 -- Own: the first answer to a unit's load counts until the unit is forgotten; one to a unit that is
 -- decided changes nothing.
-use Rattle.std.specs.Prelude.{◌≡◌, ◌≢◌, ◌⊎◌, ℕ, true, slice_get, Option, is_some, IfErr, OnOk, Result, Ok, Err}
+use Rattle.std.specs.Prelude.{◌≡◌, ◌≢◌, ◌⊎◌, ℕ, Bool, true, false, slice_get, Option, is_some, IfErr, OnOk, Result, Ok, Err}
 use Rattle.gimli_read.specs.declared.error.Error.{Error}
 use Rattle.gimli_read.specs.declared.error.Error.TheVariants.{OutOfMemory}
+use Rattle.gimli_read.specs.Reading.{◌>>=◌}
 use Rattle.gimli.specs.Sections.{Sections}
 use Rattle.addr2line_units.specs.declared.frames_lookup.Faults.{Faults}
+use Rattle.addr2line_units.specs.AnswerMemory.{answer_takes_memory}
 use Rattle.addr2line_units.specs.FramesLookup.{with_answer}
+use Rattle.addr2line_units.specs.Loads.{load_result}
 use Rattle.addr2line_units.specs.UnitIndex.{index_units}
 use Rattle.addr2line_units.specs.RangedUnits.{unit_records}
 use Rattle.addr2line.specs.Context.{ContextState}
-use Rattle.addr2line.specs.AfterLookups.{AfterFrames, Suspends}
+use Rattle.addr2line.specs.AfterLookups.{AfterFramesOver, Suspends}
 use Rattle.addr2line_units.specs.StaysKnown.{StaysKnown}
 use Rattle.addr2line_units.specs.Views.{FirstAnswers, SplitLoad}
 
@@ -19,6 +22,12 @@ use Rattle.addr2line_units.specs.Views.{FirstAnswers, SplitLoad}
 abbrev pub answered : Sections → FirstAnswers → ℕ → Option Sections → FirstAnswers
 answered d answers n given = elim (index_units d)
     [ Err e ↦ answers | Ok m ↦ with_answer d (unit_records m.units) answers n given ]
+
+-- what an answer to the load of the unit of a number gives: UnknownToken where there is none, or
+-- the fault of its view then
+abbrev pub load_reply : Sections → FirstAnswers → ℕ → Option Sections → Result (Unit {0}) Error
+load_reply d answers n given =
+    index_units d >>= λ m. load_result d (unit_records m.units) answers n given
 
 -- after an answer to the load of the unit of a number, or after OutOfMemory in the place of given
 -- sections, nothing is changed but of that unit; after OutOfMemory all first answers are as before,
@@ -33,13 +42,16 @@ pub record AfterAnswer (n : ℕ) (given : Option Sections) (result : Result (Uni
       × StaysKnown old.known new.known × (is_some given ≡ true))
   pub others : (k : ℕ) → k ≢ n → slice_get new.known k ≡ slice_get old.known k
 
--- after an answer with which a lookup went on, or after OutOfMemory in the answer's place
-abbrev pub AfterResume : {X : Type 0} → Faults → ℕ → ℕ → Option Sections → Result X Error
+-- after an answer with which a lookup went on, or after OutOfMemory in the answer's place; that is
+-- refused only where the answer takes memory
+abbrev pub AfterResume : {X : Type 0} → Bool → Faults → ℕ → ℕ → Option Sections → Result X Error
     → ContextState → ContextState → Type 0
-AfterResume faults probe n given result old new =
+AfterResume shares faults probe n given result old new =
     ((mid : ContextState) × AfterAnswer n given (Ok tt) old mid
-    × AfterFrames faults probe result mid new)
-    ⊎ ((result ≡ Err OutOfMemory) × AfterAnswer n given (Err OutOfMemory) old new)
+    × AfterFramesOver shares faults probe result mid new)
+    ⊎ ((result ≡ Err OutOfMemory) × AfterAnswer n given (Err OutOfMemory) old new
+    × (answer_takes_memory shares given ≡ false
+    → load_reply old.sections old.answers n given ≡ Err OutOfMemory))
 
 -- after an answer the lookup waits for the unit of another number with this load
 abbrev pub SuspendsAgain : Faults → ℕ → ℕ → Option Sections → ℕ → SplitLoad → ContextState

@@ -5,18 +5,18 @@
 -- parsed; a context that is made has parsed them only where they give a unit its ranges, and a unit
 -- without a line program has its lines, which are none.
 -- Own: of a unit the first answer to its load counts: the sections of a split file, or none.
-use Rattle.std.specs.Prelude.{◌≡◌, ℕ, ◌+◌, ◌<◌, ◌≤◌, Bool, true, List, [], map, Option, None, Result, Ok}
+use Rattle.std.specs.Prelude.{◌≡◌, ℕ, ◌+◌, ◌<◌, ◌≤◌, Bool, true, List, [], map, Option, None, IfErr, Result, Ok, Err}
 use Rattle.gimli_read.specs.declared.error.Error.{Error}
 use Rattle.gimli_read.specs.Reading.{◌>>=◌, fault_of}
 use Rattle.gimli.specs.Sections.{Sections}
 use Rattle.addr2line_units.specs.declared.index.UnitRange.{UnitRange}
 use Rattle.addr2line_units.specs.FramesLookup.{FindsNothing, Stop, main_scope}
 use Rattle.addr2line_units.specs.KnownEntries.{KnownEntries, NothingKnown}
-use Rattle.addr2line_units.specs.Located.{all_lines, is_found, looks_along}
+use Rattle.addr2line_units.specs.Located.{all_lines, is_found, location_of, looks_along}
 use Rattle.addr2line_units.specs.UnitIndex.{UnitIndex, index_units, sup_units}
 use Rattle.addr2line_units.specs.RangedUnits.{has_lines, ranged_units}
 use Rattle.gimli_read.specs.Alike.{HadMemory}
-use Rattle.addr2line_units.specs.Parsed.{AllAskFor, AreParsed, AreReadyForAll, AsksFor, LeadTo, ParsesOnly, StaysParsed, ready_along}
+use Rattle.addr2line_units.specs.Parsed.{AllAskFor, AreParsed, AreReadyForAll, AsksFor, LeadTo, ParsesOnly, StaysParsed, ready_along, takes_none_along}
 use Rattle.addr2line_units.specs.Cover.{cover, cover_range}
 use Rattle.addr2line_units.specs.UnitsState.{UnitsState}
 use Rattle.addr2line_units.specs.Views.{FirstAnswers}
@@ -50,6 +50,11 @@ new_context d = do
 abbrev pub IsReady : ContextState → ℕ → Type 0
 IsReady c probe = (m : UnitIndex) → index_units c.sections ≡ Ok m
     → ready_along c.sections m.units c.parsed probe (cover probe m.ranges) ≡ true
+
+-- a lookup of the probe takes no memory: the lines that it asks for are parsed, or take none
+abbrev pub LocatesNoMemory : Bool → ContextState → ℕ → Type 0
+LocatesNoMemory shares c probe = (m : UnitIndex) → index_units c.sections ≡ Ok m
+    → takes_none_along shares c.sections m.units c.parsed probe (cover probe m.ranges) ≡ true
 
 -- no unit covers the probe
 abbrev pub IsUncovered : ContextState → ℕ → Type 0
@@ -106,6 +111,14 @@ pub record AfterLookup {X : Type 0} (probe : ℕ) (result : Result (Option X) Er
   pub raised : old.looks ≤ new.looks
   pub counted : is_found result ≡ true → old.looks < new.looks
   pub cost : LooksWithin probe old new
+
+-- the same over readers that share their bytes or don't: where the lookup takes no memory, a refusal
+-- is the fault of lines
+pub record AfterLookupOver {X : Type 0} (shares : Bool) (probe : ℕ)
+    (result : Result (Option X) Error) (old new : ContextState) : Type 0 where
+  pub after : AfterLookup probe result old new
+  pub no_memory : LocatesNoMemory shares new probe
+      → IfErr result (λ e. location_of old.sections probe ≡ Err e)
 
 -- after a lookup of a range the same lookup parses nothing more, but after OutOfMemory, where
 -- something is left to parse; where it was ready, nothing was parsed by it

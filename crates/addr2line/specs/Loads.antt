@@ -15,21 +15,16 @@ use Rattle.addr2line_units.specs.FramesLookup.{answer_of, main_scope}
 use Rattle.addr2line_units.specs.FunctionParseLaws.{IsReached}
 use Rattle.addr2line_units.specs.FunctionParses.{AreFirstDecided, AreReadBefore, AreReadyFor, answers_after_parse, read_of_units}
 use Rattle.addr2line_units.specs.KnownEntries.{knows_at}
-use Rattle.addr2line_units.specs.Loads.{NoneOpen, forget_result, forgotten, is_open_at, load_result}
+use Rattle.addr2line_units.specs.Loads.{NoneOpen, forget_result, forgotten, is_open_at}
 use Rattle.gimli_read.specs.Alike.{HadMemory}
 use Rattle.addr2line_units.specs.UnitIndex.{UnitIndex, index_units}
 use Rattle.addr2line_units.specs.RangedUnits.{unit_records}
 use Rattle.addr2line.specs.Answers.{answered}
+pub use Rattle.addr2line.specs.Answers.{load_reply}
 use Rattle.addr2line.specs.Context.{ContextState, lines_of_all}
 use Rattle.addr2line.specs.Lookups.{lookup_stop}
 use Rattle.addr2line_units.specs.StaysKnown.{IsReadBy, IsReadyAt, StaysKnown}
 use Rattle.addr2line_units.specs.Views.{FirstAnswers}
-
--- what an answer to the load of the unit of a number gives: UnknownToken where there is none, or
--- the fault of its view then
-abbrev pub load_reply : Sections → FirstAnswers → ℕ → Option Sections → Result (Unit {0}) Error
-load_reply d answers n given =
-    index_units d >>= λ m. load_result d (unit_records m.units) answers n given
 
 -- what it gives to forget the answer of the unit of a number
 abbrev pub forget_reply : Sections → ℕ → Result (Unit {0}) Error

@@ -11,7 +11,7 @@ use Rattle.addr2line_units.specs.declared.frames_lookup.Faults.{Faults}
 use Rattle.addr2line_units.specs.declared.frames_lookup.Faults.TheVariants.{End, PassOver}
 use Rattle.addr2line_units.specs.Cover.{cover}
 use Rattle.addr2line_units.specs.Frames.{FrameRecord}
-use Rattle.addr2line_units.specs.FramesLookup.{Stop, Waits, Finds, FindsNothing, asked_frames, main_scope, stop_along, unit_found}
+use Rattle.addr2line_units.specs.FramesLookup.{LookupAsks, Stop, Waits, Finds, FindsNothing, asked_frames, frames_of_number, main_scope, stop_along, unit_found}
 use Rattle.addr2line_units.specs.LoadLaws.{loads_of}
 use Rattle.addr2line_units.specs.UnitIndex.{UnitIndex, index_units}
 use Rattle.addr2line_units.specs.RangedUnits.{unit_records}
@@ -30,6 +30,12 @@ stop_in faults d answers probe m =
 -- what a lookup comes to
 abbrev pub lookup_stop : Faults → Sections → FirstAnswers → ℕ → Result Stop Error
 lookup_stop faults d answers probe = index_units d >>= stop_in faults d answers probe
+
+-- a unit that a lookup asks has this fault
+abbrev pub IsFaultOfAsked : Faults → Sections → FirstAnswers → ℕ → Error → Type 0
+IsFaultOfAsked faults d answers probe e = (m : UnitIndex) × (index_units d ≡ Ok m)
+    × ((n : ℕ) × LookupAsks (asked_of faults d answers probe m) (cover probe m.ranges) n
+    × (frames_of_number (main_scope d m) m.units answers probe n ≡ Err e))
 
 -- the frames of a lookup that has ended, none where it waits
 abbrev pub frames_told : Stop → Option (List FrameRecord)

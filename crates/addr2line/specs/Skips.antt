@@ -1,6 +1,6 @@
 -- Lookups of which none is answered to each load (DWARF 5, section 7.3.2).
 -- Own: a unit that waits is decided by none then, and stays so until it is forgotten.
-use Rattle.std.specs.Prelude.{◌≡◌, ℕ, ◌≤◌, length, replicate, List, None, Result}
+use Rattle.std.specs.Prelude.{◌≡◌, ℕ, ◌≤◌, Bool, length, replicate, List, None, IfErr, Result}
 use Rattle.gimli_read.specs.declared.error.Error.{Error}
 use Rattle.gimli.specs.Sections.{Sections}
 use Rattle.addr2line_units.specs.declared.frames_lookup.Faults.{Faults}
@@ -8,8 +8,8 @@ use Rattle.gimli_read.specs.Alike.{HadMemory}
 use Rattle.addr2line_units.specs.Parsed.{StaysParsed}
 use Rattle.addr2line.specs.Context.{ContextState}
 use Rattle.addr2line.specs.History.{Given, Answered, answers_given}
-use Rattle.addr2line.specs.Lookups.{loads_at}
-use Rattle.addr2line.specs.AfterLookups.{IsKnown, IsKnownFew}
+use Rattle.addr2line.specs.Lookups.{IsFaultOfAsked, loads_at}
+use Rattle.addr2line.specs.AfterLookups.{IsKnown, IsKnownFew, NeedsNoMemory}
 use Rattle.addr2line_units.specs.Views.{FirstAnswers}
 
 -- none as the answer to each of so many loads
@@ -23,9 +23,10 @@ skipped_answers faults d probe answers =
 
 -- after a lookup of which none is answered to each load: the units that waited are decided by none,
 -- and stay so; after OutOfMemory some of the first ones. Memory is refused only where something is
--- left to read, or more than 16 inlined functions stand there
-pub record AfterSkip {X : Type 0} (faults : Faults) (probe : ℕ) (result : Result X Error)
-    (old new : ContextState) : Type 0 where
+-- left to read, or more than 16 inlined functions stand there; where what is left takes none, a
+-- refusal is the fault of a unit
+pub record AfterSkip {X : Type 0} (shares : Bool) (faults : Faults) (probe : ℕ)
+    (result : Result X Error) (old new : ContextState) : Type 0 where
   pub sections : new.sections ≡ old.sections
   pub answers : HadMemory result
       → new.answers ≡ skipped_answers faults old.sections probe old.answers
@@ -35,3 +36,5 @@ pub record AfterSkip {X : Type 0} (faults : Faults) (probe : ℕ) (result : Resu
   pub raised : old.looks ≤ new.looks
   pub ready : HadMemory result → IsKnown faults new probe
   pub memory : IsKnownFew faults new probe → HadMemory result
+  pub no_memory : NeedsNoMemory shares faults new probe
+      → IfErr result (IsFaultOfAsked faults new.sections new.answers probe)

@@ -1,8 +1,9 @@
 //! Answers to the loads of units.
 
-ghost use Rattle.std.specs.Prelude.{◌≡◌, ◌<◌, ℕ, OnOk, option_map, true};
+ghost use Rattle.std.specs.Prelude.{◌≡◌, ◌<◌, ℕ, Err, IfErr, OnOk, false, option_map, true};
+ghost use Rattle.addr2line_units.specs.AnswerMemory.{answer_takes_memory};
 ghost use Rattle.addr2line_units.specs.declared.frames_lookup.Faults.{Faults};
-ghost use Rattle.addr2line.specs.Answers.{AfterAnswer};
+ghost use Rattle.addr2line.specs.Answers.{AfterAnswer, load_reply};
 ghost use Rattle.addr2line.specs.Lookups.{lookup_stop, waits_for};
 ghost use Rattle.addr2line.specs.WaitingLookups.{count_loads};
 
@@ -13,7 +14,7 @@ use std::rc::Rc;
 
 impl<R: Reader> Context<R> {
     // Answers the load of the unit of a number. Refused `OutOfMemory` alone, and only where
-    // sections are given.
+    // sections are given, and bytes are shared or the header of their first unit can be read.
     pub(crate) fn answer(
         &mut self,
         number: usize,
@@ -21,6 +22,9 @@ impl<R: Reader> Context<R> {
     ) -> Result<(), Error>
         ensures after { AfterAnswer number (option_map (λ d. d.value) sections) result self.old
             self.new }
+        ensures no_memory { answer_takes_memory R.shares (option_map (λ d. d.value) sections)
+            ≡ false → IfErr result (λ e. load_reply self.old.sections self.old.answers number
+            (option_map (λ d. d.value) sections) ≡ Err e) }
         ensures fewer { (faults : Faults) (probe : ℕ) → waits_for number
             (lookup_stop faults self.old.sections self.old.answers probe) ≡ true
             → OnOk result (count_loads self.new probe < count_loads self.old probe) }

@@ -12,7 +12,7 @@ ghost use Rattle.addr2line_units.specs.Located.{location_of, spans_of};
 ghost use Rattle.addr2line_units.specs.LocationsLeft.{locations_left};
 ghost use Rattle.gimli_read.specs.Alike.{HadMemory};
 ghost use Rattle.addr2line_units.specs.Parsed.{AreAllParsed};
-ghost use Rattle.addr2line.specs.Context.{new_context, lines_of_all, AfterLookup, AfterRangeLookup, IsReady, IsUncovered, IsReadyForAll, IsReadyForRange, ParsesToFault, Stays};
+ghost use Rattle.addr2line.specs.Context.{new_context, lines_of_all, AfterLookupOver, AfterRangeLookup, IsReady, IsUncovered, IsReadyForAll, IsReadyForRange, ParsesToFault, Stays};
 
 use addr2line_lines::Location;
 use addr2line_units::index::UnitRanges;
@@ -148,8 +148,8 @@ impl<R: Reader> Context<R> {
     /// parsed.
     ///
     /// Refused by the first such fault; may fail with `OutOfMemory` instead, which is never cached.
-    /// Takes no memory where the lines that it asks for are parsed, nor where no unit covers
-    /// `probe`.
+    /// Takes no memory where the lines that it asks for are parsed, or, unless readers share their
+    /// bytes, their program has a fault before its first row; nor where no unit covers `probe`.
     ///
     /// Source: DWARF 5, section 6.2. Own: which of several sequences counts, and which unit.
     pub fn find_location(&mut self, probe: u64) -> Result<Option<Location<'_>>, Error>
@@ -160,7 +160,7 @@ impl<R: Reader> Context<R> {
         ensures last { probe ≡ last_address → result ≡ Ok None }
         ensures uncovered { IsUncovered self.old probe → result ≡ Ok None }
         ensures* kept { sem 𝓛 (EndsAs R.row R.Reader self.entry
-            (AfterLookup probe result self.old)) }
+            (AfterLookupOver R.shares probe result self.old)) }
     {
         match self.units.find_row(self.ranges.find(probe), probe)? {
             Some(place) => Ok(Some(self.units.location(place))),

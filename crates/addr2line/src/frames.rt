@@ -10,7 +10,7 @@ ghost use Rattle.addr2line_units.specs.Suspended.{IfLoad, IfOutput, IsOkOutput, 
 ghost use Rattle.addr2line.specs.Answers.{AfterResume};
 ghost use Rattle.addr2line.specs.Borrowed.{RestsAs};
 ghost use Rattle.addr2line.specs.Context.{IsUncovered};
-ghost use Rattle.addr2line.specs.AfterLookups.{AfterFrames, IsLent, IsStored};
+ghost use Rattle.addr2line.specs.AfterLookups.{AfterFramesOver, IsLent, IsStored};
 ghost use Rattle.addr2line.specs.Lookups.{lookup_stop, waits_for};
 ghost use Rattle.addr2line.specs.Skips.{AfterSkip};
 ghost use Rattle.addr2line.specs.WaitingLookups.{HoldsIn, SuspendsAgainIn, SuspendsIn, count_loads, frames_answered, frames_of_context, frames_skipped, frames_with_none};
@@ -89,7 +89,7 @@ fn lend<R: Reader>(
 // A lookup of frames from its beginning, by what is cached.
 fn begin<R: Reader>(ctx: &mut Context<R>, probe: u64) -> LookupResult<FramesLookup<'_, R>>
     ensures* ends { sem 𝓛 (RestsAs (λ c. c.ctx.ghost_name) R.row R.Reader ctx.entry result
-        (λ o n. AfterFrames End probe o ctx.old n)) }
+        (λ o n. AfterFramesOver R.shares End probe o ctx.old n)) }
     ensures load { IfLoad result (λ c.
         SuspendsIn End ctx.entry probe c.ctx c.probe c.number c.load) }
     ensures output { IfOutput result (λ o. ExactlyUnlessOom (λ i. Some (frames_left i)) o
@@ -109,7 +109,8 @@ fn resume_with<R: Reader>(
     requires stands { waits_for number (lookup_stop End ctx.old.sections ctx.old.answers probe)
         ≡ true }
     ensures* ends { sem 𝓛 (RestsAs (λ c. c.ctx.ghost_name) R.row R.Reader ctx.entry result
-        (λ o n. AfterResume End probe number (option_map (λ d. d.value) input) o ctx.old n)) }
+        (λ o n. AfterResume R.shares End probe number (option_map (λ d. d.value) input) o
+        ctx.old n)) }
     ensures load { IfLoad result (λ c. SuspendsAgainIn End ctx.entry probe number
         (option_map (λ d. d.value) input) c.ctx c.probe c.number c.load) }
     ensures fewer { IfLoad result (λ c. count_loads c.ctx.now c.probe < count_loads ctx.old probe) }
@@ -125,7 +126,7 @@ fn resume_with<R: Reader>(
 // A lookup of frames from its beginning, of which none is answered to each load.
 fn skip<R: Reader>(ctx: &mut Context<R>, probe: u64) -> LookupResult<FramesLookup<'_, R>>
     ensures* ends { sem 𝓛 (RestsAs (λ c. c.ctx.ghost_name) R.row R.Reader ctx.entry result
-        (λ o n. AfterSkip End probe o ctx.old n)) }
+        (λ o n. AfterSkip R.shares End probe o ctx.old n)) }
     ensures load { IfLoad result (λ c. ⊥) }
     ensures output { IfOutput result (λ o. ExactlyUnlessOom (λ i. Some (frames_left i)) o
         (frames_skipped ctx.old probe)) }
@@ -154,8 +155,8 @@ impl<'ctx, R: Reader> LookupContinuation for FramesLookup<'ctx, R> {
 
     fn resume(self, input: Option<Rc<Dwarf<R>>>) -> LookupResult<Self>
         ensures* ends { sem 𝓛 (RestsAs (λ c. c.ctx.ghost_name) R.row R.Reader
-            self.entry.ctx result (λ o n. AfterResume End self.entry.probe self.entry.number
-            (option_map (λ d. d.value) input) o self.entry.ctx.now n)) }
+            self.entry.ctx result (λ o n. AfterResume R.shares End self.entry.probe
+            self.entry.number (option_map (λ d. d.value) input) o self.entry.ctx.now n)) }
         ensures load { IfLoad result (λ c. SuspendsAgainIn End self.entry.ctx self.entry.probe
             self.entry.number (option_map (λ d. d.value) input)
             c.ctx c.probe c.number c.load) }
@@ -187,7 +188,7 @@ impl<'ctx, R: Reader> FramesLookup<'ctx, R> {
     /// context is left.
     pub fn skip(self) -> LookupResult<FramesLookup<'ctx, R>>
         ensures* ends { sem 𝓛 (RestsAs (λ c. c.ctx.ghost_name) R.row R.Reader
-            self.entry.ctx result (λ o n. AfterSkip End self.entry.probe o
+            self.entry.ctx result (λ o n. AfterSkip R.shares End self.entry.probe o
             self.entry.ctx.now n)) }
         ensures load { IfLoad result (λ c. ⊥) }
         ensures output { IfOutput result (λ o. ExactlyUnlessOom (λ i. Some (frames_left i)) o
@@ -242,14 +243,16 @@ impl<R: Reader> Context<R> {
     ///
     /// Refused by the first fault of the view, the functions, the detail or the lines of a unit
     /// that it asks; may fail with `OutOfMemory` instead, which is never cached. An output takes no
-    /// memory where all that it asks for is cached and at most 16 inlined functions stand there.
-    /// Where no unit covers `probe`, as at 2^64 - 1, it waits for nothing and takes no memory.
+    /// memory where all that it asks for is cached, or takes none to read, and at most 16 inlined
+    /// functions stand there. Unless readers share their bytes, functions take none where a view
+    /// has none, nor do lines whose program has a fault before its first row. Where no unit covers
+    /// `probe`, as at 2^64 - 1, it waits for nothing and takes no memory.
     ///
     /// Source: DWARF 5, sections 2.17, 3.3, 3.1.2 and 7.3.2. Own: which unit counts, and what a
     /// lookup waits for.
     pub fn find_frames(&mut self, probe: u64) -> LookupResult<FramesLookup<'_, R>>
         ensures* ends { sem 𝓛 (RestsAs (λ c. c.ctx.ghost_name) R.row R.Reader self.entry
-            result (λ o n. AfterFrames End probe o self.old n)) }
+            result (λ o n. AfterFramesOver R.shares End probe o self.old n)) }
         ensures load { IfLoad result (λ c.
             SuspendsIn End self.entry probe c.ctx c.probe c.number c.load) }
         ensures output { IfOutput result (λ o. ExactlyUnlessOom (λ i. Some (frames_left i)) o

@@ -18,7 +18,7 @@ impl<R: Reader> Context<R> {
         ensures gives { IsStored faults probe result self.new }
         ensures refused { faults ≡ PassOver → IfErr result (λ e. e ≡ OutOfMemory) }
         ensures ended { OnOk result (waiting_unit self.new.stop ≡ None) }
-        ensures after { AfterSkip faults probe result self.old self.new }
+        ensures after { AfterSkip R.shares faults probe result self.old self.new }
     {
         loop {
             self.walk(probe, faults)?;

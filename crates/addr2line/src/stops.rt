@@ -9,8 +9,8 @@ ghost use Rattle.addr2line_units.specs.FramesLeft.{frames_left};
 ghost use Rattle.addr2line_units.specs.FramesLookup.{Waits, frames_found};
 ghost use Rattle.addr2line_units.specs.SeenUnit.{seen_unit};
 ghost use Rattle.addr2line.specs.Context.{IsUncovered};
-ghost use Rattle.addr2line.specs.AfterLookups.{AfterFrames, IsFoundUnit, IsKnownFew, IsStored};
-ghost use Rattle.addr2line.specs.Lookups.{IsLoadOf};
+ghost use Rattle.addr2line.specs.AfterLookups.{AfterFrames, IsFoundUnit, IsKnownFew, IsStored, NeedsNoMemory};
+ghost use Rattle.addr2line.specs.Lookups.{IsFaultOfAsked, IsLoadOf};
 ghost use Rattle.addr2line_units.specs.UnitsState.{waiting_unit};
 ghost use Rattle.std.specs.Prelude.{option_map};
 
@@ -29,6 +29,8 @@ impl<R: Reader> Context<R> {
         ensures last { probe ≡ last_address → IsUncovered self.old probe }
         ensures after { AfterFrames faults probe result self.old self.new }
         ensures memory { IsKnownFew faults self.new probe → HadMemory result }
+        ensures no_memory { NeedsNoMemory R.shares faults self.new probe → IfErr result
+            (IsFaultOfAsked faults self.old.sections self.old.answers probe) }
     {
         self.units.walk(self.ranges.find(probe), probe, faults)
     }

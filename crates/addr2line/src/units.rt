@@ -11,7 +11,7 @@ ghost use Rattle.addr2line_units.specs.Suspended.{IfLoad, IfOutput, IsOkOutput, 
 ghost use Rattle.addr2line.specs.Answers.{AfterResume};
 ghost use Rattle.addr2line.specs.Borrowed.{RestsAs};
 ghost use Rattle.addr2line.specs.Context.{IsUncovered};
-ghost use Rattle.addr2line.specs.AfterLookups.{AfterFrames, IsLent, IsStored};
+ghost use Rattle.addr2line.specs.AfterLookups.{AfterFramesOver, IsLent, IsStored};
 ghost use Rattle.addr2line.specs.Lookups.{lookup_stop, waits_for};
 ghost use Rattle.addr2line.specs.Skips.{AfterSkip};
 ghost use Rattle.addr2line.specs.WaitingLookups.{HoldsIn, SuspendsAgainIn, SuspendsIn, count_loads, unit_answered, unit_of_context, unit_skipped, unit_with_none};
@@ -91,7 +91,7 @@ fn lend<R: Reader>(
 // A lookup of a unit from its beginning, by what is cached.
 fn begin<R: Reader>(ctx: &mut Context<R>, probe: u64) -> LookupResult<UnitLookup<'_, R>>
     ensures* ends { sem 𝓛 (RestsAs (λ c. c.ctx.ghost_name) R.row R.Reader ctx.entry result
-        (λ o n. AfterFrames PassOver probe o ctx.old n)) }
+        (λ o n. AfterFramesOver R.shares PassOver probe o ctx.old n)) }
     ensures load { IfLoad result (λ c.
         SuspendsIn PassOver ctx.entry probe c.ctx c.probe c.number c.load) }
     ensures output { IfOutput result (λ o. ExactlyUnlessOom seen_found o
@@ -112,7 +112,8 @@ fn resume_with<R: Reader>(
     requires stands { waits_for number (lookup_stop PassOver ctx.old.sections ctx.old.answers probe)
         ≡ true }
     ensures* ends { sem 𝓛 (RestsAs (λ c. c.ctx.ghost_name) R.row R.Reader ctx.entry result
-        (λ o n. AfterResume PassOver probe number (option_map (λ d. d.value) input) o ctx.old n)) }
+        (λ o n. AfterResume R.shares PassOver probe number (option_map (λ d. d.value) input) o
+        ctx.old n)) }
     ensures load { IfLoad result (λ c. SuspendsAgainIn PassOver ctx.entry probe number
         (option_map (λ d. d.value) input) c.ctx c.probe c.number c.load) }
     ensures fewer { IfLoad result (λ c. count_loads c.ctx.now c.probe < count_loads ctx.old probe) }
@@ -129,7 +130,7 @@ fn resume_with<R: Reader>(
 // A lookup of a unit from its beginning, of which none is answered to each load.
 fn skip<R: Reader>(ctx: &mut Context<R>, probe: u64) -> LookupResult<UnitLookup<'_, R>>
     ensures* ends { sem 𝓛 (RestsAs (λ c. c.ctx.ghost_name) R.row R.Reader ctx.entry result
-        (λ o n. AfterSkip PassOver probe o ctx.old n)) }
+        (λ o n. AfterSkip R.shares PassOver probe o ctx.old n)) }
     ensures load { IfLoad result (λ c. ⊥) }
     ensures output { IfOutput result (λ o. ExactlyUnlessOom seen_found o
         (unit_skipped ctx.old probe)) }
@@ -158,8 +159,8 @@ impl<'ctx, R: Reader> LookupContinuation for UnitLookup<'ctx, R> {
 
     fn resume(self, input: Option<Rc<Dwarf<R>>>) -> LookupResult<Self>
         ensures* ends { sem 𝓛 (RestsAs (λ c. c.ctx.ghost_name) R.row R.Reader
-            self.entry.ctx result (λ o n. AfterResume PassOver self.entry.probe self.entry.number
-            (option_map (λ d. d.value) input) o self.entry.ctx.now n)) }
+            self.entry.ctx result (λ o n. AfterResume R.shares PassOver self.entry.probe
+            self.entry.number (option_map (λ d. d.value) input) o self.entry.ctx.now n)) }
         ensures load { IfLoad result (λ c. SuspendsAgainIn PassOver self.entry.ctx self.entry.probe
             self.entry.number (option_map (λ d. d.value) input)
             c.ctx c.probe c.number c.load) }
@@ -191,7 +192,7 @@ impl<'ctx, R: Reader> UnitLookup<'ctx, R> {
     /// context is left.
     pub fn skip(self) -> LookupResult<UnitLookup<'ctx, R>>
         ensures* ends { sem 𝓛 (RestsAs (λ c. c.ctx.ghost_name) R.row R.Reader
-            self.entry.ctx result (λ o n. AfterSkip PassOver self.entry.probe o
+            self.entry.ctx result (λ o n. AfterSkip R.shares PassOver self.entry.probe o
             self.entry.ctx.now n)) }
         ensures load { IfLoad result (λ c. ⊥) }
         ensures output { IfOutput result (λ o. ExactlyUnlessOom seen_found o
@@ -248,14 +249,15 @@ impl<R: Reader> Context<R> {
     /// read of units that it doesn't ask.
     ///
     /// Refused `OutOfMemory` alone, which is never cached. An output takes no memory where all that
-    /// it asks for is cached and at most 16 inlined functions stand there. Where no unit covers
-    /// `probe`, as at 2^64 - 1, it waits for nothing and takes no memory.
+    /// it asks for is cached, or takes none to read, as `find_frames` has it, and at most 16 inlined
+    /// functions stand there. Where no unit covers `probe`, as at 2^64 - 1, it waits for nothing and
+    /// takes no memory.
     ///
     /// Source: DWARF 5, sections 2.17, 3.3, 3.1.2 and 7.3.2. Own: which unit counts, and what a
     /// lookup waits for.
     pub fn find_dwarf_and_unit(&mut self, probe: u64) -> LookupResult<UnitLookup<'_, R>>
         ensures* ends { sem 𝓛 (RestsAs (λ c. c.ctx.ghost_name) R.row R.Reader self.entry
-            result (λ o n. AfterFrames PassOver probe o self.old n)) }
+            result (λ o n. AfterFramesOver R.shares PassOver probe o self.old n)) }
         ensures load { IfLoad result (λ c.
             SuspendsIn PassOver self.entry probe c.ctx c.probe c.number
             c.load) }

@@ -7,7 +7,7 @@ use Rattle.elf.specs.declared.error.LoaderError.TheVariants.{OutOfMemory}
 use Rattle.elf.specs.Text.{loader_error_of}
 use Rattle.addr2line_units.specs.declared.frames_lookup.Faults.TheVariants.{End}
 use Rattle.addr2line_units.specs.Located.{is_found}
-use Rattle.addr2line.specs.AfterLookups.{AfterFrames, IsKnownFew}
+use Rattle.addr2line.specs.AfterLookups.{AfterFrames, AfterFramesOver, IsKnownFew}
 use Rattle.addr2line.specs.Context.{AfterLookup, AfterRangeLookup, ContextState, IsReady, IsReadyForRange}
 use Rattle.addr2line.specs.LoadsByFiles.{WaitsForNone}
 use Rattle.addr2line.proofs.LoadingLemmas.{not_told}
@@ -150,12 +150,12 @@ frames_came probe (Err e) old new a = record {
   memory = a.memory;
 }
 
-pub leaves_frames : {X : Type 0} (probe : ℕ) (fits : Bool) (s : Status) (r : Result X Error)
+pub leaves_frames : {X : Type 0} (shares : Bool) (probe : ℕ) (fits : Bool) (s : Status) (r : Result X Error)
     (old new : ContextState)
     → (s ≡ Refused OutOfMemory) ⊎ (s ≡ status_by Waits fits (found_some r))
-    → AfterFrames End probe r old new → LeavesFrames probe fits s old new
-leaves_frames probe fits s r old new is a =
-    record { came = found_some r; status = is; after = frames_came probe r old new a }
+    → AfterFramesOver shares End probe r old new → LeavesFrames probe fits s old new
+leaves_frames shares probe fits s r old new is a =
+    record { came = found_some r; status = is; after = frames_came probe r old new a.after }
 
 -- a lookup that waits has left the context so
 pub leaves_waiting : (probe : ℕ) (fits : Bool) (s : Status) (old new held : ContextState)
@@ -178,12 +178,12 @@ leaves_waiting probe fits s old new held is same a =
       };
     })
 
-pub frames_had_memory : {X : Type 0} (probe : ℕ) (fits : Bool) (s : Status) (r : Result X Error)
+pub frames_had_memory : {X : Type 0} (shares : Bool) (probe : ℕ) (fits : Bool) (s : Status) (r : Result X Error)
     (old new : ContextState) → s ≡ status_by Waits fits (found_some r)
-    → AfterFrames End probe r old new → WaitsForNone old probe → IsKnownFew End old probe
+    → AfterFramesOver shares End probe r old new → WaitsForNone old probe → IsKnownFew End old probe
     → s ≢ Refused OutOfMemory
-frames_had_memory {X} probe fits s r old new is a ended few =
-    had_memory Waits fits (found_some r) s (λ q. absurd cc) is (by r a)
+frames_had_memory {X} shares probe fits s r old new is a ended few =
+    had_memory Waits fits (found_some r) s (λ q. absurd cc) is (by r a.after)
   where
     by : (r : Result X Error) → AfterFrames End probe r old new → HadMemory (found_some r)
     by (Ok x) b = tt

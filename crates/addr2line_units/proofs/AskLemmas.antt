@@ -3,7 +3,7 @@
 use Rattle.std.proofs.Common.{◌≡◌, ◌≢◌, inl, inr, ℕ, ◌<◌, ◌≤◌, ◌&&◌, ◌||◌, Bool, true, false, not, List, [], ◌∷◌, length, get_or, slice_get, Option, Some, None, Result, Ok, Err, refl, sym, ap, subst, ◌∙◌, arith}
 use Rattle.std.proofs.Math.ListN.{set}
 use Rattle.std.proofs.lemmas.Option.{get_or_from_slice_get, slice_get_within}
-use Rattle.std.specs.Prelude.{IfOk, unwrap_or}
+use Rattle.std.specs.Prelude.{IfErr, IfOk, unwrap_or}
 use Rattle.gimli_read.specs.declared.error.Error.{Error}
 use Rattle.gimli_read.specs.declared.error.Error.TheVariants.{OutOfMemory}
 use Rattle.gimli_read.specs.Alike.{HadMemory}
@@ -19,22 +19,23 @@ use Rattle.addr2line_units.specs.declared.unit.ResUnit.{ResUnit}
 use Rattle.addr2line_units.specs.declared.unit_frames.UnitEntries.{UnitEntries}
 use Rattle.addr2line_units.specs.declared.unit_frames.UnitFrames.{UnitFrames}
 use Rattle.addr2line_units.specs.AskedUnits.{AfterAsk, found_stop, stop_at}
-use Rattle.addr2line_units.specs.CachedEntries.{AreEntriesOf, AreFramesIn, ReadsEntriesOf, StayEntries, first_answer_of, frames_of_place, has_entries}
+use Rattle.addr2line_units.specs.AskMemory.{functions_in_take_memory, lines_of_take_memory, lines_take_memory}
+use Rattle.addr2line_units.specs.CachedEntries.{AreEntriesOf, AreFramesIn, AsksNoMemoryIn, ReadsEntriesOf, StayEntries, first_answer_of, frames_of_place, has_entries}
 use Rattle.addr2line_units.specs.CachedFrames.{AreFoundAt, IsLendable, IsStopIn, found_after_fault, frames_found_at, has_frames_at, seen_stop, stop_of_found}
 use Rattle.addr2line_units.specs.CachedLines.{AreLinesOf, StaysUnit, StayUnits, indexed_unit, indexed_units, is_uncached, parsed_units}
 use Rattle.addr2line_units.specs.CachedUnits.{StayAllEntries, answers_in, has_entries_at}
-use Rattle.addr2line_units.specs.FramesLookup.{FindsNothing, Stop, after_fault, asked_frames, asks_lines_of, ends_lookup, has_many_of, holds_along, or_stop, stop_along}
+use Rattle.addr2line_units.specs.FramesLookup.{FindsNothing, Stop, after_fault, asked_frames, asks_lines_of, ends_lookup, functions_of_take_memory, has_many_of, holds_along, or_stop, stop_along}
 use Rattle.addr2line_units.specs.Parsed.{has_parsed}
 use Rattle.addr2line_units.specs.RangedUnits.{IndexedUnit}
 use Rattle.addr2line_units.specs.StoredUnits.{AreUnits, seen_units}
 use Rattle.addr2line_units.specs.UnitFrames.{FramesResult, asks_lines_in, frames_in, has_many}
-use Rattle.addr2line_units.specs.UnitsState.{UnitsState, asked_by, has_all_at, has_few_at}
+use Rattle.addr2line_units.specs.UnitsState.{IsFaultAt, UnitsState, asked_by, asks_no_memory_at, has_all_at, has_few_at, reads_no_memory_at}
 use Rattle.addr2line_units.specs.Views.{FirstAnswers}
 use Rattle.addr2line_units.proofs.CachedUnitLemmas.{as_many_entries, entries_at, entries_set, reads_set, same_answers, stay_entries_set}
 use Rattle.addr2line_units.proofs.FoundLemmas.{lendable_if_told}
-use Rattle.addr2line_units.proofs.FramesLookupLemmas.{gives_after, no_stop, oom_after, oom_before, stop_is, stop_there, there_after}
+use Rattle.addr2line_units.proofs.FramesLookupLemmas.{gives_after, no_stop, oom_after, oom_before, refused_before, stop_is, stop_there, there_after}
 use Rattle.addr2line_units.proofs.KnownLemmas.{known_is, known_unchanged}
-use Rattle.addr2line_units.proofs.NumberedFrames.{frames_given, known_then, lines_only, many_are, none_known, none_past, nothing_at, places_there, then_known}
+use Rattle.addr2line_units.proofs.NumberedFrames.{asks_are, frames_are, frames_given, functions_take, known_then, lines_only, lines_take, many_are, none_known, none_past, nothing_at, places_there, then_known, then_no_memory}
 use Rattle.addr2line_units.proofs.StayLemmas.{stays_known}
 use Rattle.addr2line_units.proofs.UnitsLemmas.{as_many, own_at, own_set, stay_indexed, stay_parsed, stay_set}
 use Rattle.addr2line_units.proofs.WalkLemmas.{and_first, and_not}
@@ -196,6 +197,24 @@ module _ {R : Type 0} (scope : Scope) (rs : List ResUnit) (vs : List (UnitEntrie
                   ap (λ xs. has_many_of scope xs (answers_in new_vs) probe n) units_same
                   ∙ ap (λ a. has_many_of scope (indexed_units us rs) a probe n) answers_same
                   ∙ many_are scope probe us rs vs n d i.lines i.entries in_lines u r s v w unit own_is entries_is
+
+              -- where the lookup takes no memory there, a refusal is the fault of the unit
+              pub refused_alone : (shares : Bool) → (AsksNoMemoryIn shares scope u (first_answer_of v) probe s w → IfErr result (λ e. frames_in scope (indexed_unit u r) (first_answer_of v) probe ≡ Err e))
+                  → (x : Error) → found_after_fault faults result ≡ Err x → asks_no_memory_at shares probe new n ≡ true → IsFaultAt probe old n x
+              refused_alone shares alone x e none =
+                  frames_are scope probe us rs vs n d i.lines i.entries in_lines u r s v w unit own_is entries_is
+                  ∙ subst (λ q. IfErr q (λ y. frames_in scope (indexed_unit u r) (first_answer_of v) probe ≡ Err y)) (refused_before faults result x e)
+                  (alone (then_no_memory scope probe us rs vs n d i.lines i.entries in_lines u r s v w unit own_is entries_is shares (sym none_is ∙ and_first _ _ none) (sym many_is ∙ and_not _ _ none)))
+                where
+                  none_is : reads_no_memory_at shares probe new n ≡ ((has_entries_at probe new_vs n || not (functions_in_take_memory shares scope u (first_answer_of v)))
+                      && (not (asks_lines_in scope u (first_answer_of v) probe) || (has_parsed (parsed_units new_rs) n || not (lines_take_memory shares u))))
+                  none_is =
+                      ap (λ b. (b || not (functions_of_take_memory shares scope (indexed_units us new_rs) (answers_in new_vs) n)) && (not (asks_lines_of scope (indexed_units us new_rs) (answers_in new_vs) probe n) || (has_parsed (parsed_units new_rs) n || not (lines_of_take_memory shares (indexed_units us new_rs) n)))) (known_is probe new_vs n)
+                      ∙ ap (λ xs. (has_entries_at probe new_vs n || not (functions_of_take_memory shares scope xs (answers_in new_vs) n)) && (not (asks_lines_of scope xs (answers_in new_vs) probe n) || (has_parsed (parsed_units new_rs) n || not (lines_of_take_memory shares xs n)))) units_same
+                      ∙ ap (λ a. (has_entries_at probe new_vs n || not (functions_of_take_memory shares scope (indexed_units us rs) a n)) && (not (asks_lines_of scope (indexed_units us rs) a probe n) || (has_parsed (parsed_units new_rs) n || not (lines_of_take_memory shares (indexed_units us rs) n)))) answers_same
+                      ∙ ap (λ b. (has_entries_at probe new_vs n || not b) && (not (asks n) || (has_parsed (parsed_units new_rs) n || not (lines_of_take_memory shares (indexed_units us rs) n)))) (functions_take scope probe us rs vs n d i.lines i.entries in_lines u r s v w unit own_is entries_is shares)
+                      ∙ ap (λ b. (has_entries_at probe new_vs n || not (functions_in_take_memory shares scope u (first_answer_of v))) && (not b || (has_parsed (parsed_units new_rs) n || not (lines_of_take_memory shares (indexed_units us rs) n)))) (asks_are scope probe us rs vs n d i.lines i.entries in_lines u r s v w unit own_is entries_is)
+                      ∙ ap (λ b. (has_entries_at probe new_vs n || not (functions_in_take_memory shares scope u (first_answer_of v))) && (not (asks_lines_in scope u (first_answer_of v) probe) || (has_parsed (parsed_units new_rs) n || not b))) (lines_take scope probe us rs vs n d i.lines i.entries in_lines u r s v w unit own_is entries_is shares)
 
               pub after_asked : {X : Type 0} (q : Result X Error) → (HadMemory q → HadMemory result) → (HadMemory result → HadMemory q) → AfterAsk n probe q old new
               after_asked q before then = record {

@@ -4,6 +4,7 @@ use Rattle.gimli_read.specs.declared.error.Error.{Error}
 use Rattle.gimli_read.specs.Reading.{◌>>=◌, ExactlyUnlessOom, ExactlyUnlessOomIf}
 use Rattle.gimli.specs.Sections.{Sections}
 use Rattle.gimli.specs.Unit.{UnitRecord}
+use Rattle.addr2line_lines.specs.Functions.{functions_take_memory}
 use Rattle.addr2line_lines.specs.References.{Scope}
 use Rattle.addr2line_lines.proofs.ReadLemmas.{table_same}
 use Rattle.addr2line_units.specs.declared.functions.LazyFunctions.{LazyFunctions}
@@ -12,6 +13,7 @@ use Rattle.addr2line_units.specs.declared.unit_frames.UnitEntries.{UnitEntries}
 use Rattle.addr2line_units.specs.declared.view.UnitView.{UnitView}
 use Rattle.addr2line_units.specs.declared.view.ViewState.{ViewState}
 use Rattle.addr2line_units.specs.declared.view.ViewState.TheVariants as states
+use Rattle.addr2line_units.specs.AskMemory.{functions_in_take_memory, view_takes_memory}
 use Rattle.addr2line_units.specs.Frames.{function_at}
 use Rattle.addr2line_units.specs.CachedEntries.{AreEntriesOf, StayEntries, has_answered, has_entries_by, first_answer_of}
 use Rattle.addr2line_units.specs.CachedFunctions.{AreFunctionsOf, StayFunctions, cached_has_function, is_cached_fault, were_read}
@@ -135,6 +137,11 @@ module _ {R : Type 0} (scope : Scope) (u : UnitRecord) (probe : ℕ) (old : Unit
     -- the function in the unit is that in the view
     pub function_is_in : function_in scope u (first_answer_of old) probe ≡ function_at inner unit probe
     function_is_in = ap (function_by scope probe) v.is ∙ moved (λ s y. function_at (view_scope scope v.view) v.view.unit probe ≡ function_at s y probe) refl
+
+    -- the functions of the view take the memory that those of the unit take
+    pub functions_take_in : (shares : Bool) → functions_in_take_memory shares scope u (first_answer_of old) ≡ false → functions_take_memory shares inner.file.sections unit ≡ false
+    unfolding functions_in_take_memory
+    functions_take_in shares none = moved (λ s y. functions_take_memory shares s.file.sections y ≡ false) (sym (ap (view_takes_memory shares scope) v.is) ∙ none)
 
     pub few_in : has_many scope u (first_answer_of old) probe ≡ false → is_many (function_at inner unit probe) ≡ false
     unfolding has_many

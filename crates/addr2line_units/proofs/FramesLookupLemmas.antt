@@ -67,6 +67,20 @@ module _ (faults : Faults) where
       of_faults PassOver (Ok x) h = tt
       of_faults PassOver (Err e) h = passed e h
 
+  -- a refusal that isn't passed over is that of the unit
+  pub refused_before : (r : Result UnitFrames Error) (x : Error) → found_after_fault faults r ≡ Err x → r ≡ Err x
+  refused_before r x h = of_faults faults r h
+    where
+      passed : (e : Error) → found_after_fault PassOver (Err e) ≡ Err x → ◌≡◌ {A = Result UnitFrames Error} (Err e) (Err x)
+      passed OutOfMemory h = h
+      passed _ h = absurd cc
+
+      of_faults : (f : Faults) (r : Result UnitFrames Error) → found_after_fault f r ≡ Err x → r ≡ Err x
+      of_faults End (Ok y) h = h
+      of_faults End (Err e) h = h
+      of_faults PassOver (Ok y) h = h
+      of_faults PassOver (Err e) h = passed e h
+
   pub there_after : {R : Type 0} (rs : List ResUnit) (vs : List (UnitEntries R)) (n : ℕ) (r : Result UnitFrames Error) → IfOk r (AreFoundAt rs vs n) → IfOk (found_after_fault faults r) (AreFoundAt rs vs n)
   there_after rs vs n r h = of_faults faults r h
     where

@@ -98,6 +98,10 @@ module _ {R : Type 0} (scope : Scope) (units : List ResUnit) (held : List (UnitE
           ap (λ r. r >>= λ x. view_fault (verdict d x (decided_answer d x (answer_of (answers_in held) n) given))) (this_unit us n u there)
           ∙ ap (λ a. view_fault (verdict d u (decided_answer d u a given))) answer_is
 
+      pub refused_told : (given : Option Sections) (r : Result (Unit {0}) Error) → IfErr r (λ e. view_fault (verdict d u (decided_answer d u (first_answer_of v) given)) ≡ Err e) → IfErr r (λ e. load_result d us (answers_in held) n given ≡ Err e)
+      refused_told given (Ok x) h = tt
+      refused_told given (Err e) h = load_is given ∙ h
+
       module _ (w : UnitEntries R) where
         abbrev now : List (UnitEntries R)
         now = set held n w

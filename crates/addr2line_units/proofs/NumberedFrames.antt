@@ -14,15 +14,17 @@ use Rattle.addr2line_units.specs.declared.unit.ResUnit.{ResUnit}
 use Rattle.addr2line_units.specs.declared.unit_frames.UnitEntries.{UnitEntries}
 use Rattle.addr2line_units.specs.declared.unit_frames.UnitFrames.{UnitFrames}
 use Rattle.addr2line_units.specs.declared.unit_frames.UnitFrames.TheVariants as found
+use Rattle.addr2line_units.specs.AskMemory.{any_lines_take_memory, functions_in_take_memory, lines_of_take_memory, lines_take_memory}
 use Rattle.addr2line_units.specs.CachedLines.{HaveLinesOf, indexed_unit, indexed_units, is_uncached, parsed_units}
-use Rattle.addr2line_units.specs.FramesLookup.{asks_lines_of, frames_of_number, has_many_of}
-use Rattle.addr2line_units.specs.CachedEntries.{AreFramesIn, frames_of_place, has_entries, first_answer_of}
+use Rattle.addr2line_units.specs.FramesLookup.{asks_lines_of, frames_of_number, functions_of_take_memory, has_many_of}
+use Rattle.addr2line_units.specs.CachedEntries.{AreFramesIn, AsksNoMemoryIn, frames_of_place, has_entries, first_answer_of}
 use Rattle.addr2line_units.specs.CachedFrames.{AreFoundAt, frames_found_at, functions_at, has_frames_at, language_at}
 use Rattle.addr2line_units.specs.CachedUnits.{HaveEntriesOf, answers_in, has_entries_at}
 use Rattle.addr2line_units.specs.Parsed.{ParsesOnly, has_parsed}
 use Rattle.addr2line_units.specs.UnitFrames.{asks_lines_in, frames_in, has_many}
 use Rattle.addr2line_units.proofs.UnitsLemmas.{in_units, no_parsed, no_unit, only_set, parsed_set, set_parsed, unit_at}
 use Rattle.addr2line_units.proofs.CachedUnitLemmas.{answer_at, as_many_entries}
+use Rattle.addr2line_units.proofs.WalkLemmas.{and_first}
 
 got_set : {X : Type 0} (xs : List X) (n : ℕ) (x : X) → n < length xs → slice_get (set xs n x) n ≡ Some x
 got_set [] n x h = absurd (omega arith)
@@ -66,14 +68,20 @@ module _ {R : Type 0} (scope : Scope) (probe : ℕ) (us : List UnitRecord) (rs :
     answer_is : slice_get (answers_in vs) n ≡ Some (first_answer_of v)
     answer_is = answer_at vs n v k entries
 
-    frames_are : frames_of_number scope (indexed_units us rs) (answers_in vs) probe n ≡ frames_in scope (indexed_unit u r) (first_answer_of v) probe
+    pub frames_are : frames_of_number scope (indexed_units us rs) (answers_in vs) probe n ≡ frames_in scope (indexed_unit u r) (first_answer_of v) probe
     frames_are = rw (unit_is, frames_of_number, answer_is) refl
 
-    asks_are : asks n ≡ asks_lines_in scope u (first_answer_of v) probe
+    pub asks_are : asks n ≡ asks_lines_in scope u (first_answer_of v) probe
     asks_are = rw (unit_is, asks_lines_of, answer_is) refl
 
     pub many_are : has_many_of scope (indexed_units us rs) (answers_in vs) probe n ≡ has_many scope u (first_answer_of v) probe
     many_are = rw (unit_is, has_many_of, answer_is) refl
+
+    pub functions_take : (shares : Bool) → functions_of_take_memory shares scope (indexed_units us rs) (answers_in vs) n ≡ functions_in_take_memory shares scope u (first_answer_of v)
+    functions_take shares = rw (unit_is, functions_of_take_memory, answer_is) refl
+
+    pub lines_take : (shares : Bool) → lines_of_take_memory shares (indexed_units us rs) n ≡ lines_take_memory shares u
+    lines_take shares = ap (any_lines_take_memory shares) unit_is
 
     found_at : (f : UnitFrames) → frames_of_place s w f ≡ frames_found_at (set rs n s) (set vs n w) n f
     found_at found.Open = refl
@@ -119,3 +127,26 @@ module _ {R : Type 0} (scope : Scope) (probe : ℕ) (us : List UnitRecord) (rs :
         of_bools true true c e = (refl, λ q. e)
         of_bools true false c e = (refl, λ q. cc)
         of_bools false b c e = cc
+
+    -- a lookup takes no memory in the unit, by what is cached of it
+    pub then_no_memory : (shares : Bool) → ((has_entries_at probe (set vs n w) n || not (functions_in_take_memory shares scope u (first_answer_of v)))
+        && (not (asks_lines_in scope u (first_answer_of v) probe) || (has_parsed (parsed_units (set rs n s)) n || not (lines_take_memory shares u)))) ≡ true
+        → has_many scope u (first_answer_of v) probe ≡ false → AsksNoMemoryIn shares scope u (first_answer_of v) probe s w
+    then_no_memory shares none few = record {
+      functions = λ takes. sym (ap (λ o. unwrap_or (option_map (has_entries probe) o) true) (got_set vs n w k)) ∙ or_not (has_entries_at probe (set vs n w) n) (functions_in_take_memory shares scope u (first_answer_of v)) (and_first _ _ none) takes;
+      lines = λ asked takes. set_parsed rs n s h (or_not (has_parsed (parsed_units (set rs n s)) n) (lines_take_memory shares u) (not_or (asks_lines_in scope u (first_answer_of v) probe) _ (and_second _ _ none) asked) takes);
+      few = few;
+    }
+      where
+        or_not : (a b : Bool) → (a || not b) ≡ true → b ≡ true → a ≡ true
+        or_not true b e q = refl
+        or_not false true e q = e
+        or_not false false e q = cc
+
+        not_or : (a b : Bool) → (not a || b) ≡ true → a ≡ true → b ≡ true
+        not_or true b e q = e
+        not_or false b e q = cc
+
+        and_second : (a b : Bool) → (a && b) ≡ true → b ≡ true
+        and_second true b e = e
+        and_second false b e = cc

@@ -1,6 +1,7 @@
 -- The frames in a unit by its functions and its lines (on specs/UnitFrames.antt).
-use Rattle.std.proofs.Common.{◌≡◌, ◌∙◌, ℕ, ap, sym, refl, subst, not, ◌&&◌, is_ok, is_none, Bool, true, false, Option, Some, None, option_map, Result, Ok, Err, if◌then◌else◌}
+use Rattle.std.proofs.Common.{◌≡◌, ◌≢◌, ◌∙◌, ℕ, ap, sym, refl, subst, not, ◌&&◌, is_ok, is_none, Bool, true, false, Option, Some, None, option_map, Result, Ok, Err, if◌then◌else◌}
 use Rattle.gimli_read.specs.declared.error.Error.{Error}
+use Rattle.gimli_read.specs.declared.error.Error.TheVariants.{OutOfMemory}
 use Rattle.gimli_read.specs.Reading.{◌>>=◌}
 use Rattle.gimli.specs.Sections.{Sections}
 use Rattle.gimli.specs.Unit.{UnitRecord}
@@ -12,17 +13,19 @@ use Rattle.addr2line_lines.specs.UnitLines.{unit_lines}
 use Rattle.addr2line_units.specs.declared.functions.LazyFunctions.{LazyFunctions}
 use Rattle.addr2line_units.specs.declared.unit.LazyLines.{LazyLines}
 use Rattle.addr2line_units.specs.declared.unit.LazyLines.TheVariants as lines
+use Rattle.addr2line_units.specs.declared.unit.ResUnit.{ResUnit}
 use Rattle.addr2line_units.specs.declared.unit_frames.UnitEntries.{UnitEntries}
 use Rattle.addr2line_units.specs.declared.view.UnitView.{UnitView}
 use Rattle.addr2line_units.specs.declared.view.ViewState.{ViewState}
 use Rattle.addr2line_units.specs.declared.view.ViewState.TheVariants as states
+use Rattle.addr2line_units.specs.AskMemory.{functions_in_take_memory, lines_take_memory}
 use Rattle.addr2line_units.specs.CachedLines.{AreLinesOf, cached_files, is_uncached}
 use Rattle.addr2line_units.specs.Frames.{FoundFunction, found_frames}
-use Rattle.addr2line_units.specs.CachedEntries.{AreRead, ReadsEntriesOf, StayEntries, has_entries, has_entries_by}
+use Rattle.addr2line_units.specs.CachedEntries.{AreRead, AsksNoMemoryIn, ReadsEntriesOf, StayEntries, has_entries, has_entries_by}
 use Rattle.addr2line_units.specs.CachedFunctions.{StayFunctions, cached_functions}
 use Rattle.addr2line_units.specs.CachedViews.{IsViewOf, answer_in, seen_first_answer, waits, was_looked_at}
-use Rattle.addr2line_units.specs.Located.{location_in}
-use Rattle.addr2line_units.specs.UnitFrames.{asks_lines_in, frames_by, frames_in, function_in}
+use Rattle.addr2line_units.specs.Located.{LocationResult, location_in}
+use Rattle.addr2line_units.specs.UnitFrames.{asks_lines_in, frames_by, frames_in, function_in, has_many}
 use Rattle.addr2line_units.specs.RangedUnits.{IndexedUnit}
 use Rattle.addr2line_units.specs.Views.{is_open}
 use Rattle.addr2line_units.proofs.ViewLemmas.{waiting_is_open}
@@ -118,3 +121,22 @@ module _ (scope : Scope) (x : IndexedUnit) (answer : Option (Option Sections)) (
           let at : Ok (location_at probe table) ≡ Ok (option_map (location_of_row table.files) row) = sym (ap (λ (r : Result Lines Error). r >>= λ table. Ok (location_at probe table)) right) ∙ k in
           let same : location_at probe table ≡ option_map (location_of_row table.files) row = cc in
           (tt, by_lines (Ok table) right ∙ ap (λ (o : Option Location). Ok (Some (found_frames table.files x.language f o))) same)
+
+-- where a lookup takes no memory in a unit, its refusal is the fault of the function
+pub function_alone : {R : Type 0} (shares : Bool) (scope : Scope) (u : UnitRecord) (answer : Option (Option Sections)) (probe : ℕ) (r : ResUnit) (v : UnitEntries R) (e : Error) → AsksNoMemoryIn shares scope u answer probe r v
+    → (has_entries probe v ≡ true → has_many scope u answer probe ≡ false → e ≢ OutOfMemory) → (e ≢ OutOfMemory → function_in scope u answer probe ≡ Err e)
+    → (functions_in_take_memory shares scope u answer ≡ false → function_in scope u answer probe ≡ Err e) → function_in scope u answer probe ≡ Err e
+function_alone shares scope u answer probe r v e h known gives alone = by_test (functions_in_take_memory shares scope u answer) refl
+  where
+    by_test : (b : Bool) → functions_in_take_memory shares scope u answer ≡ b → function_in scope u answer probe ≡ Err e
+    by_test true t = gives (known (h.functions t) h.few)
+    by_test false t = alone t
+
+-- or that of the lines
+pub lines_alone : {R : Type 0} (shares : Bool) (scope : Scope) (u : UnitRecord) (answer : Option (Option Sections)) (probe : ℕ) (r : ResUnit) (v : UnitEntries R) (e : Error) (given : LocationResult) → AsksNoMemoryIn shares scope u answer probe r v
+    → asks_lines_in scope u answer probe ≡ true → (is_uncached r.lines ≡ false → e ≢ OutOfMemory) → (e ≢ OutOfMemory → given ≡ Err e) → (lines_take_memory shares u ≡ false → given ≡ Err e) → given ≡ Err e
+lines_alone shares scope u answer probe r v e given h asked known gives alone = by_test (lines_take_memory shares u) refl
+  where
+    by_test : (b : Bool) → lines_take_memory shares u ≡ b → given ≡ Err e
+    by_test true t = gives (known (h.lines asked t))
+    by_test false t = alone t

@@ -21,7 +21,8 @@ use Rattle.addr2line_units.specs.Indexed.{IndexState, ranged_seen, with_ranged}
 use Rattle.addr2line_units.specs.RangedUnits.{IndexedUnit, has_lines, range_of_unit, unit_ranges}
 use Rattle.addr2line_units.specs.Located.{all_lines, along, lines_of_unit, location_in, looks_along, looks_in, or_along}
 use Rattle.gimli_read.specs.Alike.{HadMemory}
-use Rattle.addr2line_units.specs.Parsed.{AllAskFor, AreReadyForAll, ParsesOnly, StaysParsed, can_be_read, decides, has_parsed, ready_along}
+use Rattle.addr2line_units.specs.Cover.{holds_until}
+use Rattle.addr2line_units.specs.Parsed.{AllAskFor, AreReadyForAll, ParsesOnly, StaysParsed, can_be_read, decides, has_parsed, ready_along, unit_decides}
 use Rattle.addr2line_units.specs.CachedLines.{AreLinesOf, CachesResult, HaveLinesOf, StayUnits, StaysUnit, cached_files, indexed_unit, indexed_units, is_parsed, is_uncached, lines_result, lines_result_at, lines_at, location_of_unit_row, parsed_units, unit_row}
 
 -- what is cached is no longer uncached
@@ -227,16 +228,20 @@ module _ (d : Sections) (units : List IndexedUnit) (probe : ℕ) (r : UnitRange)
   pub along_fault : (f : Error) → location_in d probe (slice_get units r.unit) ≡ Err f → along d units probe (r ∷ rest) ≡ Err f
   along_fault f e = ap (λ x. x >>= λ location. or_along (along d units probe rest) location) e
 
-  -- a lookup that is ready has the lines of the first unit, and those of the others unless it decides
-  pub ready_first : (p : List Bool) → ready_along d units p probe (r ∷ rest) ≡ true → has_parsed p r.unit ≡ true
-  ready_first p e = of_bools (has_parsed p r.unit) _ e
+  -- what is so of the units that a lookup asks is so of the first, and of the others unless it decides
+  pub such_first : (such : ℕ → Bool) → holds_until (unit_decides d units probe) such (r ∷ rest) ≡ true → such r.unit ≡ true
+  such_first such e = of_bools (such r.unit) _ e
     where
       of_bools : (a b : Bool) → (a && b) ≡ true → a ≡ true
       of_bools true b e = refl
       of_bools false b e = e
 
-  pub ready_rest : (p : List Bool) → location_in d probe (slice_get units r.unit) ≡ Ok None → ready_along d units p probe (r ∷ rest) ≡ true → ready_along d units p probe rest ≡ true
-  ready_rest p e k = of_bools (has_parsed p r.unit) (decides (location_in d probe (slice_get units r.unit))) (ready_along d units p probe rest) (ap decides e) k
+  -- a lookup that is ready has the lines of the first unit
+  pub ready_first : (p : List Bool) → ready_along d units p probe (r ∷ rest) ≡ true → has_parsed p r.unit ≡ true
+  ready_first p e = such_first (has_parsed p) e
+
+  pub such_rest : (such : ℕ → Bool) → location_in d probe (slice_get units r.unit) ≡ Ok None → holds_until (unit_decides d units probe) such (r ∷ rest) ≡ true → holds_until (unit_decides d units probe) such rest ≡ true
+  such_rest such e k = of_bools (such r.unit) (decides (location_in d probe (slice_get units r.unit))) (holds_until (unit_decides d units probe) such rest) (ap decides e) k
     where
       of_bools : (a b c : Bool) → b ≡ false → (a && (b || c)) ≡ true → c ≡ true
       of_bools true false c e k = k

@@ -9,14 +9,14 @@ use Rattle.addr2line_lines.specs.References.{Scope}
 use Rattle.addr2line_units.specs.declared.frames_lookup.Faults.{Faults}
 use Rattle.addr2line_units.specs.declared.index.UnitRange.{UnitRange}
 use Rattle.addr2line_units.specs.Frames.{FrameRecord}
-use Rattle.addr2line_units.specs.FramesLookup.{FindsNothing, Finds, LookupAsks, Stop, Waits, asked_frames, asks_lines_of, ends_lookup, holds_along, or_stop, stop_along}
+use Rattle.addr2line_units.specs.FramesLookup.{FindsNothing, Finds, LookupAsks, Stop, Waits, asked_frames, asks_lines_of, ends_lookup, frames_of_number, holds_along, or_stop, stop_along}
 use Rattle.addr2line_units.specs.KnownEntries.{knows_at}
 use Rattle.addr2line_units.specs.Parsed.{ParsesOnly, has_parsed}
 use Rattle.addr2line_units.specs.RangedUnits.{IndexedUnit}
 use Rattle.addr2line_units.specs.UnitFrames.{FramesResult}
-use Rattle.addr2line_units.specs.AfterUnits.{AfterWalk, WereAsked}
+use Rattle.addr2line_units.specs.AfterUnits.{AfterWalk, IsFaultAlong, WereAsked}
 use Rattle.addr2line_units.specs.AskedUnits.{AfterAsk, has_stopped, stop_at}
-use Rattle.addr2line_units.specs.UnitsState.{UnitsState, asked_by, has_all_at, has_few_at, stop_of}
+use Rattle.addr2line_units.specs.UnitsState.{IsFaultAt, UnitsState, asked_by, asks_no_memory_at, has_all_at, has_few_at, stop_of}
 use Rattle.addr2line_units.specs.Views.{FirstAnswers}
 use Rattle.addr2line_units.proofs.FramesLookupLemmas.{faults_there, goes_on, holds_both, holds_ended, holds_first, holds_rest, parses_more}
 use Rattle.addr2line_units.proofs.StayLemmas.{known_twice}
@@ -149,6 +149,12 @@ module _ (faults : Faults) (probe : ℕ) (all : List UnitRange) (r : UnitRange) 
 
     pub fault_gives : e ≢ OutOfMemory → stop_of faults probe old all ≡ Err e
     fault_gives ne = sym w.rest_is ∙ ap (stop_along frames) is ∙ faults_there frames r rest e (frames_err ne)
+
+    -- where the walk takes no memory, the refusal is the fault of a unit that it asks
+    pub fault_alone : (shares : Bool) → (asks_no_memory_at shares probe now r.unit ≡ true → IsFaultAt probe mid r.unit e) → holds_along (asks_no_memory_at shares probe now) frames all ≡ true → IsFaultAlong faults probe old all e
+    fault_alone shares alone none =
+        (r.unit, asked_first frames r rest ranges all is w.asks, at_old mid old w.asked.scope w.asked.units w.asked.answers (λ s us xs. frames_of_number s us xs probe r.unit ≡ Err e)
+        (alone (holds_first frames r rest (asks_no_memory_at shares probe now) (subst (λ xs. holds_along (asks_no_memory_at shares probe now) frames xs ≡ true) is (w.less (asks_no_memory_at shares probe now) none)))))
 
     pub fault_after : AfterWalk {X = X} faults probe all (Err e) old now
     fault_after = record {

@@ -18,7 +18,7 @@ use Rattle.addr2line_units.specs.Loads.{forgotten, is_open_at, load_result}
 use Rattle.addr2line_units.specs.Located.{is_found, looks_along}
 use Rattle.addr2line_units.specs.Parsed.{AllAskFor, AreAllParsed, AreParsed, AreReadyForAll, AsksFor, LeadTo, ParsesOnly, StaysParsed, ready_along}
 use Rattle.addr2line_units.specs.StaysKnown.{IsReadBy, IsReadyAt, StaysKnown}
-use Rattle.addr2line_units.specs.UnitsState.{UnitsState, asked_by, has_all_at, has_few_at}
+use Rattle.addr2line_units.specs.UnitsState.{IsFaultAt, UnitsState, asked_by, has_all_at, has_few_at}
 
 -- nothing is changed but which lines are parsed, and how often they were looked at: those stay
 -- parsed that were, and no others are but those that are asked for
@@ -83,6 +83,11 @@ AfterWalk faults probe ranges result old = AfterAsking
     (LookupAsks (asked_by faults probe old) ranges) probe
     (λ s. holds_along (has_all_at probe s) (asked_by faults probe old) ranges)
     (λ s. holds_along (has_few_at probe s) (asked_by faults probe old) ranges) result old
+
+-- a unit that a lookup asks along ranges has this fault
+abbrev pub IsFaultAlong : Faults → ℕ → UnitsState → List UnitRange → Error → Type 0
+IsFaultAlong faults probe s ranges e =
+    (n : ℕ) × LookupAsks (asked_by faults probe s) ranges n × IsFaultAt probe s n e
 
 -- nothing is changed but first answers, and what is known of units' entries
 abbrev pub StayRead : UnitsState → UnitsState → Type 0

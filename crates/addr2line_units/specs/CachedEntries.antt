@@ -18,10 +18,12 @@ use Rattle.addr2line_units.specs.declared.unit_frames.UnitFrames.{UnitFrames}
 use Rattle.addr2line_units.specs.declared.unit_frames.UnitFrames.TheVariants as found
 use Rattle.addr2line_units.specs.declared.view.ViewState.{ViewState}
 use Rattle.addr2line_units.specs.declared.view.ViewState.TheVariants as states
-use Rattle.addr2line_units.specs.CachedLines.{cached_files}
+use Rattle.addr2line_units.specs.AskMemory.{functions_in_take_memory, lines_take_memory}
+use Rattle.addr2line_units.specs.CachedLines.{cached_files, is_uncached}
 use Rattle.addr2line_units.specs.Frames.{FrameRecord, found_frames}
 use Rattle.addr2line_units.specs.CachedFunctions.{AreFunctionsOf, ArePlacesIn, ReadsNoOther, StayFunctions, function_of_place, cached_has_function, is_cached_fault, cached_functions, were_read}
 use Rattle.addr2line_units.specs.CachedViews.{IsViewOf, is_decided, seen_first_answer, was_looked_at}
+use Rattle.addr2line_units.specs.UnitFrames.{asks_lines_in, has_many}
 use Rattle.addr2line_units.specs.Views.{verdict, view_scope}
 
 -- the first answer of a unit
@@ -92,3 +94,14 @@ abbrev pub AreFramesIn : {R : Type 0} → ResUnit → UnitEntries R → UnitFram
 AreFramesIn u v found.Open = Unit {0}
 AreFramesIn u v (found.Here function row) =
     IfSome function (ArePlacesIn (cached_functions v.functions)) × AreRead u.lines
+
+-- a lookup of the probe takes no memory in a unit with this first answer: what it asks for is known
+-- by what is cached, or reading it takes none, and at most 16 inlined functions stand there
+pub record AsksNoMemoryIn {R : Type 0} (shares : Bool) (scope : Scope) (dw_unit : UnitRecord)
+    (answer : Option (Option Sections)) (probe : ℕ) (u : ResUnit) (v : UnitEntries R)
+    : Type 0 where
+  pub functions : functions_in_take_memory shares scope dw_unit answer ≡ true
+      → has_entries probe v ≡ true
+  pub lines : asks_lines_in scope dw_unit answer probe ≡ true
+      → lines_take_memory shares dw_unit ≡ true → is_uncached u.lines ≡ false
+  pub few : has_many scope dw_unit answer probe ≡ false

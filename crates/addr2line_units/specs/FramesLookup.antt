@@ -10,6 +10,7 @@ use Rattle.addr2line_lines.specs.References.{Scope}
 use Rattle.addr2line_units.specs.declared.index.UnitRange.{UnitRange}
 use Rattle.addr2line_units.specs.declared.frames_lookup.Faults.{Faults}
 use Rattle.addr2line_units.specs.declared.frames_lookup.Faults.TheVariants.{End, PassOver}
+use Rattle.addr2line_units.specs.AskMemory.{functions_in_take_memory}
 use Rattle.addr2line_units.specs.Cover.{ComesTo, holds_until}
 use Rattle.addr2line_units.specs.Frames.{FrameRecord}
 use Rattle.addr2line_units.specs.UnitFrames.{FramesResult, asks_lines_in, frames_in, has_many}
@@ -116,6 +117,13 @@ asks_lines_of scope units answers probe n = elim (slice_get units n)
 abbrev pub has_many_of : Scope → List IndexedUnit → FirstAnswers → ℕ → ℕ → Bool
 has_many_of scope units answers probe n = elim (slice_get units n)
     [ None ↦ false | Some u ↦ has_many scope u.unit (answer_of answers n) probe ]
+
+-- whether memory may be taken to read the functions in the view of the unit of a number
+abbrev pub functions_of_take_memory : Bool → Scope → List IndexedUnit → FirstAnswers → ℕ → Bool
+functions_of_take_memory shares scope units answers n = elim (slice_get units n) [
+  | None ↦ false
+  | Some u ↦ functions_in_take_memory shares scope u.unit (answer_of answers n)
+]
 
 -- the first answers with one to the load of the unit of a number, which counts where it is open
 abbrev pub with_answer : Sections → List UnitRecord → FirstAnswers → ℕ

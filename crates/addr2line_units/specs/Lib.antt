@@ -21,6 +21,7 @@ pub mod CachedFunctions
 pub mod Views
 pub mod ViewLaws
 pub mod AnswerMemory
+pub mod AskMemory
 pub mod CachedViews
 pub mod SeenFrame
 pub mod SeenUnit

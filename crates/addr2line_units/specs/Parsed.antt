@@ -2,10 +2,11 @@
 -- Own: a lookup asks for the lines of the units that cover its address one after another, up to the
 -- first that has a location or a fault; a parse of all lines asks for those of the units in their
 -- order, up to the first that has a fault.
-use Rattle.std.specs.Prelude.{ℕ, ◌≡◌, ◌<◌, ◌⊎◌, Bool, true, false, List, [], ◌∷◌, slice_get, Option, Some, None, unwrap_or, Ok, Err, is_ok}
+use Rattle.std.specs.Prelude.{ℕ, ◌≡◌, ◌<◌, ◌⊎◌, ◌||◌, not, Bool, true, false, List, [], ◌∷◌, slice_get, Option, Some, None, unwrap_or, Ok, Err, is_ok}
 use Rattle.std.specs.List.{AllByRecursion}
 use Rattle.gimli.specs.Sections.{Sections}
 use Rattle.addr2line_units.specs.declared.index.UnitRange.{UnitRange}
+use Rattle.addr2line_units.specs.AskMemory.{lines_of_take_memory}
 use Rattle.addr2line_units.specs.Cover.{ComesTo, holds_until}
 use Rattle.addr2line_units.specs.RangedUnits.{IndexedUnit}
 use Rattle.addr2line_units.specs.Located.{LocationResult, lines_of_unit, location_in}
@@ -29,6 +30,17 @@ unit_decides d units probe n = decides (location_in d probe (slice_get units n))
 abbrev pub ready_along : Sections → List IndexedUnit → List Bool → ℕ → List UnitRange → Bool
 ready_along d units parsed probe ranges =
     holds_until (unit_decides d units probe) (has_parsed parsed) ranges
+
+-- whether the lines of the unit of a number are parsed, or no memory is taken for them
+abbrev pub parses_no_memory : Bool → List IndexedUnit → List Bool → ℕ → Bool
+parses_no_memory shares units parsed n =
+    has_parsed parsed n || not (lines_of_take_memory shares units n)
+
+-- whether along these ranges this is so of each unit, up to the one that decides
+abbrev pub takes_none_along : Bool → Sections → List IndexedUnit → List Bool → ℕ → List UnitRange
+    → Bool
+takes_none_along shares d units parsed probe ranges =
+    holds_until (unit_decides d units probe) (parses_no_memory shares units parsed) ranges
 
 -- along these ranges the lines of each unit are parsed
 abbrev pub AreParsed : List Bool → List UnitRange → Type 0

@@ -2,7 +2,7 @@
 -- references lead from them, their languages, the first answers to their loads, of which units the
 -- lines are parsed, what is known of the entries of each, how often lines were looked at, and what
 -- the last lookup of frames or of a unit has come to.
-use Rattle.std.specs.Prelude.{ℕ, Bool, ◌&&◌, ◌||◌, not, List, [], map, slice_get, Option, Some, None, Result, Ok, Err}
+use Rattle.std.specs.Prelude.{◌≡◌, ℕ, Bool, ◌&&◌, ◌||◌, not, List, [], map, slice_get, Option, Some, None, Result, Ok, Err}
 use Rattle.gimli_read.specs.declared.error.Error.{Error}
 use Rattle.gimli_read.specs.Reading.{◌>>=◌}
 use Rattle.gimli.specs.Sections.{Sections}
@@ -12,7 +12,8 @@ use Rattle.addr2line_lines.specs.References.{Scope}
 use Rattle.addr2line_units.specs.declared.frames_lookup.Faults.{Faults}
 use Rattle.addr2line_units.specs.declared.index.UnitRange.{UnitRange}
 use Rattle.addr2line_units.specs.declared.unit_row.UnitRow.{UnitRow}
-use Rattle.addr2line_units.specs.FramesLookup.{FindsNothing, Stop, Waits, asked_frames, asks_lines_of, has_many_of, main_scope, stop_along}
+use Rattle.addr2line_units.specs.AskMemory.{lines_of_take_memory}
+use Rattle.addr2line_units.specs.FramesLookup.{FindsNothing, Stop, Waits, asked_frames, asks_lines_of, frames_of_number, functions_of_take_memory, has_many_of, main_scope, stop_along}
 use Rattle.addr2line_units.specs.KnownEntries.{KnownEntries, NothingKnown, knows_at}
 use Rattle.addr2line_units.specs.Located.{lines_of_unit}
 use Rattle.addr2line_units.specs.Parsed.{has_parsed}
@@ -57,6 +58,10 @@ new_units d = do
 abbrev pub asked_by : Faults → ℕ → UnitsState → ℕ → FramesResult
 asked_by faults probe s = asked_frames faults s.scope s.units s.answers probe
 
+-- the unit of a number has this fault at the probe
+abbrev pub IsFaultAt : ℕ → UnitsState → ℕ → Error → Type 0
+IsFaultAt probe s n e = frames_of_number s.scope s.units s.answers probe n ≡ Err e
+
 -- what a lookup comes to along ranges
 abbrev pub stop_of : Faults → ℕ → UnitsState → List UnitRange → Result Stop Error
 stop_of faults probe s ranges = stop_along (asked_by faults probe s) ranges
@@ -75,6 +80,19 @@ has_all_at probe s n = knows_at s.known probe n
 abbrev pub has_few_at : ℕ → UnitsState → ℕ → Bool
 has_few_at probe s n =
     has_all_at probe s n && not (has_many_of s.scope s.units s.answers probe n)
+
+-- whether a lookup reads nothing in the unit of a number that may take memory: what it asks for is
+-- known, or reading it takes none
+abbrev pub reads_no_memory_at : Bool → ℕ → UnitsState → ℕ → Bool
+reads_no_memory_at shares probe s n = (knows_at s.known probe n
+    || not (functions_of_take_memory shares s.scope s.units s.answers n))
+    && (not (asks_lines_of s.scope s.units s.answers probe n)
+    || (has_parsed s.parsed n || not (lines_of_take_memory shares s.units n)))
+
+-- the same, and at most 16 inlined functions stand there
+abbrev pub asks_no_memory_at : Bool → ℕ → UnitsState → ℕ → Bool
+asks_no_memory_at shares probe s n = reads_no_memory_at shares probe s n
+    && not (has_many_of s.scope s.units s.answers probe n)
 
 -- the texts of the files of lines, none where these can't be read
 abbrev pub files_in : Result LineTable Error → List (List ℕ)

@@ -1,13 +1,13 @@
 //! Lookups of frames among units.
 
-ghost use Rattle.std.specs.Prelude.{◌≡◌};
+ghost use Rattle.std.specs.Prelude.{◌≡◌, IfErr, true};
 ghost use Rattle.gimli_read.specs.Reading.{ExactlyUnlessOom};
-ghost use Rattle.addr2line_units.specs.AfterUnits.{AfterWalk};
+ghost use Rattle.addr2line_units.specs.AfterUnits.{AfterWalk, IsFaultAlong};
 ghost use Rattle.addr2line_units.specs.AskedUnits.{AfterAsk, found_stop, has_stopped, stop_at};
 ghost use Rattle.addr2line_units.specs.CachedFrames.{found_after_fault};
-ghost use Rattle.addr2line_units.specs.FramesLookup.{FindsNothing};
+ghost use Rattle.addr2line_units.specs.FramesLookup.{FindsNothing, holds_along};
 ghost use Rattle.addr2line_units.specs.UnitRangesLeft.{ranges_left};
-ghost use Rattle.addr2line_units.specs.UnitsState.{stop_of};
+ghost use Rattle.addr2line_units.specs.UnitsState.{IsFaultAt, asked_by, asks_no_memory_at, stop_of};
 
 use crate::functions::FunctionPlace;
 use crate::range_iter::UnitRangeIter;
@@ -94,6 +94,8 @@ impl<R: Reader> Units<R> {
         ensures gives { ExactlyUnlessOom (λ _. self.new.stop) result
             (stop_at faults probe self.old number) }
         ensures after { AfterAsk number probe result self.old self.new }
+        ensures no_memory { asks_no_memory_at R.shares probe self.new number ≡ true
+            → IfErr result (IsFaultAt probe self.old number) }
     {
         self.stop = FramesStop::FindsNothing;
         let scope = self.sources.scope();
@@ -115,7 +117,9 @@ impl<R: Reader> Units<R> {
     /// is read of others.
     ///
     /// Refused by that fault; may fail with `OutOfMemory` instead, only where something of what is
-    /// asked for isn't cached, or there are more than 16 inlined functions.
+    /// asked for isn't cached and takes memory, or there are more than 16 inlined functions.
+    /// Functions take none where a view has none, nor do lines whose program has a fault before its
+    /// first row, unless readers share their bytes.
     pub fn walk(
         &mut self,
         mut ranges: UnitRangeIter<'_>,
@@ -125,6 +129,9 @@ impl<R: Reader> Units<R> {
         ensures gives { ExactlyUnlessOom (λ _. self.new.stop) result
             (stop_of faults probe self.old (ranges_left ranges.entry)) }
         ensures after { AfterWalk faults probe (ranges_left ranges.entry) result self.old self.new }
+        ensures no_memory { holds_along (asks_no_memory_at R.shares probe self.new)
+            (asked_by faults probe self.old) (ranges_left ranges.entry) ≡ true
+            → IfErr result (IsFaultAlong faults probe self.old (ranges_left ranges.entry)) }
     {
         self.reset();
         while let Some(range) = ranges.next() {

@@ -1,16 +1,17 @@
 //! Lookups of addresses among units, by their lines.
 
-ghost use Rattle.std.specs.Prelude.{◌≡◌, ◌+◌, ◌<◌, ◌≤◌, true, IfErr, IfOk, IfSome, OnOk, Ok, option_map, slice_get};
+ghost use Rattle.std.specs.Prelude.{◌≡◌, ◌+◌, ◌<◌, ◌≤◌, false, true, Err, IfErr, IfOk, IfSome, OnOk, Ok, option_map, slice_get};
 ghost use Rattle.gimli_read.specs.declared.error.Error.TheVariants.{OutOfMemory};
 ghost use Rattle.gimli_read.specs.Alike.{HadMemory};
 ghost use Rattle.gimli_read.specs.Reading.{Exactly, ExactlyUnlessOom, IsUnlessOom, fault_of};
 ghost use Rattle.addr2line_lines.specs.Location.{location_of_row};
 ghost use Rattle.addr2line_lines.specs.SeenLocation.{seen_location};
+ghost use Rattle.addr2line_units.specs.AskMemory.{lines_of_take_memory};
 ghost use Rattle.addr2line_units.specs.AfterUnits.{AfterCaching, AfterLineParse, AfterRow};
 ghost use Rattle.addr2line_units.specs.CachedLines.{HaveLinesOf, StayUnits, cached_files, indexed_units, lines_result_at, location_of_unit_row, parsed_units, unit_row};
 ghost use Rattle.addr2line_units.specs.Located.{all_lines, along, is_found, location_in, looks_along, looks_in, spans_along};
 ghost use Rattle.addr2line_units.specs.LocationsLeft.{locations_left};
-ghost use Rattle.addr2line_units.specs.Parsed.{AllAskFor, AreAllParsed, AreParsed, AreReadyForAll, AsksFor, LeadTo, ParsesOnly, has_parsed, ready_along};
+ghost use Rattle.addr2line_units.specs.Parsed.{AllAskFor, AreAllParsed, AreParsed, AreReadyForAll, AsksFor, LeadTo, ParsesOnly, has_parsed, ready_along, takes_none_along};
 ghost use Rattle.addr2line_units.specs.UnitRangesLeft.{ranges_left};
 ghost use Rattle.addr2line_units.specs.UnitsState.{row_location};
 
@@ -46,6 +47,10 @@ fn find_row_in<R: Reader>(
         (slice_get (indexed_units dw_units.now units.old.items) number)) }
     ensures parsed { HadMemory result → has_parsed (parsed_units units.new.items) number ≡ true }
     ensures memory { has_parsed (parsed_units units.new.items) number ≡ true → HadMemory result }
+    ensures no_memory { lines_of_take_memory R.shares
+        (indexed_units dw_units.now units.old.items) number ≡ false → IfErr result (λ e.
+        location_in dwarf.now probe (slice_get (indexed_units dw_units.now units.old.items) number)
+        ≡ Err e) }
     ensures only { ParsesOnly (λ n. n ≡ number)
         (parsed_units units.old.items) (parsed_units units.new.items) }
     ensures stay { StayUnits units.old.items units.new.items }
@@ -87,6 +92,10 @@ pub(crate) fn find_place_along<R: Reader>(
         (ranges_left ranges.entry) ≡ true }
     ensures memory { ready_along dwarf.now (indexed_units dw_units.now units.old.items)
         (parsed_units units.new.items) probe (ranges_left ranges.entry) ≡ true → HadMemory result }
+    ensures no_memory { takes_none_along R.shares dwarf.now
+        (indexed_units dw_units.now units.old.items) (parsed_units units.new.items) probe
+        (ranges_left ranges.entry) ≡ true → IfErr result (λ e. along dwarf.now
+        (indexed_units dw_units.now units.old.items) probe (ranges_left ranges.entry) ≡ Err e) }
     ensures only { ParsesOnly (AsksFor dwarf.now (indexed_units dw_units.now units.old.items) probe
         (ranges_left ranges.entry))
         (parsed_units units.old.items) (parsed_units units.new.items) }
@@ -240,7 +249,8 @@ impl<R: Reader> Units<R> {
     /// are parsed.
     ///
     /// Refused by the first such fault; may fail with `OutOfMemory` instead, which is never cached.
-    /// Takes no memory where the lines that it asks for are parsed.
+    /// Takes no memory where the lines that it asks for are parsed, or, unless readers share their
+    /// bytes, their program has a fault before its first row.
     pub fn find_row(
         &mut self,
         ranges: UnitRangeIter<'_>,
@@ -251,6 +261,10 @@ impl<R: Reader> Units<R> {
         ensures parsed { IfOk result (λ place. IfSome place (λ p.
             has_parsed self.new.parsed p.unit ≡ true)) }
         ensures after { AfterRow probe (ranges_left ranges.entry) result self.old self.new }
+        ensures no_memory { takes_none_along R.shares self.old.scope.file.sections self.old.units
+            self.new.parsed probe (ranges_left ranges.entry) ≡ true → IfErr result (λ e.
+            along self.old.scope.file.sections self.old.units probe (ranges_left ranges.entry)
+            ≡ Err e) }
     {
         self.stop = FramesStop::FindsNothing;
         find_place_along(

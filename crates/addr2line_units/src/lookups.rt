@@ -1,16 +1,18 @@
 //! Lookups of frames and of units, and what they lend.
 
-ghost use Rattle.std.specs.Prelude.{◌≡◌, IfErr, IfOk, IfSome, Ok, Some, option_map, slice_get};
+ghost use Rattle.std.specs.Prelude.{◌≡◌, Err, IfErr, IfOk, IfSome, Ok, Some, false, option_map, slice_get};
 ghost use Rattle.gimli_read.specs.declared.error.Error.TheVariants.{OutOfMemory};
 ghost use Rattle.addr2line_lines.specs.Location.{location_of_row};
 ghost use Rattle.addr2line_lines.specs.SeenScope.{seen_file};
 ghost use Rattle.addr2line_units.specs.AfterUnits.{AfterAnswer};
+ghost use Rattle.addr2line_units.specs.AnswerMemory.{answer_takes_memory};
 ghost use Rattle.addr2line_units.specs.CachedEntries.{AreRead};
 ghost use Rattle.addr2line_units.specs.CachedFunctions.{ArePlacesIn, function_of_place, cached_functions};
 ghost use Rattle.addr2line_units.specs.CachedLines.{cached_files};
 ghost use Rattle.addr2line_units.specs.Frames.{found_frames};
 ghost use Rattle.addr2line_units.specs.FramesLeft.{frames_left};
 ghost use Rattle.addr2line_units.specs.FramesLookup.{Waits, frames_found, unit_found};
+ghost use Rattle.addr2line_units.specs.Loads.{load_result};
 ghost use Rattle.addr2line_units.specs.SeenUnit.{seen_unit, sup_file};
 ghost use Rattle.addr2line_units.specs.UnitsState.{waiting_unit};
 ghost use Rattle.addr2line_units.specs.Views.{load_of_unit};
@@ -121,10 +123,15 @@ impl<R: Reader> Units<R> {
     /// Decides the unit of a number by an answer to its load if it is open, and else leaves it as
     /// it is.
     ///
-    /// Refused `OutOfMemory` alone, and only of an open unit that is given sections.
+    /// Refused `OutOfMemory` alone, and only of an open unit that is given sections, where bytes
+    /// are shared or the header of their first unit can be read.
     pub fn answer(&mut self, number: usize, sections: Option<Rc<Dwarf<R>>>) -> Result<(), Error>
         ensures after { AfterAnswer number (option_map (λ d. d.value) sections) result self.old
             self.new }
+        ensures no_memory { answer_takes_memory R.shares (option_map (λ d. d.value) sections)
+            ≡ false → IfErr result (λ e. load_result self.old.scope.file.sections
+            self.old.scope.file.units self.old.answers number (option_map (λ d. d.value) sections)
+            ≡ Err e) }
     {
         self.stop = FramesStop::FindsNothing;
         let scope = self.sources.scope();

@@ -6,6 +6,7 @@ ghost use Rattle.gimli_read.specs.declared.error.Error.TheVariants.{OutOfMemory}
 ghost use Rattle.gimli.specs.Sections.{Sections};
 ghost use Rattle.addr2line_lines.specs.Location.{location_of_row};
 ghost use Rattle.addr2line_units.specs.RangedUnits.{is_partial, is_type_unit, given_in_unit, given_ranges, has_lines, asks_lines, ranged_unit, unit_ranges};
+ghost use Rattle.addr2line_units.specs.AskMemory.{lines_take_memory};
 ghost use Rattle.addr2line_units.specs.Located.{is_found, location_in, looks_in};
 ghost use Rattle.addr2line_units.specs.UnitAranges.{range_in};
 ghost use Rattle.addr2line_units.specs.CachedLines.{AreLinesOf, IsUnparsed, LinesStayCached, CachesResult, StaysUnit, cached_lines_result, cached_files, cached_looks, cached_ranges, cached_row, indexed_unit, lines_result, cached_lines, is_parsed, is_uncached};
@@ -135,7 +136,8 @@ pub(crate) fn read_ranged_unit<R: Reader>(
     Ok((ResUnit { lang, lines }, ranges))
 }
 
-// The lines of a unit, or their fault, as they are cached. Refused `OutOfMemory` alone.
+// The lines of a unit, or their fault, as they are cached. Refused `OutOfMemory` alone, and only
+// where the lines take memory.
 fn parse_lines<R: Reader>(
     alloc: Global,
     dwarf: &Dwarf<R>,
@@ -148,6 +150,8 @@ fn parse_lines<R: Reader>(
     ensures cached { IfOk result (λ l. is_uncached l ≡ false) }
     ensures fault { IfOk result (λ l. cached_lines_result l ≢ Err OutOfMemory) }
     ensures refused { IfErr result (λ e. e ≡ OutOfMemory) }
+    ensures no_memory { lines_take_memory R.shares unit.now ≡ false
+        → IfErr result (λ e. lines_result dwarf.now unit.now ≡ Err e) }
 {
     match Lines::parse(alloc, dwarf, unit) {
         Ok(lines) => Ok(LazyLines::Read(lines)),
@@ -205,7 +209,7 @@ fn find_cached_row(lines: &LazyLines, looks: &mut Count, probe: u64) -> Option<R
 
 impl ResUnit {
     // Caches the lines of the unit, or their fault, unless they are cached. Refused `OutOfMemory`
-    // alone.
+    // alone, and only where the lines take memory.
     #[tactic(auto, using(crate::proofs::UnitLemmas::cached_before))]
     pub(crate) fn cache_lines<R: Reader>(
         &mut self,
@@ -223,6 +227,8 @@ impl ResUnit {
         ensures stays { LinesStayCached self.old.lines self.new.lines }
         ensures refused { IfErr result (λ e. e ≡ OutOfMemory) }
         ensures memory { OnErr result (self.new.lines ≡ self.old.lines) }
+        ensures no_memory { lines_take_memory R.shares dw_unit.now ≡ false
+            → IfErr result (λ e. lines_result dwarf.now dw_unit.now ≡ Err e) }
         ensures lang { self.new.lang ≡ self.old.lang }
         ensures read { AreLinesOf dwarf.now dw_unit.now self.new.lines }
     {
@@ -248,6 +254,8 @@ impl ResUnit {
         ensures stays { LinesStayCached self.old.lines self.new.lines }
         ensures caches { CachesResult self.old.lines result self.new.lines }
         ensures memory { is_uncached self.new.lines ≡ false → HadMemory result }
+        ensures no_memory { lines_take_memory R.shares dw_unit.now ≡ false
+            → IfErr result (λ e. lines_result dwarf.now dw_unit.now ≡ Err e) }
         ensures lang { self.new.lang ≡ self.old.lang }
         ensures read { AreLinesOf dwarf.now dw_unit.now self.new.lines }
     {
@@ -301,6 +309,8 @@ impl ResUnit {
         ensures stays { StaysUnit self.old self.new }
         ensures caches { CachesResult self.old.lines result self.new.lines }
         ensures memory { is_uncached self.new.lines ≡ false → HadMemory result }
+        ensures no_memory { lines_take_memory R.shares dw_unit.now ≡ false → IfErr result (λ e.
+            location_in dwarf.now probe (Some (indexed_unit dw_unit.now self.old)) ≡ Err e) }
         ensures read { AreLinesOf dwarf.now dw_unit.now self.new.lines }
         ensures cost { looks.new ≤ looks.old
             + looks_in dwarf.now (Some (indexed_unit dw_unit.now self.old)) }

@@ -1,11 +1,12 @@
 //! What stands at an address in one unit.
 
-ghost use Rattle.std.specs.Prelude.{◌≡◌, ◌≤◌, IfOk, IfSome, None, Ok, false, option_map, true};
+ghost use Rattle.std.specs.Prelude.{◌≡◌, ◌≤◌, Err, IfErr, IfOk, IfSome, None, Ok, false, option_map, true};
 ghost use Rattle.gimli_read.specs.Reading.{ExactlyUnlessOom};
 ghost use Rattle.addr2line_lines.specs.References.{IsScope};
 ghost use Rattle.addr2line_lines.specs.SeenScope.{seen_scope};
 ghost use Rattle.addr2line_units.specs.CachedLines.{AreLinesOf, StaysUnit, indexed_unit, is_uncached};
-ghost use Rattle.addr2line_units.specs.CachedEntries.{AreEntriesOf, AreFramesIn, AreFresh, ReadsEntriesOf, StayEntries, frames_of_place, has_entries, has_entries_by, first_answer_of};
+ghost use Rattle.addr2line_units.specs.AskMemory.{functions_in_take_memory};
+ghost use Rattle.addr2line_units.specs.CachedEntries.{AreEntriesOf, AreFramesIn, AsksNoMemoryIn, AreFresh, ReadsEntriesOf, StayEntries, frames_of_place, has_entries, has_entries_by, first_answer_of};
 ghost use Rattle.addr2line_units.specs.CachedFunctions.{ArePlacesIn, ReadsNoOther, StayFunctions, function_of_place, cached_functions};
 ghost use Rattle.addr2line_units.specs.CachedViews.{is_decided, seen_first_answer, waits, was_looked_at};
 ghost use Rattle.gimli_read.specs.Alike.{HadMemory};
@@ -69,6 +70,9 @@ fn find_in_view<'x, R: Reader>(
     ensures memory { has_entries_by probe view.now.state functions.new ≡ true
         → has_many (seen_scope scope.entry) dw_unit.now (seen_first_answer view.now) probe ≡ false
         → HadMemory result }
+    ensures no_memory { functions_in_take_memory R.shares (seen_scope scope.entry) dw_unit.now
+        (seen_first_answer view.now) ≡ false → IfErr result (λ e. function_in
+        (seen_scope scope.entry) dw_unit.now (seen_first_answer view.now) probe ≡ Err e) }
 {
     let unit = view.unit_ref(scope.file.dwarf, dw_unit)?;
     functions.find(alloc, view.scope_of(scope), unit.unit, probe)
@@ -102,8 +106,8 @@ impl<R: Reader> UnitEntries<R> {
     // and its detail are read and cached, unless they are, their faults too.
     //
     // Refused by the first fault of the view, its functions and the detail; may fail with
-    // `OutOfMemory` instead, only where something of these isn't cached, or there are more than 16
-    // inlined functions.
+    // `OutOfMemory` instead, only where something of these isn't cached, and the functions take
+    // memory, or there are more than 16 inlined functions.
     fn find_function<'x>(
         &mut self,
         alloc: Global,
@@ -127,6 +131,9 @@ impl<R: Reader> UnitEntries<R> {
         ensures memory { has_entries probe self.new ≡ true
             → has_many (seen_scope scope.entry) dw_unit.now (first_answer_of self.old) probe ≡ false
             → HadMemory result }
+        ensures no_memory { functions_in_take_memory R.shares (seen_scope scope.entry) dw_unit.now
+            (first_answer_of self.old) ≡ false → IfErr result (λ e. function_in
+            (seen_scope scope.entry) dw_unit.now (first_answer_of self.old) probe ≡ Err e) }
     {
         let UnitEntries { view, functions } = self;
         find_in_view(alloc, view, functions, scope, dw_unit, probe)
@@ -138,8 +145,8 @@ impl<R: Reader> UnitEntries<R> {
 // and the lines of the unit, their faults too.
 //
 // Refused by the first fault of the view, its functions, the detail and the lines; may fail with
-// `OutOfMemory` instead, only where something of these isn't cached, or there are more than 16
-// inlined functions.
+// `OutOfMemory` instead, only where something of these isn't cached and takes memory, or there are
+// more than 16 inlined functions.
 pub(crate) fn find_frames_in<'x, R: Reader>(
     alloc: Global,
     scope: Scope<'x, R>,
@@ -174,6 +181,10 @@ pub(crate) fn find_frames_in<'x, R: Reader>(
         → is_uncached unit.new.lines ≡ false)
         → has_many (seen_scope scope.entry) dw_unit.now (first_answer_of entries.old) probe ≡ false
         → HadMemory result }
+    ensures no_memory { AsksNoMemoryIn R.shares (seen_scope scope.entry) dw_unit.now
+        (first_answer_of entries.old) probe unit.new entries.new → IfErr result (λ e. frames_in
+        (seen_scope scope.entry) (indexed_unit dw_unit.now unit.old) (first_answer_of entries.old)
+        probe ≡ Err e) }
     ensures raised { looks.old ≤ looks.new }
 {
     entries.look(scope, dw_unit);

@@ -11,10 +11,10 @@ returns g c =
     let old = c.args.ctx.now in
     let mid = c.skip_loads-walked.new.self in
     let f = c.lend.follows in (
-      (refl, f.holds, skip_after End c.args.probe old mid _ e.after _ c.lend.result e.ended f.holds-at-none),
+      (refl, f.holds, skip_after End c.args.probe old mid _ g.R.Reader.shares e.after _ c.lend.result e.ended f.holds-at-none),
       record {
         ends = tt;
         load = if_load _ _ c.lend.result (λ x h. never_waits c.skip_loads-walked.result mid.stop x.number e.ended h.3 h.4) c.lend.ensures.load;
-        output = outputs_skipped End c.args.probe old mid _ e.after frames_of (λ i. Some (frames_left i)) _ c.lend.result f.holds-at-none c.lend.ensures.output;
+        output = outputs_skipped End c.args.probe old mid _ g.R.Reader.shares e.after frames_of (λ i. Some (frames_left i)) _ c.lend.result f.holds-at-none c.lend.ensures.output;
       },
     )

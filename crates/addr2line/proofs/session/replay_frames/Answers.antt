@@ -29,7 +29,7 @@ returns-in-Output-clause-after g c =
     let p = c.args.probe in
     let all = map seen_given c.args.answers.now in
     let told = c.frames_reply.ensures.gives (lookup_stop End d first.answers p) c.in-Output.ensures.output in
-    looked_leaves End p all c.in-Output.frames first _ (search rules) c.frames_reply.result _ told (λ w. given_ended End d p first.answers all w) c.frames_reply.ensures.refused
+    looked_leaves g.R.Reader.shares End p all c.in-Output.frames first _ (search rules) c.frames_reply.result _ told (λ w. given_ended End d p first.answers all w) c.frames_reply.ensures.refused
 
 pub loop-answer-init : goal.loop-answer-init
 loop-answer-init g c =
@@ -76,7 +76,7 @@ returns-in-Output-resume-clause-after g c =
     let out = subst (λ s. ExactlyUnlessOom (λ j. Some (frames_left j)) c.in-Output-resume.frames (frames_of s left p)) inv.so.sections (subst (λ q. ExactlyUnlessOom (λ j. Some (frames_left j)) c.in-Output-resume.frames (frames_of l.ctx.now.sections left q)) inv.probe c.in-Output-resume.ensures.output) in
     let told = c.frames_reply-in-Output-resume.ensures.gives (lookup_stop End d left p) out in
     let more = λ (rest : List Given). take_then seen_given c.args.answers.now i c.answer-item.result (search rules) c.answer-item.is rest ∙ ap (λ y. take i all ++ (y ∷ rest)) given in
-    resumed_leaves End p first all i l.number l.ctx.now inv.so c.resume.result x more c.in-Output-resume.frames _ l.probe inv.probe c.in-Output-resume.is c.resume.follows.lender-at-none (search rules) c.resume.follows.holds-at-none c.frames_reply-in-Output-resume.result _ told
+    resumed_leaves End p first all i l.number l.ctx.now inv.so g.R.Reader.shares c.resume.result x more c.in-Output-resume.frames _ l.probe inv.probe c.in-Output-resume.is c.resume.follows.lender-at-none (search rules) c.resume.follows.holds-at-none c.frames_reply-in-Output-resume.result _ told
     (λ w. ended_by End p first all i l.number l.ctx.now inv.so x (drop (i + 1) all) whole w) c.frames_reply-in-Output-resume.ensures.told c.frames_reply-in-Output-resume.ensures.refused
 
 pub returns-in-Ok-None-clause-gives : goal.returns-in-Ok-None-clause-gives

@@ -29,7 +29,7 @@ returns-in-Output-clause-after g c =
     let p = c.args.probe in
     let all = map seen_given c.args.answers.now in
     let told = c.unit_reply.ensures.gives (lookup_stop PassOver d first.answers p) (unit_of d first.answers p) c.in-Output.ensures.output (unit_waiting d first.answers p) in
-    looked_leaves PassOver p all c.in-Output.unit first _ (search rules) c.unit_reply.result _ told (λ w. given_ended PassOver d p first.answers all w) c.unit_reply.ensures.refused
+    looked_leaves g.R.Reader.shares PassOver p all c.in-Output.unit first _ (search rules) c.unit_reply.result _ told (λ w. given_ended PassOver d p first.answers all w) c.unit_reply.ensures.refused
 
 pub loop-answer-init : goal.loop-answer-init
 loop-answer-init g c =
@@ -76,7 +76,7 @@ returns-in-Output-resume-clause-after g c =
     let out = subst (λ s. ExactlyUnlessOom seen_found c.in-Output-resume.unit (unit_of s left p)) inv.so.sections (subst (λ q. ExactlyUnlessOom seen_found c.in-Output-resume.unit (unit_of l.ctx.now.sections left q)) inv.probe c.in-Output-resume.ensures.output) in
     let told = c.unit_reply-in-Output-resume.ensures.gives (lookup_stop PassOver d left p) (unit_of d left p) out (unit_waiting d left p) in
     let more = λ (rest : List Given). take_then seen_given c.args.answers.now i c.answer-item.result (search rules) c.answer-item.is rest ∙ ap (λ y. take i all ++ (y ∷ rest)) given in
-    resumed_leaves PassOver p first all i l.number l.ctx.now inv.so c.resume.result x more c.in-Output-resume.unit _ l.probe inv.probe c.in-Output-resume.is c.resume.follows.lender-at-none (search rules) c.resume.follows.holds-at-none c.unit_reply-in-Output-resume.result _ told
+    resumed_leaves PassOver p first all i l.number l.ctx.now inv.so g.R.Reader.shares c.resume.result x more c.in-Output-resume.unit _ l.probe inv.probe c.in-Output-resume.is c.resume.follows.lender-at-none (search rules) c.resume.follows.holds-at-none c.unit_reply-in-Output-resume.result _ told
     (λ w. ended_by PassOver p first all i l.number l.ctx.now inv.so x (drop (i + 1) all) whole w) c.unit_reply-in-Output-resume.ensures.told c.unit_reply-in-Output-resume.ensures.refused
 
 pub returns-in-Ok-None-clause-gives : goal.returns-in-Ok-None-clause-gives

@@ -2,10 +2,13 @@ use Rattle.std.proofs.Common.{ap, arith, inl, inr, refl, subst, sym, ◌∙◌, 
 use Rattle.std.proofs.lemmas.Bool.{false≢true}
 use Rattle.std.proofs.lemmas.Result.{err_from_is_err_and}
 use Rattle.addr2line_units.specs.CachedLines.{indexed_units, parsed_units}
+use Rattle.addr2line_units.specs.AskMemory.{lines_of_take_memory}
+use Rattle.addr2line_units.specs.Cover.{holds_until}
+use Rattle.addr2line_units.proofs.AskMemoryLemmas.{alone_if_none}
 use Rattle.addr2line_units.specs.Located.{along, looks_along}
-use Rattle.addr2line_units.specs.Parsed.{AsksFor, decides, ready_along}
+use Rattle.addr2line_units.specs.Parsed.{AsksFor, decides, has_parsed, parses_no_memory, ready_along, unit_decides}
 use Rattle.addr2line_units.specs.UnitRangesLeft.{ranges_left}
-use Rattle.addr2line_units.proofs.UnitsLemmas.{along_fault, along_none, along_some, looks_counted, looks_first, looks_of_step, looks_raised, looks_within, only_more, ready_both, ready_decided, ready_first, ready_rest, rest_shorter, stay_all, stay_indexed, stay_over, stay_parsed}
+use Rattle.addr2line_units.proofs.UnitsLemmas.{along_fault, along_none, along_some, looks_counted, looks_first, looks_of_step, looks_raised, looks_within, only_more, ready_both, ready_decided, ready_first, rest_shorter, such_first, such_rest, stay_all, stay_indexed, stay_over, stay_parsed}
 use Rattle.addr2line_units.proofs.lookup.find_place_along.Goals as goal
 
 pub loop-range-init : goal.loop-range-init
@@ -13,7 +16,7 @@ loop-range-init g c = record {
   stay = stay_all c.args.units.now.items;
   read = c.requires.read;
   rest = refl;
-  exact = λ p ready. ready;
+  exact = λ such ready. ready;
   ready = λ p stays ready. ready;
   only = λ n asked. asked;
   parsed = λ n e. inl e;
@@ -37,7 +40,7 @@ returns-in_err-row-clause-exact g c =
     let units = indexed_units c.args.dw_units.now us in
     let fault = rw (stay_indexed c.args.dw_units.now us c.loop-range.units.items i.stay) at c.in_err-row.ensures.exact in
     rw (p.1, p.2) (λ ready.
-    let at = subst (λ rs. ready_along c.args.dwarf.now units (parsed_units us) c.args.probe rs ≡ true) c.in-Some.ensures.steps (i.exact (parsed_units us) ready) in
+    let at = subst (λ rs. ready_along c.args.dwarf.now units (parsed_units us) c.args.probe rs ≡ true) c.in-Some.ensures.steps (i.exact (has_parsed (parsed_units us)) ready) in
     let parsed = stay_parsed us c.loop-range.units.items i.stay c.in-Some.range.unit (ready_first c.args.dwarf.now units c.args.probe c.in-Some.range (ranges_left c.next.new.self) (parsed_units us) at) in
     sym i.rest ∙ ap (along c.args.dwarf.now units c.args.probe) c.in-Some.ensures.steps ∙ along_fault c.args.dwarf.now units c.args.probe c.in-Some.range (ranges_left c.next.new.self) _ (fault parsed))
 
@@ -59,7 +62,7 @@ returns-in_err-row-clause-memory g c =
     let units = indexed_units c.args.dw_units.now c.args.units.now.items in
     let now = parsed_units c.find_row_in.new.units.items in
     rw (p.1, p.2) (λ ready.
-    let at = subst (λ rs. ready_along c.args.dwarf.now units now c.args.probe rs ≡ true) c.in-Some.ensures.steps (c.loop-range.invariant.exact now ready) in
+    let at = subst (λ rs. ready_along c.args.dwarf.now units now c.args.probe rs ≡ true) c.in-Some.ensures.steps (c.loop-range.invariant.exact (has_parsed now) ready) in
     c.in_err-row.ensures.memory (ready_first c.args.dwarf.now units c.args.probe c.in-Some.range (ranges_left c.next.new.self) now at))
 
 pub returns-in_err-row-clause-stay : goal.returns-in_err-row-clause-stay
@@ -133,7 +136,7 @@ loop-range-preserved g c =
       stay = stay_over us mid now i.stay c.in_ok-row.ensures.stay;
       read = c.in_ok-row.ensures.read;
       rest = sym (along_none d units c.args.probe r rest none) ∙ sym (ap (along d units c.args.probe) c.in-Some.ensures.steps) ∙ i.rest;
-      exact = λ p ready. ready_rest d units c.args.probe r rest p none (subst (λ rs. ready_along d units p c.args.probe rs ≡ true) c.in-Some.ensures.steps (i.exact p ready));
+      exact = λ such ready. such_rest d units c.args.probe r rest such none (subst (λ rs. holds_until (unit_decides d units c.args.probe) such rs ≡ true) c.in-Some.ensures.steps (i.exact such ready));
       ready = λ p stays ready.
           let both = ready_both d units c.args.probe r rest p (stays r.unit (c.in_ok-row.ensures.parsed tt)) ready in
           i.ready p (λ n parsed. stays n (stay_parsed mid now c.in_ok-row.ensures.stay n parsed)) (subst (λ rs. ready_along d units p c.args.probe rs ≡ true) (sym c.in-Some.ensures.steps) both);
@@ -209,3 +212,29 @@ returns-clause-counted g c = λ found. absurd (false≢true found)
 
 pub returns-in-Some-2-clause-found : goal.returns-in-Some-2-clause-found
 returns-in-Some-2-clause-found g c = c.in_ok-row.ensures.parsed tt
+
+pub returns-in_err-row-clause-no_memory : goal.returns-in_err-row-clause-no_memory
+returns-in_err-row-clause-no_memory g c =
+    let p = err_from_is_err_and c.from_residual.result c.from_residual.ensures.1 in
+    let i = c.loop-range.invariant in
+    let d = c.args.dwarf.now in
+    let us = c.args.units.now.items in
+    let units = indexed_units c.args.dw_units.now us in
+    let now = parsed_units c.find_row_in.new.units.items in
+    let r = c.in-Some.range in
+    let rest = ranges_left c.next.new.self in
+    let shares = g.R.Reader.shares in
+    let same = stay_indexed c.args.dw_units.now us c.loop-range.units.items i.stay in
+    let gives = rw same at c.in_err-row.ensures.gives in
+    let alone = rw same at c.in_err-row.ensures.no_memory in
+    rw (p.1, p.2) (λ none.
+    let such = parses_no_memory shares units now in
+    let here = such_first d units c.args.probe r rest such (subst (λ rs. holds_until (unit_decides d units c.args.probe) such rs ≡ true) c.in-Some.ensures.steps (i.exact such none)) in
+    sym i.rest ∙ ap (along d units c.args.probe) c.in-Some.ensures.steps
+    ∙ along_fault d units c.args.probe r rest _ (alone_if_none (has_parsed now r.unit) (lines_of_take_memory shares units r.unit) _ _ here c.in_err-row.ensures.memory gives alone))
+
+pub returns-in-Some-2-clause-no_memory : goal.returns-in-Some-2-clause-no_memory
+returns-in-Some-2-clause-no_memory g c = λ none. tt
+
+pub returns-clause-no_memory : goal.returns-clause-no_memory
+returns-clause-no_memory g c = λ none. tt

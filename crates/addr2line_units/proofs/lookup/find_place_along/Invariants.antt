@@ -1,7 +1,8 @@
 use Rattle.std.proofs.Common.{ℕ, List, Bool, true, ◌≡◌, ◌+◌, ◌≤◌, length}
 use Rattle.addr2line_units.specs.CachedLines.{HaveLinesOf, StayUnits, indexed_units, parsed_units}
+use Rattle.addr2line_units.specs.Cover.{holds_until}
 use Rattle.addr2line_units.specs.Located.{along, looks_along}
-use Rattle.addr2line_units.specs.Parsed.{AsksFor, ParsesOnly, StaysParsed, ready_along}
+use Rattle.addr2line_units.specs.Parsed.{AsksFor, ParsesOnly, StaysParsed, ready_along, unit_decides}
 use Rattle.addr2line_units.specs.UnitRangesLeft.{ranges_left}
 use Rattle.addr2line_units.proofs.lookup.find_place_along.Given as goal
 
@@ -14,7 +15,7 @@ invariant-loop-range g l =
       stay : StayUnits l.fn.units.items l.units.items;
       read : HaveLinesOf d l.dw_units l.units.items;
       rest : along d units l.probe (ranges_left l.ranges) ≡ along d units l.probe (ranges_left l.fn.ranges);
-      exact : (p : List Bool) → ready_along d units p l.probe (ranges_left l.fn.ranges) ≡ true → ready_along d units p l.probe (ranges_left l.ranges) ≡ true;
+      exact : (such : ℕ → Bool) → holds_until (unit_decides d units l.probe) such (ranges_left l.fn.ranges) ≡ true → holds_until (unit_decides d units l.probe) such (ranges_left l.ranges) ≡ true;
       ready : (p : List Bool) → StaysParsed (parsed_units l.units.items) p → ready_along d units p l.probe (ranges_left l.ranges) ≡ true → ready_along d units p l.probe (ranges_left l.fn.ranges) ≡ true;
       only : (n : ℕ) → AsksFor d units l.probe (ranges_left l.ranges) n → AsksFor d units l.probe (ranges_left l.fn.ranges) n;
       parsed : ParsesOnly (AsksFor d units l.probe (ranges_left l.fn.ranges)) first (parsed_units l.units.items);

@@ -1,7 +1,8 @@
-use Rattle.std.proofs.Common.{Global, ℕ, Vec, ap, arith, inl, length, subst, sym, ◌∙◌, ◌+◌, ◌<◌, ◌≡◌, ◌≤◌}
-use Rattle.std.specs.Prelude.{vec_len}
+use Rattle.std.proofs.Common.{Err, Global, ℕ, Vec, ap, arith, inl, length, subst, sym, ◌∙◌, ◌+◌, ◌<◌, ◌≡◌, ◌≤◌}
+use Rattle.std.specs.Prelude.{IfErr, vec_len}
 use Rattle.std.proofs.lemmas.Bool.{false≢true}
 use Rattle.addr2line_units.specs.declared.unit.ResUnit.{ResUnit}
+use Rattle.addr2line_units.specs.AskMemory.{any_lines_take_memory}
 use Rattle.addr2line_units.specs.Located.{location_in, looks_in}
 use Rattle.addr2line_units.proofs.UnitsLemmas.{no_parsed, no_unit, in_units, own_at, own_set, only_set, answer_cached, parsed_at, parsed_set, set_parsed, row_found, row_found_exactly, stay_all, stay_set, unit_at}
 use Rattle.addr2line_units.proofs.lookup.find_row_in.Goals as goal
@@ -115,3 +116,13 @@ returns-clause-raised g c = c.find_row.ensures.raised
 
 pub returns-clause-counted : goal.returns-clause-counted
 returns-clause-counted g c = c.find_row.ensures.counted
+
+pub returns-clause-no_memory : goal.returns-clause-no_memory
+returns-clause-no_memory g c =
+    let here : c.args.number < length c.args.units.now.items = below_len c.args.units.now _ _ c.len.ensures c.if-number-len.false in
+    let same = unit_at c.args.dw_units.now c.args.units.now.items c.args.number c.index-dw_units-number.result c.index_mut-unit.result.now (in_units c.args.dwarf.now c.args.dw_units.now c.args.units.now.items c.args.number c.requires.read here) here c.index-dw_units-number.is c.index_mut-unit.ensures.value in
+    λ none. subst (λ o. IfErr c.find_row.result (λ e. location_in c.args.dwarf.now c.args.probe o ≡ Err e)) (sym same)
+    (c.find_row.ensures.no_memory (sym (ap (any_lines_take_memory g.R.Reader.shares) same) ∙ none))
+
+pub returns-then-number-len-clause-no_memory : goal.returns-then-number-len-clause-no_memory
+returns-then-number-len-clause-no_memory g c = λ none. tt

@@ -1,15 +1,16 @@
-use Rattle.std.proofs.Common.{◌≡◌, ◌∙◌, Err, Ok, Some, ap, false, option_map, sym, true}
+use Rattle.std.proofs.Common.{◌≡◌, ◌∙◌, Err, Ok, Some, ap, false, option_map, subst, sym, true}
 use Rattle.std.proofs.lemmas.Result.{err_from_is_err_and}
 use Rattle.addr2line_lines.specs.Location.{location_of_row}
 use Rattle.addr2line_lines.specs.SeenScope.{seen_scope}
 use Rattle.addr2line_units.specs.CachedLines.{cached_files, indexed_unit}
 use Rattle.addr2line_units.specs.Frames.{found_frames}
-use Rattle.addr2line_units.specs.CachedEntries.{first_answer_of}
+use Rattle.addr2line_units.specs.CachedEntries.{AsksNoMemoryIn, first_answer_of}
 use Rattle.addr2line_units.specs.CachedFunctions.{function_of_place, cached_functions}
+use Rattle.addr2line_units.specs.Located.{location_in}
 use Rattle.addr2line_units.specs.UnitFrames.{function_in, has_many}
 use Rattle.addr2line_units.specs.Views.{is_open}
 use Rattle.addr2line_units.proofs.EntryLemmas.{looked_decides, not_open}
-use Rattle.addr2line_units.proofs.UnitFrameLemmas.{closed_asks, fault_frames, lines_fault_frames, lines_frames, look_only, only_after, open_asks, open_frames, stay_after, waiting_entries, waiting_stays_open}
+use Rattle.addr2line_units.proofs.UnitFrameLemmas.{closed_asks, fault_frames, function_alone, lines_alone, lines_fault_frames, lines_frames, look_only, only_after, open_asks, open_frames, stay_after, waiting_entries, waiting_stays_open}
 use Rattle.addr2line_units.proofs.unit_frames.find_frames_in.Goals as goal
 
 pub returns-then-is_open-clause-gives : goal.returns-then-is_open-clause-gives
@@ -274,3 +275,47 @@ returns-clause-parsed g c = λ ne. λ asks. c.in_ok-row.ensures.caches
 
 pub returns-clause-memory : goal.returns-clause-memory
 returns-clause-memory g c = λ has. λ parsed. λ few. tt
+
+pub returns-then-is_open-clause-no_memory : goal.returns-then-is_open-clause-no_memory
+returns-then-is_open-clause-no_memory g c = λ none. tt
+
+pub returns-in_err-function-clause-no_memory : goal.returns-in_err-function-clause-no_memory
+returns-in_err-function-clause-no_memory g c =
+    let scope = seen_scope c.args.scope in
+    let u = c.args.dw_unit.now in
+    let probe = c.args.probe in
+    let old = c.args.entries.now in
+    let mid = c.look.new.self in
+    let x = indexed_unit u c.args.unit.now in
+    let answer = first_answer_of old in
+    let decided = looked_decides mid.view.state c.look.ensures.looked (sym c.is_open.ensures.gives ∙ c.if-is_open.false) in
+    let closed : is_open scope.file.sections u answer ≡ false = ap (is_open scope.file.sections u) (sym c.look.ensures.stay.answer) ∙ not_open scope u probe mid c.look.ensures.right decided in
+    let p = err_from_is_err_and c.from_residual.result c.from_residual.ensures.1 in
+    let e = c.in_err-function.field-0.0 in
+    let shares = g.R.Reader.shares in
+    rw (p.1, p.2) (λ none. fault_frames scope x answer probe closed e (ap (λ a. function_in scope u a probe) (sym c.look.ensures.stay.answer)
+    ∙ function_alone shares scope u (first_answer_of mid) probe c.args.unit.now c.find_function.new.self e (subst (λ a. AsksNoMemoryIn shares scope u a probe c.args.unit.now c.find_function.new.self) (sym c.look.ensures.stay.answer) none)
+    c.in_err-function.ensures.memory c.in_err-function.ensures.gives c.in_err-function.ensures.no_memory))
+
+pub returns-in_err-row-clause-no_memory : goal.returns-in_err-row-clause-no_memory
+returns-in_err-row-clause-no_memory g c =
+    let scope = seen_scope c.args.scope in
+    let u = c.args.dw_unit.now in
+    let probe = c.args.probe in
+    let old = c.args.entries.now in
+    let mid = c.look.new.self in
+    let x = indexed_unit u c.args.unit.now in
+    let answer = first_answer_of old in
+    let decided = looked_decides mid.view.state c.look.ensures.looked (sym c.is_open.ensures.gives ∙ c.if-is_open.false) in
+    let closed : is_open scope.file.sections u answer ≡ false = ap (is_open scope.file.sections u) (sym c.look.ensures.stay.answer) ∙ not_open scope u probe mid c.look.ensures.right decided in
+    let f = option_map (function_of_place (cached_functions c.find_function.new.self.functions)) c.in_ok-function.function in
+    let found : function_in scope u answer probe ≡ Ok f = ap (λ a. function_in scope u a probe) (sym c.look.ensures.stay.answer) ∙ c.in_ok-function.ensures.gives in
+    let p = err_from_is_err_and c.from_residual-in_err-row.result c.from_residual-in_err-row.ensures.1 in
+    let e = c.in_err-row.field-0.0 in
+    let shares = g.R.Reader.shares in
+    rw (p.1, p.2) (λ none. lines_fault_frames scope x answer probe closed f found e
+    (lines_alone shares scope u answer probe c.find_row.new.self c.find_function.new.self e (location_in scope.file.sections probe (Some x)) none (closed_asks scope x answer probe closed (Ok f) found)
+    c.in_err-row.ensures.memory c.in_err-row.ensures.gives c.in_err-row.ensures.no_memory))
+
+pub returns-clause-no_memory : goal.returns-clause-no_memory
+returns-clause-no_memory g c = λ none. tt

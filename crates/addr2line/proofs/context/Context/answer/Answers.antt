@@ -1,5 +1,5 @@
 use Rattle.std.proofs.Common.{option_map, sym}
-use Rattle.addr2line.proofs.AnsweredLemmas.{after_answer, fewer_after, read_context}
+use Rattle.addr2line.proofs.AnsweredLemmas.{after_answer, fewer_after, read_context, reply_alone}
 use Rattle.addr2line.proofs.context.Context.answer.Goals as goal
 
 pub invariant_of-self : goal.invariant_of-self
@@ -16,3 +16,8 @@ pub returns-clause-fewer : goal.returns-clause-fewer
 returns-clause-fewer g c =
     let s = c.self.inside in
     rw (sym c.self.view_is) (fewer_after s.ranges s.units c.self.invariant c.args.number (option_map (λ d. d.value) c.args.sections) c.answer.result c.answer.new.self c.answer.ensures.after)
+
+pub returns-clause-no_memory : goal.returns-clause-no_memory
+returns-clause-no_memory g c =
+    let s = c.self.inside in
+    rw (sym c.self.view_is) (λ none. reply_alone s.ranges s.units c.self.invariant c.args.number (option_map (λ d. d.value) c.args.sections) c.answer.result (c.answer.ensures.no_memory none))

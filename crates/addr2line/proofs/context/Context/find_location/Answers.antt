@@ -2,7 +2,7 @@ use Rattle.std.proofs.Common.{Err, None, Ok, Some, ap, refl, sym, ◌∙◌}
 use Rattle.std.proofs.lemmas.Result.{err_from_is_err_and}
 use Rattle.addr2line_lines.specs.Location.{location_of_row}
 use Rattle.addr2line_units.specs.UnitsState.{UnitsState, row_location}
-use Rattle.addr2line.proofs.ContextLemmas.{after_lookup, covers_none, exactly_told, lines_context, location_is, none_covered, ready_told}
+use Rattle.addr2line.proofs.ContextLemmas.{after_lookup, covers_none, exactly_told, lines_context, located_alone, location_is, none_covered, ready_told}
 use Rattle.addr2line.proofs.context.Context.find_location.Goals as goal
 
 pub invariant_of-self : goal.invariant_of-self
@@ -37,7 +37,7 @@ returns-in_err-place g c =
     let now = c.find_row.new.self in
     let is = location_is s.ranges s.units i c.args.probe in
     rw (p.1, p.2, sym c.self.view_is) (
-      (refl, (λ _. tt), after_lookup s.ranges s.units i c.args.probe (Err c.in_err-place.field-0.0) now e.after (Err c.in_err-place.field-0.0) (λ h. h) (λ h. h) (λ h. h)),
+      (refl, (λ _. tt), record { after = after_lookup s.ranges s.units i c.args.probe (Err c.in_err-place.field-0.0) now e.after (Err c.in_err-place.field-0.0) (λ h. h) (λ h. h) (λ h. h); no_memory = located_alone s.ranges s.units i c.args.probe (Err c.in_err-place.field-0.0) now e.after g.R.Reader.shares e.no_memory }),
       record {
         gives = λ n. is ∙ e.gives n;
         exact = λ ready. is ∙ e.gives (ready_told s.ranges s.units i c.args.probe (Err c.in_err-place.field-0.0) now e.after ready);
@@ -57,7 +57,7 @@ returns-in-Some g c =
     let same = ap (λ (x : UnitsState). row_location x place) e.after.lines.same in
     let found = location_is s.ranges s.units i c.args.probe ∙ e.gives ∙ ap (λ l. Ok (Some l)) (sym (c.location.ensures.gives ∙ same)) in
     rw (sym c.self.view_is) (
-      (refl, (λ _. tt), after_lookup s.ranges s.units i c.args.probe (Ok (Some place)) now e.after (Ok (Some c.location.result)) (λ h. h) (λ h. h) (λ h. h)),
+      (refl, (λ _. tt), record { after = after_lookup s.ranges s.units i c.args.probe (Ok (Some place)) now e.after (Ok (Some c.location.result)) (λ h. h) (λ h. h) (λ h. h); no_memory = λ none. tt }),
       record {
         gives = found;
         exact = λ ready. found;
@@ -75,7 +75,7 @@ returns-in-None g c =
     let now = c.find_row.new.self in
     let is = location_is s.ranges s.units i c.args.probe in
     rw (sym c.self.view_is) (
-      (refl, (λ _. tt), after_lookup s.ranges s.units i c.args.probe (Ok None) now e.after (Ok None) (λ h. h) (λ h. h) (λ h. h)),
+      (refl, (λ _. tt), record { after = after_lookup s.ranges s.units i c.args.probe (Ok None) now e.after (Ok None) (λ h. h) (λ h. h) (λ h. h); no_memory = λ none. tt }),
       record {
         gives = is ∙ e.gives;
         exact = λ ready. is ∙ e.gives;

@@ -1,7 +1,7 @@
-use Rattle.std.proofs.Common.{ap, rules}
+use Rattle.std.proofs.Common.{Err, ap, rules}
 use Rattle.std.proofs.lemmas.Result.{err_from_is_err_and}
 use Rattle.addr2line_units.specs.FramesLookup.{is_waiting}
-use Rattle.addr2line.proofs.SkippedLemmas.{after_skip, skipped_look, skipped_more, skipped_none, skipped_refused, told_ended, told_waits, waits_true}
+use Rattle.addr2line.proofs.SkippedLemmas.{after_skip, fault_now, skipped_look, skipped_more, skipped_none, skipped_refused, told_ended, told_waits, waits_true}
 use Rattle.addr2line.proofs.context.Context.skip_loads.Goals as goal
 
 pub loop-self-init : goal.loop-self-init
@@ -11,8 +11,9 @@ pub returns-in_err-walk-clause-after : goal.returns-in_err-walk-clause-after
 returns-in_err-walk-clause-after g c =
     let p = err_from_is_err_and c.from_residual.result c.from_residual.ensures.1 in
     let e = c.in_err-walk.ensures in
-    rw (p.1, p.2) (after_skip c.args.faults c.args.probe c.args.self.now c.walk.new.self (skipped_look c.args.faults c.args.probe c.args.self.now c.loop-self.self c.loop-self.invariant _ c.walk.new.self e.after) _
-    (λ told. ap is_waiting (e.gives told)) (λ told. e.after.ready told) e.memory)
+    rw (p.1, p.2) (after_skip c.args.faults c.args.probe c.args.self.now c.walk.new.self (skipped_look c.args.faults c.args.probe c.args.self.now c.loop-self.self c.loop-self.invariant _ c.walk.new.self e.after) g.R.Reader.shares _
+    (λ told. ap is_waiting (e.gives told)) (λ told. e.after.ready told) e.memory
+    (λ none. fault_now {X = Unit {0}} c.args.faults c.args.probe c.loop-self.self c.walk.new.self (Err c.in_err-walk.field-0.0) e.after.sections e.after.answers (e.no_memory none)))
 
 pub loop-self-preserved : goal.loop-self-preserved
 loop-self-preserved g c =
@@ -30,12 +31,12 @@ returns-in_err-answer-in-Some-clause-after g c =
     let mid = c.walk.new.self in
     let e = c.in_err-answer-in-Some.ensures in
     let so = skipped_look c.args.faults c.args.probe c.args.self.now c.loop-self.self c.loop-self.invariant _ mid c.in_ok-walk.ensures.after in
-    rw (p.1, p.2) (after_skip c.args.faults c.args.probe c.args.self.now c.answer.new.self (skipped_refused c.args.faults c.args.probe c.args.self.now mid so n _ c.answer.new.self e.after) _
-    (λ told. absurd (told e.after.refused.0)) (λ told. absurd (told e.after.refused.0)) (λ few. absurd (let no = e.after.refused.3 in cc)))
+    rw (p.1, p.2) (after_skip c.args.faults c.args.probe c.args.self.now c.answer.new.self (skipped_refused c.args.faults c.args.probe c.args.self.now mid so n _ c.answer.new.self e.after) g.R.Reader.shares _
+    (λ told. absurd (told e.after.refused.0)) (λ told. absurd (told e.after.refused.0)) (λ few. absurd (let no = e.after.refused.3 in cc)) (λ none. absurd (let no = e.after.refused.3 in cc)))
 
 pub returns-in-None-clause-after : goal.returns-in-None-clause-after
 returns-in-None-clause-after g c =
     let a = c.in_ok-walk.ensures.after in
     let mid = c.walk.new.self in
-    after_skip c.args.faults c.args.probe c.args.self.now mid (skipped_look c.args.faults c.args.probe c.args.self.now c.loop-self.self c.loop-self.invariant _ mid a) _
-    (λ told. told_ended mid.stop _ c.in_ok-walk.ensures.gives (search rules)) (λ told. a.ready tt) (λ few. tt)
+    after_skip c.args.faults c.args.probe c.args.self.now mid (skipped_look c.args.faults c.args.probe c.args.self.now c.loop-self.self c.loop-self.invariant _ mid a) g.R.Reader.shares _
+    (λ told. told_ended mid.stop _ c.in_ok-walk.ensures.gives (search rules)) (λ told. a.ready tt) (λ few. tt) (λ none. tt)

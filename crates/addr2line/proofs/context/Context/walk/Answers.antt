@@ -1,7 +1,7 @@
 use Rattle.std.proofs.Common.{[], subst, sym, ◌∙◌, ◌≡◌}
 use Rattle.gimli_read.specs.Reading.{ExactlyUnlessOom}
 use Rattle.addr2line_units.specs.Cover.{cover}
-use Rattle.addr2line.proofs.LookupLemmas.{after_frames, refused_for_memory, stop_now, walk_memory, walked_context}
+use Rattle.addr2line.proofs.LookupLemmas.{after_frames, refused_for_memory, stop_now, walk_alone, walk_memory, walked_context}
 use Rattle.addr2line.proofs.context.Context.walk.Goals as goal
 
 pub invariant_of-self : goal.invariant_of-self
@@ -39,3 +39,9 @@ returns-clause-memory g c =
     let s = c.self.inside in
     let e = rw c.find.ensures.gives at c.walk.ensures in
     walk_memory s.ranges s.units c.self.invariant c.args.faults c.args.probe c.walk.new.self c.walk.result e.after
+
+pub returns-clause-no_memory : goal.returns-clause-no_memory
+returns-clause-no_memory g c =
+    let s = c.self.inside in
+    let e = rw c.find.ensures.gives at c.walk.ensures in
+    rw (sym c.self.view_is) (walk_alone s.ranges s.units c.self.invariant c.args.faults c.args.probe c.walk.new.self c.walk.result e.after g.R.Reader.shares e.no_memory)

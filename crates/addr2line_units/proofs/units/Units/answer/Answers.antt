@@ -6,7 +6,7 @@ use Rattle.addr2line_units.specs.AfterUnits.{AfterAnswer}
 use Rattle.addr2line_units.specs.CachedFrames.{seen_stop}
 use Rattle.addr2line_units.specs.CachedEntries.{AreEntriesOf}
 use Rattle.addr2line_units.specs.FramesLookup.{FindsNothing}
-use Rattle.addr2line_units.proofs.NumberLemmas.{answered_there, in_entries, none_answered, right_there, still_units}
+use Rattle.addr2line_units.proofs.NumberLemmas.{answered_there, in_entries, none_answered, refused_told, right_there, still_units}
 use Rattle.addr2line_units.proofs.StateLemmas.{some_given}
 use Rattle.addr2line_units.specs.StoredUnits.{scope_of}
 use Rattle.addr2line_units.proofs.units.Units.answer.Goals as goal
@@ -18,7 +18,7 @@ returns-in_default g c =
     let scope = c.scope-scope.result in
     let units_is : scope.file.units.now ≡ s.sources.units.items = ap (λ (x : Scope). x.file.units) c.scope-scope.ensures.gives in
     let none : slice_get s.sources.units.items n ≡ None = subst (λ xs. slice_get xs n ≡ None) units_is (slice_get_past scope.file.units.now n (ltb-false _ _ (sym c.in_default.ensures.lookup.0))) in
-    rw (sym c.self.view_is) (record { after = none_answered (scope_of s.sources) s.units.items s.entries.items s.stop c.self.invariant n none (option_map (λ x. x.value) c.args.sections) s.looks (seen_stop s.units.items s.entries.items s.stop) })
+    rw (sym c.self.view_is) (record { after = none_answered (scope_of s.sources) s.units.items s.entries.items s.stop c.self.invariant n none (option_map (λ x. x.value) c.args.sections) s.looks (seen_stop s.units.items s.entries.items s.stop); no_memory = λ none. tt })
 
 pub index_mut-entries-requires : goal.index_mut-entries-requires
 index_mut-entries-requires g c =
@@ -69,4 +69,5 @@ returns g c =
     let e = rw (c.scope-scope.ensures.gives, sections_is) at c.answer.ensures in
     rw (sym c.self.view_is) (record {
       after = answered_there (scope_of s.sources) s.units.items s.entries.items s.stop c.self.invariant n u there v at c.answer.new.self (option_map (λ x. x.value) c.args.sections) _ (some_given _ c.args.sections) s.looks (seen_stop s.units.items s.entries.items s.stop) c.answer.result e.answer e.refused;
+      no_memory = λ none. refused_told (scope_of s.sources) s.units.items s.entries.items s.stop c.self.invariant n u there v at (option_map (λ x. x.value) c.args.sections) c.answer.result (e.exact none);
     })

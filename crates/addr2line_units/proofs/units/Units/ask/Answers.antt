@@ -10,7 +10,8 @@ use Rattle.addr2line_units.specs.CachedLines.{AreLinesOf}
 use Rattle.addr2line_units.specs.FramesLookup.{FindsNothing}
 use Rattle.addr2line_units.specs.StoredUnits.{scope_of}
 use Rattle.addr2line_units.specs.AskedUnits.{found_stop, stop_at}
-use Rattle.addr2line_units.proofs.AskLemmas.{after_asked, asked_err, asked_ok, in_lines, in_views, none_after, none_gives, right_entries, right_lines, still_asked, stop_lendable}
+use Rattle.addr2line_units.specs.UnitsState.{IsFaultAt}
+use Rattle.addr2line_units.proofs.AskLemmas.{after_asked, asked_err, asked_ok, in_lines, in_views, none_after, none_gives, refused_alone, right_entries, right_lines, still_asked, stop_lendable}
 use Rattle.addr2line_units.proofs.FramesLookupLemmas.{oom_after, oom_before}
 use Rattle.addr2line_units.proofs.units.Units.ask.Goals as goal
 
@@ -279,3 +280,30 @@ returns-clause-after g c =
     let e = rw (c.scope-scope.ensures.gives, sections_is) at found.ensures in
     rw (sym c.self.view_is) (after_asked S rs vs s.stop i probe n s.looks was u there r own_is v entries_is x w c.args.faults found.result e.gives e.stays e.stay e.only e.lines e.ready e.parsed e.memory found.new.looks e.raised _ _
     (λ told. oom_before c.args.faults found.result (subst HadMemory c.in_ok-found.ensures.gives told)) (λ told. subst HadMemory (sym c.in_ok-found.ensures.gives) (oom_after c.args.faults found.result told)))
+
+pub returns-in_err-found-clause-no_memory : goal.returns-in_err-found-clause-no_memory
+returns-in_err-found-clause-no_memory g c =
+    let s = c.self.inside in
+    let n = c.args.number in
+    let scope = c.scope-scope.result in
+    let units_is : scope.file.units.now ≡ s.sources.units.items = ap (λ (x : Scope). x.file.units) c.scope-scope.ensures.gives in
+    let u = c.in-Some.dw_unit.now in
+    let there : slice_get s.sources.units.items n ≡ Some u = subst (λ xs. slice_get xs n ≡ Some u) units_is (slice_get_read scope.file.units.now _ n u refl (ltb-true _ _ (sym c.in-Some.ensures.lookup.0)) c.in-Some.ensures.lookup.1) in
+    let S = scope_of s.sources in
+    let rs = s.units.items in
+    let vs = s.entries.items in
+    let i = c.self.invariant in
+    let was = seen_stop rs vs s.stop in
+    let probe = c.args.probe in
+    let r = c.index_mut-unit.result.now in
+    let own_is = c.index_mut-unit.ensures.value in
+    let v = c.index_mut-entries.result.now in
+    let entries_is = c.index_mut-entries.ensures.value in
+    let sections_is : scope.file.dwarf.now ≡ s.sources.dwarf.value = ap (λ (x : Scope). x.file.sections) c.scope-scope.ensures.gives in
+    let found = c.find_frames_in-found in
+    let x = found.new.unit in
+    let w = found.new.entries in
+    let e = rw (c.scope-scope.ensures.gives, sections_is) at found.ensures in
+    let p = err_from_is_err_and c.from_residual.result c.from_residual.ensures.1 in
+    rw (p.1, p.2) (λ none. subst (λ y. IsFaultAt probe y n c.in_err-found.field-0.0) c.self.view_is (refused_alone S rs vs s.stop i probe n s.looks was u there r own_is v entries_is x w c.args.faults found.result e.gives e.stays e.stay e.only e.lines e.ready e.parsed e.memory found.new.looks e.raised FindsNothing
+    g.R.Reader.shares e.no_memory c.in_err-found.field-0.0 (sym c.in_err-found.ensures.gives) none))

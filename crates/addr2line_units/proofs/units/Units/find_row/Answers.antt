@@ -30,3 +30,8 @@ returns-clause-after g c =
     let now = c.find_place_along.new in
     let e = rw (c.deref.ensures, c.deref-2.ensures.value) at c.find_place_along.ensures in
     rw (sym c.self.view_is) (after_row (scope_of s.sources) s.units.items s.entries.items now.units.items e.stay s.looks now.looks (seen_stop s.units.items s.entries.items s.stop) c.args.probe (ranges_left c.args.ranges) c.find_place_along.result e.ready e.memory e.only e.raised e.counted e.cost)
+
+pub returns-clause-no_memory : goal.returns-clause-no_memory
+returns-clause-no_memory g c =
+    let e = rw (c.deref.ensures, c.deref-2.ensures.value) at c.find_place_along.ensures in
+    rw (sym c.self.view_is) e.no_memory

@@ -1,7 +1,7 @@
 use Rattle.std.proofs.Common.{sym}
 use Rattle.std.proofs.lemmas.Result.{err_from_is_err_and}
 use Rattle.addr2line_units.specs.UnitRangesLeft.{ranges_left}
-use Rattle.addr2line_units.proofs.WalkedLemmas.{fault_after, stop_after, walked_on}
+use Rattle.addr2line_units.proofs.WalkedLemmas.{fault_after, fault_alone, stop_after, walked_on}
 use Rattle.addr2line_units.proofs.units.Units.walk.Goals as goal
 
 pub returns-in_err-ask-clause-after : goal.returns-in_err-ask-clause-after
@@ -19,3 +19,10 @@ pub loop-range-preserved : goal.loop-range-preserved
 loop-range-preserved g c =
     let e = c.in_ok-ask.ensures in
     walked_on c.args.faults c.args.probe (ranges_left c.args.ranges) c.in-Some.range (ranges_left c.next.new.self) (ranges_left c.loop-range.ranges) c.in-Some.ensures.steps c.args.self.now c.loop-range.self c.ask.new.self c.loop-range.invariant tt e.after e.gives (sym c.if-has_stopped.ensures.gives)
+
+pub returns-in_err-ask-clause-no_memory : goal.returns-in_err-ask-clause-no_memory
+returns-in_err-ask-clause-no_memory g c =
+    let p = err_from_is_err_and c.from_residual.result c.from_residual.ensures.1 in
+    let e = c.in_err-ask.ensures in
+    rw (p.1, p.2) (fault_alone c.args.faults c.args.probe (ranges_left c.args.ranges) c.in-Some.range (ranges_left c.next.new.self) (ranges_left c.loop-range.ranges) c.in-Some.ensures.steps c.args.self.now c.loop-range.self c.ask.new.self c.loop-range.invariant c.in_err-ask.field-0.0 e.after e.gives
+    g.R.Reader.shares e.no_memory)

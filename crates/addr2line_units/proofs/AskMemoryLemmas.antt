@@ -1,0 +1,83 @@
+-- What is read without memory (on specs/AskMemory.antt).
+use Rattle.std.proofs.Common.{◌≡◌, ◌≢◌, ◌∙◌, ◌++◌, ℕ, ap, sym, refl, ◌||◌, not, is_some, Bool, true, false, List, [], ◌∷◌, Option, Some, None, Result, Ok, Err}
+use Rattle.std.specs.Prelude.{IfErr, IfSome}
+use Rattle.gimli_read.specs.declared.error.Error.{Error}
+use Rattle.gimli_read.specs.declared.error.Error.TheVariants.{OutOfMemory}
+use Rattle.gimli_read.specs.Reading.{◌>>=◌, ExactlyUnlessOomIf}
+use Rattle.gimli_line.specs.declared.row.LineRow.{LineRow}
+use Rattle.gimli_line.specs.Header.{File, Program, header_copy_takes_memory}
+use Rattle.gimli_line.specs.Lines.{Lines, lines_of}
+use Rattle.gimli.specs.Sections.{Sections}
+use Rattle.gimli.specs.Unit.{UnitRecord}
+use Rattle.addr2line_lines.specs.FileTexts.{file_texts}
+use Rattle.addr2line_lines.specs.Functions.{functions_take_memory}
+use Rattle.addr2line_lines.specs.FunctionTable.{FunctionTable}
+use Rattle.addr2line_lines.specs.Location.{LineTable, line_table_of}
+use Rattle.addr2line_lines.specs.References.{Scope}
+use Rattle.addr2line_lines.specs.Rows.{read_all}
+use Rattle.addr2line_lines.specs.UnitLines.{IsFaultAtOnce, lines_in, program_lines, unit_lines}
+use Rattle.addr2line_units.specs.declared.functions.LazyFunctions.{LazyFunctions}
+use Rattle.addr2line_units.specs.declared.functions.LazyFunctions.TheVariants as lazy
+use Rattle.addr2line_units.specs.AskMemory.{any_program_takes_memory, is_fault_at_once, lines_take_memory, program_takes_memory}
+use Rattle.addr2line_units.specs.CachedFunctions.{AreFunctionsOf, find_takes_memory, table_takes_memory}
+use Rattle.addr2line_units.specs.CachedLines.{lines_result}
+use Rattle.addr2line_units.proofs.FunctionMemoryLemmas.{place_takes}
+
+-- where no memory may be taken, a refusal is what is given
+pub exactly_if_none : {X Y : Type 0} (may : Bool) (see : X → Y) (r : Result X Error) (given : Result Y Error) → may ≡ false → ExactlyUnlessOomIf may see r given → IfErr r (λ e. given ≡ Err e)
+exactly_if_none may see (Ok x) given none h = tt
+exactly_if_none may see (Err e) given none h = h (λ takes. let no : false ≡ true = sym none ∙ takes in absurd cc)
+
+or_none : (a b : Bool) → (a || not b) ≡ false → (a ≡ false) × (b ≡ true)
+or_none true b e = cc
+or_none false true e = (refl, refl)
+or_none false false e = cc
+
+-- the fault that a program has at once is that of its lines
+pub at_once : (d : Sections) (u : UnitRecord) (p : Program) (e : Error) → (lines_of p).left ≡ Err e ∷ [] → program_lines d u p ≡ Err e
+unfolding program_lines
+at_once d u p e left = ap (λ (rows : List (Result LineRow Error)). read_all rows >>= λ read. file_texts d u p.header (p.header.file_names ++ (lines_of p).to_define) >>= λ files. Ok (line_table_of files read)) left
+
+module _ {X : Type 0} (shares : Bool) (d : Sections) (u : UnitRecord) (see : X → LineTable) (e : Error) where
+  by_lists : (p : Program) (files : List File) (rows : List (Result LineRow Error)) → (lines_of p).ahead ≡ files → (lines_of p).left ≡ rows → is_fault_at_once files rows ≡ true → IsFaultAtOnce {X = X} (lines_of p) (Err e) → program_lines d u p ≡ Err e
+  by_lists p [] [] a l h k = cc
+  by_lists p [] (Ok row ∷ rows) a l h k = cc
+  by_lists p [] (Err f ∷ []) a l h k =
+      let same : ◌≡◌ {A = Result X Error} (Err e) (Err f) = k f a l in
+      let is : f ≡ e = cc in
+      at_once d u p f l ∙ ap Err is
+  by_lists p [] (Err f ∷ row ∷ rows) a l h k = cc
+  by_lists p (file ∷ files) rows a l h k = cc
+
+  by_program : (o : Option Program) → ExactlyUnlessOomIf (is_some o) see (Err e) (lines_in d u o)
+      → IfSome o (λ p. header_copy_takes_memory shares p.header ≡ false → IsFaultAtOnce {X = X} (lines_of p) (Err e))
+      → any_program_takes_memory shares o ≡ false → lines_in d u o ≡ Err e
+  by_program None gives exact none = gives (λ h. absurd cc)
+  by_program (Some p) gives exact none =
+      let both = or_none (header_copy_takes_memory shares p.header) (is_fault_at_once (lines_of p).ahead (lines_of p).left) none in
+      by_lists p (lines_of p).ahead (lines_of p).left refl refl both.1 (exact both.0)
+
+-- lines that take no memory are refused by their fault alone
+pub lines_exact : {X : Type 0} (shares : Bool) (d : Sections) (u : UnitRecord) (see : X → LineTable) (r : Result X Error) → ExactlyUnlessOomIf (is_some u.line_program) see r (unit_lines d u)
+    → IfSome u.line_program (λ p. header_copy_takes_memory shares p.header ≡ false → IsFaultAtOnce {X = X} (lines_of p) r)
+    → lines_take_memory shares u ≡ false → IfErr r (λ e. lines_result d u ≡ Err e)
+unfolding lines_take_memory
+lines_exact shares d u see (Ok x) gives exact none = tt
+lines_exact shares d u see (Err e) gives exact none = ap (λ r. r >>= λ lines. Ok (Some lines)) (by_program shares d u see e u.line_program gives exact none)
+
+-- functions that take no memory take none however many of them are cached
+pub find_takes_none : {R : Type 0} (shares : Bool) (scope : Scope) (view : UnitRecord) (probe : ℕ) (f : LazyFunctions R) → AreFunctionsOf scope view f → functions_take_memory shares scope.file.sections view ≡ false
+    → find_takes_memory shares scope view probe f ≡ false
+find_takes_none shares scope view probe lazy.Unread right none = none
+find_takes_none shares scope view probe (lazy.Read t) right none = by_test (table_takes_memory probe t) refl
+  where
+    by_test : (b : Bool) → table_takes_memory probe t ≡ b → table_takes_memory probe t ≡ false
+    by_test true e = let no : false ≡ true = sym none ∙ place_takes shares scope view t right probe e in absurd cc
+    by_test false e = e
+find_takes_none shares scope view probe (lazy.Faulty e) right none = refl
+
+-- where lines are parsed, or take no memory, a refusal is what is given
+pub alone_if_none : {X : Type 0} (parsed takes : Bool) (e : Error) (given : Result X Error) → (parsed || not takes) ≡ true → (parsed ≡ true → e ≢ OutOfMemory) → (e ≢ OutOfMemory → given ≡ Err e) → (takes ≡ false → given ≡ Err e) → given ≡ Err e
+alone_if_none true takes e given none known gives alone = gives (known refl)
+alone_if_none false true e given none known gives alone = cc
+alone_if_none false false e given none known gives alone = alone refl

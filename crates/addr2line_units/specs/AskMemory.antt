@@ -1,0 +1,57 @@
+-- When memory may be taken to read what a lookup asks a unit for (DWARF 5, sections 3.1.2, 3.3 and
+-- 6.2): its lines, and the functions in its view.
+-- Own: unless readers share their bytes none is taken for lines whose program has a fault before its
+-- first row, nor for functions where a view has none.
+use Rattle.std.specs.Prelude.{ℕ, ◌||◌, not, Bool, true, false, List, [], ◌∷◌, slice_get, Option, Some, None, Result, Ok, Err}
+use Rattle.gimli_read.specs.declared.error.Error.{Error}
+use Rattle.gimli_line.specs.declared.row.LineRow.{LineRow}
+use Rattle.gimli_line.specs.Header.{File, Program, header_copy_takes_memory}
+use Rattle.gimli_line.specs.Lines.{lines_of}
+use Rattle.gimli.specs.Sections.{Sections}
+use Rattle.gimli.specs.Unit.{UnitRecord}
+use Rattle.addr2line_lines.specs.Functions.{functions_take_memory}
+use Rattle.addr2line_lines.specs.References.{Scope}
+use Rattle.addr2line_units.specs.RangedUnits.{IndexedUnit}
+use Rattle.addr2line_units.specs.Views.{View, verdict, view_scope}
+
+-- whether a fault stands before any row, and before any file that a program defines
+abbrev pub is_fault_at_once : List File → List (Result LineRow Error) → Bool
+is_fault_at_once [] (Err e ∷ []) = true
+is_fault_at_once files rows = false
+
+-- whether memory may be taken for the lines of a program
+abbrev pub program_takes_memory : Bool → Program → Bool
+program_takes_memory shares p = header_copy_takes_memory shares p.header
+    || not (is_fault_at_once (lines_of p).ahead (lines_of p).left)
+
+-- the same, if there is a program
+abbrev pub any_program_takes_memory : Bool → Option Program → Bool
+any_program_takes_memory shares None = false
+any_program_takes_memory shares (Some p) = program_takes_memory shares p
+
+-- whether memory may be taken for the lines of a unit
+unfoldable pub lines_take_memory : Bool → UnitRecord → Bool
+lines_take_memory shares u = any_program_takes_memory shares u.line_program
+
+-- the same, if there is a unit
+abbrev pub any_lines_take_memory : Bool → Option IndexedUnit → Bool
+any_lines_take_memory shares None = false
+any_lines_take_memory shares (Some u) = lines_take_memory shares u.unit
+
+-- the same of the unit of a number
+abbrev pub lines_of_take_memory : Bool → List IndexedUnit → ℕ → Bool
+lines_of_take_memory shares units n = any_lines_take_memory shares (slice_get units n)
+
+-- whether memory may be taken for the functions of a view: none are read where there is no view, or
+-- where it has a fault
+abbrev pub view_takes_memory : Bool → Scope → Option (Result View Error) → Bool
+view_takes_memory shares scope None = false
+view_takes_memory shares scope (Some (Err e)) = false
+view_takes_memory shares scope (Some (Ok v)) =
+    functions_take_memory shares (view_scope scope v).file.sections v.unit
+
+-- the same of the view of a unit with this first answer
+unfoldable pub functions_in_take_memory : Bool → Scope → UnitRecord → Option (Option Sections)
+    → Bool
+functions_in_take_memory shares scope u answer =
+    view_takes_memory shares scope (verdict scope.file.sections u answer)

@@ -1,15 +1,21 @@
 -- Where texts in UTF-8 begin, from the last place of a table to the first (on
 -- specs/TextStarts.antt).
-use Rattle.std.proofs.Common.{ℕ, zero, suc, ◌≡◌, ◌≢◌, ◌<◌, ◌≤◌, ◌+◌, Bool, true, false, cond, List, [], ◌∷◌, ◌++◌, Some, None, length, take, drop, get_or, slice_index, ◌==◌, arith, ◌∙◌, ap, sym, subst, refl}
+use Rattle.std.proofs.Common.{ℕ, zero, suc, ◌≡◌, ◌≢◌, ◌<◌, ◌≤◌, ◌+◌, ◌-◌, Bool, true, false, cond, List, [], ◌∷◌, ◌++◌, Some, None, length, take, drop, Vec, Global, get_or, slice_index, ◌==◌, ◌&&◌, ltb-true, arith, ◌∙◌, ap, sym, subst, refl}
 use Rattle.std.specs.Prelude.{Option, option_map, option_and_then, is_some}
 use Rattle.std.specs.Str.{IsUtf8, encode_utf8_all, is_utf8}
 use Rattle.std.specs.Char.{len_utf8}
+use Rattle.std.proofs.lemmas.Bool.{eqb-true}
 use Rattle.std.proofs.lemmas.Bool.Decides.{nat_tests}
 use Rattle.std.proofs.lemmas.List.{take-append-drop}
-use Rattle.std.proofs.lemmas.Str.{IsUtf8-nil, IsUtf8-append, IsUtf8-take, IsUtf8-past_char, IsCharBoundary-from_drop, drop_past_char, len_utf8_bounds, is_utf8-from_IsUtf8, IsUtf8-from_is_utf8}
+use Rattle.std.proofs.lemmas.Str.{IsUtf8-nil, IsUtf8-from_ascii, IsUtf8-append, IsUtf8-take, IsUtf8-past_char, IsCharBoundary-from_drop, drop_past_char, len_utf8_bounds, is_utf8-from_IsUtf8, IsUtf8-from_is_utf8}
 use Rattle.elf.specs.SectionBytes.{front_text}
 use Rattle.elf.specs.Symbols.{utf8_from, name_from}
-use Rattle.elf.specs.TextStarts.{begins_text, text_starts, TextAfter, IsTextDistance}
+use Rattle.std.specs.Str.{IsAscii}
+use Rattle.std.specs.Char.{is_ascii}
+use Rattle.std.specs.List.{list_all}
+use Rattle.std.proofs.lemmas.Str.Ascii.{IsAscii-cons, IsAscii-nil}
+use Rattle.elf.specs.declared.text_starts.TextStarts.TheVariants.{Everywhere, Marked}
+use Rattle.elf.specs.TextStarts.{AreStarts, begins_text, is_ascii_table, text_starts, TextAfter, IsTextDistance}
 use Rattle.elf.proofs.TextLemmas.{front_text_next, front_text_zero}
 
 is_zero : (n : ℕ) → n ≡ 0 → (n == 0) ≡ true
@@ -141,15 +147,47 @@ starts_next (b ∷ bytes) zero l = refl
 starts_next (b ∷ bytes) (suc k) l = starts_next bytes k (omega arith)
 
 -- a table's marks by place
-pub starts_at : (table : List ℕ) (k : ℕ) → k < length table → get_or (text_starts table) k false ≡ begins_text (drop k table)
+starts_at : (table : List ℕ) (k : ℕ) → k < length table → get_or (text_starts table) k false ≡ begins_text (drop k table)
 starts_at [] k l = absurd (omega arith)
 starts_at (b ∷ bytes) zero l = refl
 starts_at (b ∷ bytes) (suc k) l = starts_at bytes k (omega arith)
 
--- a mark for each place
-pub starts_length : (table : List ℕ) → length (text_starts table) ≡ length table
-starts_length [] = refl
-starts_length (b ∷ bytes) = ap (λ n. suc n) (starts_length bytes)
+-- in a tail that is ASCII alone and ends in a zero byte the nearest text begins at once
+nearest_in_ascii : (b : ℕ) (bytes : List ℕ) → IsAscii (b ∷ bytes) → get_or (b ∷ bytes) (length bytes) 1 ≡ 0 → IsTextDistance (b ∷ bytes) (Some 0)
+nearest_in_ascii zero bytes ascii ends = start_at_zero (zero ∷ bytes) (omega arith) refl
+nearest_in_ascii (suc n) [] ascii ends = absurd (omega arith)
+nearest_in_ascii (suc n) (c ∷ bytes) ascii ends =
+    start_found (suc n ∷ c ∷ bytes) 0 (omega arith) (λ e. absurd (omega arith)) (nearest_in_ascii c bytes (λ i. ascii (suc i)) ends)
+    (IsUtf8-from_ascii (suc n ∷ []) (IsAscii-cons (suc n) [] (ascii 0) IsAscii-nil))
+
+-- a tail of such a table is another one
+ascii_tail : (b : ℕ) (bytes : List ℕ) (k : ℕ) → k < length (b ∷ bytes) → IsAscii (b ∷ bytes) → get_or (b ∷ bytes) (length bytes) 1 ≡ 0 → IsTextDistance (drop k (b ∷ bytes)) (Some 0)
+ascii_tail b bytes zero l ascii ends = nearest_in_ascii b bytes ascii ends
+ascii_tail b [] (suc k) l ascii ends = absurd (omega arith)
+ascii_tail b (c ∷ bytes) (suc k) l ascii ends = ascii_tail c bytes k (omega arith) (λ i. ascii (suc i)) ends
+
+both : (a b : Bool) → (a && b) ≡ true → (a ≡ true) × (b ≡ true)
+both true b e = (refl, e)
+both false b e = absurd (cc)
+
+-- bytes are ASCII where the test of each says so
+ascii_by_test : (bytes : List ℕ) → list_all is_ascii bytes ≡ true → IsAscii bytes
+ascii_by_test [] e = IsAscii-nil
+ascii_by_test (b ∷ bytes) e = let p = both _ _ e in IsAscii-cons b bytes (ltb-true b 128 p.0) (ascii_by_test bytes p.1)
+
+-- at each place of such a table a text begins
+pub starts_everywhere : (table : List ℕ) → is_ascii_table table ≡ true → AreStarts table Everywhere
+starts_everywhere [] e k l = absurd (omega arith)
+starts_everywhere (b ∷ bytes) e k l =
+    let p = both _ _ e in
+    let ascii = ascii_by_test (b ∷ bytes) p.1 in
+    let last : suc (length bytes) - 1 ≡ length bytes = omega arith in
+    let ends' : get_or (b ∷ bytes) (length bytes) 1 ≡ 0 = subst (λ n. get_or (b ∷ bytes) n 1 ≡ 0) last (eqb-true _ 0 p.0) in
+    sym (begins_at_zero (drop k (b ∷ bytes)) (ascii_tail b bytes k l ascii ends'))
+
+-- marks by place are where texts begin
+pub starts_marked : (table : List ℕ) (v : Vec Bool Global) → v.items ≡ text_starts table → AreStarts table (Marked v)
+starts_marked table v e k l = ap (λ (marks : List Bool). get_or marks k false) e ∙ starts_at table k l
 
 -- a text begins exactly where its distance is zero
 pub begins_by_distance : (tail : List ℕ) (d : ℕ) → IsTextDistance tail (Some d) → (d == 0) ≡ begins_text tail

@@ -6,7 +6,7 @@ ghost use Rattle.elf.specs.Layout.{layout_of};
 ghost use Rattle.elf.specs.Symbols.{named_address, symbol_table, symbol_bytes, symbol_names_number, symbol_entry_in, utf8_from, name_from, symbol_entry_name, symbol_type, symbol_bind, is_usable_type, is_usable, usable_in, is_preferred_bind, preference, covers, nearest_symbol};
 ghost use Rattle.std.specs.List.Sorted.{IsNonDecreasingBy, IsPartitionPoint};
 ghost use Rattle.elf.specs.declared.symbol.SymbolEntry.{SymbolEntry as TableEntry};
-ghost use Rattle.elf.specs.TextStarts.{text_starts};
+ghost use Rattle.elf.specs.TextStarts.{AreStarts};
 ghost use Rattle.elf.specs.SymbolTable.{IsSymbolTable, IsBelow, IsAbove};
 
 use crate::constants::{
@@ -14,8 +14,9 @@ use crate::constants::{
     STT_OBJECT,
 };
 use crate::header::Ident;
+use crate::layout;
 use crate::section::{self, SectionHeader};
-use crate::{layout, text_starts};
+use crate::text_starts::{TextStarts, text_starts};
 use std::alloc::{AllocError, Global};
 use std::str;
 
@@ -104,12 +105,12 @@ impl SymbolEntry {
     }
 
     // Whether the entry has a name, by the places where texts begin.
-    fn has_name(&self, names: &[u8], starts: &[bool]) -> bool
-        requires starts { starts.now ≡ text_starts names.now }
+    fn has_name(&self, names: &[u8], starts: &TextStarts) -> bool
+        requires starts { AreStarts names.now starts.now }
         ensures gives { result ≡ is_some (symbol_entry_name names.now self.now) }
     {
         let at = self.name as usize;
-        at < names.len() && (names[at] != 0 && starts[at])
+        at < names.len() && (names[at] != 0 && starts.begins_at(at))
     }
 
     // The symbol's type.
@@ -127,8 +128,8 @@ impl SymbolEntry {
     }
 
     // Whether the entry is a usable symbol, by the places where texts begin.
-    fn is_usable(&self, names: &[u8], starts: &[bool]) -> bool
-        requires starts { starts.now ≡ text_starts names.now }
+    fn is_usable(&self, names: &[u8], starts: &TextStarts) -> bool
+        requires starts { AreStarts names.now starts.now }
         ensures gives { result ≡ is_usable names.now self.now }
     {
         u64::from(self.section) != SHN_UNDEF
@@ -219,9 +220,9 @@ fn push_usable(
     all: &mut Vec<SymbolEntry>,
     entry: SymbolEntry,
     names: &[u8],
-    starts: &[bool],
+    starts: &TextStarts,
 ) -> Result<(), AllocError>
-    requires starts { starts.now ≡ text_starts names.now }
+    requires starts { AreStarts names.now starts.now }
     ensures gives { OnOk result
         (all.new.items ≡ all.old.items ++ filter (is_usable names.now) (entry ∷ [])) }
 {
@@ -243,7 +244,7 @@ fn usable(
 {
     let size = ident.class.layout().symbol_size;
     let count = bytes.len() / size;
-    let starts = text_starts::text_starts(alloc, names)?;
+    let starts = text_starts(alloc, names)?;
     let mut all = Vec::new(alloc);
     let mut rest = bytes;
     for _ in 0..count {

@@ -1,11 +1,14 @@
 //! The places of a string table where texts in UTF-8 begin, found for all places at once.
 //!
 //! Many symbols may share one long name, or have parts of it for names. So the table is read
-//! once, from its last byte to its first, and no text is read for each symbol that has it.
+//! once, and no text is read for each symbol that has it: from its last byte to its first, unless
+//! it is ASCII alone, as most tables are.
 
-ghost use Rattle.std.specs.Prelude.{◌≡◌, ◌<◌, length, drop, IfOk, MatchBool};
+ghost use Rattle.std.specs.Prelude.{◌≡◌, ◌<◌, length, drop, true, IfOk, IsOk, MatchBool};
+ghost use Rattle.std.specs.Char.{is_ascii};
+ghost use Rattle.std.specs.List.{list_all};
 ghost use Rattle.std.specs.Str.{IsUtf8};
-ghost use Rattle.elf.specs.TextStarts.{begins_text, text_starts, IsTextDistance};
+ghost use Rattle.elf.specs.TextStarts.{AreStarts, begins_at, begins_text, is_ascii_table, text_starts, IsTextDistance};
 
 use std::alloc::{AllocError, Global};
 use std::str;
@@ -57,8 +60,46 @@ fn is_start(tail: &[u8], distance: Option<usize>) -> bool
     }
 }
 
-/// Whether a text in UTF-8 that ends at a zero byte begins, for each place of a table.
-pub(crate) fn text_starts(alloc: Global, table: &[u8]) -> Result<Vec<bool>, AllocError>
+/// At which places of a string table a text in UTF-8 begins that ends at a zero byte.
+#[derive(Drop)]
+pub(crate) enum TextStarts {
+    /// At each.
+    Everywhere,
+    /// Whether at a place, for each of them.
+    Marked(Vec<bool>),
+}
+
+impl TextStarts {
+    /// Whether a text begins at a place.
+    pub(crate) fn begins_at(&self, place: usize) -> bool
+        ensures gives { result ≡ begins_at self.now place }
+    {
+        match self {
+            TextStarts::Everywhere => true,
+            TextStarts::Marked(marks) => matches!(marks.get(place), Some(true)),
+        }
+    }
+}
+
+// Whether all bytes are ASCII.
+fn is_ascii(bytes: &[u8]) -> bool
+    ensures gives { result ≡ list_all is_ascii bytes.now }
+{
+    bytes.iter().all(|byte| byte.is_ascii())
+}
+
+// Whether a table is ASCII alone and its last byte is zero.
+fn is_ascii_table(table: &[u8]) -> bool
+    ensures gives { result ≡ is_ascii_table table.now }
+{
+    match table.last() {
+        Some(byte) => *byte == 0 && is_ascii(table),
+        None => false,
+    }
+}
+
+// A mark for each place of a table, whether a text begins there.
+fn marks(alloc: Global, table: &[u8]) -> Result<Vec<bool>, AllocError>
     ensures gives { IfOk result (λ v. v.items ≡ text_starts table.now) }
 {
     let mut starts = Vec::new(alloc);
@@ -70,4 +111,16 @@ pub(crate) fn text_starts(alloc: Global, table: &[u8]) -> Result<Vec<bool>, Allo
     }
     starts.reverse();
     Ok(starts)
+}
+
+/// At which places of a table a text in UTF-8 begins. Takes no memory for a table that is ASCII
+/// alone and ends in a zero byte, else a byte for each of its bytes.
+pub(crate) fn text_starts(alloc: Global, table: &[u8]) -> Result<TextStarts, AllocError>
+    ensures gives { IfOk result (AreStarts table.now) }
+    ensures none { is_ascii_table table.now ≡ true → IsOk result }
+{
+    if is_ascii_table(table) {
+        return Ok(TextStarts::Everywhere);
+    }
+    Ok(TextStarts::Marked(marks(alloc, table)?))
 }

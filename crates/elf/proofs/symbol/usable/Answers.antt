@@ -13,6 +13,7 @@ loop-preserved c =
     record {
       size_is = inv.size_is;
       room = room_next _ _ _ _ _ n inv.room c.split_at.ensures.back_len;
+      starts = inv.starts;
       read = entries_next _ (layout_of c.args.ident.class) (is_usable c.args.names.now) _ _ _ _ _ _ _ c.entry_at.result n inv.read cut c.in_ok-push_usable.ensures.gives c.entry_at.ensures.gives;
     }
 

@@ -1,11 +1,13 @@
 use Rattle.std.proofs.Common.{◌≡◌, ◌≤◌, ◌*◌, ◌-◌, ◌++◌, length, filter}
 use Rattle.elf.specs.Layout.{layout_of}
 use Rattle.elf.specs.Symbols.{is_usable, entries_in}
+use Rattle.elf.specs.TextStarts.{AreStarts}
 use Rattle.elf.proofs.symbol.usable.Given as goal
 
 abbrev pub invariant-loop : goal.invariant-loop
 invariant-loop l = record {
   size_is : l.size ≡ (layout_of l.ident.class).symbol_size;
   room : (l.count - l.counter) * l.size ≤ length l.rest;
+  starts : AreStarts l.names l.starts;
   read : l.all.items ++ filter (is_usable l.names) (entries_in l.ident.endian (layout_of l.ident.class) (l.count - l.counter) l.rest) ≡ filter (is_usable l.names) (entries_in l.ident.endian (layout_of l.ident.class) l.count l.bytes);
 }

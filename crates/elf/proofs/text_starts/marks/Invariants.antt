@@ -1,6 +1,6 @@
 use Rattle.std.proofs.Common.{◌≡◌, ◌-◌, length, drop, reverse}
 use Rattle.elf.specs.TextStarts.{text_starts, IsTextDistance}
-use Rattle.elf.proofs.text_starts.text_starts.Given as goal
+use Rattle.elf.proofs.text_starts.marks.Given as goal
 
 abbrev pub invariant-loop-read : goal.invariant-loop-read
 invariant-loop-read l = record {

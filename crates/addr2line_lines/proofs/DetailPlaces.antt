@@ -128,7 +128,7 @@ sorted_more start xs listed e h = record { more = in_order inlined_sooner (drop 
 
 -- what is cached stays where nothing changes
 pub details_same : (cached more : CachedDetails) → more ≡ cached → AreDetailsMore cached more
-details_same cached more h = subst (AreDetailsMore cached) (sym h) (record { names = grown_not cached.names; found = found_same cached.found })
+details_same cached more h = subst (AreDetailsMore cached) (sym h) (record { names = grown_not cached.names; found = found_same cached.found; known = grown_not cached.known })
 
 -- what is added changes nothing of the details that are cached, and their places are places still
 pub detail_stays : (cached more : CachedDetails) (p : FunctionDetail) → AreDetailsMore cached more → IsDetailPlace cached p → (detail_of more p ≡ detail_of cached p) × IsDetailPlace more p

@@ -34,7 +34,7 @@ longer : {X : Type 0} (xs ys : List X) → IsGrown xs ys → length xs ≤ lengt
 longer xs ys g = let a : length ys ≡ length (xs ++ g.more) = ap (λ v. length v) g.is in let b = length-append xs g.more in omega arith
 
 pub details_stay : (cached : CachedDetails) → AreDetailsMore cached cached
-details_stay cached = record { names = no_more cached.names; found = record { entries = no_more cached.found.entries; ranges = no_more cached.found.ranges } }
+details_stay cached = record { names = no_more cached.names; found = record { entries = no_more cached.found.entries; ranges = no_more cached.found.ranges }; known = no_more cached.known }
 
 -- a detail that is read is as before where more is read
 lazy_stays : (cached more : CachedDetails) → AreDetailsMore cached more → (x : LazyDetail) → ((p : FunctionDetail) → x ≡ Read p → IsDetailPlace cached p) → seen_lazy more x ≡ seen_lazy cached x
@@ -72,10 +72,10 @@ not_read : (f : LazyFunction) (p : FunctionDetail) → f.detail ≡ Unread → f
 not_read f p a b = let no : Unread ≡ Read p = sym a ∙ b in absurd cc
 
 -- before a detail is read
-pub runs_unread : (fs : List LazyFunction) (d : CachedDetails) → AllByRecursion IsUnread fs → d ≡ record { names = []; found = none_inlined } → AreRuns fs d
+pub runs_unread : (fs : List LazyFunction) (d : CachedDetails) → AllByRecursion IsUnread fs → d ≡ record { names = []; found = none_inlined; known = [] } → AreRuns fs d
 runs_unread fs d all e =
     subst (AreRuns fs) (sym e) (record {
-      places = all_weaker IsUnread (HasPlace (record { names = []; found = none_inlined })) (λ f u. λ p r. absurd (not_read f p u r)) fs all;
+      places = all_weaker IsUnread (HasPlace (record { names = []; found = none_inlined; known = [] })) (λ f u. λ p r. absurd (not_read f p u r)) fs all;
       apart = λ i j f g p q ne a b r s. absurd (not_read f p (all_at IsUnread fs i f all a) r);
       names = sum_unread name_size fs all;
       inlined = sum_unread inlined_size fs all;
@@ -107,6 +107,7 @@ table_of fs addresses d = record {
   ranges = map (function_range_of (function_offsets fs)) addresses;
   functions = map (seen_function d) fs;
   inlined = d.found.entries;
+  names = d.known;
 }
 
 -- a function of which nothing is cached
@@ -200,6 +201,7 @@ module _ (fs : List LazyFunction) (n : ℕ) (f y : LazyFunction) (at : slice_get
         ranges = ranges_stay addresses;
         functions = seen_set ∙ ap (λ x. slice_set (map (seen_function cached) fs) n x) (seen_as offset (Some detail) (ap (λ (v : UnitOffset). v.0) entry ∙ o) (ap (seen_lazy more) is ∙ ap Some (sym d)));
         inlined = grown.found.entries;
+        names = grown.known;
       }
 
     -- a fault that was cached
@@ -242,4 +244,5 @@ module _ (fs : List LazyFunction) (n : ℕ) (f y : LazyFunction) (at : slice_get
         ranges = ranges_stay addresses;
         functions = seen_set ∙ ap (λ x. slice_set (map (seen_function cached) fs) n x) (seen_as offset (Some detail) (ap (λ (v : UnitOffset). v.0) entry ∙ o) (ap (seen_lazy more) is ∙ ap Some (sym d)));
         inlined = grown.found.entries;
+        names = grown.known;
       }

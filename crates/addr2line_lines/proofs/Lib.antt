@@ -44,6 +44,7 @@ pub mod DetailLemmas
 pub mod FoundRanges
 pub mod WantedLemmas
 pub mod NestingLemmas
+pub mod CachedNameLemmas
 pub mod DetailRanges
 pub mod DetailOrder
 pub mod DetailPlaces

@@ -46,13 +46,14 @@ functions_twice (x ∷ xs) (y ∷ ys) (z ∷ zs) a b =
     (record { offset = b.0.offset ∙ a.0.offset; detail = λ d e. b.0.detail d (a.0.detail d e) }, functions_twice xs ys zs a.1 b.1)
 
 pub table_same : (t : FunctionTable) → IsTableMore t t
-table_same t = record { ranges = refl; functions = functions_same t.functions; inlined = no_more t.inlined }
+table_same t = record { ranges = refl; functions = functions_same t.functions; inlined = no_more t.inlined; names = no_more t.names }
 
 table_twice : (r s t : FunctionTable) → IsTableMore r s → IsTableMore s t → IsTableMore r t
 table_twice r s t a b = record {
   ranges = b.ranges ∙ a.ranges;
   functions = functions_twice r.functions s.functions t.functions a.functions b.functions;
   inlined = grown_twice r.inlined s.inlined t.inlined a.inlined b.inlined;
+  names = grown_twice r.names s.names t.names a.names b.names;
 }
 
 -- where no detail is cached, what is cached is right
@@ -74,6 +75,7 @@ module _ (scope : Scope) (u : UnitRecord) (n : ℕ) (old new : FunctionTable) wh
       functions = subst (AllZip IsFunctionMore old.functions) (sym with_it.functions)
           (functions_set old.functions n f (record { offset = f.offset; detail = Some (detail_at scope u f.offset) }) at (record { offset = refl; detail = λ d e. (let no : None ≡ Some d = sym none ∙ e in absurd cc) }));
       inlined = with_it.inlined;
+      names = with_it.names;
     }
 
   -- a fact of the table before and after, by what is cached of the function

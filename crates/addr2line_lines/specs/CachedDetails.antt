@@ -1,6 +1,7 @@
 -- The details of functions as they are cached, as the private functions see them.
 -- Own: three lists, of names, of inlined entries and of ranges; those of each function stand one
--- after another, its ranges by depth, then by begin, then by end, then by place of the entry.
+-- after another, its ranges by depth, then by begin, then by end, then by place of the entry. Beside
+-- them the names of entries that are referred to.
 use Rattle.std.specs.Prelude.{◌≡◌, ℕ, ◌+◌, ◌-◌, ◌<◌, ◌≤◌, List, drop, length, map, slice_index_or, take, Option, None, option_map}
 use Rattle.std.specs.List.{All}
 use Rattle.std.specs.List.Sorted.{IsNonDecreasingBy}
@@ -8,21 +9,26 @@ use Rattle.gimli_read.specs.Section.{Section}
 use Rattle.addr2line_lines.specs.declared.details.Details.{Details}
 use Rattle.addr2line_lines.specs.declared.details.FunctionDetail.{FunctionDetail}
 use Rattle.addr2line_lines.specs.declared.picks.InlinedFunctionAddress.{InlinedFunctionAddress}
+use Rattle.addr2line_lines.specs.CachedNames.{CachedName, seen_names}
 use Rattle.addr2line_lines.specs.Details.{Detail}
 use Rattle.addr2line_lines.specs.FoundInlined.{FoundInlined, IsFoundMore, range_among, seen_lists}
 use Rattle.addr2line_lines.specs.Grown.{IsGrown}
 use Rattle.addr2line_lines.specs.InOrder.{in_order}
 use Rattle.addr2line_lines.specs.InlinedOrder.{inlined_sooner, place}
 
--- names, inlined entries and ranges
+-- names, inlined entries and ranges, and the names of entries that are referred to
 pub record CachedDetails : Type 0 where
   pub names : List (Option Section)
   pub found : FoundInlined
+  pub known : List CachedName
 
 -- what is cached
 abbrev pub seen_details : {R : Type 0} → (R → Section) → Details R → CachedDetails
-seen_details see d =
-    record { names = map (option_map see) d.names.items; found = seen_lists d.inlined }
+seen_details see d = record {
+  names = map (option_map see) d.names.items;
+  found = seen_lists d.inlined;
+  known = seen_names see d.known;
+}
 
 -- the ranges of a place, in the order of their entries
 abbrev pub listed_ranges : FunctionDetail → List InlinedFunctionAddress
@@ -43,6 +49,7 @@ detail_of d p = record {
 pub record AreDetailsMore (cached more : CachedDetails) : Type 0 where
   pub names : IsGrown cached.names more.names
   pub found : IsFoundMore cached.found more.found
+  pub known : IsGrown cached.known more.known
 
 -- a range is of an inlined entry from a place up to another
 abbrev pub IsOfEntryBetween : ℕ → ℕ → InlinedFunctionAddress → Type 0

@@ -13,13 +13,14 @@ use Rattle.addr2line_lines.specs.References.{Scope}
 use Rattle.addr2line_lines.specs.FunctionTable.{CachedFunction, FunctionTable, AreListed}
 
 -- the detail of the function of a place is cached too, and nothing else changes, but that more
--- inlined entries stand after those before
+-- inlined entries, and more names of entries that are referred to, stand after those before
 pub record IsWithDetail (n : ℕ) (f : CachedFunction) (detail : Result Detail Error)
     (old new : FunctionTable) : Type 0 where
   pub ranges : new.ranges ≡ old.ranges
   pub functions : new.functions ≡
       slice_set old.functions n (record { offset = f.offset; detail = Some detail })
   pub inlined : IsGrown old.inlined new.inlined
+  pub names : IsGrown old.names new.names
 
 -- an answer, and the table then: that of the detail, which is cached, its fault too; or
 -- OutOfMemory, and the table as before
@@ -128,6 +129,7 @@ pub record IsTableMore (old new : FunctionTable) : Type 0 where
   pub ranges : new.ranges ≡ old.ranges
   pub functions : AllZip IsFunctionMore old.functions new.functions
   pub inlined : IsGrown old.inlined new.inlined
+  pub names : IsGrown old.names new.names
 
 -- the functions stay those that have a range where more is cached
 abbrev pub MoreKeepsListed : Type 0

@@ -2,6 +2,7 @@
 use Rattle.std.specs.Prelude.{◌≡◌, ℕ, ◌==◌, List, [], map, position, slice_get, Option, Some, None, option_and_then, option_map, Result, Ok, Err}
 use Rattle.gimli_read.specs.declared.error.Error.{Error}
 use Rattle.gimli_read.specs.Section.{Section}
+use Rattle.addr2line_lines.specs.CachedNames.{CachedName}
 use Rattle.addr2line_lines.specs.Details.{Detail}
 use Rattle.addr2line_lines.specs.InlinedEntries.{InlinedEntry, InlinedRange}
 use Rattle.addr2line_lines.specs.Functions.{FunctionRange, entries_of, function_offset_at}
@@ -12,12 +13,13 @@ pub record CachedFunction : Type 0 where
   pub offset : ℕ
   pub detail : Option (Result Detail Error)
 
--- the ranges of functions, the functions that have a range in the order of their entries, and the
--- inlined entries of the details that are cached
+-- the ranges of functions, the functions that have a range in the order of their entries, the
+-- inlined entries of the details that are cached, and the names of entries that are referred to
 pub record FunctionTable : Type 0 where
   pub ranges : List FunctionRange
   pub functions : List CachedFunction
   pub inlined : List InlinedEntry
+  pub names : List CachedName
 
 -- the functions are the entries that have a range, in the order of their ranges, each once
 abbrev pub AreListed : FunctionTable → Type 0

@@ -37,6 +37,7 @@ pub mod ItemsAround
 pub mod NestedInlined
 pub mod FoundNames
 pub mod NameChains
+pub mod CachedNames
 pub mod FoundRanges
 pub mod FoundAttributes
 pub mod OpenEntries

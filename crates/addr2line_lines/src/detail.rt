@@ -5,6 +5,7 @@ ghost use Rattle.gimli_read.specs.Form.{rest_of};
 ghost use Rattle.gimli_read.specs.Reading.{ExactlyUnlessOomIf};
 ghost use Rattle.gimli.specs.Entry.{attributes_at};
 ghost use Rattle.gimli.specs.EntryCursor.{next_item_at};
+ghost use Rattle.addr2line_lines.specs.CachedNames.{AreNamesMore, AreNamesOf, seen_names};
 ghost use Rattle.addr2line_lines.specs.FoundInlined.{IsFoundMore, entry_found_at, read_lists_a_range, seen_lists};
 ghost use Rattle.addr2line_lines.specs.FoundAttributes.{IsTakenIn};
 ghost use Rattle.addr2line_lines.specs.FoundNames.{with_read_name, name_after};
@@ -16,6 +17,7 @@ ghost use Rattle.addr2line_lines.specs.SeenScope.{seen_scope};
 use crate::inlined::{read_attribute_if, read_inlined_attributes};
 use crate::inlined_lists::InlinedLists;
 use crate::name::{is_name_attribute, take_name};
+use crate::names::NameCache;
 use crate::nesting::{Nesting, kind_of};
 use crate::references::Scope;
 use gimli::read::{Abbreviation, Attribute, AttributeSpecification, Error, Reader, UnitOffset};
@@ -27,14 +29,18 @@ fn with_attribute<R: Reader>(
     unit: &Unit<R>,
     name: Result<Option<R>, Error>,
     attribute: Option<Attribute<R>>,
+    names: &mut NameCache<R>,
 ) -> Result<Option<R>, Error>
     requires in_order { IsScope (seen_scope scope) }
+    requires names { AreNamesOf (seen_scope scope) unit.now (seen_names R.section names.old) }
     ensures gives { IsTakenIn R.shares (option_map R.section)
         (λ x. with_read_name (seen_scope scope.entry) unit.now x attribute) name result }
+    ensures names { AreNamesMore (seen_scope scope.entry) unit.now
+        (seen_names R.section names.old) (seen_names R.section names.new) }
 {
     match name {
         Ok(name) => match attribute {
-            Some(attribute) => take_name(scope, unit, name, attribute),
+            Some(attribute) => take_name(scope, unit, name, attribute, names),
             None => Ok(name),
         },
         Err(error) => Err(error),
@@ -48,8 +54,10 @@ fn read_name<R: Reader>(
     unit: &Unit<R>,
     entries: &mut EntriesRaw<'_, R>,
     specifications: &[AttributeSpecification],
+    names: &mut NameCache<R>,
 ) -> Result<Option<R>, Error>
     requires in_order { IsScope (seen_scope scope) }
+    requires names { AreNamesOf (seen_scope scope) unit.now (seen_names R.section names.old) }
     requires encoding { entries.old.unit.encoding ≡ unit.now.header.encoding }
     ensures gives { ExactlyUnlessOomIf R.shares (option_map R.section) result
         (name_after (seen_scope scope.entry) unit.now (Ok None)
@@ -58,12 +66,14 @@ fn read_name<R: Reader>(
         specifications.now entries.old.cursor.left) ≡ Ok entries.new.cursor.left) }
     ensures unit { entries.new.unit ≡ entries.old.unit }
     ensures depth { entries.new.cursor.depth ≡ entries.old.cursor.depth }
+    ensures names { AreNamesMore (seen_scope scope.entry) unit.now
+        (seen_names R.section names.old) (seen_names R.section names.new) }
 {
     let mut name = Ok(None);
     for specification in specifications {
         let wanted = is_name_attribute(specification.name());
         let attribute = read_attribute_if(entries, *specification, wanted)?;
-        name = with_attribute(scope, unit, name, attribute);
+        name = with_attribute(scope, unit, name, attribute, names);
     }
     name
 }
@@ -78,8 +88,10 @@ fn read_entry<R: Reader>(
     abbreviation: &Abbreviation,
     nesting: &Nesting,
     found: &mut InlinedLists<R>,
+    names: &mut NameCache<R>,
 ) -> Result<(), Error>
     requires in_order { IsScope (seen_scope scope) }
+    requires names { AreNamesOf (seen_scope scope) unit.now (seen_names R.section names.old) }
     requires encoding { entries.old.unit.encoding ≡ unit.now.header.encoding }
     ensures gives { ExactlyUnlessOomIf (R.shares || read_lists_a_range (seen_scope scope.entry)
         unit.now nesting.now abbreviation.now (attributes_at unit.now.header.encoding
@@ -90,9 +102,12 @@ fn read_entry<R: Reader>(
     ensures kept { IsFoundMore (seen_lists found.old) (seen_lists found.new) }
     ensures unit { entries.new.unit ≡ entries.old.unit }
     ensures depth { entries.new.cursor.depth ≡ entries.old.cursor.depth }
+    ensures names { AreNamesMore (seen_scope scope.entry) unit.now
+        (seen_names R.section names.old) (seen_names R.section names.new) }
 {
     if nesting.lists(kind_of(abbreviation)) {
-        let attributes = read_inlined_attributes(scope, unit, entries, abbreviation.attributes())?;
+        let specifications = abbreviation.attributes();
+        let attributes = read_inlined_attributes(scope, unit, entries, specifications, names)?;
         let unit = UnitRef::new(scope.file.dwarf, unit);
         found.add(unit, offset, nesting.depth(), attributes)
     } else {
@@ -107,8 +122,10 @@ fn read_item<R: Reader>(
     entries: &mut EntriesRaw<'_, R>,
     nesting: &mut Nesting,
     found: &mut InlinedLists<R>,
+    names: &mut NameCache<R>,
 ) -> Result<(), Error>
     requires in_order { IsScope (seen_scope scope) }
+    requires names { AreNamesOf (seen_scope scope) unit.now (seen_names R.section names.old) }
     requires encoding { entries.old.unit.encoding ≡ unit.now.header.encoding }
     ensures gives { ExactlyUnlessOomIf (R.shares || next_takes_memory (seen_scope scope.entry)
         unit.now (seen_around found.old nesting.old)
@@ -120,6 +137,8 @@ fn read_item<R: Reader>(
     ensures unit { entries.new.unit ≡ entries.old.unit }
     ensures shorter { OnOk result
         (length entries.new.cursor.left.bytes < length entries.old.cursor.left.bytes) }
+    ensures names { AreNamesMore (seen_scope scope.entry) unit.now
+        (seen_names R.section names.old) (seen_names R.section names.new) }
 {
     let offset = entries.next_offset();
     match entries.read_abbreviation()? {
@@ -128,7 +147,16 @@ fn read_item<R: Reader>(
             Ok(())
         }
         Some(abbreviation) => {
-            read_entry(scope, unit, entries, offset, abbreviation, nesting, found)?;
+            read_entry(
+                scope,
+                unit,
+                entries,
+                offset,
+                abbreviation,
+                nesting,
+                found,
+                names,
+            )?;
             nesting.enter(kind_of(abbreviation), abbreviation.has_children())
         }
     }
@@ -148,18 +176,22 @@ fn read_inside<R: Reader>(
     entries: &mut EntriesRaw<'_, R>,
     nesting: &mut Nesting,
     found: &mut InlinedLists<R>,
+    names: &mut NameCache<R>,
 ) -> Result<(), Error>
     requires in_order { IsScope (seen_scope scope) }
+    requires names { AreNamesOf (seen_scope scope) unit.now (seen_names R.section names.old) }
     requires encoding { entries.old.unit.encoding ≡ unit.now.header.encoding }
     ensures gives { ExactlyUnlessOomIf (R.shares || inside_takes_memory (seen_scope scope.entry)
         unit.now entries.old.unit entries.old.cursor (seen_around found.old []))
         (λ _. seen_lists found.new) result (inside_found (seen_scope scope.entry)
         unit.now entries.old.unit entries.old.cursor (seen_around found.old [])) }
     ensures kept { IsFoundMore (seen_lists found.old) (seen_lists found.new) }
+    ensures names { AreNamesMore (seen_scope scope.entry) unit.now
+        (seen_names R.section names.old) (seen_names R.section names.new) }
 {
     nesting.clear();
     while is_inside(entries) {
-        read_item(scope, unit, entries, nesting, found)?;
+        read_item(scope, unit, entries, nesting, found, names)?;
     }
     Ok(())
 }
@@ -173,8 +205,10 @@ fn read_function<R: Reader>(
     abbreviation: &Abbreviation,
     nesting: &mut Nesting,
     found: &mut InlinedLists<R>,
+    names: &mut NameCache<R>,
 ) -> Result<Option<R>, Error>
     requires in_order { IsScope (seen_scope scope) }
+    requires names { AreNamesOf (seen_scope scope) unit.now (seen_names R.section names.old) }
     requires encoding { entries.old.unit.encoding ≡ unit.now.header.encoding }
     ensures gives { ExactlyUnlessOomIf (R.shares || is_memory_taken (function_takes_memory_at
         (seen_scope scope.entry) unit.now entries.old.unit entries.old.cursor
@@ -183,9 +217,11 @@ fn read_function<R: Reader>(
         (function_found_at (seen_scope scope.entry) unit.now entries.old.unit entries.old.cursor
         (seen_lists found.old) abbreviation.now) }
     ensures kept { IsFoundMore (seen_lists found.old) (seen_lists found.new) }
+    ensures names { AreNamesMore (seen_scope scope.entry) unit.now
+        (seen_names R.section names.old) (seen_names R.section names.new) }
 {
-    let name = read_name(scope, unit, entries, abbreviation.attributes())?;
-    read_inside(scope, unit, entries, nesting, found)?;
+    let name = read_name(scope, unit, entries, abbreviation.attributes(), names)?;
+    read_inside(scope, unit, entries, nesting, found, names)?;
     Ok(name)
 }
 
@@ -196,8 +232,10 @@ pub(crate) fn read_detail<R: Reader>(
     offset: UnitOffset,
     nesting: &mut Nesting,
     found: &mut InlinedLists<R>,
+    names: &mut NameCache<R>,
 ) -> Result<Option<R>, Error>
     requires in_order { IsScope (seen_scope scope) }
+    requires names { AreNamesOf (seen_scope scope) unit.now (seen_names R.section names.old) }
     ensures gives { ExactlyUnlessOomIf
         (R.shares || is_memory_taken (detail_takes_memory_at (seen_scope scope.entry) unit.now
         offset.0 (seen_lists found.old)))
@@ -205,11 +243,21 @@ pub(crate) fn read_detail<R: Reader>(
         (detail_found_at (seen_scope scope.entry) unit.now offset.0
         (seen_lists found.old)) }
     ensures kept { IsFoundMore (seen_lists found.old) (seen_lists found.new) }
+    ensures names { AreNamesMore (seen_scope scope.entry) unit.now
+        (seen_names R.section names.old) (seen_names R.section names.new) }
 {
     let mut entries = UnitRef::new(scope.file.dwarf, unit).entries_raw(Some(offset))?;
     match entries.read_abbreviation()? {
         Some(abbreviation) => {
-            read_function(scope, unit, &mut entries, abbreviation, nesting, found)
+            read_function(
+                scope,
+                unit,
+                &mut entries,
+                abbreviation,
+                nesting,
+                found,
+                names,
+            )
         }
         None => Err(Error::NoEntryAtGivenOffset(offset.0)),
     }

@@ -6,6 +6,7 @@ ghost use Rattle.gimli_read.specs.Reading.{ExactlyUnlessOomIf};
 ghost use Rattle.addr2line_lines.specs.Details.{detail_at, detail_takes_memory};
 ghost use Rattle.addr2line_lines.specs.InlinedChain.{inlined_chain};
 ghost use Rattle.addr2line_lines.specs.FoundInlined.{entry_among, none_inlined};
+ghost use Rattle.addr2line_lines.specs.CachedNames.{AreNamesMore, AreNamesOf};
 ghost use Rattle.addr2line_lines.specs.CachedDetails.{AreDetailsMore, IsDetailPlace, IsNextPlace, detail_of, seen_details};
 ghost use Rattle.addr2line_lines.specs.ManyInlined.{are_many};
 ghost use Rattle.addr2line_lines.specs.References.{IsScope};
@@ -14,6 +15,7 @@ ghost use Rattle.addr2line_lines.specs.SeenScope.{seen_scope};
 use crate::detail::read_detail;
 use crate::inlined::InlinedFunction;
 use crate::inlined_lists::InlinedLists;
+use crate::names::NameCache;
 use crate::nesting::Nesting;
 use crate::picks::{InlinedFunctionAddress, InlinedPlaces, find_chain, sort_inlined_from};
 use crate::references::Scope;
@@ -46,6 +48,8 @@ pub(crate) struct FunctionDetail {
 pub(crate) struct Details<R: Reader> {
     names: Vec<Option<R>>,
     inlined: InlinedLists<R>,
+    // The names of entries that are referred to.
+    known: NameCache<R>,
     // The entries that are open while details are read, here for its memory alone.
     nesting: Nesting,
 }
@@ -54,16 +58,18 @@ impl<R: Reader> Details<R> {
     /// Those of no function. Takes no memory.
     pub(crate) fn new(alloc: Global) -> Details<R>
         ensures gives { seen_details R.section result
-            ≡ record { names = []; found = none_inlined } }
+            ≡ record { names = []; found = none_inlined; known = [] } }
     {
         Details {
             names: Vec::new(alloc),
             inlined: InlinedLists::new(alloc),
+            known: NameCache::new(alloc),
             nesting: Nesting::new(alloc),
         }
     }
 
-    // Adds the details of a function. A refused one may leave some of its inlined entries.
+    // Adds the details of a function. A refused one may leave some of its inlined entries, and
+    // names that were found.
     fn add(
         &mut self,
         scope: Scope<'_, R>,
@@ -71,6 +77,8 @@ impl<R: Reader> Details<R> {
         offset: UnitOffset,
     ) -> Result<FunctionDetail, Error>
         requires in_order { IsScope (seen_scope scope) }
+        requires known { AreNamesOf (seen_scope scope) unit.now
+            (seen_details R.section self.old).known }
         ensures gives { ExactlyUnlessOomIf
             (R.shares || detail_takes_memory (seen_scope scope.entry) unit.now offset.0)
             (detail_of (seen_details R.section self.new)) result
@@ -82,11 +90,20 @@ impl<R: Reader> Details<R> {
             (seen_details R.section self.new)) }
         ensures names { OnErr result (map (option_map R.section) self.new.names.items ≡
             map (option_map R.section) self.old.names.items) }
+        ensures known { AreNamesMore (seen_scope scope.entry) unit.now
+            (seen_details R.section self.old).known (seen_details R.section self.new).known }
     {
         let name = self.names.len();
         let inlined_begin = self.inlined.functions.len();
         let ranges_begin = self.inlined.ranges.len();
-        let read = read_detail(scope, unit, offset, &mut self.nesting, &mut self.inlined)?;
+        let read = read_detail(
+            scope,
+            unit,
+            offset,
+            &mut self.nesting,
+            &mut self.inlined,
+            &mut self.known,
+        )?;
         self.names.push(read)?;
         let listed = Snapshot::of(&self.inlined.ranges);
         sort_inlined_from(&mut self.inlined.ranges, ranges_begin);
@@ -119,6 +136,8 @@ impl<R: Reader> Details<R> {
         offset: UnitOffset,
     ) -> Result<FunctionDetail, Error>
         requires in_order { IsScope (seen_scope scope) }
+        requires known { AreNamesOf (seen_scope scope) unit.now
+            (seen_details R.section self.old).known }
         ensures gives { ExactlyUnlessOomIf
             (R.shares || detail_takes_memory (seen_scope scope.entry) unit.now offset.0)
             (detail_of (seen_details R.section self.new)) result
@@ -130,13 +149,17 @@ impl<R: Reader> Details<R> {
             (seen_details R.section self.new)) }
         ensures refused { OnErr result
             (seen_details R.section self.new ≡ seen_details R.section self.old) }
+        ensures known { AreNamesMore (seen_scope scope.entry) unit.now
+            (seen_details R.section self.old).known (seen_details R.section self.new).known }
     {
         let functions = self.inlined.functions.len();
         let ranges = self.inlined.ranges.len();
+        let known = self.known.len();
         match self.add(scope, unit, offset) {
             Ok(detail) => Ok(detail),
             Err(error) => {
                 self.inlined.truncate(functions, ranges);
+                self.known.truncate(known);
                 Err(error)
             }
         }

@@ -1,9 +1,10 @@
 //! The functions of a unit.
 
 ghost use Rattle.std.specs.List.{AllByRecursion};
-ghost use Rattle.std.specs.Prelude.{◌≡◌, ◌≢◌, ◌<◌, ◌==◌, Err, false, length, map, option_and_then, option_map, slice_get, IfOk, IfSome, None, Ok, OnOk, Some};
+ghost use Rattle.std.specs.Prelude.{◌≡◌, ◌≢◌, ◌<◌, ◌==◌, [], Err, false, length, map, option_and_then, option_map, slice_get, IfOk, IfSome, None, Ok, OnOk, Some};
 ghost use Rattle.gimli_read.specs.declared.error.Error.TheVariants.{OutOfMemory};
 ghost use Rattle.gimli_read.specs.Reading.{ExactlyUnlessOomIf};
+ghost use Rattle.addr2line_lines.specs.CachedNames.{AreNamesOf};
 ghost use Rattle.addr2line_lines.specs.InlinedChain.{inlined_chain};
 ghost use Rattle.addr2line_lines.specs.FoundInlined.{entry_among};
 ghost use Rattle.addr2line_lines.specs.FoundRanges.{is_function};
@@ -228,6 +229,7 @@ impl<R: Reader> Model for Functions<R> {
       ranges = map (function_range_of (function_offsets f.functions.items)) f.addresses;
       functions = map (seen_function (seen_details R.section f.details)) f.functions.items;
       inlined = (seen_details R.section f.details).found.entries;
+      names = (seen_details R.section f.details).known;
     } };
 
     ghost invariant = { λ f. AreCachedFunctions f.functions.items f.addresses
@@ -248,6 +250,7 @@ impl<R: Reader> Functions<R> {
             (functions_of unit.entry.dwarf.now unit.entry.unit.now) }
         ensures unread { IfOk result AreUnread }
         ensures listed { IfOk result AreListed }
+        ensures names { IfOk result (λ f. f.names ≡ []) }
     {
         let FunctionLists {
             functions,
@@ -284,7 +287,8 @@ impl<R: Reader> Functions<R> {
     /// Reads the detail of the function of a place, unless it is cached: its name, and the inlined
     /// functions inside it, without those of nested subprograms. It is cached then, its fault too.
     ///
-    /// `unit` is the unit of the functions, and `scope` says where its references lead. Refused as
+    /// `unit` is the unit of the functions, and `scope` says where its references lead. The names
+    /// that references in the unit give are cached too, where the detail has no fault. Refused as
     /// the first fault of an entry up to the end of the function, of a reference that a name
     /// follows, of range attributes or of a range list; `UnexpectedEof` where closing entries are
     /// missing. May fail with `OutOfMemory` instead, which is not cached: where a reader's parts
@@ -294,10 +298,12 @@ impl<R: Reader> Functions<R> {
     /// Source: DWARF 5, section 3.3.8.
     pub fn read(&mut self, scope: Scope<'_, R>, unit: &Unit<R>, place: usize) -> Result<(), Error>
         requires in_order { IsScope (seen_scope scope) }
+        requires names { AreNamesOf (seen_scope scope) unit.now self.old.names }
         ensures gives { IsReadAt (seen_scope scope.entry) unit.now place self.old result self.new }
         ensures exact { ExactlyUnlessOomIf (cached_takes_memory R.shares (seen_scope scope.entry)
             unit.now (slice_get self.old.functions place)) (λ x. x) result
             (read_fault (seen_scope scope.entry) unit.now (slice_get self.old.functions place)) }
+        ensures names { AreNamesOf (seen_scope scope.entry) unit.now self.new.names }
     {
         let Some(function) = self.functions.get(place) else {
             return Ok(());
@@ -323,6 +329,7 @@ impl<R: Reader> Functions<R> {
     /// fault. Source: DWARF 5, section 3.3.8.
     pub fn read_all(&mut self, scope: Scope<'_, R>, unit: &Unit<R>) -> Result<(), Error>
         requires in_order { IsScope (seen_scope scope) }
+        requires names { AreNamesOf (seen_scope scope) unit.now self.old.names }
         ensures gives { AreDetailsOf (seen_scope scope.entry) unit.now self.old
             → ExactlyUnlessOomIf (details_take_memory R.shares (seen_scope scope.entry) unit.now
             self.old.functions) (λ x. x) result
@@ -337,6 +344,7 @@ impl<R: Reader> Functions<R> {
             → AreCachedToFault self.old.functions
             → result ≡ details_fault (seen_scope scope.entry) unit.now self.old.functions }
         ensures same { AreCachedToFault self.old.functions → self.new ≡ self.old }
+        ensures names { AreNamesOf (seen_scope scope.entry) unit.now self.new.names }
     {
         let count = self.functions.len();
         for place in 0..count {
@@ -354,12 +362,14 @@ impl<R: Reader> Functions<R> {
         place: usize,
     ) -> Result<(), Error>
         requires in_order { IsScope (seen_scope scope) }
+        requires names { AreNamesOf (seen_scope scope) unit.now self.old.names }
         requires unread { slice_get self.old.functions place
             ≡ Some (record { offset = offset.0; detail = None }) }
         ensures gives { IsReadAt (seen_scope scope.entry) unit.now place self.old result self.new }
         ensures exact { ExactlyUnlessOomIf (cached_takes_memory R.shares (seen_scope scope.entry)
             unit.now (slice_get self.old.functions place)) (λ x. x) result
             (read_fault (seen_scope scope.entry) unit.now (slice_get self.old.functions place)) }
+        ensures names { AreNamesOf (seen_scope scope.entry) unit.now self.new.names }
     {
         match self.details.read(scope, unit, offset) {
             Ok(detail) => {

@@ -6,6 +6,7 @@ ghost use Rattle.std.specs.Option.{option_or};
 ghost use Rattle.gimli_read.specs.Form.{attribute_at, rest_of};
 ghost use Rattle.gimli_read.specs.Reading.{ExactlyUnlessOomIf};
 ghost use Rattle.gimli.specs.Entry.{attributes_at};
+ghost use Rattle.addr2line_lines.specs.CachedNames.{AreNamesMore, AreNamesOf, seen_names};
 ghost use Rattle.addr2line_lines.specs.InlinedEntries.{constant_bits, counted_file, no_call, no_inlined_attributes, with_call, with_inlined_attribute};
 ghost use Rattle.addr2line_lines.specs.FoundAttributes.{HasNoWanted, IsReadIf, IsSplitAtWanted, IsTakenIn, inlined_attributes_after, is_call, is_wanted, is_wanted_specification, or_fault, seen_attributes};
 ghost use Rattle.addr2line_lines.specs.FoundRanges.{is_range_name};
@@ -14,6 +15,7 @@ ghost use Rattle.addr2line_lines.specs.SeenScope.{seen_scope};
 
 use crate::function::{RangeAttributes, is_range_name};
 use crate::name::{is_name_attribute, pass_over, take_name};
+use crate::names::NameCache;
 use crate::references::Scope;
 use crate::row::low_bits;
 use gimli::read::{Attribute, AttributeSpecification, DWARF_5, DwAt, Error, Reader, UnitOffset};
@@ -162,11 +164,15 @@ impl<R: Reader> InlinedAttributes<R> {
         scope: Scope<'_, R>,
         unit: &Unit<R>,
         attribute: Attribute<R>,
+        names: &mut NameCache<R>,
     ) -> Result<(), Error>
         requires in_order { IsScope (seen_scope scope) }
+        requires names { AreNamesOf (seen_scope scope) unit.now (seen_names R.section names.old) }
         ensures gives { ExactlyUnlessOomIf R.shares (λ _. seen_attributes R.section self.new) result
             (with_inlined_attribute (seen_scope scope.entry) unit.now
             (seen_attributes R.section self.old) attribute) }
+        ensures names { AreNamesMore (seen_scope scope.entry) unit.now
+            (seen_names R.section names.old) (seen_names R.section names.new) }
     {
         let name = attribute.name();
         if is_call(name) {
@@ -176,7 +182,7 @@ impl<R: Reader> InlinedAttributes<R> {
             self.ranges = self.ranges.take(unit, attribute)?;
         } else {
             let before = self.name.take();
-            self.name = take_name(scope, unit, before, attribute)?;
+            self.name = take_name(scope, unit, before, attribute, names)?;
         }
         Ok(())
     }
@@ -188,15 +194,19 @@ impl<R: Reader> InlinedAttributes<R> {
         unit: &Unit<R>,
         fault: Option<Error>,
         attribute: Attribute<R>,
+        names: &mut NameCache<R>,
     ) -> Option<Error>
         requires in_order { IsScope (seen_scope scope) }
+        requires names { AreNamesOf (seen_scope scope) unit.now (seen_names R.section names.old) }
         ensures gives { IsTakenIn R.shares (seen_attributes R.section)
             (λ x. with_inlined_attribute (seen_scope scope.entry) unit.now x attribute)
             (or_fault self.old fault) (or_fault self.new result) }
+        ensures names { AreNamesMore (seen_scope scope.entry) unit.now
+            (seen_names R.section names.old) (seen_names R.section names.new) }
     {
         match fault {
             Some(error) => Some(error),
-            None => match self.take(scope, unit, attribute) {
+            None => match self.take(scope, unit, attribute, names) {
                 Ok(()) => None,
                 Err(error) => Some(error),
             },
@@ -269,8 +279,10 @@ pub(crate) fn read_inlined_attributes<R: Reader>(
     unit: &Unit<R>,
     entries: &mut EntriesRaw<'_, R>,
     specifications: &[AttributeSpecification],
+    names: &mut NameCache<R>,
 ) -> Result<InlinedAttributes<R>, Error>
     requires in_order { IsScope (seen_scope scope) }
+    requires names { AreNamesOf (seen_scope scope) unit.now (seen_names R.section names.old) }
     requires encoding { entries.old.unit.encoding ≡ unit.now.header.encoding }
     ensures gives { ExactlyUnlessOomIf R.shares (seen_attributes R.section) result
         (inlined_attributes_after (seen_scope scope.entry) unit.now (Ok no_inlined_attributes)
@@ -279,6 +291,8 @@ pub(crate) fn read_inlined_attributes<R: Reader>(
         specifications.now entries.old.cursor.left) ≡ Ok entries.new.cursor.left) }
     ensures unit { entries.new.unit ≡ entries.old.unit }
     ensures depth { entries.new.cursor.depth ≡ entries.old.cursor.depth }
+    ensures names { AreNamesMore (seen_scope scope.entry) unit.now
+        (seen_names R.section names.old) (seen_names R.section names.new) }
 {
     let mut found = InlinedAttributes::new();
     let mut fault = None;
@@ -286,7 +300,7 @@ pub(crate) fn read_inlined_attributes<R: Reader>(
     while let Some(next) = split_at_wanted(rest) {
         pass_over(entries, next.before)?;
         let attribute = entries.read_attribute(next.specification)?;
-        fault = found.take_unless(scope, unit, fault, attribute);
+        fault = found.take_unless(scope, unit, fault, attribute, names);
         rest = next.after;
     }
     pass_over(entries, rest)?;

@@ -14,6 +14,7 @@ mod laws;
 mod line;
 mod location;
 mod name;
+mod names;
 mod nesting;
 mod packed;
 mod path;

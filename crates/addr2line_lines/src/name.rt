@@ -2,16 +2,21 @@
 
 ghost use Rattle.std.specs.Prelude.{◌≡◌, ◌<◌, None, Ok, IfSome, length, option_map};
 ghost use Rattle.std.specs.List.{position};
+ghost use Rattle.gimli_read.specs.declared.value.AttributeValue.TheVariants as values;
 ghost use Rattle.gimli_read.specs.Form.{rest_of, seen_value};
 ghost use Rattle.gimli_read.specs.Reading.{Exactly, ExactlyUnlessOomIf};
 ghost use Rattle.gimli.specs.Entry.{attributes_at};
+ghost use Rattle.addr2line_lines.specs.CachedNames.{AreNamesMore, AreNamesOf, seen_names};
 ghost use Rattle.addr2line_lines.specs.FoundNames.{HasNoName, IsSplitAtName, is_name_attribute, is_name_specification, seen_name_or_origin, seen_place, with_linkage, with_origin, with_string};
 ghost use Rattle.addr2line_lines.specs.Names.{is_linkage_name, is_origin, linkage_name_of, named_at, no_name, readable, referred_name, visited, with_name, with_name_or_origin};
 ghost use Rattle.addr2line_lines.specs.References.{IsScope};
 ghost use Rattle.addr2line_lines.specs.SeenScope.{seen_scope};
 
+use crate::names::{NameCache, duplicate_name};
 use crate::references::{EntryPlace, Scope, referred};
-use gimli::read::{Attribute, AttributeSpecification, AttributeValue, DwAt, Error, Reader};
+use gimli::read::{
+    Attribute, AttributeSpecification, AttributeValue, DwAt, Error, Reader, UnitOffset,
+};
 use gimli::{EntriesRaw, Unit, UnitRef};
 
 // The most entries that are visited for one name.
@@ -245,6 +250,48 @@ fn referred_name<'a, R: Reader>(
     Ok(None)
 }
 
+// The name by the entry at an offset of the unit: the cached one, or it is cached then.
+fn name_in_unit<R: Reader>(
+    scope: Scope<'_, R>,
+    unit: &Unit<R>,
+    offset: UnitOffset,
+    names: &mut NameCache<R>,
+) -> Result<Option<R>, Error>
+    requires in_order { IsScope (seen_scope scope) }
+    requires names { AreNamesOf (seen_scope scope) unit.now (seen_names R.section names.old) }
+    ensures gives { ExactlyUnlessOomIf R.shares (option_map R.section) result
+        (referred_name (seen_scope scope.entry) unit.now (values.UnitRef offset)) }
+    ensures names { AreNamesMore (seen_scope scope.entry) unit.now
+        (seen_names R.section names.old) (seen_names R.section names.new) }
+{
+    if let Some(name) = names.find(offset) {
+        return duplicate_name(name);
+    }
+    let name = referred_name(scope, unit, AttributeValue::UnitRef(offset))?;
+    names.add(offset, &name);
+    Ok(name)
+}
+
+// The name by the entry that a value refers to, which is cached if it is one of the unit.
+fn referred_name_once<R: Reader>(
+    scope: Scope<'_, R>,
+    unit: &Unit<R>,
+    value: AttributeValue<R>,
+    names: &mut NameCache<R>,
+) -> Result<Option<R>, Error>
+    requires in_order { IsScope (seen_scope scope) }
+    requires names { AreNamesOf (seen_scope scope) unit.now (seen_names R.section names.old) }
+    ensures gives { ExactlyUnlessOomIf R.shares (option_map R.section) result
+        (referred_name (seen_scope scope.entry) unit.now (seen_value R.section value)) }
+    ensures names { AreNamesMore (seen_scope scope.entry) unit.now
+        (seen_names R.section names.old) (seen_names R.section names.new) }
+{
+    match value {
+        AttributeValue::UnitRef(offset) => name_in_unit(scope, unit, offset, names),
+        value => referred_name(scope, unit, value),
+    }
+}
+
 // The name after one more attribute of the entry itself.
 #[tactic(auto, unfolding(crate::specs::Names::with_name))]
 pub(crate) fn take_name<R: Reader>(
@@ -252,10 +299,14 @@ pub(crate) fn take_name<R: Reader>(
     unit: &Unit<R>,
     name: Option<R>,
     attribute: Attribute<R>,
+    names: &mut NameCache<R>,
 ) -> Result<Option<R>, Error>
     requires in_order { IsScope (seen_scope scope) }
+    requires names { AreNamesOf (seen_scope scope) unit.now (seen_names R.section names.old) }
     ensures gives { ExactlyUnlessOomIf R.shares (option_map R.section) result
         (with_name (seen_scope scope.entry) unit.now (option_map R.section name) attribute) }
+    ensures names { AreNamesMore (seen_scope scope.entry) unit.now
+        (seen_names R.section names.old) (seen_names R.section names.new) }
 {
     let attribute_name = attribute.name();
     let value = attribute.value();
@@ -268,7 +319,7 @@ pub(crate) fn take_name<R: Reader>(
     if attribute_name == DwAt::DW_AT_name {
         readable(scope, unit, value)
     } else if is_origin(attribute_name) {
-        referred_name(scope, unit, value)
+        referred_name_once(scope, unit, value, names)
     } else {
         Ok(None)
     }

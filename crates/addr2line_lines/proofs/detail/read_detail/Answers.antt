@@ -11,6 +11,7 @@ use Rattle.addr2line_lines.specs.FoundInlined.{FoundInlined, seen_lists}
 use Rattle.addr2line_lines.specs.FoundDetails.{function_found_at, function_takes_memory_at, is_memory_taken}
 use Rattle.addr2line_lines.specs.References.{Scope}
 use Rattle.addr2line_lines.specs.SeenScope.{seen_scope}
+use Rattle.addr2line_lines.proofs.CachedNameLemmas.{names_same}
 use Rattle.addr2line_lines.proofs.FunctionLemmas.{or_first}
 use Rattle.addr2line_lines.proofs.NestingLemmas.{detail-encoding, detail-fault, found_same, detail-opened, detail-takes}
 use Rattle.addr2line_lines.proofs.detail.read_detail.Goals as goal
@@ -31,7 +32,7 @@ pub returns-in_err-entries : goal.returns-in_err-entries
 returns-in_err-entries g c =
     let p = err_from_is_err_and c.from_residual.result c.from_residual.ensures.1 in
     let fault = rw c.new.ensures.unit at c.in_err-entries.ensures.gives in
-    record { gives = rw (p.1, p.2) (λ ne. detail-fault (seen_scope c.args.scope) c.args.unit.now c.args.offset.0 (seen_lists c.args.found.now) _ (fault (λ s _. ne (or_first g.R.Reader.shares _ s)))); kept = found_same _ }
+    record { gives = rw (p.1, p.2) (λ ne. detail-fault (seen_scope c.args.scope) c.args.unit.now c.args.offset.0 (seen_lists c.args.found.now) _ (fault (λ s _. ne (or_first g.R.Reader.shares _ s)))); kept = found_same _; names = names_same (seen_scope c.args.scope) c.args.unit.now _ c.requires.names }
 
 pub returns-in_err-abbreviation-clause-gives : goal.returns-in_err-abbreviation-clause-gives
 returns-in_err-abbreviation-clause-gives g c =
@@ -66,3 +67,12 @@ pub read_function-requires-clause-encoding : goal.read_function-requires-clause-
 read_function-requires-clause-encoding g c =
     let opened = rw c.new.ensures.unit at c.in_ok-entries.ensures.gives in
     ap (λ v. v.encoding) c.in_ok-abbreviation.ensures.unit ∙ detail-encoding c.args.unit.now c.args.offset.0 _ opened
+
+pub returns-in_err-abbreviation-clause-names : goal.returns-in_err-abbreviation-clause-names
+returns-in_err-abbreviation-clause-names g c = names_same (seen_scope c.args.scope) c.args.unit.now _ c.requires.names
+
+pub returns-in-Some-clause-names : goal.returns-in-Some-clause-names
+returns-in-Some-clause-names g c = c.read_function.ensures.names
+
+pub returns-clause-names : goal.returns-clause-names
+returns-clause-names g c = names_same (seen_scope c.args.scope) c.args.unit.now _ c.requires.names

@@ -6,6 +6,7 @@ use Rattle.addr2line_lines.specs.FoundInlined.{seen_lists}
 use Rattle.addr2line_lines.specs.SeenScope.{seen_scope}
 use Rattle.addr2line_lines.proofs.FunctionLemmas.{beside_if, or_first, or_second}
 use Rattle.addr2line_lines.proofs.NestingLemmas.{found_same}
+use Rattle.addr2line_lines.proofs.CachedNameLemmas.{names_same}
 use Rattle.addr2line_lines.proofs.DetailLemmas.{entry-fault, entry-listed, entry-other, entry-takes, listed_before, same_added}
 use Rattle.addr2line_lines.proofs.detail.read_entry.Goals as goal
 
@@ -19,7 +20,7 @@ returns-in_err-attributes-clause-gives g c =
     let left = c.args.entries.now.cursor.left in
     let found = seen_lists c.args.found.now in
     let listed = ap (λ k. is_listed k c.args.nesting.now) (sym c.kind_of.ensures.gives) ∙ sym c.if-lists.ensures.gives in
-    let fault = rw c.attributes.ensures.gives at c.in_err-attributes.ensures.gives in
+    let fault = rw c.attributes-specifications.ensures.gives at c.in_err-attributes.ensures.gives in
     rw (p.1, p.2) (λ ne. entry-fault scope u around c.args.offset.0 a left found _ listed (fault (λ shares. ne (or_first g.R.Reader.shares _ shares))))
 
 pub returns-in_ok-attributes-clause-gives : goal.returns-in_ok-attributes-clause-gives
@@ -31,8 +32,8 @@ returns-in_ok-attributes-clause-gives g c =
     let left = c.args.entries.now.cursor.left in
     let found = seen_lists c.args.found.now in
     let listed = ap (λ k. is_listed k c.args.nesting.now) (sym c.kind_of.ensures.gives) ∙ sym c.if-lists.ensures.gives in
-    let gives = rw c.attributes.ensures.gives at c.in_ok-attributes.ensures.gives in
-    let rest = rw c.attributes.ensures.gives at c.in_ok-attributes.ensures.left in
+    let gives = rw c.attributes-specifications.ensures.gives at c.in_ok-attributes.ensures.gives in
+    let rest = rw c.attributes-specifications.ensures.gives at c.in_ok-attributes.ensures.left in
     let same = same_added _ _ _ _ _ _ c.args.offset.0 found (seen_attributes g.R.Reader.section c.in_ok-attributes.attributes) c.new-unit.ensures.dwarf c.new-unit.ensures.unit c.depth.ensures.gives in
     beside_if _ _ c.add.result _ _ _ _
     (λ well. or_second g.R.Reader.shares _ (entry-takes scope u around c.args.offset.0 a left found _ _ (seen_attributes g.R.Reader.section c.in_ok-attributes.attributes) c.new-unit.ensures.dwarf c.new-unit.ensures.unit listed gives well))
@@ -77,3 +78,12 @@ returns-else-lists-clause-unit g c = c.skip_attributes_of.ensures.unit
 
 pub returns-else-lists-clause-depth : goal.returns-else-lists-clause-depth
 returns-else-lists-clause-depth g c = c.skip_attributes_of.ensures.depth
+
+pub returns-in_err-attributes-clause-names : goal.returns-in_err-attributes-clause-names
+returns-in_err-attributes-clause-names g c = c.in_err-attributes.ensures.names
+
+pub returns-in_ok-attributes-clause-names : goal.returns-in_ok-attributes-clause-names
+returns-in_ok-attributes-clause-names g c = c.in_ok-attributes.ensures.names
+
+pub returns-else-lists-clause-names : goal.returns-else-lists-clause-names
+returns-else-lists-clause-names g c = names_same (seen_scope c.args.scope) c.args.unit.now _ c.requires.names

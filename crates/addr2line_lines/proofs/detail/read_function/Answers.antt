@@ -2,6 +2,7 @@ use Rattle.std.proofs.Common.{ap, option_map, ◌∙◌}
 use Rattle.std.proofs.lemmas.Result.{err_from_is_err_and}
 use Rattle.addr2line_lines.specs.FoundInlined.{seen_lists}
 use Rattle.addr2line_lines.specs.SeenScope.{seen_scope}
+use Rattle.addr2line_lines.proofs.CachedNameLemmas.{names_on}
 use Rattle.addr2line_lines.proofs.DetailMemory.{function_takes}
 use Rattle.addr2line_lines.proofs.FunctionLemmas.{or_first, or_more}
 use Rattle.addr2line_lines.proofs.NestingLemmas.{found_same, function-fault, function-found, named_found}
@@ -11,7 +12,7 @@ pub returns-in_err-name : goal.returns-in_err-name
 returns-in_err-name g c =
     let p = err_from_is_err_and c.from_residual.result c.from_residual.ensures.1 in
     let fault = rw c.attributes.ensures.gives at c.in_err-name.ensures.gives in
-    record { gives = rw (p.1, p.2) (λ ne. function-fault (seen_scope c.args.scope) c.args.unit.now c.args.entries.now.unit c.args.entries.now.cursor (seen_lists c.args.found.now) c.args.abbreviation.now _ (fault (λ s. ne (or_first g.R.Reader.shares _ s)))); kept = found_same _ }
+    record { gives = rw (p.1, p.2) (λ ne. function-fault (seen_scope c.args.scope) c.args.unit.now c.args.entries.now.unit c.args.entries.now.cursor (seen_lists c.args.found.now) c.args.abbreviation.now _ (fault (λ s. ne (or_first g.R.Reader.shares _ s)))); kept = found_same _; names = c.in_err-name.ensures.names }
 
 pub returns-in_err-read_inside : goal.returns-in_err-read_inside
 returns-in_err-read_inside g c =
@@ -22,7 +23,7 @@ returns-in_err-read_inside g c =
     let name = rw c.attributes.ensures.gives at c.in_ok-name.ensures.gives in
     let rest = rw c.attributes.ensures.gives at c.in_ok-name.ensures.left in
     let found = function-found scope u unit c.args.entries.now.cursor _ _ (seen_lists c.args.found.now) c.args.abbreviation.now _ name rest c.in_ok-name.ensures.depth c.in_ok-name.ensures.unit in
-    record { gives = rw (p.1, p.2) (λ ne. found ∙ ap (named_found scope u unit (option_map g.R.Reader.section c.in_ok-name.name)) (c.in_err-read_inside.ensures.gives (λ takes. ne (or_more g.R.Reader.shares _ _ (function_takes scope u unit c.args.entries.now.cursor _ _ (seen_lists c.args.found.now) c.args.abbreviation.now _ name rest c.in_ok-name.ensures.depth c.in_ok-name.ensures.unit) takes)))); kept = c.in_err-read_inside.ensures.kept }
+    record { gives = rw (p.1, p.2) (λ ne. found ∙ ap (named_found scope u unit (option_map g.R.Reader.section c.in_ok-name.name)) (c.in_err-read_inside.ensures.gives (λ takes. ne (or_more g.R.Reader.shares _ _ (function_takes scope u unit c.args.entries.now.cursor _ _ (seen_lists c.args.found.now) c.args.abbreviation.now _ name rest c.in_ok-name.ensures.depth c.in_ok-name.ensures.unit) takes)))); kept = c.in_err-read_inside.ensures.kept; names = names_on scope u _ _ _ c.in_ok-name.ensures.names c.in_err-read_inside.ensures.names }
 
 pub returns : goal.returns
 returns g c =
@@ -32,4 +33,4 @@ returns g c =
     let name = rw c.attributes.ensures.gives at c.in_ok-name.ensures.gives in
     let rest = rw c.attributes.ensures.gives at c.in_ok-name.ensures.left in
     let found = function-found scope u unit c.args.entries.now.cursor _ _ (seen_lists c.args.found.now) c.args.abbreviation.now _ name rest c.in_ok-name.ensures.depth c.in_ok-name.ensures.unit in
-    record { gives = found ∙ ap (named_found scope u unit (option_map g.R.Reader.section c.in_ok-name.name)) c.in_ok-read_inside.ensures.gives; kept = c.in_ok-read_inside.ensures.kept }
+    record { gives = found ∙ ap (named_found scope u unit (option_map g.R.Reader.section c.in_ok-name.name)) c.in_ok-read_inside.ensures.gives; kept = c.in_ok-read_inside.ensures.kept; names = names_on scope u _ _ _ c.in_ok-name.ensures.names c.in_ok-read_inside.ensures.names }

@@ -1,4 +1,5 @@
 use Rattle.std.proofs.Common.{◌≡◌, [], length, true}
+use Rattle.addr2line_lines.specs.CachedNames.{AreNamesMore, seen_names}
 use Rattle.addr2line_lines.specs.FoundInlined.{IsFoundMore, seen_lists}
 use Rattle.addr2line_lines.specs.FoundItems.{inside_found, inside_takes_memory, seen_around}
 use Rattle.addr2line_lines.specs.SeenScope.{seen_scope}
@@ -13,6 +14,7 @@ invariant-loop-scope g l =
       takes : inside_takes_memory scope u l.entries.unit l.entries.cursor (seen_around l.found l.nesting) ≡ true → inside_takes_memory scope u l.fn.entries.unit l.fn.entries.cursor (seen_around l.fn.found []) ≡ true;
       kept : IsFoundMore (seen_lists l.fn.found) (seen_lists l.found);
       unit : l.entries.unit.encoding ≡ u.header.encoding;
+      names : AreNamesMore scope u (seen_names g.R.Reader.section l.fn.names) (seen_names g.R.Reader.section l.names);
     }
 
 abbrev pub decreases-loop-scope : goal.decreases-loop-scope

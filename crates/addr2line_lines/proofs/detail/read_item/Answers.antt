@@ -9,6 +9,7 @@ use Rattle.addr2line_lines.specs.SeenScope.{seen_scope}
 use Rattle.addr2line_lines.specs.FoundItems.{FoundAround, seen_around}
 use Rattle.addr2line_lines.specs.FoundInlined.{FoundInlined, entry_found_at, seen_lists}
 use Rattle.addr2line_lines.specs.OpenEntries.{kind_of, opened}
+use Rattle.addr2line_lines.proofs.CachedNameLemmas.{names_same}
 use Rattle.addr2line_lines.proofs.DetailMemory.{children_take, listed_takes}
 use Rattle.addr2line_lines.proofs.FunctionLemmas.{or_more, or_second}
 use Rattle.addr2line_lines.proofs.NestingLemmas.{after_entry, code-fault, entered, entry-shorter, found_same, item-closing, item-entry, item-shorter}
@@ -127,3 +128,15 @@ returns-in_ok-read_entry-in-Some-clause-kept g c = c.in_ok-read_entry-in-Some.en
 
 pub returns-in_ok-read_entry-in-Some-clause-unit : goal.returns-in_ok-read_entry-in-Some-clause-unit
 returns-in_ok-read_entry-in-Some-clause-unit g c = c.in_ok-read_entry-in-Some.ensures.unit ∙ c.in_ok-read_abbreviation.ensures.unit
+
+pub returns-in_err-read_abbreviation-clause-names : goal.returns-in_err-read_abbreviation-clause-names
+returns-in_err-read_abbreviation-clause-names g c = names_same (seen_scope c.args.scope) c.args.unit.now _ c.requires.names
+
+pub returns-in_err-read_entry-in-Some-clause-names : goal.returns-in_err-read_entry-in-Some-clause-names
+returns-in_err-read_entry-in-Some-clause-names g c = c.in_err-read_entry-in-Some.ensures.names
+
+pub returns-in-None-clause-names : goal.returns-in-None-clause-names
+returns-in-None-clause-names g c = names_same (seen_scope c.args.scope) c.args.unit.now _ c.requires.names
+
+pub returns-in_ok-read_entry-in-Some-clause-names : goal.returns-in_ok-read_entry-in-Some-clause-names
+returns-in_ok-read_entry-in-Some-clause-names g c = c.in_ok-read_entry-in-Some.ensures.names

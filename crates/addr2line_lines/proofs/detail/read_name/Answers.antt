@@ -6,6 +6,7 @@ use Rattle.addr2line_lines.specs.Names.{or_with_name}
 use Rattle.addr2line_lines.specs.FoundNames.{is_name_attribute, with_read_name}
 use Rattle.addr2line_lines.specs.SeenScope.{seen_scope}
 use Rattle.addr2line_lines.proofs.RangeLemmas.{on_ok, rest-more, rest-end}
+use Rattle.addr2line_lines.proofs.CachedNameLemmas.{names_on, names_same}
 use Rattle.addr2line_lines.proofs.DetailLemmas.{fold-end, fold-fault, fold-more, name_said, passed, taken}
 use Rattle.addr2line_lines.proofs.detail.read_name.Goals as goal
 
@@ -18,6 +19,7 @@ loop-specification-init g c = record {
   left = refl;
   unit = refl;
   depth = refl;
+  names = names_same (seen_scope c.args.scope) c.args.unit.now _ c.requires.names;
 }
 
 pub returns-in_err-attribute-clause-gives : goal.returns-in_err-attribute-clause-gives
@@ -44,6 +46,7 @@ loop-specification-preserved g c =
       left = sym (rest-more _ _ _ _ _ _ _ c.loop-specification-test.true a.is) ∙ i.left;
       unit = c.in_ok-attribute.ensures.unit ∙ i.unit;
       depth = c.in_ok-attribute.ensures.depth ∙ i.depth;
+      names = names_on scope u _ _ _ i.names c.with_attribute-name.ensures.names;
     }
 
 pub returns-clause-gives : goal.returns-clause-gives
@@ -55,3 +58,12 @@ pub returns-clause-left : goal.returns-clause-left
 returns-clause-left g c =
     let i = c.loop-specification.invariant in
     on_ok _ _ (sym i.left ∙ rest-end _ _ _ _ c.loop-specification-test.false)
+
+pub returns-clause-names : goal.returns-clause-names
+returns-clause-names g c = c.loop-specification.invariant.names
+
+pub returns-in_err-attribute-clause-names : goal.returns-in_err-attribute-clause-names
+returns-in_err-attribute-clause-names g c = c.loop-specification.invariant.names
+
+pub with_attribute-name-requires-clause-names : goal.with_attribute-name-requires-clause-names
+with_attribute-name-requires-clause-names g c = c.loop-specification.invariant.names.right

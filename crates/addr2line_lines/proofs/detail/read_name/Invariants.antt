@@ -4,6 +4,7 @@ use Rattle.gimli_read.specs.Form.{rest_of}
 use Rattle.gimli_read.specs.Section.{Section}
 use Rattle.gimli_read.specs.Reading.{ExactlyUnlessOomIf}
 use Rattle.gimli.specs.Entry.{attributes_at}
+use Rattle.addr2line_lines.specs.CachedNames.{AreNamesMore, seen_names}
 use Rattle.addr2line_lines.specs.FoundNames.{name_after}
 use Rattle.addr2line_lines.specs.SeenScope.{seen_scope}
 use Rattle.addr2line_lines.proofs.detail.read_name.Given as goal
@@ -21,4 +22,5 @@ invariant-loop-specification g l =
       left : rest_of (attributes_at encoding (drop l.specification-index l.specifications) l.entries.cursor.left) ≡ rest_of (attributes_at encoding l.specifications l.fn.entries.cursor.left);
       unit : l.entries.unit ≡ l.fn.entries.unit;
       depth : l.entries.cursor.depth ≡ l.fn.entries.cursor.depth;
+      names : AreNamesMore scope u (seen_names g.R.Reader.section l.fn.names) (seen_names g.R.Reader.section l.names);
     }

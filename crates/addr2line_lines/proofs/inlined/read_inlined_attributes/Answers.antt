@@ -4,6 +4,7 @@ use Rattle.gimli_read.specs.Reading.{◌>>=◌}
 use Rattle.addr2line_lines.specs.InlinedEntries.{no_inlined_attributes, or_with_inlined_attribute, with_inlined_attribute}
 use Rattle.addr2line_lines.specs.FoundAttributes.{or_fault, seen_attributes}
 use Rattle.addr2line_lines.specs.SeenScope.{seen_scope}
+use Rattle.addr2line_lines.proofs.CachedNameLemmas.{names_on, names_same}
 use Rattle.addr2line_lines.proofs.DetailLemmas.{taken}
 use Rattle.addr2line_lines.proofs.WantedLemmas.{passed_fault, rest_wanted, wanted_end, wanted_fault, wanted_next}
 use Rattle.addr2line_lines.proofs.inlined.read_inlined_attributes.Goals as goal
@@ -17,6 +18,7 @@ loop-next-init g c = record {
   left = refl;
   unit = refl;
   depth = refl;
+  names = names_same (seen_scope c.args.scope) c.args.unit.now _ c.requires.names;
 }
 
 pub returns-in_err-pass_over-clause-gives : goal.returns-in_err-pass_over-clause-gives
@@ -55,6 +57,7 @@ loop-next-preserved g c =
       left = sym (rest_wanted u.header.encoding _ _ _ _ _ _ _ a split skipped read) ∙ i.left;
       unit = c.in_ok-attribute.ensures.unit ∙ c.in_ok-pass_over.ensures.unit ∙ i.unit;
       depth = c.in_ok-attribute.ensures.depth ∙ c.in_ok-pass_over.ensures.depth ∙ i.depth;
+      names = names_on scope u _ _ _ i.names c.take_unless-fault.ensures.names;
     }
 
 pub returns-in_err-pass_over-2-clause-gives : goal.returns-in_err-pass_over-2-clause-gives
@@ -128,3 +131,21 @@ returns-in-None-clause-unit g c = c.in_ok-pass_over-2.ensures.unit ∙ c.loop-ne
 
 pub returns-in-None-clause-depth : goal.returns-in-None-clause-depth
 returns-in-None-clause-depth g c = c.in_ok-pass_over-2.ensures.depth ∙ c.loop-next.invariant.depth
+
+pub returns-in_err-pass_over-clause-names : goal.returns-in_err-pass_over-clause-names
+returns-in_err-pass_over-clause-names g c = c.loop-next.invariant.names
+
+pub returns-in_err-attribute-clause-names : goal.returns-in_err-attribute-clause-names
+returns-in_err-attribute-clause-names g c = c.loop-next.invariant.names
+
+pub returns-in_err-pass_over-2-clause-names : goal.returns-in_err-pass_over-2-clause-names
+returns-in_err-pass_over-2-clause-names g c = c.loop-next.invariant.names
+
+pub returns-in-Some-fault-clause-names : goal.returns-in-Some-fault-clause-names
+returns-in-Some-fault-clause-names g c = c.loop-next.invariant.names
+
+pub returns-in-None-clause-names : goal.returns-in-None-clause-names
+returns-in-None-clause-names g c = c.loop-next.invariant.names
+
+pub take_unless-fault-requires-clause-names : goal.take_unless-fault-requires-clause-names
+take_unless-fault-requires-clause-names g c = c.loop-next.invariant.names.right

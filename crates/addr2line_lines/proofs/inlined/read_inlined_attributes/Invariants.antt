@@ -3,6 +3,7 @@ use Rattle.gimli_read.specs.declared.error.Error.{Error as Fault}
 use Rattle.gimli_read.specs.Form.{rest_of}
 use Rattle.gimli_read.specs.Reading.{ExactlyUnlessOomIf}
 use Rattle.gimli.specs.Entry.{attributes_at}
+use Rattle.addr2line_lines.specs.CachedNames.{AreNamesMore, seen_names}
 use Rattle.addr2line_lines.specs.InlinedEntries.{InlinedAttributes, no_inlined_attributes}
 use Rattle.addr2line_lines.specs.FoundAttributes.{inlined_attributes_after, or_fault, seen_attributes}
 use Rattle.addr2line_lines.specs.SeenScope.{seen_scope}
@@ -21,6 +22,7 @@ invariant-loop-next g l =
       left : rest_of (attributes_at encoding l.rest l.entries.cursor.left) ≡ rest_of (attributes_at encoding l.fn.specifications l.fn.entries.cursor.left);
       unit : l.entries.unit ≡ l.fn.entries.unit;
       depth : l.entries.cursor.depth ≡ l.fn.entries.cursor.depth;
+      names : AreNamesMore scope u (seen_names g.R.Reader.section l.fn.names) (seen_names g.R.Reader.section l.names);
     }
 
 abbrev pub decreases-loop-next : goal.decreases-loop-next

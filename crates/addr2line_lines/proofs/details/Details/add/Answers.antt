@@ -2,6 +2,7 @@ use Rattle.std.proofs.Common.{◌≡◌, refl, ◌++◌, ◌∷◌, [], ◌+◌,
 use Rattle.std.proofs.lemmas.List.{length-map, map-append}
 use Rattle.std.proofs.lemmas.Result.{err_from_is_err_and}
 use Rattle.addr2line_lines.specs.declared.details.FunctionDetail.{FunctionDetail}
+use Rattle.addr2line_lines.specs.CachedNames.{seen_names}
 use Rattle.addr2line_lines.specs.FoundInlined.{FoundInlined, seen_lists}
 use Rattle.addr2line_lines.specs.Grown.{IsGrown}
 use Rattle.addr2line_lines.specs.CachedDetails.{CachedDetails, seen_details}
@@ -37,6 +38,7 @@ module _ (g : Over) (c : goal.After-len-2 g) where
   more = record {
     names = map (option_map g.R.Reader.section) c.push.new.self.items;
     found = record { entries = listed.entries; ranges = c.sort_inlined_from.new.ranges.items };
+    known = seen_names g.R.Reader.section c.read_detail.new.names;
   }
 
   abbrev made : FunctionDetail
@@ -95,6 +97,7 @@ returns-clause-kept g c =
         entries = c.in_ok-read.ensures.kept.entries;
         ranges = subst (IsGrown (old g c).found.ranges) (sym c.sort_inlined_from.ensures.gives) (sorted_more (made g c).ranges_begin (old g c).found.ranges (listed g c).ranges (at g c).ranges_begin c.in_ok-read.ensures.kept.ranges);
       };
+      known = c.in_ok-read.ensures.names.grown;
     }
 
 pub returns-clause-place : goal.returns-clause-place
@@ -113,7 +116,7 @@ returns-clause-next g c =
     }
 
 pub returns-in_err-read-clause-kept : goal.returns-in_err-read-clause-kept
-returns-in_err-read-clause-kept g c = record { names = grown_not _; found = c.in_err-read.ensures.kept }
+returns-in_err-read-clause-kept g c = record { names = grown_not _; found = c.in_err-read.ensures.kept; known = c.in_err-read.ensures.names.grown }
 
 pub returns-in_err-read-clause-place : goal.returns-in_err-read-clause-place
 returns-in_err-read-clause-place g c = let p = err_from_is_err_and c.from_residual.result c.from_residual.ensures.1 in rw p.1 tt
@@ -125,7 +128,7 @@ pub returns-in_err-read-clause-names : goal.returns-in_err-read-clause-names
 returns-in_err-read-clause-names g c = let p = err_from_is_err_and c.from_residual.result c.from_residual.ensures.1 in rw p.1 refl
 
 pub returns-in_err-push-clause-kept : goal.returns-in_err-push-clause-kept
-returns-in_err-push-clause-kept g c = record { names = grown_by _ _ [] (ap (map (option_map g.R.Reader.section)) c.in_err-push.ensures.items ∙ sym (append-nil _)); found = c.in_ok-read.ensures.kept }
+returns-in_err-push-clause-kept g c = record { names = grown_by _ _ [] (ap (map (option_map g.R.Reader.section)) c.in_err-push.ensures.items ∙ sym (append-nil _)); found = c.in_ok-read.ensures.kept; known = c.in_ok-read.ensures.names.grown }
 
 pub returns-in_err-push-clause-place : goal.returns-in_err-push-clause-place
 returns-in_err-push-clause-place g c = let p = err_from_is_err_and c.from_residual-in_err-push.result c.from_residual-in_err-push.ensures.1 in rw p.1 tt
@@ -138,3 +141,12 @@ returns-in_err-push-clause-names g c = let p = err_from_is_err_and c.from_residu
 
 pub returns-clause-names : goal.returns-clause-names
 returns-clause-names g c = tt
+
+pub returns-in_err-read-clause-known : goal.returns-in_err-read-clause-known
+returns-in_err-read-clause-known g c = c.in_err-read.ensures.names
+
+pub returns-in_err-push-clause-known : goal.returns-in_err-push-clause-known
+returns-in_err-push-clause-known g c = c.in_ok-read.ensures.names
+
+pub returns-clause-known : goal.returns-clause-known
+returns-clause-known g c = c.in_ok-read.ensures.names

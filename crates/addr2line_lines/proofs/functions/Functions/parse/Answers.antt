@@ -8,7 +8,7 @@ use Rattle.addr2line_lines.specs.Functions.{entries_of, functions_of, have_funct
 use Rattle.addr2line_lines.specs.FoundFunctions.{AreFunctions, function_range_of, seen_functions}
 use Rattle.addr2line_lines.specs.FunctionCache.{seen_function}
 use Rattle.addr2line_lines.specs.FunctionTable.{CachedFunction}
-use Rattle.addr2line_lines.specs.CachedDetails.{seen_details}
+use Rattle.addr2line_lines.specs.CachedDetails.{CachedDetails, seen_details}
 use Rattle.addr2line_lines.proofs.FunctionCacheLemmas.{runs_unread, seen_unread}
 use Rattle.addr2line_lines.proofs.FunctionLemmas.{or_second}
 use Rattle.addr2line_lines.proofs.FunctionMemory.{found_has}
@@ -28,6 +28,7 @@ returns-in_err-functions g c =
       gives = rw (p.1, p.2) (λ ne. subst (Agrees (functions_of d u)) (c.in_err-functions.ensures.gives ne) (functions_agree d u));
       unread = rw p.1 tt;
       listed = rw p.1 tt;
+      names = rw p.1 tt;
     }
 
 pub returns-in_err-addresses-clause-gives : goal.returns-in_err-addresses-clause-gives
@@ -60,4 +61,5 @@ returns g c =
       listed = offsets_seen (λ (f : LazyFunction). f.dw_die_offset) (seen_function (seen_details g.R.Reader.section c.new-2.result)) (λ (f : CachedFunction). f.offset) (λ x. refl) c.in_ok-functions.field-0.functions.items
           ∙ (are_functions d u found c.in_ok-functions.ensures.gives).listed
           ∙ ap (λ xs. entries_of (map (function_range_of found.offsets) xs)) listed;
+      names = ap (λ (d : CachedDetails). d.known) c.new-2.ensures.gives;
     }

@@ -1,4 +1,5 @@
 use Rattle.std.proofs.Common.{◌≡◌, length}
+use Rattle.addr2line_lines.specs.CachedNames.{AreNamesOf}
 use Rattle.addr2line_lines.specs.SeenScope.{seen_scope}
 use Rattle.addr2line_lines.proofs.ReadLemmas.{IsReadTo}
 use Rattle.addr2line_lines.proofs.functions.Functions.read_all.Given as goal
@@ -7,4 +8,5 @@ abbrev pub invariant-loop-place : goal.invariant-loop-place
 invariant-loop-place g l = record {
   count : l.count ≡ length l.fn.self.functions;
   read : IsReadTo g.R.Reader.shares (seen_scope l.fn.scope) l.fn.unit l.fn.self l.self l.place;
+  names : AreNamesOf (seen_scope l.fn.scope) l.fn.unit l.self.names;
 }

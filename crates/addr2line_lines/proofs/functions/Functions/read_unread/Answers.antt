@@ -6,6 +6,7 @@ use Rattle.addr2line_lines.specs.Details.{detail_at}
 use Rattle.gimli_read.specs.Reading.{fault_of}
 use Rattle.addr2line_lines.specs.FunctionTable.{FunctionTable}
 use Rattle.addr2line_lines.specs.FunctionDetails.{IsReadAt, read_fault, cached_takes_memory}
+use Rattle.addr2line_lines.specs.CachedNames.{AreNamesOf}
 use Rattle.addr2line_lines.specs.CachedDetails.{seen_details}
 use Rattle.addr2line_lines.specs.SeenScope.{seen_scope}
 use Rattle.addr2line_lines.proofs.FunctionCacheLemmas.{fault_cached, read_cached, reads, table_fault, table_of, table_read, unread_at}
@@ -63,6 +64,7 @@ returns-in-Ok g c =
       gives = subst (λ (t : FunctionTable). IsReadAt scope u n t (Ok tt) new) c.self.view_is
           (reads scope u n c.args.offset.0 (table_of fs addresses cached) new (Ok tt) unread (ap fault_of c.in-Ok.ensures.gives, with_detail));
       exact = ap (read_fault scope u) c.requires.unread ∙ ap fault_of c.in-Ok.ensures.gives;
+      names = c.in-Ok.ensures.known.right;
     }
 
 pub returns-in_default : goal.returns-in_default
@@ -86,6 +88,7 @@ returns-in_default g c =
           (reads scope u n c.args.offset.0 (table_of fs addresses cached) (table_of (slice_set fs n y) addresses more) (Err e) unread
           (λ ne. (ap fault_of faulty, with_fault), λ oom. absurd (c.in_default.not-OutOfMemory oom)));
       exact = λ t. ap (read_fault scope u) c.requires.unread ∙ ap fault_of faulty;
+      names = c.in-Err.ensures.known.right;
     }
 
 pub returns-in-OutOfMemory-clause-exact : goal.returns-in-OutOfMemory-clause-exact
@@ -119,3 +122,9 @@ index_mut-requires g c =
     let l = slice_get_within fs n at.0 at.1 in
     let m = c.self.inside.functions.ok.0 in
     omega arith
+
+pub returns-in-OutOfMemory-clause-names : goal.returns-in-OutOfMemory-clause-names
+returns-in-OutOfMemory-clause-names g c = c.in-Err.ensures.known.right
+
+pub read-requires-clause-known : goal.read-requires-clause-known
+read-requires-clause-known g c = subst (λ (t : FunctionTable). AreNamesOf (seen_scope c.args.scope) c.args.unit.now t.names) (sym c.self.view_is) c.requires.names

@@ -5,6 +5,7 @@ use Rattle.addr2line_lines.specs.InlinedEntries.{InlinedAttributes, with_call}
 use Rattle.addr2line_lines.specs.FoundAttributes.{is_call, seen_attributes}
 use Rattle.addr2line_lines.specs.FoundRanges.{is_range_name}
 use Rattle.addr2line_lines.specs.SeenScope.{seen_scope}
+use Rattle.addr2line_lines.proofs.CachedNameLemmas.{names_same}
 use Rattle.addr2line_lines.proofs.DetailLemmas.{call_taken, ranges_taken, name_taken}
 use Rattle.std.proofs.lemmas.Result.{err_from_is_err_and}
 use Rattle.gimli_read.specs.declared.error.Error.{Error}
@@ -30,6 +31,7 @@ returns-then-is_call g c =
     record {
       gives = call_taken (seen_scope c.args.scope) u x c.args.attribute (ap is_call (sym c.name-name.ensures.gives) ∙ sym c.if-is_call.ensures.gives)
           ∙ ap (λ (v : ℕ). Ok (made (with_call v x.call c.args.attribute))) (sym version) ∙ ap (λ call. Ok (made call)) (sym c.take-self.ensures.gives);
+      names = names_same (seen_scope c.args.scope) c.args.unit.now _ c.requires.names;
     }
 
 pub returns-in_err-self : goal.returns-in_err-self
@@ -41,7 +43,7 @@ returns-in_err-self g c =
     let taken = ranges_taken (seen_scope c.args.scope) u x c.args.attribute other is in
     let p = err_from_is_err_and c.from_residual.result c.from_residual.ensures.1 in
     let fault = rw (c.new-unit.ensures.dwarf, c.new-unit.ensures.unit) at c.in_err-self.ensures.gives in
-    record { gives = rw (p.1, p.2) (λ _. taken ∙ ap (with_ranges x) fault) }
+    record { gives = rw (p.1, p.2) (λ _. taken ∙ ap (with_ranges x) fault); names = names_same (seen_scope c.args.scope) c.args.unit.now _ c.requires.names }
 
 pub returns-in_ok-self : goal.returns-in_ok-self
 returns-in_ok-self g c =
@@ -51,7 +53,7 @@ returns-in_ok-self g c =
     let is : is_range_name c.args.attribute.name ≡ true = ap is_range_name (sym c.name-name.ensures.gives) ∙ sym c.if-is_range_name.ensures.gives in
     let taken = ranges_taken (seen_scope c.args.scope) u x c.args.attribute other is in
     let read = rw (c.new-unit.ensures.dwarf, c.new-unit.ensures.unit) at c.in_ok-self.ensures.gives in
-    record { gives = taken ∙ ap (with_ranges x) read }
+    record { gives = taken ∙ ap (with_ranges x) read; names = names_same (seen_scope c.args.scope) c.args.unit.now _ c.requires.names }
 
 pub returns-in_err-self-2 : goal.returns-in_err-self-2
 returns-in_err-self-2 g c =
@@ -62,7 +64,7 @@ returns-in_err-self-2 g c =
     let taken = name_taken (seen_scope c.args.scope) u x c.args.attribute other is in
     let p = err_from_is_err_and c.from_residual-in_err-self-2.result c.from_residual-in_err-self-2.ensures.1 in
     let fault = rw c.take-before.ensures.value at c.in_err-self-2.ensures.gives in
-    record { gives = rw (p.1, p.2) (λ ne. taken ∙ ap (with_name_read x) (fault ne)) }
+    record { gives = rw (p.1, p.2) (λ ne. taken ∙ ap (with_name_read x) (fault ne)); names = c.in_err-self-2.ensures.names }
 
 pub returns-in_ok-self-2 : goal.returns-in_ok-self-2
 returns-in_ok-self-2 g c =
@@ -72,4 +74,4 @@ returns-in_ok-self-2 g c =
     let is : is_range_name c.args.attribute.name ≡ false = ap is_range_name (sym c.name-name.ensures.gives) ∙ sym c.if-is_range_name.ensures.gives in
     let taken = name_taken (seen_scope c.args.scope) u x c.args.attribute other is in
     let read = rw c.take-before.ensures.value at c.in_ok-self-2.ensures.gives in
-    record { gives = taken ∙ ap (with_name_read x) read }
+    record { gives = taken ∙ ap (with_name_read x) read; names = c.in_ok-self-2.ensures.names }

@@ -1,0 +1,44 @@
+-- Names that are cached, as more are (on specs/CachedNames.antt).
+use Rattle.std.proofs.Common.{◌≡◌, ◌⊎◌, ℕ, List, [], ◌∷◌, ◌++◌, length, map, take, Option, option_map, Some, Ok, refl, ap, sym, subst, ◌∙◌, inl, inr, slice_get}
+use Rattle.std.specs.List.{AllByRecursion}
+use Rattle.std.proofs.lemmas.Option.{slice_get-map}
+use Rattle.std.proofs.Math.Seq.{take-append_seam}
+use Rattle.gimli_read.specs.declared.value.AttributeValue.TheVariants as values
+use Rattle.gimli_read.specs.declared.value.UnitOffset.{UnitOffset}
+use Rattle.gimli.specs.Unit.{UnitRecord}
+use Rattle.gimli_read.specs.Section.{Section}
+use Rattle.addr2line_lines.specs.CachedNames.{AreNamesMore, AreNamesOf, CachedName, IsKnownAs, IsNameOf, IsOneMoreAtMost, seen_name}
+use Rattle.addr2line_lines.specs.Grown.{IsGrown}
+use Rattle.addr2line_lines.specs.declared.names.CachedName as declared_name
+use Rattle.addr2line_lines.specs.Names.{referred_name}
+use Rattle.addr2line_lines.specs.References.{Scope}
+use Rattle.addr2line_lines.proofs.NestingLemmas.{grown_by, grown_not, grown_on}
+use Rattle.addr2line_lines.proofs.PlaceLemmas.{all_at}
+
+-- nothing more is cached
+pub names_same : (scope : Scope) (u : UnitRecord) (names : List CachedName) → AreNamesOf scope u names → AreNamesMore scope u names names
+names_same scope u names right = record { right = right; grown = grown_not names }
+
+-- more is cached twice
+pub names_on : (scope : Scope) (u : UnitRecord) (a b c : List CachedName) → AreNamesMore scope u a b → AreNamesMore scope u b c → AreNamesMore scope u a c
+names_on scope u a b c h k = record { right = k.right; grown = grown_on a b c h.grown k.grown }
+
+all_one_more : {X : Type 0} (P : X → Type 0) (xs : List X) (x : X) → AllByRecursion P xs → P x → AllByRecursion P (xs ++ x ∷ [])
+all_one_more P [] x all p = (p, tt)
+all_one_more P (y ∷ xs) x all p = (all.0, all_one_more P xs x all.1 p)
+
+-- one more name is cached, or none
+pub names_one_more : (scope : Scope) (u : UnitRecord) (n : CachedName) (old new : List CachedName) → AreNamesOf scope u old → IsNameOf scope u n → IsOneMoreAtMost n old new → AreNamesMore scope u old new
+names_one_more scope u n old new right is (inl e) = subst (AreNamesMore scope u old) (sym e) (names_same scope u old right)
+names_one_more scope u n old new right is (inr e) =
+    subst (AreNamesMore scope u old) (sym e) (record { right = all_one_more (IsNameOf scope u) old n right is; grown = grown_by old (old ++ n ∷ []) (n ∷ []) refl })
+
+-- the first names are those that were cached before
+pub first_names : (n : ℕ) (old new : List CachedName) → IsGrown old new → n ≡ length old → take n new ≡ old
+first_names n old new h e = ap (λ m. take m new) e ∙ ap (λ v. take (length old) v) h.is ∙ take-append_seam old h.more
+
+-- what stands at a place is known, where its offset is
+pub known_at : {R : Type 0} (see : R → Section) (xs : List (declared_name.CachedName R)) (n : ℕ) (x : declared_name.CachedName R) (offset : UnitOffset) → slice_get xs n ≡ Some x → x.offset ≡ offset → IsKnownAs offset (option_map see x.name) (map (seen_name see) xs)
+known_at see xs n x offset at e = λ scope u all.
+    subst (λ o. referred_name scope u (values.UnitRef o) ≡ Ok (option_map see x.name)) e
+    (all_at (IsNameOf scope u) (map (seen_name see) xs) n (seen_name see x) all (slice_get-map (seen_name see) xs n ∙ ap (option_map (seen_name see)) at))

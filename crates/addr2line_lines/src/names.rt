@@ -1,0 +1,146 @@
+//! The cached names of entries that are referred to.
+
+ghost use Rattle.std.specs.Prelude.{◌≡◌, IfSome, Ok, [], length, option_map, take};
+ghost use Rattle.gimli_read.specs.Reading.{ExactlyUnlessOomIf};
+ghost use Rattle.addr2line_lines.specs.CachedNames.{IsKnownAs, IsOneMoreAtMost, seen_names};
+
+use gimli::read::{Error, Reader, UnitOffset};
+use std::alloc::Global;
+
+// The fewest slots.
+const FEWEST_SLOTS: usize = 64;
+
+// How many slots are looked at for one entry.
+const MOST_STEPS: usize = 8;
+
+// A slot of no name: no place is so great.
+const NO_PLACE: usize = usize::MAX;
+
+// The name that an entry gives.
+#[derive(Drop)]
+struct CachedName<R: Reader> {
+    // Where it begins, in bytes from the start of the unit's length.
+    offset: UnitOffset,
+    name: Option<R>,
+}
+
+/// The names that entries of a unit give where they are referred to, in the order in which they
+/// were found.
+#[derive(Drop)]
+pub(crate) struct NameCache<R: Reader> {
+    names: Vec<CachedName<R>>,
+    // Where the name of an entry may stand among them, by its offset. A slot may say anything: the
+    // offset that stands there decides.
+    slots: Vec<usize>,
+}
+
+// The name again. Refused `OutOfMemory` alone, where readers share their bytes.
+pub(crate) fn duplicate_name<R: Reader>(name: &Option<R>) -> Result<Option<R>, Error>
+    ensures gives { ExactlyUnlessOomIf R.shares (option_map R.section) result
+        (Ok (option_map R.section name.now)) }
+{
+    match name {
+        Some(name) => Ok(Some(name.duplicate()?)),
+        None => Ok(None),
+    }
+}
+
+// The slot that is looked at first is this one, but for its bits past those of the last slot.
+fn first_slot(offset: UnitOffset) -> usize {
+    (offset.0.wrapping_mul(0x9e37_79b9_7f4a_7c15) >> 32) as usize
+}
+
+// Sets a slot for a name: the first that is free, or the last that is looked at.
+fn set_slot(slots: &mut Vec<usize>, offset: UnitOffset, place: usize) {
+    let last = slots.len().wrapping_sub(1);
+    let first = first_slot(offset);
+    for step in 0..MOST_STEPS {
+        let Some(slot) = slots.get_mut(first.wrapping_add(step) & last) else {
+            return;
+        };
+        if *slot >= place || step + 1 == MOST_STEPS {
+            *slot = place;
+            return;
+        }
+    }
+}
+
+// Makes room for more slots, if there are fewer than two for each name, and sets them anew.
+fn make_slots<R: Reader>(names: &[CachedName<R>], slots: &mut Vec<usize>) {
+    if slots.len() / 2 > names.len() {
+        return;
+    }
+    let more = slots.len().saturating_mul(2).max(FEWEST_SLOTS);
+    slots.clear();
+    if slots.resize(more, NO_PLACE).is_err() {
+        return;
+    }
+    for (place, name) in names.iter().enumerate() {
+        set_slot(slots, name.offset, place);
+    }
+}
+
+impl<R: Reader> NameCache<R> {
+    /// That of no name. Takes no memory.
+    pub(crate) fn new(alloc: Global) -> NameCache<R>
+        ensures gives { seen_names R.section result ≡ [] }
+    {
+        NameCache {
+            names: Vec::new(alloc),
+            slots: Vec::new(alloc),
+        }
+    }
+
+    /// The number of names. Takes no memory.
+    pub(crate) fn len(&self) -> usize
+        ensures gives { result ≡ length (seen_names R.section self.now) }
+    {
+        self.names.len()
+    }
+
+    /// Keeps the first names. Takes no memory.
+    pub(crate) fn truncate(&mut self, names: usize)
+        ensures gives { seen_names R.section self.new
+            ≡ take names (seen_names R.section self.old) }
+    {
+        self.names.truncate(names);
+    }
+
+    /// The name of an entry, if it is found in the cache. Takes no memory.
+    pub(crate) fn find(&self, offset: UnitOffset) -> Option<&Option<R>>
+        ensures found { IfSome result (λ name. IsKnownAs offset (option_map R.section name.now)
+            (seen_names R.section self.now)) }
+    {
+        let last = self.slots.len().wrapping_sub(1);
+        let first = first_slot(offset);
+        for step in 0..MOST_STEPS {
+            let place = self.slots.get(first.wrapping_add(step) & last)?;
+            let cached = self.names.get(*place)?;
+            if cached.offset == offset {
+                return Some(&cached.name);
+            }
+        }
+        None
+    }
+
+    /// Adds the name of an entry. Where memory is refused it isn't added.
+    pub(crate) fn add(&mut self, offset: UnitOffset, name: &Option<R>)
+        ensures more { IsOneMoreAtMost (record {
+          offset = offset;
+          name = option_map R.section name.now;
+        }) (seen_names R.section self.old)
+            (seen_names R.section self.new) }
+    {
+        let place = self.names.len();
+        match duplicate_name(name) {
+            Ok(name) => match self.names.push(CachedName { offset, name }) {
+                Ok(()) => {
+                    make_slots(&self.names, &mut self.slots);
+                    set_slot(&mut self.slots, offset, place);
+                }
+                Err(_) => {}
+            },
+            Err(_) => {}
+        }
+    }
+}

@@ -152,9 +152,12 @@ module _ (faults : Faults) (probe : ℕ) (all : List UnitRange) (r : UnitRange) 
 
     -- where the walk takes no memory, the refusal is the fault of a unit that it asks
     pub fault_alone : (shares : Bool) → (asks_no_memory_at shares probe now r.unit ≡ true → IsFaultAt probe mid r.unit e) → holds_along (asks_no_memory_at shares probe now) frames all ≡ true → IsFaultAlong faults probe old all e
-    fault_alone shares alone none =
-        (r.unit, asked_first frames r rest ranges all is w.asks, at_old mid old w.asked.scope w.asked.units w.asked.answers (λ s us xs. frames_of_number s us xs probe r.unit ≡ Err e)
-        (alone (holds_first frames r rest (asks_no_memory_at shares probe now) (subst (λ xs. holds_along (asks_no_memory_at shares probe now) frames xs ≡ true) is (w.less (asks_no_memory_at shares probe now) none)))))
+    fault_alone shares alone none = (
+      r.unit,
+      asked_first frames r rest ranges all is w.asks,
+      at_old mid old w.asked.scope w.asked.units w.asked.answers (λ s us xs. frames_of_number s us xs probe r.unit ≡ Err e)
+          (alone (holds_first frames r rest (asks_no_memory_at shares probe now) (subst (λ xs. holds_along (asks_no_memory_at shares probe now) frames xs ≡ true) is (w.less (asks_no_memory_at shares probe now) none)))),
+    )
 
     pub fault_after : AfterWalk {X = X} faults probe all (Err e) old now
     fault_after = record {

@@ -1,7 +1,7 @@
 -- The details of functions as they are cached, as the private functions see them.
 -- Own: three lists, of names, of inlined entries and of ranges; those of each function stand one
--- after another, its ranges by depth, then by begin, then by end, then by place of the entry. Beside
--- them the names of entries that are referred to.
+-- after another, its ranges by depth, then by begin, then by end, then by place of the entry.
+-- Own: beside them the names of entries that are referred to, as they were found.
 use Rattle.std.specs.Prelude.{◌≡◌, ℕ, ◌+◌, ◌-◌, ◌<◌, ◌≤◌, List, drop, length, map, slice_index_or, take, Option, None, option_map}
 use Rattle.std.specs.List.{All}
 use Rattle.std.specs.List.Sorted.{IsNonDecreasingBy}

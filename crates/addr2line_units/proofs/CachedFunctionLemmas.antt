@@ -10,6 +10,7 @@ use Rattle.gimli_read.specs.Reading.{◌>>=◌, ExactlyUnlessOomIf, fault_of}
 use Rattle.gimli_read.specs.Section.{Section}
 use Rattle.gimli.specs.Sections.{Sections}
 use Rattle.gimli.specs.Unit.{UnitRecord}
+use Rattle.addr2line_lines.specs.CachedNames.{AreNamesOf}
 use Rattle.addr2line_lines.specs.Details.{Detail, detail_at}
 use Rattle.addr2line_lines.specs.InlinedEntries.{InlinedEntry}
 use Rattle.addr2line_lines.specs.InlinedChain.{inlined_chain}
@@ -36,12 +37,13 @@ memory_or_not OutOfMemory = inl refl
 memory_or_not _ = inr (λ h. absurd cc)
 
 -- functions that were just read are those of the view
-pub read_table : (scope : Scope) (view : UnitRecord) (d : Sections) (u : UnitRecord) (t : FunctionTable) → d ≡ scope.file.sections → u ≡ view → functions_of d u ≡ Ok t.ranges → AreListed t → AreUnread t → IsTableOf scope view t
-read_table scope view d u t at_d at_u h listed unread =
+pub read_table : (scope : Scope) (view : UnitRecord) (d : Sections) (u : UnitRecord) (t : FunctionTable) → d ≡ scope.file.sections → u ≡ view → functions_of d u ≡ Ok t.ranges → AreListed t → AreUnread t → t.names ≡ [] → IsTableOf scope view t
+read_table scope view d u t at_d at_u h listed unread none =
     record {
       ranges = subst (λ (s : Sections). functions_of s view ≡ Ok t.ranges) at_d (subst (λ (v : UnitRecord). functions_of d v ≡ Ok t.ranges) at_u h);
       listed = listed;
       details = unread_right scope view t unread;
+      names = subst (AreNamesOf scope view) (sym none) tt;
     }
 
 -- their fault
@@ -281,10 +283,10 @@ reads_one scope view probe n old new r place k = λ i ne. by_read i (λ e. ne (p
         by_function (Some f) h = by_detail f f.detail h
 
 -- the functions stay those of the view
-pub table_stays : (scope : Scope) (view : UnitRecord) (n : ℕ) (old new : FunctionTable) (r : Result (Unit {0}) Error) → IsTableOf scope view old → IsReadAt scope view n old r new → IsTableOf scope view new
-table_stays scope view n old new r h k =
+pub table_stays : (scope : Scope) (view : UnitRecord) (n : ℕ) (old new : FunctionTable) (r : Result (Unit {0}) Error) → IsTableOf scope view old → IsReadAt scope view n old r new → AreNamesOf scope view new.names → IsTableOf scope view new
+table_stays scope view n old new r h k names =
     let more = read_more scope view n old new r k in
-    record { ranges = h.ranges ∙ ap Ok (sym more.ranges); listed = more_listed old new h.listed more; details = read_right scope view n old new r h.details k }
+    record { ranges = h.ranges ∙ ap Ok (sym more.ranges); listed = more_listed old new h.listed more; details = read_right scope view n old new r h.details k; names = names }
 
 -- the first fault among details, by the functions and by their entries
 pub details_by_entries : (scope : Scope) (view : UnitRecord) (fs : List CachedFunction) → details_fault scope view fs ≡ details_at scope view (map (λ (f : CachedFunction). f.offset) fs)
@@ -325,8 +327,8 @@ all_ready t all probe = by_place (function_place_at probe t) refl
         cached_ready probe n t (Ok d.0) e (ap (λ (o : Option CachedFunction). option_and_then (λ (g : CachedFunction). g.detail) o) at.1 ∙ d.1)
 
 -- functions stay those of the view where more right details are cached
-pub table_more : (scope : Scope) (view : UnitRecord) (old new : FunctionTable) → IsTableOf scope view old → IsTableMore old new → AreDetailsOf scope view new → IsTableOf scope view new
-table_more scope view old new h more details = record { ranges = h.ranges ∙ ap Ok (sym more.ranges); listed = more_listed old new h.listed more; details = details }
+pub table_more : (scope : Scope) (view : UnitRecord) (old new : FunctionTable) → IsTableOf scope view old → IsTableMore old new → AreDetailsOf scope view new → AreNamesOf scope view new.names → IsTableOf scope view new
+table_more scope view old new h more details names = record { ranges = h.ranges ∙ ap Ok (sym more.ranges); listed = more_listed old new h.listed more; details = details; names = names }
 
 -- what follows of an answer
 pub on_ok : {X E : Type 0} {P Q : Type 0} (r : Result X E) → (P → Q) → OnOk r P → OnOk r Q

@@ -40,6 +40,7 @@ table_over t u v a b = record {
   ranges = b.ranges ∙ a.ranges;
   functions = functions_over t.functions u.functions v.functions a.functions b.functions;
   inlined = grown_on t.inlined u.inlined v.inlined a.inlined b.inlined;
+  names = grown_on t.names u.names v.names a.names b.names;
 }
 
 -- a detail that is cached is cached where more is
@@ -65,7 +66,7 @@ none_at probe n e = cc
 module _ {R : Type 0} where
   stays_same : (f : LazyFunctions R) → StayFunctions f f
   stays_same lazy.Unread = tt
-  stays_same (lazy.Read t) = record { ranges = refl; functions = functions_same t.functions; inlined = grown_not t.inlined }
+  stays_same (lazy.Read t) = record { ranges = refl; functions = functions_same t.functions; inlined = grown_not t.inlined; names = grown_not t.names }
   stays_same (lazy.Faulty e) = refl
 
   stays_on : (f g h : LazyFunctions R) → StayFunctions f g → StayFunctions g h → StayFunctions f h

@@ -7,6 +7,7 @@ use Rattle.gimli_read.specs.declared.error.Error.{Error}
 use Rattle.gimli_read.specs.declared.error.Error.TheVariants.{OutOfMemory}
 use Rattle.gimli_read.specs.Reading.{◌>>=◌}
 use Rattle.gimli.specs.Unit.{UnitRecord}
+use Rattle.addr2line_lines.specs.CachedNames.{AreNamesOf}
 use Rattle.addr2line_lines.specs.Details.{Detail, detail_at}
 use Rattle.addr2line_lines.specs.InlinedChain.{inlined_chain}
 use Rattle.addr2line_lines.specs.FoundInlined.{entry_among}
@@ -20,12 +21,13 @@ use Rattle.addr2line_units.specs.declared.functions.LazyFunctions.{LazyFunctions
 use Rattle.addr2line_units.specs.declared.functions.LazyFunctions.TheVariants as lazy
 use Rattle.addr2line_units.specs.Frames.{FoundFunction}
 
--- functions are those of a view whose references lead where the scope says, and what is cached of
--- each is its detail, or the fault of that
+-- functions are those of a view whose references lead where the scope says, what is cached of each
+-- is its detail, or the fault of that, and cached names are those that references in the view give
 pub record IsTableOf (scope : Scope) (view : UnitRecord) (t : FunctionTable) : Type 0 where
   pub ranges : functions_of scope.file.sections view ≡ Ok t.ranges
   pub listed : AreListed t
   pub details : AreDetailsOf scope view t
+  pub names : AreNamesOf scope view t.names
 
 -- what is cached is the functions of a view with their details, or their fault
 abbrev pub AreFunctionsOf : {R : Type 0} → Scope → UnitRecord → LazyFunctions R → Type 0
@@ -40,7 +42,7 @@ were_read _ = true
 
 -- no functions
 abbrev pub no_functions : FunctionTable
-no_functions = record { ranges = []; functions = []; inlined = [] }
+no_functions = record { ranges = []; functions = []; inlined = []; names = [] }
 
 -- the functions that are cached, none before they are read and where they have a fault
 abbrev pub cached_functions : {R : Type 0} → LazyFunctions R → FunctionTable

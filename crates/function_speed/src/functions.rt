@@ -1,5 +1,6 @@
 //! The functions of all units, their details, and the checksums of these.
 
+ghost use Rattle.addr2line_lines.specs.CachedNames.{AreNamesOf};
 ghost use Rattle.addr2line_lines.specs.References.{AreInOrder, IsScope};
 ghost use Rattle.addr2line_lines.specs.SeenScope.{seen_scope};
 
@@ -145,6 +146,7 @@ fn with_details<R: Reader + Drop>(
     limit: u64,
 ) -> Result<u64, Error>
     requires in_order { IsScope (seen_scope scope) }
+    requires names { AreNamesOf (seen_scope scope) unit.now functions.old.names }
 {
     functions.read_all(scope, unit)?;
     let sum = with_inlined(with_names(sum, functions), functions);

@@ -103,7 +103,7 @@ returns-in_err-read-clause-right g c =
     let n = c.in-Some.place in
     let old = c.args.functions.now in
     let new = c.read.new.self in
-    table_stays scope view n old new c.read.result c.requires.right c.read.ensures.gives
+    table_stays scope view n old new c.read.result c.requires.right c.read.ensures.gives c.read.ensures.names
 
 pub returns-in_err-read-clause-stay : goal.returns-in_err-read-clause-stay
 returns-in_err-read-clause-stay g c =
@@ -131,7 +131,7 @@ returns-in_err-inlined-clause-right g c =
     let n = c.in-Some.place in
     let old = c.args.functions.now in
     let new = c.read.new.self in
-    table_stays scope view n old new c.read.result c.requires.right c.read.ensures.gives
+    table_stays scope view n old new c.read.result c.requires.right c.read.ensures.gives c.read.ensures.names
 
 pub returns-in_err-inlined-clause-stay : goal.returns-in_err-inlined-clause-stay
 returns-in_err-inlined-clause-stay g c =
@@ -159,7 +159,7 @@ returns-clause-right g c =
     let n = c.in-Some.place in
     let old = c.args.functions.now in
     let new = c.read.new.self in
-    table_stays scope view n old new c.read.result c.requires.right c.read.ensures.gives
+    table_stays scope view n old new c.read.result c.requires.right c.read.ensures.gives c.read.ensures.names
 
 pub returns-clause-stay : goal.returns-clause-stay
 returns-clause-stay g c =
@@ -257,3 +257,6 @@ returns-clause-known g c =
     let new = c.read.new.self in
     let at = some_at old.functions n c.in-Some.ensures.there in
     λ _. chain_known scope view probe n old new at.0 at.1 c.requires.right (sym c.in-Some.ensures.place) c.in_ok-read.ensures.gives
+
+pub read-requires-clause-names : goal.read-requires-clause-names
+read-requires-clause-names g c = c.requires.right.names

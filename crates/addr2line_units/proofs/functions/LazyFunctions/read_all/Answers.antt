@@ -33,7 +33,7 @@ returns-in-Read-clause-right g c =
     let scope = seen_scope c.args.scope in
     let view = c.args.view.now in
     let table = subst (λ x. AreFunctionsOf scope view x) c.in-Read.is c.cache.ensures.right in
-    table_more scope view c.in-Read.functions c.read_all.new.self table c.read_all.ensures.kept (c.read_all.ensures.right table.details)
+    table_more scope view c.in-Read.functions c.read_all.new.self table c.read_all.ensures.kept (c.read_all.ensures.right table.details) c.read_all.ensures.names
 
 pub returns-in-Read-clause-stay : goal.returns-in-Read-clause-stay
 returns-in-Read-clause-stay g c =
@@ -110,3 +110,6 @@ returns-in-Read-clause-had_memory g c = λ ready. had_not_oom c.read_all.result 
 
 pub returns-in-Faulty-clause-had_memory : goal.returns-in-Faulty-clause-had_memory
 returns-in-Faulty-clause-had_memory g c = λ ready. known_not_oom reads.Details c.in-Faulty.error ready
+
+pub read_all-requires-clause-names : goal.read_all-requires-clause-names
+read_all-requires-clause-names g c = (subst (λ x. AreFunctionsOf (seen_scope c.args.scope) c.args.view.now x) c.in-Read.is c.cache.ensures.right).names

@@ -2,15 +2,15 @@
 -- specs/AfterLookups.antt and specs/Skips.antt).
 use Rattle.std.proofs.Common.{◌≡◌, ℕ, Bool, true, false, List, Option, Some, None, Result, Ok, Err, refl, sym, ap, subst, ◌∙◌}
 use Rattle.std.specs.Prelude.{IfErr, OnOk}
-use Rattle.gimli_read.specs.Alike.{HadMemory}
+use Rattle.gimli_read.specs.Alike.{WasNotRefused}
 use Rattle.gimli_read.specs.declared.error.Error.{Error}
 use Rattle.gimli_read.specs.Reading.{◌>>=◌, ExactlyUnlessOom}
 use Rattle.gimli.specs.Sections.{Sections}
 use Rattle.gimli.specs.Unit.{UnitRecord}
 use Rattle.addr2line_units.specs.declared.continuation.LookupResult.{LookupResult}
 use Rattle.addr2line_units.specs.declared.continuation.LookupResult.TheVariants.{Load, Output}
-use Rattle.addr2line_units.specs.declared.frames_lookup.Faults.{Faults}
-use Rattle.addr2line_units.specs.declared.frames_lookup.Faults.TheVariants.{PassOver}
+use Rattle.addr2line_units.specs.declared.frames_lookup.OnFault.{OnFault}
+use Rattle.addr2line_units.specs.declared.frames_lookup.OnFault.TheVariants.{PassOver}
 use Rattle.addr2line_units.specs.Frames.{FrameRecord}
 use Rattle.addr2line_units.specs.FramesLookup.{Stop, Waits, Finds, FindsNothing, frames_found, is_waiting, unit_found}
 use Rattle.addr2line_units.specs.RangedUnits.{unit_records}
@@ -57,7 +57,7 @@ never_waits walked stop n ended is waits =
     let f : ◌≡◌ {A = Option ℕ} (Some n) None = sym (ap waiting_unit waits) ∙ none in
     cc
 
-module _ (faults : Faults) (probe : ℕ) (old mid : ContextState) (walked : Result (Unit {0}) Error) where
+module _ (faults : OnFault) (probe : ℕ) (old mid : ContextState) (walked : Result (Unit {0}) Error) where
   module _ (a : AfterFrames faults probe walked old mid) (stored : IsStored faults probe walked mid) where
     same_lookup : lookup_stop faults mid.sections mid.answers probe ≡ lookup_stop faults old.sections old.answers probe
     same_lookup = ap (λ d. lookup_stop faults d mid.answers probe) a.sections ∙ ap (λ x. lookup_stop faults old.sections x probe) a.answers
@@ -113,7 +113,7 @@ module _ (faults : Faults) (probe : ℕ) (old mid : ContextState) (walked : Resu
         → IfOutput result (λ o. ExactlyUnlessOom see o (reading mid.sections mid.answers probe)) → IfOutput result (λ o. ExactlyUnlessOom see o (reading old.sections (skipped_answers faults old.sections probe old.answers) probe))
     outputs_skipped {L = L} {X = X} {D = D} {S = S} reading see new result l h = by result l h
       where
-        same : HadMemory walked → reading mid.sections mid.answers probe ≡ reading old.sections (skipped_answers faults old.sections probe old.answers) probe
+        same : WasNotRefused walked → reading mid.sections mid.answers probe ≡ reading old.sections (skipped_answers faults old.sections probe old.answers) probe
         same told = ap (λ d. reading d mid.answers probe) a.sections ∙ ap (λ x. reading old.sections x probe) (a.answers told)
 
         by : (r : LookupResult L (Result X Error) D S) → IfOutput r (λ o. (new ≡ mid) × IsLent walked mid.stop o) → IfOutput r (λ o. ExactlyUnlessOom see o (reading mid.sections mid.answers probe))

@@ -10,8 +10,8 @@ use Rattle.gimli_read.specs.Reading.{◌>>=◌}
 use Rattle.gimli.specs.Sections.{Sections}
 use Rattle.gimli.specs.Unit.{UnitRecord}
 use Rattle.addr2line_lines.specs.References.{Scope}
-use Rattle.addr2line_units.specs.declared.frames_lookup.Faults.{Faults}
-use Rattle.addr2line_units.specs.declared.frames_lookup.Faults.TheVariants.{End, PassOver}
+use Rattle.addr2line_units.specs.declared.frames_lookup.OnFault.{OnFault}
+use Rattle.addr2line_units.specs.declared.frames_lookup.OnFault.TheVariants.{End, PassOver}
 use Rattle.addr2line_units.specs.declared.index.UnitRange.{UnitRange}
 use Rattle.addr2line_units.specs.declared.parses.ReadingDepth.{ReadingDepth}
 use Rattle.addr2line_units.specs.Cover.{cover}
@@ -108,7 +108,7 @@ module _ (d : Sections) (m : UnitIndex) (probe : ℕ) (e : index_units d ≡ Ok 
       by k lead there (inr q) = further k q.1 (w.0 k lead (sym (ap is_some (load_others d us answers n x k q.1)) ∙ there))
 
   -- after answers to a lookup of some address, where no unit waits
-  all_given : (faults : Faults) (asked : ℕ) (answers : FirstAnswers) (given : List Given) → WaitFor [] answers → WaitFor [] (answers_given faults d asked answers given)
+  all_given : (faults : OnFault) (asked : ℕ) (answers : FirstAnswers) (given : List Given) → WaitFor [] answers → WaitFor [] (answers_given faults d asked answers given)
   all_given faults asked answers [] w = w
   all_given faults asked answers (Abandoned ∷ given) w = w
   all_given faults asked answers (Answered x ∷ given) w = by (λ n. all_given faults asked (answered d answers n x) given (one_answered [] [] answers n x (λ k ne h. h) w)) (lookup_stop faults d answers asked)
@@ -169,7 +169,7 @@ module _ (d : Sections) (m : UnitIndex) (probe : ℕ) (e : index_units d ≡ Ok 
       further k ne (inr h) = h
 
   -- so no lookup of the probe waits
-  waits_not : (faults : Faults) (answers : FirstAnswers) → WaitFor [] answers → is_waiting (lookup_stop faults d answers probe) ≡ false
+  waits_not : (faults : OnFault) (answers : FirstAnswers) → WaitFor [] answers → is_waiting (lookup_stop faults d answers probe) ≡ false
   waits_not faults answers w = by (lookup_stop faults d answers probe) refl
     where
       by : (s : Result Stop Error) → lookup_stop faults d answers probe ≡ s → is_waiting s ≡ false
@@ -218,7 +218,7 @@ module _ (d : Sections) (m : UnitIndex) (e : index_units d ≡ Ok m) (n : ℕ) (
           ap (λ a. answer_of (set answers k a) n) same ∙ stays_set (Some first) answers k n is
       by (Some u) (inr q) = ap (λ o. unwrap_or o None) (others_stay answers k n (decided_answer d u (answer_of answers k) x) q.1) ∙ is
 
-  stays_given : (faults : Faults) (asked : ℕ) (answers : FirstAnswers) (given : List Given) → answer_of answers n ≡ Some first → answer_of (answers_given faults d asked answers given) n ≡ Some first
+  stays_given : (faults : OnFault) (asked : ℕ) (answers : FirstAnswers) (given : List Given) → answer_of answers n ≡ Some first → answer_of (answers_given faults d asked answers given) n ≡ Some first
   stays_given faults asked answers [] is = is
   stays_given faults asked answers (Abandoned ∷ given) is = is
   stays_given faults asked answers (Answered x ∷ given) is = by (λ k. stays_given faults asked (answered d answers k x) given (stays_one answers k x is)) (lookup_stop faults d answers asked)

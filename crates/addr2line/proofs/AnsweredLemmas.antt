@@ -7,7 +7,7 @@ use Rattle.gimli_read.specs.declared.error.Error.{Error}
 use Rattle.gimli_read.specs.Reading.{◌>>=◌}
 use Rattle.gimli.specs.Sections.{Sections}
 use Rattle.addr2line_lines.specs.References.{Scope}
-use Rattle.addr2line_units.specs.declared.frames_lookup.Faults.{Faults}
+use Rattle.addr2line_units.specs.declared.frames_lookup.OnFault.{OnFault}
 use Rattle.addr2line_units.specs.declared.index.UnitRange.{UnitRange}
 use Rattle.addr2line_units.specs.AfterUnits as left
 use Rattle.addr2line_units.specs.Cover.{cover}
@@ -73,7 +73,7 @@ module _ (ranges : List UnitRange) (u : UnitsState) (i : IsContext ranges u) whe
         of_ok (Err e) h = tt
 
     -- fewer loads are left after an answer to one that a lookup waits for
-    pub fewer_after : (faults : Faults) (probe : ℕ) → waits_for n (lookup_stop faults d u.answers probe) ≡ true → OnOk r (length (loads_at now.scope.file.sections now.answers probe) < length (loads_at d u.answers probe))
+    pub fewer_after : (faults : OnFault) (probe : ℕ) → waits_for n (lookup_stop faults d u.answers probe) ≡ true → OnOk r (length (loads_at now.scope.file.sections now.answers probe) < length (loads_at d u.answers probe))
     fewer_after faults probe w = of_ok r a.answers
       where
         listed : IsListed n (laws.loads_of d u.scope.file.units u.answers (cover probe ranges))

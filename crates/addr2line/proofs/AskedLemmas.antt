@@ -8,7 +8,7 @@ use Rattle.gimli_read.specs.Reading.{◌>>=◌}
 use Rattle.gimli.specs.Sections.{Sections}
 use Rattle.gimli.specs.Unit.{UnitRecord}
 use Rattle.addr2line_lines.specs.References.{Scope}
-use Rattle.addr2line_units.specs.declared.frames_lookup.Faults.TheVariants.{End}
+use Rattle.addr2line_units.specs.declared.frames_lookup.OnFault.TheVariants.{End}
 use Rattle.addr2line_units.specs.declared.index.UnitRange.{UnitRange}
 use Rattle.addr2line_units.specs.Cover.{cover}
 use Rattle.addr2line_units.specs.FramesLookup.{LookupAsks, Stop, Waits, answer_of, asked_frames, asks_lines_of, ends_lookup, main_scope, or_stop, stop_along, with_answer}

@@ -9,10 +9,10 @@ use Rattle.gimli.specs.Sections.{Sections}
 use Rattle.elf.specs.declared.error.LoaderError.{LoaderError}
 use Rattle.elf.specs.declared.error.LoaderError.TheVariants.{OutOfMemory}
 use Rattle.elf.specs.Text.{loader_error_of}
-use Rattle.addr2line_units.specs.declared.frames_lookup.Faults.TheVariants.{End}
+use Rattle.addr2line_units.specs.declared.frames_lookup.OnFault.TheVariants.{End}
 use Rattle.addr2line_units.specs.Frames.{FrameRecord}
 use Rattle.addr2line_units.specs.FramesLookup.{Waits, answer_of, is_waiting}
-use Rattle.gimli_read.specs.Alike.{HadMemory}
+use Rattle.gimli_read.specs.Alike.{WasNotRefused}
 use Rattle.addr2line_units.specs.Parsed.{has_parsed}
 use Rattle.addr2line_units.specs.Views.{FirstAnswers, SplitLoad}
 use Rattle.addr2line.specs.Answers.{AfterAnswer, answered}
@@ -190,7 +190,7 @@ module _ (files : Option ReadFiles) (probe : ℕ) (first : ContextState) where
 pub looked_memory : {X : Type 0} (probe : ℕ) (e : Error) (r : Result X Error) (old new : ContextState) → r ≡ Err e → AfterFrames End probe r old new → WaitsForNone new probe → IsKnownFew End new probe → loader_error_of e ≢ OutOfMemory
 looked_memory {X = X} probe e r old new is a w few =
     let ended = sym (ap (λ d. is_waiting (lookup_stop End d new.answers probe)) a.sections ∙ ap (λ x. is_waiting (lookup_stop End old.sections x probe)) a.answers) ∙ w in
-    not_told e (subst (λ (x : Result X Error). HadMemory x) is (a.memory few ended))
+    not_told e (subst (λ (x : Result X Error). WasNotRefused x) is (a.memory few ended))
 
 -- a fault that ends a lookup is one by the files
 pub stop_fault : (files : Option ReadFiles) (c : ContextState) (probe : ℕ) (e : Error) → (loader_error_of e ≢ OutOfMemory → lookup_stop End c.sections c.answers probe ≡ Err e) → IsFaultByFiles files c probe (loader_error_of e)

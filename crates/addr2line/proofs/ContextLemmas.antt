@@ -2,7 +2,7 @@
 use Rattle.std.proofs.Common.{◌≡◌, ℕ, zero, suc, ◌≤◌, ◌&&◌, ◌||◌, inl, inr, Bool, true, false, List, [], ◌∷◌, length, map, slice_get, Option, Some, None, option_map, Result, Ok, Err, refl, sym, ap, subst, ◌∙◌, arith, ◌+◌}
 use Rattle.std.specs.Prelude.{IfErr, OnOk, is_ok}
 use Rattle.gimli_read.specs.declared.error.Error.{Error}
-use Rattle.gimli_read.specs.Alike.{HadMemory}
+use Rattle.gimli_read.specs.Alike.{WasNotRefused}
 use Rattle.gimli_read.specs.Reading.{◌>>=◌, Exactly, ExactlyUnlessOom, fault_of, result_map}
 use Rattle.gimli.specs.Sections.{Sections}
 use Rattle.gimli.specs.Unit.{UnitRecord}
@@ -24,7 +24,7 @@ use Rattle.addr2line_units.proofs.UnitsLemmas.{ready_both, ready_first}
 use Rattle.addr2line.specs.Context.{AfterLookup, AfterRangeLookup, ContextState, IsContext, IsReady, IsUncovered, IsReadyForRange, LocatesNoMemory, Stays, lines_of_all, new_context, seen_context}
 
 -- an answer that isn't OutOfMemory is exactly what is given
-pub exactly_told : {X Y : Type 0} (see : X → Y) (r : Result X Error) (given : Result Y Error) → ExactlyUnlessOom see r given → HadMemory r → Exactly see r given
+pub exactly_told : {X Y : Type 0} (see : X → Y) (r : Result X Error) (given : Result Y Error) → ExactlyUnlessOom see r given → WasNotRefused r → Exactly see r given
 exactly_told see (Ok x) given g h = g
 exactly_told see (Err e) given g h = g h
 
@@ -153,7 +153,7 @@ module _ (ranges : List UnitRange) (u : UnitsState) (i : IsContext ranges u) whe
     abbrev ready_by : List Bool → Scope → List IndexedUnit → List UnitRange → Type 0
     ready_by p s xs rs = ready_along s.file.sections xs p probe (cover probe rs) ≡ true
 
-    pub ready_told : IsReady (seen_context u) probe → HadMemory r
+    pub ready_told : IsReady (seen_context u) probe → WasNotRefused r
     ready_told ready = a.memory (more (cover probe ranges) (at_made (ready_by u.parsed) ready))
       where
         more : (rs : List UnitRange) → ready_along d u.units u.parsed probe rs ≡ true → ready_along d u.units now.parsed probe rs ≡ true
@@ -166,7 +166,7 @@ module _ (ranges : List UnitRange) (u : UnitsState) (i : IsContext ranges u) whe
             step true false e f g k l h = k refl
             step false q e f g k l h = cc
 
-    pub after_lookup : {X : Type 0} (result : Result (Option X) Error) → (HadMemory result → HadMemory r) → (HadMemory r → HadMemory result) → (is_found result ≡ true → is_found r ≡ true) → AfterLookup probe result (seen_context u) (seen_context now)
+    pub after_lookup : {X : Type 0} (result : Result (Option X) Error) → (WasNotRefused result → WasNotRefused r) → (WasNotRefused r → WasNotRefused result) → (is_found result ≡ true → is_found r ≡ true) → AfterLookup probe result (seen_context u) (seen_context now)
     after_lookup result f h k = record {
       stays = lines_stay asked now a.lines;
       ready = λ told. of_lines asked now a.lines (ready_by now.parsed) (a.ready (f told));
@@ -196,7 +196,7 @@ module _ (ranges : List UnitRange) (u : UnitsState) (i : IsContext ranges u) whe
       → cover probe ranges ≡ [] → r ≡ Ok None
   none_covered see probe r now a gives none = of_result r (exactly_told (option_map see) r (along d u.units probe (cover probe ranges)) gives told)
     where
-      told : HadMemory r
+      told : WasNotRefused r
       told = a.memory (subst (λ rs. ready_along d u.units now.parsed probe rs ≡ true) (sym none) refl)
 
       of_result : (q : Result (Option _) Error) → Exactly (option_map see) q (along d u.units probe (cover probe ranges)) → q ≡ Ok None
@@ -205,8 +205,8 @@ module _ (ranges : List UnitRange) (u : UnitsState) (i : IsContext ranges u) whe
       of_result (Err e) h = absurd (let f : ◌≡◌ {A = LocationResult} (Ok None) (Err e) = sym (ap (along d u.units probe) none) ∙ h in cc)
 
   -- after a lookup of a range
-  pub after_range_lookup : {X Y : Type 0} (low high : ℕ) (r : Result Y Error) (now : UnitsState) → left.AfterCaching (cover_range low high ranges) r u now → (result : Result X Error) → (HadMemory result → OnOk r (AreParsed now.parsed (cover_range low high ranges)) → AreParsed now.parsed (cover_range low high ranges))
-      → (HadMemory r → HadMemory result) → AfterRangeLookup low high result (seen_context u) (seen_context now)
+  pub after_range_lookup : {X Y : Type 0} (low high : ℕ) (r : Result Y Error) (now : UnitsState) → left.AfterCaching (cover_range low high ranges) r u now → (result : Result X Error) → (WasNotRefused result → OnOk r (AreParsed now.parsed (cover_range low high ranges)) → AreParsed now.parsed (cover_range low high ranges))
+      → (WasNotRefused r → WasNotRefused result) → AfterRangeLookup low high result (seen_context u) (seen_context now)
   after_range_lookup low high r now a result f h = record {
     stays = lines_stay (LeadTo (cover_range low high ranges)) now a.lines;
     ready = λ told. of_lines (LeadTo (cover_range low high ranges)) now a.lines (λ s xs rs. AreParsed now.parsed (cover_range low high rs)) (f told a.parsed);

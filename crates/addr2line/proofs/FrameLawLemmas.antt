@@ -10,8 +10,8 @@ use Rattle.addr2line_lines.specs.InlinedEntries.{InlinedEntry}
 use Rattle.addr2line_lines.specs.Location.{Location, location_at}
 use Rattle.addr2line_lines.specs.References.{Scope}
 use Rattle.addr2line_lines.specs.UnitLines.{unit_lines}
-use Rattle.addr2line_units.specs.declared.frames_lookup.Faults.{Faults}
-use Rattle.addr2line_units.specs.declared.frames_lookup.Faults.TheVariants.{End, PassOver}
+use Rattle.addr2line_units.specs.declared.frames_lookup.OnFault.{OnFault}
+use Rattle.addr2line_units.specs.declared.frames_lookup.OnFault.TheVariants.{End, PassOver}
 use Rattle.addr2line_units.specs.declared.index.UnitRange.{UnitRange}
 use Rattle.gimli.specs.Sections.{Sections}
 use Rattle.addr2line_units.specs.Cover.{cover}
@@ -70,7 +70,7 @@ in_number d m answers probe n f fs is = by (slice_get m.units n) is
     by (Some u) e = in_unit (main_scope d m) u (answer_of answers n) probe f fs e
 
 -- that unit told the lookup so
-module _ (faults : Faults) (asked : ℕ → FramesResult) (n : ℕ) (frames : List FrameRecord) where
+module _ (faults : OnFault) (asked : ℕ → FramesResult) (n : ℕ) (frames : List FrameRecord) where
   abbrev Told : Type 0
   Told = (f : FrameRecord) × (fs : List FrameRecord) × (frames ≡ f ∷ fs) × (after_fault faults (asked n) ≡ Ok (Some (f ∷ fs)))
 
@@ -98,7 +98,7 @@ module _ (faults : Faults) (asked : ℕ → FramesResult) (n : ℕ) (frames : Li
   told_along (r ∷ ranges) is = told_by r.unit (stop_along (λ k. after_fault faults (asked k)) ranges) (after_fault faults (asked r.unit)) refl (told_along ranges) is
 
 -- a fault that is passed over leaves no frames
-no_fault : (faults : Faults) (r : FramesResult) (f : FrameRecord) (fs : List FrameRecord) → after_fault faults r ≡ Ok (Some (f ∷ fs)) → r ≡ Ok (Some (f ∷ fs))
+no_fault : (faults : OnFault) (r : FramesResult) (f : FrameRecord) (fs : List FrameRecord) → after_fault faults r ≡ Ok (Some (f ∷ fs)) → r ≡ Ok (Some (f ∷ fs))
 no_fault faults (Ok x) f fs is = is
 no_fault End (Err x) f fs is = is
 no_fault PassOver (Err x) f fs is = absurd cc

@@ -8,7 +8,7 @@ use Rattle.gimli_read.specs.declared.error.Error.{Error}
 use Rattle.gimli_read.specs.Reading.{◌>>=◌}
 use Rattle.gimli.specs.Sections.{Sections}
 use Rattle.gimli.specs.Unit.{UnitRecord}
-use Rattle.addr2line_units.specs.declared.frames_lookup.Faults.{Faults}
+use Rattle.addr2line_units.specs.declared.frames_lookup.OnFault.{OnFault}
 use Rattle.addr2line_units.specs.Cover.{cover}
 use Rattle.addr2line_units.specs.FramesLookup.{Stop, Waits, Finds, FindsNothing, answer_of, main_scope, with_answer}
 use Rattle.addr2line_units.specs.LoadLaws.{IsListed}
@@ -45,7 +45,7 @@ all_other n loads (k ∷ ks) h =
     let rest = all_other n loads ks h.1 in
     ((one.0, rest.0), (one.1, rest.1))
 
-module _ (faults : Faults) (d : Sections) (m : UnitIndex) (probe : ℕ) (e : index_units d ≡ Ok m) where
+module _ (faults : OnFault) (d : Sections) (m : UnitIndex) (probe : ℕ) (e : index_units d ≡ Ok m) where
   abbrev us : List UnitRecord
   us = unit_records m.units
 

@@ -4,9 +4,9 @@ use Rattle.std.proofs.Math.Seq.{drop-cons}
 use Rattle.std.proofs.lemmas.List.{append-nil, get_or-map, length-map, take-append-drop, take_more}
 use Rattle.gimli_read.specs.declared.error.Error.{Error}
 use Rattle.gimli.specs.Sections.{Sections}
-use Rattle.addr2line_units.specs.declared.frames_lookup.Faults.{Faults}
+use Rattle.addr2line_units.specs.declared.frames_lookup.OnFault.{OnFault}
 use Rattle.addr2line_units.specs.FramesLookup.{Stop, Waits, Finds, FindsNothing, is_waiting}
-use Rattle.gimli_read.specs.Alike.{HadMemory}
+use Rattle.gimli_read.specs.Alike.{WasNotRefused}
 use Rattle.addr2line_units.specs.Parsed.{StaysParsed, has_parsed}
 use Rattle.addr2line.specs.Answers.{AfterResume, answered}
 use Rattle.addr2line.specs.Context.{ContextState}
@@ -25,7 +25,7 @@ where_ended f x (Ok (Finds n frames)) e = refl
 where_ended f x (Ok FindsNothing) e = refl
 where_ended f x (Err e) h = refl
 
-module _ (faults : Faults) (d : Sections) (probe : ℕ) where
+module _ (faults : OnFault) (d : Sections) (probe : ℕ) where
   -- a lookup that waits, given one more answer
   pub given_one : (answers : FirstAnswers) (n : ℕ) (x : Option Sections) (given : List Given) → lookup_stop faults d answers probe ≡ Ok (Waits n)
       → answers_given faults d probe answers (Answered x ∷ given) ≡ answers_given faults d probe (answered d answers n x) given
@@ -58,11 +58,11 @@ module _ {A B : Type 0} (f : A → B) (xs : List A) (i : ℕ) (a : A) (h : i < l
   take_drop_one = ap (λ ys. take i (map f xs) ++ ys) (sym drop_one) ∙ take-append-drop i (map f xs)
 
 -- what a lookup has been given so far, and what is left
-abbrev pub HasGiven : Faults → Sections → ℕ → FirstAnswers → List Given → FirstAnswers → Type 0
+abbrev pub HasGiven : OnFault → Sections → ℕ → FirstAnswers → List Given → FirstAnswers → Type 0
 HasGiven faults d probe first given now =
     (rest : List Given) → answers_given faults d probe first (given ++ rest) ≡ answers_given faults d probe now rest
 
-module _ (faults : Faults) (d : Sections) (probe : ℕ) (first now : FirstAnswers) (given : List Given) (so : HasGiven faults d probe first given now) where
+module _ (faults : OnFault) (d : Sections) (probe : ℕ) (first now : FirstAnswers) (given : List Given) (so : HasGiven faults d probe first given now) where
   -- nothing more is given
   pub given_all : answers_given faults d probe first given ≡ now
   given_all = ap (answers_given faults d probe first) (sym (append-nil given)) ∙ so []
@@ -79,7 +79,7 @@ module _ (faults : Faults) (d : Sections) (probe : ℕ) (first now : FirstAnswer
     given_last rest all e ended = ap (answers_given faults d probe first) (sym e) ∙ so (Answered x ∷ rest) ∙ given_one faults d probe now n x rest waits ∙ given_ended faults d probe (answered d now n x) rest ended
 
 -- a context after an answer with which a lookup went on
-module _ {X : Type 0} (shares : Bool) (faults : Faults) (probe n : ℕ) (x : Option Sections) (o : Result X Error) (old new : ContextState) (after : AfterResume shares faults probe n x o old new) where
+module _ {X : Type 0} (shares : Bool) (faults : OnFault) (probe n : ℕ) (x : Option Sections) (o : Result X Error) (old new : ContextState) (after : AfterResume shares faults probe n x o old new) where
   pub resumed_sections : new.sections ≡ old.sections
   resumed_sections = elim after [ inl (mid, a, b) ↦ b.after.sections ∙ a.sections | inr (e, a, none) ↦ a.sections ]
 
@@ -89,10 +89,10 @@ module _ {X : Type 0} (shares : Bool) (faults : Faults) (probe n : ℕ) (x : Opt
     | inr (e, a, none) ↦ λ k h. subst (λ p. has_parsed p k ≡ true) (sym a.parsed) h
   ]
 
-  pub resumed_answers : HadMemory o → new.answers ≡ answered old.sections old.answers n x
+  pub resumed_answers : WasNotRefused o → new.answers ≡ answered old.sections old.answers n x
   resumed_answers told = elim after [
     | inl (mid, a, b) ↦ b.after.answers ∙ a.answers
-    | inr (e, a, none) ↦ absurd (subst HadMemory e told refl)
+    | inr (e, a, none) ↦ absurd (subst WasNotRefused e told refl)
   ]
 
   pub resumed_begun : (new.answers ≡ old.answers) ⊎ (new.answers ≡ answered old.sections old.answers n x)

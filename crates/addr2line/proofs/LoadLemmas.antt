@@ -7,7 +7,7 @@ use Rattle.gimli_read.specs.Reading.{◌>>=◌, ExactlyUnlessOom, fault_of}
 use Rattle.gimli.specs.Sections.{Sections}
 use Rattle.gimli.specs.Unit.{UnitRecord}
 use Rattle.addr2line_lines.specs.References.{Scope}
-use Rattle.addr2line_units.specs.declared.frames_lookup.Faults.{Faults}
+use Rattle.addr2line_units.specs.declared.frames_lookup.OnFault.{OnFault}
 use Rattle.addr2line_units.specs.declared.index.UnitRange.{UnitRange}
 use Rattle.addr2line_units.specs.declared.parses.ReadingDepth.{ReadingDepth}
 use Rattle.addr2line_units.specs.declared.parses.ReadingDepth.TheVariants as kinds
@@ -103,7 +103,7 @@ module _ (ranges : List UnitRange) (u : UnitsState) (i : IsContext ranges u) whe
     }
 
     -- no lookup waits or has a fault after a parse of all details
-    module _ (e : reads ≡ kinds.Details) (gives : read_of_units reads u.scope us u.answers ≡ Ok tt) (told : now.answers ≡ answers_after_parse reads u.scope us u.answers) (lines : lines_of_all d ≡ Ok tt) (faults : Faults) (probe : ℕ) where
+    module _ (e : reads ≡ kinds.Details) (gives : read_of_units reads u.scope us u.answers ≡ Ok tt) (told : now.answers ≡ answers_after_parse reads u.scope us u.answers) (lines : lines_of_all d ≡ Ok tt) (faults : OnFault) (probe : ℕ) where
       abbrev reached_by : Scope → List IndexedUnit → List UnitRange → Type 0
       reached_by s xs rs = IsReached (stop_along (asked_frames faults s xs (answers_after_parse kinds.Details s s.file.units u.answers) probe) (cover probe rs))
 

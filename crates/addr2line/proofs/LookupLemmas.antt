@@ -3,11 +3,11 @@ use Rattle.std.proofs.Common.{◌≡◌, ◌≢◌, ◌⊎◌, ℕ, ◌&&◌, �
 use Rattle.std.specs.Prelude.{IfErr, IfOk}
 use Rattle.gimli_read.specs.declared.error.Error.{Error}
 use Rattle.gimli_read.specs.declared.error.Error.TheVariants.{OutOfMemory}
-use Rattle.gimli_read.specs.Alike.{HadMemory}
+use Rattle.gimli_read.specs.Alike.{WasNotRefused}
 use Rattle.gimli_read.specs.Reading.{◌>>=◌, ExactlyUnlessOom}
 use Rattle.addr2line_lines.specs.References.{Scope}
-use Rattle.addr2line_units.specs.declared.frames_lookup.Faults.{Faults}
-use Rattle.addr2line_units.specs.declared.frames_lookup.Faults.TheVariants.{PassOver}
+use Rattle.addr2line_units.specs.declared.frames_lookup.OnFault.{OnFault}
+use Rattle.addr2line_units.specs.declared.frames_lookup.OnFault.TheVariants.{PassOver}
 use Rattle.addr2line_units.specs.declared.index.UnitRange.{UnitRange}
 use Rattle.addr2line_units.specs.AfterUnits as left
 use Rattle.addr2line_units.specs.Cover.{cover}
@@ -40,7 +40,7 @@ only_oom : (e : Error) {given : Result Stop Error} → given ≢ Err e → (e �
 only_oom OutOfMemory never h = refl
 only_oom e never h = absurd (never (h (λ q. absurd cc)))
 
-pub refused_for_memory : {X : Type 0} (see : X → Stop) (u : UnitsState) (ranges : List UnitRange) (faults : Faults) (probe : ℕ) (r : Result X Error) → faults ≡ PassOver → ExactlyUnlessOom see r (stop_of faults probe u ranges) → IfErr r (λ e. e ≡ OutOfMemory)
+pub refused_for_memory : {X : Type 0} (see : X → Stop) (u : UnitsState) (ranges : List UnitRange) (faults : OnFault) (probe : ℕ) (r : Result X Error) → faults ≡ PassOver → ExactlyUnlessOom see r (stop_of faults probe u ranges) → IfErr r (λ e. e ≡ OutOfMemory)
 refused_for_memory see u ranges faults probe (Ok x) p h = tt
 refused_for_memory see u ranges faults probe (Err e) p h =
     only_oom e (λ k. passes_over u.scope u.units u.answers probe ranges e (ap (λ f. stop_of f probe u ranges) (sym p) ∙ k)) h
@@ -50,7 +50,7 @@ pub load_told : (ranges : List UnitRange) (u : UnitsState) → IsContext ranges 
 load_told ranges u i n (Ok l) h = of_made ranges u i (λ s xs rs. option_map (load_of_unit s.file.sections n) (slice_get s.file.units n) ≡ Some (Ok (Some l))) h
 load_told ranges u i n (Err e) h = tt
 
-module _ (ranges : List UnitRange) (u : UnitsState) (i : IsContext ranges u) (faults : Faults) (probe : ℕ) where
+module _ (ranges : List UnitRange) (u : UnitsState) (i : IsContext ranges u) (faults : OnFault) (probe : ℕ) where
   -- what a lookup comes to
   pub stop_is : (answers : FirstAnswers) → lookup_stop faults u.scope.file.sections answers probe ≡ stop_along (asked_frames faults u.scope u.units answers probe) (cover probe ranges)
   stop_is answers = by_made ranges u i (λ s xs rs. stop_along (asked_frames faults s xs answers probe) (cover probe rs))
@@ -76,7 +76,7 @@ module _ (ranges : List UnitRange) (u : UnitsState) (i : IsContext ranges u) (fa
     few_by s xs n = all_by s xs n && not (has_many_of s xs now.answers probe n)
 
     -- where all is known that a lookup asks for it is refused no memory
-    pub walk_memory : IsKnownFew faults (seen_context now) probe → HadMemory r
+    pub walk_memory : IsKnownFew faults (seen_context now) probe → WasNotRefused r
     walk_memory few = w.memory (as_before (λ s xs a. holds_along (has_few_at probe now) (asked_frames faults s xs a probe) (cover probe ranges) ≡ true)
         (at_made ranges now walked_context (λ s xs rs. holds_along (few_by s xs) (asked_frames faults s xs now.answers probe) (cover probe rs) ≡ true) few))
 

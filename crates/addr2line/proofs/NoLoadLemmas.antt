@@ -6,7 +6,7 @@ use Rattle.elf.specs.declared.error.LoaderError.{LoaderError}
 use Rattle.elf.specs.declared.error.LoaderError.TheVariants.{OutOfMemory}
 use Rattle.elf.specs.Loading.{Loading}
 use Rattle.elf.specs.Text.{loader_error_of}
-use Rattle.addr2line_units.specs.declared.frames_lookup.Faults.TheVariants.{End}
+use Rattle.addr2line_units.specs.declared.frames_lookup.OnFault.TheVariants.{End}
 use Rattle.addr2line_units.specs.declared.index.UnitRange.{UnitRange}
 use Rattle.addr2line_units.specs.Cover.{cover}
 use Rattle.addr2line_units.specs.Frames.{FrameRecord}

@@ -12,10 +12,10 @@ use Rattle.gimli.specs.Sections.{Sections}
 use Rattle.gimli.specs.Unit.{UnitRecord}
 use Rattle.addr2line_units.specs.declared.continuation.LookupResult.{LookupResult}
 use Rattle.addr2line_units.specs.declared.continuation.LookupResult.TheVariants.{Output}
-use Rattle.addr2line_units.specs.declared.frames_lookup.Faults.{Faults}
-use Rattle.addr2line_units.specs.declared.frames_lookup.Faults.TheVariants.{PassOver}
+use Rattle.addr2line_units.specs.declared.frames_lookup.OnFault.{OnFault}
+use Rattle.addr2line_units.specs.declared.frames_lookup.OnFault.TheVariants.{PassOver}
 use Rattle.addr2line_units.specs.FramesLookup.{Stop, Waits, Finds, FindsNothing, is_waiting}
-use Rattle.gimli_read.specs.Alike.{HadMemory}
+use Rattle.gimli_read.specs.Alike.{WasNotRefused}
 use Rattle.addr2line_units.specs.Parsed.{StaysParsed, has_parsed}
 use Rattle.addr2line_units.specs.Suspended.{IfOutput}
 use Rattle.addr2line_units.specs.UnitIndex.{UnitIndex, index_units}
@@ -43,7 +43,7 @@ load_number d n u l e = by (split_name_of d u) u.dwo_id e
         own q = ap (λ (r : Result (Option SplitLoad) Error). elim r [ Err f ↦ n | Ok o ↦ elim o [ None ↦ n | Some x ↦ x.unit ] ]) q
 
 -- the load of a lookup that waits
-pub load_token : (faults : Faults) (d : Sections) (answers : FirstAnswers) (probe n : ℕ) (l : SplitLoad) → lookup_stop faults d answers probe ≡ Ok (Waits n) → IsLoadOf d n l → l.unit ≡ n
+pub load_token : (faults : OnFault) (d : Sections) (answers : FirstAnswers) (probe n : ℕ) (l : SplitLoad) → lookup_stop faults d answers probe ≡ Ok (Waits n) → IsLoadOf d n l → l.unit ≡ n
 load_token faults d answers probe n l w own = by (index_units d) refl
   where
     of_unit : (o : Option UnitRecord) → option_map (load_of_unit d n) o ≡ Some (Ok (Some l)) → l.unit ≡ n
@@ -62,13 +62,13 @@ of_output : {L O D S : Type 0} (result : LookupResult L O D S) (o : O) (P : O �
 of_output result o P e h = subst (λ r. IfOutput r P) e h
 
 -- a lookup was given so many answers, and waits for the unit of a number
-pub record HasAnswered (faults : Faults) (probe : ℕ) (first : ContextState) (all : List Given) (i number : ℕ) (now : ContextState) : Type 0 where
+pub record HasAnswered (faults : OnFault) (probe : ℕ) (first : ContextState) (all : List Given) (i number : ℕ) (now : ContextState) : Type 0 where
   pub sections : now.sections ≡ first.sections
   pub given : HasGiven faults first.sections probe first.answers (take i all) now.answers
   pub waits : lookup_stop faults now.sections now.answers probe ≡ Ok (Waits number)
   pub parsed : StaysParsed first.parsed now.parsed
 
-module _ (faults : Faults) (probe : ℕ) (first : ContextState) (all : List Given) where
+module _ (faults : OnFault) (probe : ℕ) (first : ContextState) (all : List Given) where
   -- a lookup that waits at first
   pub begun_at : (number : ℕ) (load : SplitLoad) (now : ContextState) → Suspends faults probe number load first now → HasAnswered faults probe first all 0 number now
   begun_at number load now s = record {
@@ -157,7 +157,7 @@ module _ (faults : Faults) (probe : ℕ) (first : ContextState) (all : List Give
 
     -- it has ended with an answer
     pub resumed_leaves : {L D S X Y ended : Type 0} (shares : Bool) (result : LookupResult L (Result X Error) D S) (x : Option Sections) → ((rest : List Given) → take (i + 1) all ++ rest ≡ take i all ++ (Answered x ∷ rest)) → (o : Result X Error) (new : ContextState) (asked : ℕ) → asked ≡ probe → result ≡ Output o → (lender : ContextState) → new ≡ lender → IfOutput result (λ p. AfterResume shares faults asked number x p now lender) → (r : Result Y Error)
-        → (P : Y → Type 0) → IfOk r (λ y. P y × ended) → (ended → all_given ≡ answered now.sections now.answers number x) → OnOk r (HadMemory o) → IfErr r (λ e. e ≡ OutOfMemory) → Leaves all_given SomeGiven r first new
+        → (P : Y → Type 0) → IfOk r (λ y. P y × ended) → (ended → all_given ≡ answered now.sections now.answers number x) → OnOk r (WasNotRefused o) → IfErr r (λ e. e ≡ OutOfMemory) → Leaves all_given SomeGiven r first new
     resumed_leaves {ended = ended} shares result x more o new asked same_probe is lender ends rests r P h same told oom = record {
       sections = resumed_sections shares faults asked number x o now new after ∙ so.sections;
       answers = of_ok r P h told;
@@ -168,7 +168,7 @@ module _ (faults : Faults) (probe : ℕ) (first : ContextState) (all : List Give
         after : AfterResume shares faults asked number x o now new
         after = subst (λ s. AfterResume shares faults asked number x o now s) (sym ends) (of_output result o (λ p. AfterResume shares faults asked number x p now lender) is rests)
 
-        of_ok : {Y : Type 0} (r : Result Y Error) (P : Y → Type 0) → IfOk r (λ y. P y × ended) → OnOk r (HadMemory o) → OnOk r (new.answers ≡ all_given)
+        of_ok : {Y : Type 0} (r : Result Y Error) (P : Y → Type 0) → IfOk r (λ y. P y × ended) → OnOk r (WasNotRefused o) → OnOk r (new.answers ≡ all_given)
         of_ok (Err e) P h t = tt
         of_ok (Ok y) P h t = resumed_answers shares faults asked number x o now new after t ∙ sym (same h.1)
 
@@ -182,7 +182,7 @@ reply_by seen replied (Err e) left all h same = tt
 reply_by seen replied (Ok x) left all h same = h.0 ∙ ap replied (sym (same h.1))
 
 -- what a lookup leaves that has ended at once
-pub looked_leaves : {X Y ended : Type 0} (shares : Bool) (faults : Faults) (probe : ℕ) (given : List Given) (o : Result X Error) (old new : ContextState) → AfterFramesOver shares faults probe o old new → (r : Result Y Error) (P : Y → Type 0)
+pub looked_leaves : {X Y ended : Type 0} (shares : Bool) (faults : OnFault) (probe : ℕ) (given : List Given) (o : Result X Error) (old new : ContextState) → AfterFramesOver shares faults probe o old new → (r : Result Y Error) (P : Y → Type 0)
     → IfOk r (λ y. P y × ended) → (ended → answers_given faults old.sections probe old.answers given ≡ old.answers) → IfErr r (λ e. e ≡ OutOfMemory)
     → Leaves (answers_given faults old.sections probe old.answers given) (λ answers. (n : ℕ) × (answers ≡ answers_given faults old.sections probe old.answers (take n given))) r old new
 looked_leaves {ended = ended} shares faults probe given o old new a r P h same oom = record {

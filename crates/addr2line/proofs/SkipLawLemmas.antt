@@ -5,8 +5,8 @@ use Rattle.gimli_read.specs.declared.error.Error.{Error}
 use Rattle.gimli_read.specs.Reading.{◌>>=◌}
 use Rattle.gimli.specs.Sections.{Sections}
 use Rattle.gimli.specs.Unit.{UnitRecord}
-use Rattle.addr2line_units.specs.declared.frames_lookup.Faults.{Faults}
-use Rattle.addr2line_units.specs.declared.frames_lookup.Faults.TheVariants.{End, PassOver}
+use Rattle.addr2line_units.specs.declared.frames_lookup.OnFault.{OnFault}
+use Rattle.addr2line_units.specs.declared.frames_lookup.OnFault.TheVariants.{End, PassOver}
 use Rattle.addr2line_units.specs.Cover.{cover}
 use Rattle.addr2line_units.specs.FramesLookup.{Stop, Waits, Finds, FindsNothing, is_waiting, with_answer}
 use Rattle.addr2line_units.specs.LoadLaws as laws
@@ -22,7 +22,7 @@ use Rattle.addr2line.specs.Lookups.{frames_of, frames_told, loads_at, lookup_sto
 use Rattle.addr2line.specs.SkipLaws.{SkippedGivesSame, SkippedWaitsForNone}
 use Rattle.addr2line.specs.Skips.{nones, skipped_answers}
 
-module _ (faults : Faults) (d : Sections) (m : UnitIndex) (probe : ℕ) (e : index_units d ≡ Ok m) where
+module _ (faults : OnFault) (d : Sections) (m : UnitIndex) (probe : ℕ) (e : index_units d ≡ Ok m) where
   abbrev us : List UnitRecord
   us = unit_records m.units
 
@@ -67,7 +67,7 @@ module _ (faults : Faults) (d : Sections) (m : UnitIndex) (probe : ℕ) (e : ind
       by further (Err x) q = ap is_waiting q
 
 -- of units without an answer none is the answer, before and after
-none_given : (faults : Faults) (d : Sections) (probe n : ℕ) (answers : FirstAnswers)
+none_given : (faults : OnFault) (d : Sections) (probe n : ℕ) (answers : FirstAnswers)
     → with_none (answers_given faults d probe answers (nones n)) ≡ with_none answers
 none_given faults d probe zero answers = refl
 none_given faults d probe (suc n) answers = by (λ k. none_given faults d probe n (answered d answers k None)) (lookup_stop faults d answers probe)
@@ -100,13 +100,13 @@ some_unit d answers m (Ok FindsNothing) w h = absurd cc
 pub skipped_gives_same : SkippedGivesSame
 skipped_gives_same d m probe answers e many = (frames, unit)
   where
-    left : Faults → FirstAnswers
+    left : OnFault → FirstAnswers
     left faults = skipped_answers faults d probe answers
 
-    same : (faults : Faults) → with_none (left faults) ≡ with_none answers
+    same : (faults : OnFault) → with_none (left faults) ≡ with_none answers
     same faults = none_given faults d probe (length (loads_at d answers probe)) answers
 
-    ended : (faults : Faults) → is_waiting (lookup_stop faults d (left faults) probe) ≡ false
+    ended : (faults : OnFault) → is_waiting (lookup_stop faults d (left faults) probe) ≡ false
     ended faults = skipped_waits_for_none faults d m probe answers e many
 
     frames : frames_of d (left End) probe ≡ frames_of d (with_none answers) probe

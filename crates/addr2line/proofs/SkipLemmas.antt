@@ -12,8 +12,8 @@ use Rattle.gimli.specs.Unit.{UnitRecord}
 use Rattle.addr2line_lines.specs.References.{Scope}
 use Rattle.addr2line_units.specs.declared.continuation.LookupResult.{LookupResult}
 use Rattle.addr2line_units.specs.declared.continuation.LookupResult.TheVariants.{Load, Output}
-use Rattle.addr2line_units.specs.declared.frames_lookup.Faults.{Faults}
-use Rattle.addr2line_units.specs.declared.frames_lookup.Faults.TheVariants.{End, PassOver}
+use Rattle.addr2line_units.specs.declared.frames_lookup.OnFault.{OnFault}
+use Rattle.addr2line_units.specs.declared.frames_lookup.OnFault.TheVariants.{End, PassOver}
 use Rattle.addr2line_units.specs.declared.index.UnitRange.{UnitRange}
 use Rattle.addr2line_units.specs.Cover.{cover}
 use Rattle.addr2line_units.specs.FramesLookup.{Stop, Waits, Finds, FindsNothing, after_fault, answer_of, asked_frames, frames_of_number, is_waiting, main_scope, or_stop, readable_view, stop_along, view_of_number, with_answer}
@@ -62,7 +62,7 @@ decided_number scope units answers probe n ne = of_unit (slice_get units n) ne
         ap (λ o. frames_in scope u (unwrap_or o None) probe) (slice_get-map (λ (a : Option (Option Sections)). Some (unwrap_or a None)) answers n)
         ∙ of_answer u (slice_get answers n) h
 
-decided_asked : (faults : Faults) (scope : Scope) (units : List IndexedUnit) (answers : FirstAnswers) (probe n : ℕ) → asked_frames faults scope units answers probe n ≢ Ok None
+decided_asked : (faults : OnFault) (scope : Scope) (units : List IndexedUnit) (answers : FirstAnswers) (probe n : ℕ) → asked_frames faults scope units answers probe n ≢ Ok None
     → asked_frames faults scope units (with_none answers) probe n ≡ asked_frames faults scope units answers probe n
 decided_asked faults scope units answers probe n ne =
     ap (after_fault faults) (decided_number scope units answers probe n (λ e. ne (ap (after_fault faults) e)))
@@ -78,7 +78,7 @@ pub decided_stop_along : (f h : ℕ → FramesResult) → ((n : ℕ) → f n ≢
 decided_stop_along f h same [] w = refl
 decided_stop_along f h same (r ∷ ranges) w = decided_step r.unit (stop_along f ranges) (stop_along h ranges) (f r.unit) (h r.unit) (same r.unit) w (decided_stop_along f h same ranges)
 
-decided_stop : (faults : Faults) (d : Sections) (answers : FirstAnswers) (probe : ℕ) → is_waiting (lookup_stop faults d answers probe) ≡ false → lookup_stop faults d (with_none answers) probe ≡ lookup_stop faults d answers probe
+decided_stop : (faults : OnFault) (d : Sections) (answers : FirstAnswers) (probe : ℕ) → is_waiting (lookup_stop faults d answers probe) ≡ false → lookup_stop faults d (with_none answers) probe ≡ lookup_stop faults d answers probe
 decided_stop faults d answers probe w = of_index (index_units d) w
   where
     of_index : (r : Result UnitIndex Error) → is_waiting (r >>= stop_in faults d answers probe) ≡ false → (r >>= stop_in faults d (with_none answers) probe) ≡ (r >>= stop_in faults d answers probe)

@@ -3,9 +3,9 @@ use Rattle.std.proofs.Common.{◌≡◌, ℕ, zero, suc, ◌+◌, ◌-◌, ◌<�
 use Rattle.std.proofs.lemmas.Bool.{eq-eqb}
 use Rattle.std.specs.Prelude.{IfErr}
 use Rattle.gimli_read.specs.declared.error.Error.{Error}
-use Rattle.addr2line_units.specs.declared.frames_lookup.Faults.{Faults}
+use Rattle.addr2line_units.specs.declared.frames_lookup.OnFault.{OnFault}
 use Rattle.addr2line_units.specs.FramesLookup.{Stop, Waits, Finds, FindsNothing, is_waiting}
-use Rattle.gimli_read.specs.Alike.{HadMemory}
+use Rattle.gimli_read.specs.Alike.{WasNotRefused}
 use Rattle.addr2line_units.specs.Parsed.{StaysParsed, has_parsed}
 use Rattle.addr2line.proofs.HistoryLemmas.{HasGiven, given_all, given_ended, given_more}
 use Rattle.addr2line.specs.Answers.{AfterAnswer, answered}
@@ -46,13 +46,13 @@ told_ended stop r e w = ap is_waiting e ∙ by stop w
     by FindsNothing q = refl
 
 -- the fault of a unit stays that where sections and first answers are the same
-pub fault_now : {X : Type 0} (faults : Faults) (probe : ℕ) (old new : ContextState) (r : Result X Error) → new.sections ≡ old.sections → new.answers ≡ old.answers → IfErr r (IsFaultOfAsked faults old.sections old.answers probe)
+pub fault_now : {X : Type 0} (faults : OnFault) (probe : ℕ) (old new : ContextState) (r : Result X Error) → new.sections ≡ old.sections → new.answers ≡ old.answers → IfErr r (IsFaultOfAsked faults old.sections old.answers probe)
     → IfErr r (IsFaultOfAsked faults new.sections new.answers probe)
 fault_now faults probe old new r s a h =
     subst (λ d. IfErr r (IsFaultOfAsked faults d new.answers probe)) (sym s) (subst (λ x. IfErr r (IsFaultOfAsked faults old.sections x probe)) (sym a) h)
 
 -- of so many loads none was the answer, and no more are left than there were less these
-pub record HasSkipped (faults : Faults) (probe : ℕ) (first now : ContextState) : Type 0 where
+pub record HasSkipped (faults : OnFault) (probe : ℕ) (first now : ContextState) : Type 0 where
   pub sections : now.sections ≡ first.sections
   pub count : ℕ
   pub given : HasGiven faults first.sections probe first.answers (nones count) now.answers
@@ -60,7 +60,7 @@ pub record HasSkipped (faults : Faults) (probe : ℕ) (first now : ContextState)
   pub parsed : StaysParsed first.parsed now.parsed
   pub raised : first.looks ≤ now.looks
 
-module _ (faults : Faults) (probe : ℕ) (first : ContextState) where
+module _ (faults : OnFault) (probe : ℕ) (first : ContextState) where
   pub skipped_none : HasSkipped faults probe first first
   skipped_none = record {
     sections = refl;
@@ -123,7 +123,7 @@ module _ (faults : Faults) (probe : ℕ) (first : ContextState) where
         ∙ given_ended faults first.sections probe now.answers (nones (total - so.count)) (ap (λ d. is_waiting (lookup_stop faults d now.answers probe)) (sym so.sections) ∙ ended)
 
     -- the state that is left
-    pub after_skip : {X : Type 0} (shares : Bool) (r : Result X Error) → (HadMemory r → is_waiting (lookup_stop faults now.sections now.answers probe) ≡ false) → (HadMemory r → IsKnown faults now probe) → (IsKnownFew faults now probe → HadMemory r)
+    pub after_skip : {X : Type 0} (shares : Bool) (r : Result X Error) → (WasNotRefused r → is_waiting (lookup_stop faults now.sections now.answers probe) ≡ false) → (WasNotRefused r → IsKnown faults now probe) → (IsKnownFew faults now probe → WasNotRefused r)
         → (NeedsNoMemory shares faults now probe → IfErr r (IsFaultOfAsked faults now.sections now.answers probe)) → AfterSkip shares faults probe r first now
     after_skip shares r ended ready memory alone = record {
       sections = so.sections;

@@ -1,12 +1,12 @@
 -- Lookups of an address that no unit covers (on specs/Context.antt and specs/AfterLookups.antt).
 use Rattle.std.proofs.Common.{◌≡◌, ℕ, true, false, [], Result, Ok, Err, is_ok, ap, refl, subst, sym, ◌∙◌}
 use Rattle.gimli_read.specs.declared.error.Error.{Error}
-use Rattle.gimli_read.specs.Alike.{HadMemory}
+use Rattle.gimli_read.specs.Alike.{WasNotRefused}
 use Rattle.gimli_read.specs.Reading.{◌>>=◌, ExactlyUnlessOom}
 use Rattle.addr2line_units.specs.declared.continuation.LookupResult.{LookupResult}
 use Rattle.addr2line_units.specs.declared.continuation.LookupResult.TheVariants.{Load, Output}
-use Rattle.addr2line_units.specs.declared.frames_lookup.Faults.{Faults}
-use Rattle.addr2line_units.specs.declared.frames_lookup.Faults.TheVariants.{End, PassOver}
+use Rattle.addr2line_units.specs.declared.frames_lookup.OnFault.{OnFault}
+use Rattle.addr2line_units.specs.declared.frames_lookup.OnFault.TheVariants.{End, PassOver}
 use Rattle.addr2line_units.specs.Cover.{cover}
 use Rattle.addr2line_units.specs.FramesLookup.{FindsNothing, Waits, holds_along, is_waiting, stop_along}
 use Rattle.addr2line_units.specs.Suspended.{IfLoad, IfOutput, IsOkOutput}
@@ -21,19 +21,19 @@ pub still_uncovered : (probe : ℕ) (old new : ContextState) → new.sections �
 still_uncovered probe old new s u = (u.0, ap index_units (sym s) ∙ u.1, u.2)
 
 -- all is known that a lookup asks for there
-pub uncovered_few : (faults : Faults) (probe : ℕ) (c : ContextState) → IsUncovered c probe → IsKnownFew faults c probe
+pub uncovered_few : (faults : OnFault) (probe : ℕ) (c : ContextState) → IsUncovered c probe → IsKnownFew faults c probe
 uncovered_few faults probe c u = λ m e.
     let none = subst (λ (x : UnitIndex). cover probe x.ranges ≡ []) (ok_is _ _ (sym u.1 ∙ e)) u.2 in
     ap (λ ranges. holds_along (has_few_of c probe m) (asked_of faults c.sections c.answers probe m) ranges) none
 
-module _ (faults : Faults) (probe : ℕ) (c : ContextState) (u : IsUncovered c probe) where
+module _ (faults : OnFault) (probe : ℕ) (c : ContextState) (u : IsUncovered c probe) where
   pub uncovered_stop : lookup_stop faults c.sections c.answers probe ≡ Ok FindsNothing
   uncovered_stop =
       ap (λ r. r >>= stop_in faults c.sections c.answers probe) u.1
       ∙ ap (λ ranges. stop_along (asked_of faults c.sections c.answers probe u.0) ranges) u.2
 
   -- a lookup of it is refused no memory
-  uncovered_told : {X : Type 0} (r : Result X Error) (new : ContextState) → AfterFrames faults probe r c new → HadMemory r
+  uncovered_told : {X : Type 0} (r : Result X Error) (new : ContextState) → AfterFrames faults probe r c new → WasNotRefused r
   uncovered_told r new a =
       a.memory (uncovered_few faults probe new (still_uncovered probe new c (sym a.sections) u)) (ap is_waiting uncovered_stop)
 

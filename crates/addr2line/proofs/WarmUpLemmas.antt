@@ -2,7 +2,7 @@
 use Rattle.std.proofs.Common.{◌≡◌, ℕ, ◌&&◌, ◌||◌, Bool, true, false, not, List, [], ◌∷◌, Result, Ok, Err, refl, sym, ap, subst, ◌∙◌}
 use Rattle.gimli_read.specs.declared.error.Error.{Error}
 use Rattle.gimli.specs.Sections.{Sections}
-use Rattle.addr2line_units.specs.declared.frames_lookup.Faults.{Faults}
+use Rattle.addr2line_units.specs.declared.frames_lookup.OnFault.{OnFault}
 use Rattle.addr2line_units.specs.declared.index.UnitRange.{UnitRange}
 use Rattle.addr2line_units.specs.Cover.{cover, holds_until}
 use Rattle.addr2line_units.specs.FramesLookup.{Stop, Waits, Finds, FindsNothing, asks_lines_of, has_many_of, holds_along, is_waiting, main_scope}
@@ -42,14 +42,14 @@ both_known k false a true e f g = absurd cc
 both_known false true a true e f g = absurd cc
 
 -- all is known of a few
-known_few : (faults : Faults) (c : ContextState) (probe : ℕ) → IsWarm c → IsFewInlined faults c probe → IsKnownFew faults c probe
+known_few : (faults : OnFault) (c : ContextState) (probe : ℕ) → IsWarm c → IsFewInlined faults c probe → IsKnownFew faults c probe
 known_few faults c probe w few m e = holds_more (λ n. not (has_many_of (main_scope c.sections m) m.units c.answers probe n)) (has_few_of c probe m) (asked_of faults c.sections c.answers probe m) (cover probe m.ranges) each (few m e)
   where
     each : (n : ℕ) → not (has_many_of (main_scope c.sections m) m.units c.answers probe n) ≡ true → has_few_of c probe m n ≡ true
     each n h = both_known (knows_at c.known probe n) (has_parsed c.parsed n) (not (asks_lines_of (main_scope c.sections m) m.units c.answers probe n)) _ (w.known probe n) (w.parsed n) h
 
 -- the functions that are inlined at an address depend on the sections and first answers alone
-module _ (faults : Faults) (probe : ℕ) (old new : ContextState) where
+module _ (faults : OnFault) (probe : ℕ) (old new : ContextState) where
   abbrev FewBy : Sections → FirstAnswers → Type 0
   FewBy d answers = (m : UnitIndex) → index_units d ≡ Ok m
       → holds_along (λ n. not (has_many_of (main_scope d m) m.units answers probe n)) (asked_of faults d answers probe m) (cover probe m.ranges) ≡ true

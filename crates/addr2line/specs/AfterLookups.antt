@@ -7,10 +7,10 @@ use Rattle.gimli_read.specs.declared.error.Error.{Error}
 use Rattle.gimli_read.specs.Reading.{◌>>=◌, ExactlyUnlessOom}
 use Rattle.gimli.specs.Sections.{Sections}
 use Rattle.gimli.specs.Unit.{UnitRecord}
-use Rattle.addr2line_units.specs.declared.frames_lookup.Faults.{Faults}
+use Rattle.addr2line_units.specs.declared.frames_lookup.OnFault.{OnFault}
 use Rattle.addr2line_units.specs.Cover.{cover}
 use Rattle.addr2line_units.specs.FramesLookup.{Stop, Waits, LookupAsks, asks_lines_of, holds_along, is_waiting, main_scope, unit_found}
-use Rattle.gimli_read.specs.Alike.{HadMemory}
+use Rattle.gimli_read.specs.Alike.{WasNotRefused}
 use Rattle.addr2line_units.specs.Parsed.{ParsesOnly, StaysParsed}
 use Rattle.addr2line_units.specs.RangedUnits.{unit_records}
 use Rattle.addr2line_units.specs.StaysKnown.{StaysKnown}
@@ -41,51 +41,51 @@ abbrev pub has_few_of : ContextState → ℕ → UnitIndex → ℕ → Bool
 has_few_of c probe m n = has_few_at probe (units_in c m) n
 
 -- all is known that a lookup of the probe asks for
-abbrev pub IsKnown : Faults → ContextState → ℕ → Type 0
+abbrev pub IsKnown : OnFault → ContextState → ℕ → Type 0
 IsKnown faults c probe = (m : UnitIndex) → index_units c.sections ≡ Ok m
     → holds_along (has_all_of c probe m) (asked_of faults c.sections c.answers probe m)
     (cover probe m.ranges) ≡ true
 
 -- the same, and at most 16 inlined functions stand in each unit that it asks
-abbrev pub IsKnownFew : Faults → ContextState → ℕ → Type 0
+abbrev pub IsKnownFew : OnFault → ContextState → ℕ → Type 0
 IsKnownFew faults c probe = (m : UnitIndex) → index_units c.sections ≡ Ok m
     → holds_along (has_few_of c probe m) (asked_of faults c.sections c.answers probe m)
     (cover probe m.ranges) ≡ true
 
 -- a lookup of the probe takes no memory: of each unit that it asks all is known that it asks for,
 -- or read without memory, and at most 16 inlined functions stand there
-abbrev pub NeedsNoMemory : Bool → Faults → ContextState → ℕ → Type 0
+abbrev pub NeedsNoMemory : Bool → OnFault → ContextState → ℕ → Type 0
 NeedsNoMemory shares faults c probe = (m : UnitIndex) → index_units c.sections ≡ Ok m
     → holds_along (asks_no_memory_at shares probe (units_in c m))
     (asked_of faults c.sections c.answers probe m) (cover probe m.ranges) ≡ true
 
 -- a lookup of the probe asks the unit of a number
-abbrev pub AsksUnit : Faults → ContextState → ℕ → UnitIndex → ℕ → Type 0
+abbrev pub AsksUnit : OnFault → ContextState → ℕ → UnitIndex → ℕ → Type 0
 AsksUnit faults c probe m n =
     LookupAsks (asked_of faults c.sections c.answers probe m) (cover probe m.ranges) n
 
 -- a lookup of the probe asks a unit of which not all is known that it asks for, or in which more
 -- than 16 inlined functions stand there
-abbrev pub TakesMemory : Faults → ContextState → ℕ → Type 0
+abbrev pub TakesMemory : OnFault → ContextState → ℕ → Type 0
 TakesMemory faults c probe = (m : UnitIndex) × (index_units c.sections ≡ Ok m)
     × ((n : ℕ) × AsksUnit faults c probe m n × (has_few_of c probe m n ≡ false))
 
 -- no lines are parsed but those that a lookup asks for in this context
-abbrev pub ParsesAsked : Faults → ℕ → ContextState → ContextState → ContextState → Type 0
+abbrev pub ParsesAsked : OnFault → ℕ → ContextState → ContextState → ContextState → Type 0
 ParsesAsked faults probe c old new = (m : UnitIndex) → index_units c.sections ≡ Ok m
     → ParsesOnly (λ n. AsksUnit faults c probe m n
     × (asks_lines_of (main_scope c.sections m) m.units c.answers probe n ≡ true))
     old.parsed new.parsed
 
 -- nothing is read of the entries of a unit that a lookup doesn't ask in this context
-abbrev pub LearnsAsked : Faults → ℕ → ContextState → ContextState → ContextState → Type 0
+abbrev pub LearnsAsked : OnFault → ℕ → ContextState → ContextState → ContextState → Type 0
 LearnsAsked faults probe c old new = (m : UnitIndex) → index_units c.sections ≡ Ok m
     → (n : ℕ) → (slice_get new.known n ≡ slice_get old.known n) ⊎ AsksUnit faults c probe m n
 
 -- after a lookup of the probe: the first answers are the same, what was read stays, and nothing was
 -- read that it doesn't ask for; the same lookup reads nothing more, but after OutOfMemory, where
 -- something is left to read, a load is wanted, or more than 16 inlined functions stand there
-pub record AfterFrames {X : Type 0} (faults : Faults) (probe : ℕ) (result : Result X Error)
+pub record AfterFrames {X : Type 0} (faults : OnFault) (probe : ℕ) (result : Result X Error)
     (old new : ContextState) : Type 0 where
   pub sections : new.sections ≡ old.sections
   pub answers : new.answers ≡ old.answers
@@ -94,13 +94,13 @@ pub record AfterFrames {X : Type 0} (faults : Faults) (probe : ℕ) (result : Re
   pub only : ParsesAsked faults probe old old new
   pub learns : LearnsAsked faults probe old old new
   pub raised : old.looks ≤ new.looks
-  pub ready : HadMemory result → IsKnown faults new probe
+  pub ready : WasNotRefused result → IsKnown faults new probe
   pub memory : IsKnownFew faults new probe
-      → is_waiting (lookup_stop faults old.sections old.answers probe) ≡ false → HadMemory result
+      → is_waiting (lookup_stop faults old.sections old.answers probe) ≡ false → WasNotRefused result
 
 -- the same over readers that share their bytes or don't: where the lookup takes no memory and
 -- waits for nothing, a refusal is the fault of a unit that it asks
-pub record AfterFramesOver {X : Type 0} (shares : Bool) (faults : Faults) (probe : ℕ)
+pub record AfterFramesOver {X : Type 0} (shares : Bool) (faults : OnFault) (probe : ℕ)
     (result : Result X Error) (old new : ContextState) : Type 0 where
   pub after : AfterFrames faults probe result old new
   pub no_memory : NeedsNoMemory shares faults new probe
@@ -108,7 +108,7 @@ pub record AfterFramesOver {X : Type 0} (shares : Bool) (faults : Faults) (probe
       → IfErr result (IsFaultOfAsked faults old.sections old.answers probe)
 
 -- a context has stored what a lookup of the probe comes to, or the lookup was refused
-abbrev pub IsStored : Faults → ℕ → Result (Unit {0}) Error → ContextState → Type 0
+abbrev pub IsStored : OnFault → ℕ → Result (Unit {0}) Error → ContextState → Type 0
 IsStored faults probe walked c =
     ExactlyUnlessOom (λ _. c.stop) walked (lookup_stop faults c.sections c.answers probe)
 
@@ -121,13 +121,13 @@ IsFoundUnit c found = (m : UnitIndex) → index_units c.sections ≡ Ok m
 -- refused, only where it waits
 pub record IsLent {X : Type 0} (walked : Result (Unit {0}) Error) (stop : Stop)
     (result : Result X Error) : Type 0 where
-  pub ready : HadMemory result → HadMemory walked
-  pub memory : is_waiting (walked >>= λ _. Ok stop) ≡ false → HadMemory walked → HadMemory result
+  pub ready : WasNotRefused result → WasNotRefused walked
+  pub memory : is_waiting (walked >>= λ _. Ok stop) ≡ false → WasNotRefused walked → WasNotRefused result
   pub refused : is_waiting (walked >>= λ _. Ok stop) ≡ false
       → IfErr result (λ e. walked ≡ Err e)
 
 -- a lookup that waits for the unit of a number has this load
-pub record Suspends (faults : Faults) (probe number : ℕ) (wanted : SplitLoad)
+pub record Suspends (faults : OnFault) (probe number : ℕ) (wanted : SplitLoad)
     (old new : ContextState) : Type 0 where
   pub waits : lookup_stop faults old.sections old.answers probe ≡ Ok (Waits number)
   pub load : IsLoadOf old.sections number wanted

@@ -2,7 +2,7 @@
 use Rattle.std.specs.Prelude.{◌≡◌, ◌⊎◌, ◌++◌, ℕ, false, length, map, List, [], ◌∷◌, Option, Some, Ok}
 use Rattle.std.specs.List.{AllByRecursion}
 use Rattle.gimli.specs.Sections.{Sections}
-use Rattle.addr2line_units.specs.declared.frames_lookup.Faults.{Faults}
+use Rattle.addr2line_units.specs.declared.frames_lookup.OnFault.{OnFault}
 use Rattle.addr2line_units.specs.Cover.{cover}
 use Rattle.addr2line_units.specs.FramesLookup.{answer_of, is_waiting}
 use Rattle.addr2line_units.specs.Parsed.{LeadTo}
@@ -44,7 +44,7 @@ IsAnsweredBy (x ∷ given) n = (x.0 ≡ n) ⊎ IsAnsweredBy given n
 -- once each load that an address waits for has an answer no lookup of it waits, whatever calls come
 -- after, until a unit that covers it is forgotten
 abbrev pub WaitsForNoneAnswered : Type 0
-WaitsForNoneAnswered = (faults : Faults) (d : Sections) (m : UnitIndex) (probe : ℕ)
+WaitsForNoneAnswered = (faults : OnFault) (d : Sections) (m : UnitIndex) (probe : ℕ)
     (answers : FirstAnswers) (given : List (ℕ × Option Sections)) (calls : List HistoryCall)
     → index_units d ≡ Ok m → length m.units ≡ length answers
     → AllByRecursion (λ load. IsAnsweredBy given load.unit) (loads_at d answers probe)

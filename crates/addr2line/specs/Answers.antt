@@ -6,7 +6,7 @@ use Rattle.gimli_read.specs.declared.error.Error.{Error}
 use Rattle.gimli_read.specs.declared.error.Error.TheVariants.{OutOfMemory}
 use Rattle.gimli_read.specs.Reading.{◌>>=◌}
 use Rattle.gimli.specs.Sections.{Sections}
-use Rattle.addr2line_units.specs.declared.frames_lookup.Faults.{Faults}
+use Rattle.addr2line_units.specs.declared.frames_lookup.OnFault.{OnFault}
 use Rattle.addr2line_units.specs.AnswerMemory.{answer_takes_memory}
 use Rattle.addr2line_units.specs.FramesLookup.{with_answer}
 use Rattle.addr2line_units.specs.Loads.{load_result}
@@ -44,7 +44,7 @@ pub record AfterAnswer (n : ℕ) (given : Option Sections) (result : Result (Uni
 
 -- after an answer with which a lookup went on, or after OutOfMemory in the answer's place, which is
 -- its fault where the answer takes no memory
-abbrev pub AfterResume : {X : Type 0} → Bool → Faults → ℕ → ℕ → Option Sections → Result X Error
+abbrev pub AfterResume : {X : Type 0} → Bool → OnFault → ℕ → ℕ → Option Sections → Result X Error
     → ContextState → ContextState → Type 0
 AfterResume shares faults probe n given result old new =
     ((mid : ContextState) × AfterAnswer n given (Ok tt) old mid
@@ -54,7 +54,7 @@ AfterResume shares faults probe n given result old new =
     → load_reply old.sections old.answers n given ≡ Err OutOfMemory))
 
 -- after an answer the lookup waits for the unit of another number with this load
-abbrev pub SuspendsAgain : Faults → ℕ → ℕ → Option Sections → ℕ → SplitLoad → ContextState
+abbrev pub SuspendsAgain : OnFault → ℕ → ℕ → Option Sections → ℕ → SplitLoad → ContextState
     → ContextState → Type 0
 SuspendsAgain faults probe n given number load old new =
     (mid : ContextState) × AfterAnswer n given (Ok tt) old mid

@@ -15,7 +15,7 @@ use Rattle.addr2line_units.specs.KnownEntries.{KnownEntries, NothingKnown}
 use Rattle.addr2line_units.specs.Located.{all_lines, is_found, location_of, looks_along}
 use Rattle.addr2line_units.specs.UnitIndex.{UnitIndex, index_units, sup_units}
 use Rattle.addr2line_units.specs.RangedUnits.{has_lines, ranged_units}
-use Rattle.gimli_read.specs.Alike.{HadMemory}
+use Rattle.gimli_read.specs.Alike.{WasNotRefused}
 use Rattle.addr2line_units.specs.Parsed.{AllAskFor, AreParsed, AreReadyForAll, AsksFor, LeadTo, ParsesOnly, StaysParsed, ready_along, takes_none_along}
 use Rattle.addr2line_units.specs.Cover.{cover, cover_range}
 use Rattle.addr2line_units.specs.UnitsState.{UnitsState}
@@ -104,8 +104,8 @@ pub record Stays (old new : ContextState) : Type 0 where
 pub record AfterLookup {X : Type 0} (probe : ℕ) (result : Result (Option X) Error)
     (old new : ContextState) : Type 0 where
   pub stays : Stays old new
-  pub ready : HadMemory result → IsReady new probe
-  pub memory : IsReady new probe → HadMemory result
+  pub ready : WasNotRefused result → IsReady new probe
+  pub memory : IsReady new probe → WasNotRefused result
   pub only : LookupParses probe old new
   pub same : IsReady old probe → new.parsed ≡ old.parsed
   pub raised : old.looks ≤ new.looks
@@ -125,8 +125,8 @@ pub record AfterLookupOver {X : Type 0} (shares : Bool) (probe : ℕ)
 pub record AfterRangeLookup {X : Type 0} (low high : ℕ) (result : Result X Error)
     (old new : ContextState) : Type 0 where
   pub stays : Stays old new
-  pub ready : HadMemory result → IsReadyForRange new low high
-  pub memory : IsReadyForRange new low high → HadMemory result
+  pub ready : WasNotRefused result → IsReadyForRange new low high
+  pub memory : IsReadyForRange new low high → WasNotRefused result
   pub only : RangeLookupParses low high old new
   pub same : IsReadyForRange old low high → new.parsed ≡ old.parsed
   pub looks : new.looks ≡ old.looks

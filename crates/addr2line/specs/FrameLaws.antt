@@ -2,7 +2,7 @@
 use Rattle.std.specs.Prelude.{◌≡◌, ℕ, suc, length, slice_get, List, Option, Some, None, Result, Ok}
 use Rattle.gimli_read.specs.declared.error.Error.{Error}
 use Rattle.gimli.specs.Sections.{Sections}
-use Rattle.addr2line_units.specs.declared.frames_lookup.Faults.{Faults}
+use Rattle.addr2line_units.specs.declared.frames_lookup.OnFault.{OnFault}
 use Rattle.addr2line_units.specs.Frames.{FoundFunction, FrameRecord}
 use Rattle.addr2line_units.specs.FramesLookup.{Finds, answer_of, main_scope}
 use Rattle.addr2line_units.specs.UnitFrames.{function_in}
@@ -26,7 +26,7 @@ frame_count (Some f) = suc (length f.inlined)
 
 -- what a lookup has found in a unit has so many frames
 abbrev pub HasFrameOfEach : Type 0
-HasFrameOfEach = (faults : Faults) (d : Sections) (m : UnitIndex) (answers : FirstAnswers)
+HasFrameOfEach = (faults : OnFault) (d : Sections) (m : UnitIndex) (answers : FirstAnswers)
     (probe n : ℕ) (frames : List FrameRecord)
     → index_units d ≡ Ok m → lookup_stop faults d answers probe ≡ Ok (Finds n frames)
     → (found : Option FoundFunction) × (function_of_number d m answers probe n ≡ Ok found)

@@ -7,8 +7,8 @@ use Rattle.std.specs.Prelude.{◌≡◌, ◌⊎◌, ℕ, List, [], ◌∷◌, ma
 use Rattle.gimli_read.specs.declared.error.Error.{Error}
 use Rattle.gimli_read.specs.declared.error.Error.TheVariants.{OutOfMemory}
 use Rattle.gimli.specs.Sections.{Sections}
-use Rattle.addr2line_units.specs.declared.frames_lookup.Faults.{Faults}
-use Rattle.addr2line_units.specs.declared.frames_lookup.Faults.TheVariants.{End, PassOver}
+use Rattle.addr2line_units.specs.declared.frames_lookup.OnFault.{OnFault}
+use Rattle.addr2line_units.specs.declared.frames_lookup.OnFault.TheVariants.{End, PassOver}
 use Rattle.addr2line_units.specs.declared.parses.ReadingDepth.{ReadingDepth}
 use Rattle.addr2line_units.specs.FramesLookup.{Stop, Waits, Finds, FindsNothing, main_scope}
 use Rattle.addr2line_units.specs.FunctionParses.{AreFirstDecided}
@@ -49,7 +49,7 @@ where_waiting goes_on x (Ok FindsNothing) = x
 where_waiting goes_on x (Err e) = x
 
 -- the first answers once a lookup was given these answers, each for the unit that it waits for then
-abbrev pub answers_given : Faults → Sections → ℕ → FirstAnswers → List Given → FirstAnswers
+abbrev pub answers_given : OnFault → Sections → ℕ → FirstAnswers → List Given → FirstAnswers
 answers_given faults d probe answers [] = answers
 answers_given faults d probe answers (Abandoned ∷ given) = answers
 answers_given faults d probe answers (Answered x ∷ given) = where_waiting

@@ -2,7 +2,7 @@
 use Rattle.std.specs.Prelude.{◌≡◌, ◌≢◌, ℕ, length, List, [], ◌∷◌, Ok}
 use Rattle.std.specs.List.{AllByRecursion}
 use Rattle.gimli.specs.Sections.{Sections}
-use Rattle.addr2line_units.specs.declared.frames_lookup.Faults.{Faults}
+use Rattle.addr2line_units.specs.declared.frames_lookup.OnFault.{OnFault}
 use Rattle.addr2line_units.specs.LoadLaws.{IsListed}
 use Rattle.addr2line_units.specs.UnitIndex.{UnitIndex, index_units}
 use Rattle.addr2line.specs.Answers.{answered}
@@ -11,7 +11,7 @@ use Rattle.addr2line.specs.Lookups.{loads_at, lookup_stop}
 use Rattle.addr2line_units.specs.Views.{FirstAnswers}
 
 -- the units that a lookup waits for, one after another, where it is given these answers
-abbrev pub waited_for : Faults → Sections → ℕ → FirstAnswers → List Given → List ℕ
+abbrev pub waited_for : OnFault → Sections → ℕ → FirstAnswers → List Given → List ℕ
 waited_for faults d probe answers [] =
     where_waiting (λ n. n ∷ []) [] (lookup_stop faults d answers probe)
 waited_for faults d probe answers (Abandoned ∷ given) =
@@ -28,7 +28,7 @@ AreDistinct (n ∷ ns) = AllByRecursion (λ k. k ≢ n) ns × AreDistinct ns
 -- a lookup waits for each unit once at most, and only for such as cover its address and are open
 -- when it begins
 abbrev pub WaitsForEachOnce : Type 0
-WaitsForEachOnce = (faults : Faults) (d : Sections) (m : UnitIndex) (probe : ℕ)
+WaitsForEachOnce = (faults : OnFault) (d : Sections) (m : UnitIndex) (probe : ℕ)
     (answers : FirstAnswers) (given : List Given)
     → index_units d ≡ Ok m → length m.units ≡ length answers
     → AreDistinct (waited_for faults d probe answers given)

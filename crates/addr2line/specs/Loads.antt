@@ -7,7 +7,7 @@ use Rattle.std.specs.List.{AllByRecursion}
 use Rattle.gimli_read.specs.declared.error.Error.{Error}
 use Rattle.gimli_read.specs.Reading.{◌>>=◌}
 use Rattle.gimli.specs.Sections.{Sections}
-use Rattle.addr2line_units.specs.declared.frames_lookup.Faults.{Faults}
+use Rattle.addr2line_units.specs.declared.frames_lookup.OnFault.{OnFault}
 use Rattle.addr2line_units.specs.declared.parses.ReadingDepth.{ReadingDepth}
 use Rattle.addr2line_units.specs.Cover.{cover}
 use Rattle.addr2line_units.specs.FramesLookup.{answer_of, main_scope}
@@ -15,7 +15,7 @@ use Rattle.addr2line_units.specs.FunctionParseLaws.{IsReached}
 use Rattle.addr2line_units.specs.FunctionParses.{AreFirstDecided, AreReadBefore, AreReadyFor, answers_after_parse, read_of_units}
 use Rattle.addr2line_units.specs.KnownEntries.{knows_at}
 use Rattle.addr2line_units.specs.Loads.{NoneOpen, forget_result, forgotten, is_open_at}
-use Rattle.gimli_read.specs.Alike.{HadMemory}
+use Rattle.gimli_read.specs.Alike.{WasNotRefused}
 use Rattle.addr2line_units.specs.UnitIndex.{UnitIndex, index_units}
 use Rattle.addr2line_units.specs.RangedUnits.{unit_records}
 use Rattle.addr2line.specs.Answers.{answered}
@@ -63,7 +63,7 @@ pub record StaysRead (old new : ContextState) : Type 0 where
 pub record AfterLoad (n : ℕ) (given : Option Sections) (result : Result (Unit {0}) Error)
     (old new : ContextState) : Type 0 where
   pub stays : StaysRead old new
-  pub answers : HadMemory result → new.answers ≡ answered old.sections old.answers n given
+  pub answers : WasNotRefused result → new.answers ≡ answered old.sections old.answers n given
   pub begun : (new.answers ≡ old.answers)
       ⊎ (new.answers ≡ answered old.sections old.answers n given)
   pub refused : result ≢ load_reply old.sections old.answers n given
@@ -106,7 +106,7 @@ IsReadyToRead reads c = (m : UnitIndex) → index_units c.sections ≡ Ok m
 pub record AfterParse (reads : ReadingDepth) (result : Result (Unit {0}) Error)
     (old new : ContextState) : Type 0 where
   pub stays : StaysRead old new
-  pub answers : HadMemory result → new.answers ≡ parsed_answers reads old.sections old.answers
+  pub answers : WasNotRefused result → new.answers ≡ parsed_answers reads old.sections old.answers
   pub begun : (m : UnitIndex) → index_units old.sections ≡ Ok m
       → AreFirstDecided reads (main_scope old.sections m) (unit_records m.units) old.answers
       new.answers
@@ -121,8 +121,8 @@ pub record AfterParse (reads : ReadingDepth) (result : Result (Unit {0}) Error)
       ⊎ AreReadBefore reads (main_scope old.sections m) (unit_records m.units) old.answers n
   pub read : OnOk result (AreReadBy reads new)
   pub whole_known : AreReadBy reads old → result ≡ Ok tt
-  pub ready : HadMemory result → IsReadyToRead reads new
-  pub memory : IsReadyToRead reads new → HadMemory result
+  pub ready : WasNotRefused result → IsReadyToRead reads new
+  pub memory : IsReadyToRead reads new → WasNotRefused result
   pub exact : IsReadyToRead reads old → result ≡ parse_reply reads old.sections old.answers
   pub same : IsReadyToRead reads old → (new.answers ≡ old.answers) × (new.known ≡ old.known)
 
@@ -132,5 +132,5 @@ IsAllKnown c = (probe n : ℕ) → knows_at c.known probe n ≡ true
 
 -- no lookup waits or has a fault, if all lines can be read
 abbrev pub ReachesAllOf : ContextState → Type 0
-ReachesAllOf c = lines_of_all c.sections ≡ Ok tt → (faults : Faults) (probe : ℕ)
+ReachesAllOf c = lines_of_all c.sections ≡ Ok tt → (faults : OnFault) (probe : ℕ)
     → IsReached (lookup_stop faults c.sections c.answers probe)

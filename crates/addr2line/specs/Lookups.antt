@@ -7,8 +7,8 @@ use Rattle.gimli_read.specs.declared.error.Error.{Error}
 use Rattle.gimli_read.specs.Reading.{◌>>=◌}
 use Rattle.gimli.specs.Sections.{Sections}
 use Rattle.gimli.specs.Unit.{UnitRecord}
-use Rattle.addr2line_units.specs.declared.frames_lookup.Faults.{Faults}
-use Rattle.addr2line_units.specs.declared.frames_lookup.Faults.TheVariants.{End, PassOver}
+use Rattle.addr2line_units.specs.declared.frames_lookup.OnFault.{OnFault}
+use Rattle.addr2line_units.specs.declared.frames_lookup.OnFault.TheVariants.{End, PassOver}
 use Rattle.addr2line_units.specs.Cover.{cover}
 use Rattle.addr2line_units.specs.Frames.{FrameRecord}
 use Rattle.addr2line_units.specs.FramesLookup.{LookupAsks, Stop, Waits, Finds, FindsNothing, asked_frames, frames_of_number, main_scope, stop_along, unit_found}
@@ -19,20 +19,20 @@ use Rattle.addr2line_units.specs.Views.{FirstAnswers, SplitLoad, load_of_unit}
 use Rattle.addr2line_units.specs.UnitFrames.{FramesResult}
 
 -- what a lookup asks the unit of a number for
-abbrev pub asked_of : Faults → Sections → FirstAnswers → ℕ → UnitIndex → ℕ → FramesResult
+abbrev pub asked_of : OnFault → Sections → FirstAnswers → ℕ → UnitIndex → ℕ → FramesResult
 asked_of faults d answers probe m = asked_frames faults (main_scope d m) m.units answers probe
 
 -- what a lookup comes to among units
-abbrev pub stop_in : Faults → Sections → FirstAnswers → ℕ → UnitIndex → Result Stop Error
+abbrev pub stop_in : OnFault → Sections → FirstAnswers → ℕ → UnitIndex → Result Stop Error
 stop_in faults d answers probe m =
     stop_along (asked_of faults d answers probe m) (cover probe m.ranges)
 
 -- what a lookup comes to
-abbrev pub lookup_stop : Faults → Sections → FirstAnswers → ℕ → Result Stop Error
+abbrev pub lookup_stop : OnFault → Sections → FirstAnswers → ℕ → Result Stop Error
 lookup_stop faults d answers probe = index_units d >>= stop_in faults d answers probe
 
 -- a unit that a lookup asks has this fault
-abbrev pub IsFaultOfAsked : Faults → Sections → FirstAnswers → ℕ → Error → Type 0
+abbrev pub IsFaultOfAsked : OnFault → Sections → FirstAnswers → ℕ → Error → Type 0
 IsFaultOfAsked faults d answers probe e = (m : UnitIndex) × (index_units d ≡ Ok m)
     × ((n : ℕ) × LookupAsks (asked_of faults d answers probe m) (cover probe m.ranges) n
     × (frames_of_number (main_scope d m) m.units answers probe n ≡ Err e))

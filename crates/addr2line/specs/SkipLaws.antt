@@ -1,8 +1,8 @@
 -- Laws of lookups of which none is answered to each load (on Skips and Lookups).
 use Rattle.std.specs.Prelude.{◌≡◌, ℕ, false, length, Ok}
 use Rattle.gimli.specs.Sections.{Sections}
-use Rattle.addr2line_units.specs.declared.frames_lookup.Faults.{Faults}
-use Rattle.addr2line_units.specs.declared.frames_lookup.Faults.TheVariants.{End, PassOver}
+use Rattle.addr2line_units.specs.declared.frames_lookup.OnFault.{OnFault}
+use Rattle.addr2line_units.specs.declared.frames_lookup.OnFault.TheVariants.{End, PassOver}
 use Rattle.addr2line_units.specs.FramesLookup.{is_waiting}
 use Rattle.addr2line_units.specs.UnitIndex.{UnitIndex, index_units}
 use Rattle.addr2line_units.specs.Views.{FirstAnswers}
@@ -11,7 +11,7 @@ use Rattle.addr2line.specs.Skips.{skipped_answers}
 
 -- once none is the answer to each load that a lookup may wait for, the same lookup waits for none
 abbrev pub SkippedWaitsForNone : Type 0
-SkippedWaitsForNone = (faults : Faults) (d : Sections) (m : UnitIndex) (probe : ℕ)
+SkippedWaitsForNone = (faults : OnFault) (d : Sections) (m : UnitIndex) (probe : ℕ)
     (answers : FirstAnswers) → index_units d ≡ Ok m → length m.units ≡ length answers
     → is_waiting (lookup_stop faults d (skipped_answers faults d probe answers) probe) ≡ false
 

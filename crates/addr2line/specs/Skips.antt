@@ -3,8 +3,8 @@
 use Rattle.std.specs.Prelude.{◌≡◌, ℕ, ◌≤◌, Bool, length, replicate, List, None, IfErr, Result}
 use Rattle.gimli_read.specs.declared.error.Error.{Error}
 use Rattle.gimli.specs.Sections.{Sections}
-use Rattle.addr2line_units.specs.declared.frames_lookup.Faults.{Faults}
-use Rattle.gimli_read.specs.Alike.{HadMemory}
+use Rattle.addr2line_units.specs.declared.frames_lookup.OnFault.{OnFault}
+use Rattle.gimli_read.specs.Alike.{WasNotRefused}
 use Rattle.addr2line_units.specs.Parsed.{StaysParsed}
 use Rattle.addr2line.specs.Context.{ContextState}
 use Rattle.addr2line.specs.History.{Given, Answered, answers_given}
@@ -17,7 +17,7 @@ abbrev pub nones : ℕ → List Given
 nones n = replicate n (Answered None)
 
 -- the first answers after none to each load of a lookup
-abbrev pub skipped_answers : Faults → Sections → ℕ → FirstAnswers → FirstAnswers
+abbrev pub skipped_answers : OnFault → Sections → ℕ → FirstAnswers → FirstAnswers
 skipped_answers faults d probe answers =
     answers_given faults d probe answers (nones (length (loads_at d answers probe)))
 
@@ -25,16 +25,16 @@ skipped_answers faults d probe answers =
 -- and stay so; after OutOfMemory some of the first ones. Memory is refused only where something is
 -- left to read, or more than 16 inlined functions stand there; where what is left takes none, a
 -- refusal is the fault of a unit
-pub record AfterSkip {X : Type 0} (shares : Bool) (faults : Faults) (probe : ℕ)
+pub record AfterSkip {X : Type 0} (shares : Bool) (faults : OnFault) (probe : ℕ)
     (result : Result X Error) (old new : ContextState) : Type 0 where
   pub sections : new.sections ≡ old.sections
-  pub answers : HadMemory result
+  pub answers : WasNotRefused result
       → new.answers ≡ skipped_answers faults old.sections probe old.answers
   pub begun : (n : ℕ)
       × (new.answers ≡ answers_given faults old.sections probe old.answers (nones n))
   pub parsed : StaysParsed old.parsed new.parsed
   pub raised : old.looks ≤ new.looks
-  pub ready : HadMemory result → IsKnown faults new probe
-  pub memory : IsKnownFew faults new probe → HadMemory result
+  pub ready : WasNotRefused result → IsKnown faults new probe
+  pub memory : IsKnownFew faults new probe → WasNotRefused result
   pub no_memory : NeedsNoMemory shares faults new probe
       → IfErr result (IsFaultOfAsked faults new.sections new.answers probe)

@@ -3,8 +3,8 @@ use Rattle.std.specs.Prelude.{◌≡◌, ℕ, length, Option, Result, Ok}
 use Rattle.std.specs.Borrow.{MutBor}
 use Rattle.gimli_read.specs.declared.error.Error.{Error}
 use Rattle.gimli.specs.Sections.{Sections}
-use Rattle.addr2line_units.specs.declared.frames_lookup.Faults.{Faults}
-use Rattle.addr2line_units.specs.declared.frames_lookup.Faults.TheVariants.{End, PassOver}
+use Rattle.addr2line_units.specs.declared.frames_lookup.OnFault.{OnFault}
+use Rattle.addr2line_units.specs.declared.frames_lookup.OnFault.TheVariants.{End, PassOver}
 use Rattle.addr2line_units.specs.FramesLookup.{Waits}
 use Rattle.addr2line_units.specs.Views.{SplitLoad}
 use Rattle.addr2line_units.specs.UnitFrames.{FramesResult}
@@ -15,14 +15,14 @@ use Rattle.addr2line.specs.Lookups.{IsLoadOf, UnitResult, frames_of, loads_at, u
 use Rattle.addr2line.specs.Skips.{skipped_answers}
 
 -- a lookup of this context at this probe waits for the unit of a number, with this load
-abbrev pub SuspendsIn : Faults → MutBor ContextState → ℕ → MutBor ContextState → ℕ → ℕ → SplitLoad
+abbrev pub SuspendsIn : OnFault → MutBor ContextState → ℕ → MutBor ContextState → ℕ → ℕ → SplitLoad
     → Type 0
 SuspendsIn faults context probe held at number load =
     (held.ghost_name ≡ context.ghost_name) × (at ≡ probe)
     × Suspends faults probe number load context.now held.now
 
 -- the same once the unit of another number was answered
-abbrev pub SuspendsAgainIn : Faults → MutBor ContextState → ℕ → ℕ → Option Sections
+abbrev pub SuspendsAgainIn : OnFault → MutBor ContextState → ℕ → ℕ → Option Sections
     → MutBor ContextState → ℕ → ℕ → SplitLoad → Type 0
 SuspendsAgainIn faults context probe n given held at number load =
     (held.ghost_name ≡ context.ghost_name) × (at ≡ probe)

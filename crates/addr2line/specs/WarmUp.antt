@@ -2,8 +2,8 @@
 -- Own: at most 16 functions that are inlined at an address take no memory.
 use Rattle.std.specs.Prelude.{◌≡◌, ℕ, true, not, Option, Result, Ok}
 use Rattle.gimli_read.specs.declared.error.Error.{Error}
-use Rattle.gimli_read.specs.Alike.{HadMemory}
-use Rattle.addr2line_units.specs.declared.frames_lookup.Faults.{Faults}
+use Rattle.gimli_read.specs.Alike.{WasNotRefused}
+use Rattle.addr2line_units.specs.declared.frames_lookup.OnFault.{OnFault}
 use Rattle.addr2line_units.specs.Cover.{cover}
 use Rattle.addr2line_units.specs.FramesLookup.{has_many_of, holds_along, main_scope}
 use Rattle.addr2line_units.specs.FunctionParseLaws.{IsReached}
@@ -22,22 +22,22 @@ pub record IsWarm (c : ContextState) : Type 0 where
   pub reaches : ReachesAllOf c
 
 -- at most 16 functions are inlined at the probe in each unit that a lookup asks
-abbrev pub IsFewInlined : Faults → ContextState → ℕ → Type 0
+abbrev pub IsFewInlined : OnFault → ContextState → ℕ → Type 0
 IsFewInlined faults c probe = (m : UnitIndex) → index_units c.sections ≡ Ok m
     → holds_along (λ n. not (has_many_of (main_scope c.sections m) m.units c.answers probe n))
     (asked_of faults c.sections c.answers probe m) (cover probe m.ranges) ≡ true
 
 -- in a warm context a lookup of frames or of a unit waits for nothing and has no fault; it leaves
 -- the context warm, and is refused no memory where few functions are inlined
-pub record FindsAll (faults : Faults) (probe : ℕ) (result : Result (Unit {0}) Error)
+pub record FindsAll (faults : OnFault) (probe : ℕ) (result : Result (Unit {0}) Error)
     (old new : ContextState) : Type 0 where
   pub reached : IsReached (lookup_stop faults old.sections old.answers probe)
   pub warm : IsWarm new
-  pub memory : IsFewInlined faults old probe → HadMemory result
+  pub memory : IsFewInlined faults old probe → WasNotRefused result
 
 -- the same of every such lookup
 abbrev pub FindsAllWhenWarm : Type 0
-FindsAllWhenWarm = (faults : Faults) (probe : ℕ) (result : Result (Unit {0}) Error)
+FindsAllWhenWarm = (faults : OnFault) (probe : ℕ) (result : Result (Unit {0}) Error)
     (old new : ContextState) → IsWarm old → AfterFrames faults probe result old new
     → FindsAll faults probe result old new
 

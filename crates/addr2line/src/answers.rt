@@ -2,7 +2,7 @@
 
 ghost use Rattle.std.specs.Prelude.{◌≡◌, ◌<◌, ℕ, Err, IfErr, OnOk, false, option_map, true};
 ghost use Rattle.addr2line_units.specs.AnswerMemory.{answer_takes_memory};
-ghost use Rattle.addr2line_units.specs.declared.frames_lookup.Faults.{Faults};
+ghost use Rattle.addr2line_units.specs.declared.frames_lookup.OnFault.{OnFault};
 ghost use Rattle.addr2line.specs.Answers.{AfterAnswer, load_reply};
 ghost use Rattle.addr2line.specs.Lookups.{lookup_stop, waits_for};
 ghost use Rattle.addr2line.specs.WaitingLookups.{count_loads};
@@ -25,7 +25,7 @@ impl<R: Reader> Context<R> {
         ensures no_memory { answer_takes_memory R.shares (option_map (λ d. d.value) sections)
             ≡ false → IfErr result (λ e. load_reply self.old.sections self.old.answers number
             (option_map (λ d. d.value) sections) ≡ Err e) }
-        ensures fewer { (faults : Faults) (probe : ℕ) → waits_for number
+        ensures fewer { (faults : OnFault) (probe : ℕ) → waits_for number
             (lookup_stop faults self.old.sections self.old.answers probe) ≡ true
             → OnOk result (count_loads self.new probe < count_loads self.old probe) }
     {

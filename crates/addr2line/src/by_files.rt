@@ -3,7 +3,7 @@
 ghost use Rattle.std.specs.Prelude.{◌≡◌, ◌≢◌, ◌<◌, Err, IfErr, IfOk, Ok, OnErr, OnOk, option_map};
 ghost use Rattle.elf.specs.declared.error.LoaderError.TheVariants.{OutOfMemory, PathNotUtf8};
 ghost use Rattle.addr2line_lines.specs.LastAddress.{last_address};
-ghost use Rattle.addr2line_units.specs.declared.frames_lookup.Faults.TheVariants.{End};
+ghost use Rattle.addr2line_units.specs.declared.frames_lookup.OnFault.TheVariants.{End};
 ghost use Rattle.addr2line_units.specs.FramesLookup.{Waits};
 ghost use Rattle.addr2line.specs.Context.{ContextState, IsUncovered};
 ghost use Rattle.addr2line.specs.Files.{as_read_if_known};
@@ -18,7 +18,7 @@ use crate::compressed::CompressedSections;
 use crate::context::Context;
 use crate::files::FileSource;
 use crate::split_files::answer_to;
-use addr2line_units::frames_lookup::Faults;
+use addr2line_units::frames_lookup::OnFault;
 use elf::LoaderError;
 use gimli::Dwarf;
 use gimli::read::EndianBytes;
@@ -100,7 +100,7 @@ pub(crate) fn answer_loads<F: FileSource>(
     ensures last { probe ≡ last_address → IsUncovered ctx.old probe }
 {
     loop {
-        ctx.walk(probe, Faults::End)?;
+        ctx.walk(probe, OnFault::End)?;
         match ctx.waits_for() {
             Some(number) => answer_load(alloc, files, compressed, ctx, probe, number)?,
             None => return Ok(()),

@@ -10,7 +10,7 @@ ghost use Rattle.addr2line_lines.specs.SeenLocation.{seen_location};
 ghost use Rattle.addr2line_units.specs.Indexed.{context_takes_memory};
 ghost use Rattle.addr2line_units.specs.Located.{location_of, spans_of};
 ghost use Rattle.addr2line_units.specs.LocationsLeft.{locations_left};
-ghost use Rattle.gimli_read.specs.Alike.{HadMemory};
+ghost use Rattle.gimli_read.specs.Alike.{WasNotRefused};
 ghost use Rattle.addr2line_units.specs.Parsed.{AreAllParsed};
 ghost use Rattle.addr2line.specs.Context.{new_context, lines_of_all, AfterLookupOver, AfterRangeLookup, IsReady, IsUncovered, IsReadyForAll, IsReadyForRange, ParsesToFault, Stays};
 
@@ -217,8 +217,8 @@ impl<R: Reader> Context<R> {
             → Exactly (λ x. x) result (lines_of_all self.old.sections) }
         ensures stays { Stays self.old self.new }
         ensures looks { self.new.looks ≡ self.old.looks }
-        ensures ready_for_all { HadMemory result → IsReadyForAll self.new }
-        ensures memory { IsReadyForAll self.new → HadMemory result }
+        ensures ready_for_all { WasNotRefused result → IsReadyForAll self.new }
+        ensures memory { IsReadyForAll self.new → WasNotRefused result }
         ensures only { ParsesToFault self.old self.new }
         ensures same { IsReadyForAll self.old → self.new.parsed ≡ self.old.parsed }
         ensures parsed { OnOk result (AreAllParsed self.new.parsed) }

@@ -8,7 +8,7 @@ ghost use Rattle.addr2line_lines.specs.SeenLocation.{seen_location};
 ghost use Rattle.addr2line_units.specs.FramesLeft.{frames_left};
 ghost use Rattle.addr2line_units.specs.FramesLookup.{Stop, is_waiting};
 ghost use Rattle.addr2line_units.specs.LocationsLeft.{locations_left};
-ghost use Rattle.gimli_read.specs.Alike.{HadMemory};
+ghost use Rattle.gimli_read.specs.Alike.{WasNotRefused};
 ghost use Rattle.addr2line_lines.specs.RangesLeft.{seen_located};
 ghost use Rattle.addr2line_units.specs.SeenFrame.{seen_frame, seen_name};
 ghost use Rattle.addr2line_units.specs.SeenUnit.{seen_found, seen_unit};
@@ -132,7 +132,7 @@ pub(crate) fn location_reply(
     ensures gives { (given : LocationResult)
         → ExactlyUnlessOom (option_map seen_location) location.entry given
         → IfOk result (λ r. seen_reply r ≡ Located given) }
-    ensures told { OnOk result (HadMemory location.entry) }
+    ensures told { OnOk result (WasNotRefused location.entry) }
     ensures fault { IfErr location.entry (λ e. e ≢ OutOfMemory → IsOk result) }
     ensures refused { IfErr result (λ e. e ≡ OutOfMemory) }
 {
@@ -187,7 +187,7 @@ pub(crate) fn frames_reply<R: Reader>(
     ensures gives { (stop : Result Stop Error)
         → ExactlyUnlessOom (λ i. Some (frames_left i)) frames.entry (frames_of_stop stop)
         → IfOk result (λ r. (seen_reply r ≡ reply_of_frames stop) × (is_waiting stop ≡ false)) }
-    ensures told { OnOk result (HadMemory frames.entry) }
+    ensures told { OnOk result (WasNotRefused frames.entry) }
     ensures fault { IfErr frames.entry (λ e. e ≢ OutOfMemory → IsOk result) }
     ensures refused { IfErr result (λ e. e ≡ OutOfMemory) }
 {
@@ -219,7 +219,7 @@ pub(crate) fn unit_reply<R: Reader>(
         → (is_waiting stop ≡ true → given ≡ Ok None)
         → IfOk result (λ r. (seen_reply r ≡ reply_of_unit stop given)
         × (is_waiting stop ≡ false)) }
-    ensures told { OnOk result (HadMemory unit.entry) }
+    ensures told { OnOk result (WasNotRefused unit.entry) }
     ensures refused { IfErr result (λ e. e ≡ OutOfMemory) }
 {
     match unit {
@@ -248,7 +248,7 @@ pub(crate) fn loads_reply<R: Reader>(
 pub(crate) fn done_reply(done: Result<(), Error>) -> Result<Reply, Error>
     ensures gives { (given : Result (Unit {0}) Error) → ExactlyUnlessOom (λ x. x) done given
         → IfOk result (λ r. seen_reply r ≡ Ended given) }
-    ensures told { OnOk result (HadMemory done) }
+    ensures told { OnOk result (WasNotRefused done) }
     ensures refused { IfErr result (λ e. (e ≡ OutOfMemory) × (done ≡ Err OutOfMemory)) }
 {
     match done {

@@ -3,7 +3,7 @@
 ghost use Rattle.std.specs.Prelude.{◌≡◌, ◌<◌, None, Some, option_map, true};
 ghost use Rattle.std.specs.Borrow.{sem};
 ghost use Rattle.gimli_read.specs.Reading.{ExactlyUnlessOom};
-ghost use Rattle.addr2line_units.specs.declared.frames_lookup.Faults.TheVariants.{End};
+ghost use Rattle.addr2line_units.specs.declared.frames_lookup.OnFault.TheVariants.{End};
 ghost use Rattle.addr2line_units.specs.FramesLeft.{frames_left};
 ghost use Rattle.addr2line_lines.specs.LastAddress.{last_address};
 ghost use Rattle.addr2line_units.specs.Suspended.{IfLoad, IfOutput, IsOkOutput, SkipsTo};
@@ -18,7 +18,7 @@ ghost use Rattle.addr2line.specs.WaitingLookups.{HoldsIn, SuspendsAgainIn, Suspe
 use crate::context::Context;
 use addr2line_units::FrameIter;
 use addr2line_units::continuation::{LookupContinuation, LookupResult};
-use addr2line_units::frames_lookup::Faults;
+use addr2line_units::frames_lookup::OnFault;
 use addr2line_units::view::SplitDwarfLoad;
 use gimli::Dwarf;
 use gimli::read::{Error, Reader};
@@ -95,7 +95,7 @@ fn begin<R: Reader>(ctx: &mut Context<R>, probe: u64) -> LookupResult<FramesLook
     ensures output { IfOutput result (λ o. ExactlyUnlessOom (λ i. Some (frames_left i)) o
         (frames_of_context ctx.old probe)) }
 {
-    let walked = ctx.walk(probe, Faults::End);
+    let walked = ctx.walk(probe, OnFault::End);
     lend(ctx, probe, walked)
 }
 
@@ -131,7 +131,7 @@ fn skip<R: Reader>(ctx: &mut Context<R>, probe: u64) -> LookupResult<FramesLooku
     ensures output { IfOutput result (λ o. ExactlyUnlessOom (λ i. Some (frames_left i)) o
         (frames_skipped ctx.old probe)) }
 {
-    let walked = ctx.skip_loads(probe, Faults::End);
+    let walked = ctx.skip_loads(probe, OnFault::End);
     lend(ctx, probe, walked)
 }
 
@@ -260,7 +260,7 @@ impl<R: Reader> Context<R> {
         ensures last { probe ≡ last_address → IsOkOutput result }
         ensures uncovered { IsUncovered self.old probe → IsOkOutput result }
     {
-        let walked = self.walk(probe, Faults::End);
+        let walked = self.walk(probe, OnFault::End);
         lend(self, probe, walked)
     }
 }

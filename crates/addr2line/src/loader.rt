@@ -10,7 +10,7 @@ ghost use Rattle.elf.specs.Symbols.{NamedAddress, named_address, symbol_at};
 ghost use Rattle.gimli.specs.Sections.{Sections, SupSections};
 ghost use Rattle.addr2line_lines.specs.LastAddress.{last_address};
 ghost use Rattle.addr2line_lines.specs.SeenLocation.{seen_location};
-ghost use Rattle.addr2line_units.specs.declared.frames_lookup.Faults.TheVariants.{End};
+ghost use Rattle.addr2line_units.specs.declared.frames_lookup.OnFault.TheVariants.{End};
 ghost use Rattle.addr2line_units.specs.FramesLeft.{frames_left};
 ghost use Rattle.addr2line_units.specs.Located.{location_of, spans_of};
 ghost use Rattle.addr2line_units.specs.LocationsLeft.{locations_left};

@@ -2,7 +2,7 @@
 
 ghost use Rattle.std.specs.Prelude.{◌≡◌, IfErr, IfOk, map, option_map};
 ghost use Rattle.gimli_read.specs.declared.error.Error.TheVariants.{OutOfMemory};
-ghost use Rattle.addr2line_units.specs.declared.frames_lookup.Faults.TheVariants.{End, PassOver};
+ghost use Rattle.addr2line_units.specs.declared.frames_lookup.OnFault.TheVariants.{End, PassOver};
 ghost use Rattle.addr2line_units.specs.declared.parses.ReadingDepth.TheVariants as kinds;
 ghost use Rattle.addr2line_units.specs.Loads.{token_number};
 ghost use Rattle.addr2line_units.specs.Located.{location_of, spans_of};

@@ -2,19 +2,19 @@
 
 ghost use Rattle.std.specs.Prelude.{◌≡◌, IfErr, None, OnOk};
 ghost use Rattle.gimli_read.specs.declared.error.Error.TheVariants.{OutOfMemory};
-ghost use Rattle.addr2line_units.specs.declared.frames_lookup.Faults.TheVariants.{PassOver};
+ghost use Rattle.addr2line_units.specs.declared.frames_lookup.OnFault.TheVariants.{PassOver};
 ghost use Rattle.addr2line.specs.AfterLookups.{IsStored};
 ghost use Rattle.addr2line_units.specs.UnitsState.{waiting_unit};
 ghost use Rattle.addr2line.specs.Skips.{AfterSkip};
 
 use crate::context::Context;
-use addr2line_units::frames_lookup::Faults;
+use addr2line_units::frames_lookup::OnFault;
 use gimli::read::{Error, Reader};
 
 impl<R: Reader> Context<R> {
     // Stores what a lookup comes to, where none is answered to each load that it waits for. What it
     // asks for is read and cached.
-    pub(crate) fn skip_loads(&mut self, probe: u64, faults: Faults) -> Result<(), Error>
+    pub(crate) fn skip_loads(&mut self, probe: u64, faults: OnFault) -> Result<(), Error>
         ensures gives { IsStored faults probe result self.new }
         ensures refused { faults ≡ PassOver → IfErr result (λ e. e ≡ OutOfMemory) }
         ensures ended { OnOk result (waiting_unit self.new.stop ≡ None) }

@@ -2,9 +2,9 @@
 
 ghost use Rattle.std.specs.Prelude.{◌≡◌, IfErr, IfOk};
 ghost use Rattle.gimli_read.specs.declared.error.Error.TheVariants.{OutOfMemory};
-ghost use Rattle.gimli_read.specs.Alike.{HadMemory};
+ghost use Rattle.gimli_read.specs.Alike.{WasNotRefused};
 ghost use Rattle.addr2line_lines.specs.LastAddress.{last_address};
-ghost use Rattle.addr2line_units.specs.declared.frames_lookup.Faults.TheVariants.{PassOver};
+ghost use Rattle.addr2line_units.specs.declared.frames_lookup.OnFault.TheVariants.{PassOver};
 ghost use Rattle.addr2line_units.specs.FramesLeft.{frames_left};
 ghost use Rattle.addr2line_units.specs.FramesLookup.{Waits, frames_found};
 ghost use Rattle.addr2line_units.specs.SeenUnit.{seen_unit};
@@ -16,19 +16,19 @@ ghost use Rattle.std.specs.Prelude.{option_map};
 
 use crate::context::Context;
 use addr2line_units::FrameIter;
-use addr2line_units::frames_lookup::Faults;
+use addr2line_units::frames_lookup::OnFault;
 use addr2line_units::view::SplitDwarfLoad;
 use gimli::UnitRef;
 use gimli::read::{Error, Reader};
 
 impl<R: Reader> Context<R> {
     // Stores what a lookup comes to. What it asks for is read and cached.
-    pub(crate) fn walk(&mut self, probe: u64, faults: Faults) -> Result<(), Error>
+    pub(crate) fn walk(&mut self, probe: u64, faults: OnFault) -> Result<(), Error>
         ensures gives { IsStored faults probe result self.new }
         ensures refused { faults ≡ PassOver → IfErr result (λ e. e ≡ OutOfMemory) }
         ensures last { probe ≡ last_address → IsUncovered self.old probe }
         ensures after { AfterFrames faults probe result self.old self.new }
-        ensures memory { IsKnownFew faults self.new probe → HadMemory result }
+        ensures memory { IsKnownFew faults self.new probe → WasNotRefused result }
         ensures no_memory { NeedsNoMemory R.shares faults self.new probe → IfErr result
             (IsFaultOfAsked faults self.old.sections self.old.answers probe) }
     {

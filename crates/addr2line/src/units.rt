@@ -4,7 +4,7 @@ ghost use Rattle.std.specs.Prelude.{◌≡◌, ◌<◌, None, IfErr, option_map,
 ghost use Rattle.std.specs.Borrow.{sem};
 ghost use Rattle.gimli_read.specs.declared.error.Error.TheVariants.{OutOfMemory};
 ghost use Rattle.gimli_read.specs.Reading.{ExactlyUnlessOom};
-ghost use Rattle.addr2line_units.specs.declared.frames_lookup.Faults.TheVariants.{PassOver};
+ghost use Rattle.addr2line_units.specs.declared.frames_lookup.OnFault.TheVariants.{PassOver};
 ghost use Rattle.addr2line_units.specs.SeenUnit.{seen_found};
 ghost use Rattle.addr2line_lines.specs.LastAddress.{last_address};
 ghost use Rattle.addr2line_units.specs.Suspended.{IfLoad, IfOutput, IsOkOutput, SkipsTo};
@@ -18,7 +18,7 @@ ghost use Rattle.addr2line.specs.WaitingLookups.{HoldsIn, SuspendsAgainIn, Suspe
 
 use crate::context::Context;
 use addr2line_units::continuation::{LookupContinuation, LookupResult};
-use addr2line_units::frames_lookup::Faults;
+use addr2line_units::frames_lookup::OnFault;
 use addr2line_units::view::SplitDwarfLoad;
 use gimli::read::{Error, Reader};
 use gimli::{Dwarf, UnitRef};
@@ -98,7 +98,7 @@ fn begin<R: Reader>(ctx: &mut Context<R>, probe: u64) -> LookupResult<UnitLookup
         (unit_of_context ctx.old probe)) }
     ensures refused { IfOutput result (λ o. IfErr o (λ e. e ≡ OutOfMemory)) }
 {
-    let walked = ctx.walk(probe, Faults::PassOver);
+    let walked = ctx.walk(probe, OnFault::PassOver);
     lend(ctx, probe, walked)
 }
 
@@ -136,7 +136,7 @@ fn skip<R: Reader>(ctx: &mut Context<R>, probe: u64) -> LookupResult<UnitLookup<
         (unit_skipped ctx.old probe)) }
     ensures refused { IfOutput result (λ o. IfErr o (λ e. e ≡ OutOfMemory)) }
 {
-    let walked = ctx.skip_loads(probe, Faults::PassOver);
+    let walked = ctx.skip_loads(probe, OnFault::PassOver);
     lend(ctx, probe, walked)
 }
 
@@ -267,7 +267,7 @@ impl<R: Reader> Context<R> {
         ensures last { probe ≡ last_address → IsOkOutput result }
         ensures uncovered { IsUncovered self.old probe → IsOkOutput result }
     {
-        let walked = self.walk(probe, Faults::PassOver);
+        let walked = self.walk(probe, OnFault::PassOver);
         lend(self, probe, walked)
     }
 }

@@ -1,11 +1,11 @@
 -- The context that a lookup leaves, by its status (on specs/Left.antt).
 use Rattle.std.proofs.Common.{◌≡◌, ◌≢◌, ◌⊎◌, ◌∙◌, ℕ, Bool, true, false, Option, Some, None, option_map, Result, Ok, Err, refl, sym, subst}
 use Rattle.gimli_read.specs.declared.error.Error.{Error}
-use Rattle.gimli_read.specs.Alike.{HadMemory}
+use Rattle.gimli_read.specs.Alike.{WasNotRefused}
 use Rattle.gimli_read.specs.Reading.{result_map}
 use Rattle.elf.specs.declared.error.LoaderError.TheVariants.{OutOfMemory}
 use Rattle.elf.specs.Text.{loader_error_of}
-use Rattle.addr2line_units.specs.declared.frames_lookup.Faults.TheVariants.{End}
+use Rattle.addr2line_units.specs.declared.frames_lookup.OnFault.TheVariants.{End}
 use Rattle.addr2line_units.specs.Located.{is_found}
 use Rattle.addr2line.specs.AfterLookups.{AfterFrames, AfterFramesOver, IsKnownFew}
 use Rattle.addr2line.specs.Context.{AfterLookup, AfterRangeLookup, ContextState, IsReady, IsReadyForRange}
@@ -25,7 +25,7 @@ done_is_no_refusal false q = absurd cc
 
 -- a lookup that had memory is not refused it
 pub had_memory : {X : Type 0} (missing : Status) (fits : Bool) (r : Result (Option X) Error) (s : Status)
-    → missing ≢ Refused OutOfMemory → s ≡ status_by missing fits r → HadMemory r → s ≢ Refused OutOfMemory
+    → missing ≢ Refused OutOfMemory → s ≡ status_by missing fits r → WasNotRefused r → s ≢ Refused OutOfMemory
 had_memory missing fits (Ok (Some x)) s ne is had q = done_is_no_refusal fits (sym is ∙ q)
 had_memory missing fits (Ok None) s ne is had q = ne (sym is ∙ q)
 had_memory missing fits (Err e) s ne is had q = refused (sym is ∙ q)
@@ -34,7 +34,7 @@ had_memory missing fits (Err e) s ne is had q = refused (sym is ∙ q)
     refused w = not_told e had cc
 
 had_memory_reply : {X : Type 0} (fits : Bool) (r : Result X Error) (s : Status)
-    → s ≡ after_reply (was_made r) (done_if fits) → HadMemory r → s ≢ Refused OutOfMemory
+    → s ≡ after_reply (was_made r) (done_if fits) → WasNotRefused r → s ≢ Refused OutOfMemory
 had_memory_reply fits (Ok x) s is had q = done_is_no_refusal fits (sym is ∙ q)
 had_memory_reply fits (Err e) s is had q = refused (sym is ∙ q)
   where
@@ -53,7 +53,7 @@ came_status missing fits (Err e) = refl
 
 -- a lookup has left the same context whatever it found
 looked_alike : {X Y : Type 0} (probe : ℕ) (r : Result (Option X) Error) (q : Result (Option Y) Error)
-    (old new : ContextState) → (HadMemory q → HadMemory r) → (HadMemory r → HadMemory q)
+    (old new : ContextState) → (WasNotRefused q → WasNotRefused r) → (WasNotRefused r → WasNotRefused q)
     → is_found q ≡ is_found r → AfterLookup probe r old new → AfterLookup probe q old new
 looked_alike probe r q old new to from found a = record {
   stays = a.stays;
@@ -185,6 +185,6 @@ pub frames_had_memory : {X : Type 0} (shares : Bool) (probe : ℕ) (fits : Bool)
 frames_had_memory {X} shares probe fits s r old new is a ended few =
     had_memory Waits fits (found_some r) s (λ q. absurd cc) is (by r a.after)
   where
-    by : (r : Result X Error) → AfterFrames End probe r old new → HadMemory (found_some r)
+    by : (r : Result X Error) → AfterFrames End probe r old new → WasNotRefused (found_some r)
     by (Ok x) b = tt
     by (Err e) b = b.memory (few_stays probe old new b.sections b.answers b.known b.parsed few) ended

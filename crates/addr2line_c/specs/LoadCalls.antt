@@ -6,7 +6,7 @@ use Rattle.std.specs.Prelude.{◌≡◌, ◌≢◌, ◌==◌, ◌++◌, ℕ, Boo
 use Rattle.gimli_read.specs.declared.error.Error.{Error}
 use Rattle.gimli_read.specs.declared.error.Error.TheVariants.{UnknownToken}
 use Rattle.gimli_read.specs.Reading.{IsUnlessOom}
-use Rattle.gimli_read.specs.Alike.{HadMemory}
+use Rattle.gimli_read.specs.Alike.{WasNotRefused}
 use Rattle.gimli.specs.Sections.{Sections}
 use Rattle.elf.specs.declared.error.LoaderError.TheVariants as loading
 use Rattle.elf.specs.Loading.{Loading}
@@ -105,7 +105,7 @@ module _ {R : Type 0} where
 pub record AfterLines (result : Result (Unit {0}) Error) (old new : ContextState) : Type 0 where
   pub stays : Stays old new
   pub only : ParsesToFault old new
-  pub ready : HadMemory result → IsReadyForAll new
+  pub ready : WasNotRefused result → IsReadyForAll new
 
 -- the lines of all units were read and then the functions, each up to the first fault; the status
 -- says the first of these faults

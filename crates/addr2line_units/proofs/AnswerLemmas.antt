@@ -92,7 +92,7 @@ pub open_by_look : {R : Type 0} (d : Sections) (u : UnitRecord) (v w : UnitView 
     → is_open d u (seen_first_answer v) ≡ b
 open_by_look d u v w b h l same e = ap (λ a. is_open d u a) (sym same) ∙ sym (looked_waits d u w h l) ∙ sym e
 
--- what was decided before a look doesn't wait after it
+-- what was decided before a check of the split file doesn't wait after it
 pub never_waits : {R : Type 0} (v w : UnitEntries R) (b : Bool) → is_decided v.view.state ≡ true → (was_looked_at v.view.state ≡ true → w ≡ v) → b ≡ waits w.view.state → b ≡ true → ⊥
 never_waits v w b h same e t =
     let f : waits w.view.state ≡ false = ap (λ x. waits x.view.state) (same (decided_was_looked_at v.view.state h)) ∙ decided_waits_not v.view.state h in

@@ -6,12 +6,12 @@ use Rattle.std.proofs.lemmas.Option.{get_or_from_slice_get, slice_get_within}
 use Rattle.std.specs.Prelude.{IfErr, IfOk, unwrap_or}
 use Rattle.gimli_read.specs.declared.error.Error.{Error}
 use Rattle.gimli_read.specs.declared.error.Error.TheVariants.{OutOfMemory}
-use Rattle.gimli_read.specs.Alike.{HadMemory}
+use Rattle.gimli_read.specs.Alike.{WasNotRefused}
 use Rattle.gimli_read.specs.Reading.{◌>>=◌, ExactlyUnlessOom}
 use Rattle.gimli.specs.Sections.{Sections}
 use Rattle.gimli.specs.Unit.{UnitRecord}
 use Rattle.addr2line_lines.specs.References.{Scope}
-use Rattle.addr2line_units.specs.declared.frames_lookup.Faults.{Faults}
+use Rattle.addr2line_units.specs.declared.frames_lookup.OnFault.{OnFault}
 use Rattle.addr2line_units.specs.declared.frames_lookup.FramesStop.{FramesStop}
 use Rattle.addr2line_units.specs.declared.frames_lookup.FramesStop.TheVariants as stops
 use Rattle.addr2line_units.specs.declared.index.UnitRange.{UnitRange}
@@ -68,10 +68,10 @@ module _ {R : Type 0} (scope : Scope) (rs : List ResUnit) (vs : List (UnitEntrie
     vs_past : length vs ≤ n
     vs_past = subst (λ m. m ≤ n) (as_many_entries scope us vs i.entries) (none_past us n none)
 
-    of_faults : (faults : Faults) (r : FramesResult) → r ≡ Ok (Some []) → (after_fault faults r >>= or_stop n (Ok FindsNothing)) ≡ Ok FindsNothing
+    of_faults : (faults : OnFault) (r : FramesResult) → r ≡ Ok (Some []) → (after_fault faults r >>= or_stop n (Ok FindsNothing)) ≡ Ok FindsNothing
     of_faults faults r e = ap (λ x. after_fault faults x >>= or_stop n (Ok FindsNothing)) e
 
-    pub none_gives : (faults : Faults) → stop_at faults probe old n ≡ Ok FindsNothing
+    pub none_gives : (faults : OnFault) → stop_at faults probe old n ≡ Ok FindsNothing
     none_gives faults = of_faults faults _ (nothing_at scope probe us rs vs n rs_past)
 
     pub none_after : AfterAsk {X = Unit {0}} n probe (Ok tt) old (seen_units scope rs vs looks FindsNothing)
@@ -117,7 +117,7 @@ module _ {R : Type 0} (scope : Scope) (rs : List ResUnit) (vs : List (UnitEntrie
           stop = lendable;
         }
 
-        module _ (faults : Faults) (result : Result UnitFrames Error) (gives : ExactlyUnlessOom (frames_of_place s w) result (frames_in scope (indexed_unit u r) (first_answer_of v) probe)) where
+        module _ (faults : OnFault) (result : Result UnitFrames Error) (gives : ExactlyUnlessOom (frames_of_place s w) result (frames_in scope (indexed_unit u r) (first_answer_of v) probe)) where
           given : ExactlyUnlessOom (frames_found_at new_rs new_vs n) (found_after_fault faults result) (asked_by faults probe old n)
           given = gives_after faults (frames_found_at new_rs new_vs n) result _ refl
               (frames_given scope probe us rs vs n d i.lines i.entries in_lines u r s v w unit own_is entries_is result gives)
@@ -152,9 +152,9 @@ module _ {R : Type 0} (scope : Scope) (rs : List ResUnit) (vs : List (UnitEntrie
           -- what is known after it
           module _ (stays : StaysUnit r s) (stay : StayEntries v w) (only : ReadsEntriesOf probe v w)
               (lines : asks_lines_in scope u (first_answer_of v) probe ≡ false → s ≡ r)
-              (ready : HadMemory result → has_entries probe w ≡ true)
-              (parsed : HadMemory result → asks_lines_in scope u (first_answer_of v) probe ≡ true → is_uncached s.lines ≡ false)
-              (memory : has_entries probe w ≡ true → (asks_lines_in scope u (first_answer_of v) probe ≡ true → is_uncached s.lines ≡ false) → has_many scope u (first_answer_of v) probe ≡ false → HadMemory result) where
+              (ready : WasNotRefused result → has_entries probe w ≡ true)
+              (parsed : WasNotRefused result → asks_lines_in scope u (first_answer_of v) probe ≡ true → is_uncached s.lines ≡ false)
+              (memory : has_entries probe w ≡ true → (asks_lines_in scope u (first_answer_of v) probe ≡ true → is_uncached s.lines ≡ false) → has_many scope u (first_answer_of v) probe ≡ false → WasNotRefused result) where
             stay_rs : StayUnits rs new_rs
             stay_rs = stay_set rs n r s in_lines own_is stays
 
@@ -170,7 +170,7 @@ module _ {R : Type 0} (scope : Scope) (rs : List ResUnit) (vs : List (UnitEntrie
             abbrev asks : ℕ → Bool
             asks m = asks_lines_of scope (indexed_units us rs) (answers_in vs) probe m
 
-            known_there : HadMemory result → has_frames_at asks probe (parsed_units new_rs) new_vs n ≡ true
+            known_there : WasNotRefused result → has_frames_at asks probe (parsed_units new_rs) new_vs n ≡ true
             known_there told = known_then scope probe us rs vs n d i.lines i.entries in_lines u r s v w unit own_is entries_is (ready told) (parsed told)
 
             -- what is stored can be lent
@@ -178,7 +178,7 @@ module _ {R : Type 0} (scope : Scope) (rs : List ResUnit) (vs : List (UnitEntrie
             stop_lendable entries ok f e =
                 lendable_if_told scope probe faults us new_rs new_vs (indexed_units us rs) (answers_in vs) asks (parsed_units new_rs) (range_of n) (Ok (found_stop n f)) (entries_set scope us vs n u w unit i.entries entries)
                 (sym units_same) (sym answers_same) (stop_right ok f e) (asked_ok f e)
-                (λ _. holds_alone (has_frames_at asks probe (parsed_units new_rs) new_vs n) (asked_by faults probe old n) (known_there (oom_before faults result (subst HadMemory (sym e) tt))))
+                (λ _. holds_alone (has_frames_at asks probe (parsed_units new_rs) new_vs n) (asked_by faults probe old n) (known_there (oom_before faults result (subst WasNotRefused (sym e) tt))))
 
             module _ (now : ℕ) (raised : looks ≤ now) (stop : Stop) where
               abbrev new : UnitsState
@@ -214,7 +214,7 @@ module _ {R : Type 0} (scope : Scope) (rs : List ResUnit) (vs : List (UnitEntrie
                       ∙ ap (λ b. (has_entries_at probe new_vs n || not (functions_in_take_memory shares scope u (first_answer_of v))) && (not b || (has_parsed (parsed_units new_rs) n || not (lines_of_take_memory shares (indexed_units us rs) n)))) (asks_are scope probe us rs vs n d i.lines i.entries in_lines u r s v w unit own_is entries_is)
                       ∙ ap (λ b. (has_entries_at probe new_vs n || not (functions_in_take_memory shares scope u (first_answer_of v))) && (not (asks_lines_in scope u (first_answer_of v) probe) || (has_parsed (parsed_units new_rs) n || not b))) (lines_take scope probe us rs vs n d i.lines i.entries in_lines u r s v w unit own_is entries_is shares)
 
-              pub after_asked : {X : Type 0} (q : Result X Error) → (HadMemory q → HadMemory result) → (HadMemory result → HadMemory q) → AfterAsk n probe q old new
+              pub after_asked : {X : Type 0} (q : Result X Error) → (WasNotRefused q → WasNotRefused result) → (WasNotRefused result → WasNotRefused q) → AfterAsk n probe q old new
               after_asked q before then = record {
                 asked = record {
                   scope = refl;

@@ -3,13 +3,13 @@
 use Rattle.std.proofs.Common.{◌≡◌, ℕ, zero, suc, Bool, true, false, ◌&&◌, ◌||◌, List, [], ◌∷◌, Option, Some, None, Result, Ok, Err, ap, refl, subst, ◌∙◌}
 use Rattle.std.specs.Prelude.{IfOk, if◌then◌else◌}
 use Rattle.gimli_read.specs.declared.error.Error.{Error}
-use Rattle.gimli_read.specs.Alike.{HadMemory}
+use Rattle.gimli_read.specs.Alike.{WasNotRefused}
 use Rattle.gimli_read.specs.Reading.{◌>>=◌, ExactlyUnlessOom}
 use Rattle.gimli.specs.Sections.{Sections}
 use Rattle.gimli.specs.Unit.{UnitRecord}
 use Rattle.addr2line_lines.specs.References.{Scope}
-use Rattle.addr2line_units.specs.declared.frames_lookup.Faults.{Faults}
-use Rattle.addr2line_units.specs.declared.frames_lookup.Faults.TheVariants.{End, PassOver}
+use Rattle.addr2line_units.specs.declared.frames_lookup.OnFault.{OnFault}
+use Rattle.addr2line_units.specs.declared.frames_lookup.OnFault.TheVariants.{End, PassOver}
 use Rattle.addr2line_units.specs.declared.frames_lookup.FramesStop.{FramesStop}
 use Rattle.addr2line_units.specs.declared.frames_lookup.FramesStop.TheVariants as stops
 use Rattle.addr2line_units.specs.declared.index.UnitRange.{UnitRange}
@@ -72,7 +72,7 @@ always_along frames (r ∷ ranges) = by (ends_lookup (frames r.unit)) (always_al
     by true e = refl
     by false e = e
 
-pub found_by_unit : (faults : Faults) (r : FramesResult) → has_frames (after_fault faults r) ≡ true → has_frames r ≡ true
+pub found_by_unit : (faults : OnFault) (r : FramesResult) → has_frames (after_fault faults r) ≡ true → has_frames r ≡ true
 unfolding has_frames
 found_by_unit faults (Ok x) e = e
 found_by_unit End (Err x) e = e
@@ -109,7 +109,7 @@ module _ {R : Type 0} (scope : Scope) (probe : ℕ) where
   decided_there (u ∷ us) (r ∷ rs) (v ∷ vs) (suc n) own e h = decided_there us rs vs n own.1 e h
 
   -- so it is where a lookup has found something
-  pub known_where_found : (faults : Faults) (us : List UnitRecord) (rs : List ResUnit) (vs : List (UnitEntries R)) (asks_lines : ℕ → Bool) (parsed : List Bool) (ranges : List UnitRange) (n : ℕ) (fs : List FrameRecord) → HaveEntriesOf scope us vs
+  pub known_where_found : (faults : OnFault) (us : List UnitRecord) (rs : List ResUnit) (vs : List (UnitEntries R)) (asks_lines : ℕ → Bool) (parsed : List Bool) (ranges : List UnitRange) (n : ℕ) (fs : List FrameRecord) → HaveEntriesOf scope us vs
       → holds_along (has_frames_at asks_lines probe parsed vs) (asked_frames faults scope (indexed_units us rs) (answers_in vs) probe) ranges ≡ true
       → stop_along (asked_frames faults scope (indexed_units us rs) (answers_in vs) probe) ranges ≡ Ok (Finds n fs) → decided_at vs n ≡ true
   known_where_found faults us rs vs asks_lines parsed ranges n fs own h w =
@@ -118,10 +118,10 @@ module _ {R : Type 0} (scope : Scope) (probe : ℕ) where
       (and_first (has_entries_at probe vs n) _ t.1)
 
   -- so what a lookup has come to can be lent
-  pub lendable_if_told : (faults : Faults) (us : List UnitRecord) (rs : List ResUnit) (vs : List (UnitEntries R)) (units : List IndexedUnit) (answers : FirstAnswers) (asks_lines : ℕ → Bool)
+  pub lendable_if_told : (faults : OnFault) (us : List UnitRecord) (rs : List ResUnit) (vs : List (UnitEntries R)) (units : List IndexedUnit) (answers : FirstAnswers) (asks_lines : ℕ → Bool)
       (parsed : List Bool) (ranges : List UnitRange) (r : Result FramesStop Error) → HaveEntriesOf scope us vs → units ≡ indexed_units us rs → answers ≡ answers_in vs → IfOk r (IsStopIn rs vs)
       → ExactlyUnlessOom (seen_stop rs vs) r (stop_along (asked_frames faults scope units answers probe) ranges)
-      → (HadMemory r → holds_along (has_frames_at asks_lines probe parsed vs) (asked_frames faults scope units answers probe) ranges ≡ true) → IfOk r (IsLendable rs vs)
+      → (WasNotRefused r → holds_along (has_frames_at asks_lines probe parsed vs) (asked_frames faults scope units answers probe) ranges ≡ true) → IfOk r (IsLendable rs vs)
   lendable_if_told faults us rs vs units answers asks_lines parsed ranges (Err x) own e f there gives ready = tt
   lendable_if_told faults us rs vs units answers asks_lines parsed ranges (Ok stops.FindsNothing) own e f there gives ready = tt
   lendable_if_told faults us rs vs units answers asks_lines parsed ranges (Ok (stops.Finds p)) own e f there gives ready = (

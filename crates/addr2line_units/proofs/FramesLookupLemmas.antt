@@ -8,8 +8,8 @@ use Rattle.gimli_read.specs.Reading.{◌>>=◌, ExactlyUnlessOom}
 use Rattle.gimli_read.specs.Section.{Section}
 use Rattle.addr2line_lines.specs.InlinedEntries.{InlinedEntry}
 use Rattle.addr2line_lines.specs.Location.{Location}
-use Rattle.addr2line_units.specs.declared.frames_lookup.Faults.{Faults}
-use Rattle.addr2line_units.specs.declared.frames_lookup.Faults.TheVariants.{End, PassOver}
+use Rattle.addr2line_units.specs.declared.frames_lookup.OnFault.{OnFault}
+use Rattle.addr2line_units.specs.declared.frames_lookup.OnFault.TheVariants.{End, PassOver}
 use Rattle.addr2line_units.specs.declared.frames_lookup.FramesStop.{FramesStop}
 use Rattle.addr2line_units.specs.declared.frames_lookup.FramesStop.TheVariants as stops
 use Rattle.addr2line_units.specs.declared.index.UnitRange.{UnitRange}
@@ -21,12 +21,12 @@ use Rattle.addr2line_units.specs.Frames.{FrameRecord, frames_from}
 use Rattle.addr2line_units.specs.FramesLookup.{Stop, Finds, after_fault, ends_lookup, holds_along, or_stop, stop_along}
 use Rattle.addr2line_units.specs.CachedFrames.{AreFoundAt, IsStopIn, found_after_fault, frames_found_at, has_frames_at, seen_stop, stop_of_found}
 use Rattle.addr2line_units.specs.CachedUnits.{has_entries_at}
-use Rattle.gimli_read.specs.Alike.{HadMemory}
+use Rattle.gimli_read.specs.Alike.{WasNotRefused}
 use Rattle.addr2line_units.specs.Parsed.{ParsesOnly, StaysParsed, has_parsed}
 use Rattle.addr2line_units.specs.UnitFrames.{FramesResult}
 
 -- a fault that a lookup passes over
-module _ (faults : Faults) where
+module _ (faults : OnFault) where
   pub gives_after : (see : UnitFrames → Option (List FrameRecord)) (r : Result UnitFrames Error) (given : FramesResult) → see (found.Here None None) ≡ Some []
       → ExactlyUnlessOom see r given → ExactlyUnlessOom see (found_after_fault faults r) (after_fault faults given)
   gives_after see r given nothing h = of_faults faults r h
@@ -35,33 +35,33 @@ module _ (faults : Faults) where
       passed OutOfMemory h = λ ne. absurd (ne refl)
       passed _ h = ap (after_fault PassOver) (h (λ q. absurd cc)) ∙ ap (λ x. Ok x) (sym nothing)
 
-      of_faults : (f : Faults) (r : Result UnitFrames Error) → ExactlyUnlessOom see r given → ExactlyUnlessOom see (found_after_fault f r) (after_fault f given)
+      of_faults : (f : OnFault) (r : Result UnitFrames Error) → ExactlyUnlessOom see r given → ExactlyUnlessOom see (found_after_fault f r) (after_fault f given)
       of_faults End (Ok x) h = ap (after_fault End) h
       of_faults End (Err e) h = λ ne. ap (after_fault End) (h ne)
       of_faults PassOver (Ok x) h = ap (after_fault PassOver) h
       of_faults PassOver (Err e) h = passed e h
 
-  pub oom_before : (r : Result UnitFrames Error) → HadMemory (found_after_fault faults r) → HadMemory r
+  pub oom_before : (r : Result UnitFrames Error) → WasNotRefused (found_after_fault faults r) → WasNotRefused r
   oom_before r h = of_faults faults r h
     where
-      passed : (e : Error) → HadMemory (found_after_fault PassOver (Err e)) → e ≢ OutOfMemory
+      passed : (e : Error) → WasNotRefused (found_after_fault PassOver (Err e)) → e ≢ OutOfMemory
       passed OutOfMemory h = h
       passed _ h = λ q. absurd cc
 
-      of_faults : (f : Faults) (r : Result UnitFrames Error) → HadMemory (found_after_fault f r) → HadMemory r
+      of_faults : (f : OnFault) (r : Result UnitFrames Error) → WasNotRefused (found_after_fault f r) → WasNotRefused r
       of_faults End (Ok x) h = tt
       of_faults End (Err e) h = h
       of_faults PassOver (Ok x) h = tt
       of_faults PassOver (Err e) h = passed e h
 
-  pub oom_after : (r : Result UnitFrames Error) → HadMemory r → HadMemory (found_after_fault faults r)
+  pub oom_after : (r : Result UnitFrames Error) → WasNotRefused r → WasNotRefused (found_after_fault faults r)
   oom_after r h = of_faults faults r h
     where
-      passed : (e : Error) → e ≢ OutOfMemory → HadMemory (found_after_fault PassOver (Err e))
+      passed : (e : Error) → e ≢ OutOfMemory → WasNotRefused (found_after_fault PassOver (Err e))
       passed OutOfMemory h = h
       passed _ h = tt
 
-      of_faults : (f : Faults) (r : Result UnitFrames Error) → HadMemory r → HadMemory (found_after_fault f r)
+      of_faults : (f : OnFault) (r : Result UnitFrames Error) → WasNotRefused r → WasNotRefused (found_after_fault f r)
       of_faults End (Ok x) h = tt
       of_faults End (Err e) h = h
       of_faults PassOver (Ok x) h = tt
@@ -75,7 +75,7 @@ module _ (faults : Faults) where
       passed OutOfMemory h = h
       passed _ h = absurd cc
 
-      of_faults : (f : Faults) (r : Result UnitFrames Error) → found_after_fault f r ≡ Err x → r ≡ Err x
+      of_faults : (f : OnFault) (r : Result UnitFrames Error) → found_after_fault f r ≡ Err x → r ≡ Err x
       of_faults End (Ok y) h = h
       of_faults End (Err e) h = h
       of_faults PassOver (Ok y) h = h
@@ -88,7 +88,7 @@ module _ (faults : Faults) where
       passed OutOfMemory = tt
       passed _ = tt
 
-      of_faults : (f : Faults) (r : Result UnitFrames Error) → IfOk r (AreFoundAt rs vs n) → IfOk (found_after_fault f r) (AreFoundAt rs vs n)
+      of_faults : (f : OnFault) (r : Result UnitFrames Error) → IfOk r (AreFoundAt rs vs n) → IfOk (found_after_fault f r) (AreFoundAt rs vs n)
       of_faults End (Ok x) h = h
       of_faults End (Err e) h = h
       of_faults PassOver (Ok x) h = h

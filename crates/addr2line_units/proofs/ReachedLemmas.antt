@@ -15,7 +15,7 @@ use Rattle.addr2line_lines.specs.Shortest.{shortest}
 use Rattle.addr2line_lines.specs.UnitLines.{unit_lines}
 use Rattle.gimli_read.proofs.TopmostLemmas.{In}
 use Rattle.addr2line_lines.proofs.ShortestLemmas.{shortest_holds}
-use Rattle.addr2line_units.specs.declared.frames_lookup.Faults.{Faults}
+use Rattle.addr2line_units.specs.declared.frames_lookup.OnFault.{OnFault}
 use Rattle.addr2line_units.specs.declared.index.UnitRange.{UnitRange}
 use Rattle.addr2line_units.specs.declared.parses.ReadingDepth.TheVariants.{Details}
 use Rattle.addr2line_units.specs.Frames.{FoundFunction, FrameRecord, found_frames, found_function, function_at, function_from}
@@ -130,7 +130,7 @@ stop_reached frames all (r ∷ ranges) = subst (λ (x : FramesResult). IsReached
 
 -- after a parse of all functions and details without a fault, where all lines can be read too, no
 -- lookup waits or has a fault
-pub reached_all : (faults : Faults) (scope : Scope) (units : List IndexedUnit) (answers : FirstAnswers) (probe : ℕ) (ranges : List UnitRange) → length units ≡ length answers
+pub reached_all : (faults : OnFault) (scope : Scope) (units : List IndexedUnit) (answers : FirstAnswers) (probe : ℕ) (ranges : List UnitRange) → length units ≡ length answers
     → read_of_units Details scope (unit_records units) answers ≡ Ok tt → fault_of (all_lines scope.file.sections units) ≡ Ok tt
     → IsReached (stop_along (asked_frames faults scope units (answers_after_parse Details scope (unit_records units) answers) probe) ranges)
 reached_all faults scope units answers probe ranges many read lines = stop_reached _ each ranges

@@ -26,7 +26,7 @@ use Rattle.addr2line_units.specs.CachedViews.{is_decided, seen_sections, verdict
 use Rattle.addr2line_units.specs.CachedKnown.{known_answer, known_by, known_fault, known_functions, known_in}
 use Rattle.addr2line_units.specs.KnownEntries.{AllKnown, NothingKnown}
 use Rattle.addr2line_units.specs.Loads.{is_open_at}
-use Rattle.gimli_read.specs.Alike.{HadMemory}
+use Rattle.gimli_read.specs.Alike.{WasNotRefused}
 use Rattle.addr2line_units.specs.Views.{FirstAnswers, View}
 use Rattle.addr2line_units.proofs.AnswerLemmas.{looked_waits}
 use Rattle.addr2line_units.proofs.EntryLemmas.{not_open}
@@ -36,7 +36,7 @@ use Rattle.addr2line_units.proofs.CachedPlaceLemmas.{cached_unless_oom}
 use Rattle.addr2line_units.proofs.KnownTableLemmas.{to_fault_known}
 use Rattle.addr2line_units.proofs.ParseLemmas.{at_or_behind, below_next, unit_again}
 
-pub not_oom : {X : Type 0} (r : Result X Error) → HadMemory r → r ≢ Err OutOfMemory
+pub not_oom : {X : Type 0} (r : Result X Error) → WasNotRefused r → r ≢ Err OutOfMemory
 not_oom (Ok x) h = λ e. cc
 not_oom (Err e) h = λ q. h (let same : e ≡ OutOfMemory = cc in same)
 
@@ -50,7 +50,7 @@ known_not_oom r OutOfMemory h = absurd h
 known_not_oom r _ h = λ q. absurd cc
 
 -- an answer that isn't OutOfMemory
-pub had_not_oom : {X : Type 0} (r : Result X Error) → r ≢ Err OutOfMemory → HadMemory r
+pub had_not_oom : {X : Type 0} (r : Result X Error) → r ≢ Err OutOfMemory → WasNotRefused r
 had_not_oom (Ok x) h = tt
 had_not_oom (Err e) h = λ q. h (ap (λ x. Err x) q)
 

@@ -6,7 +6,7 @@ use Rattle.std.proofs.lemmas.List.{length-map}
 use Rattle.std.specs.Prelude.{IfErr, IfOk, IfSome, OnOk, is_some}
 use Rattle.gimli_read.specs.declared.error.Error.{Error}
 use Rattle.gimli_read.specs.declared.error.Error.TheVariants.{OutOfMemory}
-use Rattle.gimli_read.specs.Alike.{HadMemory}
+use Rattle.gimli_read.specs.Alike.{WasNotRefused}
 use Rattle.gimli_read.specs.Reading.{ExactlyUnlessOom}
 use Rattle.gimli_read.specs.declared.range.Range.{Range}
 use Rattle.gimli.specs.Sections.{Sections}
@@ -14,7 +14,7 @@ use Rattle.gimli.specs.Unit.{UnitRecord}
 use Rattle.addr2line_lines.specs.Location.{Location, location_of_row}
 use Rattle.addr2line_lines.specs.References.{Scope}
 use Rattle.addr2line_lines.specs.UnitLines.{unit_lines}
-use Rattle.addr2line_units.specs.declared.frames_lookup.Faults.{Faults}
+use Rattle.addr2line_units.specs.declared.frames_lookup.OnFault.{OnFault}
 use Rattle.addr2line_units.specs.declared.frames_lookup.FramePlace.{FramePlace}
 use Rattle.addr2line_units.specs.declared.frames_lookup.FramesStop.{FramesStop}
 use Rattle.addr2line_units.specs.declared.frames_lookup.FramesStop.TheVariants as stops
@@ -143,7 +143,7 @@ module _ {R : Type 0} (scope : Scope) (units : List ResUnit) (held : List (UnitE
       only = only;
     }
 
-    pub after_row : {X : Type 0} (probe : ℕ) (ranges : List UnitRange) (result : Result (Option X) Error) → (HadMemory result → ready_along d (indexed_units us units) (parsed_units now) probe ranges ≡ true) → (ready_along d (indexed_units us units) (parsed_units now) probe ranges ≡ true → HadMemory result)
+    pub after_row : {X : Type 0} (probe : ℕ) (ranges : List UnitRange) (result : Result (Option X) Error) → (WasNotRefused result → ready_along d (indexed_units us units) (parsed_units now) probe ranges ≡ true) → (ready_along d (indexed_units us units) (parsed_units now) probe ranges ≡ true → WasNotRefused result)
         → ParsesOnly (AsksFor d (indexed_units us units) probe ranges) (parsed_units units) (parsed_units now) → looks ≤ later → (is_found result ≡ true → looks < later) → later ≤ looks + looks_along d (indexed_units us units) ranges
         → AfterRow probe ranges result before after
     after_row probe ranges result ready memory only raised counted cost = record {
@@ -164,7 +164,7 @@ module _ {R : Type 0} (scope : Scope) (units : List ResUnit) (held : List (UnitE
         gives ∙ ap (λ files. Ok (Some (location_of_row files p.row)))
         (sym (files_are d us now p.unit own parsed) ∙ ap (λ xs. files_of d (slice_get xs p.unit)) (stay_indexed us units now stay))
 
-  pub after_caching : (now : List ResUnit) (stay : StayUnits units now) (looks : ℕ) (was : Stop) {X : Type 0} (ranges : List UnitRange) (result : Result X Error) → OnOk result (AreParsed (parsed_units now) ranges) → (AreParsed (parsed_units now) ranges → HadMemory result)
+  pub after_caching : (now : List ResUnit) (stay : StayUnits units now) (looks : ℕ) (was : Stop) {X : Type 0} (ranges : List UnitRange) (result : Result X Error) → OnOk result (AreParsed (parsed_units now) ranges) → (AreParsed (parsed_units now) ranges → WasNotRefused result)
       → ParsesOnly (LeadTo ranges) (parsed_units units) (parsed_units now) → IfErr result (λ e. e ≡ OutOfMemory) → AfterCaching ranges result (seen_units scope units held looks was) (seen_units scope now held looks FindsNothing)
   after_caching now stay looks was ranges result parsed memory only refused = record {
     lines = after_lines now stay looks looks was (LeadTo ranges) only;
@@ -174,7 +174,7 @@ module _ {R : Type 0} (scope : Scope) (units : List ResUnit) (held : List (UnitE
     refused = refused;
   }
 
-  pub after_line_parse : (now : List ResUnit) (stay : StayUnits units now) (looks : ℕ) (was : Stop) (result : Result (Unit {0}) Error) → (HadMemory result → AreReadyForAll d (indexed_units us units) (parsed_units now)) → (AreReadyForAll d (indexed_units us units) (parsed_units now) → HadMemory result)
+  pub after_line_parse : (now : List ResUnit) (stay : StayUnits units now) (looks : ℕ) (was : Stop) (result : Result (Unit {0}) Error) → (WasNotRefused result → AreReadyForAll d (indexed_units us units) (parsed_units now)) → (AreReadyForAll d (indexed_units us units) (parsed_units now) → WasNotRefused result)
       → OnOk result (AreAllParsed (parsed_units now)) → ParsesOnly (AllAskFor d (indexed_units us units)) (parsed_units units) (parsed_units now) → AfterLineParse result (seen_units scope units held looks was) (seen_units scope now held looks FindsNothing)
   after_line_parse now stay looks was result ready memory parsed only = record {
     lines = after_lines now stay looks looks was (AllAskFor d (indexed_units us units)) only;
@@ -185,7 +185,7 @@ module _ {R : Type 0} (scope : Scope) (units : List ResUnit) (held : List (UnitE
   }
 
   -- after a lookup of frames
-  module _ (now : List ResUnit) (stay : StayUnits units now) (entries : List (UnitEntries R)) (stays : StayAllEntries held entries) (looks later : ℕ) (was is : Stop) (faults : Faults) (probe : ℕ) (ranges : List UnitRange) where
+  module _ (now : List ResUnit) (stay : StayUnits units now) (entries : List (UnitEntries R)) (stays : StayAllEntries held entries) (looks later : ℕ) (was is : Stop) (faults : OnFault) (probe : ℕ) (ranges : List UnitRange) where
     abbrev first : UnitsState
     first = seen_units scope units held looks was
 
@@ -223,7 +223,7 @@ module _ {R : Type 0} (scope : Scope) (units : List ResUnit) (held : List (UnitE
         ∙ ap (λ a. has n && not (has_many_of scope (indexed_units us units) a probe n)) answers_same
 
     pub after_walk : {X : Type 0} (result : Result X Error) → ReadsOnly (LookupAsks frames ranges) probe held entries → ParsesOnly (λ n. LookupAsks frames ranges n × (asks n ≡ true)) (parsed_units units) (parsed_units now)
-        → (HadMemory result → holds_along has frames ranges ≡ true) → (holds_along few frames ranges ≡ true → HadMemory result) → looks ≤ later → AfterWalk faults probe ranges result first last
+        → (WasNotRefused result → holds_along has frames ranges ≡ true) → (holds_along few frames ranges ≡ true → WasNotRefused result) → looks ≤ later → AfterWalk faults probe ranges result first last
     after_walk result only lines ready memory raised = record {
       asked = record {
         scope = refl;
@@ -283,7 +283,7 @@ module _ {R : Type 0} (scope : Scope) (units : List ResUnit) (held : List (UnitE
         | inr past ↦ none_whole kind entries k (subst (λ l. l ≤ k) many past)
       ]
 
-      pub after_load : (given : Option Sections) (result : Result (Unit {0}) Error) → (HadMemory result → answers_in entries ≡ with_answer d us (answers_in held) n given)
+      pub after_load : (given : Option Sections) (result : Result (Unit {0}) Error) → (WasNotRefused result → answers_in entries ≡ with_answer d us (answers_in held) n given)
           → (answers_in entries ≡ answers_in held) ⊎ (answers_in entries ≡ with_answer d us (answers_in held) n given)
           → (result ≢ load_result d us (answers_in held) n given → (answers_in entries ≡ answers_in held) × StayAllEntries held entries)
           → (is_open_at d us (answers_in held) n ≡ false → result ≡ load_result d us (answers_in held) n given) → (given ≡ None → result ≡ load_result d us (answers_in held) n None) → AfterLoad n given result old new
@@ -313,9 +313,9 @@ module _ {R : Type 0} (scope : Scope) (units : List ResUnit) (held : List (UnitE
     pub after_listing : StayAllEntries held entries → AfterListing old new
     after_listing stay = record { stays = refl; answers = same_answers held entries stay; known = stays_known held entries stay }
 
-    pub after_reading : (reads : ReadingDepth) (result : Result (Unit {0}) Error) → HaveEntriesOf scope us entries → (HadMemory result → answers_in entries ≡ answers_after_parse reads scope us (answers_in held)) → AreFirstDecided reads scope us (answers_in held) (answers_in entries)
+    pub after_reading : (reads : ReadingDepth) (result : Result (Unit {0}) Error) → HaveEntriesOf scope us entries → (WasNotRefused result → answers_in entries ≡ answers_after_parse reads scope us (answers_in held)) → AreFirstDecided reads scope us (answers_in held) (answers_in entries)
         → StayDecided held entries → ChangesOnly (AreReadBefore reads scope us (answers_in held)) held entries → OnOk result (HaveRead reads entries) → (HaveRead reads held → result ≡ Ok tt)
-        → (HadMemory result → AreReadyUnits reads scope us (answers_in held) entries) → (AreReadyUnits reads scope us (answers_in entries) entries → HadMemory result) → (AreReadyUnits reads scope us (answers_in held) held → result ≡ read_of_units reads scope us (answers_in held))
+        → (WasNotRefused result → AreReadyUnits reads scope us (answers_in held) entries) → (AreReadyUnits reads scope us (answers_in entries) entries → WasNotRefused result) → (AreReadyUnits reads scope us (answers_in held) held → result ≡ read_of_units reads scope us (answers_in held))
         → (AreReadyUnits reads scope us (answers_in held) held → entries ≡ held) → AfterReading reads result old new
     after_reading reads result right answers begun stay only read whole ready memory exact unchanged = record {
       stays = refl;

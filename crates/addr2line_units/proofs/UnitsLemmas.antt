@@ -20,7 +20,7 @@ use Rattle.addr2line_units.specs.declared.index.UnitRange.{UnitRange}
 use Rattle.addr2line_units.specs.Indexed.{IndexState, ranged_seen, with_ranged}
 use Rattle.addr2line_units.specs.RangedUnits.{IndexedUnit, has_lines, range_of_unit, unit_ranges}
 use Rattle.addr2line_units.specs.Located.{all_lines, along, lines_of_unit, location_in, looks_along, looks_in, or_along}
-use Rattle.gimli_read.specs.Alike.{HadMemory}
+use Rattle.gimli_read.specs.Alike.{WasNotRefused}
 use Rattle.addr2line_units.specs.Cover.{holds_until}
 use Rattle.addr2line_units.specs.Parsed.{AllAskFor, AreReadyForAll, ParsesOnly, StaysParsed, can_be_read, decides, has_parsed, ready_along, unit_decides}
 use Rattle.addr2line_units.specs.CachedLines.{AreLinesOf, CachesResult, HaveLinesOf, StayUnits, StaysUnit, cached_files, indexed_unit, indexed_units, is_parsed, is_uncached, lines_result, lines_result_at, lines_at, location_of_unit_row, parsed_units, unit_row}
@@ -129,7 +129,7 @@ set_parsed (x ∷ rs) (suc n) s h e = set_parsed rs n s (omega arith) e
 
 -- a call that left lines as they were, and takes no memory where they are cached, isn't refused
 -- where they are
-pub not_refused : (old new : LazyLines) (result : Result (Unit {0}) Error) → (is_uncached old ≡ false → result ≡ Ok tt) → OnErr result (new ≡ old) → is_uncached new ≡ false → HadMemory result
+pub not_refused : (old new : LazyLines) (result : Result (Unit {0}) Error) → (is_uncached old ≡ false → result ≡ Ok tt) → OnErr result (new ≡ old) → is_uncached new ≡ false → WasNotRefused result
 not_refused old new (Ok x) exact same e = tt
 not_refused old new (Err x) exact same e = absurd (let ok = exact (sym (ap is_uncached same) ∙ e) in cc)
 
@@ -213,7 +213,7 @@ module _ (d : Sections) (probe : ℕ) (us : List UnitRecord) (rs : List ResUnit)
   row_found_exactly k = rw (lines_set rs n s h, unit_at us rs n u r in_both h e f) k
 
 -- an answer is cached, unless it is OutOfMemory
-pub answer_cached : {X : Type 0} (old : LazyLines) (result : Result X Error) (new : LazyLines) → CachesResult old result new → HadMemory result → is_uncached new ≡ false
+pub answer_cached : {X : Type 0} (old : LazyLines) (result : Result X Error) (new : LazyLines) → CachesResult old result new → WasNotRefused result → is_uncached new ≡ false
 answer_cached old (Ok x) new h n = h
 answer_cached old (Err e) new h n = h.0 n
 

@@ -7,8 +7,8 @@ use Rattle.gimli_read.specs.Reading.{◌>>=◌}
 use Rattle.gimli.specs.Sections.{Sections}
 use Rattle.gimli.specs.Unit.{UnitRecord}
 use Rattle.addr2line_lines.specs.References.{Scope}
-use Rattle.addr2line_units.specs.declared.frames_lookup.Faults.{Faults}
-use Rattle.addr2line_units.specs.declared.frames_lookup.Faults.TheVariants.{End, PassOver}
+use Rattle.addr2line_units.specs.declared.frames_lookup.OnFault.{OnFault}
+use Rattle.addr2line_units.specs.declared.frames_lookup.OnFault.TheVariants.{End, PassOver}
 use Rattle.addr2line_units.specs.declared.index.UnitRange.{UnitRange}
 use Rattle.addr2line_units.specs.declared.unit.ResUnit.{ResUnit}
 use Rattle.addr2line_units.specs.declared.unit_frames.UnitEntries.{UnitEntries}
@@ -59,7 +59,7 @@ module _ (holds : ℕ → Bool) (frames : ℕ → FramesResult) (n : ℕ) where
   told_along (r ∷ ranges) h w =
       told r.unit (stop_along frames ranges) (holds_along holds frames ranges) (frames r.unit) refl h w (λ v m. told_along ranges m v)
 
-pub told_by_unit : (faults : Faults) (r : FramesResult) → after_fault faults r ≡ Ok None → r ≡ Ok None
+pub told_by_unit : (faults : OnFault) (r : FramesResult) → after_fault faults r ≡ Ok None → r ≡ Ok None
 told_by_unit faults (Ok x) e = e
 told_by_unit End (Err x) e = absurd cc
 told_by_unit PassOver (Err x) e = absurd cc
@@ -97,7 +97,7 @@ module _ {R : Type 0} (scope : Scope) (probe : ℕ) where
   waits_there (u ∷ us) (r ∷ rs) (v ∷ vs) (suc n) own e h = waits_there us rs vs n own.1 e h
 
   -- so it is where a lookup waits
-  pub waits_where_told : (faults : Faults) (us : List UnitRecord) (rs : List ResUnit) (vs : List (UnitEntries R)) (asks_lines : ℕ → Bool) (parsed : List Bool) (ranges : List UnitRange) (n : ℕ) → HaveEntriesOf scope us vs
+  pub waits_where_told : (faults : OnFault) (us : List UnitRecord) (rs : List ResUnit) (vs : List (UnitEntries R)) (asks_lines : ℕ → Bool) (parsed : List Bool) (ranges : List UnitRange) (n : ℕ) → HaveEntriesOf scope us vs
       → holds_along (has_frames_at asks_lines probe parsed vs) (asked_frames faults scope (indexed_units us rs) (answers_in vs) probe) ranges ≡ true
       → stop_along (asked_frames faults scope (indexed_units us rs) (answers_in vs) probe) ranges ≡ Ok (Waits n) → waits_at vs n ≡ true
   waits_where_told faults us rs vs asks_lines parsed ranges n own h w =

@@ -5,7 +5,7 @@ use Rattle.gimli_read.specs.declared.error.Error.{Error}
 use Rattle.gimli_read.specs.declared.error.Error.TheVariants.{OutOfMemory}
 use Rattle.gimli_read.specs.Reading.{◌>>=◌}
 use Rattle.addr2line_lines.specs.References.{Scope}
-use Rattle.addr2line_units.specs.declared.frames_lookup.Faults.{Faults}
+use Rattle.addr2line_units.specs.declared.frames_lookup.OnFault.{OnFault}
 use Rattle.addr2line_units.specs.declared.index.UnitRange.{UnitRange}
 use Rattle.addr2line_units.specs.FramesLookup.{FindsNothing, Finds, LookupAsks, Stop, Waits, asked_frames, asks_lines_of, ends_lookup, frames_of_number, holds_along, or_stop, stop_along}
 use Rattle.addr2line_units.specs.KnownEntries.{knows_at}
@@ -21,7 +21,7 @@ use Rattle.addr2line_units.proofs.StayLemmas.{known_twice}
 use Rattle.addr2line_units.proofs.WalkLemmas.{asked_first}
 
 -- a walk that has gone on so far
-pub record Walked (faults : Faults) (probe : ℕ) (all rest : List UnitRange) (old now : UnitsState) : Type 0 where
+pub record Walked (faults : OnFault) (probe : ℕ) (all rest : List UnitRange) (old now : UnitsState) : Type 0 where
   pub asked : WereAsked (LookupAsks (asked_by faults probe old) all) probe old now
   pub stop : now.stop ≡ FindsNothing
   pub rest_is : stop_of faults probe old rest ≡ stop_of faults probe old all
@@ -29,7 +29,7 @@ pub record Walked (faults : Faults) (probe : ℕ) (all rest : List UnitRange) (o
   pub more : (holds : ℕ → Bool) → ((n : ℕ) → has_all_at probe now n ≡ true → holds n ≡ true) → holds_along holds (asked_by faults probe old) rest ≡ true → holds_along holds (asked_by faults probe old) all ≡ true
   pub asks : (n : ℕ) → LookupAsks (asked_by faults probe old) rest n → LookupAsks (asked_by faults probe old) all n
 
-pub walked_first : (faults : Faults) (probe : ℕ) (all : List UnitRange) (old : UnitsState) → Walked faults probe all all old (record old { stop = FindsNothing })
+pub walked_first : (faults : OnFault) (probe : ℕ) (all : List UnitRange) (old : UnitsState) → Walked faults probe all all old (record old { stop = FindsNothing })
 walked_first faults probe all old = record {
   asked = record { scope = refl; units = refl; answers = refl; parsed = λ n e. e; known = λ n. record { at = λ p e. e; whole = λ k h. h }; only = λ n e. inl e; learns = λ n. inl refl; raised = omega arith };
   stop = refl;
@@ -101,7 +101,7 @@ any_asked asks probe old new a = record {
   raised = a.raised;
 }
 
-module _ (faults : Faults) (probe : ℕ) (all : List UnitRange) (r : UnitRange) (rest ranges : List UnitRange) (is : ranges ≡ r ∷ rest) (old mid now : UnitsState) (w : Walked faults probe all ranges old mid) where
+module _ (faults : OnFault) (probe : ℕ) (all : List UnitRange) (r : UnitRange) (rest ranges : List UnitRange) (is : ranges ≡ r ∷ rest) (old mid now : UnitsState) (w : Walked faults probe all ranges old mid) where
   abbrev frames : ℕ → FramesResult
   frames = asked_by faults probe old
 
@@ -188,7 +188,7 @@ module _ (faults : Faults) (probe : ℕ) (all : List UnitRange) (r : UnitRange) 
         }
 
 -- no range is left
-module _ (faults : Faults) (probe : ℕ) (all ranges : List UnitRange) (is : ranges ≡ []) (old now : UnitsState) (w : Walked faults probe all ranges old now) where
+module _ (faults : OnFault) (probe : ℕ) (all ranges : List UnitRange) (is : ranges ≡ []) (old now : UnitsState) (w : Walked faults probe all ranges old now) where
   pub end_gives : stop_of faults probe old all ≡ Ok now.stop
   end_gives = sym w.rest_is ∙ ap (stop_along (asked_by faults probe old)) is ∙ ap (λ s. Ok s) (sym w.stop)
 

@@ -5,9 +5,9 @@ use Rattle.std.specs.Prelude.{◌≡◌, ◌≢◌, ◌⊎◌, ◌+◌, ◌<◌,
 use Rattle.std.specs.List.{AllByRecursion}
 use Rattle.gimli_read.specs.declared.error.Error.{Error}
 use Rattle.gimli_read.specs.declared.error.Error.TheVariants.{OutOfMemory}
-use Rattle.gimli_read.specs.Alike.{HadMemory}
+use Rattle.gimli_read.specs.Alike.{WasNotRefused}
 use Rattle.gimli.specs.Sections.{Sections}
-use Rattle.addr2line_units.specs.declared.frames_lookup.Faults.{Faults}
+use Rattle.addr2line_units.specs.declared.frames_lookup.OnFault.{OnFault}
 use Rattle.addr2line_units.specs.declared.index.UnitRange.{UnitRange}
 use Rattle.addr2line_units.specs.declared.parses.ReadingDepth.{ReadingDepth}
 use Rattle.addr2line_units.specs.declared.parses.ReadingDepth.TheVariants as kinds
@@ -32,10 +32,10 @@ pub record AfterLines (asks : ℕ → Type 0) (old new : UnitsState) : Type 0 wh
 pub record AfterRow {X : Type 0} (probe : ℕ) (ranges : List UnitRange)
     (result : Result (Option X) Error) (old new : UnitsState) : Type 0 where
   pub lines : AfterLines (AsksFor old.scope.file.sections old.units probe ranges) old new
-  pub ready : HadMemory result
+  pub ready : WasNotRefused result
       → ready_along old.scope.file.sections old.units new.parsed probe ranges ≡ true
   pub memory : ready_along old.scope.file.sections old.units new.parsed probe ranges ≡ true
-      → HadMemory result
+      → WasNotRefused result
   pub raised : old.looks ≤ new.looks
   pub counted : is_found result ≡ true → old.looks < new.looks
   pub cost : new.looks ≤ old.looks + looks_along old.scope.file.sections old.units ranges
@@ -46,15 +46,15 @@ pub record AfterCaching {X : Type 0} (ranges : List UnitRange) (result : Result 
   pub lines : AfterLines (LeadTo ranges) old new
   pub looks : new.looks ≡ old.looks
   pub parsed : OnOk result (AreParsed new.parsed ranges)
-  pub memory : AreParsed new.parsed ranges → HadMemory result
+  pub memory : AreParsed new.parsed ranges → WasNotRefused result
   pub refused : IfErr result (λ e. e ≡ OutOfMemory)
 
 -- after the lines of all units were parsed, up to the first fault, or after OutOfMemory
 pub record AfterLineParse (result : Result (Unit {0}) Error) (old new : UnitsState) : Type 0 where
   pub lines : AfterLines (AllAskFor old.scope.file.sections old.units) old new
   pub looks : new.looks ≡ old.looks
-  pub ready : HadMemory result → AreReadyForAll old.scope.file.sections old.units new.parsed
-  pub memory : AreReadyForAll old.scope.file.sections old.units new.parsed → HadMemory result
+  pub ready : WasNotRefused result → AreReadyForAll old.scope.file.sections old.units new.parsed
+  pub memory : AreReadyForAll old.scope.file.sections old.units new.parsed → WasNotRefused result
   pub parsed : OnOk result (AreAllParsed new.parsed)
 
 -- units were asked for the probe: what was read stays, and nothing is read of others
@@ -73,11 +73,11 @@ pub record WereAsked (asks : ℕ → Type 0) (probe : ℕ) (old new : UnitsState
 pub record AfterAsking {X : Type 0} (asks : ℕ → Type 0) (probe : ℕ) (all few : UnitsState → Bool)
     (result : Result X Error) (old new : UnitsState) : Type 0 where
   pub asked : WereAsked asks probe old new
-  pub ready : HadMemory result → all new ≡ true
-  pub memory : few new ≡ true → HadMemory result
+  pub ready : WasNotRefused result → all new ≡ true
+  pub memory : few new ≡ true → WasNotRefused result
 
 -- after a lookup along ranges
-abbrev pub AfterWalk : {X : Type 0} → Faults → ℕ → List UnitRange → Result X Error → UnitsState
+abbrev pub AfterWalk : {X : Type 0} → OnFault → ℕ → List UnitRange → Result X Error → UnitsState
     → UnitsState → Type 0
 AfterWalk faults probe ranges result old = AfterAsking
     (LookupAsks (asked_by faults probe old) ranges) probe
@@ -85,7 +85,7 @@ AfterWalk faults probe ranges result old = AfterAsking
     (λ s. holds_along (has_few_at probe s) (asked_by faults probe old) ranges) result old
 
 -- a unit that a lookup asks along ranges has this fault
-abbrev pub IsFaultAlong : Faults → ℕ → UnitsState → List UnitRange → Error → Type 0
+abbrev pub IsFaultAlong : OnFault → ℕ → UnitsState → List UnitRange → Error → Type 0
 IsFaultAlong faults probe s ranges e =
     (n : ℕ) × LookupAsks (asked_by faults probe s) ranges n × IsFaultAt probe s n e
 
@@ -112,7 +112,7 @@ pub record AfterAnswer (n : ℕ) (given : Option Sections) (result : Result (Uni
 pub record AfterLoad (n : ℕ) (given : Option Sections) (result : Result (Unit {0}) Error)
     (old new : UnitsState) : Type 0 where
   pub stays : StayRead old new
-  pub answers : HadMemory result → new.answers
+  pub answers : WasNotRefused result → new.answers
       ≡ with_answer old.scope.file.sections old.scope.file.units old.answers n given
   pub begun : (new.answers ≡ old.answers) ⊎ (new.answers
       ≡ with_answer old.scope.file.sections old.scope.file.units old.answers n given)
@@ -149,7 +149,7 @@ pub record AfterListing (old new : UnitsState) : Type 0 where
 pub record AfterReading (reads : ReadingDepth) (result : Result (Unit {0}) Error)
     (old new : UnitsState) : Type 0 where
   pub stays : StayRead old new
-  pub answers : HadMemory result → new.answers
+  pub answers : WasNotRefused result → new.answers
       ≡ answers_after_parse reads old.scope old.scope.file.units old.answers
   pub begun : AreFirstDecided reads old.scope old.scope.file.units old.answers new.answers
   pub known : (probe n : ℕ)
@@ -162,10 +162,10 @@ pub record AfterReading (reads : ReadingDepth) (result : Result (Unit {0}) Error
       ⊎ AreReadBefore reads old.scope old.scope.file.units old.answers n
   pub read : OnOk result (AllByRecursion (IsReadBy reads) new.known)
   pub whole_known : AllByRecursion (IsReadBy reads) old.known → result ≡ Ok tt
-  pub ready : HadMemory result
+  pub ready : WasNotRefused result
       → AreReadyFor reads old.scope old.scope.file.units new.answers new.known
   pub memory : AreReadyFor reads old.scope old.scope.file.units new.answers new.known
-      → HadMemory result
+      → WasNotRefused result
   pub exact : AreReadyFor reads old.scope old.scope.file.units old.answers old.known
       → result ≡ read_of_units reads old.scope old.scope.file.units old.answers
   pub same : AreReadyFor reads old.scope old.scope.file.units old.answers old.known

@@ -2,7 +2,7 @@
 use Rattle.std.specs.Prelude.{◌≡◌, ℕ, Bool, true, false, unwrap_or, Result, Ok}
 use Rattle.gimli_read.specs.declared.error.Error.{Error}
 use Rattle.gimli_read.specs.Reading.{◌>>=◌}
-use Rattle.addr2line_units.specs.declared.frames_lookup.Faults.{Faults}
+use Rattle.addr2line_units.specs.declared.frames_lookup.OnFault.{OnFault}
 use Rattle.addr2line_units.specs.declared.frames_lookup.FramesStop.{FramesStop}
 use Rattle.addr2line_units.specs.declared.frames_lookup.FramesStop.TheVariants as stops
 use Rattle.addr2line_units.specs.declared.unit_frames.UnitFrames.{UnitFrames}
@@ -12,7 +12,7 @@ use Rattle.addr2line_units.specs.FramesLookup.{Finds, FindsNothing, Stop, Waits,
 use Rattle.addr2line_units.specs.UnitsState.{UnitsState, asked_by, has_all_at, has_few_at}
 
 -- what a lookup comes to in the unit of a number alone
-abbrev pub stop_at : Faults → ℕ → UnitsState → ℕ → Result Stop Error
+abbrev pub stop_at : OnFault → ℕ → UnitsState → ℕ → Result Stop Error
 stop_at faults probe s n = asked_by faults probe s n >>= or_stop n (Ok FindsNothing)
 
 -- whether a lookup ends there

@@ -5,8 +5,8 @@ use Rattle.gimli_read.specs.declared.error.Error.{Error}
 use Rattle.gimli_read.specs.declared.error.Error.TheVariants.{OutOfMemory}
 use Rattle.addr2line_lines.specs.FunctionTable.{FunctionTable}
 use Rattle.addr2line_lines.specs.Location.{location_of_row}
-use Rattle.addr2line_units.specs.declared.frames_lookup.Faults.{Faults}
-use Rattle.addr2line_units.specs.declared.frames_lookup.Faults.TheVariants.{PassOver}
+use Rattle.addr2line_units.specs.declared.frames_lookup.OnFault.{OnFault}
+use Rattle.addr2line_units.specs.declared.frames_lookup.OnFault.TheVariants.{PassOver}
 use Rattle.addr2line_units.specs.declared.frames_lookup.FramePlace.{FramePlace}
 use Rattle.addr2line_units.specs.declared.frames_lookup.FramesStop.{FramesStop}
 use Rattle.addr2line_units.specs.declared.frames_lookup.FramesStop.TheVariants as stops
@@ -94,7 +94,7 @@ AreFoundAt units views n (found.Here None (Some row)) = IsFramePlaceIn units vie
 AreFoundAt units views n _ = Unit {0}
 
 -- a fault as it is, or nothing in its place where a lookup passes over it
-abbrev pub found_after_fault : Faults → Result UnitFrames Error → Result UnitFrames Error
+abbrev pub found_after_fault : OnFault → Result UnitFrames Error → Result UnitFrames Error
 found_after_fault PassOver (Err e) = elim e [ OutOfMemory ↦ Err OutOfMemory | _ ↦ nothing ]
   where
     nothing : Result UnitFrames Error

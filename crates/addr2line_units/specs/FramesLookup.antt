@@ -8,8 +8,8 @@ use Rattle.gimli.specs.Sections.{Sections}
 use Rattle.gimli.specs.Unit.{UnitRecord}
 use Rattle.addr2line_lines.specs.References.{Scope}
 use Rattle.addr2line_units.specs.declared.index.UnitRange.{UnitRange}
-use Rattle.addr2line_units.specs.declared.frames_lookup.Faults.{Faults}
-use Rattle.addr2line_units.specs.declared.frames_lookup.Faults.TheVariants.{End, PassOver}
+use Rattle.addr2line_units.specs.declared.frames_lookup.OnFault.{OnFault}
+use Rattle.addr2line_units.specs.declared.frames_lookup.OnFault.TheVariants.{End, PassOver}
 use Rattle.addr2line_units.specs.AskMemory.{functions_in_take_memory}
 use Rattle.addr2line_units.specs.Cover.{ComesTo, holds_until}
 use Rattle.addr2line_units.specs.Frames.{FrameRecord}
@@ -43,13 +43,13 @@ frames_of_number scope units answers probe n = elim (slice_get units n)
     [ None ↦ Ok (Some []) | Some u ↦ frames_in scope u (answer_of answers n) probe ]
 
 -- a fault as it is, or no frames in its place where a lookup passes over it
-abbrev pub after_fault : Faults → FramesResult → FramesResult
+abbrev pub after_fault : OnFault → FramesResult → FramesResult
 after_fault faults (Ok frames) = Ok frames
 after_fault End (Err e) = Err e
 after_fault PassOver (Err e) = Ok (Some [])
 
 -- what a lookup asks the unit of a number for
-abbrev pub asked_frames : Faults → Scope → List IndexedUnit → FirstAnswers → ℕ → ℕ → FramesResult
+abbrev pub asked_frames : OnFault → Scope → List IndexedUnit → FirstAnswers → ℕ → ℕ → FramesResult
 asked_frames faults scope units answers probe n =
     after_fault faults (frames_of_number scope units answers probe n)
 

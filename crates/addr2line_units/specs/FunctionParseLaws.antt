@@ -3,7 +3,7 @@ use Rattle.std.specs.Prelude.{◌≡◌, ℕ, length, List, Result, Ok, Err}
 use Rattle.gimli_read.specs.declared.error.Error.{Error}
 use Rattle.gimli.specs.Unit.{UnitRecord}
 use Rattle.addr2line_lines.specs.References.{Scope}
-use Rattle.addr2line_units.specs.declared.frames_lookup.Faults.{Faults}
+use Rattle.addr2line_units.specs.declared.frames_lookup.OnFault.{OnFault}
 use Rattle.addr2line_units.specs.declared.index.UnitRange.{UnitRange}
 use Rattle.addr2line_units.specs.declared.parses.ReadingDepth.{ReadingDepth}
 use Rattle.addr2line_units.specs.declared.parses.ReadingDepth.TheVariants.{Details}
@@ -23,7 +23,7 @@ IsReached (Ok _) = Unit {0}
 -- after a parse of all functions and details without a fault, where all lines can be read too, no
 -- lookup waits or has a fault
 abbrev pub ReachesAll : Type 0
-ReachesAll = (faults : Faults) (scope : Scope) (units : List IndexedUnit)
+ReachesAll = (faults : OnFault) (scope : Scope) (units : List IndexedUnit)
     (answers : FirstAnswers) (probe : ℕ) (ranges : List UnitRange)
     → length units ≡ length answers
     → read_of_units Details scope (unit_records units) answers ≡ Ok tt

@@ -4,7 +4,7 @@ use Rattle.std.specs.Prelude.{◌≡◌, ◌≢◌, ◌⊎◌, ◌<◌, ℕ, tru
 use Rattle.gimli.specs.Sections.{Sections}
 use Rattle.gimli.specs.Unit.{UnitRecord}
 use Rattle.addr2line_lines.specs.References.{Scope}
-use Rattle.addr2line_units.specs.declared.frames_lookup.Faults.{Faults}
+use Rattle.addr2line_units.specs.declared.frames_lookup.OnFault.{OnFault}
 use Rattle.addr2line_units.specs.declared.index.UnitRange.{UnitRange}
 use Rattle.addr2line_units.specs.FramesLookup.{Waits, asked_frames, stop_along, with_answer}
 use Rattle.addr2line_units.specs.Loads.{is_of_other, is_open_at, load_of_number, loads_along}
@@ -22,7 +22,7 @@ loads_of d us answers ranges = loads_along (load_of_number d us answers) ranges
 
 -- a lookup that waits for a unit waits for one that is open, and whose load is listed
 abbrev pub WaitForListed : Type 0
-WaitForListed = (faults : Faults) (scope : Scope) (units : List IndexedUnit)
+WaitForListed = (faults : OnFault) (scope : Scope) (units : List IndexedUnit)
     (answers : FirstAnswers) (probe n : ℕ) (ranges : List UnitRange)
     → stop_along (asked_frames faults scope units answers probe) ranges ≡ Ok (Waits n)
     → (is_open_at scope.file.sections (unit_records units) answers n ≡ true)
@@ -30,7 +30,7 @@ WaitForListed = (faults : Faults) (scope : Scope) (units : List IndexedUnit)
 
 -- a lookup waits for no unit where no load is listed
 abbrev pub NeedLoadsToWait : Type 0
-NeedLoadsToWait = (faults : Faults) (scope : Scope) (units : List IndexedUnit)
+NeedLoadsToWait = (faults : OnFault) (scope : Scope) (units : List IndexedUnit)
     (answers : FirstAnswers) (probe n : ℕ) (ranges : List UnitRange)
     → loads_of scope.file.sections (unit_records units) answers ranges ≡ []
     → stop_along (asked_frames faults scope units answers probe) ranges ≢ Ok (Waits n)

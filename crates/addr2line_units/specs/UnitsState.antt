@@ -9,7 +9,7 @@ use Rattle.gimli.specs.Sections.{Sections}
 use Rattle.gimli.specs.Unit.{UnitRecord}
 use Rattle.addr2line_lines.specs.Location.{LineTable, Location, location_of_row}
 use Rattle.addr2line_lines.specs.References.{Scope}
-use Rattle.addr2line_units.specs.declared.frames_lookup.Faults.{Faults}
+use Rattle.addr2line_units.specs.declared.frames_lookup.OnFault.{OnFault}
 use Rattle.addr2line_units.specs.declared.index.UnitRange.{UnitRange}
 use Rattle.addr2line_units.specs.declared.unit_row.UnitRow.{UnitRow}
 use Rattle.addr2line_units.specs.AskMemory.{lines_of_take_memory}
@@ -55,7 +55,7 @@ new_units d = do
   Ok (first_state d units sup, unit_ranges_from d 0 units)
 
 -- what a lookup asks the unit of a number for
-abbrev pub asked_by : Faults → ℕ → UnitsState → ℕ → FramesResult
+abbrev pub asked_by : OnFault → ℕ → UnitsState → ℕ → FramesResult
 asked_by faults probe s = asked_frames faults s.scope s.units s.answers probe
 
 -- the unit of a number has this fault at the probe
@@ -63,7 +63,7 @@ abbrev pub IsFaultAt : ℕ → UnitsState → ℕ → Error → Type 0
 IsFaultAt probe s n e = frames_of_number s.scope s.units s.answers probe n ≡ Err e
 
 -- what a lookup comes to along ranges
-abbrev pub stop_of : Faults → ℕ → UnitsState → List UnitRange → Result Stop Error
+abbrev pub stop_of : OnFault → ℕ → UnitsState → List UnitRange → Result Stop Error
 stop_of faults probe s ranges = stop_along (asked_by faults probe s) ranges
 
 -- the unit that a lookup waits for, if it waits for one

@@ -109,7 +109,7 @@ impl<R: Reader> UnitEntries<R> {
             (decided_answer scope.entry.file.dwarf.now dw_unit.now (first_answer_of self.old)
             (option_map (λ d. d.value) sections))) ≡ Err e) }
     {
-        self.look(scope, dw_unit);
+        self.check_split(scope, dw_unit);
         if self.is_open() {
             self.decide(alloc, scope, dw_unit, sections)?;
         }

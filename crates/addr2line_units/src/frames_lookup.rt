@@ -18,7 +18,7 @@ use gimli::read::{Error, Reader};
 
 // Whether a fault of a unit ends a lookup.
 #[derive(Clone, Copy)]
-pub enum Faults {
+pub enum OnFault {
     End,
     PassOver,
 }
@@ -42,12 +42,12 @@ pub enum FramesStop {
 }
 
 // A fault as it is, or nothing in its place where a lookup passes over it.
-fn after_fault(found: Result<UnitFrames, Error>, faults: Faults) -> Result<UnitFrames, Error>
+fn after_fault(found: Result<UnitFrames, Error>, faults: OnFault) -> Result<UnitFrames, Error>
     ensures gives { result ≡ found_after_fault faults found }
 {
     match (found, faults) {
         (Err(Error::OutOfMemory), _) => Err(Error::OutOfMemory),
-        (Err(_), Faults::PassOver) => Ok(UnitFrames::Here {
+        (Err(_), OnFault::PassOver) => Ok(UnitFrames::Here {
             function: None,
             row: None,
         }),
@@ -90,7 +90,7 @@ impl<R: Reader> Units<R> {
 
     // Asks the unit of a number, and stores what the lookup comes to there. What is read of the
     // unit is cached, its fault too.
-    fn ask(&mut self, number: usize, probe: u64, faults: Faults) -> Result<(), Error>
+    fn ask(&mut self, number: usize, probe: u64, faults: OnFault) -> Result<(), Error>
         ensures gives { ExactlyUnlessOom (λ _. self.new.stop) result
             (stop_at faults probe self.old number) }
         ensures after { AfterAsk number probe result self.old self.new }
@@ -124,7 +124,7 @@ impl<R: Reader> Units<R> {
         &mut self,
         mut ranges: UnitRangeIter<'_>,
         probe: u64,
-        faults: Faults,
+        faults: OnFault,
     ) -> Result<(), Error>
         ensures gives { ExactlyUnlessOom (λ _. self.new.stop) result
             (stop_of faults probe self.old (ranges_left ranges.entry)) }

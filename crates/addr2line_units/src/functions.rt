@@ -13,7 +13,7 @@ ghost use Rattle.addr2line_units.specs.Frames.{function_at};
 ghost use Rattle.addr2line_units.specs.FunctionParses.{IsReadyFor};
 ghost use Rattle.addr2line_units.specs.CachedFunctions.{AreFunctionsOf, ArePlacesIn, IsTableOf, ReadsNoOther, StayFunctions, table_has_many, find_takes_memory, function_of_place, functions_fault, cached_has_function, has_table, cached_functions, reading_takes_memory, table_takes_memory, were_read};
 ghost use Rattle.addr2line_units.specs.CachedKnown.{known_functions};
-ghost use Rattle.gimli_read.specs.Alike.{HadMemory};
+ghost use Rattle.gimli_read.specs.Alike.{WasNotRefused};
 ghost use Rattle.addr2line_units.specs.UnitFrames.{is_many};
 
 use addr2line_lines::{Functions, InlinedPlaces, Scope};
@@ -85,10 +85,10 @@ fn find_place<R: Reader>(
     ensures ready { result ≢ Err OutOfMemory
         → table_takes_memory probe functions.new ≡ table_has_many probe functions.new }
     ensures kept { has_table probe functions.old ≡ true → functions.new ≡ functions.old }
-    ensures known { HadMemory result → has_table probe functions.new ≡ true }
+    ensures known { WasNotRefused result → has_table probe functions.new ≡ true }
     ensures memory { has_table probe functions.new ≡ true
         → is_many (function_at (seen_scope scope.entry) view.now probe) ≡ false
-        → HadMemory result }
+        → WasNotRefused result }
 {
     let Some(place) = functions.find(probe) else {
         return Ok(None);
@@ -159,10 +159,10 @@ impl<R: Reader> LazyFunctions<R> {
             → find_takes_memory R.shares (seen_scope scope.entry) view.now probe self.new
             ≡ table_has_many probe (cached_functions self.new) }
         ensures kept { cached_has_function probe self.old ≡ true → self.new ≡ self.old }
-        ensures known { HadMemory result → cached_has_function probe self.new ≡ true }
+        ensures known { WasNotRefused result → cached_has_function probe self.new ≡ true }
         ensures memory { cached_has_function probe self.new ≡ true
             → is_many (function_at (seen_scope scope.entry) view.now probe) ≡ false
-            → HadMemory result }
+            → WasNotRefused result }
     {
         self.cache(alloc, scope, view)?;
         match self {
@@ -196,10 +196,10 @@ impl<R: Reader> LazyFunctions<R> {
         ensures ready { OnOk result ((probe : ℕ)
             → find_takes_memory R.shares (seen_scope scope.entry) view.now probe self.new
             ≡ table_has_many probe (cached_functions self.new)) }
-        ensures ready_for_all { HadMemory result
+        ensures ready_for_all { WasNotRefused result
             → IsReadyFor kinds.Details (known_functions self.new) }
         ensures had_memory { IsReadyFor kinds.Details (known_functions self.new)
-            → HadMemory result }
+            → WasNotRefused result }
         ensures exact { IsReadyFor kinds.Details (known_functions self.old)
             → result ≡ functions_fault (seen_scope scope.entry) view.now }
         ensures same { IsReadyFor kinds.Details (known_functions self.old)

@@ -136,7 +136,7 @@ impl<R: Reader> UnitEntries<R> {
         ensures right { AreEntriesOf (seen_scope scope.entry) dw_unit.now self.new }
         ensures stay { StayEntries self.old self.new }
     {
-        self.look(scope, dw_unit);
+        self.check_split(scope, dw_unit);
         if !self.is_open() {
             return Ok(None);
         }

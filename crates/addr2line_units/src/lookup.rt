@@ -2,7 +2,7 @@
 
 ghost use Rattle.std.specs.Prelude.{◌≡◌, ◌+◌, ◌<◌, ◌≤◌, false, true, Err, IfErr, IfOk, IfSome, OnOk, Ok, option_map, slice_get};
 ghost use Rattle.gimli_read.specs.declared.error.Error.TheVariants.{OutOfMemory};
-ghost use Rattle.gimli_read.specs.Alike.{HadMemory};
+ghost use Rattle.gimli_read.specs.Alike.{WasNotRefused};
 ghost use Rattle.gimli_read.specs.Reading.{Exactly, ExactlyUnlessOom, IsUnlessOom, fault_of};
 ghost use Rattle.addr2line_lines.specs.Location.{location_of_row};
 ghost use Rattle.addr2line_lines.specs.SeenLocation.{seen_location};
@@ -45,8 +45,8 @@ fn find_row_in<R: Reader>(
         (option_map (λ row. location_of_unit_row units.new.items (unit_row number row))) result
         (location_in dwarf.now probe
         (slice_get (indexed_units dw_units.now units.old.items) number)) }
-    ensures parsed { HadMemory result → has_parsed (parsed_units units.new.items) number ≡ true }
-    ensures memory { has_parsed (parsed_units units.new.items) number ≡ true → HadMemory result }
+    ensures parsed { WasNotRefused result → has_parsed (parsed_units units.new.items) number ≡ true }
+    ensures memory { has_parsed (parsed_units units.new.items) number ≡ true → WasNotRefused result }
     ensures no_memory { lines_of_take_memory R.shares
         (indexed_units dw_units.now units.old.items) number ≡ false → IfErr result (λ e.
         location_in dwarf.now probe (slice_get (indexed_units dw_units.now units.old.items) number)
@@ -87,11 +87,11 @@ pub(crate) fn find_place_along<R: Reader>(
         (option_map (location_of_unit_row units.new.items)) result
         (along dwarf.now (indexed_units dw_units.now units.old.items) probe
         (ranges_left ranges.entry)) }
-    ensures ready { HadMemory result → ready_along dwarf.now
+    ensures ready { WasNotRefused result → ready_along dwarf.now
         (indexed_units dw_units.now units.old.items) (parsed_units units.new.items) probe
         (ranges_left ranges.entry) ≡ true }
     ensures memory { ready_along dwarf.now (indexed_units dw_units.now units.old.items)
-        (parsed_units units.new.items) probe (ranges_left ranges.entry) ≡ true → HadMemory result }
+        (parsed_units units.new.items) probe (ranges_left ranges.entry) ≡ true → WasNotRefused result }
     ensures no_memory { takes_none_along R.shares dwarf.now
         (indexed_units dw_units.now units.old.items) (parsed_units units.new.items) probe
         (ranges_left ranges.entry) ≡ true → IfErr result (λ e. along dwarf.now
@@ -131,7 +131,7 @@ fn cache_lines_in<R: Reader>(
     requires read { HaveLinesOf dwarf.now dw_units.now units.old.items }
     ensures exact { has_parsed (parsed_units units.old.items) number ≡ true → result ≡ Ok tt }
     ensures parsed { OnOk result (has_parsed (parsed_units units.new.items) number ≡ true) }
-    ensures memory { has_parsed (parsed_units units.new.items) number ≡ true → HadMemory result }
+    ensures memory { has_parsed (parsed_units units.new.items) number ≡ true → WasNotRefused result }
     ensures only { ParsesOnly (λ n. n ≡ number)
         (parsed_units units.old.items) (parsed_units units.new.items) }
     ensures refused { IfErr result (λ e. e ≡ OutOfMemory) }
@@ -160,7 +160,7 @@ pub(crate) fn cache_lines_along<R: Reader>(
     ensures parsed { OnOk result
         (AreParsed (parsed_units units.new.items) (ranges_left ranges.entry)) }
     ensures memory { AreParsed (parsed_units units.new.items) (ranges_left ranges.entry)
-        → HadMemory result }
+        → WasNotRefused result }
     ensures only { ParsesOnly (LeadTo (ranges_left ranges.entry))
         (parsed_units units.old.items) (parsed_units units.new.items) }
     ensures refused { IfErr result (λ e. e ≡ OutOfMemory) }
@@ -188,8 +188,8 @@ fn read_lines_in<R: Reader>(
     ensures exact { has_parsed (parsed_units units.old.items) number ≡ true → Exactly (λ x. x)
         result (lines_result_at dwarf.now
         (slice_get (indexed_units dw_units.now units.old.items) number)) }
-    ensures parsed { HadMemory result → has_parsed (parsed_units units.new.items) number ≡ true }
-    ensures memory { has_parsed (parsed_units units.new.items) number ≡ true → HadMemory result }
+    ensures parsed { WasNotRefused result → has_parsed (parsed_units units.new.items) number ≡ true }
+    ensures memory { has_parsed (parsed_units units.new.items) number ≡ true → WasNotRefused result }
     ensures only { ParsesOnly (λ n. n ≡ number)
         (parsed_units units.old.items) (parsed_units units.new.items) }
     ensures stay { StayUnits units.old.items units.new.items }
@@ -216,10 +216,10 @@ pub(crate) fn read_all_lines<R: Reader>(
     ensures exact { AreReadyForAll dwarf.now (indexed_units dw_units.now units.old.items)
         (parsed_units units.old.items) → Exactly (λ x. x) result
         (fault_of (all_lines dwarf.now (indexed_units dw_units.now units.old.items))) }
-    ensures ready { HadMemory result → AreReadyForAll dwarf.now
+    ensures ready { WasNotRefused result → AreReadyForAll dwarf.now
         (indexed_units dw_units.now units.old.items) (parsed_units units.new.items) }
     ensures memory { AreReadyForAll dwarf.now (indexed_units dw_units.now units.old.items)
-        (parsed_units units.new.items) → HadMemory result }
+        (parsed_units units.new.items) → WasNotRefused result }
     ensures parsed { OnOk result (AreAllParsed (parsed_units units.new.items)) }
     ensures only { ParsesOnly (AllAskFor dwarf.now (indexed_units dw_units.now units.old.items))
         (parsed_units units.old.items) (parsed_units units.new.items) }

@@ -13,7 +13,7 @@ ghost use Rattle.addr2line_units.specs.CachedUnits.{HaveEntriesOf, answers_in};
 ghost use Rattle.addr2line_units.specs.CachedParses.{AreReadyUnits, ChangesOnly, HasRead, HaveFunctions, HaveRead, IsReadyUnit, StayDecided};
 ghost use Rattle.addr2line_units.specs.CachedViews.{is_decided, seen_first_answer};
 ghost use Rattle.addr2line_units.specs.CachedKnown.{known_by, known_functions};
-ghost use Rattle.gimli_read.specs.Alike.{HadMemory};
+ghost use Rattle.gimli_read.specs.Alike.{WasNotRefused};
 ghost use Rattle.addr2line_units.specs.AfterUnits.{AfterReading};
 ghost use Rattle.addr2line_units.specs.Views.{decided_answer, verdict};
 
@@ -53,9 +53,9 @@ impl<R: Reader> LazyFunctions<R> {
         ensures stay { StayFunctions self.old self.new }
         ensures read { OnOk result (HaveFunctions Functions self.new) }
         ensures memory { HaveFunctions Functions self.old → result ≡ Ok tt }
-        ensures ready_for_all { HadMemory result
+        ensures ready_for_all { WasNotRefused result
             → IsReadyFor Functions (known_functions self.new) }
-        ensures had_memory { IsReadyFor Functions (known_functions self.new) → HadMemory result }
+        ensures had_memory { IsReadyFor Functions (known_functions self.new) → WasNotRefused result }
         ensures exact { IsReadyFor Functions (known_functions self.old)
             → result ≡ read_of_functions Functions (seen_scope scope.entry) view.now }
         ensures same { IsReadyFor Functions (known_functions self.old) → self.new ≡ self.old }
@@ -84,8 +84,8 @@ impl<R: Reader> LazyFunctions<R> {
         ensures stay { StayFunctions self.old self.new }
         ensures read { OnOk result (HaveFunctions reads self.new) }
         ensures memory { HaveFunctions reads self.old → result ≡ Ok tt }
-        ensures ready_for_all { HadMemory result → IsReadyFor reads (known_functions self.new) }
-        ensures had_memory { IsReadyFor reads (known_functions self.new) → HadMemory result }
+        ensures ready_for_all { WasNotRefused result → IsReadyFor reads (known_functions self.new) }
+        ensures had_memory { IsReadyFor reads (known_functions self.new) → WasNotRefused result }
         ensures exact { IsReadyFor reads (known_functions self.old)
             → result ≡ read_of_functions reads (seen_scope scope.entry) view.now }
         ensures same { IsReadyFor reads (known_functions self.old) → self.new ≡ self.old }
@@ -119,10 +119,10 @@ fn read_in_view<'x, R: Reader>(
         (record { view = view.now; functions = functions.new })) }
     ensures memory { HasRead reads (record { view = view.now; functions = functions.old })
         → result ≡ Ok tt }
-    ensures ready_for_all { HadMemory result
+    ensures ready_for_all { WasNotRefused result
         → IsReadyFor reads (known_by view.now.state functions.new) }
     ensures had_memory { IsReadyFor reads (known_by view.now.state functions.new)
-        → HadMemory result }
+        → WasNotRefused result }
     ensures exact { IsReadyFor reads (known_by view.now.state functions.old)
         → result ≡ read_of_view reads (seen_scope scope.entry)
         (verdict scope.entry.file.dwarf.now dw_unit.now (seen_first_answer view.now)) }
@@ -153,7 +153,7 @@ impl<R: Reader> UnitEntries<R> {
         ensures gives { IsUnlessOom result (read_of_unit reads
             (seen_scope scope.entry) dw_unit.now (first_answer_of self.old)) }
         ensures right { AreEntriesOf (seen_scope scope.entry) dw_unit.now self.new }
-        ensures answer { HadMemory result → first_answer_of self.new ≡ decided_answer
+        ensures answer { WasNotRefused result → first_answer_of self.new ≡ decided_answer
             scope.entry.file.dwarf.now dw_unit.now (first_answer_of self.old) None }
         ensures memory_answer { (first_answer_of self.new ≡ first_answer_of self.old)
             ⊎ (first_answer_of self.new ≡ decided_answer scope.entry.file.dwarf.now dw_unit.now
@@ -161,8 +161,8 @@ impl<R: Reader> UnitEntries<R> {
         ensures stay { is_decided self.old.view.state ≡ true → StayEntries self.old self.new }
         ensures read { OnOk result (HasRead reads self.new) }
         ensures memory { HasRead reads self.old → result ≡ Ok tt }
-        ensures ready_for_all { HadMemory result → IsReadyUnit reads self.new }
-        ensures had_memory { IsReadyUnit reads self.new → HadMemory result }
+        ensures ready_for_all { WasNotRefused result → IsReadyUnit reads self.new }
+        ensures had_memory { IsReadyUnit reads self.new → WasNotRefused result }
         ensures exact { IsReadyUnit reads self.old → result ≡ read_of_unit reads
             (seen_scope scope.entry) dw_unit.now (first_answer_of self.old) }
         ensures same { IsReadyUnit reads self.old → self.new ≡ self.old }
@@ -189,7 +189,7 @@ fn read_functions_in<R: Reader>(
         number) }
     ensures right { HaveEntriesOf (seen_scope scope.entry) scope.entry.file.units.now
         entries.new.items }
-    ensures answers { HadMemory result → answers_in entries.new.items
+    ensures answers { WasNotRefused result → answers_in entries.new.items
         ≡ with_answer scope.entry.file.dwarf.now scope.entry.file.units.now
         (answers_in entries.old.items) number None }
     ensures memory_answers { (answers_in entries.new.items ≡ answers_in entries.old.items)
@@ -200,10 +200,10 @@ fn read_functions_in<R: Reader>(
     ensures read { OnOk result (IfSome (slice_get entries.new.items number) (HasRead reads)) }
     ensures memory { IfSome (slice_get entries.old.items number) (HasRead reads)
         → result ≡ Ok tt }
-    ensures ready_for_all { HadMemory result
+    ensures ready_for_all { WasNotRefused result
         → IfSome (slice_get entries.new.items number) (IsReadyUnit reads) }
     ensures had_memory { IfSome (slice_get entries.new.items number) (IsReadyUnit reads)
-        → HadMemory result }
+        → WasNotRefused result }
     ensures exact { IfSome (slice_get entries.old.items number) (IsReadyUnit reads)
         → result ≡ read_of_number reads (seen_scope scope.entry) scope.entry.file.units.now
         (answers_in entries.old.items) number }
@@ -231,7 +231,7 @@ fn read_all_functions<R: Reader>(
         (seen_scope scope.entry) scope.entry.file.units.now (answers_in entries.old.items)) }
     ensures right { HaveEntriesOf (seen_scope scope.entry) scope.entry.file.units.now
         entries.new.items }
-    ensures answers { HadMemory result → answers_in entries.new.items
+    ensures answers { WasNotRefused result → answers_in entries.new.items
         ≡ answers_after_parse reads (seen_scope scope.entry) scope.entry.file.units.now
         (answers_in entries.old.items) }
     ensures begun { AreFirstDecided reads (seen_scope scope.entry)
@@ -243,11 +243,11 @@ fn read_all_functions<R: Reader>(
         entries.old.items entries.new.items }
     ensures read { OnOk result (HaveRead reads entries.new.items) }
     ensures memory { HaveRead reads entries.old.items → result ≡ Ok tt }
-    ensures ready_for_all { HadMemory result → AreReadyUnits reads (seen_scope scope.entry)
+    ensures ready_for_all { WasNotRefused result → AreReadyUnits reads (seen_scope scope.entry)
         scope.entry.file.units.now (answers_in entries.old.items) entries.new.items }
     ensures had_memory { AreReadyUnits reads (seen_scope scope.entry)
         scope.entry.file.units.now (answers_in entries.new.items) entries.new.items
-        → HadMemory result }
+        → WasNotRefused result }
     ensures exact { AreReadyUnits reads (seen_scope scope.entry) scope.entry.file.units.now
         (answers_in entries.old.items) entries.old.items
         → result ≡ read_of_units reads (seen_scope scope.entry) scope.entry.file.units.now

@@ -11,7 +11,7 @@ ghost use Rattle.addr2line_units.specs.Located.{is_found, location_in, looks_in}
 ghost use Rattle.addr2line_units.specs.UnitAranges.{range_in};
 ghost use Rattle.addr2line_units.specs.CachedLines.{AreLinesOf, IsUnparsed, LinesStayCached, CachesResult, StaysUnit, cached_lines_result, cached_files, cached_looks, cached_ranges, cached_row, indexed_unit, lines_result, cached_lines, is_parsed, is_uncached};
 ghost use Rattle.addr2line_units.specs.Indexed.{ranged_seen};
-ghost use Rattle.gimli_read.specs.Alike.{HadMemory};
+ghost use Rattle.gimli_read.specs.Alike.{WasNotRefused};
 
 use crate::aranges::{UnitArange, UnitAranges};
 use crate::attributes::read_unit_attributes;
@@ -253,7 +253,7 @@ impl ResUnit {
             (lines_result dwarf.now dw_unit.now) }
         ensures stays { LinesStayCached self.old.lines self.new.lines }
         ensures caches { CachesResult self.old.lines result self.new.lines }
-        ensures memory { is_uncached self.new.lines ≡ false → HadMemory result }
+        ensures memory { is_uncached self.new.lines ≡ false → WasNotRefused result }
         ensures no_memory { lines_take_memory R.shares dw_unit.now ≡ false
             → IfErr result (λ e. lines_result dwarf.now dw_unit.now ≡ Err e) }
         ensures lang { self.new.lang ≡ self.old.lang }
@@ -308,7 +308,7 @@ impl ResUnit {
             (location_in dwarf.now probe (Some (indexed_unit dw_unit.now self.old))) }
         ensures stays { StaysUnit self.old self.new }
         ensures caches { CachesResult self.old.lines result self.new.lines }
-        ensures memory { is_uncached self.new.lines ≡ false → HadMemory result }
+        ensures memory { is_uncached self.new.lines ≡ false → WasNotRefused result }
         ensures no_memory { lines_take_memory R.shares dw_unit.now ≡ false → IfErr result (λ e.
             location_in dwarf.now probe (Some (indexed_unit dw_unit.now self.old)) ≡ Err e) }
         ensures read { AreLinesOf dwarf.now dw_unit.now self.new.lines }

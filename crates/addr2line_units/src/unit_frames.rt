@@ -9,7 +9,7 @@ ghost use Rattle.addr2line_units.specs.AskMemory.{functions_in_take_memory};
 ghost use Rattle.addr2line_units.specs.CachedEntries.{AreEntriesOf, AreFramesIn, AsksNoMemoryIn, AreFresh, ReadsEntriesOf, StayEntries, frames_of_place, has_entries, has_entries_by, first_answer_of};
 ghost use Rattle.addr2line_units.specs.CachedFunctions.{ArePlacesIn, ReadsNoOther, StayFunctions, function_of_place, cached_functions};
 ghost use Rattle.addr2line_units.specs.CachedViews.{is_decided, seen_first_answer, waits, was_looked_at};
-ghost use Rattle.gimli_read.specs.Alike.{HadMemory};
+ghost use Rattle.gimli_read.specs.Alike.{WasNotRefused};
 ghost use Rattle.addr2line_units.specs.UnitFrames.{asks_lines_in, frames_in, function_in, has_many};
 ghost use Rattle.addr2line_units.specs.Views.{is_open};
 
@@ -65,11 +65,11 @@ fn find_in_view<'x, R: Reader>(
         (cached_functions functions.new) }
     ensures same { has_entries_by probe view.now.state functions.old ≡ true
         → functions.new ≡ functions.old }
-    ensures ready { HadMemory result
+    ensures ready { WasNotRefused result
         → has_entries_by probe view.now.state functions.new ≡ true }
     ensures memory { has_entries_by probe view.now.state functions.new ≡ true
         → has_many (seen_scope scope.entry) dw_unit.now (seen_first_answer view.now) probe ≡ false
-        → HadMemory result }
+        → WasNotRefused result }
     ensures no_memory { functions_in_take_memory R.shares (seen_scope scope.entry) dw_unit.now
         (seen_first_answer view.now) ≡ false → IfErr result (λ e. function_in
         (seen_scope scope.entry) dw_unit.now (seen_first_answer view.now) probe ≡ Err e) }
@@ -91,7 +91,7 @@ impl<R: Reader> UnitEntries<R> {
     }
 
     // Looks whether the unit waits for an answer, unless that was done. Takes no memory.
-    pub(crate) fn look(&mut self, scope: Scope<'_, R>, dw_unit: &Unit<R>)
+    pub(crate) fn check_split(&mut self, scope: Scope<'_, R>, dw_unit: &Unit<R>)
         requires right { AreEntriesOf (seen_scope scope) dw_unit.now self.old }
         ensures right { AreEntriesOf (seen_scope scope.entry) dw_unit.now self.new }
         ensures looked { was_looked_at self.new.view.state ≡ true }
@@ -99,7 +99,7 @@ impl<R: Reader> UnitEntries<R> {
         ensures functions { self.new.functions ≡ self.old.functions }
         ensures same { was_looked_at self.old.view.state ≡ true → self.new ≡ self.old }
     {
-        self.view.look(scope.file.dwarf, dw_unit);
+        self.view.check_split(scope.file.dwarf, dw_unit);
     }
 
     // The function at an address in the unit's view, none where no function holds it. The functions
@@ -127,10 +127,10 @@ impl<R: Reader> UnitEntries<R> {
         ensures right { AreEntriesOf (seen_scope scope.entry) dw_unit.now self.new }
         ensures stay { StayEntries self.old self.new }
         ensures only { ReadsEntriesOf probe self.old self.new }
-        ensures ready { HadMemory result → has_entries probe self.new ≡ true }
+        ensures ready { WasNotRefused result → has_entries probe self.new ≡ true }
         ensures memory { has_entries probe self.new ≡ true
             → has_many (seen_scope scope.entry) dw_unit.now (first_answer_of self.old) probe ≡ false
-            → HadMemory result }
+            → WasNotRefused result }
         ensures no_memory { functions_in_take_memory R.shares (seen_scope scope.entry) dw_unit.now
             (first_answer_of self.old) ≡ false → IfErr result (λ e. function_in
             (seen_scope scope.entry) dw_unit.now (first_answer_of self.old) probe ≡ Err e) }
@@ -170,8 +170,8 @@ pub(crate) fn find_frames_in<'x, R: Reader>(
     ensures only { ReadsEntriesOf probe entries.old entries.new }
     ensures lines { asks_lines_in (seen_scope scope.entry) dw_unit.now (first_answer_of entries.old)
         probe ≡ false → unit.new ≡ unit.old }
-    ensures ready { HadMemory result → has_entries probe entries.new ≡ true }
-    ensures parsed { HadMemory result
+    ensures ready { WasNotRefused result → has_entries probe entries.new ≡ true }
+    ensures parsed { WasNotRefused result
         → asks_lines_in (seen_scope scope.entry) dw_unit.now (first_answer_of entries.old) probe
         ≡ true
         → is_uncached unit.new.lines ≡ false }
@@ -180,14 +180,14 @@ pub(crate) fn find_frames_in<'x, R: Reader>(
         ≡ true
         → is_uncached unit.new.lines ≡ false)
         → has_many (seen_scope scope.entry) dw_unit.now (first_answer_of entries.old) probe ≡ false
-        → HadMemory result }
+        → WasNotRefused result }
     ensures no_memory { AsksNoMemoryIn R.shares (seen_scope scope.entry) dw_unit.now
         (first_answer_of entries.old) probe unit.new entries.new → IfErr result (λ e. frames_in
         (seen_scope scope.entry) (indexed_unit dw_unit.now unit.old) (first_answer_of entries.old)
         probe ≡ Err e) }
     ensures raised { looks.old ≤ looks.new }
 {
-    entries.look(scope, dw_unit);
+    entries.check_split(scope, dw_unit);
     if entries.view.is_open() {
         return Ok(UnitFrames::Open);
     }

@@ -224,7 +224,7 @@ impl<R: Reader> UnitView<R> {
     }
 
     // Looks whether the unit needs an answer, unless that was done. Takes no memory.
-    pub(crate) fn look(&mut self, dwarf: &Dwarf<R>, dw_unit: &Unit<R>)
+    pub(crate) fn check_split(&mut self, dwarf: &Dwarf<R>, dw_unit: &Unit<R>)
         requires view { IsViewOf dwarf.now dw_unit.now self.old }
         ensures view { IsViewOf dwarf.now dw_unit.now self.new }
         ensures looked { was_looked_at self.new.state ≡ true }

@@ -1,6 +1,7 @@
 -- Each level of depth took a byte of the unit (on specs/Entry.antt).
-use Rattle.std.proofs.Common.{◌≡◌, ℕ, zero, suc, ◌+◌, ◌^◌, ◌<◌, ◌≤◌, ◌++◌, ◌==◌, Bool, true, false, cond, List, Option, Some, None, IfOk, length, Ok, Err, ap, sym, ◌∙◌, arith, ℤ, pos, negsuc, ◌+ℤ◌, FitsSigned, w64, length-append}
+use Rattle.std.proofs.Common.{◌≡◌, ℕ, zero, suc, ◌+◌, ◌^◌, ◌<◌, ◌≤◌, ◌++◌, ◌==◌, Bool, true, false, cond, List, [], ◌∷◌, Option, Some, None, IfOk, length, Ok, Err, refl, ap, sym, ◌∙◌, arith, ℤ, pos, negsuc, ◌+ℤ◌, FitsSigned, w64, length-append}
 use Rattle.std.specs.Prelude.{unsigned_abs}
+use Rattle.std.proofs.lemmas.Bool.{eqb-true}
 use Rattle.std.proofs.lemmas.Grind.{common_steps}
 use Rattle.std.proofs.lemmas.Result.{IfOk-at_ok}
 use Rattle.std.proofs.lemmas.Int.{fits_signed_from_abs}
@@ -9,10 +10,10 @@ use Rattle.gimli_read.specs.Abbreviations.{Abbrev, Specification, with_code}
 use Rattle.gimli_read.specs.Section.{Section}
 use Rattle.gimli_read.specs.Reading.{Reading, ◌>>=◌}
 use Rattle.gimli_read.specs.Leb128.{uleb128_at}
-use Rattle.gimli_read.specs.Form.{NamedValue, attribute_at}
+use Rattle.gimli_read.specs.Form.{NamedValue, attribute_at, rest_of}
 use Rattle.gimli_read.proofs.Shorter.{Shorter, shorter_at, uleb128-shorter}
 use Rattle.gimli_read.proofs.AttributeTexts.{attribute_alone}
-use Rattle.gimli.specs.Entry.{depth_after_entry, depth_after_closing}
+use Rattle.gimli.specs.Entry.{attributes_at, depth_after_entry, depth_after_closing}
 use Rattle.gimli.specs.EntryCursor.{EntryCursor, IsInUnit, entry_abbreviation_at}
 use Rattle.gimli.proofs.CursorLemmas.{abbreviation_is, opening_entry}
 
@@ -82,3 +83,9 @@ still_in_unit n s t z h k = (omega (arith, h.0), h.1)
 -- the next depth fits, since a byte is left for it
 pub next_fits : (n : ℕ) (s t : Section) (z : ℤ) → IsInUnit n s z → length t.bytes < length s.bytes → unsigned_abs z + 1 < 2 ^ 63
 next_fits n s t z h k = omega (arith, h.0, h.1, k)
+
+-- where no attributes are passed over, all is left
+pub none_passed : (e : Encoding) (xs : List Specification) (left : Section) → (length xs == 0) ≡ true → rest_of (attributes_at e xs left) ≡ Ok left
+unfolding attributes_at
+none_passed e [] left h = refl
+none_passed e (x ∷ xs) left h = let none : length (x ∷ xs) ≡ 0 = eqb-true (length (x ∷ xs)) 0 h in absurd (omega arith)

@@ -183,7 +183,7 @@ impl<'a, R: Reader> EntriesRaw<'a, R> {
     /// Refused as `read_attribute` is at the first that can't be read, but for `OutOfMemory`. After
     /// a refusal nothing is left to read.
     #[inline(always)]
-    #[tactic(auto, using(gimli_read::proofs::SkipLemmas::attributes_leave, crate::proofs::EntryLemmas::still_in_unit))]
+    #[tactic(auto, using(crate::proofs::EntryLemmas::none_passed, gimli_read::proofs::SkipLemmas::attributes_leave, crate::proofs::EntryLemmas::still_in_unit))]
     pub fn skip_attributes(
         &mut self,
         specifications: &[AttributeSpecification],
@@ -194,6 +194,9 @@ impl<'a, R: Reader> EntriesRaw<'a, R> {
         ensures unit { self.new.unit ≡ self.old.unit }
         ensures depth { self.new.cursor.depth ≡ self.old.cursor.depth }
     {
+        if specifications.is_empty() {
+            return Ok(());
+        }
         match skip_attributes(&mut self.input, self.encoding, specifications) {
             Ok(()) => Ok(()),
             Err(error) => {

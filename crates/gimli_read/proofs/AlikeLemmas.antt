@@ -2,13 +2,13 @@
 use Rattle.std.proofs.Common.{◌≡◌, Result, Ok, Err, sym, ap, ◌∙◌}
 use Rattle.gimli_read.specs.declared.error.Error.{Error}
 use Rattle.gimli_read.specs.Reading.{result_map, Exactly, ExactlyUnlessOom}
-use Rattle.gimli_read.specs.Alike.{HadMemory, AnswerAlike, AnswerAlikeUnlessOom}
+use Rattle.gimli_read.specs.Alike.{WasNotRefused, AnswerAlike, AnswerAlikeUnlessOom}
 
 exact_is : {X Z : Type 0} (view : X → Z) (x : Result X Error) (given : Result Z Error) → Exactly view x given → given ≡ result_map view x
 exact_is view (Ok x) given h = h
 exact_is view (Err e) given h = h
 
-unless_oom_is : {X Z : Type 0} (view : X → Z) (x : Result X Error) (given : Result Z Error) → ExactlyUnlessOom view x given → HadMemory x → given ≡ result_map view x
+unless_oom_is : {X Z : Type 0} (view : X → Z) (x : Result X Error) (given : Result Z Error) → ExactlyUnlessOom view x given → WasNotRefused x → given ≡ result_map view x
 unless_oom_is view (Ok x) given h m = h
 unless_oom_is view (Err e) given h m = h m
 

@@ -8,9 +8,9 @@ use Rattle.gimli_read.specs.Section.{Section}
 use Rattle.gimli_read.specs.Reading.{result_map, Exactly, ExactlyUnlessOom}
 
 -- the answer is a value, or a refusal other than OutOfMemory
-abbrev pub HadMemory : {X : Type 0} → Result X Error → Type 0
-HadMemory (Ok x) = Unit {0}
-HadMemory (Err e) = e ≢ OutOfMemory
+abbrev pub WasNotRefused : {X : Type 0} → Result X Error → Type 0
+WasNotRefused (Ok x) = Unit {0}
+WasNotRefused (Err e) = e ≢ OutOfMemory
 
 -- two answers that are exactly one reading of equal sections are the same: value, rest and fault
 abbrev pub AnswerAlike : Type 0 → Type 0 → Type 0 → Type 0
@@ -26,4 +26,4 @@ AnswerAlikeUnlessOom X Y Z =
     (read : Section → Result Z Error) (s t : Section) (view : X → Z) (see : Y → Z)
     (x : Result X Error) (y : Result Y Error)
     → s ≡ t → ExactlyUnlessOom view x (read s) → ExactlyUnlessOom see y (read t)
-    → HadMemory x → HadMemory y → result_map view x ≡ result_map see y
+    → WasNotRefused x → WasNotRefused y → result_map view x ≡ result_map see y

@@ -1,5 +1,5 @@
 use Rattle.std.proofs.Common.{Some, refl}
-use Rattle.addr2line_units.specs.declared.frames_lookup.Faults.TheVariants.{End}
+use Rattle.addr2line_units.specs.declared.frames_lookup.OnFault.TheVariants.{End}
 use Rattle.addr2line_units.specs.FramesLeft.{frames_left}
 use Rattle.addr2line.proofs.AfterLemmas.{frames_over, if_load, outputs_same, suspends}
 use Rattle.addr2line.specs.Lookups.{frames_of}

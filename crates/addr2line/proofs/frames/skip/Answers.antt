@@ -1,5 +1,5 @@
 use Rattle.std.proofs.Common.{Some, refl}
-use Rattle.addr2line_units.specs.declared.frames_lookup.Faults.TheVariants.{End}
+use Rattle.addr2line_units.specs.declared.frames_lookup.OnFault.TheVariants.{End}
 use Rattle.addr2line_units.specs.FramesLeft.{frames_left}
 use Rattle.addr2line.proofs.AfterLemmas.{if_load, never_waits, outputs_skipped, skip_after}
 use Rattle.addr2line.specs.Lookups.{frames_of}

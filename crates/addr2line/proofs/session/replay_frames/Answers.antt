@@ -1,7 +1,7 @@
 use Rattle.std.proofs.Common.{◌≡◌, ◌++◌, ◌∷◌, ◌+◌, ◌≤◌, List, Some, ap, drop, length, map, option_map, refl, rules, subst, sym, take, ◌∙◌}
 use Rattle.std.proofs.lemmas.List.{length-map}
 use Rattle.gimli_read.specs.Reading.{ExactlyUnlessOom}
-use Rattle.addr2line_units.specs.declared.frames_lookup.Faults.TheVariants.{End}
+use Rattle.addr2line_units.specs.declared.frames_lookup.OnFault.TheVariants.{End}
 use Rattle.addr2line_units.specs.FramesLeft.{frames_left}
 use Rattle.addr2line.proofs.HistoryLemmas.{given_ended, take_drop_one, take_then}
 use Rattle.addr2line.proofs.ReplayLemmas.{begun_at, ended_by, goes_on, left_at_end, left_by, left_leaves, load_token, looked_leaves, refused_leaves, reply_by, resumed_leaves, suspended_by}

@@ -1,5 +1,5 @@
 use Rattle.std.proofs.Common.{refl}
-use Rattle.addr2line_units.specs.declared.frames_lookup.Faults.TheVariants.{PassOver}
+use Rattle.addr2line_units.specs.declared.frames_lookup.OnFault.TheVariants.{PassOver}
 use Rattle.addr2line_units.specs.SeenUnit.{seen_found}
 use Rattle.addr2line.proofs.AfterLemmas.{frames_over, if_load, outputs_same, suspends}
 use Rattle.addr2line.specs.Lookups.{unit_of}

@@ -1,6 +1,6 @@
 use Rattle.std.proofs.Common.{Ok, option_map, refl, rules, subst, sym}
 use Rattle.gimli_read.specs.Reading.{ExactlyUnlessOom}
-use Rattle.addr2line_units.specs.declared.frames_lookup.Faults.TheVariants.{PassOver}
+use Rattle.addr2line_units.specs.declared.frames_lookup.OnFault.TheVariants.{PassOver}
 use Rattle.addr2line_units.specs.SeenUnit.{seen_unit}
 use Rattle.addr2line.specs.AfterLookups.{IsLent}
 use Rattle.addr2line.specs.Lookups.{lookup_stop}

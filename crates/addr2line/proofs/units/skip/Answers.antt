@@ -1,5 +1,5 @@
 use Rattle.std.proofs.Common.{refl}
-use Rattle.addr2line_units.specs.declared.frames_lookup.Faults.TheVariants.{PassOver}
+use Rattle.addr2line_units.specs.declared.frames_lookup.OnFault.TheVariants.{PassOver}
 use Rattle.addr2line_units.specs.SeenUnit.{seen_found}
 use Rattle.addr2line.proofs.AfterLemmas.{if_load, never_waits, outputs_skipped, skip_after}
 use Rattle.addr2line.specs.Lookups.{unit_of}

@@ -13,7 +13,7 @@ returns-then-not-is_open-clause-gives g c =
     let e = c.args.dwarf.now.value in
     let u = c.args.dw_unit.now in
     let s = c.args.self.now in
-    let was : is_open d u (first_answer_of s) ≡ false = open_by_look d u s.view c.look.new.self.view false c.look.ensures.right.view c.look.ensures.looked c.look.ensures.stay.answer (search rules) in
+    let was : is_open d u (first_answer_of s) ≡ false = open_by_look d u s.view c.check_split.new.self.view false c.check_split.ensures.right.view c.check_split.ensures.looked c.check_split.ensures.stay.answer (search rules) in
     let none : awaited_load e c.args.number u (first_answer_of s) ≡ None = no_answer (awaited_load e c.args.number u (first_answer_of s)) (sym (open_awaits e c.args.number u (first_answer_of s)) ∙ subst (λ x. is_open x u (first_answer_of s) ≡ false) c.requires.same was) in
     sym (ap (if_new c.args.marks.now.items) none)
 
@@ -23,7 +23,7 @@ returns-then-not-is_open-clause-marked g c =
     let e = c.args.dwarf.now.value in
     let u = c.args.dw_unit.now in
     let s = c.args.self.now in
-    let was : is_open d u (first_answer_of s) ≡ false = open_by_look d u s.view c.look.new.self.view false c.look.ensures.right.view c.look.ensures.looked c.look.ensures.stay.answer (search rules) in
+    let was : is_open d u (first_answer_of s) ≡ false = open_by_look d u s.view c.check_split.new.self.view false c.check_split.ensures.right.view c.check_split.ensures.looked c.check_split.ensures.stay.answer (search rules) in
     let none : awaited_load e c.args.number u (first_answer_of s) ≡ None = no_answer (awaited_load e c.args.number u (first_answer_of s)) (sym (open_awaits e c.args.number u (first_answer_of s)) ∙ subst (λ x. is_open x u (first_answer_of s) ≡ false) c.requires.same was) in
     marks_none c.args.marks.now.items (awaited_load e c.args.number u (first_answer_of s)) none
 
@@ -34,7 +34,7 @@ returns-then-not-branch-clause-gives g c =
     let u = c.args.dw_unit.now in
     let s = c.args.self.now in
     let n = c.args.number in
-    let was : is_open d u (first_answer_of s) ≡ true = open_by_look d u s.view c.look.new.self.view true c.look.ensures.right.view c.look.ensures.looked c.look.ensures.stay.answer (search rules) in
+    let was : is_open d u (first_answer_of s) ≡ true = open_by_look d u s.view c.check_split.new.self.view true c.check_split.ensures.right.view c.check_split.ensures.looked c.check_split.ensures.stay.answer (search rules) in
     let some : is_some (awaited_load e n u (first_answer_of s)) ≡ true = sym (open_awaits e n u (first_answer_of s)) ∙ subst (λ x. is_open x u (first_answer_of s) ≡ true) c.requires.same was in
     let old : not (is_marked c.args.marks.now.items n) ≡ false = search rules in
     sym (not_new c.args.marks.now.items n (awaited_load e n u (first_answer_of s)) some (awaited_unit e n u (first_answer_of s)) old)
@@ -46,7 +46,7 @@ returns-then-not-branch-clause-marked g c =
     let u = c.args.dw_unit.now in
     let s = c.args.self.now in
     let n = c.args.number in
-    let was : is_open d u (first_answer_of s) ≡ true = open_by_look d u s.view c.look.new.self.view true c.look.ensures.right.view c.look.ensures.looked c.look.ensures.stay.answer (search rules) in
+    let was : is_open d u (first_answer_of s) ≡ true = open_by_look d u s.view c.check_split.new.self.view true c.check_split.ensures.right.view c.check_split.ensures.looked c.check_split.ensures.stay.answer (search rules) in
     let some : is_some (awaited_load e n u (first_answer_of s)) ≡ true = sym (open_awaits e n u (first_answer_of s)) ∙ subst (λ x. is_open x u (first_answer_of s) ≡ true) c.requires.same was in
     marks_load c.args.marks.now.items n c.mark_unit.new.marks.items (awaited_load e n u (first_answer_of s)) some (awaited_unit e n u (first_answer_of s)) c.in_ok-mark_unit.ensures.marked
 
@@ -58,7 +58,7 @@ returns-clause-gives g c =
     let s = c.args.self.now in
     let n = c.args.number in
     let l = c.in_ok-load.field-0 in
-    let was : is_open d u (first_answer_of s) ≡ true = open_by_look d u s.view c.look.new.self.view true c.look.ensures.right.view c.look.ensures.looked c.look.ensures.stay.answer (search rules) in
+    let was : is_open d u (first_answer_of s) ≡ true = open_by_look d u s.view c.check_split.new.self.view true c.check_split.ensures.right.view c.check_split.ensures.looked c.check_split.ensures.stay.answer (search rules) in
     let some : is_some (awaited_load e n u (first_answer_of s)) ≡ true = sym (open_awaits e n u (first_answer_of s)) ∙ subst (λ x. is_open x u (first_answer_of s) ≡ true) c.requires.same was in
     let this : awaited_load e n u (first_answer_of s) ≡ Some l = awaits_this e n u (first_answer_of s) l c.in_ok-load.ensures.gives some in
     let fresh : not (is_marked c.args.marks.now.items n) ≡ true = search rules in
@@ -71,26 +71,26 @@ returns-clause-marked g c =
     let u = c.args.dw_unit.now in
     let s = c.args.self.now in
     let n = c.args.number in
-    let was : is_open d u (first_answer_of s) ≡ true = open_by_look d u s.view c.look.new.self.view true c.look.ensures.right.view c.look.ensures.looked c.look.ensures.stay.answer (search rules) in
+    let was : is_open d u (first_answer_of s) ≡ true = open_by_look d u s.view c.check_split.new.self.view true c.check_split.ensures.right.view c.check_split.ensures.looked c.check_split.ensures.stay.answer (search rules) in
     let some : is_some (awaited_load e n u (first_answer_of s)) ≡ true = sym (open_awaits e n u (first_answer_of s)) ∙ subst (λ x. is_open x u (first_answer_of s) ≡ true) c.requires.same was in
     marks_load c.args.marks.now.items n c.mark_unit.new.marks.items (awaited_load e n u (first_answer_of s)) some (awaited_unit e n u (first_answer_of s)) c.in_ok-mark_unit.ensures.marked
 
 pub returns-clause-decided : goal.returns-clause-decided
 returns-clause-decided g c h =
-    absurd (never_waits c.args.self.now c.look.new.self true h c.look.ensures.same (search rules) refl)
+    absurd (never_waits c.args.self.now c.check_split.new.self true h c.check_split.ensures.same (search rules) refl)
 
 pub returns-in_err-mark_unit-clause-not_open : goal.returns-in_err-mark_unit-clause-not_open
 returns-in_err-mark_unit-clause-not_open g c h =
-    absurd (waits_only_open c.args.scope.file.dwarf.now c.args.dw_unit.now c.args.self.now.view c.look.new.self.view c.look.ensures.right.view c.look.ensures.looked c.look.ensures.stay.answer (search rules) (subst (λ x. is_open x c.args.dw_unit.now (first_answer_of c.args.self.now) ≡ false) (sym c.requires.same) h))
+    absurd (waits_only_open c.args.scope.file.dwarf.now c.args.dw_unit.now c.args.self.now.view c.check_split.new.self.view c.check_split.ensures.right.view c.check_split.ensures.looked c.check_split.ensures.stay.answer (search rules) (subst (λ x. is_open x c.args.dw_unit.now (first_answer_of c.args.self.now) ≡ false) (sym c.requires.same) h))
 
 pub returns-in_err-load-clause-not_open : goal.returns-in_err-load-clause-not_open
 returns-in_err-load-clause-not_open g c h =
-    absurd (waits_only_open c.args.scope.file.dwarf.now c.args.dw_unit.now c.args.self.now.view c.look.new.self.view c.look.ensures.right.view c.look.ensures.looked c.look.ensures.stay.answer (search rules) (subst (λ x. is_open x c.args.dw_unit.now (first_answer_of c.args.self.now) ≡ false) (sym c.requires.same) h))
+    absurd (waits_only_open c.args.scope.file.dwarf.now c.args.dw_unit.now c.args.self.now.view c.check_split.new.self.view c.check_split.ensures.right.view c.check_split.ensures.looked c.check_split.ensures.stay.answer (search rules) (subst (λ x. is_open x c.args.dw_unit.now (first_answer_of c.args.self.now) ≡ false) (sym c.requires.same) h))
 
 pub returns-clause-not_open : goal.returns-clause-not_open
 returns-clause-not_open g c h =
-    absurd (waits_only_open c.args.scope.file.dwarf.now c.args.dw_unit.now c.args.self.now.view c.look.new.self.view c.look.ensures.right.view c.look.ensures.looked c.look.ensures.stay.answer (search rules) (subst (λ x. is_open x c.args.dw_unit.now (first_answer_of c.args.self.now) ≡ false) (sym c.requires.same) h))
+    absurd (waits_only_open c.args.scope.file.dwarf.now c.args.dw_unit.now c.args.self.now.view c.check_split.new.self.view c.check_split.ensures.right.view c.check_split.ensures.looked c.check_split.ensures.stay.answer (search rules) (subst (λ x. is_open x c.args.dw_unit.now (first_answer_of c.args.self.now) ≡ false) (sym c.requires.same) h))
 
 pub returns-in_err-load-clause-decided : goal.returns-in_err-load-clause-decided
 returns-in_err-load-clause-decided g c h =
-    absurd (never_waits c.args.self.now c.look.new.self true h c.look.ensures.same (search rules) refl)
+    absurd (never_waits c.args.self.now c.check_split.new.self true h c.check_split.ensures.same (search rules) refl)

@@ -2,7 +2,7 @@ use Rattle.std.proofs.Common.{Err, None, Ok, Some, ap, arith, ltb-false, ltb-tru
 use Rattle.std.proofs.lemmas.Option.{slice_get_past, slice_get_read}
 use Rattle.std.proofs.lemmas.Result.{err_from_is_err_and}
 use Rattle.std.proofs.Math.ListN.{set}
-use Rattle.gimli_read.specs.Alike.{HadMemory}
+use Rattle.gimli_read.specs.Alike.{WasNotRefused}
 use Rattle.addr2line_lines.specs.References.{IsScope, Scope}
 use Rattle.addr2line_units.specs.CachedEntries.{AreEntriesOf}
 use Rattle.addr2line_units.specs.CachedFrames.{seen_stop}
@@ -201,7 +201,7 @@ returns-in_err-found-clause-after g c =
     let e = rw (c.scope-scope.ensures.gives, sections_is) at found.ensures in
     let p = err_from_is_err_and c.from_residual.result c.from_residual.ensures.1 in
     rw (p.1, p.2, sym c.self.view_is) (after_asked S rs vs s.stop i probe n s.looks was u there r own_is v entries_is x w c.args.faults found.result e.gives e.stays e.stay e.only e.lines e.ready e.parsed e.memory found.new.looks e.raised FindsNothing _
-    (λ told. oom_before c.args.faults found.result (subst HadMemory c.in_err-found.ensures.gives told)) (λ told. subst HadMemory (sym c.in_err-found.ensures.gives) (oom_after c.args.faults found.result told)))
+    (λ told. oom_before c.args.faults found.result (subst WasNotRefused c.in_err-found.ensures.gives told)) (λ told. subst WasNotRefused (sym c.in_err-found.ensures.gives) (oom_after c.args.faults found.result told)))
 
 pub invariant_of-self-2 : goal.invariant_of-self-2
 invariant_of-self-2 g c =
@@ -279,7 +279,7 @@ returns-clause-after g c =
     let w = found.new.entries in
     let e = rw (c.scope-scope.ensures.gives, sections_is) at found.ensures in
     rw (sym c.self.view_is) (after_asked S rs vs s.stop i probe n s.looks was u there r own_is v entries_is x w c.args.faults found.result e.gives e.stays e.stay e.only e.lines e.ready e.parsed e.memory found.new.looks e.raised _ _
-    (λ told. oom_before c.args.faults found.result (subst HadMemory c.in_ok-found.ensures.gives told)) (λ told. subst HadMemory (sym c.in_ok-found.ensures.gives) (oom_after c.args.faults found.result told)))
+    (λ told. oom_before c.args.faults found.result (subst WasNotRefused c.in_ok-found.ensures.gives told)) (λ told. subst WasNotRefused (sym c.in_ok-found.ensures.gives) (oom_after c.args.faults found.result told)))
 
 pub returns-in_err-found-clause-no_memory : goal.returns-in_err-found-clause-no_memory
 returns-in_err-found-clause-no_memory g c =

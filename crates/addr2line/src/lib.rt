@@ -39,6 +39,6 @@ pub use addr2line_units::frame::{demangle, demangle_auto};
 pub use addr2line_units::range::LocationRangeIter;
 pub use addr2line_units::view::{SplitDwarfLoad, UnitToken};
 pub use addr2line_units::{Frame, FrameIter, FunctionName};
-pub use elf::{ElfFile, LoaderError, Symbol};
+pub use elf::{ElfFile, FileImage, LoaderError, PartSource, Symbol, read_wanted};
 pub use gimli;
 pub use gimli::read::Range;

@@ -147,19 +147,19 @@ fn read_split<R: Reader, S: SectionSource<R>>(
     Ok(Some(Rc::new(alloc, dwarf)?))
 }
 
-// The sections of the split file of a load that the bytes of a file are, by what becomes of those
-// that are compressed.
+// The sections of the split file of a load that a file has of which pieces were read, by what
+// becomes of those that are compressed.
 #[tactic(auto, unfolding(crate::specs::SplitFiles::split_of))]
-fn read_split_bytes(
+fn read_split_file(
     alloc: Global,
     compressed: CompressedSections,
     load: &SplitDwarfLoad<EndianBytes>,
-    bytes: Bytes,
+    file: FileImage,
 ) -> Result<Option<Rc<Dwarf<EndianBytes>>>, LoaderError>
     ensures gives { LoadsUnlessOom (option_map (λ d. d.value)) result
-        (split_of compressed load.now bytes) }
+        (split_of compressed load.now (image_bytes file)) }
 {
-    let object = parse_bytes(alloc, bytes)?;
+    let object = parse_image(alloc, file)?;
     let file = OpenFile {
         alloc,
         compressed,
@@ -182,20 +182,9 @@ pub fn read_split_sections(
     ensures gives { LoadsUnlessOom (option_map (λ d. d.value)) result
         (split_of Refused load.now bytes) }
 {
-    read_split_bytes(alloc, CompressedSections::Refused, load, bytes)
-}
-
-// The same of owned bytes, by what becomes of sections that are compressed.
-fn read_split_file(
-    alloc: Global,
-    compressed: CompressedSections,
-    load: &SplitDwarfLoad<EndianBytes>,
-    bytes: Vec<u8>,
-) -> Result<Option<Rc<Dwarf<EndianBytes>>>, LoaderError>
-    ensures gives { LoadsUnlessOom (option_map (λ d. d.value)) result
-        (split_of compressed load.now bytes.items) }
-{
-    read_split_bytes(alloc, compressed, load, Bytes::from_vec(bytes)?)
+    let bytes = EndianBytes::new(bytes, RunTimeEndian::Little);
+    let file = FileImage::whole(alloc, bytes);
+    read_split_file(alloc, CompressedSections::Refused, load, file)
 }
 
 // What was read, or none in place of a fault.
@@ -231,8 +220,8 @@ pub(crate) fn answer_to<F: FileSource>(
     let Some(path) = path_of(alloc, load)? else {
         return Ok(None);
     };
-    match files.read(alloc, text_of(&path)?)? {
-        Some(bytes) => without_fault(read_split_file(alloc, compressed, load, bytes)),
+    match files.read_image(alloc, text_of(&path)?)? {
+        Some(file) => without_fault(read_split_file(alloc, compressed, load, file)),
         None => Ok(None),
     }
 }

@@ -1,6 +1,10 @@
 //! Worked cases: names of functions and the inlined functions at addresses, and the faults that
 //! refuse them.
 
+ghost use Rattle.std.specs.Prelude.{[], None};
+ghost use Rattle.addr2line_lines.specs.CachedNames.{AreNamesOf};
+ghost use Rattle.addr2line_lines.specs.References.{sup_scope};
+
 use crate::sections::{dwarf_of, first_unit};
 use crate::vectors::{LINE, NAMED, NAMED_INFO, OPEN_FUNCTION, OPEN_UNIT, TWO_FUNCTIONS};
 use addr2line_lines::{FileUnits, Functions, Scope};
@@ -55,7 +59,12 @@ fn answer<'a>(
     dwarf: &Dwarf<EndianSlice<'a>>,
     unit: &Unit<EndianSlice<'a>>,
     probe: u64,
-) -> Result<[u64; 5], Error> {
+) -> Result<[u64; 5], Error>
+    requires names { AreNamesOf (sup_scope (record { sections = dwarf.now; units = [] }))
+        unit.now functions.old.names }
+    ensures names { AreNamesOf (sup_scope (record { sections = dwarf.now; units = [] }))
+        unit.now functions.new.names }
+{
     let Some(place) = functions.find(probe) else {
         return Ok([0; 5]);
     };
@@ -73,7 +82,12 @@ fn told<'a>(
     dwarf: &Dwarf<EndianSlice<'a>>,
     unit: &Unit<EndianSlice<'a>>,
     probe: u64,
-) -> [u64; 5] {
+) -> [u64; 5]
+    requires names { AreNamesOf (sup_scope (record { sections = dwarf.now; units = [] }))
+        unit.now functions.old.names }
+    ensures names { AreNamesOf (sup_scope (record { sections = dwarf.now; units = [] }))
+        unit.now functions.new.names }
+{
     match answer(alloc, functions, dwarf, unit, probe) {
         Ok(answer) => answer,
         Err(Error::NoEntryAtGivenOffset(offset)) => [1, offset, 0, 0, 0],
@@ -90,7 +104,10 @@ fn answers_by<'a, const N: usize>(
     dwarf: &Dwarf<EndianSlice<'a>>,
     unit: &Unit<EndianSlice<'a>>,
     probes: [u64; N],
-) -> [[u64; 5]; N] {
+) -> [[u64; 5]; N]
+    requires names { AreNamesOf (sup_scope (record { sections = dwarf.now; units = [] }))
+        unit.now functions.names }
+{
     let mut functions = functions;
     let mut answers = [[0; 5]; N];
     for i in 0..N {

@@ -1,5 +1,9 @@
 //! Worked cases: the frames of an address, and the texts of their names.
 
+ghost use Rattle.std.specs.Prelude.{[], None};
+ghost use Rattle.addr2line_lines.specs.CachedNames.{AreNamesOf};
+ghost use Rattle.addr2line_lines.specs.References.{sup_scope};
+
 use crate::sections::{dwarf_of, first_unit, little, location_code};
 use crate::vectors::{LINE, NAMED, NAMED_INFO};
 use addr2line_lines::{FileUnits, Functions, Lines, Scope};
@@ -78,7 +82,10 @@ fn frames_by<'a>(
     unit: &Unit<EndianSlice<'a>>,
     lines: &Lines,
     probe: u64,
-) -> [FrameCode; 3] {
+) -> [FrameCode; 3]
+    requires names { AreNamesOf (sup_scope (record { sections = dwarf.now; units = [] }))
+        unit.now functions.names }
+{
     let mut functions = functions;
     let Some(place) = functions.find(probe) else {
         return codes_of(alloc, FrameIter::new_location(lines.find_location(probe)));

@@ -1,5 +1,9 @@
 //! The inlined functions at an address, from the outside in.
 
+ghost use Rattle.std.specs.Prelude.{[], None};
+ghost use Rattle.addr2line_lines.specs.CachedNames.{AreNamesOf};
+ghost use Rattle.addr2line_lines.specs.References.{sup_scope};
+
 use crate::sections::{dwarf_of, first_unit};
 use addr2line_lines::{FileUnits, Functions, Scope};
 use gimli::read::EndianSlice;
@@ -50,7 +54,10 @@ fn chain_by<'a>(
     dwarf: &Dwarf<EndianSlice<'a>>,
     unit: &Unit<EndianSlice<'a>>,
     probe: u64,
-) -> u64 {
+) -> u64
+    requires names { AreNamesOf (sup_scope (record { sections = dwarf.now; units = [] }))
+        unit.now functions.names }
+{
     let mut functions = functions;
     let file = FileUnits { dwarf, units: &[] };
     if functions.read(Scope { file, sup: None }, unit, 0).is_err() {

@@ -1,5 +1,9 @@
 //! The functions of a unit after a refused growth: the same calls give what they would have given.
 
+ghost use Rattle.std.specs.Prelude.{[], None};
+ghost use Rattle.addr2line_lines.specs.CachedNames.{AreNamesOf};
+ghost use Rattle.addr2line_lines.specs.References.{sup_scope};
+
 use super::details::NESTED;
 use crate::sections::{dwarf_of, fault_code, first_unit};
 use crate::vectors::LINE;
@@ -24,7 +28,12 @@ fn deep_answer<'a>(
     dwarf: &Dwarf<EndianSlice<'a>>,
     unit: &Unit<EndianSlice<'a>>,
     call: usize,
-) -> u64 {
+) -> u64
+    requires names { AreNamesOf (sup_scope (record { sections = dwarf.now; units = [] }))
+        unit.now functions.old.names }
+    ensures names { AreNamesOf (sup_scope (record { sections = dwarf.now; units = [] }))
+        unit.now functions.new.names }
+{
     let Some(place) = functions.find(0x18) else {
         return 0;
     };
@@ -47,7 +56,10 @@ fn deep_answers<'a>(
     dwarf: &Dwarf<EndianSlice<'a>>,
     unit: &Unit<EndianSlice<'a>>,
     refused: u64,
-) -> ([u64; 3], u64) {
+) -> ([u64; 3], u64)
+    requires names { AreNamesOf (sup_scope (record { sections = dwarf.now; units = [] }))
+        unit.now functions.names }
+{
     let mut functions = functions;
     let mut refused = refused;
     let mut codes = [0; 3];

@@ -83,8 +83,9 @@ LearnsAsked faults probe c old new = (m : UnitIndex) → index_units c.sections 
     → (n : ℕ) → (slice_get new.known n ≡ slice_get old.known n) ⊎ AsksUnit faults c probe m n
 
 -- after a lookup of the probe: the first answers are the same, what was read stays, and nothing was
--- read that it doesn't ask for; the same lookup reads nothing more, but after OutOfMemory, where
--- something is left to read, a load is wanted, or more than 16 inlined functions stand there
+-- read of units that it doesn't ask; unless memory was refused, the same lookup reads nothing more;
+-- memory is refused only where something is left to read, a load is wanted, or more than 16 inlined
+-- functions stand there
 pub record AfterFrames {X : Type 0} (faults : OnFault) (probe : ℕ) (result : Result X Error)
     (old new : ContextState) : Type 0 where
   pub sections : new.sections ≡ old.sections
@@ -117,8 +118,8 @@ abbrev pub IsFoundUnit : ContextState → Option (Sections × UnitRecord) → Ty
 IsFoundUnit c found = (m : UnitIndex) → index_units c.sections ≡ Ok m
     → found ≡ unit_found c.sections (unit_records m.units) c.answers c.stop
 
--- what is lent after a lookup: a refusal is that of the lookup, and elsewhere memory alone is
--- refused, only where it waits
+-- what is lent after a lookup: where it doesn't wait, a refusal is that of the lookup, and memory is
+-- refused only where it was for the lookup
 pub record IsLent {X : Type 0} (walked : Result (Unit {0}) Error) (stop : Stop)
     (result : Result X Error) : Type 0 where
   pub ready : WasNotRefused result → WasNotRefused walked

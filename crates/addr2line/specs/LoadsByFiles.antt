@@ -50,7 +50,7 @@ StayEnded old new = (probe : ℕ) → WaitsForNone old probe
     → lookup_stop End new.sections new.answers probe
     ≡ lookup_stop End old.sections old.answers probe
 
--- what was known of each unit stays known that has the first answer that it had
+-- what was known of each unit whose first answer is the same stays known
 abbrev pub StayKnownUnanswered : ContextState → ContextState → Type 0
 StayKnownUnanswered old new = (n : ℕ) → answer_of new.answers n ≡ answer_of old.answers n
     → StaysKnownOf n old.known new.known

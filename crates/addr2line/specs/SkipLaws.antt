@@ -1,4 +1,4 @@
--- Laws of lookups of which none is answered to each load (on Skips and Lookups).
+-- Laws of lookups where each load is answered None (on Skips and Lookups).
 use Rattle.std.specs.Prelude.{◌≡◌, ℕ, false, length, Ok}
 use Rattle.gimli.specs.Sections.{Sections}
 use Rattle.addr2line_units.specs.declared.frames_lookup.OnFault.{OnFault}

@@ -1,4 +1,4 @@
--- Lookups of which none is answered to each load (DWARF 5, section 7.3.2).
+-- Lookups where each load is answered None (DWARF 5, section 7.3.2).
 -- Own: a unit that waits is decided by none then, and stays so until it is forgotten.
 use Rattle.std.specs.Prelude.{◌≡◌, ℕ, ◌≤◌, Bool, length, replicate, List, None, IfErr, Result}
 use Rattle.gimli_read.specs.declared.error.Error.{Error}
@@ -21,7 +21,7 @@ abbrev pub skipped_answers : OnFault → Sections → ℕ → FirstAnswers → F
 skipped_answers faults d probe answers =
     answers_given faults d probe answers (nones (length (loads_at d answers probe)))
 
--- after a lookup of which none is answered to each load: the units that waited are decided by none,
+-- after a lookup where each load is answered None: the units that waited are decided by none,
 -- and stay so; after OutOfMemory some of the first ones. Memory is refused only where something is
 -- left to read, or more than 16 inlined functions stand there; where what is left takes none, a
 -- refusal is the fault of a unit

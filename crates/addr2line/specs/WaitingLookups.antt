@@ -50,12 +50,12 @@ abbrev pub frames_answered : ContextState → ℕ → Option Sections → ℕ �
 frames_answered c n given probe =
     frames_of c.sections (answered c.sections c.answers n given) probe
 
--- the same where none is answered to each load of the lookup
+-- the same where each load of the lookup is answered None
 abbrev pub frames_skipped : ContextState → ℕ → FramesResult
 frames_skipped c probe =
     frames_of c.sections (skipped_answers End c.sections probe c.answers) probe
 
--- the same where none is answered to each unit that has no answer
+-- the same where each unit that has no answer is answered None
 abbrev pub frames_with_none : ContextState → ℕ → FramesResult
 frames_with_none c probe = frames_of c.sections (with_none c.answers) probe
 
@@ -67,11 +67,11 @@ unit_of_context c probe = unit_of c.sections c.answers probe
 abbrev pub unit_answered : ContextState → ℕ → Option Sections → ℕ → UnitResult
 unit_answered c n given probe = unit_of c.sections (answered c.sections c.answers n given) probe
 
--- the same where none is answered to each load of the lookup
+-- the same where each load of the lookup is answered None
 abbrev pub unit_skipped : ContextState → ℕ → UnitResult
 unit_skipped c probe =
     unit_of c.sections (skipped_answers PassOver c.sections probe c.answers) probe
 
--- the same where none is answered to each unit that has no answer
+-- the same where each unit that has no answer is answered None
 abbrev pub unit_with_none : ContextState → ℕ → UnitResult
 unit_with_none c probe = unit_of c.sections (with_none c.answers) probe

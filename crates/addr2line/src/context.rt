@@ -148,8 +148,8 @@ impl<R: Reader> Context<R> {
     /// parsed.
     ///
     /// Refused by the first such fault; may fail with `OutOfMemory` instead, which is never cached.
-    /// Takes no memory where the lines that it asks for are parsed, or, unless readers share their
-    /// bytes, their program has a fault before its first row; nor where no unit covers `probe`.
+    /// Takes no memory where the lines that it asks for are parsed, or take none to read, as
+    /// `Lines::parse` has it; nor where no unit covers `probe`.
     ///
     /// Source: DWARF 5, section 6.2. Own: which of several sequences counts, and which unit.
     pub fn find_location(&mut self, probe: u64) -> Result<Option<Location<'_>>, Error>

@@ -123,7 +123,7 @@ fn resume_with<R: Reader>(
     }
 }
 
-// A lookup of frames from its beginning, of which none is answered to each load.
+// A lookup of frames from its beginning, where each load is answered `None`.
 fn skip<R: Reader>(ctx: &mut Context<R>, probe: u64) -> LookupResult<FramesLookup<'_, R>>
     ensures* ends { sem 𝓛 (RestsAs (λ c. c.ctx.ghost_name) R.row R.Reader ctx.entry result
         (λ o n. AfterSkip R.shares End probe o ctx.old n)) }
@@ -245,7 +245,7 @@ impl<R: Reader> Context<R> {
     /// that it asks; may fail with `OutOfMemory` instead, which is never cached. An output takes no
     /// memory where all that it asks for is cached, or takes none to read, and at most 16 inlined
     /// functions stand there. Unless readers share their bytes, functions take none where a view
-    /// has none, nor do lines whose program has a fault before its first row. Where no unit covers
+    /// has none, nor do some lines that have a fault, as `Lines::parse` has it. Where no unit covers
     /// `probe`, as at 2^64 - 1, it waits for nothing and takes no memory.
     ///
     /// Source: DWARF 5, sections 2.17, 3.3, 3.1.2 and 7.3.2. Own: which unit counts, and what a

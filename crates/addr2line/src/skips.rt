@@ -1,4 +1,4 @@
-//! Lookups of which none is answered to each load.
+//! Lookups where each load is answered `None`.
 
 ghost use Rattle.std.specs.Prelude.{◌≡◌, IfErr, None, OnOk};
 ghost use Rattle.gimli_read.specs.declared.error.Error.TheVariants.{OutOfMemory};
@@ -12,7 +12,7 @@ use addr2line_units::frames_lookup::OnFault;
 use gimli::read::{Error, Reader};
 
 impl<R: Reader> Context<R> {
-    // Stores what a lookup comes to, where none is answered to each load that it waits for. What it
+    // Stores what a lookup comes to, where each load that it waits for is answered `None`. What it
     // asks for is read and cached.
     pub(crate) fn skip_loads(&mut self, probe: u64, faults: OnFault) -> Result<(), Error>
         ensures gives { IsStored faults probe result self.new }

@@ -127,7 +127,7 @@ fn resume_with<R: Reader>(
     }
 }
 
-// A lookup of a unit from its beginning, of which none is answered to each load.
+// A lookup of a unit from its beginning, where each load is answered `None`.
 fn skip<R: Reader>(ctx: &mut Context<R>, probe: u64) -> LookupResult<UnitLookup<'_, R>>
     ensures* ends { sem 𝓛 (RestsAs (λ c. c.ctx.ghost_name) R.row R.Reader ctx.entry result
         (λ o n. AfterSkip R.shares PassOver probe o ctx.old n)) }

@@ -20,8 +20,8 @@ use Rattle.addr2line_units.specs.Parsed.{AllAskFor, AreAllParsed, AreParsed, Are
 use Rattle.addr2line_units.specs.StaysKnown.{IsReadBy, IsReadyAt, StaysKnown}
 use Rattle.addr2line_units.specs.UnitsState.{IsFaultAt, UnitsState, asked_by, has_all_at, has_few_at}
 
--- nothing is changed but which lines are parsed, and how often they were looked at: those stay
--- parsed that were, and no others are but those that are asked for
+-- nothing is changed but which lines are parsed, how often they were looked at, and that no lookup
+-- of frames is stored: those stay parsed that were, and no others are but those that are asked for
 pub record AfterLines (asks : ℕ → Type 0) (old new : UnitsState) : Type 0 where
   pub same : new ≡ record old { parsed = new.parsed; looks = new.looks; stop = FindsNothing }
   pub many : length new.parsed ≡ length old.parsed
@@ -89,7 +89,8 @@ abbrev pub IsFaultAlong : OnFault → ℕ → UnitsState → List UnitRange → 
 IsFaultAlong faults probe s ranges e =
     (n : ℕ) × LookupAsks (asked_by faults probe s) ranges n × IsFaultAt probe s n e
 
--- nothing is changed but first answers, and what is known of units' entries
+-- nothing is changed but first answers, what is known of units' entries, and that no lookup of
+-- frames is stored
 abbrev pub StayRead : UnitsState → UnitsState → Type 0
 StayRead old new = new
     ≡ record old { answers = new.answers; known = new.known; stop = FindsNothing }

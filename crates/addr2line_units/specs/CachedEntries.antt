@@ -57,7 +57,8 @@ has_answered probe (Ok x) functions = cached_has_function probe functions
 has_answered probe (Err e) functions = is_cached_fault e
 
 -- whether what a unit has at the probe is known, by what is cached of its view and its functions:
--- it waits for an answer, or its view has a fault, or the function at the probe is found
+-- it waits for an answer, or its view has a fault, or the function at the probe is found, or that
+-- there is none
 abbrev pub has_entries_by : {R : Type 0} → ℕ → ViewState R → LazyFunctions R → Bool
 has_entries_by probe states.Undecided functions = false
 has_entries_by probe states.Open functions = true

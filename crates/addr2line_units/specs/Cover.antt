@@ -29,7 +29,7 @@ range_overlaps low high r = nat_lt low r.range.end && nat_lt r.range.begin high
 abbrev pub cover_range : ℕ → ℕ → List UnitRange → List UnitRange
 cover_range low high ranges = in_order ends_sooner (filter (range_overlaps low high) ranges)
 
--- whether this is so of each unit along ranges, up to the first that ends the lookup
+-- whether this is so of each unit along ranges, up to and with the first that ends the lookup
 abbrev pub holds_until : (ℕ → Bool) → (ℕ → Bool) → List UnitRange → Bool
 holds_until ends such [] = true
 holds_until ends such (r ∷ ranges) = such r.unit && (ends r.unit || holds_until ends such ranges)

@@ -46,7 +46,7 @@ pub trait LookupContinuation {
 }
 
 impl<L: LookupContinuation> LookupResult<L> {
-    /// The output of the lookup where none is answered to each load.
+    /// The output of the lookup where each load is answered `None`.
     pub fn skip_all_loads(self) -> L::Output
         ensures gives { SkipsTo L.skips_to self result }
     {

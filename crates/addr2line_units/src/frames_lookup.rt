@@ -118,8 +118,8 @@ impl<R: Reader> Units<R> {
     ///
     /// Refused by that fault; may fail with `OutOfMemory` instead, only where something of what is
     /// asked for isn't cached and takes memory, or there are more than 16 inlined functions.
-    /// Functions take none where a view has none, nor do lines whose program has a fault before its
-    /// first row, unless readers share their bytes.
+    /// Unless readers share their bytes, functions take none where a view has none, nor do some
+    /// lines that have a fault, as `Lines::parse` has it.
     pub fn walk(
         &mut self,
         mut ranges: UnitRangeIter<'_>,

@@ -249,8 +249,8 @@ impl<R: Reader> Units<R> {
     /// are parsed.
     ///
     /// Refused by the first such fault; may fail with `OutOfMemory` instead, which is never cached.
-    /// Takes no memory where the lines that it asks for are parsed, or, unless readers share their
-    /// bytes, their program has a fault before its first row.
+    /// Takes no memory where the lines that it asks for are parsed, or take none to read, as
+    /// `Lines::parse` has it.
     pub fn find_row(
         &mut self,
         ranges: UnitRangeIter<'_>,

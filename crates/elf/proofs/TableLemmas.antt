@@ -1,5 +1,5 @@
 -- Things of one size that stand one after another (on specs/Header.antt and specs/Symbols.antt).
-use Rattle.std.proofs.Common.{◌≡◌, ◌∙◌, ◌≤◌, ◌+◌, ◌*◌, ℕ, suc, Bool, List, [], ◌∷◌, ◌++◌, drop, filter, sym, arith, append-nil, append_assoc}
+use Rattle.std.proofs.Common.{◌≡◌, ◌∙◌, ◌≤◌, ◌+◌, ◌*◌, ℕ, suc, Bool, true, false, cond, List, [], ◌∷◌, ◌++◌, drop, filter, refl, sym, ap, arith, append-nil, append_assoc}
 use Rattle.std.proofs.lemmas.List.Elements.{filter-append}
 use Rattle.gimli_read.specs.declared.endian.RunTimeEndian.{RunTimeEndian}
 use Rattle.elf.specs.declared.layout.Layout.{Layout}
@@ -12,6 +12,11 @@ use Rattle.elf.specs.Symbols.{symbol_entry_in, entries_in}
 pub room_next : (n k size a b : ℕ) → n ≡ suc k → n * size ≤ a → b + size ≡ a → k * size ≤ b
 room_next n k size a b is room more =
     let all : suc k * size ≤ a = rw is at room in omega (arith, all, more)
+
+-- room for the first of them
+pub room_first : (n k size a : ℕ) → n ≡ suc k → n * size ≤ a → size ≤ a
+room_first n k size a is room =
+    let all : suc k * size ≤ a = rw is at room in omega (arith, all)
 
 -- the same by places
 pub room_after : (n k size at place len : ℕ) → n ≡ suc k → at + n * size ≤ len → place ≡ at + size → place + k * size ≤ len
@@ -41,3 +46,21 @@ entries_next o l p n k rest after read more all e is done cut pushed head =
 -- all entries
 pub entries_end : (o : RunTimeEndian) (l : Layout) (p : SymbolEntry → Bool) (n : ℕ) (rest : List ℕ) (read all : List SymbolEntry) → n ≡ 0 → read ++ filter p (entries_in o l n rest) ≡ all → read ≡ all
 entries_end o l p n rest read all is done = sym (append-nil read) ∙ (rw is at done)
+
+cons_of : {A : Type 0} (xs : List A) (a : A) (ys : List A) → xs ++ a ∷ ys ≡ [] → ⊥
+cons_of [] a ys e = absurd cc
+cons_of (x ∷ xs) a ys e = absurd cc
+
+not_first : (p : SymbolEntry → Bool) (x : SymbolEntry) (xs read : List SymbolEntry) → read ++ filter p (x ∷ xs) ≡ [] → p x ≡ false
+not_first p x xs read e = by (p x) refl
+  where
+    by : (b : Bool) → p x ≡ b → p x ≡ false
+    by false q = q
+    by true q = absurd (let f : filter p (x ∷ xs) ≡ x ∷ filter p xs = ap (λ b. cond b (x ∷ filter p xs) (filter p xs)) q in cons_of read x (filter p xs) (ap (λ ys. read ++ ys) (sym f) ∙ e))
+
+-- where none is asked for, the next one isn't
+pub entries_none : (o : RunTimeEndian) (l : Layout) (p : SymbolEntry → Bool) (n k : ℕ) (rest : List ℕ) (read all : List SymbolEntry) (e : SymbolEntry) → n ≡ suc k
+    → read ++ filter p (entries_in o l n rest) ≡ all → e ≡ symbol_entry_in o l rest → all ≡ [] → p e ≡ false
+entries_none o l p n k rest read all e is done head none =
+    let step : read ++ filter p (symbol_entry_in o l rest ∷ entries_in o l k (drop l.symbol_size rest)) ≡ all = rw is at done in
+    ap p head ∙ not_first p (symbol_entry_in o l rest) (entries_in o l k (drop l.symbol_size rest)) read (step ∙ none)

@@ -1,6 +1,6 @@
 //! Symbols (System V ABI, Object Files: Symbol Table).
 
-ghost use Rattle.std.specs.Prelude.{◌≡◌, ◌≤◌, ◌==◌, ℕ, List, [], ◌∷◌, ◌++◌, length, filter, is_some, option_map, OnOk, IfErr, IfOk, IsOk};
+ghost use Rattle.std.specs.Prelude.{◌≡◌, ◌≤◌, ◌==◌, ℕ, List, [], ◌∷◌, ◌++◌, length, false, filter, is_some, option_map, true, OnOk, IfErr, IfOk, IsOk};
 ghost use Rattle.std.specs.List.{find, slice_get};
 ghost use Rattle.elf.specs.declared.error.LoaderError.TheVariants.{OutOfMemory};
 ghost use Rattle.elf.specs.FileImage.{image_bytes};
@@ -8,7 +8,7 @@ ghost use Rattle.elf.specs.Layout.{layout_of};
 ghost use Rattle.elf.specs.Symbols.{named_address, symbol_table, symbol_bytes, symbol_names_number, symbol_entry_in, utf8_from, name_from, symbol_entry_name, symbol_type, symbol_bind, is_usable_type, is_usable, usable_in, is_preferred_bind, preference, covers, nearest_symbol};
 ghost use Rattle.std.specs.List.Sorted.{IsNonDecreasingBy, IsPartitionPoint};
 ghost use Rattle.elf.specs.declared.symbol.SymbolEntry.{SymbolEntry as TableEntry};
-ghost use Rattle.elf.specs.TextStarts.{AreStarts};
+ghost use Rattle.elf.specs.TextStarts.{AreStarts, is_ascii_table};
 ghost use Rattle.elf.specs.SymbolTable.{IsSymbolTable, IsBelow, IsAbove};
 
 use crate::constants::{
@@ -238,6 +238,7 @@ fn push_usable(
     requires starts { AreStarts names.now starts.now }
     ensures gives { OnOk result
         (all.new.items ≡ all.old.items ++ filter (is_usable names.now) (entry ∷ [])) }
+    ensures none { is_usable names.now entry ≡ false → IsOk result }
 {
     if entry.is_usable(names, starts) {
         all.push(entry)?;
@@ -245,7 +246,8 @@ fn push_usable(
     Ok(())
 }
 
-// The usable symbols of a table, in its order.
+// The usable symbols of a table, in its order. Takes no memory where there are none, and the names
+// are ASCII and end in a zero byte.
 fn usable(
     alloc: Global,
     bytes: &[u8],
@@ -254,6 +256,8 @@ fn usable(
 ) -> Result<Vec<SymbolEntry>, AllocError>
     ensures gives { IfOk result (λ v.
         v.items ≡ usable_in ident.endian (layout_of ident.class) names.now bytes.now) }
+    ensures none { is_ascii_table names.now ≡ true
+        → usable_in ident.endian (layout_of ident.class) names.now bytes.now ≡ [] → IsOk result }
 {
     let size = ident.class.layout().symbol_size;
     let count = bytes.len() / size;

@@ -114,7 +114,7 @@ fn marks(alloc: Global, table: &[u8]) -> Result<Vec<bool>, AllocError>
 }
 
 /// At which places of a table a text in UTF-8 begins. Takes no memory for a table that is ASCII
-/// alone and ends in a zero byte, else a byte for each of its bytes.
+/// alone and ends in a zero byte, else a mark for each of its bytes.
 pub(crate) fn text_starts(alloc: Global, table: &[u8]) -> Result<TextStarts, AllocError>
     ensures gives { IfOk result (AreStarts table.now) }
     ensures none { is_ascii_table table.now ≡ true → IsOk result }

@@ -174,7 +174,7 @@ piece_found see i s n None o e = (
 piece_found see i s n (Some x) o e = (has_part i s n (see x) o (sym e), ap is_some e, λ none one. absurd cc)
 
 -- a number is that of its bytes alone
-number_of_shown : (o : RunTimeEndian) (n : ℕ) (xs ys : List ℕ) → take n xs ≡ take n ys → number_of o n xs ≡ number_of o n ys
+pub number_of_shown : (o : RunTimeEndian) (n : ℕ) (xs ys : List ℕ) → take n xs ≡ take n ys → number_of o n xs ≡ number_of o n ys
 number_of_shown Little n xs ys e = sym (little_from-take 0 n n xs (omega arith)) ∙ ap (little_from 0 n) e ∙ little_from-take 0 n n ys (omega arith)
 number_of_shown Big n xs ys e = sym (big_from-take 0 n n xs (omega arith)) ∙ ap (big_from 0 n) e ∙ big_from-take 0 n n ys (omega arith)
 

@@ -13,3 +13,4 @@ pub mod FileTables
 pub mod Compressed
 pub mod DecompressionMemory
 pub mod Wanted
+pub mod ImageLaws

@@ -1,0 +1,196 @@
+-- What two files answer that differ in bytes which lookups don't read (on specs/ImageLaws.antt).
+use Rattle.std.proofs.Common.{◌≡◌, ◌∙◌, ◌+◌, ℕ, Bool, true, false, ◌&&◌, ◌||◌, cond, not, List, [], Option, Some, None, Ok, Err, length, option_map, ap, refl, sym}
+use Rattle.std.specs.Prelude.{option_and_then}
+use Rattle.std.specs.List.{list_all, list_any, position}
+use Rattle.std.specs.Option.{option_map_or}
+use Rattle.std.proofs.lemmas.Bool.{and_parts}
+use Rattle.gimli_read.specs.declared.range.Range.{Range}
+use Rattle.gimli_read.specs.Reading.{◌>>=◌}
+use Rattle.gimli_read.specs.Section.{Section}
+use Rattle.elf.specs.declared.error.LoaderError.TheVariants.{BadElf, CompressedSection, RelocationsNeeded}
+use Rattle.elf.specs.declared.section.SectionHeader.{SectionHeader}
+use Rattle.elf.specs.declared.symbol.SymbolEntry.{SymbolEntry}
+use Rattle.elf.specs.Compressed.{Packed, decompressed_at, decompressed_of, first_zdebug, missing_decompressed, packed_in, unpacked_contents, zdebug_of, zdebug_packed_in}
+use Rattle.elf.specs.DecompressionMemory.{contents_take_memory, decompression_takes_memory, missing_takes_memory, packed_takes_memory, zdebug_takes_memory}
+use Rattle.elf.specs.FileImage.{Image, Shows, image_bytes, is_held}
+use Rattle.elf.specs.ImageLaws.{AnswersAlike, SectionAlike}
+use Rattle.elf.specs.Layout.{layout_of}
+use Rattle.elf.specs.Loading.{Loading}
+use Rattle.elf.specs.ObjectFile.{ObjectFile}
+use Rattle.elf.specs.SectionBytes.{bytes_at, is_nobits, is_outside, section_bytes_in}
+use Rattle.elf.specs.Sections.{addresses_of, contents_of, empty_contents, first_named, gives_bytes_of_file, is_compressed, is_named, is_relocated, is_zdebug, missing_section, relocates, section_at, section_names_of, section_range_at}
+use Rattle.elf.specs.Symbols.{NamedAddress, covers, nearest_symbol, symbol_at, symbol_bytes, symbol_entry_name, symbol_names_number, symbol_names_of, symbol_table, usable_in}
+use Rattle.elf.specs.Wanted.{is_shown, is_shown_at, is_wanted, is_wanted_text, shows_sections, shows_tables}
+use Rattle.elf.proofs.ShownLemmas.{choose, choose_either, found_in, found_shown, held_same, named_wanted, outside_same, section_same, symbols_same, table_same, zdebug_named_wanted}
+
+-- the file of other bytes
+abbrev pub with_bytes : List ℕ → ObjectFile → ObjectFile
+with_bytes bytes f = record f { bytes = bytes }
+
+module _ (image : Image) (bytes : List ℕ) (shows : Shows image bytes) (f : ObjectFile) where
+  -- ---- the files, and their tables
+  abbrev of_image : ObjectFile
+  of_image = with_bytes (image_bytes image) f
+
+  abbrev of_bytes : ObjectFile
+  of_bytes = with_bytes bytes f
+
+  abbrev TablesShown : Type 0
+  TablesShown = shows_tables image of_image ≡ true
+
+  abbrev SectionsShown : Type 0
+  SectionsShown = shows_sections image of_image ≡ true
+
+  names_same : TablesShown → section_names_of of_image ≡ section_names_of of_bytes
+  names_same t =
+      let p = and_parts (is_shown_at image f.sections f.name_table) (is_shown_at image f.sections (symbol_names_number f.sections) && option_map_or (is_shown image) (symbol_table f.sections) true) t in
+      table_same image bytes shows f.sections f.name_table p.0
+
+  symbol_tables_same : TablesShown → (symbol_names_of of_image ≡ symbol_names_of of_bytes) × (symbol_bytes (image_bytes image) f.sections ≡ symbol_bytes bytes f.sections)
+  symbol_tables_same t =
+      let p = and_parts (is_shown_at image f.sections f.name_table) (is_shown_at image f.sections (symbol_names_number f.sections) && option_map_or (is_shown image) (symbol_table f.sections) true) t in
+      let q = and_parts (is_shown_at image f.sections (symbol_names_number f.sections)) (option_map_or (is_shown image) (symbol_table f.sections) true) p.1 in
+      (table_same image bytes shows f.sections (symbol_names_number f.sections) q.0, symbols_same image bytes shows f.sections q.1)
+
+  -- ---- symbols
+  symbol_by : ℕ → List ℕ → List ℕ → Option NamedAddress
+  symbol_by probe names table = option_and_then (λ e. cond (covers probe e) (option_map (λ name. record { name = name; address = e.address }) (symbol_entry_name names e)) None)
+      (nearest_symbol probe (usable_in f.endian (layout_of f.class) names table))
+
+  symbol_is : (probe : ℕ) (all : List ℕ) → symbol_at probe (with_bytes all f) ≡ symbol_by probe (symbol_names_of (with_bytes all f)) (symbol_bytes all f.sections)
+  unfolding symbol_at symbol_by
+  symbol_is probe all = refl
+
+  symbol_same : TablesShown → (probe : ℕ) → symbol_at probe of_image ≡ symbol_at probe of_bytes
+  symbol_same t probe =
+      let tables = symbol_tables_same t in
+      symbol_is probe (image_bytes image) ∙ ap (λ names. symbol_by probe names (symbol_bytes (image_bytes image) f.sections)) tables.0 ∙ ap (symbol_by probe (symbol_names_of of_bytes)) tables.1 ∙ sym (symbol_is probe bytes)
+
+  -- ---- sections by name
+  first_same : TablesShown → (name : List ℕ) → first_named name of_image ≡ first_named name of_bytes
+  first_same t name = ap (λ (names : List ℕ). found_in f.sections (position (is_named names name) f.sections)) (names_same t)
+
+  zdebug_first_same : TablesShown → (name : List ℕ) → first_zdebug name of_image ≡ first_zdebug name of_bytes
+  zdebug_first_same t name = ap (λ (names : List ℕ). found_in f.sections (position (is_zdebug names name) f.sections)) (names_same t)
+
+  range_same : TablesShown → (name : List ℕ) → section_range_at name of_image ≡ section_range_at name of_bytes
+  range_same t name = ap (λ (o : Option (ℕ × SectionHeader)). option_and_then (λ found. addresses_of found.1) o) (first_same t name)
+
+  -- the first section of a wanted name is shown
+  first_shown : SectionsShown → (name : List ℕ) (x : ℕ × SectionHeader) → is_wanted_text name ≡ true → first_named name of_image ≡ Some x → is_shown image x.1 ≡ true
+  first_shown all name x wanted e =
+      let names = section_names_of of_image in
+      found_shown (is_named names name) (is_wanted names) (is_shown image) f.sections x all (λ s. named_wanted names name s wanted) e
+
+  zdebug_first_shown : SectionsShown → (name : List ℕ) (x : ℕ × SectionHeader) → is_wanted_text name ≡ true → first_zdebug name of_image ≡ Some x → is_shown image x.1 ≡ true
+  zdebug_first_shown all name x wanted e =
+      let names = section_names_of of_image in
+      found_shown (is_zdebug names name) (is_wanted names) (is_shown image) f.sections x all (λ s. zdebug_named_wanted names name s wanted) e
+
+  -- ---- what a section has
+  -- the answer for a section in the file, by its bytes
+  abbrev contents_by : ℕ → SectionHeader → List ℕ → Loading Section
+  contents_by n s own = cond (is_compressed s) (Err CompressedSection) (cond (f.is_relocatable && list_any (relocates n) f.sections) (Err RelocationsNeeded) (Ok (record { bytes = own; endian = f.endian })))
+
+  contents_same : (n : ℕ) (s : SectionHeader) → is_shown image s ≡ true → contents_of of_image n s ≡ contents_of of_bytes n s
+  unfolding contents_of
+  contents_same n s h =
+      choose {A = Loading Section} (is_nobits s) (is_outside (image_bytes image) s) (is_held s.offset s.size image) (Ok (empty_contents f)) (Err BadElf) (contents_by n s (bytes_at (image_bytes image) s)) (contents_by n s (bytes_at bytes s)) h (λ k. ap (contents_by n s) (held_same image bytes shows s k))
+      ∙ ap (λ (b : Bool). cond {A = Loading Section} (is_nobits s) (Ok (empty_contents f)) (cond b (Err BadElf) (contents_by n s (bytes_at bytes s)))) (outside_same image bytes shows s)
+
+  missing_same : TablesShown → (name : List ℕ) → missing_section name of_image ≡ missing_section name of_bytes
+  missing_same t name = ap (λ (names : List ℕ). cond {A = Loading Section} (list_any (is_zdebug names name) f.sections) (Err CompressedSection) (Ok (empty_contents f))) (names_same t)
+
+  -- an answer by the section that is found, or by there being none
+  by_found : {A : Type 0} (g h : ℕ → SectionHeader → A) (none some : A) (o p : Option (ℕ × SectionHeader)) → o ≡ p → none ≡ some → ((x : ℕ × SectionHeader) → o ≡ Some x → g x.0 x.1 ≡ h x.0 x.1)
+      → option_map_or (λ (x : ℕ × SectionHeader). g x.0 x.1) o none ≡ option_map_or (λ (x : ℕ × SectionHeader). h x.0 x.1) p some
+  by_found g h none some None p e same each = same ∙ ap (λ (q : Option (ℕ × SectionHeader)). option_map_or (λ (x : ℕ × SectionHeader). h x.0 x.1) q some) e
+  by_found g h none some (Some x) p e same each = each x refl ∙ ap (λ (q : Option (ℕ × SectionHeader)). option_map_or (λ (x : ℕ × SectionHeader). h x.0 x.1) q some) e
+
+  section_answer_same : TablesShown → SectionsShown → (name : List ℕ) → is_wanted_text name ≡ true → section_at name of_image ≡ section_at name of_bytes
+  unfolding section_at
+  section_answer_same t all name wanted =
+      by_found (contents_of of_image) (contents_of of_bytes) (missing_section name of_image) (missing_section name of_bytes) (first_named name of_image) (first_named name of_bytes) (first_same t name) (missing_same t name)
+      (λ x e. contents_same x.0 x.1 (first_shown all name x wanted e))
+
+  -- ---- what a section has that is decompressed
+  unpacked_same : (n : ℕ) (r : Loading Packed) → (r >>= unpacked_contents of_image n) ≡ (r >>= unpacked_contents of_bytes n)
+  unfolding unpacked_contents
+  unpacked_same n (Ok p) = refl
+  unpacked_same n (Err e) = refl
+
+  abbrev packed_by : List ℕ → Loading Packed
+  packed_by own = packed_in f.endian (layout_of f.class).address_size own
+
+  decompressed_same : (n : ℕ) (s : SectionHeader) → is_shown image s ≡ true → decompressed_of of_image n s ≡ decompressed_of of_bytes n s
+  unfolding decompressed_of
+  decompressed_same n s h =
+      choose_either {A = Loading Section} (is_nobits s) (is_outside (image_bytes image) s) (is_held s.offset s.size image) (not (is_compressed s)) (contents_of of_image n s) (contents_of of_bytes n s)
+      (packed_by (bytes_at (image_bytes image) s) >>= unpacked_contents of_image n) (packed_by (bytes_at bytes s) >>= unpacked_contents of_bytes n) h (contents_same n s h)
+      (λ k. ap (λ (own : List ℕ). packed_by own >>= unpacked_contents of_image n) (held_same image bytes shows s k) ∙ unpacked_same n (packed_by (bytes_at bytes s)))
+      ∙ ap (λ (b : Bool). cond {A = Loading Section} (is_nobits s || (b || not (is_compressed s))) (contents_of of_bytes n s) (packed_by (bytes_at bytes s) >>= unpacked_contents of_bytes n)) (outside_same image bytes shows s)
+
+  zdebug_same : (n : ℕ) (s : SectionHeader) → is_shown image s ≡ true → zdebug_of of_image n s ≡ zdebug_of of_bytes n s
+  unfolding zdebug_of
+  zdebug_same n s h =
+      ap (λ (o : Option (List ℕ)). option_map_or (λ own. zdebug_packed_in own >>= unpacked_contents of_image n) o (Err BadElf)) (section_same image bytes shows s h) ∙ each (section_bytes_in bytes s)
+    where
+      each : (o : Option (List ℕ)) → option_map_or (λ own. zdebug_packed_in own >>= unpacked_contents of_image n) o (Err BadElf) ≡ option_map_or (λ own. zdebug_packed_in own >>= unpacked_contents of_bytes n) o (Err BadElf)
+      each None = refl
+      each (Some own) = unpacked_same n (zdebug_packed_in own)
+
+  missing_decompressed_same : TablesShown → SectionsShown → (name : List ℕ) → is_wanted_text name ≡ true → missing_decompressed name of_image ≡ missing_decompressed name of_bytes
+  unfolding missing_decompressed
+  missing_decompressed_same t all name wanted =
+      by_found (zdebug_of of_image) (zdebug_of of_bytes) (Ok (empty_contents f)) (Ok (empty_contents f)) (first_zdebug name of_image) (first_zdebug name of_bytes) (zdebug_first_same t name) refl
+      (λ x e. zdebug_same x.0 x.1 (zdebug_first_shown all name x wanted e))
+
+  decompressed_answer_same : TablesShown → SectionsShown → (name : List ℕ) → is_wanted_text name ≡ true → decompressed_at name of_image ≡ decompressed_at name of_bytes
+  unfolding decompressed_at
+  decompressed_answer_same t all name wanted =
+      by_found (decompressed_of of_image) (decompressed_of of_bytes) (missing_decompressed name of_image) (missing_decompressed name of_bytes) (first_named name of_image) (first_named name of_bytes) (first_same t name)
+      (missing_decompressed_same t all name wanted) (λ x e. decompressed_same x.0 x.1 (first_shown all name x wanted e))
+
+  -- ---- where that takes memory
+  stream_same : (n : ℕ) (r : Loading Packed) → packed_takes_memory of_image n r ≡ packed_takes_memory of_bytes n r
+  stream_same n (Ok p) = refl
+  stream_same n (Err e) = refl
+
+  contents_memory_same : (n : ℕ) (s : SectionHeader) → is_shown image s ≡ true → contents_take_memory of_image n s ≡ contents_take_memory of_bytes n s
+  contents_memory_same n s h =
+      choose_either {A = Bool} (is_nobits s) (is_outside (image_bytes image) s) (is_held s.offset s.size image) (not (is_compressed s)) (gives_bytes_of_file (contents_of of_image n s)) (gives_bytes_of_file (contents_of of_bytes n s))
+      (packed_takes_memory of_image n (packed_by (bytes_at (image_bytes image) s))) (packed_takes_memory of_bytes n (packed_by (bytes_at bytes s))) h (ap gives_bytes_of_file (contents_same n s h))
+      (λ k. ap (λ (own : List ℕ). packed_takes_memory of_image n (packed_by own)) (held_same image bytes shows s k) ∙ stream_same n (packed_by (bytes_at bytes s)))
+      ∙ ap (λ (b : Bool). cond {A = Bool} (is_nobits s || (b || not (is_compressed s))) (gives_bytes_of_file (contents_of of_bytes n s)) (packed_takes_memory of_bytes n (packed_by (bytes_at bytes s)))) (outside_same image bytes shows s)
+
+  zdebug_memory_same : (n : ℕ) (s : SectionHeader) → is_shown image s ≡ true → zdebug_takes_memory of_image n s ≡ zdebug_takes_memory of_bytes n s
+  zdebug_memory_same n s h =
+      ap (λ (o : Option (List ℕ)). option_map_or (λ own. packed_takes_memory of_image n (zdebug_packed_in own)) o false) (section_same image bytes shows s h) ∙ each (section_bytes_in bytes s)
+    where
+      each : (o : Option (List ℕ)) → option_map_or (λ own. packed_takes_memory of_image n (zdebug_packed_in own)) o false ≡ option_map_or (λ own. packed_takes_memory of_bytes n (zdebug_packed_in own)) o false
+      each None = refl
+      each (Some own) = stream_same n (zdebug_packed_in own)
+
+  missing_memory_same : TablesShown → SectionsShown → (name : List ℕ) → is_wanted_text name ≡ true → missing_takes_memory name of_image ≡ missing_takes_memory name of_bytes
+  unfolding missing_takes_memory
+  missing_memory_same t all name wanted =
+      by_found (zdebug_takes_memory of_image) (zdebug_takes_memory of_bytes) false false (first_zdebug name of_image) (first_zdebug name of_bytes) (zdebug_first_same t name) refl
+      (λ x e. zdebug_memory_same x.0 x.1 (zdebug_first_shown all name x wanted e))
+
+  memory_same : TablesShown → SectionsShown → (name : List ℕ) → is_wanted_text name ≡ true → decompression_takes_memory name of_image ≡ decompression_takes_memory name of_bytes
+  unfolding decompression_takes_memory
+  memory_same t all name wanted =
+      by_found (contents_take_memory of_image) (contents_take_memory of_bytes) (missing_takes_memory name of_image) (missing_takes_memory name of_bytes) (first_named name of_image) (first_named name of_bytes) (first_same t name)
+      (missing_memory_same t all name wanted) (λ x e. contents_memory_same x.0 x.1 (first_shown all name x wanted e))
+
+  -- ---- all that lookups ask
+  pub answers_alike : TablesShown → SectionsShown → AnswersAlike of_image of_bytes
+  answers_alike t all = record {
+    ranges = range_same t;
+    symbols = symbol_same t;
+    sections = λ name wanted. record {
+      contents = section_answer_same t all name wanted;
+      decompressed = decompressed_answer_same t all name wanted;
+      memory = memory_same t all name wanted;
+    };
+  }

@@ -1,5 +1,5 @@
 -- Files of which only pieces were read load as their bytes do (on specs/ImageLaws.antt).
-use Rattle.std.proofs.Common.{◌≡◌, ◌∙◌, ℕ, inl, inr, ◌*◌, ◌+◌, ◌≤◌, true, ◌&&◌, List, Ok, Err, length, take, drop, ap, arith, refl, subst, sym}
+use Rattle.std.proofs.Common.{◌≡◌, ◌∙◌, ℕ, inl, inr, ◌*◌, true, ◌&&◌, List, Ok, Err, length, drop, ap, arith, refl, subst, sym}
 use Rattle.std.proofs.lemmas.Bool.{and_parts}
 use Rattle.std.proofs.lemmas.List.{take_all}
 use Rattle.gimli_read.specs.Reading.{◌>>=◌}
@@ -8,13 +8,13 @@ use Rattle.elf.specs.declared.header.Ident.{Ident}
 use Rattle.elf.specs.declared.header.FileHeader.{FileHeader}
 use Rattle.elf.specs.declared.section.SectionHeader.{SectionHeader}
 use Rattle.elf.specs.FileImage.{Image, IsWhole, Shows, image_bytes, is_held}
-use Rattle.elf.specs.Header.{header_in, ident_in, sections_in}
+use Rattle.elf.specs.Header.{header_in, ident_in}
 use Rattle.elf.specs.ImageLaws.{AnswersAlike, ImagesLoadAlike, LoadAlike, SameButBytes}
 use Rattle.elf.specs.Layout.{layout_of}
 use Rattle.elf.specs.Loading.{Loading}
 use Rattle.elf.specs.ObjectFile.{ObjectFile, name_table_of, object_file_of, object_file_with}
 use Rattle.elf.specs.Wanted.{has_wanted, or_false, shows_all, shows_sections, shows_tables}
-use Rattle.elf.proofs.PartLemmas.{fields_in_header, fields_in_section, header_alike, header_start, header_within, ident_alike, number_alike, sections_alike, size_at}
+use Rattle.elf.proofs.PartLemmas.{fields_in_header, fields_in_section, header_alike, header_start, header_within, ident_alike, number_alike, sections_alike}
 use Rattle.elf.proofs.ShownAnswers.{answers_alike}
 
 -- ---- a file of one piece

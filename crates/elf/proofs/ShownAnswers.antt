@@ -1,24 +1,22 @@
 -- What two files answer that differ in bytes which lookups don't read (on specs/ImageLaws.antt).
-use Rattle.std.proofs.Common.{◌≡◌, ◌∙◌, ◌+◌, ℕ, Bool, true, false, ◌&&◌, ◌||◌, cond, not, List, [], Option, Some, None, Ok, Err, length, option_map, ap, refl, sym}
+use Rattle.std.proofs.Common.{◌≡◌, ◌∙◌, ℕ, Bool, true, false, ◌&&◌, ◌||◌, cond, not, List, Option, Some, None, Ok, Err, option_map, ap, refl, sym}
 use Rattle.std.specs.Prelude.{option_and_then}
-use Rattle.std.specs.List.{list_all, list_any, position}
+use Rattle.std.specs.List.{list_any, position}
 use Rattle.std.specs.Option.{option_map_or}
 use Rattle.std.proofs.lemmas.Bool.{and_parts}
-use Rattle.gimli_read.specs.declared.range.Range.{Range}
 use Rattle.gimli_read.specs.Reading.{◌>>=◌}
 use Rattle.gimli_read.specs.Section.{Section}
 use Rattle.elf.specs.declared.error.LoaderError.TheVariants.{BadElf, CompressedSection, RelocationsNeeded}
 use Rattle.elf.specs.declared.section.SectionHeader.{SectionHeader}
-use Rattle.elf.specs.declared.symbol.SymbolEntry.{SymbolEntry}
 use Rattle.elf.specs.Compressed.{Packed, decompressed_at, decompressed_of, first_zdebug, missing_decompressed, packed_in, unpacked_contents, zdebug_of, zdebug_packed_in}
 use Rattle.elf.specs.DecompressionMemory.{contents_take_memory, decompression_takes_memory, missing_takes_memory, packed_takes_memory, zdebug_takes_memory}
 use Rattle.elf.specs.FileImage.{Image, Shows, image_bytes, is_held}
-use Rattle.elf.specs.ImageLaws.{AnswersAlike, SectionAlike}
+use Rattle.elf.specs.ImageLaws.{AnswersAlike}
 use Rattle.elf.specs.Layout.{layout_of}
 use Rattle.elf.specs.Loading.{Loading}
 use Rattle.elf.specs.ObjectFile.{ObjectFile}
 use Rattle.elf.specs.SectionBytes.{bytes_at, is_nobits, is_outside, section_bytes_in}
-use Rattle.elf.specs.Sections.{addresses_of, contents_of, empty_contents, first_named, gives_bytes_of_file, is_compressed, is_named, is_relocated, is_zdebug, missing_section, relocates, section_at, section_names_of, section_range_at}
+use Rattle.elf.specs.Sections.{addresses_of, contents_of, empty_contents, first_named, gives_bytes_of_file, is_compressed, is_named, is_zdebug, missing_section, relocates, section_at, section_names_of, section_range_at}
 use Rattle.elf.specs.Symbols.{NamedAddress, covers, nearest_symbol, symbol_at, symbol_bytes, symbol_entry_name, symbol_names_number, symbol_names_of, symbol_table, usable_in}
 use Rattle.elf.specs.Wanted.{is_shown, is_shown_at, is_wanted, is_wanted_text, shows_sections, shows_tables}
 use Rattle.elf.proofs.ShownLemmas.{choose, choose_either, found_in, found_shown, held_same, named_wanted, outside_same, section_same, symbols_same, table_same, zdebug_named_wanted}
@@ -41,16 +39,13 @@ module _ (image : Image) (bytes : List ℕ) (shows : Shows image bytes) (f : Obj
   abbrev SectionsShown : Type 0
   SectionsShown = shows_sections image of_image ≡ true
 
-  names_same : TablesShown → section_names_of of_image ≡ section_names_of of_bytes
-  names_same t =
-      let p = and_parts (is_shown_at image f.sections f.name_table) (is_shown_at image f.sections (symbol_names_number f.sections) && option_map_or (is_shown image) (symbol_table f.sections) true) t in
-      table_same image bytes shows f.sections f.name_table p.0
-
-  symbol_tables_same : TablesShown → (symbol_names_of of_image ≡ symbol_names_of of_bytes) × (symbol_bytes (image_bytes image) f.sections ≡ symbol_bytes bytes f.sections)
-  symbol_tables_same t =
-      let p = and_parts (is_shown_at image f.sections f.name_table) (is_shown_at image f.sections (symbol_names_number f.sections) && option_map_or (is_shown image) (symbol_table f.sections) true) t in
-      let q = and_parts (is_shown_at image f.sections (symbol_names_number f.sections)) (option_map_or (is_shown image) (symbol_table f.sections) true) p.1 in
-      (table_same image bytes shows f.sections (symbol_names_number f.sections) q.0, symbols_same image bytes shows f.sections q.1)
+  tables_same : TablesShown → (section_names_of of_image ≡ section_names_of of_bytes) × (symbol_names_of of_image ≡ symbol_names_of of_bytes) × (symbol_bytes (image_bytes image) f.sections ≡ symbol_bytes bytes f.sections)
+  tables_same t =
+      let number = symbol_names_number f.sections in
+      let table = option_map_or (is_shown image) (symbol_table f.sections) true in
+      let p = and_parts (is_shown_at image f.sections f.name_table) (is_shown_at image f.sections number && table) t in
+      let q = and_parts (is_shown_at image f.sections number) table p.1 in
+      (table_same image bytes shows f.sections f.name_table p.0, table_same image bytes shows f.sections number q.0, symbols_same image bytes shows f.sections q.1)
 
   -- ---- symbols
   symbol_by : ℕ → List ℕ → List ℕ → Option NamedAddress
@@ -63,15 +58,15 @@ module _ (image : Image) (bytes : List ℕ) (shows : Shows image bytes) (f : Obj
 
   symbol_same : TablesShown → (probe : ℕ) → symbol_at probe of_image ≡ symbol_at probe of_bytes
   symbol_same t probe =
-      let tables = symbol_tables_same t in
-      symbol_is probe (image_bytes image) ∙ ap (λ names. symbol_by probe names (symbol_bytes (image_bytes image) f.sections)) tables.0 ∙ ap (symbol_by probe (symbol_names_of of_bytes)) tables.1 ∙ sym (symbol_is probe bytes)
+      let tables = tables_same t in
+      symbol_is probe (image_bytes image) ∙ ap (λ names. symbol_by probe names (symbol_bytes (image_bytes image) f.sections)) tables.1 ∙ ap (symbol_by probe (symbol_names_of of_bytes)) tables.2 ∙ sym (symbol_is probe bytes)
 
   -- ---- sections by name
   first_same : TablesShown → (name : List ℕ) → first_named name of_image ≡ first_named name of_bytes
-  first_same t name = ap (λ (names : List ℕ). found_in f.sections (position (is_named names name) f.sections)) (names_same t)
+  first_same t name = ap (λ (names : List ℕ). found_in f.sections (position (is_named names name) f.sections)) (tables_same t).0
 
   zdebug_first_same : TablesShown → (name : List ℕ) → first_zdebug name of_image ≡ first_zdebug name of_bytes
-  zdebug_first_same t name = ap (λ (names : List ℕ). found_in f.sections (position (is_zdebug names name) f.sections)) (names_same t)
+  zdebug_first_same t name = ap (λ (names : List ℕ). found_in f.sections (position (is_zdebug names name) f.sections)) (tables_same t).0
 
   range_same : TablesShown → (name : List ℕ) → section_range_at name of_image ≡ section_range_at name of_bytes
   range_same t name = ap (λ (o : Option (ℕ × SectionHeader)). option_and_then (λ found. addresses_of found.1) o) (first_same t name)
@@ -99,7 +94,7 @@ module _ (image : Image) (bytes : List ℕ) (shows : Shows image bytes) (f : Obj
       ∙ ap (λ (b : Bool). cond {A = Loading Section} (is_nobits s) (Ok (empty_contents f)) (cond b (Err BadElf) (contents_by n s (bytes_at bytes s)))) (outside_same image bytes shows s)
 
   missing_same : TablesShown → (name : List ℕ) → missing_section name of_image ≡ missing_section name of_bytes
-  missing_same t name = ap (λ (names : List ℕ). cond {A = Loading Section} (list_any (is_zdebug names name) f.sections) (Err CompressedSection) (Ok (empty_contents f))) (names_same t)
+  missing_same t name = ap (λ (names : List ℕ). cond {A = Loading Section} (list_any (is_zdebug names name) f.sections) (Err CompressedSection) (Ok (empty_contents f))) (tables_same t).0
 
   -- an answer by the section that is found, or by there being none
   by_found : {A : Type 0} (g h : ℕ → SectionHeader → A) (none some : A) (o p : Option (ℕ × SectionHeader)) → o ≡ p → none ≡ some → ((x : ℕ × SectionHeader) → o ≡ Some x → g x.0 x.1 ≡ h x.0 x.1)

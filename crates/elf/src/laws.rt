@@ -2,10 +2,12 @@
 
 ghost use Rattle.elf.specs.ImageLaws.{ImagesLoadAlike};
 
-/// What pieces of a file answer that have all that is wanted of it is what the whole file answers:
-/// the same refusal, or the same headers. Then each section has the same addresses, each probe the
-/// same symbol, and each section of debug information that lookups read the same bytes or refusal,
-/// as it stands and decompressed.
+/// Pieces of a file that have all that is wanted of it answer as the whole file does: with the same
+/// refusal, or with the same headers. Then a section of any name has the same addresses, any probe
+/// the same symbol, and each section of debug information that lookups read has the same bytes or
+/// the same refusal, as it stands and decompressed.
+///
+/// Source: System V ABI, Object Files. Own: which parts are wanted.
 pub fn image_laws()
     ensures alike { ImagesLoadAlike }
 {}

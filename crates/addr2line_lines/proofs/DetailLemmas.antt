@@ -9,14 +9,13 @@ use Rattle.gimli_read.specs.declared.error.Error.TheVariants.{UnexpectedEof}
 use Rattle.gimli_read.specs.declared.endian.Encoding.{Encoding}
 use Rattle.gimli_read.specs.Abbreviations.{Abbrev, Specification}
 use Rattle.gimli_read.specs.Leb128.{uleb128_at, uleb128_in}
-use Rattle.gimli_read.specs.declared.value.AttributeValue.{AttributeValue}
-use Rattle.gimli_read.specs.declared.constants.TheConstants.DwForm.{DW_FORM_implicit_const}
-use Rattle.gimli_read.specs.Form.{NamedValue, attribute_at, implicit_of, named_value, rest_of, value_at}
+use Rattle.gimli_read.specs.Form.{NamedValue, attribute_at, rest_of}
 use Rattle.gimli_read.specs.Reading.{Reading, ◌>>=◌, Exactly, ExactlyUnlessOomIf}
 use Rattle.gimli_read.specs.Section.{Section}
 use Rattle.gimli.specs.Entry.{attributes_at}
 use Rattle.gimli.specs.Sections.{Sections}
 use Rattle.gimli.specs.Unit.{UnitRecord}
+use Rattle.gimli.proofs.WantedLemmas.{named}
 use Rattle.addr2line_lines.specs.declared.function.RangeAttributes.{RangeAttributes}
 use Rattle.addr2line_lines.specs.declared.nesting.Kind.{Kind}
 use Rattle.addr2line_lines.specs.declared.inlined.CallSite.{CallSite}
@@ -177,26 +176,6 @@ pub record Passed (given : Reading NamedValue) (left : Section) (name : DwAt) (o
   pub attribute : NamedValue
   pub is : given ≡ Ok (attribute, left)
   pub said : (o ≡ Some attribute) ⊎ ((o ≡ None) × (attribute.name ≡ name) × (wanted ≡ false))
-
--- an attribute has the name of its specification
-pub named : (e : Encoding) (x : Specification) (s t : Section) (a : NamedValue) → attribute_at e x s ≡ Ok (a, t) → a.name ≡ x.name
-unfolding attribute_at
-named e x s t a h = by_form (x.form.0 == DW_FORM_implicit_const.0) h
-  where
-    same : (v : AttributeValue Section) (r : Section) → ◌≡◌ {A = Reading NamedValue} (Ok (named_value x v, r)) (Ok (a, t)) → a.name ≡ x.name
-    same v r k = let p : ◌≡◌ {A = NamedValue × Section} (named_value x v, r) (a, t) = cc in ap (λ (y : NamedValue × Section). y.0.name) (sym p)
-
-    by_constant : (r : Result (AttributeValue Section) Error) → ◌>>=◌ {B = NamedValue × Section} r (λ v. Ok (named_value x v, s)) ≡ Ok (a, t) → a.name ≡ x.name
-    by_constant (Ok v) k = same v s k
-    by_constant (Err f) k = absurd cc
-
-    by_value : (r : Reading (AttributeValue Section)) → ◌>>=◌ {B = NamedValue × Section} r (λ v. Ok (named_value x v.0, v.1)) ≡ Ok (a, t) → a.name ≡ x.name
-    by_value (Ok v) k = same v.0 v.1 k
-    by_value (Err f) k = absurd cc
-
-    by_form : (b : Bool) → cond b (◌>>=◌ {B = NamedValue × Section} (implicit_of x.constant) (λ v. Ok (named_value x v, s))) (◌>>=◌ {B = NamedValue × Section} (value_at e x.form.0 s) (λ v. Ok (named_value x v.0, v.1))) ≡ Ok (a, t) → a.name ≡ x.name
-    by_form true k = by_constant (implicit_of x.constant) k
-    by_form false k = by_value (value_at e x.form.0 s) k
 
 pub passed : (may wanted : Bool) (e : Encoding) (x : Specification) (s left : Section) (o : Option NamedValue) → IsReadIf may wanted left (Ok o) (attribute_at e x s) → Passed (attribute_at e x s) left x.name o wanted
 passed may wanted e x s left (Some a) h = record { attribute = a; is = h; said = inl refl }

@@ -1,24 +1,26 @@
 -- The attributes of ranges among others (on specs/FoundRanges.antt).
-use Rattle.std.proofs.Common.{◌≡◌, zero, suc, ◌==◌, ◌&&◌, ◌||◌, Bool, true, false, cond, List, [], ◌∷◌, ◌++◌, length, Some, Result, Ok, Err, refl, ap, sym, ◌∙◌, arith, append-nil}
+use Rattle.std.proofs.Common.{◌≡◌, zero, suc, ◌==◌, ◌&&◌, ◌||◌, Bool, true, false, cond, List, [], ◌∷◌, length, Some, Result, Ok, Err, refl, ap, ◌∙◌, arith}
 use Rattle.std.specs.List.{All, list_any}
 use Rattle.gimli_read.specs.declared.constants.TheConstants.DwAt.{DW_AT_high_pc, DW_AT_low_pc, DW_AT_ranges}
 use Rattle.gimli_read.specs.declared.error.Error.{Error}
 use Rattle.gimli_read.specs.declared.endian.Encoding.{Encoding}
-use Rattle.gimli_read.specs.Abbreviations.{Abbrev, Specification}
+use Rattle.gimli_read.specs.Abbreviations.{Abbrev}
 use Rattle.gimli_read.specs.Section.{Section}
-use Rattle.gimli_read.specs.Reading.{Reading, ◌>>=◌, Exactly, ExactlyUnlessOomIf}
-use Rattle.gimli_read.specs.Form.{NamedValue, attribute_at, rest_of}
+use Rattle.gimli_read.specs.Reading.{◌>>=◌, Exactly, ExactlyUnlessOomIf}
+use Rattle.gimli_read.specs.Form.{NamedValue, rest_of}
 use Rattle.gimli.specs.Entry.{EntryUnit, attributes_at}
 use Rattle.gimli.specs.EntryCursor.{EntryCursor, entry_abbreviation_at, next_offset_of}
 use Rattle.gimli.specs.Sections.{Sections}
 use Rattle.gimli.specs.Unit.{UnitRecord}
+use Rattle.gimli.specs.WantedAttributes.{HasNoWanted}
+use Rattle.gimli.proofs.WantedLemmas.{PassesOver, fold_passes, wanted_end}
 use Rattle.addr2line_lines.specs.declared.function.RangeAttributes.{RangeAttributes}
 use Rattle.addr2line_lines.specs.FoundFunctions.{FoundFunctions, found_at}
-use Rattle.addr2line_lines.specs.FoundRanges.{HasNoRange, IsSplitAtRange, is_function, is_range_specification, is_range_name}
+use Rattle.addr2line_lines.specs.FoundRanges.{is_function, is_range_specification, is_range_name}
 use Rattle.addr2line_lines.specs.Functions.{is_subprogram}
 use Rattle.addr2line_lines.specs.RangeAttributes.{no_range_attributes, or_with_range_attribute, range_attributes_after, with_range_attribute}
 use Rattle.addr2line_lines.proofs.FunctionLemmas.{function_fault, function_found, other_found}
-use Rattle.addr2line_lines.proofs.NameLemmas.{attribute_name, none_of}
+use Rattle.addr2line_lines.proofs.NameLemmas.{none_of}
 
 -- where no test of a list holds each fails
 none_holds : {X : Type 0} (p : X → Bool) (xs : List X) → list_any p xs ≡ false → All (λ x. p x ≡ false) xs
@@ -33,10 +35,6 @@ none_holds p (x ∷ xs) h (suc k) d l = none_holds p xs (rest (p x) h) k d (omeg
     rest : (b : Bool) → (b || list_any p xs) ≡ false → list_any p xs ≡ false
     rest true h = absurd cc
     rest false h = h
-
--- one more attribute, and those after it
-abbrev before_more : NamedValue → Reading (List NamedValue) → Reading (List NamedValue)
-before_more a read = read >>= λ more. Ok (a ∷ more.0, more.1)
 
 module _ (d : Sections) (u : UnitRecord) (e : Encoding) where
   -- an attribute of another name says nothing of ranges
@@ -53,89 +51,10 @@ module _ (d : Sections) (u : UnitRecord) (e : Encoding) where
   or_rangeless (Ok r) a h = rangeless r a h
   or_rangeless (Err f) a h = refl
 
-  -- the first of the attributes that are read
-  front : (r : Result RangeAttributes Error) (a : NamedValue) (read : Reading (List NamedValue)) → range_attributes_after d u r (before_more a read) ≡ range_attributes_after d u (or_with_range_attribute d u r a) read
-  front r a (Ok x) = refl
-  front r a (Err f) = refl
-
-  -- attributes that say nothing of ranges are passed over
-  ranges_over : (r : Result RangeAttributes Error) (xs ys : List Specification) (left : Section) → HasNoRange xs
-      → range_attributes_after d u r (attributes_at e (xs ++ ys) left) ≡ (rest_of (attributes_at e xs left) >>= λ t. range_attributes_after d u r (attributes_at e ys t))
-  unfolding attributes_at
-  ranges_over r [] ys left h = refl
-  ranges_over r (x ∷ xs) ys left h = at (λ t. ranges_over r xs ys t (λ k y l. h (suc k) y (omega arith))) (attribute_at e x left) refl
-    where
-      rest : (a : NamedValue) (read : Reading (List NamedValue)) → (rest_of read >>= λ t. range_attributes_after d u r (attributes_at e ys t)) ≡ (rest_of (before_more a read) >>= λ t. range_attributes_after d u r (attributes_at e ys t))
-      rest a (Ok more) = refl
-      rest a (Err f) = refl
-
-      at : ((t : Section) → range_attributes_after d u r (attributes_at e (xs ++ ys) t) ≡ (rest_of (attributes_at e xs t) >>= λ z. range_attributes_after d u r (attributes_at e ys z))) → (q : Reading NamedValue) → attribute_at e x left ≡ q
-          → range_attributes_after d u r (q >>= λ a. before_more a.0 (attributes_at e (xs ++ ys) a.1)) ≡ (rest_of (q >>= λ a. before_more a.0 (attributes_at e xs a.1)) >>= λ t. range_attributes_after d u r (attributes_at e ys t))
-      at more (Err f) k = refl
-      at more (Ok a) k =
-          let same : a.0.name ≡ x.name = attribute_name e x left a.1 a.0 k in
-          let other : is_range_name a.0.name ≡ false = ap is_range_name same ∙ h zero x (omega arith) in
-          front r a.0 (attributes_at e (xs ++ ys) a.1)
-          ∙ ap (λ v. range_attributes_after d u v (attributes_at e (xs ++ ys) a.1)) (or_rangeless r a.0 other)
-          ∙ more a.1
-          ∙ rest a.0 (attributes_at e xs a.1)
-
-  -- where no attribute says of ranges
-  pub ranges_end : (r : Result RangeAttributes Error) (xs : List Specification) (left : Section) → HasNoRange xs → range_attributes_after d u r (attributes_at e xs left) ≡ (rest_of (attributes_at e xs left) >>= λ t. r)
-  unfolding attributes_at
-  ranges_end r xs left h = ap (λ ys. range_attributes_after d u r (attributes_at e ys left)) (sym (append-nil xs)) ∙ ranges_over r xs [] left h
-
-  -- up to the next attribute of ranges the others are passed over
-  pub ranges_passed : (r : Result RangeAttributes Error) (all before : List Specification) (x : Specification) (after : List Specification) (left : Section) (t : Result Section Error) → IsSplitAtRange all before x after → rest_of (attributes_at e before left) ≡ t
-      → range_attributes_after d u r (attributes_at e all left) ≡ (t >>= λ z. range_attributes_after d u r (attributes_at e (x ∷ after) z))
-  ranges_passed r all before x after left t h k =
-      ap (λ xs. range_attributes_after d u r (attributes_at e xs left)) h.0 ∙ ranges_over r before (x ∷ after) left h.1
-      ∙ ap (λ (v : Result Section Error). v >>= λ z. range_attributes_after d u r (attributes_at e (x ∷ after) z)) k
-
-  -- the next attribute of ranges
-  pub ranges_next : (r : Result RangeAttributes Error) (all before : List Specification) (x : Specification) (after : List Specification) (left t s : Section) (a : NamedValue) → IsSplitAtRange all before x after → rest_of (attributes_at e before left) ≡ Ok t → attribute_at e x t ≡ Ok (a, s)
-      → range_attributes_after d u r (attributes_at e all left) ≡ range_attributes_after d u (or_with_range_attribute d u r a) (attributes_at e after s)
-  unfolding attributes_at
-  ranges_next r all before x after left t s a h k n =
-      ranges_passed r all before x after left (Ok t) h k
-      ∙ ap (λ (v : Reading NamedValue). range_attributes_after d u r (v >>= λ y. before_more y.0 (attributes_at e after y.1))) n
-      ∙ front r a (attributes_at e after s)
-
-  -- where it can't be read
-  pub ranges_fault : (r : Result RangeAttributes Error) (all before : List Specification) (x : Specification) (after : List Specification) (left t : Section) (f : Error) → IsSplitAtRange all before x after → rest_of (attributes_at e before left) ≡ Ok t → attribute_at e x t ≡ Err f
-      → range_attributes_after d u r (attributes_at e all left) ≡ Err f
-  unfolding attributes_at
-  ranges_fault r all before x after left t f h k n =
-      ranges_passed r all before x after left (Ok t) h k
-      ∙ ap (λ (v : Reading NamedValue). range_attributes_after d u r (v >>= λ y. before_more y.0 (attributes_at e after y.1))) n
-
--- what is left after attributes
-module _ (e : Encoding) where
-  rest_more : (a : NamedValue) (read : Reading (List NamedValue)) → rest_of (before_more a read) ≡ rest_of read
-  rest_more a (Ok x) = refl
-  rest_more a (Err f) = refl
-
-  -- after those of two lists
-  rest_over : (xs ys : List Specification) (left : Section) → rest_of (attributes_at e (xs ++ ys) left) ≡ (rest_of (attributes_at e xs left) >>= λ t. rest_of (attributes_at e ys t))
-  unfolding attributes_at
-  rest_over [] ys left = refl
-  rest_over (x ∷ xs) ys left = at (λ t. rest_over xs ys t) (attribute_at e x left)
-    where
-      at : ((t : Section) → rest_of (attributes_at e (xs ++ ys) t) ≡ (rest_of (attributes_at e xs t) >>= λ z. rest_of (attributes_at e ys z))) → (q : Reading NamedValue) → rest_of (q >>= λ a. before_more a.0 (attributes_at e (xs ++ ys) a.1)) ≡ (rest_of (q >>= λ a. before_more a.0 (attributes_at e xs a.1)) >>= λ t. rest_of (attributes_at e ys t))
-      at more (Err f) = refl
-      at more (Ok a) =
-          rest_more a.0 (attributes_at e (xs ++ ys) a.1) ∙ more a.1
-          ∙ ap (λ (v : Result Section Error). v >>= λ t. rest_of (attributes_at e ys t)) (sym (rest_more a.0 (attributes_at e xs a.1)))
-
-  -- after the next attribute of ranges
-  pub rest_next : (all before : List Specification) (x : Specification) (after : List Specification) (left t s : Section) (a : NamedValue) → IsSplitAtRange all before x after → rest_of (attributes_at e before left) ≡ Ok t → attribute_at e x t ≡ Ok (a, s)
-      → rest_of (attributes_at e all left) ≡ rest_of (attributes_at e after s)
-  unfolding attributes_at
-  rest_next all before x after left t s a h k n =
-      ap (λ xs. rest_of (attributes_at e xs left)) h.0 ∙ rest_over before (x ∷ after) left
-      ∙ ap (λ (v : Result Section Error). v >>= λ z. rest_of (attributes_at e (x ∷ after) z)) k
-      ∙ ap (λ (v : Reading NamedValue). rest_of (v >>= λ y. before_more y.0 (attributes_at e after y.1))) n
-      ∙ rest_more a (attributes_at e after s)
+  -- so others are passed over
+  pub range_passes : (r : Result RangeAttributes Error)
+      → PassesOver e is_range_name (λ xs left. range_attributes_after d u r (attributes_at e xs left)) (λ xs a. range_attributes_after d u (or_with_range_attribute d u r a.0) (attributes_at e xs a.1)) (λ _. r)
+  range_passes r = fold_passes e is_range_name (or_with_range_attribute d u) (λ x. x) or_rangeless r
 
 -- an entry whose abbreviation isn't that of functions with ranges is passed over
 module _ (d : Sections) (u : UnitRecord) (unit : EntryUnit) where
@@ -143,8 +62,8 @@ module _ (d : Sections) (u : UnitRecord) (unit : EntryUnit) where
       → s.depth ≡ t.depth → Exactly (λ _. s.left) r (rest_of (attributes_at e a.attributes t.left)) → ExactlyUnlessOomIf may (λ _. (found, s)) r (found_at d u unit c found)
   no_function_found may c t s found a e r h k q n m g = by_kind (is_subprogram a) refl n r g
     where
-      none : HasNoRange a.attributes → (left : Result Section Error) → rest_of (attributes_at e a.attributes t.left) ≡ left → range_attributes_after d u (Ok no_range_attributes) (attributes_at e a.attributes t.left) ≡ (left >>= λ z. Ok no_range_attributes)
-      none rangeless left g = ranges_end d u e (Ok no_range_attributes) a.attributes t.left rangeless ∙ ap (λ (v : Result Section Error). v >>= λ z. Ok no_range_attributes) g
+      none : HasNoWanted is_range_name a.attributes → (left : Result Section Error) → rest_of (attributes_at e a.attributes t.left) ≡ left → range_attributes_after d u (Ok no_range_attributes) (attributes_at e a.attributes t.left) ≡ (left >>= λ z. Ok no_range_attributes)
+      none rangeless left g = wanted_end (range_passes d u e (Ok no_range_attributes)) rangeless g
 
       by_kind : (b : Bool) → is_subprogram a ≡ b → (b && list_any is_range_specification a.attributes) ≡ false → (r : Result (Unit {0}) Error) → Exactly (λ _. s.left) r (rest_of (attributes_at e a.attributes t.left)) → ExactlyUnlessOomIf may (λ _. (found, s)) r (found_at d u unit c found)
       by_kind false is n r g = other_found d u unit may c t s found a e r h k q is m g

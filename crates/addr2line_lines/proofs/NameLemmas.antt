@@ -1,29 +1,25 @@
 -- What attributes say of names (on specs/Names.antt).
-use Rattle.std.proofs.Common.{ℕ, zero, suc, ◌+◌, ◌-◌, ◌<◌, ◌≤◌, ◌≡◌, ◌≢◌, ◌==◌, ◌||◌, Bool, true, false, cond, nat_lt, List, [], ◌∷◌, ◌++◌, length, take, drop, slice_index_or, Option, Some, None, is_some, option_map, Result, Ok, Err, add-one, arith, refl, ap, sym, ◌∙◌, append-nil, length-append, length-drop, length-take, ℤ, pos}
-use Rattle.std.specs.List.{All, position, position_or_len}
+use Rattle.std.proofs.Common.{ℕ, ◌+◌, ◌≡◌, ◌≢◌, ◌==◌, ◌||◌, Bool, true, false, cond, List, [], ◌∷◌, length, Option, Some, None, is_some, option_map, Result, Ok, Err, add-one, arith, refl, ap, ◌∙◌, ℤ, pos}
 use Rattle.std.specs.Option.{option_or}
 use Rattle.std.specs.Result.{result_ok}
 use Rattle.std.proofs.lemmas.Bool.{eqb-true}
 use Rattle.std.proofs.lemmas.Bool.Decides.{nat_tests}
-use Rattle.std.proofs.lemmas.List.{drop_more, get_or-take, take-append-drop, take_all}
-use Rattle.std.proofs.lemmas.List.Quantifiers.{position-Some}
-use Rattle.std.proofs.lemmas.List.Sums.{fails_before_first}
 use Rattle.gimli_read.specs.declared.constants.TheConstants.DwAt.{DW_AT_name}
-use Rattle.gimli_read.specs.declared.constants.TheConstants.DwForm.{DW_FORM_implicit_const}
 use Rattle.gimli_read.specs.declared.endian.Encoding.{Encoding}
 use Rattle.gimli_read.specs.declared.error.Error.{Error}
 use Rattle.gimli_read.specs.declared.error.Error.TheVariants.{OutOfMemory}
 use Rattle.gimli_read.specs.declared.value.AttributeValue.{AttributeValue}
 use Rattle.gimli_read.specs.Abbreviations.{Abbrev, Specification}
-use Rattle.gimli_read.specs.Form.{NamedValue, attribute_at, attributes_at, implicit_of, named_value, rest_of, seen_value, value_at}
+use Rattle.gimli_read.specs.Form.{NamedValue, attributes_at, rest_of, seen_value}
 use Rattle.gimli_read.specs.Reading.{Reading, ExactlyUnlessOomIf, ◌>>=◌}
 use Rattle.gimli_read.specs.Section.{Section}
 use Rattle.gimli.specs.Entries.{entry_bytes_from}
 use Rattle.gimli.specs.Entry.{entry_code_at}
 use Rattle.gimli.specs.EntryCursor.{EntriesLeft, EntryCursor, depth_after_code, entries_at, entries_from, entry_abbreviation_at}
 use Rattle.gimli.specs.Unit.{UnitRecord, attr_string_of}
+use Rattle.gimli.proofs.WantedLemmas.{PassesOver}
 use Rattle.addr2line_lines.specs.declared.name.NameOrOrigin.{NameOrOrigin as NameOrOriginOf}
-use Rattle.addr2line_lines.specs.FoundNames.{HasNoName, IsSplitAtName, is_name_attribute, seen_name_or_origin, with_linkage}
+use Rattle.addr2line_lines.specs.FoundNames.{is_name_attribute, seen_name_or_origin, with_linkage}
 use Rattle.addr2line_lines.specs.Names.{NameOrOrigin, entry_specifications, is_linkage_name, is_origin, linkage_name_of, name_within, named_at, no_name, or_referred_name, readable, visited, with_name, with_name_or_origin}
 use Rattle.addr2line_lines.specs.References.{EntryPlace, Scope, referred}
 
@@ -53,45 +49,6 @@ linkage_taken see may s u found a (Ok x) h k =
     ∙ ap (λ f. Ok (with_linkage (option_map see x) f)) (linkage_alone s u found a h)
 linkage_taken see may s u found a (Err e) h k = λ m. absurd (let q = k m in cc)
 
--- where no place is the first of a test the test fails everywhere
-pub none_split : (p : Specification → Bool) (xs : List Specification) → position p xs ≡ None → All (λ x. p x ≡ false) xs
-none_split p xs h k d l = at (nat_lt (position_or_len p xs) (length xs)) refl h
-  where
-    at : (b : Bool) → nat_lt (position_or_len p xs) (length xs) ≡ b → ◌≡◌ {A = Option ℕ} (cond b (Some (position_or_len p xs)) None) None → p (slice_index_or xs k d) ≡ false
-    at true e h = absurd cc
-    at false e h = fails_before_first p xs k d (let m : length xs ≤ position_or_len p xs = grind (arith, nat_tests) in omega arith)
-
--- a list is what comes before a place, what stands there, and what comes after it
-pub split_at : (p : Specification → Bool) (xs : List Specification) (n : ℕ) (x : Specification) → position p xs ≡ Some n → x ≡ slice_index_or xs n x → (xs ≡ take n xs ++ x ∷ take (length xs - (n + 1)) (drop (n + 1) xs)) × All (λ y. p y ≡ false) (take n xs)
-split_at p xs n x h is =
-    let q = position-Some p xs n x h in
-    let l = length-take n xs in
-    let m = length-drop (n + 1) xs in (
-      sym (take-append-drop n xs)
-          ∙ ap (λ ys. take n xs ++ ys) (drop_more xs n x q.0 ∙ ap (λ y. y ∷ drop (n + 1) xs) (sym is) ∙ ap (λ ys. x ∷ ys) (sym (take_all (length xs - (n + 1)) (drop (n + 1) xs) (omega arith)))),
-      λ k d b. ap p (get_or-take n xs k d (omega arith)) ∙ fails k d (omega arith),
-    )
-  where
-    fails : (k : ℕ) (d : Specification) → k < n → p (slice_index_or xs k d) ≡ false
-    fails k d b = (position-Some p xs n d h).2 k b
-
--- an attribute has the name of its specification
-pub attribute_name : (e : Encoding) (x : Specification) (s t : Section) (a : NamedValue) → attribute_at e x s ≡ Ok (a, t) → a.name ≡ x.name
-unfolding attribute_at
-attribute_name e x s t a h = by_form (x.form.0 == DW_FORM_implicit_const.0) h
-  where
-    implicit : (r : Result (AttributeValue Section) Error) → ◌≡◌ {A = Reading NamedValue} (r >>= λ value. Ok (named_value x value, s)) (Ok (a, t)) → a.name ≡ x.name
-    implicit (Ok v) h = let same : ◌≡◌ {A = NamedValue × Section} (named_value x v, s) (a, t) = cc in ap (λ n. n.0.name) (sym same)
-    implicit (Err f) h = absurd cc
-
-    valued : (r : Reading (AttributeValue Section)) → ◌≡◌ {A = Reading NamedValue} (r >>= λ v. Ok (named_value x v.0, v.1)) (Ok (a, t)) → a.name ≡ x.name
-    valued (Ok v) h = let same : ◌≡◌ {A = NamedValue × Section} (named_value x v.0, v.1) (a, t) = cc in ap (λ n. n.0.name) (sym same)
-    valued (Err f) h = absurd cc
-
-    by_form : (b : Bool) → ◌≡◌ {A = Reading NamedValue} (cond b (implicit_of x.constant >>= λ value. Ok (named_value x value, s)) (value_at e x.form.0 s >>= λ v. Ok (named_value x v.0, v.1))) (Ok (a, t)) → a.name ≡ x.name
-    by_form true h = implicit (implicit_of x.constant) h
-    by_form false h = valued (value_at e x.form.0 s) h
-
 -- none of three
 pub none_of : (a b c : Bool) → (a || b || c) ≡ false → (a ≡ false) × (b ≡ false) × (c ≡ false)
 none_of true b c h = absurd cc
@@ -116,46 +73,21 @@ named_after s u xs found a = elim (linkage_name_of s u a.0) [
   | None ↦ named_at s u xs a.1 (with_name_or_origin s u found a.0)
 ]
 
+-- the same by its linkage name, if it gives one
+abbrev by_linkage : Scope → UnitRecord → List Specification → NameOrOrigin → Section → NamedValue → Option Section → Result NameOrOrigin Error
+by_linkage s u after found t a linkage = elim linkage [
+  | Some name ↦ Ok (record { name = Some name; origin = None })
+  | None ↦ named_at s u after t (with_name_or_origin s u found a)
+]
+
 -- attributes that give no name are passed over
-pub named_over : (s : Scope) (u : UnitRecord) (xs ys : List Specification) (left : Section) (found : NameOrOrigin) → HasNoName xs
-    → named_at s u (xs ++ ys) left found ≡ (rest_of (attributes_at u.header.encoding xs left) >>= λ t. named_at s u ys t found)
-unfolding attributes_at named_at
-named_over s u [] ys left found h = refl
-named_over s u (x ∷ xs) ys left found h = at (λ t. named_over s u xs ys t found (λ k d l. h (suc k) d (omega arith))) (attribute_at u.header.encoding x left) refl
-  where
-    rest : (a : NamedValue) (r : Reading (List NamedValue)) → (rest_of r >>= λ t. named_at s u ys t found) ≡ (rest_of (r >>= λ more. Ok (a ∷ more.0, more.1)) >>= λ t. named_at s u ys t found)
-    rest a (Ok more) = refl
-    rest a (Err f) = refl
-
-    at : ((t : Section) → named_at s u (xs ++ ys) t found ≡ (rest_of (attributes_at u.header.encoding xs t) >>= λ z. named_at s u ys z found)) → (r : Reading NamedValue) → attribute_at u.header.encoding x left ≡ r
-        → (r >>= λ a. named_after s u (xs ++ ys) found a) ≡ (rest_of (r >>= λ a. attributes_at u.header.encoding xs a.1 >>= λ more. Ok (a.0 ∷ more.0, more.1)) >>= λ t. named_at s u ys t found)
-    at more (Err f) k = refl
-    at more (Ok a) k =
-        let same : a.0.name ≡ x.name = attribute_name u.header.encoding x left a.1 a.0 k in
-        let other : is_name_attribute a.0.name ≡ false = ap is_name_attribute same ∙ h zero x (omega arith) in
-        ap (λ o. elim o [ Some name ↦ Ok (record { name = Some name; origin = None }) | None ↦ named_at s u (xs ++ ys) a.1 (with_name_or_origin s u found a.0) ]) (no_linkage s u a.0 other)
-        ∙ ap (named_at s u (xs ++ ys) a.1) (other_found s u found a.0 other)
-        ∙ more a.1
-        ∙ rest a.0 (attributes_at u.header.encoding xs a.1)
-
--- the same, up to the next attribute that may give one
-pub passed : (s : Scope) (u : UnitRecord) (all before : List Specification) (x : Specification) (after : List Specification) (left t : Section) (found : NameOrOrigin) → IsSplitAtName all before x after → rest_of (attributes_at u.header.encoding before left) ≡ Ok t
-    → named_at s u all left found ≡ (attribute_at u.header.encoding x t >>= λ a. named_after s u after found a)
+pub name_passes : (s : Scope) (u : UnitRecord) (found : NameOrOrigin) → PassesOver u.header.encoding is_name_attribute (λ xs left. named_at s u xs left found) (λ xs a. named_after s u xs found a) (λ _. Ok found)
 unfolding named_at
-passed s u all before x after left t found h k =
-    ap (λ xs. named_at s u xs left found) h.0 ∙ named_over s u before (x ∷ after) left found h.1 ∙ ap (λ (r : Result Section Error). r >>= λ z. named_at s u (x ∷ after) z found) k
-
--- a fault among them
-pub passed_fault : (s : Scope) (u : UnitRecord) (all before : List Specification) (x : Specification) (after : List Specification) (left : Section) (found : NameOrOrigin) (f : Error) → IsSplitAtName all before x after → rest_of (attributes_at u.header.encoding before left) ≡ Err f
-    → named_at s u all left found ≡ Err f
-unfolding named_at
-passed_fault s u all before x after left found f h k =
-    ap (λ xs. named_at s u xs left found) h.0 ∙ named_over s u before (x ∷ after) left found h.1 ∙ ap (λ (r : Result Section Error). r >>= λ z. named_at s u (x ∷ after) z found) k
-
--- after the last attribute that may give a name
-pub named_end : (s : Scope) (u : UnitRecord) (xs : List Specification) (left : Section) (found : NameOrOrigin) → HasNoName xs → named_at s u xs left found ≡ (rest_of (attributes_at u.header.encoding xs left) >>= λ t. Ok found)
-unfolding named_at
-named_end s u xs left found h = ap (λ ys. named_at s u ys left found) (sym (append-nil xs)) ∙ named_over s u xs [] left found h
+name_passes s u found = record {
+  next = λ x xs left. refl;
+  still = λ xs a h. ap (by_linkage s u xs found a.1 a.0) (no_linkage s u a.0 h) ∙ ap (named_at s u xs a.1) (other_found s u found a.0 h);
+  end = λ left. refl;
+}
 
 -- what an attribute gives
 gives : (s : Scope) (u : UnitRecord) (found more : NameOrOrigin) (a : NamedValue) (linkage : Option Section) → ◌≡◌ {A = Result (Option Section × NameOrOrigin) Error} (Ok (with_linkage (linkage_name_of s u a) (with_name_or_origin s u found a))) (Ok (with_linkage linkage more))
@@ -163,12 +95,6 @@ gives : (s : Scope) (u : UnitRecord) (found more : NameOrOrigin) (a : NamedValue
 gives s u found more a linkage h =
     let p : ◌≡◌ {A = Option Section × NameOrOrigin} (with_linkage (linkage_name_of s u a) (with_name_or_origin s u found a)) (with_linkage linkage more) = cc in
     (ap (λ x. x.0) p, ap (λ x. x.1) p)
-
-abbrev by_linkage : Scope → UnitRecord → List Specification → NameOrOrigin → Section → NamedValue → Option Section → Result NameOrOrigin Error
-by_linkage s u after found t a linkage = elim linkage [
-  | Some name ↦ Ok (record { name = Some name; origin = None })
-  | None ↦ named_at s u after t (with_name_or_origin s u found a)
-]
 
 -- after an attribute that gives a linkage name
 pub named_linkage : (s : Scope) (u : UnitRecord) (after : List Specification) (found more : NameOrOrigin) (a : NamedValue) (t name : Section) → ◌≡◌ {A = Result (Option Section × NameOrOrigin) Error} (Ok (with_linkage (linkage_name_of s u a) (with_name_or_origin s u found a))) (Ok (with_linkage (Some name) more))
@@ -185,10 +111,6 @@ pub none_passed : (e : Encoding) (xs : List Specification) (left : Section) → 
 unfolding attributes_at
 none_passed e [] left h = refl
 none_passed e (x ∷ xs) left h = let none : length (x ∷ xs) ≡ 0 = eqb-true (length (x ∷ xs)) 0 h in absurd (omega arith)
-
--- fewer attributes are left
-pub fewer_left : (all before : List Specification) (x : Specification) (after : List Specification) → IsSplitAtName all before x after → length after < length all
-fewer_left all before x after h = let e = ap length h.0 in let l = length-append before (x ∷ after) in omega arith
 
 -- what an entry says, whose reading begins
 abbrev entry_read : EntryPlace → EntriesLeft → Result NameOrOrigin Error

@@ -1,10 +1,8 @@
 -- What attributes of inlined entries say, as the private functions see them.
-use Rattle.std.specs.Prelude.{◌≡◌, ◌==◌, ◌||◌, Bool, false, List, ◌∷◌, ◌++◌, fold, Option, Some, None, option_map, Result, Ok, Err}
-use Rattle.std.specs.List.{All}
+use Rattle.std.specs.Prelude.{◌≡◌, ◌==◌, ◌||◌, Bool, false, List, fold, Option, Some, None, option_map, Result, Ok, Err}
 use Rattle.gimli_read.specs.declared.constants.DwAt.{DwAt}
 use Rattle.gimli_read.specs.declared.constants.TheConstants.DwAt.{DW_AT_call_column, DW_AT_call_file, DW_AT_call_line}
 use Rattle.gimli_read.specs.declared.error.Error.{Error}
-use Rattle.gimli_read.specs.Abbreviations.{Specification}
 use Rattle.gimli_read.specs.Form.{NamedValue, rest_of}
 use Rattle.gimli_read.specs.Reading.{Reading, ◌>>=◌, ExactlyUnlessOomIf}
 use Rattle.gimli_read.specs.Section.{Section}
@@ -29,20 +27,6 @@ is_call name =
 -- whether an attribute says something of an inlined entry
 abbrev pub is_wanted : DwAt → Bool
 is_wanted name = is_range_name name || is_name_attribute name || is_call name
-
--- the same of a specification
-abbrev pub is_wanted_specification : Specification → Bool
-is_wanted_specification x = is_wanted x.name
-
--- no attribute says anything of an inlined entry
-abbrev pub HasNoWanted : List Specification → Type 0
-HasNoWanted specifications = All (λ x. is_wanted_specification x ≡ false) specifications
-
--- what comes before an attribute, where no other says anything of an inlined entry, and what comes
--- after it
-abbrev pub IsSplitAtWanted : List Specification → List Specification → Specification
-    → List Specification → Type 0
-IsSplitAtWanted all before x after = (all ≡ before ++ x ∷ after) × HasNoWanted before
 
 -- what was found, unless there was a fault before
 abbrev pub or_fault : {X : Type 0} → X → Option Error → Result X Error

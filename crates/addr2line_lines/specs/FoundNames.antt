@@ -1,13 +1,11 @@
 -- Names as they are found, and the units and entries that references lead to, as the private
 -- functions see them.
-use Rattle.std.specs.Prelude.{ℕ, ◌≡◌, ◌==◌, ◌||◌, leb, Bool, true, false, List, ◌∷◌, ◌++◌, fold, Option, Some, None, option_map, Result, Ok}
-use Rattle.std.specs.List.{All}
+use Rattle.std.specs.Prelude.{ℕ, ◌≡◌, ◌==◌, ◌||◌, leb, Bool, true, false, List, fold, Option, Some, None, option_map, Result, Ok}
 use Rattle.std.specs.Option.{option_or}
 use Rattle.gimli_read.specs.declared.constants.DwAt.{DwAt}
 use Rattle.gimli_read.specs.declared.constants.TheConstants.DwAt.{DW_AT_name}
 use Rattle.gimli_read.specs.declared.error.Error.{Error}
 use Rattle.gimli_read.specs.declared.value.AttributeValue.{AttributeValue}
-use Rattle.gimli_read.specs.Abbreviations.{Specification}
 use Rattle.gimli_read.specs.Form.{NamedValue, seen_value}
 use Rattle.gimli_read.specs.Reading.{Reading, ◌>>=◌}
 use Rattle.gimli_read.specs.Section.{Section}
@@ -42,19 +40,6 @@ seen_name_or_origin see n =
 -- whether an attribute may give its entry a name
 abbrev pub is_name_attribute : DwAt → Bool
 is_name_attribute name = is_linkage_name name || name.0 == DW_AT_name.0 || is_origin name
-
--- the same of a specification
-abbrev pub is_name_specification : Specification → Bool
-is_name_specification x = is_name_attribute x.name
-
--- no attribute may give a name
-abbrev pub HasNoName : List Specification → Type 0
-HasNoName specifications = All (λ x. is_name_specification x ≡ false) specifications
-
--- what comes before an attribute, where no other may give a name, and what comes after it
-abbrev pub IsSplitAtName : List Specification → List Specification → Specification
-    → List Specification → Type 0
-IsSplitAtName all before x after = (all ≡ before ++ x ∷ after) × HasNoName before
 
 -- the linkage name that an attribute gives, beside what is found after it
 abbrev pub with_linkage : Option Section → NameOrOrigin → Option Section × NameOrOrigin

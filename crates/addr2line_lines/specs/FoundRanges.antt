@@ -1,6 +1,6 @@
 -- The attributes of ranges among those of an entry, as the private functions see them.
-use Rattle.std.specs.Prelude.{◌≡◌, ◌==◌, ◌&&◌, ◌||◌, Bool, false, List, ◌∷◌, ◌++◌}
-use Rattle.std.specs.List.{All, list_any}
+use Rattle.std.specs.Prelude.{◌==◌, ◌&&◌, ◌||◌, Bool}
+use Rattle.std.specs.List.{list_any}
 use Rattle.gimli_read.specs.declared.constants.DwAt.{DwAt}
 use Rattle.gimli_read.specs.declared.constants.TheConstants.DwAt.{DW_AT_high_pc, DW_AT_low_pc, DW_AT_ranges}
 use Rattle.gimli_read.specs.Abbreviations.{Abbrev, Specification}
@@ -14,15 +14,6 @@ is_range_name name =
 -- whether a specification is that of an attribute of ranges
 abbrev pub is_range_specification : Specification → Bool
 is_range_specification x = is_range_name x.name
-
--- no attribute says of ranges
-abbrev pub HasNoRange : List Specification → Type 0
-HasNoRange specifications = All (λ x. is_range_specification x ≡ false) specifications
-
--- what comes before an attribute, where no other says of ranges, and what comes after it
-abbrev pub IsSplitAtRange : List Specification → List Specification → Specification
-    → List Specification → Type 0
-IsSplitAtRange all before x after = (all ≡ before ++ x ∷ after) × HasNoRange before
 
 -- whether an abbreviation is that of functions' entries, which may have ranges
 abbrev pub is_function : Abbrev → Bool

@@ -1,17 +1,17 @@
 //! The addresses of entries.
 
-ghost use Rattle.std.specs.Prelude.{◌≡◌, ◌<◌, ◌∷◌, None, Ok, IfSome, OnOk, length};
-ghost use Rattle.std.specs.List.{list_any, position};
+ghost use Rattle.std.specs.Prelude.{◌≡◌, Ok, OnOk};
+ghost use Rattle.std.specs.List.{list_any};
 ghost use Rattle.std.specs.Option.{option_to_list};
 ghost use Rattle.gimli_read.specs.Reading.{Exactly, ExactlyUnlessOomIf};
 ghost use Rattle.gimli_read.specs.Form.{rest_of, seen_value};
 ghost use Rattle.gimli.specs.Entry.{attributes_at};
 ghost use Rattle.gimli.specs.Ranges.{ranges_at};
-ghost use Rattle.addr2line_lines.specs.FoundRanges.{HasNoRange, IsSplitAtRange, is_range_specification, is_range_name};
+ghost use Rattle.addr2line_lines.specs.FoundRanges.{is_range_specification, is_range_name};
 ghost use Rattle.addr2line_lines.specs.RangeAttributes.{attr_address, no_range_attributes, with_range_attribute, or_with_range_attribute, range_attributes_after, range_between, ranges_of, all_ranges, attribute_ranges, begins_well, gives_a_range};
 
 use gimli::read::{Attribute, AttributeSpecification, AttributeValue, DwAt, Error, Range, Reader};
-use gimli::{EntriesRaw, UnitRef};
+use gimli::{EntriesRaw, UnitRef, WantedNames, split_at_wanted};
 use std::alloc::Global;
 
 /// What the attributes of an entry say of its addresses, the last of each counting.
@@ -150,36 +150,17 @@ pub(crate) fn has_range_attribute(specifications: &[AttributeSpecification]) -> 
         .any(|specification| is_range_name(specification.name()))
 }
 
-// The place of the first attribute of ranges.
-fn first_range_attribute(specifications: &[AttributeSpecification]) -> Option<usize>
-    ensures gives { result ≡ position is_range_specification specifications.now }
-    ensures within { IfSome result (λ k. k < length specifications.now) }
-{
-    specifications
-        .iter()
-        .position(|specification| is_range_name(specification.name()))
-}
+// The attributes that say of their entry's ranges.
+struct RangeWanted;
 
-// The first attribute of ranges, among others.
-#[derive(Clone, Copy)]
-struct AtRange<'a> {
-    before: &'a [AttributeSpecification],
-    specification: AttributeSpecification,
-    after: &'a [AttributeSpecification],
-}
+impl WantedNames for RangeWanted {
+    ghost use Rattle.addr2line_lines.specs.FoundRanges.{is_range_name};
 
-// Attributes, split at the first of ranges.
-fn split_at_range(all: &[AttributeSpecification]) -> Option<AtRange<'_>>
-    ensures split { IfSome result (λ x.
-        IsSplitAtRange all.now x.before.now x.specification x.after.now) }
-    ensures none { result ≡ None → HasNoRange all.now }
-{
-    let place = first_range_attribute(all)?;
-    Some(AtRange {
-        before: &all[..place],
-        specification: all[place],
-        after: &all[place + 1..],
-    })
+    ghost wanted = { is_range_name };
+
+    fn is_wanted(name: DwAt) -> bool {
+        is_range_name(name)
+    }
 }
 
 // Takes one more attribute in, where none before it has a fault.
@@ -216,7 +197,7 @@ pub(crate) fn read_range_attributes<R: Reader>(
 {
     let mut ranges = Ok(RangeAttributes::new());
     let mut rest = specifications;
-    while let Some(next) = split_at_range(rest) {
+    while let Some(next) = split_at_wanted::<RangeWanted>(rest) {
         entries.skip_attributes(next.before)?;
         let attribute = entries.read_attribute(next.specification)?;
         ranges = with_attribute(unit, ranges, attribute);

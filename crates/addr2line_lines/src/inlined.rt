@@ -1,15 +1,13 @@
 //! Inlined entries: what their attributes say.
 
-ghost use Rattle.std.specs.Prelude.{◌≡◌, ◌<◌, None, Ok, IfSome, OnOk, length, option_and_then};
-ghost use Rattle.std.specs.List.{position};
+ghost use Rattle.std.specs.Prelude.{◌≡◌, Ok, OnOk, option_and_then};
 ghost use Rattle.std.specs.Option.{option_or};
 ghost use Rattle.gimli_read.specs.Form.{attribute_at, rest_of};
 ghost use Rattle.gimli_read.specs.Reading.{ExactlyUnlessOomIf};
 ghost use Rattle.gimli.specs.Entry.{attributes_at};
 ghost use Rattle.addr2line_lines.specs.CachedNames.{AreNamesMore, AreNamesOf, seen_names};
 ghost use Rattle.addr2line_lines.specs.InlinedEntries.{constant_bits, counted_file, no_call, no_inlined_attributes, with_call, with_inlined_attribute};
-ghost use Rattle.addr2line_lines.specs.FoundAttributes.{HasNoWanted, IsReadIf, IsSplitAtWanted, IsTakenIn, inlined_attributes_after, is_call, is_wanted, is_wanted_specification, or_fault, seen_attributes};
-ghost use Rattle.addr2line_lines.specs.FoundRanges.{is_range_name};
+ghost use Rattle.addr2line_lines.specs.FoundAttributes.{IsReadIf, IsTakenIn, inlined_attributes_after, is_call, or_fault, seen_attributes};
 ghost use Rattle.addr2line_lines.specs.References.{IsScope};
 ghost use Rattle.addr2line_lines.specs.SeenScope.{seen_scope};
 
@@ -19,7 +17,7 @@ use crate::names::NameCache;
 use crate::references::Scope;
 use crate::row::low_bits;
 use gimli::read::{Attribute, AttributeSpecification, DWARF_5, DwAt, Error, Reader, UnitOffset};
-use gimli::{EntriesRaw, Unit, UnitRef};
+use gimli::{EntriesRaw, Unit, UnitRef, WantedNames, split_at_wanted};
 use std::marker::Model;
 
 /// Where a function was called that is inlined.
@@ -214,11 +212,17 @@ impl<R: Reader> InlinedAttributes<R> {
     }
 }
 
-// Whether an attribute says something of an inlined entry.
-fn is_wanted(name: DwAt) -> bool
-    ensures gives { result ≡ is_wanted name }
-{
-    is_range_name(name) || is_name_attribute(name) || is_call(name)
+// The attributes that say something of an inlined entry.
+struct InlinedWanted;
+
+impl WantedNames for InlinedWanted {
+    ghost use Rattle.addr2line_lines.specs.FoundAttributes.{is_wanted};
+
+    ghost wanted = { is_wanted };
+
+    fn is_wanted(name: DwAt) -> bool {
+        is_range_name(name) || is_name_attribute(name) || is_call(name)
+    }
 }
 
 // Reads the next attribute, if it is wanted; else passes over it.
@@ -238,38 +242,6 @@ pub(crate) fn read_attribute_if<R: Reader>(
         entries.skip_attributes(&[specification])?;
         Ok(None)
     }
-}
-
-// The place of the first attribute that is wanted.
-fn first_wanted_attribute(specifications: &[AttributeSpecification]) -> Option<usize>
-    ensures gives { result ≡ position is_wanted_specification specifications.now }
-    ensures within { IfSome result (λ k. k < length specifications.now) }
-{
-    specifications
-        .iter()
-        .position(|specification| is_wanted(specification.name()))
-}
-
-// The first attribute that is wanted, among others.
-#[derive(Clone, Copy)]
-struct AtWanted<'a> {
-    before: &'a [AttributeSpecification],
-    specification: AttributeSpecification,
-    after: &'a [AttributeSpecification],
-}
-
-// Attributes, split at the first that is wanted.
-fn split_at_wanted(all: &[AttributeSpecification]) -> Option<AtWanted<'_>>
-    ensures split { IfSome result (λ x.
-        IsSplitAtWanted all.now x.before.now x.specification x.after.now) }
-    ensures none { result ≡ None → HasNoWanted all.now }
-{
-    let place = first_wanted_attribute(all)?;
-    Some(AtWanted {
-        before: &all[..place],
-        specification: all[place],
-        after: &all[place + 1..],
-    })
 }
 
 // What the attributes of specifications say of an inlined entry. A value that can't be read is a
@@ -297,7 +269,7 @@ pub(crate) fn read_inlined_attributes<R: Reader>(
     let mut found = InlinedAttributes::new();
     let mut fault = None;
     let mut rest = specifications;
-    while let Some(next) = split_at_wanted(rest) {
+    while let Some(next) = split_at_wanted::<InlinedWanted>(rest) {
         pass_over(entries, next.before)?;
         let attribute = entries.read_attribute(next.specification)?;
         fault = found.take_unless(scope, unit, fault, attribute, names);

@@ -1,13 +1,12 @@
 //! The names of functions and inlined entries.
 
-ghost use Rattle.std.specs.Prelude.{◌≡◌, ◌<◌, None, Ok, IfSome, length, option_map};
-ghost use Rattle.std.specs.List.{position};
+ghost use Rattle.std.specs.Prelude.{◌≡◌, Ok, option_map};
 ghost use Rattle.gimli_read.specs.declared.value.AttributeValue.TheVariants as values;
 ghost use Rattle.gimli_read.specs.Form.{rest_of, seen_value};
 ghost use Rattle.gimli_read.specs.Reading.{Exactly, ExactlyUnlessOomIf};
 ghost use Rattle.gimli.specs.Entry.{attributes_at};
 ghost use Rattle.addr2line_lines.specs.CachedNames.{AreNamesMore, AreNamesOf, seen_names};
-ghost use Rattle.addr2line_lines.specs.FoundNames.{HasNoName, IsSplitAtName, is_name_attribute, is_name_specification, seen_name_or_origin, seen_place, with_linkage, with_origin, with_string};
+ghost use Rattle.addr2line_lines.specs.FoundNames.{is_name_attribute, seen_name_or_origin, seen_place, with_linkage, with_origin, with_string};
 ghost use Rattle.addr2line_lines.specs.Names.{is_linkage_name, is_origin, linkage_name_of, named_at, no_name, readable, referred_name, visited, with_name, with_name_or_origin};
 ghost use Rattle.addr2line_lines.specs.References.{IsScope};
 ghost use Rattle.addr2line_lines.specs.SeenScope.{seen_scope};
@@ -17,7 +16,7 @@ use crate::references::{EntryPlace, Scope, referred};
 use gimli::read::{
     Attribute, AttributeSpecification, AttributeValue, DwAt, Error, Reader, UnitOffset,
 };
-use gimli::{EntriesRaw, Unit, UnitRef};
+use gimli::{EntriesRaw, Unit, UnitRef, WantedNames, split_at_wanted};
 
 // The most entries that are visited for one name.
 const MOST_VISITED: u64 = 16;
@@ -43,36 +42,17 @@ pub(crate) fn is_name_attribute(name: DwAt) -> bool
     is_linkage_name(name) || name == DwAt::DW_AT_name || is_origin(name)
 }
 
-// The place of the first attribute that may give a name.
-fn first_name_attribute(specifications: &[AttributeSpecification]) -> Option<usize>
-    ensures gives { result ≡ position is_name_specification specifications.now }
-    ensures within { IfSome result (λ k. k < length specifications.now) }
-{
-    specifications
-        .iter()
-        .position(|specification| is_name_attribute(specification.name()))
-}
+// The attributes that may give their entry a name.
+struct NameWanted;
 
-// The first attribute that may give a name, among others.
-#[derive(Clone, Copy)]
-struct AtName<'a> {
-    before: &'a [AttributeSpecification],
-    specification: AttributeSpecification,
-    after: &'a [AttributeSpecification],
-}
+impl WantedNames for NameWanted {
+    ghost use Rattle.addr2line_lines.specs.FoundNames.{is_name_attribute};
 
-// Attributes, split at the first that may give a name.
-fn split_at_name(all: &[AttributeSpecification]) -> Option<AtName<'_>>
-    ensures split { IfSome result (λ x.
-        IsSplitAtName all.now x.before.now x.specification x.after.now) }
-    ensures none { result ≡ None → HasNoName all.now }
-{
-    let place = first_name_attribute(all)?;
-    Some(AtName {
-        before: &all[..place],
-        specification: all[place],
-        after: &all[place + 1..],
-    })
+    ghost wanted = { is_name_attribute };
+
+    fn is_wanted(name: DwAt) -> bool {
+        is_name_attribute(name)
+    }
 }
 
 // The string of a value, none where it can't be read. Refused `OutOfMemory` alone.
@@ -193,7 +173,7 @@ fn read_names<R: Reader>(
 {
     let mut found = NameOrOrigin::new();
     let mut rest = specifications;
-    while let Some(next) = split_at_name(rest) {
+    while let Some(next) = split_at_wanted::<NameWanted>(rest) {
         pass_over(entries, next.before)?;
         let attribute = entries.read_attribute(next.specification)?;
         if let Some(name) = found.take(place.scope, place.unit, attribute)? {

@@ -12,6 +12,7 @@ use Rattle.gimli.specs.Entry.{attributes_at, entry_code_at, root_attributes, roo
 use Rattle.gimli.specs.EntryCursor.{EntryCursor, depth_after_code, entry_abbreviation_at}
 use Rattle.gimli.specs.Record.{RootValues, address_value, dwo_name_attribute, line_offset, no_root_values, section_offset, with_root_attribute, root_values_after, root_values_of}
 use Rattle.gimli.specs.WantedAttributes.{is_root_name}
+use Rattle.gimli.proofs.WantedLemmas.{PassesOver, fold_passes}
 
 -- neither of two holds
 neither : (b c : Bool) → (b || c) ≡ false → (b ≡ false) × (c ≡ false)
@@ -52,7 +53,7 @@ pass_all a b c d e f g h i j k l p q r s t u v w y z none last =
     pass a p _ z nb.0 (pass b q _ z nb.1 (pass c r _ z nc.1 (pass d s _ z nd.1 (pass e t _ z ne.1 (pass (f || g) u _ z (none_either f g nf.1 ng.1) (pass (h || i) v _ z (none_either h i nh.1 ni.1) (pass j w y z nj.1 (last nk.1 nl.1))))))))
 
 -- an attribute of no such name changes nothing
-pub still_root : (e : Encoding) (root : RootValues) (a : NamedValue) → is_root_name a.name ≡ false → with_root_attribute e root a ≡ root
+still_root : (e : Encoding) (root : RootValues) (a : NamedValue) → is_root_name a.name ≡ false → with_root_attribute e root a ≡ root
 still_root e root a h =
     let n = a.name.0 in
     pass_all
@@ -71,6 +72,10 @@ still_root e root a h =
     root
     h
     (no_split_file (is_before_5 e.version) root a)
+
+-- so others are passed over
+pub root_passes : (e : Encoding) (root : RootValues) → PassesOver e is_root_name (λ xs left. root_values_after e root (attributes_at e xs left)) (λ xs a. root_values_after e (with_root_attribute e root a.0) (attributes_at e xs a.1)) (λ _. Ok root)
+root_passes e root = fold_passes e is_root_name (with_root_attribute e) Ok (still_root e) root
 
 -- the values of a root entry, by the place where it begins
 pub root_values_is : (e : Encoding) (table : List Abbrev) (c : EntryCursor)

@@ -40,7 +40,7 @@ split_at p xs n x h is =
     fails k d b = (position-Some p xs n d h).2 k b
 
 -- an attribute has the name of its specification
-named : (e : Encoding) (x : Specification) (s t : Section) (a : NamedValue) → attribute_at e x s ≡ Ok (a, t) → a.name ≡ x.name
+pub named : (e : Encoding) (x : Specification) (s t : Section) (a : NamedValue) → attribute_at e x s ≡ Ok (a, t) → a.name ≡ x.name
 unfolding attribute_at
 named e x s t a h = by_form (x.form.0 == DW_FORM_implicit_const.0) h
   where
@@ -60,64 +60,78 @@ named e x s t a h = by_form (x.form.0 == DW_FORM_implicit_const.0) h
 abbrev before_more : NamedValue → Reading (List NamedValue) → Reading (List NamedValue)
 before_more a read = read >>= λ more. Ok (a ∷ more.0, more.1)
 
--- what attributes say, where one that isn't asked for changes nothing
-module _ {X Y : Type 0} (e : Encoding) (wanted : DwAt → Bool) (more : X → NamedValue → X) (end : X → Result Y Error) (still : (x : X) (a : NamedValue) → wanted a.name ≡ false → more x a ≡ x) where
-  abbrev said : X → Reading (List NamedValue) → Result Y Error
-  said x read = read >>= λ y. end (fold more x y.0)
+-- what specifications give, one after another: `given` of them and of what is left to read, `taken` of those after an attribute that was read, `last` where none follows;
+-- an attribute that isn't asked for changes nothing
+pub record PassesOver {Y : Type 0} (e : Encoding) (wanted : DwAt → Bool) (given : List Specification → Section → Result Y Error) (taken : List Specification → NamedValue × Section → Result Y Error) (last : Section → Result Y Error) : Type 0 where
+  pub next : (s : Specification) (xs : List Specification) (left : Section) → given (s ∷ xs) left ≡ (attribute_at e s left >>= taken xs)
+  pub still : (xs : List Specification) (a : NamedValue × Section) → wanted a.0.name ≡ false → taken xs a ≡ given xs a.1
+  pub end : (left : Section) → given [] left ≡ last left
 
-  -- the first of the attributes that are read
-  front : (x : X) (a : NamedValue) (read : Reading (List NamedValue)) → said x (before_more a read) ≡ said (more x a) read
-  front x a (Ok y) = refl
-  front x a (Err f) = refl
-
+module _ {Y : Type 0} {e : Encoding} {wanted : DwAt → Bool} {given : List Specification → Section → Result Y Error} {taken : List Specification → NamedValue × Section → Result Y Error} {last : Section → Result Y Error} (p : PassesOver e wanted given taken last) where
   -- those that aren't asked for are passed over
-  said_over : (x : X) (xs ys : List Specification) (left : Section) → HasNoWanted wanted xs
-      → said x (attributes_at e (xs ++ ys) left) ≡ (rest_of (attributes_at e xs left) >>= λ t. said x (attributes_at e ys t))
+  passed_over : (xs ys : List Specification) (left : Section) → HasNoWanted wanted xs → given (xs ++ ys) left ≡ (rest_of (attributes_at e xs left) >>= λ t. given ys t)
   unfolding attributes_at
-  said_over x [] ys left h = refl
-  said_over x (s ∷ xs) ys left h = at (λ t. said_over x xs ys t (λ k y l. h (suc k) y (omega arith))) (attribute_at e s left) refl
+  passed_over [] ys left h = refl
+  passed_over (s ∷ xs) ys left h = p.next s (xs ++ ys) left ∙ at (λ t. passed_over xs ys t (λ k y l. h (suc k) y (omega arith))) (attribute_at e s left) refl
     where
-      rest : (a : NamedValue) (read : Reading (List NamedValue)) → (rest_of read >>= λ t. said x (attributes_at e ys t)) ≡ (rest_of (before_more a read) >>= λ t. said x (attributes_at e ys t))
+      rest : (a : NamedValue) (read : Reading (List NamedValue)) → (rest_of read >>= λ t. given ys t) ≡ (rest_of (before_more a read) >>= λ t. given ys t)
       rest a (Ok z) = refl
       rest a (Err f) = refl
 
-      at : ((t : Section) → said x (attributes_at e (xs ++ ys) t) ≡ (rest_of (attributes_at e xs t) >>= λ z. said x (attributes_at e ys z))) → (q : Reading NamedValue) → attribute_at e s left ≡ q
-          → said x (q >>= λ a. before_more a.0 (attributes_at e (xs ++ ys) a.1)) ≡ (rest_of (q >>= λ a. before_more a.0 (attributes_at e xs a.1)) >>= λ t. said x (attributes_at e ys t))
+      at : ((t : Section) → given (xs ++ ys) t ≡ (rest_of (attributes_at e xs t) >>= λ z. given ys z)) → (q : Reading NamedValue) → attribute_at e s left ≡ q
+          → (q >>= taken (xs ++ ys)) ≡ (rest_of (q >>= λ a. before_more a.0 (attributes_at e xs a.1)) >>= λ t. given ys t)
       at over (Err f) k = refl
       at over (Ok a) k =
           let other : wanted a.0.name ≡ false = ap wanted (named e s left a.1 a.0 k) ∙ h zero s (omega arith) in
-          front x a.0 (attributes_at e (xs ++ ys) a.1)
-          ∙ ap (λ v. said v (attributes_at e (xs ++ ys) a.1)) (still x a.0 other)
-          ∙ over a.1
-          ∙ rest a.0 (attributes_at e xs a.1)
+          p.still (xs ++ ys) a other ∙ over a.1 ∙ rest a.0 (attributes_at e xs a.1)
 
   -- where none is asked for
-  pub wanted_end : (x : X) (xs : List Specification) (left : Section) (t : Result Section Error) → HasNoWanted wanted xs → rest_of (attributes_at e xs left) ≡ t → said x (attributes_at e xs left) ≡ (t >>= λ z. end x)
-  unfolding attributes_at
-  wanted_end x xs left t h k =
-      ap (λ ys. said x (attributes_at e ys left)) (sym (append-nil xs)) ∙ said_over x xs [] left h
-      ∙ ap (λ (v : Result Section Error). v >>= λ z. end x) k
+  pub wanted_end : {xs : List Specification} {left : Section} {t : Result Section Error} → HasNoWanted wanted xs → rest_of (attributes_at e xs left) ≡ t → given xs left ≡ (t >>= last)
+  wanted_end {xs = xs} {left = left} {t = t} h k =
+      ap (λ ys. given ys left) (sym (append-nil xs)) ∙ passed_over xs [] left h ∙ ap (λ (v : Result Section Error). v >>= λ z. given [] z) k ∙ at t
+    where
+      at : (v : Result Section Error) → (v >>= λ z. given [] z) ≡ (v >>= last)
+      at (Ok z) = p.end z
+      at (Err f) = refl
 
   -- up to the next that is asked for the others are passed over
-  pub wanted_passed : (x : X) (all before : List Specification) (s : Specification) (after : List Specification) (left : Section) (t : Result Section Error) → IsSplitAtWanted wanted all before s after → rest_of (attributes_at e before left) ≡ t
-      → said x (attributes_at e all left) ≡ (t >>= λ z. said x (attributes_at e (s ∷ after) z))
-  wanted_passed x all before s after left t h k =
-      ap (λ xs. said x (attributes_at e xs left)) h.0 ∙ said_over x before (s ∷ after) left h.1
-      ∙ ap (λ (v : Result Section Error). v >>= λ z. said x (attributes_at e (s ∷ after) z)) k
+  pub wanted_passed : {all : List Specification} (before : List Specification) (s : Specification) (after : List Specification) {left : Section} {t : Result Section Error} → IsSplitAtWanted wanted all before s after → rest_of (attributes_at e before left) ≡ t
+      → given all left ≡ (t >>= λ z. given (s ∷ after) z)
+  wanted_passed before s after {left = left} h k =
+      ap (λ xs. given xs left) h.0 ∙ passed_over before (s ∷ after) left h.1 ∙ ap (λ (v : Result Section Error). v >>= λ z. given (s ∷ after) z) k
 
-  -- with the next that is asked for
-  pub wanted_next : (x : X) (all before : List Specification) (s : Specification) (after : List Specification) (left t rest : Section) (a : NamedValue) → IsSplitAtWanted wanted all before s after → rest_of (attributes_at e before left) ≡ Ok t → attribute_at e s t ≡ Ok (a, rest)
-      → said x (attributes_at e all left) ≡ said (more x a) (attributes_at e after rest)
-  unfolding attributes_at
-  wanted_next x all before s after left t rest a h k n =
-      wanted_passed x all before s after left (Ok t) h k
-      ∙ ap (λ (v : Reading NamedValue). said x (v >>= λ y. before_more y.0 (attributes_at e after y.1))) n
-      ∙ front x a (attributes_at e after rest)
+  -- with the next that is asked for, or with its fault
+  pub wanted_next : {all : List Specification} (before : List Specification) (s : Specification) (after : List Specification) {left t : Section} {r : Reading NamedValue} → IsSplitAtWanted wanted all before s after → rest_of (attributes_at e before left) ≡ Ok t → attribute_at e s t ≡ r
+      → given all left ≡ (r >>= taken after)
+  wanted_next before s after {t = t} h k n = wanted_passed before s after h k ∙ p.next s after t ∙ ap (λ (v : Reading NamedValue). v >>= taken after) n
 
-  -- where it can't be read
-  pub wanted_fault : (x : X) (all before : List Specification) (s : Specification) (after : List Specification) (left t : Section) (f : Error) → IsSplitAtWanted wanted all before s after → rest_of (attributes_at e before left) ≡ Ok t → attribute_at e s t ≡ Err f
-      → said x (attributes_at e all left) ≡ Err f
-  unfolding attributes_at
-  wanted_fault x all before s after left t f h k n =
-      wanted_passed x all before s after left (Ok t) h k
-      ∙ ap (λ (v : Reading NamedValue). said x (v >>= λ y. before_more y.0 (attributes_at e after y.1))) n
+-- what attributes say, where one that isn't asked for changes nothing of it
+pub fold_passes : {X Y : Type 0} (e : Encoding) (wanted : DwAt → Bool) (more : X → NamedValue → X) (last : X → Result Y Error) → ((x : X) (a : NamedValue) → wanted a.name ≡ false → more x a ≡ x) → (x : X)
+    → PassesOver e wanted (λ xs left. attributes_at e xs left >>= λ y. last (fold more x y.0)) (λ xs a. attributes_at e xs a.1 >>= λ y. last (fold more (more x a.0) y.0)) (λ _. last x)
+unfolding attributes_at
+fold_passes e wanted more last same x = record {
+  next = λ s xs left. by_read xs (attribute_at e s left);
+  still = λ xs a h. ap (λ v. attributes_at e xs a.1 >>= λ y. last (fold more v y.0)) (same x a.0 h);
+  end = λ left. refl;
+}
+  where
+    first : (a : NamedValue) (read : Reading (List NamedValue)) → (before_more a read >>= λ y. last (fold more x y.0)) ≡ (read >>= λ y. last (fold more (more x a) y.0))
+    first a (Ok y) = refl
+    first a (Err f) = refl
+
+    by_read : (xs : List Specification) (q : Reading NamedValue) → ((q >>= λ a. before_more a.0 (attributes_at e xs a.1)) >>= λ y. last (fold more x y.0)) ≡ (q >>= λ a. attributes_at e xs a.1 >>= λ y. last (fold more (more x a.0) y.0))
+    by_read xs (Ok a) = first a.0 (attributes_at e xs a.1)
+    by_read xs (Err f) = refl
+
+-- what is left after attributes
+pub rest_passes : (e : Encoding) (wanted : DwAt → Bool) → PassesOver e wanted (λ xs left. rest_of (attributes_at e xs left)) (λ xs a. rest_of (attributes_at e xs a.1)) Ok
+unfolding attributes_at
+rest_passes e wanted = record { next = λ s xs left. by_read xs (attribute_at e s left); still = λ xs a h. refl; end = λ left. refl }
+  where
+    first : (a : NamedValue) (read : Reading (List NamedValue)) → rest_of (before_more a read) ≡ rest_of read
+    first a (Ok y) = refl
+    first a (Err f) = refl
+
+    by_read : (xs : List Specification) (q : Reading NamedValue) → rest_of (q >>= λ a. before_more a.0 (attributes_at e xs a.1)) ≡ (q >>= λ a. rest_of (attributes_at e xs a.1))
+    by_read xs (Ok a) = first a.0 (attributes_at e xs a.1)
+    by_read xs (Err f) = refl

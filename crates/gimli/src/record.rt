@@ -1,15 +1,14 @@
 //! The record of a unit: what its root entry's attributes give.
 
-ghost use Rattle.std.specs.Prelude.{◌≡◌, ◌<◌, None, IfSome, length};
-ghost use Rattle.std.specs.List.{position};
+ghost use Rattle.std.specs.Prelude.{◌≡◌};
 ghost use Rattle.gimli_read.specs.Reading.{ExactlyUnlessOomIf};
 ghost use Rattle.gimli_read.specs.Form.{seen_value};
 ghost use Rattle.gimli.specs.Entry.{attributes_at};
 ghost use Rattle.gimli.specs.Record.{address_value, section_offset, line_offset, dwo_name_attribute, with_root_attribute, no_root_values, root_values_after, root_values_of};
-ghost use Rattle.gimli.specs.WantedAttributes.{HasNoWanted, IsSplitAtWanted, is_root_name, is_root_specification};
 
 use crate::entries::EntriesRaw;
 use crate::unit::UnitHeader;
+use crate::wanted::{WantedNames, split_at_wanted};
 use gimli_read::{
     Abbreviations, Attribute, AttributeSpecification, AttributeValue, DWARF_4, DWARF_5, DwAt,
     Encoding, Error, Format, Reader,
@@ -164,57 +163,31 @@ impl<R: Reader> RootAttributes<R> {
     }
 }
 
-// Whether an attribute of a root entry may give a value of the unit's record.
-fn is_root_name(name: DwAt) -> bool
-    ensures gives { result ≡ is_root_name name }
-{
-    matches!(
-        name,
-        DwAt::DW_AT_name
-            | DwAt::DW_AT_comp_dir
-            | DwAt::DW_AT_low_pc
-            | DwAt::DW_AT_stmt_list
-            | DwAt::DW_AT_str_offsets_base
-            | DwAt::DW_AT_addr_base
-            | DwAt::DW_AT_GNU_addr_base
-            | DwAt::DW_AT_rnglists_base
-            | DwAt::DW_AT_GNU_ranges_base
-            | DwAt::DW_AT_GNU_dwo_id
-            | DwAt::DW_AT_GNU_dwo_name
-            | DwAt::DW_AT_dwo_name
-    )
-}
+// The attributes of a root entry that may give a value of the unit's record.
+struct RootWanted;
 
-// The place of the first attribute that may give a value of the unit's record.
-fn first_root_attribute(specifications: &[AttributeSpecification]) -> Option<usize>
-    ensures gives { result ≡ position is_root_specification specifications.now }
-    ensures within { IfSome result (λ k. k < length specifications.now) }
-{
-    specifications
-        .iter()
-        .position(|specification| is_root_name(specification.name()))
-}
+impl WantedNames for RootWanted {
+    ghost use Rattle.gimli.specs.WantedAttributes.{is_root_name};
 
-// The first attribute that may give a value of the unit's record, among others.
-#[derive(Clone, Copy)]
-struct AtRoot<'a> {
-    before: &'a [AttributeSpecification],
-    specification: AttributeSpecification,
-    after: &'a [AttributeSpecification],
-}
+    ghost wanted = { is_root_name };
 
-// Attributes, split at the first that may give a value of the unit's record.
-fn split_at_root(all: &[AttributeSpecification]) -> Option<AtRoot<'_>>
-    ensures split { IfSome result (λ x.
-        IsSplitAtWanted is_root_name all.now x.before.now x.specification x.after.now) }
-    ensures none { result ≡ None → HasNoWanted is_root_name all.now }
-{
-    let place = first_root_attribute(all)?;
-    Some(AtRoot {
-        before: &all[..place],
-        specification: all[place],
-        after: &all[place + 1..],
-    })
+    fn is_wanted(name: DwAt) -> bool {
+        matches!(
+            name,
+            DwAt::DW_AT_name
+                | DwAt::DW_AT_comp_dir
+                | DwAt::DW_AT_low_pc
+                | DwAt::DW_AT_stmt_list
+                | DwAt::DW_AT_str_offsets_base
+                | DwAt::DW_AT_addr_base
+                | DwAt::DW_AT_GNU_addr_base
+                | DwAt::DW_AT_rnglists_base
+                | DwAt::DW_AT_GNU_ranges_base
+                | DwAt::DW_AT_GNU_dwo_id
+                | DwAt::DW_AT_GNU_dwo_name
+                | DwAt::DW_AT_dwo_name
+        )
+    }
 }
 
 // The values of the attributes of an entry. Those that give none are passed over.
@@ -230,7 +203,7 @@ fn read_root_attributes<R: Reader>(
 {
     let mut root = RootAttributes::new();
     let mut rest = specifications;
-    while let Some(next) = split_at_root(rest) {
+    while let Some(next) = split_at_wanted::<RootWanted>(rest) {
         entries.skip_attributes(next.before)?;
         let attribute = entries.read_attribute(next.specification)?;
         root.take(encoding, attribute);

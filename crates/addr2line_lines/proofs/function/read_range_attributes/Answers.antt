@@ -1,7 +1,8 @@
 use Rattle.std.proofs.Common.{ap, refl, sym, ◌∙◌}
 use Rattle.std.proofs.lemmas.Result.{err_from_is_err_and}
-use Rattle.gimli_read.specs.Reading.{◌>>=◌}
-use Rattle.addr2line_lines.proofs.FoundRanges.{ranges_end, ranges_fault, ranges_next, ranges_passed, rest_next}
+use Rattle.gimli.proofs.WantedLemmas.{rest_passes, wanted_end, wanted_next, wanted_passed}
+use Rattle.addr2line_lines.specs.FoundRanges.{is_range_name}
+use Rattle.addr2line_lines.proofs.FoundRanges.{range_passes}
 use Rattle.addr2line_lines.proofs.RangeLemmas.{is_unless_oom, on_err, on_ok}
 use Rattle.addr2line_lines.proofs.function.read_range_attributes.Goals as goal
 
@@ -13,7 +14,7 @@ returns-in_err-skip_attributes g c =
     let u = c.args.unit.unit.now in
     let fault = rw i.same at c.in_err-skip_attributes.ensures.gives in
     record {
-      gives = rw (p.1, p.2) (λ _. sym i.gives ∙ ranges_passed d u _ _ _ _ _ _ _ _ c.in-Some.ensures.split fault);
+      gives = rw (p.1, p.2) (λ _. sym i.gives ∙ wanted_passed (range_passes d u _ _) _ _ _ c.in-Some.ensures.split fault);
       left = on_err _ _ _ p.1;
       unit = c.in_err-skip_attributes.ensures.unit ∙ i.unit;
       depth = c.in_err-skip_attributes.ensures.depth ∙ i.depth;
@@ -29,7 +30,7 @@ returns-in_err-attribute g c =
     let encoding = ap (λ v. v.encoding) c.in_ok-skip_attributes.ensures.unit ∙ i.same in
     let fault = rw encoding at c.in_err-attribute.ensures.gives in
     record {
-      gives = rw (p.1, p.2) (λ ne. sym i.gives ∙ ranges_fault d u _ _ _ _ _ _ _ _ _ c.in-Some.ensures.split skipped (fault (λ shares _. ne shares)));
+      gives = rw (p.1, p.2) (λ ne. sym i.gives ∙ wanted_next (range_passes d u _ _) _ _ _ c.in-Some.ensures.split skipped (fault (λ shares _. ne shares)));
       left = on_err _ _ _ p.1;
       unit = c.in_err-attribute.ensures.unit ∙ c.in_ok-skip_attributes.ensures.unit ∙ i.unit;
       depth = c.in_err-attribute.ensures.depth ∙ c.in_ok-skip_attributes.ensures.depth ∙ i.depth;
@@ -45,9 +46,9 @@ loop-next-preserved g c =
     let encoding = ap (λ v. v.encoding) c.in_ok-skip_attributes.ensures.unit ∙ i.same in
     let given = rw encoding at c.in_ok-attribute.ensures.gives in
     record {
-      gives = rw (c.with_attribute-ranges.ensures.gives) (sym (ranges_next d u _ _ _ _ _ _ _ _ _ _ split skipped given) ∙ i.gives);
+      gives = rw (c.with_attribute-ranges.ensures.gives) (sym (wanted_next (range_passes d u _ _) _ _ _ split skipped given) ∙ i.gives);
       same = ap (λ v. v.encoding) c.in_ok-attribute.ensures.unit ∙ encoding;
-      left = sym (rest_next _ _ _ _ _ _ _ _ _ split skipped given) ∙ i.left;
+      left = sym (wanted_next (rest_passes _ is_range_name) _ _ _ split skipped given) ∙ i.left;
       unit = c.in_ok-attribute.ensures.unit ∙ c.in_ok-skip_attributes.ensures.unit ∙ i.unit;
       depth = c.in_ok-attribute.ensures.depth ∙ c.in_ok-skip_attributes.ensures.depth ∙ i.depth;
     }
@@ -60,7 +61,7 @@ returns-in_err-skip_attributes-2 g c =
     let u = c.args.unit.unit.now in
     let fault = rw i.same at c.in_err-skip_attributes-2.ensures.gives in
     record {
-      gives = rw (p.1, p.2) (λ _. sym i.gives ∙ ranges_end d u _ _ _ _ (c.in_default.ensures.none refl) ∙ ap (λ r. r >>= λ t. c.loop-next.ranges) fault);
+      gives = rw (p.1, p.2) (λ _. sym i.gives ∙ wanted_end (range_passes d u _ _) (c.in_default.ensures.none refl) fault);
       left = on_err _ _ _ p.1;
       unit = c.in_err-skip_attributes-2.ensures.unit ∙ i.unit;
       depth = c.in_err-skip_attributes-2.ensures.depth ∙ i.depth;
@@ -73,7 +74,7 @@ returns g c =
     let u = c.args.unit.unit.now in
     let skipped = rw i.same at c.in_ok-skip_attributes-2.ensures.gives in
     record {
-      gives = is_unless_oom _ _ _ (sym i.gives ∙ ranges_end d u _ _ _ _ (c.in_default.ensures.none refl) ∙ ap (λ r. r >>= λ t. c.loop-next.ranges) skipped);
+      gives = is_unless_oom _ _ _ (sym i.gives ∙ wanted_end (range_passes d u _ _) (c.in_default.ensures.none refl) skipped);
       left = on_ok _ _ (sym i.left ∙ skipped);
       unit = c.in_ok-skip_attributes-2.ensures.unit ∙ i.unit;
       depth = c.in_ok-skip_attributes-2.ensures.depth ∙ i.depth;

@@ -1,12 +1,12 @@
 use Rattle.std.proofs.Common.{Ok, refl, sym, ap, ◌∙◌}
 use Rattle.std.proofs.lemmas.Result.{err_from_is_err_and}
-use Rattle.gimli_read.specs.Reading.{◌>>=◌}
+use Rattle.gimli.proofs.WantedLemmas.{rest_passes, wanted_end, wanted_next, wanted_passed}
 use Rattle.addr2line_lines.specs.InlinedEntries.{no_inlined_attributes, or_with_inlined_attribute, with_inlined_attribute}
-use Rattle.addr2line_lines.specs.FoundAttributes.{or_fault, seen_attributes}
+use Rattle.addr2line_lines.specs.FoundAttributes.{is_wanted, or_fault, seen_attributes}
 use Rattle.addr2line_lines.specs.SeenScope.{seen_scope}
 use Rattle.addr2line_lines.proofs.CachedNameLemmas.{names_on, names_same}
 use Rattle.addr2line_lines.proofs.DetailLemmas.{taken}
-use Rattle.addr2line_lines.proofs.WantedLemmas.{passed_fault, rest_wanted, wanted_end, wanted_fault, wanted_next}
+use Rattle.addr2line_lines.proofs.WantedLemmas.{inlined_passes}
 use Rattle.addr2line_lines.proofs.inlined.read_inlined_attributes.Goals as goal
 
 pub loop-next-init : goal.loop-next-init
@@ -27,7 +27,7 @@ returns-in_err-pass_over-clause-gives g c =
     let i = c.loop-next.invariant in
     let split = c.in-Some.ensures.split in
     let fault = rw i.same at c.in_err-pass_over.ensures.gives in
-    rw (p.1, p.2) (λ _. sym i.gives ∙ passed_fault (seen_scope c.args.scope) c.args.unit.now _ _ _ _ _ _ i.given split fault)
+    rw (p.1, p.2) (λ _. sym i.gives ∙ wanted_passed (inlined_passes (seen_scope c.args.scope) c.args.unit.now i.given) _ _ _ split fault)
 
 pub returns-in_err-attribute-clause-gives : goal.returns-in_err-attribute-clause-gives
 returns-in_err-attribute-clause-gives g c =
@@ -37,7 +37,7 @@ returns-in_err-attribute-clause-gives g c =
     let skipped = rw i.same at c.in_ok-pass_over.ensures.gives in
     let same = ap (λ v. v.encoding) c.in_ok-pass_over.ensures.unit ∙ i.same in
     let fault = rw same at c.in_err-attribute.ensures.gives in
-    rw (p.1, p.2) (λ ne. sym i.gives ∙ wanted_fault (seen_scope c.args.scope) c.args.unit.now _ _ _ _ _ _ _ i.given split skipped (fault (λ shares _. ne shares)))
+    rw (p.1, p.2) (λ ne. sym i.gives ∙ wanted_next (inlined_passes (seen_scope c.args.scope) c.args.unit.now i.given) _ _ _ split skipped (fault (λ shares _. ne shares)))
 
 pub loop-next-preserved : goal.loop-next-preserved
 loop-next-preserved g c =
@@ -52,9 +52,9 @@ loop-next-preserved g c =
     record {
       given = or_with_inlined_attribute scope u i.given a;
       is = taken g.R.Reader.shares (seen_attributes g.R.Reader.section) (λ x. with_inlined_attribute scope u x a) (or_fault c.loop-next.found c.loop-next.fault) (or_fault c.take_unless-fault.new.self c.take_unless-fault.result) i.given i.is c.take_unless-fault.ensures.gives;
-      gives = sym (wanted_next scope u _ _ _ _ _ _ _ a i.given split skipped read) ∙ i.gives;
+      gives = sym (wanted_next (inlined_passes scope u i.given) _ _ _ split skipped read) ∙ i.gives;
       same = ap (λ v. v.encoding) c.in_ok-attribute.ensures.unit ∙ same;
-      left = sym (rest_wanted u.header.encoding _ _ _ _ _ _ _ a split skipped read) ∙ i.left;
+      left = sym (wanted_next (rest_passes u.header.encoding is_wanted) _ _ _ split skipped read) ∙ i.left;
       unit = c.in_ok-attribute.ensures.unit ∙ c.in_ok-pass_over.ensures.unit ∙ i.unit;
       depth = c.in_ok-attribute.ensures.depth ∙ c.in_ok-pass_over.ensures.depth ∙ i.depth;
       names = names_on scope u _ _ _ i.names c.take_unless-fault.ensures.names;
@@ -66,7 +66,7 @@ returns-in_err-pass_over-2-clause-gives g c =
     let i = c.loop-next.invariant in
     let none = c.in_default.ensures.none refl in
     let fault = rw i.same at c.in_err-pass_over-2.ensures.gives in
-    rw (p.1, p.2) (λ _. sym i.gives ∙ wanted_end (seen_scope c.args.scope) c.args.unit.now _ _ i.given none ∙ ap (λ r. r >>= λ t. i.given) fault)
+    rw (p.1, p.2) (λ _. sym i.gives ∙ wanted_end (inlined_passes (seen_scope c.args.scope) c.args.unit.now i.given) none fault)
 
 pub returns-in-Some-fault-clause-gives : goal.returns-in-Some-fault-clause-gives
 returns-in-Some-fault-clause-gives g c =
@@ -74,7 +74,7 @@ returns-in-Some-fault-clause-gives g c =
     let none = c.in_default.ensures.none refl in
     let passed = rw i.same at c.in_ok-pass_over-2.ensures.gives in
     let is = rw c.in-Some-fault.is at i.is in
-    λ ne. sym i.gives ∙ wanted_end (seen_scope c.args.scope) c.args.unit.now _ _ i.given none ∙ ap (λ r. r >>= λ t. i.given) passed ∙ is ne
+    λ ne. sym i.gives ∙ wanted_end (inlined_passes (seen_scope c.args.scope) c.args.unit.now i.given) none passed ∙ is ne
 
 pub returns-in-None-clause-gives : goal.returns-in-None-clause-gives
 returns-in-None-clause-gives g c =
@@ -82,7 +82,7 @@ returns-in-None-clause-gives g c =
     let none = c.in_default.ensures.none refl in
     let passed = rw i.same at c.in_ok-pass_over-2.ensures.gives in
     let is = rw c.in-None.is at i.is in
-    sym i.gives ∙ wanted_end (seen_scope c.args.scope) c.args.unit.now _ _ i.given none ∙ ap (λ r. r >>= λ t. i.given) passed ∙ is
+    sym i.gives ∙ wanted_end (inlined_passes (seen_scope c.args.scope) c.args.unit.now i.given) none passed ∙ is
 
 pub returns-in_err-pass_over-clause-left : goal.returns-in_err-pass_over-clause-left
 returns-in_err-pass_over-clause-left g c = let p = err_from_is_err_and c.from_residual.result c.from_residual.ensures.1 in rw p.1 tt

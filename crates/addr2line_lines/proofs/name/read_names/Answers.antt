@@ -1,9 +1,9 @@
-use Rattle.std.proofs.Common.{Ok, ap, refl, sym, ◌∙◌}
+use Rattle.std.proofs.Common.{ap, refl, sym, ◌∙◌}
 use Rattle.std.proofs.lemmas.Result.{err_from_is_err_and}
-use Rattle.gimli_read.specs.Reading.{◌>>=◌}
+use Rattle.gimli.proofs.WantedLemmas.{wanted_end, wanted_next, wanted_passed}
 use Rattle.addr2line_lines.specs.FoundNames.{seen_name_or_origin}
 use Rattle.addr2line_lines.specs.SeenScope.{seen_scope}
-use Rattle.addr2line_lines.proofs.NameLemmas.{named_after, named_end, named_linkage, named_other, passed, passed_fault}
+use Rattle.addr2line_lines.proofs.NameLemmas.{name_passes, named_linkage, named_other}
 use Rattle.addr2line_lines.specs.Names.{named_at}
 use Rattle.addr2line_lines.proofs.name.read_names.Goals as goal
 
@@ -15,7 +15,7 @@ returns-in_err-pass_over g c =
     let u = c.args.place.unit.now in
     let split = c.in-Some.ensures.split in
     let fault = rw i.encoding at c.in_err-pass_over.ensures.gives in
-    record { gives = rw (p.1, p.2) (λ _. sym i.gives ∙ passed_fault s u _ _ _ _ _ _ _ split fault) }
+    record { gives = rw (p.1, p.2) (λ _. sym i.gives ∙ wanted_passed (name_passes s u _) _ _ _ split fault) }
 
 pub returns-in_err-attribute : goal.returns-in_err-attribute
 returns-in_err-attribute g c =
@@ -27,7 +27,7 @@ returns-in_err-attribute g c =
     let skipped = rw i.encoding at c.in_ok-pass_over.ensures.gives in
     let encoding = ap (λ v. v.encoding) c.in_ok-pass_over.ensures.unit ∙ i.encoding in
     let fault = rw encoding at c.in_err-attribute.ensures.gives in
-    record { gives = rw (p.1, p.2) (λ ne. sym i.gives ∙ passed s u _ _ _ _ _ _ _ split skipped ∙ ap (λ r. r >>= λ a. named_after s u c.in-Some.next.after.now (seen_name_or_origin g.R.Reader.section c.loop-next.found) a) (fault (λ shares _. ne shares))) }
+    record { gives = rw (p.1, p.2) (λ ne. sym i.gives ∙ wanted_next (name_passes s u _) _ _ _ split skipped (fault (λ shares _. ne shares))) }
 
 pub returns-in_err-name : goal.returns-in_err-name
 returns-in_err-name g c =
@@ -45,7 +45,7 @@ returns-in-Some-2 g c =
     let encoding = ap (λ v. v.encoding) c.in_ok-pass_over.ensures.unit ∙ i.encoding in
     let read = rw encoding at c.in_ok-attribute.ensures.gives in
     let linkage = rw c.in-Some-2.is at c.in_ok-name.ensures.gives in
-    record { gives = sym i.gives ∙ passed s u _ _ _ _ _ _ _ split skipped ∙ ap (λ r. r >>= λ a. named_after s u c.in-Some.next.after.now found a) read ∙ named_linkage s u c.in-Some.next.after.now found (seen_name_or_origin g.R.Reader.section c.take.new.self) c.in_ok-attribute.attribute c.read_attribute.new.self.cursor.left _ linkage }
+    record { gives = sym i.gives ∙ wanted_next (name_passes s u found) _ _ _ split skipped read ∙ named_linkage s u c.in-Some.next.after.now found (seen_name_or_origin g.R.Reader.section c.take.new.self) c.in_ok-attribute.attribute c.read_attribute.new.self.cursor.left _ linkage }
 
 pub loop-next-preserved : goal.loop-next-preserved
 loop-next-preserved g c =
@@ -59,7 +59,7 @@ loop-next-preserved g c =
     let read = rw encoding at c.in_ok-attribute.ensures.gives in
     let other = rw c.in_default-2.is at c.in_ok-name.ensures.gives in
     record {
-      gives = sym (sym i.gives ∙ passed s u _ _ _ _ _ _ _ split skipped ∙ ap (λ r. r >>= λ a. named_after s u c.in-Some.next.after.now found a) read ∙ named_other s u c.in-Some.next.after.now found (seen_name_or_origin g.R.Reader.section c.take.new.self) c.in_ok-attribute.attribute c.read_attribute.new.self.cursor.left other);
+      gives = sym (sym i.gives ∙ wanted_next (name_passes s u found) _ _ _ split skipped read ∙ named_other s u c.in-Some.next.after.now found (seen_name_or_origin g.R.Reader.section c.take.new.self) c.in_ok-attribute.attribute c.read_attribute.new.self.cursor.left other);
       encoding = ap (λ v. v.encoding) c.in_ok-attribute.ensures.unit ∙ encoding;
     }
 
@@ -72,7 +72,7 @@ returns-in_err-pass_over-2 g c =
     let found = seen_name_or_origin g.R.Reader.section c.loop-next.found in
     let none = c.in_default.ensures.none refl in
     let fault = rw i.encoding at c.in_err-pass_over-2.ensures.gives in
-    record { gives = rw (p.1, p.2) (λ _. sym i.gives ∙ named_end s u _ _ _ none ∙ ap (λ r. r >>= λ t. Ok found) fault) }
+    record { gives = rw (p.1, p.2) (λ _. sym i.gives ∙ wanted_end (name_passes s u found) none fault) }
 
 pub returns : goal.returns
 returns g c =
@@ -82,7 +82,7 @@ returns g c =
     let found = seen_name_or_origin g.R.Reader.section c.loop-next.found in
     let none = c.in_default.ensures.none refl in
     let skipped = rw i.encoding at c.in_ok-pass_over-2.ensures.gives in
-    record { gives = sym i.gives ∙ named_end s u _ _ _ none ∙ ap (λ r. r >>= λ t. Ok found) skipped }
+    record { gives = sym i.gives ∙ wanted_end (name_passes s u found) none skipped }
 
 pub loop-next-init : goal.loop-next-init
 loop-next-init g c =

@@ -1,9 +1,7 @@
-use Rattle.std.proofs.Common.{Ok, ap, refl, sym, ◌∙◌}
+use Rattle.std.proofs.Common.{ap, refl, sym, ◌∙◌}
 use Rattle.std.proofs.lemmas.Result.{err_from_is_err_and}
-use Rattle.gimli.specs.Record.{with_root_attribute}
-use Rattle.gimli.specs.WantedAttributes.{is_root_name}
-use Rattle.gimli.proofs.RecordLemmas.{still_root}
-use Rattle.gimli.proofs.WantedLemmas.{wanted_end, wanted_fault, wanted_next, wanted_passed}
+use Rattle.gimli.proofs.RecordLemmas.{root_passes}
+use Rattle.gimli.proofs.WantedLemmas.{wanted_end, wanted_next, wanted_passed}
 use Rattle.gimli.proofs.record.read_root_attributes.Goals as goal
 
 pub returns-in_err-skip_attributes : goal.returns-in_err-skip_attributes
@@ -12,7 +10,7 @@ returns-in_err-skip_attributes g c =
     let i = c.loop-next.invariant in
     let e = c.args.encoding in
     let fault = rw i.same at c.in_err-skip_attributes.ensures.gives in
-    record { gives = rw (p.1, p.2) (λ _. sym i.gives ∙ wanted_passed e is_root_name (with_root_attribute e) Ok (still_root e) _ _ _ _ _ _ _ c.in-Some.ensures.split fault) }
+    record { gives = rw (p.1, p.2) (λ _. sym i.gives ∙ wanted_passed (root_passes e _) _ _ _ c.in-Some.ensures.split fault) }
 
 pub returns-in_err-attribute : goal.returns-in_err-attribute
 returns-in_err-attribute g c =
@@ -22,7 +20,7 @@ returns-in_err-attribute g c =
     let skipped = rw i.same at c.in_ok-skip_attributes.ensures.gives in
     let encoding = ap (λ v. v.encoding) c.in_ok-skip_attributes.ensures.unit ∙ i.same in
     let fault = rw encoding at c.in_err-attribute.ensures.gives in
-    record { gives = rw (p.1, p.2) (λ ne. sym i.gives ∙ wanted_fault e is_root_name (with_root_attribute e) Ok (still_root e) _ _ _ _ _ _ _ _ c.in-Some.ensures.split skipped (fault (λ shares _. ne shares))) }
+    record { gives = rw (p.1, p.2) (λ ne. sym i.gives ∙ wanted_next (root_passes e _) _ _ _ c.in-Some.ensures.split skipped (fault (λ shares _. ne shares))) }
 
 pub loop-next-preserved : goal.loop-next-preserved
 loop-next-preserved g c =
@@ -32,7 +30,7 @@ loop-next-preserved g c =
     let encoding = ap (λ v. v.encoding) c.in_ok-skip_attributes.ensures.unit ∙ i.same in
     let given = rw encoding at c.in_ok-attribute.ensures.gives in
     record {
-      gives = rw (c.take.ensures.gives) (sym (wanted_next e is_root_name (with_root_attribute e) Ok (still_root e) _ _ _ _ _ _ _ _ _ c.in-Some.ensures.split skipped given) ∙ i.gives);
+      gives = rw (c.take.ensures.gives) (sym (wanted_next (root_passes e _) _ _ _ c.in-Some.ensures.split skipped given) ∙ i.gives);
       same = ap (λ v. v.encoding) c.in_ok-attribute.ensures.unit ∙ encoding;
     }
 
@@ -42,11 +40,11 @@ returns-in_err-skip_attributes-2 g c =
     let i = c.loop-next.invariant in
     let e = c.args.encoding in
     let fault = rw i.same at c.in_err-skip_attributes-2.ensures.gives in
-    record { gives = rw (p.1, p.2) (λ _. sym i.gives ∙ wanted_end e is_root_name (with_root_attribute e) Ok (still_root e) _ _ _ _ (c.in_default.ensures.none refl) fault) }
+    record { gives = rw (p.1, p.2) (λ _. sym i.gives ∙ wanted_end (root_passes e _) (c.in_default.ensures.none refl) fault) }
 
 pub returns : goal.returns
 returns g c =
     let i = c.loop-next.invariant in
     let e = c.args.encoding in
     let skipped = rw i.same at c.in_ok-skip_attributes-2.ensures.gives in
-    record { gives = sym i.gives ∙ wanted_end e is_root_name (with_root_attribute e) Ok (still_root e) _ _ _ _ (c.in_default.ensures.none refl) skipped }
+    record { gives = sym i.gives ∙ wanted_end (root_passes e _) (c.in_default.ensures.none refl) skipped }

@@ -1,0 +1,10 @@
+use Rattle.std.proofs.Common.{sym}
+use Rattle.gimli.specs.WantedAttributes.{is_wanted_specification}
+use Rattle.gimli.proofs.WantedLemmas.{none_split, split_at}
+use Rattle.gimli.proofs.wanted.split_at_wanted.Goals as goal
+
+pub returns-in_err-place-clause-none : goal.returns-in_err-place-clause-none
+returns-in_err-place-clause-none g c = λ none. none_split (is_wanted_specification g.W.WantedNames.wanted) c.args.all.now (sym c.in_err-place.ensures.gives)
+
+pub returns-clause-split : goal.returns-clause-split
+returns-clause-split g c = split_at (is_wanted_specification g.W.WantedNames.wanted) c.args.all.now c.in_ok-place.place c.index-all-place.result (sym c.in_ok-place.ensures.gives) c.index-all-place.is

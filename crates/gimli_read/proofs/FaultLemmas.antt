@@ -12,12 +12,11 @@ use Rattle.gimli_read.specs.declared.endian.Format.{Format}
 use Rattle.gimli_read.specs.declared.endian.Format.TheVariants.{Dwarf32, Dwarf64}
 use Rattle.gimli_read.specs.declared.error.Error.{Error}
 use Rattle.gimli_read.specs.declared.error.Error.TheVariants.{OutOfMemory, UnexpectedEof, BadLeb128, UnknownReservedLength, UnsupportedAddressSize, BadAbbreviation, UnknownForm}
-use Rattle.gimli_read.specs.declared.value.AttributeValue.{AttributeValue}
 use Rattle.gimli_read.specs.Section.{Section}
 use Rattle.gimli_read.specs.Version.{is_2}
 use Rattle.gimli_read.specs.Reading.{Reading, ◌>>=◌, result_map, fault_of, mapped, refused_if}
 use Rattle.gimli_read.specs.Number.{skipped_at, split_at, fixed_at, signed_byte_at, is_address_size, address_size_at, address_at, offset_at, ended_at, null_terminated_at, long_length_at, initial_length_at, fits_u64, fits_i64}
-use Rattle.gimli_read.specs.Leb128.{cut_after, leb128_text, uleb128_value, sleb128_value, uleb128_in, sleb128_in, within, uleb128_at, sleb128_at}
+use Rattle.gimli_read.specs.Leb128.{cut_after, leb128_text, uleb128_value, sleb128_value, uleb128_in, sleb128_in, uleb128_at, sleb128_at}
 use Rattle.gimli_read.specs.Run.{Run, Next, More, Stop, next_of, continued, run_within, run_of, collected, fold_run, fold_of, listed_with, listed}
 use Rattle.gimli_read.specs.FormEncoding.{FormEncoding, Fixed, Address, Offset, AddressOrOffset, Unsigned, Signed, Block1, Block2, Block4, Block, Text, Empty, form_encoding_of}
 use Rattle.gimli_read.specs.EncodedValue.{block_at, address_or_offset_at, encoded_at}

@@ -1,8 +1,8 @@
 -- Strings that are given only where they can be read, and those whose length is known (on specs/Text.antt).
-use Rattle.std.proofs.Common.{◌≡◌, ◌≢◌, ℕ, ◌+◌, ◌*◌, ◌==◌, Bool, true, false, cond, length, take, Option, Some, None, Result, Ok, Err, ltb, refl, ap, ◌∙◌, sym, arith, length-take}
+use Rattle.std.proofs.Common.{◌≡◌, ◌≢◌, ℕ, ◌==◌, Bool, true, false, cond, length, take, Option, Some, None, Result, Ok, Err, ltb, refl, ap, ◌∙◌, sym, arith, length-take}
 use Rattle.std.proofs.lemmas.List.{take_min}
 use Rattle.std.proofs.lemmas.Bool.Decides.{nat_tests}
-use Rattle.std.specs.Prelude.{is_ok, nat_lt}
+use Rattle.std.specs.Prelude.{is_ok}
 use Rattle.std.specs.Result.{result_ok}
 use Rattle.std.specs.List.{position}
 use Rattle.gimli_read.specs.declared.error.Error.{Error}

@@ -2,11 +2,9 @@
 -- fault.
 -- Own: a refused growth alone answers OutOfMemory, so only where a contract allows it beside what
 -- is given.
-use Rattle.std.specs.Prelude.{ℕ, List, Option, Result, IfOk, ℤ}
+use Rattle.std.specs.Prelude.{ℕ, List, Option, IfOk, ℤ}
 use Rattle.gimli_read.specs.declared.endian.Encoding.{Encoding}
 use Rattle.gimli_read.specs.declared.endian.Format.{Format}
-use Rattle.gimli_read.specs.declared.error.Error.{Error}
-use Rattle.gimli_read.specs.declared.range.Range.{Range}
 use Rattle.gimli_read.specs.declared.value.AttributeValue.{AttributeValue}
 use Rattle.gimli_read.specs.Abbreviations.{Abbrev}
 use Rattle.gimli_read.specs.Alike.{WasNotRefused}

@@ -28,6 +28,7 @@ use Rattle.gimli_read.specs.SizedRuns.{runs_rest, rest_after_runs}
 use Rattle.gimli_read.specs.Abbrev.{constant_at, specified, is_null, has_null, specification_at, specifications_at, tells_children, declaration_head_at, declaration_at, head_and_pair_at, front_at, abbreviation_at, extended, table_within, table_at}
 use Rattle.gimli_read.specs.Alike.{WasNotRefused}
 use Rattle.gimli_read.specs.FaultLaws.{NoneWasRefused}
+use Rattle.gimli_read.specs.Yields.{next_given}
 
 -- a value, or a fault that the bytes cause
 pub record IsByBytes {A : Type 0} (r : Result A Error) : Type 0 where
@@ -92,6 +93,12 @@ none_refused (r ∷ rs) h = (not_refused h.0, none_refused rs h.1)
 pub are_joined : {A : Type 0} (rs ss : List (Result A Error)) → AreByBytes rs → AreByBytes ss → AreByBytes (rs ++ ss)
 are_joined [] ss h k = k
 are_joined (r ∷ rs) ss h k = (h.0, are_joined rs ss h.1 k)
+
+-- the first of them, or the fault in its place
+pub next_given_is : {X : Type 0} (rs : List (Result X Error)) → AreByBytes rs → IsByBytes (next_given rs)
+next_given_is [] h = value
+next_given_is (Ok x ∷ rs) h = value
+next_given_is (Err e ∷ rs) h = moved_fault h.0
 
 -- ---- numbers
 pub skipped_is : (n : ℕ) (s : Section) → IsByBytes (skipped_at n s)

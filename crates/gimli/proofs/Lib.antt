@@ -1,3 +1,4 @@
+pub mod FaultLemmas
 pub mod ArangeLemmas
 pub mod UpToEnd
 pub mod AskedLemmas

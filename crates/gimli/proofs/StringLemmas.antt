@@ -1,82 +1,25 @@
--- No reading of a string gives OutOfMemory (on specs/Text.antt).
-use Rattle.std.proofs.Common.{◌≡◌, ◌≢◌, ℕ, ◌+◌, ◌*◌, ◌==◌, Bool, true, false, cond, length, take, Option, Some, None, Result, Ok, Err, ltb, refl, ap, ◌∙◌, sym, arith, length-take}
+-- Strings that are given only where they can be read, and those whose length is known (on specs/Text.antt).
+use Rattle.std.proofs.Common.{◌≡◌, ◌≢◌, ℕ, ◌==◌, Bool, true, false, cond, length, take, Option, Some, None, Result, Ok, Err, ltb, refl, ap, ◌∙◌, sym, arith, length-take}
 use Rattle.std.proofs.lemmas.List.{take_min}
 use Rattle.std.proofs.lemmas.Bool.Decides.{nat_tests}
-use Rattle.std.specs.Prelude.{is_ok, nat_lt}
+use Rattle.std.specs.Prelude.{is_ok}
 use Rattle.std.specs.Result.{result_ok}
 use Rattle.std.specs.List.{position}
 use Rattle.gimli_read.specs.declared.error.Error.{Error}
-use Rattle.gimli_read.specs.declared.error.Error.TheVariants.{OutOfMemory, UnexpectedEof, OffsetOutOfBounds}
+use Rattle.gimli_read.specs.declared.error.Error.TheVariants.{OutOfMemory, UnexpectedEof}
 use Rattle.gimli_read.specs.declared.endian.Format.{Format}
 use Rattle.gimli_read.specs.declared.value.AttributeValue.{AttributeValue}
 use Rattle.gimli_read.specs.declared.value.AttributeValue.TheVariants as values
 use Rattle.gimli_read.specs.Section.{Section, first, after}
 use Rattle.gimli_read.specs.Reading.{Reading, ◌>>=◌}
-use Rattle.gimli_read.specs.Number.{ended_at, is_address_size, fixed_at, split_at, address_at, null_terminated_at}
-use Rattle.gimli_read.specs.Number.{offset_size}
+use Rattle.gimli_read.specs.Number.{ended_at, split_at, null_terminated_at}
+use Rattle.gimli_read.proofs.FaultLemmas.{IsByBytes}
 use Rattle.gimli_read.proofs.Steps.{done}
-use Rattle.gimli.specs.Sections.{Sections, SupSections}
-use Rattle.gimli.specs.Text.{from_offset, string_at, string_length_at, indexed_number, indexed_string, sup_string_at, string_of, string_takes_memory}
+use Rattle.gimli.specs.Sections.{Sections}
+use Rattle.gimli.specs.Text.{from_offset, string_at, string_length_at, string_of, string_takes_memory}
 use Rattle.gimli.specs.Unit.{readable_string}
 use Rattle.gimli.specs.UnitMemory.{gives_some}
-
--- a reading that never gives OutOfMemory
-record NeverOom {A : Type 0} (r : Result A Error) : Type 0 where
-  by : r ≡ Err OutOfMemory → ⊥
-
-never_bind : {A B : Type 0} {r : Result A Error} {f : A → Result B Error} → NeverOom r → ((x : A) → NeverOom (f x)) → NeverOom (r >>= f)
-never_bind {r = Ok x} h k = k x
-never_bind {A} {r = Err e} h k = record { by = λ p. h.by (let q : ◌≡◌ {A = Result A Error} (Err e) (Err OutOfMemory) = cc in q) }
-
-never_if : {A : Type 0} (b : Bool) {r q : Result A Error} → NeverOom r → NeverOom q → NeverOom (cond b r q)
-never_if true h k = h
-never_if false h k = k
-
-never_ok : {A : Type 0} {x : A} → NeverOom (Ok x)
-never_ok = record { by = λ p. absurd cc }
-
-never_eof : {A : Type 0} → NeverOom {A = A} (Err UnexpectedEof)
-never_eof = record { by = λ p. absurd cc }
-
-never_outside : {A : Type 0} → NeverOom {A = A} (Err OffsetOutOfBounds)
-never_outside = record { by = λ p. absurd cc }
-
-fixed_never : (n : ℕ) (s : Section) → NeverOom (fixed_at n s)
-fixed_never n s = never_if (nat_lt (length s.bytes) n) never_eof never_ok
-
-address_never : (size : ℕ) (s : Section) → NeverOom (address_at size s)
-address_never size s = never_if (is_address_size size) (fixed_never size s) (record { by = λ p. absurd cc })
-
-ended_never : (s : Section) (o : Option ℕ) → NeverOom (ended_at s o)
-ended_never s None = never_eof
-ended_never s (Some n) = never_ok
-
-string_at_never : (offset : ℕ) (s : Section) → NeverOom (string_at offset s)
-unfolding string_at
-string_at_never offset s =
-    never_bind (never_if (nat_lt (length s.bytes) offset) never_outside never_ok) (λ rest.
-    never_bind (ended_never rest (position (λ b. b == 0) rest.bytes)) (λ string. never_ok))
-
-number_never : (size base index : ℕ) (s : Section) → NeverOom (indexed_number size base index s)
-unfolding indexed_number
-number_never size base index s =
-    never_if (nat_lt (length s.bytes) (base + index * size + size)) never_outside (never_bind (address_never size _) (λ n. never_ok))
-
-indexed_never : (d : Sections) (format : Format) (base index : ℕ) → NeverOom (indexed_string d format base index)
-indexed_never d format base index = never_bind (number_never (offset_size format) base index d.debug_str_offsets) (λ offset. string_at_never offset d.debug_str)
-
-sup_string_never : (offset : ℕ) (sup : Option SupSections) → NeverOom (sup_string_at offset sup)
-sup_string_never offset None = record { by = λ p. absurd cc }
-sup_string_never offset (Some sup) = string_at_never offset sup.debug_str
-
-string_never : (d : Sections) (format : Format) (base : ℕ) (v : AttributeValue Section) → NeverOom (string_of d format base v)
-unfolding string_of
-string_never d format base (values.String s) = never_ok
-string_never d format base (values.DebugStrRef offset) = string_at_never offset d.debug_str
-string_never d format base (values.DebugLineStrRef offset) = string_at_never offset d.debug_line_str
-string_never d format base (values.DebugStrRefSup offset) = sup_string_never offset d.sup
-string_never d format base (values.DebugStrOffsetsIndex index) = indexed_never d format base index
-string_never d format base _ = record { by = λ p. absurd cc }
+use Rattle.gimli.proofs.FaultLemmas.{string_of_is}
 
 -- a string takes memory only where bytes are shared
 shared_if : {shares : Bool} (v : AttributeValue Section) → string_takes_memory shares v ≡ true → shares ≡ true
@@ -87,9 +30,9 @@ shared_if _ h = h
 pub string_refused : (d : Sections) (format : Format) (base : ℕ) (v : AttributeValue Section) (shares : Bool)
     → ((string_takes_memory shares v ≡ true → is_ok (string_of d format base v) ≡ true → OutOfMemory ≢ OutOfMemory) → string_of d format base v ≡ Err OutOfMemory)
     → (shares ≡ true → gives_some (Ok (readable_string d format base (Some v))) ≡ true → OutOfMemory ≢ OutOfMemory) → ⊥
-string_refused d format base v shares h m = at (string_of d format base v) (string_never d format base v) (λ k. h (λ t. k (shared_if v t))) m
+string_refused d format base v shares h m = at (string_of d format base v) (string_of_is d format base v) (λ k. h (λ t. k (shared_if v t))) m
   where
-    at : (r : Result Section Error) → NeverOom r → ((shares ≡ true → is_ok r ≡ true → OutOfMemory ≢ OutOfMemory) → r ≡ Err OutOfMemory) → (shares ≡ true → gives_some (Ok (result_ok r)) ≡ true → OutOfMemory ≢ OutOfMemory) → ⊥
+    at : (r : Result Section Error) → IsByBytes r → ((shares ≡ true → is_ok r ≡ true → OutOfMemory ≢ OutOfMemory) → r ≡ Err OutOfMemory) → (shares ≡ true → gives_some (Ok (result_ok r)) ≡ true → OutOfMemory ≢ OutOfMemory) → ⊥
     at (Ok x) n h m = n.by (h (λ s _. m s refl))
     at (Err e) n h m = n.by (h (λ s ok. absurd cc))
 

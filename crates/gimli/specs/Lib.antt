@@ -22,3 +22,4 @@ pub mod Items
 pub mod EntryCursor
 pub mod ItemLaws
 pub mod HeaderOrder
+pub mod FaultLaws

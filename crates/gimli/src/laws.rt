@@ -2,6 +2,7 @@
 
 ghost use Rattle.gimli.specs.ItemLaws.{UnitsCover, EntriesFollowHeaders, ItemsCover, ItemsAlone, SubtreesLieDeeper, SubtreesClose};
 ghost use Rattle.gimli.specs.HeaderOrder.{HeadersInOrder};
+ghost use Rattle.gimli.specs.FaultLaws.{UnitsAreNotRefused, EntriesAreNotRefused, StringsAreNotRefused, RangesAreNotRefused};
 
 /// A section that is read to its end is the texts of its units, one after another, and in the text
 /// of a unit its entries follow its header.
@@ -25,4 +26,14 @@ pub fn item_laws()
     ensures alone { ItemsAlone }
     ensures deeper { SubtreesLieDeeper }
     ensures close { SubtreesClose }
+{}
+
+/// Nothing that sections give is `OutOfMemory`, whatever their bytes are: headers, units, entries
+/// and their items, strings, addresses and ranges are values or other faults. So an answer
+/// `OutOfMemory` of a call is never what the sections give.
+pub fn fault_laws()
+    ensures units { UnitsAreNotRefused }
+    ensures entries { EntriesAreNotRefused }
+    ensures strings { StringsAreNotRefused }
+    ensures ranges { RangesAreNotRefused }
 {}

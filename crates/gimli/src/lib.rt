@@ -25,7 +25,7 @@ pub use crate::abbreviations_cache::AbbreviationsCache;
 pub use crate::aranges::{ArangeEntryIter, ArangeHeader, ArangeHeaderIter};
 pub use crate::dwarf::{Dwarf, DwarfFileType, SupDwarf};
 pub use crate::entries::EntriesRaw;
-pub use crate::laws::{headers_in_order, item_laws, unit_laws};
+pub use crate::laws::{fault_laws, headers_in_order, item_laws, unit_laws};
 pub use crate::load::SectionId;
 pub use crate::ranges::RngListIter;
 pub use crate::sections::{

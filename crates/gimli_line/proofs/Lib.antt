@@ -5,6 +5,7 @@ pub mod Shortening
 pub mod Stepping
 pub mod ClosedForm
 pub mod RowsLeft
+pub mod FaultLemmas
 pub mod TableLemmas
 pub mod ProgramLemmas
 pub mod AheadLemmas

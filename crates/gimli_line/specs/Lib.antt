@@ -13,3 +13,4 @@ pub mod Rises
 pub mod Steps
 pub mod Left
 pub mod Taking
+pub mod FaultLaws

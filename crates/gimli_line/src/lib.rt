@@ -23,7 +23,7 @@ mod tables;
 
 pub use crate::address_size::greatest_address;
 pub use crate::header::{FileEntry, LineProgramHeader};
-pub use crate::laws::rows_laws;
+pub use crate::laws::{fault_laws, rows_laws};
 pub use crate::program::{IncompleteLineProgram, LineRows};
 pub use crate::read::read_line_program;
 pub use crate::row::LineRow;

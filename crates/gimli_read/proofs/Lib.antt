@@ -5,6 +5,7 @@ pub mod Leb128Texts
 pub mod ShortLeb128
 pub mod Shorter
 pub mod RunLemmas
+pub mod FaultLemmas
 pub mod TopmostLemmas
 pub mod FormLemmas
 pub mod FixedTexts

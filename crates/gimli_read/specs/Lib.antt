@@ -21,3 +21,4 @@ pub mod Alike
 pub mod Abbreviations
 pub mod AbbreviationPlaces
 pub mod Abbrev
+pub mod FaultLaws

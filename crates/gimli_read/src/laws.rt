@@ -3,6 +3,7 @@
 ghost use Rattle.std.specs.Prelude.{◌≡◌, true, false};
 ghost use Rattle.gimli_read.specs.Leb128.{ReadsUleb128, ReadsUleb128Alone, ReadsSleb128, ReadsSleb128Alone};
 ghost use Rattle.gimli_read.specs.Alike.{AnswerAlike, AnswerAlikeUnlessOom};
+ghost use Rattle.gimli_read.specs.FaultLaws.{NumbersAreNotRefused, ValuesAreNotRefused, AttributesAreNotRefused, TablesAreNotRefused};
 ghost use Rattle.gimli_read.specs.ValueSize.{LeavesItsSize};
 ghost use Rattle.gimli_read.specs.ValueLaws.{ReadsFixed, ReadsFixedAlone, ReadsValue, ReadsValueAlone, ReadsAttribute, ReadsAttributeAlone};
 
@@ -50,4 +51,13 @@ pub fn alike_laws<X, Y, Z>()
 pub fn sharing_laws()
     ensures slice { ⟦<EndianSlice<'static> as Reader>⟧.shares ≡ false }
     ensures bytes { ⟦<EndianBytes as Reader>⟧.shares ≡ true }
+{}
+
+/// No reading gives `OutOfMemory`: whatever the bytes are, it gives a value or another fault. So an
+/// answer `OutOfMemory` of a call is never what its bytes give.
+pub fn fault_laws()
+    ensures numbers { NumbersAreNotRefused }
+    ensures values { ValuesAreNotRefused }
+    ensures attributes { AttributesAreNotRefused }
+    ensures tables { TablesAreNotRefused }
 {}

@@ -21,7 +21,7 @@ pub use crate::endian::{Encoding, Format, RunTimeEndian};
 pub use crate::endian_bytes::EndianBytes;
 pub use crate::endian_slice::EndianSlice;
 pub use crate::error::Error;
-pub use crate::laws::{alike_laws, leb128_laws, sharing_laws, size_laws, value_laws};
+pub use crate::laws::{alike_laws, fault_laws, leb128_laws, sharing_laws, size_laws, value_laws};
 pub use crate::range::Range;
 pub use crate::reader::{Reader, read_address_size, read_initial_length, zero_of};
 pub use crate::size::is_address_size;

@@ -10,6 +10,7 @@ use Rattle.gimli.specs.Sections.{Sections}
 use Rattle.gimli.specs.Entry.{attributes_at, entry_code_at, root_attributes, root_specifications}
 use Rattle.gimli.specs.EntryCursor.{EntriesLeft, EntryCursor, depth_after_code, entries_at, entries_from, entry_abbreviation_at}
 use Rattle.gimli.specs.Unit.{UnitRecord}
+use Rattle.gimli.proofs.WantedLemmas.{PassesOver, fold_passes}
 use Rattle.addr2line_lines.specs.declared.function.RangeAttributes.{RangeAttributes}
 use Rattle.addr2line_lines.specs.RangeAttributes.{with_range_attribute}
 use Rattle.addr2line_units.specs.declared.attributes.UnitAttributes.{UnitAttributes}
@@ -42,9 +43,14 @@ module _ (d : Sections) (u : UnitRecord) where
       ap (λ (x : Result RangeAttributes Error). x >>= λ ranges. Ok (record { ranges = ranges; language = language_after r.language a })) (same_ranges r.ranges a p.0)
       ∙ ap (λ b. Ok (record { ranges = r.ranges; language = cond b (option_or (language_of a.value) r.language) r.language })) p.1
 
-  pub still_unit : (r : Result UnitAttributes Error) (a : NamedValue) → is_unit_name a.name ≡ false → or_with_unit_attribute d u r a ≡ r
+  still_unit : (r : Result UnitAttributes Error) (a : NamedValue) → is_unit_name a.name ≡ false → or_with_unit_attribute d u r a ≡ r
   still_unit (Ok r) a h = same_attributes r a h
   still_unit (Err f) a h = refl
+
+  -- so others are passed over
+  pub unit_passes : (r : Result UnitAttributes Error)
+      → PassesOver u.header.encoding is_unit_name (λ xs left. unit_attributes_after d u r (attributes_at u.header.encoding xs left)) (λ xs a. unit_attributes_after d u (or_with_unit_attribute d u r a.0) (attributes_at u.header.encoding xs a.1)) (λ _. r)
+  unit_passes r = fold_passes u.header.encoding is_unit_name (or_with_unit_attribute d u) (λ x. x) still_unit r
 
 -- what a root entry says, by the place where it begins
 module _ (d : Sections) (u : UnitRecord) where

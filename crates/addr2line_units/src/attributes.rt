@@ -1,16 +1,13 @@
 //! What the root entry of a unit says for lookups.
 
-ghost use Rattle.std.specs.Prelude.{◌≡◌, ◌<◌, None, Ok, IfSome, length};
-ghost use Rattle.std.specs.List.{position};
+ghost use Rattle.std.specs.Prelude.{◌≡◌, Ok};
 ghost use Rattle.gimli_read.specs.Reading.{Exactly, ExactlyUnlessOomIf};
 ghost use Rattle.gimli.specs.Entry.{attributes_at};
-ghost use Rattle.gimli.specs.WantedAttributes.{HasNoWanted, IsSplitAtWanted};
 ghost use Rattle.addr2line_units.specs.UnitAttributes.{language_after, language_of_number, no_unit_attributes, or_with_unit_attribute, unit_attributes, unit_attributes_after, with_unit_attribute};
-ghost use Rattle.addr2line_units.specs.WantedAttributes.{is_unit_name, is_unit_specification};
 
 use addr2line_lines::RangeAttributes;
 use gimli::read::{Attribute, AttributeSpecification, DwAt, DwLang, Error, Reader};
-use gimli::{EntriesRaw, UnitRef};
+use gimli::{EntriesRaw, UnitRef, WantedNames, split_at_wanted};
 
 /// What the attributes of a root entry say, the last of each counting.
 #[derive(Clone, Copy)]
@@ -86,46 +83,20 @@ fn with_attribute<R: Reader>(
     }
 }
 
-// Whether an attribute says of its unit's addresses or language.
-fn is_unit_name(name: DwAt) -> bool
-    ensures gives { result ≡ is_unit_name name }
-{
-    matches!(
-        name,
-        DwAt::DW_AT_low_pc | DwAt::DW_AT_high_pc | DwAt::DW_AT_ranges | DwAt::DW_AT_language
-    )
-}
+// The attributes that say of their unit's addresses or language.
+struct UnitWanted;
 
-// The place of the first attribute that says of its unit's addresses or language.
-fn first_unit_attribute(specifications: &[AttributeSpecification]) -> Option<usize>
-    ensures gives { result ≡ position is_unit_specification specifications.now }
-    ensures within { IfSome result (λ k. k < length specifications.now) }
-{
-    specifications
-        .iter()
-        .position(|specification| is_unit_name(specification.name()))
-}
+impl WantedNames for UnitWanted {
+    ghost use Rattle.addr2line_units.specs.WantedAttributes.{is_unit_name};
 
-// The first attribute that says of its unit's addresses or language, among others.
-#[derive(Clone, Copy)]
-struct AtUnit<'a> {
-    before: &'a [AttributeSpecification],
-    specification: AttributeSpecification,
-    after: &'a [AttributeSpecification],
-}
+    ghost wanted = { is_unit_name };
 
-// Attributes, split at the first that says of its unit's addresses or language.
-fn split_at_unit(all: &[AttributeSpecification]) -> Option<AtUnit<'_>>
-    ensures split { IfSome result (λ x.
-        IsSplitAtWanted is_unit_name all.now x.before.now x.specification x.after.now) }
-    ensures none { result ≡ None → HasNoWanted is_unit_name all.now }
-{
-    let place = first_unit_attribute(all)?;
-    Some(AtUnit {
-        before: &all[..place],
-        specification: all[place],
-        after: &all[place + 1..],
-    })
+    fn is_wanted(name: DwAt) -> bool {
+        matches!(
+            name,
+            DwAt::DW_AT_low_pc | DwAt::DW_AT_high_pc | DwAt::DW_AT_ranges | DwAt::DW_AT_language
+        )
+    }
 }
 
 // What the attributes of specifications say; others are passed over. A value that can't be read is
@@ -143,7 +114,7 @@ fn read_attributes<R: Reader>(
 {
     let mut attributes = Ok(UnitAttributes::new());
     let mut rest = specifications;
-    while let Some(next) = split_at_unit(rest) {
+    while let Some(next) = split_at_wanted::<UnitWanted>(rest) {
         entries.skip_attributes(next.before)?;
         let attribute = entries.read_attribute(next.specification)?;
         attributes = with_attribute(unit, attributes, attribute);

@@ -1,10 +1,8 @@
 use Rattle.std.proofs.Common.{ap, refl, sym, ◌∙◌}
 use Rattle.std.proofs.lemmas.Result.{err_from_is_err_and}
-use Rattle.gimli.proofs.WantedLemmas.{wanted_end, wanted_fault, wanted_next, wanted_passed}
+use Rattle.gimli.proofs.WantedLemmas.{wanted_end, wanted_next, wanted_passed}
 use Rattle.addr2line_lines.proofs.RangeLemmas.{is_unless_oom}
-use Rattle.addr2line_units.specs.UnitAttributes.{or_with_unit_attribute}
-use Rattle.addr2line_units.specs.WantedAttributes.{is_unit_name}
-use Rattle.addr2line_units.proofs.AttributeLemmas.{still_unit}
+use Rattle.addr2line_units.proofs.AttributeLemmas.{unit_passes}
 use Rattle.addr2line_units.proofs.attributes.read_attributes.Goals as goal
 
 pub returns-in_err-skip_attributes : goal.returns-in_err-skip_attributes
@@ -14,7 +12,7 @@ returns-in_err-skip_attributes g c =
     let d = c.args.unit.dwarf.now in
     let u = c.args.unit.unit.now in
     let fault = rw i.same at c.in_err-skip_attributes.ensures.gives in
-    record { gives = rw (p.1, p.2) (λ _. sym i.gives ∙ wanted_passed u.header.encoding is_unit_name (or_with_unit_attribute d u) (λ r. r) (still_unit d u) _ _ _ _ _ _ _ c.in-Some.ensures.split fault) }
+    record { gives = rw (p.1, p.2) (λ _. sym i.gives ∙ wanted_passed (unit_passes d u _) _ _ _ c.in-Some.ensures.split fault) }
 
 pub returns-in_err-attribute : goal.returns-in_err-attribute
 returns-in_err-attribute g c =
@@ -25,7 +23,7 @@ returns-in_err-attribute g c =
     let skipped = rw i.same at c.in_ok-skip_attributes.ensures.gives in
     let encoding = ap (λ v. v.encoding) c.in_ok-skip_attributes.ensures.unit ∙ i.same in
     let fault = rw encoding at c.in_err-attribute.ensures.gives in
-    record { gives = rw (p.1, p.2) (λ ne. sym i.gives ∙ wanted_fault u.header.encoding is_unit_name (or_with_unit_attribute d u) (λ r. r) (still_unit d u) _ _ _ _ _ _ _ _ c.in-Some.ensures.split skipped (fault (λ shares _. ne shares))) }
+    record { gives = rw (p.1, p.2) (λ ne. sym i.gives ∙ wanted_next (unit_passes d u _) _ _ _ c.in-Some.ensures.split skipped (fault (λ shares _. ne shares))) }
 
 pub loop-next-preserved : goal.loop-next-preserved
 loop-next-preserved g c =
@@ -36,7 +34,7 @@ loop-next-preserved g c =
     let encoding = ap (λ v. v.encoding) c.in_ok-skip_attributes.ensures.unit ∙ i.same in
     let given = rw encoding at c.in_ok-attribute.ensures.gives in
     record {
-      gives = rw (c.with_attribute-attributes.ensures.gives) (sym (wanted_next u.header.encoding is_unit_name (or_with_unit_attribute d u) (λ r. r) (still_unit d u) _ _ _ _ _ _ _ _ _ c.in-Some.ensures.split skipped given) ∙ i.gives);
+      gives = rw (c.with_attribute-attributes.ensures.gives) (sym (wanted_next (unit_passes d u _) _ _ _ c.in-Some.ensures.split skipped given) ∙ i.gives);
       same = ap (λ v. v.encoding) c.in_ok-attribute.ensures.unit ∙ encoding;
     }
 
@@ -47,7 +45,7 @@ returns-in_err-skip_attributes-2 g c =
     let d = c.args.unit.dwarf.now in
     let u = c.args.unit.unit.now in
     let fault = rw i.same at c.in_err-skip_attributes-2.ensures.gives in
-    record { gives = rw (p.1, p.2) (λ _. sym i.gives ∙ wanted_end u.header.encoding is_unit_name (or_with_unit_attribute d u) (λ r. r) (still_unit d u) _ _ _ _ (c.in_default.ensures.none refl) fault) }
+    record { gives = rw (p.1, p.2) (λ _. sym i.gives ∙ wanted_end (unit_passes d u _) (c.in_default.ensures.none refl) fault) }
 
 pub returns : goal.returns
 returns g c =
@@ -55,4 +53,4 @@ returns g c =
     let d = c.args.unit.dwarf.now in
     let u = c.args.unit.unit.now in
     let skipped = rw i.same at c.in_ok-skip_attributes-2.ensures.gives in
-    record { gives = is_unless_oom _ _ _ (sym i.gives ∙ wanted_end u.header.encoding is_unit_name (or_with_unit_attribute d u) (λ r. r) (still_unit d u) _ _ _ _ (c.in_default.ensures.none refl) skipped) }
+    record { gives = is_unless_oom _ _ _ (sym i.gives ∙ wanted_end (unit_passes d u _) (c.in_default.ensures.none refl) skipped) }

@@ -11,6 +11,7 @@ use Rattle.gimli_line.specs.Lines.{lines_of}
 use Rattle.gimli.specs.Sections.{Sections}
 use Rattle.gimli.specs.Unit.{UnitRecord}
 use Rattle.addr2line_lines.specs.FileTexts.{file_texts}
+use Rattle.addr2line_lines.specs.FunctionDetails.{details_take_memory}
 use Rattle.addr2line_lines.specs.Functions.{functions_take_memory}
 use Rattle.addr2line_lines.specs.Location.{LineTable, line_table_of}
 use Rattle.addr2line_lines.specs.References.{Scope}
@@ -19,9 +20,9 @@ use Rattle.addr2line_lines.specs.UnitLines.{IsFaultAtOnce, lines_in, program_lin
 use Rattle.addr2line_units.specs.declared.functions.LazyFunctions.{LazyFunctions}
 use Rattle.addr2line_units.specs.declared.functions.LazyFunctions.TheVariants as lazy
 use Rattle.addr2line_units.specs.AskMemory.{any_program_takes_memory, is_fault_at_once, lines_take_memory}
-use Rattle.addr2line_units.specs.CachedFunctions.{AreFunctionsOf, find_takes_memory, table_takes_memory}
+use Rattle.addr2line_units.specs.CachedFunctions.{AreFunctionsOf, find_takes_memory, reading_takes_memory, table_takes_memory}
 use Rattle.addr2line_units.specs.CachedLines.{lines_result}
-use Rattle.addr2line_units.proofs.FunctionMemoryLemmas.{place_takes}
+use Rattle.addr2line_units.proofs.FunctionMemoryLemmas.{details_take, place_takes}
 use Rattle.addr2line_units.proofs.ProgramFaultLemmas.{at_once_not_oom}
 
 -- where no memory may be taken, a refusal is what is given
@@ -76,6 +77,17 @@ find_takes_none shares scope view probe (lazy.Read t) right none = by_test (tabl
     by_test true e = let no : false ≡ true = sym none ∙ place_takes shares scope view t right probe e in absurd cc
     by_test false e = e
 find_takes_none shares scope view probe (lazy.Faulty e) right none = refl
+
+-- nor to read all their details
+pub reading_takes_none : {R : Type 0} (shares : Bool) (scope : Scope) (view : UnitRecord) (f : LazyFunctions R) → AreFunctionsOf scope view f → functions_take_memory shares scope.file.sections view ≡ false
+    → reading_takes_memory shares scope view f ≡ false
+reading_takes_none shares scope view lazy.Unread right none = none
+reading_takes_none shares scope view (lazy.Read t) right none = by_test (details_take_memory shares scope view t.functions) refl
+  where
+    by_test : (b : Bool) → details_take_memory shares scope view t.functions ≡ b → details_take_memory shares scope view t.functions ≡ false
+    by_test true e = let no : false ≡ true = sym none ∙ details_take shares scope view t right e in absurd cc
+    by_test false e = e
+reading_takes_none shares scope view (lazy.Faulty e) right none = refl
 
 -- where lines are parsed, or take no memory, a refusal is what is given
 pub alone_if_none : {X : Type 0} (parsed takes : Bool) (e : Error) (given : Result X Error) → (parsed || not takes) ≡ true → (parsed ≡ true → e ≢ OutOfMemory) → (e ≢ OutOfMemory → given ≡ Err e) → (takes ≡ false → given ≡ Err e) → given ≡ Err e

@@ -20,7 +20,7 @@ use Rattle.addr2line_units.specs.RangedUnits.{IndexedUnit, RangedUnit, has_lines
 use Rattle.addr2line_units.specs.UnitIndex.{UnitIndex, index_units, sup_units}
 use Rattle.addr2line_units.specs.UnitsState.{UnitsState, first_state, new_units}
 use Rattle.addr2line_units.proofs.NewUnitsLemmas.{ok_is}
-use Rattle.addr2line_units.proofs.UnitsLemmas.{ready_both, ready_first}
+use Rattle.addr2line_units.proofs.UnitsLemmas.{parsed_none_along, ready_both, ready_first}
 use Rattle.addr2line.specs.Context.{AfterLookup, AfterRangeLookup, ContextState, IsContext, IsReady, IsUncovered, IsReadyForRange, LocatesNoMemory, Stays, lines_of_all, new_context, seen_context}
 
 -- an answer that isn't OutOfMemory is exactly what is given
@@ -205,21 +205,16 @@ module _ (ranges : List UnitRange) (u : UnitsState) (i : IsContext ranges u) whe
       of_result (Err e) h = absurd (let f : ◌≡◌ {A = LocationResult} (Ok None) (Err e) = sym (ap (along d u.units probe) none) ∙ h in cc)
 
   -- after a lookup of a range
-  pub after_range_lookup : {X Y : Type 0} (low high : ℕ) (r : Result Y Error) (now : UnitsState) → left.AfterCaching (cover_range low high ranges) r u now → (result : Result X Error) → (WasNotRefused result → OnOk r (AreParsed now.parsed (cover_range low high ranges)) → AreParsed now.parsed (cover_range low high ranges))
+  pub after_range_lookup : {X Y : Type 0} (shares : Bool) (low high : ℕ) (r : Result Y Error) (now : UnitsState) → left.AfterCaching shares (cover_range low high ranges) r u now → (result : Result X Error) → (WasNotRefused result → OnOk r (AreParsed now.parsed (cover_range low high ranges)) → AreParsed now.parsed (cover_range low high ranges))
       → (WasNotRefused r → WasNotRefused result) → AfterRangeLookup low high result (seen_context u) (seen_context now)
-  after_range_lookup low high r now a result f h = record {
+  after_range_lookup shares low high r now a result f h = record {
     stays = lines_stay (LeadTo (cover_range low high ranges)) now a.lines;
     ready = λ told. of_lines (LeadTo (cover_range low high ranges)) now a.lines (λ s xs rs. AreParsed now.parsed (cover_range low high rs)) (f told a.parsed);
-    memory = λ ready. h (a.memory (at_lines (LeadTo (cover_range low high ranges)) now a.lines (λ s xs rs. AreParsed now.parsed (cover_range low high rs)) ready));
+    memory = λ ready. h (a.memory (parsed_none_along shares u.units now.parsed (cover_range low high ranges) (at_lines (LeadTo (cover_range low high ranges)) now a.lines (λ s xs rs. AreParsed now.parsed (cover_range low high rs)) ready)));
     only = of_made (λ s xs rs. ParsesOnly (LeadTo (cover_range low high rs)) u.parsed now.parsed) a.lines.only;
     same = λ ready. same_if_asked (LeadTo (cover_range low high ranges)) u now a.lines (led_ready u.parsed (cover_range low high ranges) (at_made (λ s xs rs. AreParsed u.parsed (cover_range low high rs)) ready));
     looks = a.looks;
   }
-
--- lines that were parsed along ranges still are
-pub parsed_more : (p q : List Bool) → StaysParsed p q → (rs : List UnitRange) → AreParsed p rs → AreParsed q rs
-parsed_more p q stay [] h = tt
-parsed_more p q stay (r ∷ rs) h = (stay r.unit h.0, parsed_more p q stay rs h.1)
 
 -- whether lines can be read, of each unit and along ranges
 module _ (d : Sections) where

@@ -1,7 +1,7 @@
 -- Answers to loads outside a lookup, in a context (on specs/Loads.antt).
-use Rattle.std.proofs.Common.{◌≡◌, ◌⊎◌, inl, inr, ℕ, false, true, List, [], length, slice_get, Option, Result, Ok, Err, sym, ap, subst, ◌∙◌}
+use Rattle.std.proofs.Common.{◌≡◌, ◌⊎◌, inl, inr, ℕ, Bool, false, true, List, [], length, slice_get, Option, Result, Ok, Err, sym, ap, subst, ◌∙◌}
 use Rattle.std.proofs.lemmas.List.{length-map}
-use Rattle.std.specs.Prelude.{IfOk, IsOk, IsOkAnd, OnOk}
+use Rattle.std.specs.Prelude.{IfErr, IfOk, IsOk, IsOkAnd, OnOk}
 use Rattle.gimli_read.specs.declared.error.Error.{Error}
 use Rattle.gimli_read.specs.Reading.{◌>>=◌, ExactlyUnlessOom, fault_of}
 use Rattle.gimli.specs.Sections.{Sections}
@@ -15,7 +15,7 @@ use Rattle.addr2line_units.specs.AfterUnits as left
 use Rattle.addr2line_units.specs.Cover.{cover}
 use Rattle.addr2line_units.specs.FramesLookup.{asked_frames, main_scope, stop_along}
 use Rattle.addr2line_units.specs.FunctionParseLaws.{IsReached}
-use Rattle.addr2line_units.specs.FunctionParses.{AreFirstDecided, AreReadBefore, AreReadyFor, answers_after_parse, read_of_units}
+use Rattle.addr2line_units.specs.FunctionParses.{AreFirstDecided, AreReadBefore, AreReadyFor, ReadsNoMemory, answers_after_parse, read_of_units}
 use Rattle.addr2line_units.specs.KnownEntries.{knows_at}
 use Rattle.addr2line_units.specs.Loads.{NoneOpen, forget_result, is_open_at, load_result, loads_along}
 use Rattle.addr2line_units.specs.Located.{all_lines}
@@ -26,7 +26,7 @@ use Rattle.addr2line_units.specs.UnitsState.{UnitsState}
 use Rattle.addr2line_units.specs.Views.{SplitLoad}
 use Rattle.addr2line_units.proofs.ReachedLemmas.{reached_all}
 use Rattle.addr2line.specs.Context.{IsContext, lines_of_all, seen_context}
-use Rattle.addr2line.specs.Loads.{AfterForget, AfterLoad, AfterParse, AfterPreload, IsAllKnown, IsNotOpen, NoneOpenAt, ReachesAllOf, StaysRead, forget_reply, load_reply, parse_reply, parsed_answers}
+use Rattle.addr2line.specs.Loads.{AfterForget, AfterLoad, AfterParse, AfterPreload, IsAllKnown, IsNotOpen, NoneOpenAt, ReachesAllOf, ReadsFunctionsNoMemory, StaysRead, forget_reply, load_reply, parse_reply, parsed_answers}
 use Rattle.addr2line.specs.Lookups.{lookup_stop}
 use Rattle.addr2line.proofs.AnsweredLemmas.{answers_are, scope_same, units_same}
 use Rattle.addr2line.proofs.ContextLemmas.{at_made, at_now, by_made, of_made, of_now, or_made}
@@ -101,6 +101,12 @@ module _ (ranges : List UnitRange) (u : UnitsState) (i : IsContext ranges u) whe
       exact = λ known. a.exact (at_made ranges u i (λ s xs rs. AreReadyFor reads s s.file.units u.answers u.known) known) ∙ sym (parse_is reads);
       same = λ known. a.same (at_made ranges u i (λ s xs rs. AreReadyFor reads s s.file.units u.answers u.known) known);
     }
+
+    -- where the parse takes no memory, a refusal is the fault of functions
+    pub parsed_alone : (shares : Bool) → (ReadsNoMemory shares reads u.scope us now.answers now.known → IfErr r (λ e. read_of_units reads u.scope us u.answers ≡ Err e))
+        → ReadsFunctionsNoMemory shares reads (seen_context now) → IfErr r (λ e. parse_reply reads d u.answers ≡ Err e)
+    parsed_alone shares alone none = subst (λ given. IfErr r (λ e. given ≡ Err e)) (sym (parse_is reads))
+        (alone (at_now ranges u i now (scope_same ranges u i now a.stays) (units_same ranges u i now a.stays) (λ s xs rs. ReadsNoMemory shares reads s s.file.units now.answers now.known) none))
 
     -- no lookup waits or has a fault after a parse of all details
     module _ (e : reads ≡ kinds.Details) (gives : read_of_units reads u.scope us u.answers ≡ Ok tt) (told : now.answers ≡ answers_after_parse reads u.scope us u.answers) (lines : lines_of_all d ≡ Ok tt) (faults : OnFault) (probe : ℕ) where

@@ -16,7 +16,7 @@ use Rattle.addr2line_units.specs.Located.{all_lines, is_found, location_of, look
 use Rattle.addr2line_units.specs.UnitIndex.{UnitIndex, index_units, sup_units}
 use Rattle.addr2line_units.specs.RangedUnits.{has_lines, ranged_units}
 use Rattle.gimli_read.specs.Alike.{WasNotRefused}
-use Rattle.addr2line_units.specs.Parsed.{AllAskFor, AreParsed, AreReadyForAll, AsksFor, LeadTo, ParsesOnly, StaysParsed, ready_along, takes_none_along}
+use Rattle.addr2line_units.specs.Parsed.{AllAskFor, AreParsed, AreReadyForAll, AsksFor, LeadTo, ParsesOnly, StaysParsed, TakeNone, TakeNoneForAll, ready_along, takes_none_along}
 use Rattle.addr2line_units.specs.Cover.{cover, cover_range}
 use Rattle.addr2line_units.specs.UnitsState.{UnitsState}
 use Rattle.addr2line_units.specs.Views.{FirstAnswers}
@@ -66,10 +66,20 @@ abbrev pub IsReadyForRange : ContextState → ℕ → ℕ → Type 0
 IsReadyForRange c low high = (m : UnitIndex) → index_units c.sections ≡ Ok m
     → AreParsed c.parsed (cover_range low high m.ranges)
 
+-- a lookup of a range takes no memory: the lines of the units that are met are parsed, or take none
+abbrev pub LocatesRangeNoMemory : Bool → ContextState → ℕ → ℕ → Type 0
+LocatesRangeNoMemory shares c low high = (m : UnitIndex) → index_units c.sections ≡ Ok m
+    → TakeNone shares m.units c.parsed (cover_range low high m.ranges)
+
 -- a parse of all lines parses nothing: they are parsed, up to the first fault
 abbrev pub IsReadyForAll : ContextState → Type 0
 IsReadyForAll c = (m : UnitIndex) → index_units c.sections ≡ Ok m
     → AreReadyForAll c.sections m.units c.parsed
+
+-- a parse of all lines takes no memory: they are parsed, or take none, up to the first fault
+abbrev pub ParsesNoMemory : Bool → ContextState → Type 0
+ParsesNoMemory shares c = (m : UnitIndex) → index_units c.sections ≡ Ok m
+    → TakeNoneForAll shares c.sections m.units c.parsed
 
 -- no lines are parsed but those of the units that the lookup asks for
 abbrev pub LookupParses : ℕ → ContextState → ContextState → Type 0

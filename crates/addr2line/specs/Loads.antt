@@ -2,7 +2,7 @@
 -- context (DWARF 5, sections 3.1.2, 3.3 and 7.3.2).
 -- Own: an answer to a unit that is decided changes nothing; a parse of all functions answers none
 -- to each load.
-use Rattle.std.specs.Prelude.{◌≡◌, ◌≢◌, ◌⊎◌, ℕ, false, true, slice_get, Option, Some, None, OnOk, Result, Ok, Err}
+use Rattle.std.specs.Prelude.{◌≡◌, ◌≢◌, ◌⊎◌, ℕ, Bool, false, true, slice_get, Option, Some, None, OnOk, Result, Ok, Err}
 use Rattle.std.specs.List.{AllByRecursion}
 use Rattle.gimli_read.specs.declared.error.Error.{Error}
 use Rattle.gimli_read.specs.Reading.{◌>>=◌}
@@ -12,7 +12,7 @@ use Rattle.addr2line_units.specs.declared.parses.ReadingDepth.{ReadingDepth}
 use Rattle.addr2line_units.specs.Cover.{cover}
 use Rattle.addr2line_units.specs.FramesLookup.{answer_of, main_scope}
 use Rattle.addr2line_units.specs.FunctionParseLaws.{IsReached}
-use Rattle.addr2line_units.specs.FunctionParses.{AreFirstDecided, AreReadBefore, AreReadyFor, answers_after_parse, read_of_units}
+use Rattle.addr2line_units.specs.FunctionParses.{AreFirstDecided, AreReadBefore, AreReadyFor, ReadsNoMemory, answers_after_parse, read_of_units}
 use Rattle.addr2line_units.specs.KnownEntries.{knows_at}
 use Rattle.addr2line_units.specs.Loads.{NoneOpen, forget_result, forgotten, is_open_at}
 use Rattle.gimli_read.specs.Alike.{WasNotRefused}
@@ -125,6 +125,12 @@ pub record AfterParse (reads : ReadingDepth) (result : Result (Unit {0}) Error)
   pub memory : IsReadyToRead reads new → WasNotRefused result
   pub exact : IsReadyToRead reads old → result ≡ parse_reply reads old.sections old.answers
   pub same : IsReadyToRead reads old → (new.answers ≡ old.answers) × (new.known ≡ old.known)
+
+-- a parse of functions takes no memory: of each unit up to the first fault what it reads is known,
+-- or the functions take none
+abbrev pub ReadsFunctionsNoMemory : Bool → ReadingDepth → ContextState → Type 0
+ReadsFunctionsNoMemory shares reads c = (m : UnitIndex) → index_units c.sections ≡ Ok m
+    → ReadsNoMemory shares reads (main_scope c.sections m) (unit_records m.units) c.answers c.known
 
 -- what every lookup asks of units' entries is known
 abbrev pub IsAllKnown : ContextState → Type 0

@@ -12,7 +12,7 @@ ghost use Rattle.addr2line_units.specs.Located.{location_of, spans_of};
 ghost use Rattle.addr2line_units.specs.LocationsLeft.{locations_left};
 ghost use Rattle.gimli_read.specs.Alike.{WasNotRefused};
 ghost use Rattle.addr2line_units.specs.Parsed.{AreAllParsed};
-ghost use Rattle.addr2line.specs.Context.{new_context, lines_of_all, AfterLookupOver, AfterRangeLookup, IsReady, IsUncovered, IsReadyForAll, IsReadyForRange, ParsesToFault, Stays};
+ghost use Rattle.addr2line.specs.Context.{new_context, lines_of_all, AfterLookupOver, AfterRangeLookup, IsReady, IsUncovered, IsReadyForAll, IsReadyForRange, LocatesRangeNoMemory, ParsesNoMemory, ParsesToFault, Stays};
 
 use addr2line_lines::Location;
 use addr2line_units::index::UnitRanges;
@@ -176,7 +176,7 @@ impl<R: Reader> Context<R> {
     /// parsed. A fault is given in the place of the unit's rows.
     ///
     /// Refused `OutOfMemory` alone, which is never cached; takes no memory where the lines are
-    /// parsed.
+    /// parsed, or take none to read, as `Lines::parse` has it.
     ///
     /// Source: DWARF 5, section 6.2.2. Own: the order, and what is met.
     pub fn find_location_range(
@@ -187,7 +187,7 @@ impl<R: Reader> Context<R> {
         ensures gives { IfOk result (λ rows. spans_of self.old.sections low high
             ≡ Ok (locations_left rows)) }
         ensures refused { IfErr result (λ e. e ≡ OutOfMemory) }
-        ensures exact { IsReadyForRange self.old low high → IsOk result }
+        ensures exact { LocatesRangeNoMemory R.shares self.old low high → IsOk result }
         ensures* kept { sem 𝓛 (EndsAs R.row R.Reader self.entry
             (AfterRangeLookup low high result self.old)) }
     {
@@ -209,16 +209,17 @@ impl<R: Reader> Context<R> {
     /// they are.
     ///
     /// Refused by the first fault; may fail with `OutOfMemory` instead, which is never cached.
-    /// Takes no memory where the lines up to the first fault are parsed. Once it isn't refused,
-    /// `find_location` takes no memory and finds no fault.
+    /// Takes no memory where the lines up to the first fault are parsed, or take none to read, as
+    /// `Lines::parse` has it. Once it isn't refused, `find_location` takes no memory and finds no
+    /// fault.
     pub fn parse_lines(&mut self) -> Result<(), Error>
         ensures gives { IsUnlessOom result (lines_of_all self.old.sections) }
-        ensures exact { IsReadyForAll self.old
+        ensures exact { ParsesNoMemory R.shares self.old
             → Exactly (λ x. x) result (lines_of_all self.old.sections) }
         ensures stays { Stays self.old self.new }
         ensures looks { self.new.looks ≡ self.old.looks }
         ensures ready_for_all { WasNotRefused result → IsReadyForAll self.new }
-        ensures memory { IsReadyForAll self.new → WasNotRefused result }
+        ensures memory { ParsesNoMemory R.shares self.new → WasNotRefused result }
         ensures only { ParsesToFault self.old self.new }
         ensures same { IsReadyForAll self.old → self.new.parsed ≡ self.old.parsed }
         ensures parsed { OnOk result (AreAllParsed self.new.parsed) }

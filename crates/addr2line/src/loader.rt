@@ -15,7 +15,7 @@ ghost use Rattle.addr2line_units.specs.FramesLeft.{frames_left};
 ghost use Rattle.addr2line_units.specs.Located.{location_of, spans_of};
 ghost use Rattle.addr2line_units.specs.LocationsLeft.{locations_left};
 ghost use Rattle.addr2line.specs.declared.compressed.CompressedSections.TheVariants.{Decompressed, Refused};
-ghost use Rattle.addr2line.specs.Context.{IsReady, IsReadyForRange};
+ghost use Rattle.addr2line.specs.Context.{IsReady, LocatesRangeNoMemory};
 ghost use Rattle.addr2line.specs.Files.{HasEmptyFile, HasNoFile, as_read, as_read_if_known};
 ghost use Rattle.addr2line.specs.FramesByFiles.{ended_frames_of, frames_by_files};
 ghost use Rattle.addr2line.specs.Loaded.{AreSectionsOf, AreSupOfBytes, IsFileOfBytes, IsLoaded, as_sup, context_at, dwarf_at, loaded, main_with_sup, object_at, sup_at};
@@ -291,7 +291,7 @@ impl<F: FileSource> LoaderOver<F> {
     /// The rows that a range of addresses meets, as `Context::find_location_range` gives them. No
     /// other lines are parsed, and what was parsed stays parsed.
     ///
-    /// Refused `OutOfMemory` alone; takes no memory where the lines are parsed.
+    /// Refused `OutOfMemory` alone; takes no memory where the lines are parsed, or there are none.
     pub fn find_location_range(
         &mut self,
         low: u64,
@@ -300,7 +300,7 @@ impl<F: FileSource> LoaderOver<F> {
         ensures gives { IfOk result (λ rows. spans_of self.old.context.sections low high
             ≡ Ok (locations_left rows)) }
         ensures refused { IfErr result (λ e. e ≡ OutOfMemory) }
-        ensures exact { IsReadyForRange self.old.context low high → IsOk result }
+        ensures exact { LocatesRangeNoMemory true self.old.context low high → IsOk result }
         ensures* kept { sem 𝓛 (LoaderEndsAs F.row F.files self.entry
             (AfterLocationRange low high result (seen_loader F.files self.old))) }
     {

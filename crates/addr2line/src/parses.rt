@@ -1,9 +1,9 @@
 //! Parses of the functions of all units.
 
-ghost use Rattle.std.specs.Prelude.{◌≡◌, OnOk};
+ghost use Rattle.std.specs.Prelude.{◌≡◌, Err, IfErr, OnOk};
 ghost use Rattle.gimli_read.specs.Reading.{IsUnlessOom};
 ghost use Rattle.addr2line_units.specs.declared.parses.ReadingDepth.TheVariants as kinds;
-ghost use Rattle.addr2line.specs.Loads.{AfterParse, IsAllKnown, ReachesAllOf, parse_reply};
+ghost use Rattle.addr2line.specs.Loads.{AfterParse, IsAllKnown, ReachesAllOf, ReadsFunctionsNoMemory, parse_reply};
 
 use crate::context::Context;
 use addr2line_units::parses::ReadingDepth;
@@ -15,6 +15,8 @@ impl<R: Reader> Context<R> {
         ensures gives { IsUnlessOom result
             (parse_reply reads self.old.sections self.old.answers) }
         ensures after { AfterParse reads result self.old self.new }
+        ensures no_memory { ReadsFunctionsNoMemory R.shares reads self.new → IfErr result
+            (λ e. parse_reply reads self.old.sections self.old.answers ≡ Err e) }
         ensures known { reads ≡ kinds.Details → OnOk result (IsAllKnown self.new) }
         ensures reaches { reads ≡ kinds.Details → OnOk result (ReachesAllOf self.new) }
     {
@@ -26,15 +28,18 @@ impl<R: Reader> Context<R> {
     /// the first fault are left as they are.
     ///
     /// Refused by the first fault of a view or its functions; may fail with `OutOfMemory` instead,
-    /// which is never cached. Takes no memory where the functions up to the first fault are
-    /// cached, and that fault: so the same call after it gives the same, until a unit is forgotten
-    /// or answered.
+    /// which is never cached. Takes no memory where of each unit up to the first fault the
+    /// functions are cached, that fault too, or take none to read: unless readers share their bytes
+    /// they take none where a view has none. So the same call after it gives the same, until a unit
+    /// is forgotten or answered.
     ///
     /// Source: DWARF 5, section 3.3.
     pub fn parse_functions(&mut self) -> Result<(), Error>
         ensures gives { IsUnlessOom result
             (parse_reply kinds.Functions self.old.sections self.old.answers) }
         ensures after { AfterParse kinds.Functions result self.old self.new }
+        ensures no_memory { ReadsFunctionsNoMemory R.shares kinds.Functions self.new → IfErr result
+            (λ e. parse_reply kinds.Functions self.old.sections self.old.answers ≡ Err e) }
     {
         self.read_functions(ReadingDepth::Functions)
     }
@@ -42,17 +47,20 @@ impl<R: Reader> Context<R> {
     /// Parses the functions of all units and the details of these, as `parse_functions` does.
     ///
     /// Refused by the first fault of a view, its functions or, in the order of the entries, a
-    /// detail; may fail with `OutOfMemory` instead, which is never cached. Takes no memory where
-    /// these are cached up to the first fault, and that fault: so the same call after it gives the
-    /// same, until a unit is forgotten or answered. Once it isn't refused, and where `parse_lines`
-    /// isn't either, lookups of frames don't wait and have no fault, and take no memory where at
-    /// most 16 inlined functions stand at the address, until a unit is forgotten.
+    /// detail; may fail with `OutOfMemory` instead, which is never cached. Takes no memory where of
+    /// each unit up to the first fault these are cached, that fault too, or the functions take none
+    /// to read. So the same call after it gives the same, until a unit is forgotten or answered.
+    /// Once it isn't refused, and where `parse_lines` isn't either, lookups of frames don't wait
+    /// and have no fault, and take no memory where at most 16 inlined functions stand at the
+    /// address, until a unit is forgotten.
     ///
     /// Source: DWARF 5, sections 3.3 and 3.3.8.
     pub fn parse_inlined_functions(&mut self) -> Result<(), Error>
         ensures gives { IsUnlessOom result
             (parse_reply kinds.Details self.old.sections self.old.answers) }
         ensures after { AfterParse kinds.Details result self.old self.new }
+        ensures no_memory { ReadsFunctionsNoMemory R.shares kinds.Details self.new → IfErr result
+            (λ e. parse_reply kinds.Details self.old.sections self.old.answers ≡ Err e) }
         ensures known { OnOk result (IsAllKnown self.new) }
         ensures reaches { OnOk result (ReachesAllOf self.new) }
     {

@@ -1,8 +1,9 @@
 -- What is read without memory (on specs/AskMemory.antt).
-use Rattle.std.proofs.Common.{◌≡◌, ◌≢◌, ◌∙◌, ◌++◌, ℕ, ap, sym, refl, ◌||◌, not, is_some, Bool, true, false, List, [], ◌∷◌, Option, Some, None, Result, Ok, Err}
+use Rattle.std.proofs.Common.{◌≡◌, ◌≢◌, ◌∙◌, ◌++◌, ℕ, ap, subst, sym, refl, ◌||◌, not, is_some, Bool, true, false, List, [], ◌∷◌, Option, Some, None, Result, Ok, Err}
 use Rattle.std.specs.Prelude.{IfErr, IfSome}
 use Rattle.gimli_read.specs.declared.error.Error.{Error}
 use Rattle.gimli_read.specs.declared.error.Error.TheVariants.{OutOfMemory}
+use Rattle.gimli_read.specs.Alike.{WasNotRefused}
 use Rattle.gimli_read.specs.Reading.{◌>>=◌, ExactlyUnlessOomIf}
 use Rattle.gimli_line.specs.declared.row.LineRow.{LineRow}
 use Rattle.gimli_line.specs.Header.{File, Program, header_copy_takes_memory}
@@ -10,6 +11,7 @@ use Rattle.gimli_line.specs.Lines.{lines_of}
 use Rattle.gimli.specs.Sections.{Sections}
 use Rattle.gimli.specs.Unit.{UnitRecord}
 use Rattle.addr2line_lines.specs.FileTexts.{file_texts}
+use Rattle.addr2line_lines.specs.FunctionDetails.{details_take_memory}
 use Rattle.addr2line_lines.specs.Functions.{functions_take_memory}
 use Rattle.addr2line_lines.specs.Location.{LineTable, line_table_of}
 use Rattle.addr2line_lines.specs.References.{Scope}
@@ -18,9 +20,10 @@ use Rattle.addr2line_lines.specs.UnitLines.{IsFaultAtOnce, lines_in, program_lin
 use Rattle.addr2line_units.specs.declared.functions.LazyFunctions.{LazyFunctions}
 use Rattle.addr2line_units.specs.declared.functions.LazyFunctions.TheVariants as lazy
 use Rattle.addr2line_units.specs.AskMemory.{any_program_takes_memory, is_fault_at_once, lines_take_memory}
-use Rattle.addr2line_units.specs.CachedFunctions.{AreFunctionsOf, find_takes_memory, table_takes_memory}
+use Rattle.addr2line_units.specs.CachedFunctions.{AreFunctionsOf, find_takes_memory, reading_takes_memory, table_takes_memory}
 use Rattle.addr2line_units.specs.CachedLines.{lines_result}
-use Rattle.addr2line_units.proofs.FunctionMemoryLemmas.{place_takes}
+use Rattle.addr2line_units.proofs.FunctionMemoryLemmas.{details_take, place_takes}
+use Rattle.addr2line_units.proofs.ProgramFaultLemmas.{at_once_not_oom}
 
 -- where no memory may be taken, a refusal is what is given
 pub exactly_if_none : {X Y : Type 0} (may : Bool) (see : X → Y) (r : Result X Error) (given : Result Y Error) → may ≡ false → ExactlyUnlessOomIf may see r given → IfErr r (λ e. given ≡ Err e)
@@ -75,8 +78,50 @@ find_takes_none shares scope view probe (lazy.Read t) right none = by_test (tabl
     by_test false e = e
 find_takes_none shares scope view probe (lazy.Faulty e) right none = refl
 
+-- nor to read all their details
+pub reading_takes_none : {R : Type 0} (shares : Bool) (scope : Scope) (view : UnitRecord) (f : LazyFunctions R) → AreFunctionsOf scope view f → functions_take_memory shares scope.file.sections view ≡ false
+    → reading_takes_memory shares scope view f ≡ false
+reading_takes_none shares scope view lazy.Unread right none = none
+reading_takes_none shares scope view (lazy.Read t) right none = by_test (details_take_memory shares scope view t.functions) refl
+  where
+    by_test : (b : Bool) → details_take_memory shares scope view t.functions ≡ b → details_take_memory shares scope view t.functions ≡ false
+    by_test true e = let no : false ≡ true = sym none ∙ details_take shares scope view t right e in absurd cc
+    by_test false e = e
+reading_takes_none shares scope view (lazy.Faulty e) right none = refl
+
 -- where lines are parsed, or take no memory, a refusal is what is given
 pub alone_if_none : {X : Type 0} (parsed takes : Bool) (e : Error) (given : Result X Error) → (parsed || not takes) ≡ true → (parsed ≡ true → e ≢ OutOfMemory) → (e ≢ OutOfMemory → given ≡ Err e) → (takes ≡ false → given ≡ Err e) → given ≡ Err e
 alone_if_none true takes e given none known gives alone = gives (known refl)
 alone_if_none false true e given none known gives alone = cc
 alone_if_none false false e given none known gives alone = alone refl
+
+-- lines that take no memory have no fault of that name
+lines_not_oom : (shares : Bool) (d : Sections) (u : UnitRecord) → lines_take_memory shares u ≡ false → WasNotRefused (unit_lines d u)
+unfolding lines_take_memory
+lines_not_oom shares d u none = by_program u.line_program none
+  where
+    by_lists : (p : Program) (files : List File) (rows : List (Result LineRow Error)) → (lines_of p).left ≡ rows → is_fault_at_once files rows ≡ true → WasNotRefused (program_lines d u p)
+    by_lists p [] [] l h = cc
+    by_lists p [] (Ok row ∷ rows) l h = cc
+    by_lists p [] (Err f ∷ []) l h = subst WasNotRefused (sym (at_once d u p f l)) (at_once_not_oom p f l)
+    by_lists p [] (Err f ∷ row ∷ rows) l h = cc
+    by_lists p (file ∷ files) rows l h = cc
+
+    by_program : (o : Option Program) → any_program_takes_memory shares o ≡ false → WasNotRefused (lines_in d u o)
+    by_program None h = tt
+    by_program (Some p) h = by_lists p (lines_of p).ahead (lines_of p).left refl (or_none (header_copy_takes_memory shares p.header) (is_fault_at_once (lines_of p).ahead (lines_of p).left) h).1
+
+-- a call that is refused by their fault alone isn't refused memory
+pub none_refused : {X : Type 0} (shares : Bool) (d : Sections) (u : UnitRecord) (r : Result X Error) → (lines_take_memory shares u ≡ false → IfErr r (λ e. lines_result d u ≡ Err e)) → lines_take_memory shares u ≡ false → WasNotRefused r
+none_refused shares d u (Ok x) alone none = tt
+none_refused shares d u (Err e) alone none = by_lines (unit_lines d u) (lines_not_oom shares d u none) (alone none)
+  where
+    by_lines : (l : Result LineTable Error) → WasNotRefused l → ◌≡◌ {A = Result (Option LineTable) Error} (l >>= λ lines. Ok (Some lines)) (Err e) → e ≢ OutOfMemory
+    by_lines (Ok x) known q = cc
+    by_lines (Err f) known q = let same : f ≡ e = cc in subst (λ y. y ≢ OutOfMemory) same known
+
+-- nor one for lines that are parsed, or take no memory
+pub either_none : {X : Type 0} (parsed takes : Bool) (r : Result X Error) → (parsed || not takes) ≡ true → (parsed ≡ true → WasNotRefused r) → (takes ≡ false → WasNotRefused r) → WasNotRefused r
+either_none true takes r none known alone = known refl
+either_none false true r none known alone = cc
+either_none false false r none known alone = alone refl

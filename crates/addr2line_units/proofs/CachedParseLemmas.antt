@@ -24,7 +24,7 @@ use Rattle.addr2line_units.specs.declared.view.UnitView.{UnitView}
 use Rattle.addr2line_units.specs.declared.view.ViewState.{ViewState}
 use Rattle.addr2line_units.specs.declared.view.ViewState.TheVariants as states
 use Rattle.addr2line_units.specs.FramesLookup.{answer_of}
-use Rattle.addr2line_units.specs.FunctionParses.{AreReadBefore, read_of_functions, read_of_number, read_of_unit, read_of_view}
+use Rattle.addr2line_units.specs.FunctionParses.{AreReadBefore, parse_of_takes_memory, parse_takes_memory, read_of_functions, read_of_number, read_of_unit, read_of_view}
 use Rattle.addr2line_units.specs.CachedEntries.{StayEntries, has_answered, has_entries_by, first_answer_of}
 use Rattle.addr2line_units.specs.CachedFunctions.{AreFunctionsOf, StayFunctions, details_at, functions_fault, has_detail, cached_has_function, has_place, cached_functions, reading_takes_memory, were_read}
 use Rattle.addr2line_units.specs.CachedUnits.{HaveEntriesOf, StayAllEntries, answers_in, has_entries_at}
@@ -308,6 +308,20 @@ number_is r scope us vs n u v h k e f =
   where
     by_unit : Option UnitRecord → Result (Unit {0}) Error
     by_unit o = elim o [ None ↦ Ok tt | Some x ↦ read_of_unit r scope x (answer_of (answers_in vs) n) ]
+
+-- whether memory may be taken for the functions of the unit of a number that was put back
+pub takes_of_set : {R : Type 0} (shares : Bool) (scope : Scope) (us : List UnitRecord) (vs : List (UnitEntries R)) (n : ℕ) (u : UnitRecord) (w : UnitEntries R) → n < length us → n < length vs → u ≡ get_or us n u
+    → parse_of_takes_memory shares scope us (answers_in (set vs n w)) n ≡ parse_takes_memory shares scope u (first_answer_of w)
+takes_of_set {R} shares scope us vs n u w h k e =
+    ap (λ (o : Option UnitRecord). by_unit o) (got_unit us n u h e) ∙ ap (parse_takes_memory shares scope u) (answer_set vs n k)
+  where
+    by_unit : Option UnitRecord → Bool
+    by_unit o = elim o [ None ↦ false | Some x ↦ parse_takes_memory shares scope x (answer_of (answers_in (set vs n w)) n) ]
+
+    answer_set : (xs : List (UnitEntries R)) (m : ℕ) → m < length xs → answer_of (answers_in (set xs m w)) m ≡ first_answer_of w
+    answer_set [] m l = absurd (omega arith)
+    answer_set (x ∷ xs) zero l = refl
+    answer_set (x ∷ xs) (suc m) l = answer_set xs m (omega arith)
 
 pub many_answers : {R : Type 0} (scope : Scope) (us : List UnitRecord) (vs : List (UnitEntries R)) → HaveEntriesOf scope us vs → length us ≡ length (answers_in vs)
 many_answers scope [] [] own = refl

@@ -15,6 +15,7 @@ pub mod FunctionMemoryLemmas
 pub mod CachedFunctionLemmas
 pub mod CachedPlaceLemmas
 pub mod EntryLemmas
+pub mod ProgramFaultLemmas
 pub mod AskMemoryLemmas
 pub mod UnitFrameLemmas
 pub mod ViewLemmas

@@ -163,7 +163,7 @@ module _ {R : Type 0} (r : ReadingDepth) where
   shut_units scope (u ∷ us) (v ∷ vs) own zero h = (not_open scope u 0 v own.0 h.decided, h.known)
   shut_units scope (u ∷ us) (v ∷ vs) own (suc n) h = shut_units scope us vs own.1 n h
 
-  ready_units : (scope : Scope) (us : List UnitRecord) (vs : List (UnitEntries R)) → HaveEntriesOf scope us vs → (n : ℕ) → is_open_at scope.file.sections us (answers_in vs) n ≡ false → IfSome (slice_get (known_in vs) n) (IsReadyFor r)
+  pub ready_units : (scope : Scope) (us : List UnitRecord) (vs : List (UnitEntries R)) → HaveEntriesOf scope us vs → (n : ℕ) → is_open_at scope.file.sections us (answers_in vs) n ≡ false → IfSome (slice_get (known_in vs) n) (IsReadyFor r)
       → IfSome (slice_get vs n) (IsReadyUnit r)
   ready_units scope [] [] own n shut h = tt
   ready_units scope [] (v ∷ vs) own n shut h = absurd own

@@ -37,7 +37,7 @@ use Rattle.addr2line_units.specs.CachedKnown.{known_in}
 use Rattle.addr2line_units.specs.KnownEntries.{knows_at}
 use Rattle.addr2line_units.specs.Loads.{forgotten, is_open_at, load_result}
 use Rattle.addr2line_units.specs.Located.{is_found, looks_along, spans_along, spans_in, spans_or_fault}
-use Rattle.addr2line_units.specs.Parsed.{AllAskFor, AreAllParsed, AreParsed, AreReadyForAll, AsksFor, LeadTo, ParsesOnly, has_parsed, ready_along}
+use Rattle.addr2line_units.specs.Parsed.{AllAskFor, AreAllParsed, AreParsed, AreReadyForAll, AsksFor, LeadTo, ParsesOnly, TakeNone, TakeNoneForAll, has_parsed, ready_along}
 use Rattle.addr2line_units.specs.RangedUnits.{IndexedUnit}
 use Rattle.addr2line_units.specs.RangeLookup.{cached_along}
 use Rattle.addr2line_units.specs.StaysKnown.{IsReadyAt, StaysKnown}
@@ -164,9 +164,9 @@ module _ {R : Type 0} (scope : Scope) (units : List ResUnit) (held : List (UnitE
         gives ∙ ap (λ files. Ok (Some (location_of_row files p.row)))
         (sym (files_are d us now p.unit own parsed) ∙ ap (λ xs. files_of d (slice_get xs p.unit)) (stay_indexed us units now stay))
 
-  pub after_caching : (now : List ResUnit) (stay : StayUnits units now) (looks : ℕ) (was : Stop) {X : Type 0} (ranges : List UnitRange) (result : Result X Error) → OnOk result (AreParsed (parsed_units now) ranges) → (AreParsed (parsed_units now) ranges → WasNotRefused result)
-      → ParsesOnly (LeadTo ranges) (parsed_units units) (parsed_units now) → IfErr result (λ e. e ≡ OutOfMemory) → AfterCaching ranges result (seen_units scope units held looks was) (seen_units scope now held looks FindsNothing)
-  after_caching now stay looks was ranges result parsed memory only refused = record {
+  pub after_caching : (now : List ResUnit) (stay : StayUnits units now) (looks : ℕ) (was : Stop) {X : Type 0} (shares : Bool) (ranges : List UnitRange) (result : Result X Error) → OnOk result (AreParsed (parsed_units now) ranges) → (TakeNone shares (indexed_units us units) (parsed_units now) ranges → WasNotRefused result)
+      → ParsesOnly (LeadTo ranges) (parsed_units units) (parsed_units now) → IfErr result (λ e. e ≡ OutOfMemory) → AfterCaching shares ranges result (seen_units scope units held looks was) (seen_units scope now held looks FindsNothing)
+  after_caching now stay looks was shares ranges result parsed memory only refused = record {
     lines = after_lines now stay looks looks was (LeadTo ranges) only;
     looks = refl;
     parsed = parsed;
@@ -174,9 +174,9 @@ module _ {R : Type 0} (scope : Scope) (units : List ResUnit) (held : List (UnitE
     refused = refused;
   }
 
-  pub after_line_parse : (now : List ResUnit) (stay : StayUnits units now) (looks : ℕ) (was : Stop) (result : Result (Unit {0}) Error) → (WasNotRefused result → AreReadyForAll d (indexed_units us units) (parsed_units now)) → (AreReadyForAll d (indexed_units us units) (parsed_units now) → WasNotRefused result)
-      → OnOk result (AreAllParsed (parsed_units now)) → ParsesOnly (AllAskFor d (indexed_units us units)) (parsed_units units) (parsed_units now) → AfterLineParse result (seen_units scope units held looks was) (seen_units scope now held looks FindsNothing)
-  after_line_parse now stay looks was result ready memory parsed only = record {
+  pub after_line_parse : (now : List ResUnit) (stay : StayUnits units now) (looks : ℕ) (was : Stop) (shares : Bool) (result : Result (Unit {0}) Error) → (WasNotRefused result → AreReadyForAll d (indexed_units us units) (parsed_units now)) → (TakeNoneForAll shares d (indexed_units us units) (parsed_units now) → WasNotRefused result)
+      → OnOk result (AreAllParsed (parsed_units now)) → ParsesOnly (AllAskFor d (indexed_units us units)) (parsed_units units) (parsed_units now) → AfterLineParse shares result (seen_units scope units held looks was) (seen_units scope now held looks FindsNothing)
+  after_line_parse now stay looks was shares result ready memory parsed only = record {
     lines = after_lines now stay looks looks was (AllAskFor d (indexed_units us units)) only;
     looks = refl;
     ready = ready;

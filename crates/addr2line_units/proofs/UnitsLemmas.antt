@@ -22,7 +22,8 @@ use Rattle.addr2line_units.specs.RangedUnits.{IndexedUnit, has_lines, range_of_u
 use Rattle.addr2line_units.specs.Located.{all_lines, along, lines_of_unit, location_in, looks_along, looks_in, or_along}
 use Rattle.gimli_read.specs.Alike.{WasNotRefused}
 use Rattle.addr2line_units.specs.Cover.{holds_until}
-use Rattle.addr2line_units.specs.Parsed.{AllAskFor, AreReadyForAll, ParsesOnly, StaysParsed, can_be_read, decides, has_parsed, ready_along, unit_decides}
+use Rattle.addr2line_units.specs.AskMemory.{lines_of_take_memory}
+use Rattle.addr2line_units.specs.Parsed.{AllAskFor, AreParsed, AreReadyForAll, ParsesOnly, StaysParsed, TakeNone, TakeNoneForAll, can_be_read, decides, has_parsed, parses_no_memory, ready_along, unit_decides}
 use Rattle.addr2line_units.specs.CachedLines.{AreLinesOf, CachesResult, HaveLinesOf, StayUnits, StaysUnit, cached_files, indexed_unit, indexed_units, is_parsed, is_uncached, lines_result, lines_result_at, lines_at, location_of_unit_row, parsed_units, unit_row}
 
 -- what is cached is no longer uncached
@@ -289,13 +290,6 @@ module _ (d : Sections) (us : List UnitRecord) (rs : List ResUnit) (n : ℕ) (u 
       given (Ok tt) a i = ap fault_of i
       given (Err x) a i = λ ne. ap fault_of (i ne)
 
-  pub lines_read_exactly : Exactly (λ _. lines) result (lines_result d u) → Exactly (λ x. x) result (lines_result_at d (slice_get (indexed_units us rs) n))
-  lines_read_exactly k = rw at_unit (given result (lines_result d u) k)
-    where
-      given : (q : Result (Unit {0}) Error) (a : Result (Option LineTable) Error) → Exactly (λ _. lines) q a → Exactly (λ x. x) q (fault_of a)
-      given (Ok tt) a i = ap fault_of i
-      given (Err x) a i = ap fault_of i
-
 -- the looks along ranges
 pub looks_first : (d : Sections) (units : List IndexedUnit) (r : UnitRange) (rest : List UnitRange) → looks_along d units (r ∷ rest) ≡ looks_in d (slice_get units r.unit) + looks_along d units rest
 looks_first d units r rest = sum_by-cons (λ (x : UnitRange). looks_in d (slice_get units x.unit)) r rest
@@ -427,3 +421,29 @@ none_first r rest e = cc
 -- behind the first element there is less
 pub rest_shorter : (ranges : List UnitRange) (r : UnitRange) (rest : List UnitRange) → ranges ≡ r ∷ rest → length rest < length ranges
 rest_shorter ranges r rest e = omega (arith, ap length e)
+
+-- what is parsed, or takes no memory
+module _ (shares : Bool) (units : List IndexedUnit) where
+  -- lines that are parsed take none
+  pub parsed_none : (p : List Bool) (n : ℕ) → has_parsed p n ≡ true → parses_no_memory shares units p n ≡ true
+  parsed_none p n e = ap (λ b. b || not (lines_of_take_memory shares units n)) e
+
+  pub parsed_none_along : (p : List Bool) (ranges : List UnitRange) → AreParsed p ranges → TakeNone shares units p ranges
+  parsed_none_along p [] h = tt
+  parsed_none_along p (r ∷ ranges) h = (parsed_none p r.unit h.0, parsed_none_along p ranges h.1)
+
+  -- where more is parsed, no more memory is taken
+  pub none_more : (p q : List Bool) → StaysParsed p q → (n : ℕ) → parses_no_memory shares units p n ≡ true → parses_no_memory shares units q n ≡ true
+  none_more p q stay n h = of_bools (has_parsed p n) (has_parsed q n) (not (lines_of_take_memory shares units n)) (stay n) h
+    where
+      of_bools : (a b c : Bool) → (a ≡ true → b ≡ true) → (a || c) ≡ true → (b || c) ≡ true
+      of_bools true b c f e = ap (λ x. x || c) (f refl)
+      of_bools false true c f e = refl
+      of_bools false false c f e = e
+
+  pub none_more_along : (p q : List Bool) → StaysParsed p q → (ranges : List UnitRange) → TakeNone shares units p ranges → TakeNone shares units q ranges
+  none_more_along p q stay [] h = tt
+  none_more_along p q stay (r ∷ ranges) h = (none_more p q stay r.unit h.0, none_more_along p q stay ranges h.1)
+
+  pub none_more_for_all : (d : Sections) (p q : List Bool) → StaysParsed p q → TakeNoneForAll shares d units p → TakeNoneForAll shares d units q
+  none_more_for_all d p q stay h n asked = none_more p q stay n (h n asked)

@@ -16,7 +16,7 @@ use Rattle.addr2line_units.specs.FunctionParses.{AreFirstDecided, AreReadBefore,
 use Rattle.addr2line_units.specs.KnownEntries.{knows_at}
 use Rattle.addr2line_units.specs.Loads.{forgotten, is_open_at, load_result}
 use Rattle.addr2line_units.specs.Located.{is_found, looks_along}
-use Rattle.addr2line_units.specs.Parsed.{AllAskFor, AreAllParsed, AreParsed, AreReadyForAll, AsksFor, LeadTo, ParsesOnly, StaysParsed, ready_along}
+use Rattle.addr2line_units.specs.Parsed.{AllAskFor, AreAllParsed, AreParsed, AreReadyForAll, AsksFor, LeadTo, ParsesOnly, StaysParsed, TakeNone, TakeNoneForAll, ready_along}
 use Rattle.addr2line_units.specs.StaysKnown.{IsReadBy, IsReadyAt, StaysKnown}
 use Rattle.addr2line_units.specs.UnitsState.{IsFaultAt, UnitsState, asked_by, has_all_at, has_few_at}
 
@@ -40,21 +40,25 @@ pub record AfterRow {X : Type 0} (probe : ℕ) (ranges : List UnitRange)
   pub counted : is_found result ≡ true → old.looks < new.looks
   pub cost : new.looks ≤ old.looks + looks_along old.scope.file.sections old.units ranges
 
--- after the lines of units along ranges were parsed, or after OutOfMemory
-pub record AfterCaching {X : Type 0} (ranges : List UnitRange) (result : Result X Error)
-    (old new : UnitsState) : Type 0 where
+-- after the lines of units along ranges were parsed, or after OutOfMemory, over readers that share
+-- their bytes or don't
+pub record AfterCaching {X : Type 0} (shares : Bool) (ranges : List UnitRange)
+    (result : Result X Error) (old new : UnitsState) : Type 0 where
   pub lines : AfterLines (LeadTo ranges) old new
   pub looks : new.looks ≡ old.looks
   pub parsed : OnOk result (AreParsed new.parsed ranges)
-  pub memory : AreParsed new.parsed ranges → WasNotRefused result
+  pub memory : TakeNone shares old.units new.parsed ranges → WasNotRefused result
   pub refused : IfErr result (λ e. e ≡ OutOfMemory)
 
--- after the lines of all units were parsed, up to the first fault, or after OutOfMemory
-pub record AfterLineParse (result : Result (Unit {0}) Error) (old new : UnitsState) : Type 0 where
+-- after the lines of all units were parsed, up to the first fault, or after OutOfMemory, over
+-- readers that share their bytes or don't
+pub record AfterLineParse (shares : Bool) (result : Result (Unit {0}) Error) (old new : UnitsState)
+    : Type 0 where
   pub lines : AfterLines (AllAskFor old.scope.file.sections old.units) old new
   pub looks : new.looks ≡ old.looks
   pub ready : WasNotRefused result → AreReadyForAll old.scope.file.sections old.units new.parsed
-  pub memory : AreReadyForAll old.scope.file.sections old.units new.parsed → WasNotRefused result
+  pub memory : TakeNoneForAll shares old.scope.file.sections old.units new.parsed
+      → WasNotRefused result
   pub parsed : OnOk result (AreAllParsed new.parsed)
 
 -- units were asked for the probe: what was read stays, and nothing is read of others

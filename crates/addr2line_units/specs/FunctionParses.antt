@@ -3,7 +3,7 @@
 -- Own: units are read in their order, up to the first that has a fault; one that waits for an
 -- answer is decided by none first. The first fault counts of the view of a unit, of its functions,
 -- and, where they are asked for, of their details in the order of the entries.
-use Rattle.std.specs.Prelude.{ℕ, zero, suc, ◌≡◌, ◌⊎◌, ◌<◌, false, List, [], ◌∷◌, slice_get, Option, Some, None, IfSome, Result, Ok, Err}
+use Rattle.std.specs.Prelude.{ℕ, zero, suc, ◌≡◌, ◌⊎◌, ◌<◌, Bool, false, List, [], ◌∷◌, slice_get, Option, Some, None, IfSome, Result, Ok, Err}
 use Rattle.gimli_read.specs.declared.error.Error.{Error}
 use Rattle.gimli_read.specs.Reading.{◌>>=◌, fault_of}
 use Rattle.gimli.specs.Sections.{Sections}
@@ -12,6 +12,7 @@ use Rattle.addr2line_lines.specs.Functions.{functions_of}
 use Rattle.addr2line_lines.specs.References.{Scope}
 use Rattle.addr2line_units.specs.declared.parses.ReadingDepth.{ReadingDepth}
 use Rattle.addr2line_units.specs.declared.parses.ReadingDepth.TheVariants as reads
+use Rattle.addr2line_units.specs.AskMemory.{functions_in_take_memory}
 use Rattle.addr2line_units.specs.FramesLookup.{answer_of}
 use Rattle.addr2line_units.specs.CachedFunctions.{functions_fault}
 use Rattle.addr2line_units.specs.KnownEntries.{KnownDetail, NotRead, IsRead, HasFault, KnownFunction, KnownEntries, NothingKnown, AllKnown, FunctionsKnown}
@@ -74,12 +75,37 @@ IsReadyFor reads AllKnown = Unit {0}
 IsReadyFor reads.Functions (FunctionsKnown ranges functions) = Unit {0}
 IsReadyFor reads.Details (FunctionsKnown ranges functions) = AreKnownToFault functions
 
--- the same of each unit before which all can be read; none of these is open
+-- the same of the unit of a number, which isn't open
+abbrev pub IsReadyOf : ReadingDepth → Scope → List UnitRecord → FirstAnswers → List KnownEntries
+    → ℕ → Type 0
+IsReadyOf reads scope us answers known n =
+    (is_open_at scope.file.sections us answers n ≡ false)
+    × IfSome (slice_get known n) (IsReadyFor reads)
+
+-- the same of each unit before which all can be read
 abbrev pub AreReadyFor : ReadingDepth → Scope → List UnitRecord → FirstAnswers
     → List KnownEntries → Type 0
 AreReadyFor reads scope us answers known = (n : ℕ) → AreReadBefore reads scope us answers n
-    → (is_open_at scope.file.sections us answers n ≡ false)
-    × IfSome (slice_get known n) (IsReadyFor reads)
+    → IsReadyOf reads scope us answers known n
+
+-- whether memory may be taken for the functions of a unit with this first answer, which is decided
+-- by none where it is open; where it takes none it has no details either
+abbrev pub parse_takes_memory : Bool → Scope → UnitRecord → Option (Option Sections) → Bool
+parse_takes_memory shares scope u answer =
+    functions_in_take_memory shares scope u (decided_answer scope.file.sections u answer None)
+
+-- the same of the unit of a number; where there is no such unit nothing is read
+abbrev pub parse_of_takes_memory : Bool → Scope → List UnitRecord → FirstAnswers → ℕ → Bool
+parse_of_takes_memory shares scope us answers n = elim (slice_get us n)
+    [ None ↦ false | Some u ↦ parse_takes_memory shares scope u (answer_of answers n) ]
+
+-- a parse takes no memory: of each unit before which all can be read what it reads is known, or its
+-- functions take none
+abbrev pub ReadsNoMemory : Bool → ReadingDepth → Scope → List UnitRecord → FirstAnswers
+    → List KnownEntries → Type 0
+ReadsNoMemory shares reads scope us answers known = (n : ℕ)
+    → AreReadBefore reads scope us answers n → IsReadyOf reads scope us answers known n
+    ⊎ (parse_of_takes_memory shares scope us answers n ≡ false)
 
 -- the first answers of units after one that was read, or as they were where it had a fault
 abbrev pub unless_fault : Result (Unit {0}) Error → FirstAnswers → FirstAnswers → FirstAnswers

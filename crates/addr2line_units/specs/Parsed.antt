@@ -46,6 +46,11 @@ takes_none_along shares d units parsed probe ranges =
 abbrev pub AreParsed : List Bool → List UnitRange → Type 0
 AreParsed parsed ranges = AllByRecursion (λ (r : UnitRange). has_parsed parsed r.unit ≡ true) ranges
 
+-- along these ranges the lines of each unit are parsed, or no memory is taken for them
+abbrev pub TakeNone : Bool → List IndexedUnit → List Bool → List UnitRange → Type 0
+TakeNone shares units parsed ranges =
+    AllByRecursion (λ (r : UnitRange). parses_no_memory shares units parsed r.unit ≡ true) ranges
+
 -- the lines of all units are parsed
 abbrev pub AreAllParsed : List Bool → Type 0
 AreAllParsed parsed = (n : ℕ) → has_parsed parsed n ≡ true
@@ -62,6 +67,12 @@ AllAskFor d units n = (m : ℕ) → m < n → can_be_read d (slice_get units m) 
 -- the lines of all units are parsed, up to the first that has a fault
 abbrev pub AreReadyForAll : Sections → List IndexedUnit → List Bool → Type 0
 AreReadyForAll d units parsed = (n : ℕ) → AllAskFor d units n → has_parsed parsed n ≡ true
+
+-- the lines of all units are parsed, or no memory is taken for them, up to the first that has a
+-- fault
+abbrev pub TakeNoneForAll : Bool → Sections → List IndexedUnit → List Bool → Type 0
+TakeNoneForAll shares d units parsed =
+    (n : ℕ) → AllAskFor d units n → parses_no_memory shares units parsed n ≡ true
 
 -- a lookup asks for the lines of a unit: a range leads to it, and no unit before it decides
 abbrev pub AsksFor : Sections → List IndexedUnit → ℕ → List UnitRange → ℕ → Type 0

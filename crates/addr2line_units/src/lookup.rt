@@ -11,7 +11,7 @@ ghost use Rattle.addr2line_units.specs.AfterUnits.{AfterCaching, AfterLineParse,
 ghost use Rattle.addr2line_units.specs.CachedLines.{HaveLinesOf, StayUnits, cached_files, indexed_units, lines_result_at, location_of_unit_row, parsed_units, unit_row};
 ghost use Rattle.addr2line_units.specs.Located.{all_lines, along, is_found, location_in, looks_along, looks_in, spans_along};
 ghost use Rattle.addr2line_units.specs.LocationsLeft.{locations_left};
-ghost use Rattle.addr2line_units.specs.Parsed.{AllAskFor, AreAllParsed, AreParsed, AreReadyForAll, AsksFor, LeadTo, ParsesOnly, has_parsed, ready_along, takes_none_along};
+ghost use Rattle.addr2line_units.specs.Parsed.{AllAskFor, AreAllParsed, AreParsed, AreReadyForAll, AsksFor, LeadTo, ParsesOnly, TakeNone, TakeNoneForAll, has_parsed, parses_no_memory, ready_along, takes_none_along};
 ghost use Rattle.addr2line_units.specs.UnitRangesLeft.{ranges_left};
 ghost use Rattle.addr2line_units.specs.UnitsState.{row_location};
 
@@ -129,9 +129,9 @@ fn cache_lines_in<R: Reader>(
     number: usize,
 ) -> Result<(), Error>
     requires read { HaveLinesOf dwarf.now dw_units.now units.old.items }
-    ensures exact { has_parsed (parsed_units units.old.items) number ≡ true → result ≡ Ok tt }
     ensures parsed { OnOk result (has_parsed (parsed_units units.new.items) number ≡ true) }
-    ensures memory { has_parsed (parsed_units units.new.items) number ≡ true → WasNotRefused result }
+    ensures memory { parses_no_memory R.shares (indexed_units dw_units.now units.old.items)
+        (parsed_units units.new.items) number ≡ true → WasNotRefused result }
     ensures only { ParsesOnly (λ n. n ≡ number)
         (parsed_units units.old.items) (parsed_units units.new.items) }
     ensures refused { IfErr result (λ e. e ≡ OutOfMemory) }
@@ -155,12 +155,10 @@ pub(crate) fn cache_lines_along<R: Reader>(
     mut ranges: UnitRangeIter<'_>,
 ) -> Result<(), Error>
     requires read { HaveLinesOf dwarf.now dw_units.now units.old.items }
-    ensures exact { AreParsed (parsed_units units.old.items) (ranges_left ranges.entry)
-        → result ≡ Ok tt }
     ensures parsed { OnOk result
         (AreParsed (parsed_units units.new.items) (ranges_left ranges.entry)) }
-    ensures memory { AreParsed (parsed_units units.new.items) (ranges_left ranges.entry)
-        → WasNotRefused result }
+    ensures memory { TakeNone R.shares (indexed_units dw_units.now units.old.items)
+        (parsed_units units.new.items) (ranges_left ranges.entry) → WasNotRefused result }
     ensures only { ParsesOnly (LeadTo (ranges_left ranges.entry))
         (parsed_units units.old.items) (parsed_units units.new.items) }
     ensures refused { IfErr result (λ e. e ≡ OutOfMemory) }
@@ -185,11 +183,9 @@ fn read_lines_in<R: Reader>(
     ensures gives { IsUnlessOom result
         (lines_result_at dwarf.now
         (slice_get (indexed_units dw_units.now units.old.items) number)) }
-    ensures exact { has_parsed (parsed_units units.old.items) number ≡ true → Exactly (λ x. x)
-        result (lines_result_at dwarf.now
-        (slice_get (indexed_units dw_units.now units.old.items) number)) }
     ensures parsed { WasNotRefused result → has_parsed (parsed_units units.new.items) number ≡ true }
-    ensures memory { has_parsed (parsed_units units.new.items) number ≡ true → WasNotRefused result }
+    ensures memory { parses_no_memory R.shares (indexed_units dw_units.now units.old.items)
+        (parsed_units units.new.items) number ≡ true → WasNotRefused result }
     ensures only { ParsesOnly (λ n. n ≡ number)
         (parsed_units units.old.items) (parsed_units units.new.items) }
     ensures stay { StayUnits units.old.items units.new.items }
@@ -213,13 +209,11 @@ pub(crate) fn read_all_lines<R: Reader>(
     requires read { HaveLinesOf dwarf.now dw_units.now units.old.items }
     ensures gives { IsUnlessOom result
         (fault_of (all_lines dwarf.now (indexed_units dw_units.now units.old.items))) }
-    ensures exact { AreReadyForAll dwarf.now (indexed_units dw_units.now units.old.items)
-        (parsed_units units.old.items) → Exactly (λ x. x) result
-        (fault_of (all_lines dwarf.now (indexed_units dw_units.now units.old.items))) }
     ensures ready { WasNotRefused result → AreReadyForAll dwarf.now
         (indexed_units dw_units.now units.old.items) (parsed_units units.new.items) }
-    ensures memory { AreReadyForAll dwarf.now (indexed_units dw_units.now units.old.items)
-        (parsed_units units.new.items) → WasNotRefused result }
+    ensures memory { TakeNoneForAll R.shares dwarf.now
+        (indexed_units dw_units.now units.old.items) (parsed_units units.new.items)
+        → WasNotRefused result }
     ensures parsed { OnOk result (AreAllParsed (parsed_units units.new.items)) }
     ensures only { ParsesOnly (AllAskFor dwarf.now (indexed_units dw_units.now units.old.items))
         (parsed_units units.old.items) (parsed_units units.new.items) }
@@ -292,9 +286,10 @@ impl<R: Reader> Units<R> {
     /// Parses the lines of the units that ranges lead to, unless they are; they stay parsed, and
     /// their faults too. No other lines are parsed.
     ///
-    /// Refused `OutOfMemory` alone, which is never cached; takes no memory where they are parsed.
+    /// Refused `OutOfMemory` alone, which is never cached; takes no memory where the lines are
+    /// parsed, or take none to read, as `Lines::parse` has it.
     pub fn cache_lines(&mut self, ranges: UnitRangeIter<'_>) -> Result<(), Error>
-        ensures after { AfterCaching (ranges_left ranges.entry) result self.old self.new }
+        ensures after { AfterCaching R.shares (ranges_left ranges.entry) result self.old self.new }
     {
         self.stop = FramesStop::FindsNothing;
         cache_lines_along(
@@ -326,11 +321,12 @@ impl<R: Reader> Units<R> {
     /// they are.
     ///
     /// Refused by the first fault; may fail with `OutOfMemory` instead, which is never cached.
-    /// Takes no memory where the lines up to the first fault are parsed.
+    /// Takes no memory where the lines up to the first fault are parsed, or take none to read, as
+    /// `Lines::parse` has it.
     pub fn parse_lines(&mut self) -> Result<(), Error>
         ensures gives { IsUnlessOom result
             (fault_of (all_lines self.old.scope.file.sections self.old.units)) }
-        ensures after { AfterLineParse result self.old self.new }
+        ensures after { AfterLineParse R.shares result self.old self.new }
     {
         self.stop = FramesStop::FindsNothing;
         read_all_lines(

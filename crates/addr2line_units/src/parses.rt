@@ -1,18 +1,20 @@
 //! Parses of the functions of all units.
 
-ghost use Rattle.std.specs.Prelude.{◌≡◌, ◌⊎◌, ◌<◌, ℕ, IfSome, None, Ok, OnOk, length, slice_get, true};
+ghost use Rattle.std.specs.Prelude.{◌≡◌, ◌⊎◌, ◌<◌, ℕ, Err, IfErr, IfSome, None, Ok, OnOk, false, length, slice_get, true};
 ghost use Rattle.gimli_read.specs.Reading.{IsUnlessOom};
+ghost use Rattle.addr2line_lines.specs.Functions.{functions_take_memory};
 ghost use Rattle.addr2line_lines.specs.References.{IsScope};
 ghost use Rattle.addr2line_lines.specs.SeenScope.{seen_scope};
 ghost use Rattle.addr2line_units.specs.declared.parses.ReadingDepth.TheVariants.{Details, Functions};
+ghost use Rattle.addr2line_units.specs.AskMemory.{functions_in_take_memory};
 ghost use Rattle.addr2line_units.specs.FramesLookup.{with_answer};
-ghost use Rattle.addr2line_units.specs.FunctionParses.{AreFirstDecided, AreReadBefore, IsReadyFor, answers_after_parse, read_of_functions, read_of_number, read_of_unit, read_of_units, read_of_view};
+ghost use Rattle.addr2line_units.specs.FunctionParses.{AreFirstDecided, AreReadBefore, IsReadyFor, ReadsNoMemory, answers_after_parse, parse_of_takes_memory, parse_takes_memory, read_of_functions, read_of_number, read_of_unit, read_of_units, read_of_view};
 ghost use Rattle.addr2line_units.specs.CachedEntries.{AreEntriesOf, StayEntries, first_answer_of};
 ghost use Rattle.addr2line_units.specs.CachedFunctions.{AreFunctionsOf, StayFunctions};
 ghost use Rattle.addr2line_units.specs.CachedUnits.{HaveEntriesOf, answers_in};
 ghost use Rattle.addr2line_units.specs.CachedParses.{AreReadyUnits, ChangesOnly, HasRead, HaveFunctions, HaveRead, IsReadyUnit, StayDecided};
 ghost use Rattle.addr2line_units.specs.CachedViews.{is_decided, seen_first_answer};
-ghost use Rattle.addr2line_units.specs.CachedKnown.{known_by, known_functions};
+ghost use Rattle.addr2line_units.specs.CachedKnown.{known_by, known_functions, known_in};
 ghost use Rattle.gimli_read.specs.Alike.{WasNotRefused};
 ghost use Rattle.addr2line_units.specs.AfterUnits.{AfterReading};
 ghost use Rattle.addr2line_units.specs.Views.{decided_answer, verdict};
@@ -38,8 +40,8 @@ pub enum ReadingDepth {
 
 impl<R: Reader> LazyFunctions<R> {
     // Reads the functions of a view, unless they were read, and caches them, or their fault.
-    // Refused by that fault; may fail with `OutOfMemory` instead, only where they were not read.
-    // Changes nothing where they were, or their fault is cached.
+    // Refused by that fault; may fail with `OutOfMemory` instead, only where they were not read and
+    // take memory. Changes nothing where they were, or their fault is cached.
     fn read_alone(
         &mut self,
         alloc: Global,
@@ -56,6 +58,9 @@ impl<R: Reader> LazyFunctions<R> {
         ensures ready_for_all { WasNotRefused result
             → IsReadyFor Functions (known_functions self.new) }
         ensures had_memory { IsReadyFor Functions (known_functions self.new) → WasNotRefused result }
+        ensures no_memory { functions_take_memory R.shares scope.entry.file.dwarf.now view.now
+            ≡ false → IfErr result (λ e. read_of_functions Functions (seen_scope scope.entry)
+            view.now ≡ Err e) }
         ensures exact { IsReadyFor Functions (known_functions self.old)
             → result ≡ read_of_functions Functions (seen_scope scope.entry) view.now }
         ensures same { IsReadyFor Functions (known_functions self.old) → self.new ≡ self.old }
@@ -86,6 +91,9 @@ impl<R: Reader> LazyFunctions<R> {
         ensures memory { HaveFunctions reads self.old → result ≡ Ok tt }
         ensures ready_for_all { WasNotRefused result → IsReadyFor reads (known_functions self.new) }
         ensures had_memory { IsReadyFor reads (known_functions self.new) → WasNotRefused result }
+        ensures no_memory { functions_take_memory R.shares scope.entry.file.dwarf.now view.now
+            ≡ false → IfErr result (λ e. read_of_functions reads (seen_scope scope.entry) view.now
+            ≡ Err e) }
         ensures exact { IsReadyFor reads (known_functions self.old)
             → result ≡ read_of_functions reads (seen_scope scope.entry) view.now }
         ensures same { IsReadyFor reads (known_functions self.old) → self.new ≡ self.old }
@@ -123,6 +131,10 @@ fn read_in_view<'x, R: Reader>(
         → IsReadyFor reads (known_by view.now.state functions.new) }
     ensures had_memory { IsReadyFor reads (known_by view.now.state functions.new)
         → WasNotRefused result }
+    ensures no_memory { functions_in_take_memory R.shares (seen_scope scope.entry) dw_unit.now
+        (seen_first_answer view.now) ≡ false → IfErr result (λ e. read_of_view reads
+        (seen_scope scope.entry) (verdict scope.entry.file.dwarf.now dw_unit.now
+        (seen_first_answer view.now)) ≡ Err e) }
     ensures exact { IsReadyFor reads (known_by view.now.state functions.old)
         → result ≡ read_of_view reads (seen_scope scope.entry)
         (verdict scope.entry.file.dwarf.now dw_unit.now (seen_first_answer view.now)) }
@@ -139,8 +151,9 @@ impl<R: Reader> UnitEntries<R> {
     // by none first.
     //
     // Refused by the first fault of the view, its functions and the details; may fail with
-    // `OutOfMemory` instead, only where something of these isn't cached. Takes no memory, and
-    // changes nothing, where the view and what is read of it are cached, up to the first fault.
+    // `OutOfMemory` instead, only where something of these isn't cached, and the functions take
+    // memory. Changes nothing where the view and what is read of it are cached, up to the first
+    // fault.
     fn read<'x>(
         &mut self,
         alloc: Global,
@@ -163,6 +176,9 @@ impl<R: Reader> UnitEntries<R> {
         ensures memory { HasRead reads self.old → result ≡ Ok tt }
         ensures ready_for_all { WasNotRefused result → IsReadyUnit reads self.new }
         ensures had_memory { IsReadyUnit reads self.new → WasNotRefused result }
+        ensures no_memory { parse_takes_memory R.shares (seen_scope scope.entry) dw_unit.now
+            (first_answer_of self.new) ≡ false → IfErr result (λ e. read_of_unit reads
+            (seen_scope scope.entry) dw_unit.now (first_answer_of self.old) ≡ Err e) }
         ensures exact { IsReadyUnit reads self.old → result ≡ read_of_unit reads
             (seen_scope scope.entry) dw_unit.now (first_answer_of self.old) }
         ensures same { IsReadyUnit reads self.old → self.new ≡ self.old }
@@ -204,6 +220,10 @@ fn read_functions_in<R: Reader>(
         → IfSome (slice_get entries.new.items number) (IsReadyUnit reads) }
     ensures had_memory { IfSome (slice_get entries.new.items number) (IsReadyUnit reads)
         → WasNotRefused result }
+    ensures no_memory { parse_of_takes_memory R.shares (seen_scope scope.entry)
+        scope.entry.file.units.now (answers_in entries.new.items) number ≡ false
+        → IfErr result (λ e. read_of_number reads (seen_scope scope.entry)
+        scope.entry.file.units.now (answers_in entries.old.items) number ≡ Err e) }
     ensures exact { IfSome (slice_get entries.old.items number) (IsReadyUnit reads)
         → result ≡ read_of_number reads (seen_scope scope.entry) scope.entry.file.units.now
         (answers_in entries.old.items) number }
@@ -248,6 +268,10 @@ fn read_all_functions<R: Reader>(
     ensures had_memory { AreReadyUnits reads (seen_scope scope.entry)
         scope.entry.file.units.now (answers_in entries.new.items) entries.new.items
         → WasNotRefused result }
+    ensures no_memory { ReadsNoMemory R.shares reads (seen_scope scope.entry)
+        scope.entry.file.units.now (answers_in entries.new.items) (known_in entries.new.items)
+        → IfErr result (λ e. read_of_units reads (seen_scope scope.entry)
+        scope.entry.file.units.now (answers_in entries.old.items) ≡ Err e) }
     ensures exact { AreReadyUnits reads (seen_scope scope.entry) scope.entry.file.units.now
         (answers_in entries.old.items) entries.old.items
         → result ≡ read_of_units reads (seen_scope scope.entry) scope.entry.file.units.now
@@ -271,12 +295,16 @@ impl<R: Reader> Units<R> {
     ///
     /// Refused by the first fault of a view, its functions and the details; may fail with
     /// `OutOfMemory` instead, which is never cached: then some of the first units that it would
-    /// decide are decided. Takes no memory, and changes nothing, where all that it reads is cached,
-    /// up to the first fault, and that fault. Source: DWARF 5, sections 3.3.1 and 3.3.8.
+    /// decide are decided. Takes no memory where of each unit up to the first fault what it reads
+    /// is cached, that fault too, or the functions take none to read; changes nothing where all of
+    /// it is cached. Source: DWARF 5, sections 3.3.1 and 3.3.8.
     pub fn read_functions(&mut self, reads: ReadingDepth) -> Result<(), Error>
         ensures gives { IsUnlessOom result (read_of_units reads self.old.scope
             self.old.scope.file.units self.old.answers) }
         ensures after { AfterReading reads result self.old self.new }
+        ensures no_memory { ReadsNoMemory R.shares reads self.old.scope self.old.scope.file.units
+            self.new.answers self.new.known → IfErr result (λ e. read_of_units reads
+            self.old.scope self.old.scope.file.units self.old.answers ≡ Err e) }
     {
         self.stop = FramesStop::FindsNothing;
         let scope = self.sources.scope();

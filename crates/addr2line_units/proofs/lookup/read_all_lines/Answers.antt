@@ -27,20 +27,12 @@ returns-in_err-read_lines_in-clause-gives g c =
     let within = subst (λ n. c.loop-number.number < n) (i.count ∙ sym (as_many_indexed c.args.dwarf.now c.args.dw_units.now c.args.units.now.items c.requires.read)) c.loop-number-test.true in
     rw (p.1, p.2) (λ ne. sym i.rest ∙ lines_stop c.args.dwarf.now units c.loop-number.number _ within (fault ne))
 
-pub returns-in_err-read_lines_in-clause-exact : goal.returns-in_err-read_lines_in-clause-exact
-returns-in_err-read_lines_in-clause-exact g c =
-    let p = err_from_is_err_and c.from_residual.result c.from_residual.ensures.1 in
-    let i = c.loop-number.invariant in
-    let us = c.args.units.now.items in
-    let units = indexed_units c.args.dw_units.now us in
-    let fault = rw (stay_indexed c.args.dw_units.now us c.loop-number.units.items i.stay) at c.in_err-read_lines_in.ensures.exact in
-    let within = subst (λ n. c.loop-number.number < n) (i.count ∙ sym (as_many_indexed c.args.dwarf.now c.args.dw_units.now c.args.units.now.items c.requires.read)) c.loop-number-test.true in
-    rw (p.1, p.2) (λ ready. sym i.rest ∙ lines_stop c.args.dwarf.now units c.loop-number.number _ within (fault (stay_parsed us c.loop-number.units.items i.stay c.loop-number.number (ready c.loop-number.number i.before))))
-
 pub returns-in_err-read_lines_in-clause-memory : goal.returns-in_err-read_lines_in-clause-memory
 returns-in_err-read_lines_in-clause-memory g c =
     let p = err_from_is_err_and c.from_residual.result c.from_residual.ensures.1 in
-    rw (p.1, p.2) (λ ready. c.in_err-read_lines_in.ensures.memory (ready c.loop-number.number c.loop-number.invariant.before))
+    let i = c.loop-number.invariant in
+    let memory = rw (stay_indexed c.args.dw_units.now c.args.units.now.items c.loop-number.units.items i.stay) at c.in_err-read_lines_in.ensures.memory in
+    rw (p.1, p.2) (λ none. memory (none c.loop-number.number i.before))
 
 pub returns-in_err-read_lines_in-clause-stay : goal.returns-in_err-read_lines_in-clause-stay
 returns-in_err-read_lines_in-clause-stay g c = stay_over c.args.units.now.items c.loop-number.units.items c.read_lines_in.new.units.items c.loop-number.invariant.stay c.in_err-read_lines_in.ensures.stay
@@ -92,6 +84,3 @@ returns-clause-gives g c =
     let rs = c.args.units.now.items in
     let past = subst (λ n. n ≤ c.loop-number.number) (i.count ∙ sym (as_many_indexed c.args.dwarf.now us rs c.requires.read)) c.loop-number-test.false in
     sym i.rest ∙ lines_end c.args.dwarf.now (indexed_units us rs) c.loop-number.number past
-
-pub returns-clause-exact : goal.returns-clause-exact
-returns-clause-exact g c = λ ready. returns-clause-gives g c

@@ -1,6 +1,10 @@
-use Rattle.std.proofs.Common.{ap, arith, inl, rules}
-use Rattle.addr2line_units.specs.CachedLines.{lines_result_at}
-use Rattle.addr2line_units.proofs.UnitsLemmas.{no_parsed, no_unit, in_units, own_at, own_set, only_set, answer_cached, lines_read, lines_read_exactly, parsed_at, parsed_set, set_parsed, stay_all, stay_set}
+use Rattle.std.proofs.Common.{◌<◌, ◌∙◌, ap, arith, inl, length, rules, sym}
+use Rattle.std.proofs.Math.ListN.{set}
+use Rattle.addr2line_units.specs.AskMemory.{any_lines_take_memory, lines_of_take_memory}
+use Rattle.addr2line_units.specs.CachedLines.{indexed_units, lines_result_at, parsed_units}
+use Rattle.addr2line_units.specs.Parsed.{has_parsed}
+use Rattle.addr2line_units.proofs.AskMemoryLemmas.{either_none, none_refused}
+use Rattle.addr2line_units.proofs.UnitsLemmas.{no_parsed, no_unit, in_units, own_at, own_set, only_set, answer_cached, lines_read, parsed_set, set_parsed, stay_all, stay_set, unit_at}
 use Rattle.addr2line_units.proofs.lookup.read_lines_in.Goals as goal
 
 pub returns-then-number-len-clause-stay : goal.returns-then-number-len-clause-stay
@@ -9,18 +13,23 @@ returns-then-number-len-clause-stay g c = stay_all c.args.units.now.items
 pub returns-clause-gives : goal.returns-clause-gives
 returns-clause-gives g c = lines_read _ c.args.dw_units.now c.args.units.now.items c.args.number c.index-dw_units-number.result c.index_mut-unit.result.now _ _ c.requires.read (search rules) c.index-dw_units-number.is c.index_mut-unit.ensures.value c.read_lines.ensures.gives
 
-pub returns-clause-exact : goal.returns-clause-exact
-returns-clause-exact g c = λ parsed.
-    let us = c.args.units.now.items in
-    let u = c.index_mut-unit.result.now in
-    let value = c.index_mut-unit.ensures.value in
-    lines_read_exactly _ c.args.dw_units.now us c.args.number c.index-dw_units-number.result u _ _ c.requires.read (search rules) c.index-dw_units-number.is value (c.read_lines.ensures.exact (parsed_at us c.args.number u (search rules) value parsed))
-
 pub returns-clause-parsed : goal.returns-clause-parsed
 returns-clause-parsed g c = λ answered. parsed_set c.args.units.now.items c.args.number c.read_lines.new.self (search rules) (answer_cached _ _ _ c.read_lines.ensures.caches answered)
 
 pub returns-clause-memory : goal.returns-clause-memory
-returns-clause-memory g c = λ parsed. c.read_lines.ensures.memory (set_parsed c.args.units.now.items c.args.number c.read_lines.new.self (search rules) parsed)
+returns-clause-memory g c =
+    let shares = g.R.Reader.shares in
+    let us = c.args.units.now.items in
+    let n = c.args.number in
+    let u = c.index-dw_units-number.result in
+    let new = c.read_lines.new.self in
+    let result = c.read_lines.result in
+    let units = indexed_units c.args.dw_units.now us in
+    let here : n < length us = search rules in
+    let same = unit_at c.args.dw_units.now us n u c.index_mut-unit.result.now (in_units c.args.dwarf.now c.args.dw_units.now us n c.requires.read here) here c.index-dw_units-number.is c.index_mut-unit.ensures.value in
+    λ none. either_none (has_parsed (parsed_units (set us n new)) n) (lines_of_take_memory shares units n) result none
+    (λ parsed. c.read_lines.ensures.memory (set_parsed us n new here parsed))
+    (λ takes. none_refused shares c.args.dwarf.now u result c.read_lines.ensures.no_memory (sym (ap (any_lines_take_memory shares) same) ∙ takes))
 
 pub returns-clause-stay : goal.returns-clause-stay
 returns-clause-stay g c = stay_set c.args.units.now.items c.args.number c.index_mut-unit.result.now c.read_lines.new.self (search rules) c.index_mut-unit.ensures.value (record { language = c.read_lines.ensures.lang; lines = c.read_lines.ensures.stays })
@@ -47,9 +56,6 @@ returns-clause-read g c = own_set c.args.dwarf.now c.args.dw_units.now c.args.un
 
 pub returns-then-number-len-clause-gives : goal.returns-then-number-len-clause-gives
 returns-then-number-len-clause-gives g c = ap (lines_result_at c.args.dwarf.now) (no_unit c.args.dw_units.now c.args.units.now.items c.args.number (search rules))
-
-pub returns-then-number-len-clause-exact : goal.returns-then-number-len-clause-exact
-returns-then-number-len-clause-exact g c = λ parsed. returns-then-number-len-clause-gives g c
 
 pub returns-then-number-len-clause-parsed : goal.returns-then-number-len-clause-parsed
 returns-then-number-len-clause-parsed g c = λ answered. no_parsed c.args.units.now.items c.args.number (search rules)

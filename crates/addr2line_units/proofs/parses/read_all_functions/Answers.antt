@@ -1,4 +1,4 @@
-use Rattle.std.proofs.Common.{ℕ, ◌≡◌, ◌+◌, ◌<◌, ◌≤◌, ◌∙◌, None, suc, ap, arith, inl, inr, length, refl, rules, slice_get, subst, sym}
+use Rattle.std.proofs.Common.{ℕ, ◌≡◌, ◌+◌, ◌<◌, ◌≤◌, ◌∙◌, Err, None, suc, ap, arith, inl, inr, length, refl, rules, slice_get, subst, sym}
 use Rattle.std.specs.Prelude.{IfSome}
 use Rattle.std.proofs.lemmas.Result.{err_from_is_err_and}
 use Rattle.addr2line_lines.specs.SeenScope.{seen_scope}
@@ -9,7 +9,7 @@ use Rattle.addr2line_units.specs.CachedParses.{HasRead, IsReadyUnit}
 use Rattle.addr2line_units.proofs.CachedUnitLemmas.{as_many_entries}
 use Rattle.addr2line_units.proofs.CachedParseLemmas.{all_read, before_less, behind_more, changes_all, changes_then, decided_over, decided_same, many_answers, read_more, read_number}
 use Rattle.addr2line_units.proofs.ParseLemmas.{after_end, after_stop, before_more, decided_more, number_behind, read_end, read_stop}
-use Rattle.addr2line_units.proofs.ReadyLemmas.{before_decided, ready_stop, some_ready}
+use Rattle.addr2line_units.proofs.ReadyLemmas.{before_decided, ready_stop, ready_units, some_ready}
 use Rattle.addr2line_units.proofs.parses.read_all_functions.Goals as goal
 
 pub loop-number-init : goal.loop-number-init
@@ -265,3 +265,31 @@ returns-in_err-read_functions_in-clause-had_memory g c =
       | inr e ↦ before_decided c.args.reads scope us (answers_in vs) (answers_in new) (suc k) k (e ∙ ap (λ a. with_answer d us a k None) i.answers ∙ decided_more d us (answers_in vs) k h many) i.before
     ] in
     rw (p.1, p.2) (λ ready. c.in_err-read_functions_in.ensures.had_memory (ready k before))
+
+pub returns-in_err-read_functions_in-clause-no_memory : goal.returns-in_err-read_functions_in-clause-no_memory
+returns-in_err-read_functions_in-clause-no_memory g c =
+    let p = err_from_is_err_and c.from_residual.result c.from_residual.ensures.1 in
+    let i = c.loop-number.invariant in
+    let d = c.args.scope.file.dwarf.now in
+    let scope = seen_scope c.args.scope in
+    let us = c.args.scope.file.units.now in
+    let vs = c.args.entries.now.items in
+    let new = c.read_functions_in.new.entries.items in
+    let k = c.loop-number.number in
+    let first = as_many_entries scope us vs c.requires.right in
+    let below = c.loop-number-test.true in
+    let count = i.count in
+    let h : k < length us = omega (arith, first, below, count) in
+    let many = many_answers scope us vs c.requires.right in
+    let so = c.in_err-read_functions_in.ensures in
+    let before : AreReadBefore c.args.reads scope us (answers_in new) k = elim so.memory_answers [
+      | inl e ↦ before_decided c.args.reads scope us (answers_in vs) (answers_in new) k k (e ∙ i.answers) i.before
+      | inr e ↦ before_decided c.args.reads scope us (answers_in vs) (answers_in new) (suc k) k (e ∙ ap (λ a. with_answer d us a k None) i.answers ∙ decided_more d us (answers_in vs) k h many) i.before
+    ] in
+    rw (p.1, p.2) (λ none.
+    let fault : read_of_number c.args.reads scope us (answers_in c.loop-number.entries.items) k ≡ Err c.in_err-read_functions_in.field-0.0 = elim (none k before) [
+      | inl ready ↦ so.gives (so.had_memory (ready_units c.args.reads scope us new so.right k ready.0 ready.1))
+      | inr takes ↦ so.no_memory takes
+    ] in
+    let at = sym (number_behind c.args.reads scope us (answers_in vs) k) ∙ ap (λ a. read_of_number c.args.reads scope us a k) (sym i.answers) ∙ fault in
+    read_stop c.args.reads scope us (answers_in vs) k _ many i.before at)

@@ -1,10 +1,11 @@
-use Rattle.std.proofs.Common.{◌≡◌, ◌<◌, ◌∙◌, None, Some, arith, inl, inr, length, ltb-false, ltb-true, refl, slice_get, subst, sym}
+use Rattle.std.proofs.Common.{◌≡◌, ◌<◌, ◌∙◌, Err, None, Some, arith, inl, inr, length, ltb-false, ltb-true, refl, slice_get, subst, sym}
+use Rattle.std.specs.Prelude.{IfErr}
 use Rattle.std.proofs.lemmas.Option.{get_or_from_slice_get, slice_get_past, slice_get_read}
 use Rattle.gimli_read.specs.Reading.{ExactlyUnlessOom}
 use Rattle.addr2line_lines.specs.SeenScope.{seen_scope}
 use Rattle.addr2line_units.proofs.AnswerLemmas.{answered_all, answers_stay}
 use Rattle.addr2line_units.proofs.CachedUnitLemmas.{as_many_entries, entries_at, entries_set}
-use Rattle.addr2line_units.proofs.CachedParseLemmas.{changes_set, decided_same, decided_set, number_is, read_entry, read_set}
+use Rattle.addr2line_units.proofs.CachedParseLemmas.{changes_set, decided_same, decided_set, number_is, read_entry, read_set, takes_of_set}
 use Rattle.addr2line_units.proofs.NumberedFrames.{none_past}
 use Rattle.addr2line_units.proofs.ReadyLemmas.{ready_entry, ready_set, ready_was_set, same_set}
 use Rattle.addr2line_units.proofs.parses.read_functions_in.Goals as goal
@@ -161,3 +162,17 @@ returns-in_default-clause-exact g c = λ ready.
 pub returns-clause-had_memory : goal.returns-clause-had_memory
 returns-clause-had_memory g c = λ ready.
     c.read.ensures.had_memory (ready_was_set c.args.reads c.args.entries.now.items c.args.number c.read.new.self c.requires.there ready)
+
+pub returns-clause-no_memory : goal.returns-clause-no_memory
+returns-clause-no_memory g c = λ none.
+    let scope = seen_scope c.args.scope in
+    let us = c.args.scope.file.units.now in
+    let vs = c.args.entries.now.items in
+    let n = c.args.number in
+    let u = c.in-Some.dw_unit.now in
+    let there : slice_get c.args.scope.file.units.now c.args.number ≡ Some c.in-Some.dw_unit.now = slice_get_read c.args.scope.file.units.now _ c.args.number c.in-Some.dw_unit.now refl (ltb-true _ _ (sym c.in-Some.ensures.lookup.0)) c.in-Some.ensures.lookup.1 in
+    let e = sym (get_or_from_slice_get us n u u there) in
+    let v = c.index_mut-entries.result.now in
+    let h : n < length us = subst (λ m. n < m) (sym (as_many_entries scope us vs c.requires.right)) c.requires.there in
+    subst (λ given. IfErr c.read.result (λ x. given ≡ Err x)) (sym (number_is c.args.reads scope us vs n u v h c.requires.there e c.index_mut-entries.ensures.value))
+    (c.read.ensures.no_memory (sym (takes_of_set g.R.Reader.shares scope us vs n u c.read.new.self h c.requires.there e) ∙ none))

@@ -1,10 +1,11 @@
-use Rattle.std.proofs.Common.{ap, subst, sym, ◌∙◌}
+use Rattle.std.proofs.Common.{Err, ap, subst, sym, ◌≡◌, ◌∙◌}
+use Rattle.std.specs.Prelude.{IfErr}
 use Rattle.std.proofs.lemmas.Result.{err_from_is_err_and}
 use Rattle.gimli_read.specs.Reading.{ExactlyUnlessOom}
 use Rattle.addr2line_lines.specs.SeenScope.{seen_scope}
 use Rattle.addr2line_units.specs.declared.unit_frames.UnitEntries.{UnitEntries}
 use Rattle.addr2line_units.specs.FunctionParses.{IsReadyFor, read_of_view}
-use Rattle.addr2line_units.proofs.EntryLemmas.{fault_known, functions_keep, functions_right, functions_stay, here, view_known}
+use Rattle.addr2line_units.proofs.EntryLemmas.{fault_known, functions_keep, functions_right, functions_stay, functions_take_in, here, view_known}
 use Rattle.addr2line_units.proofs.CachedParseLemmas.{known_view, no_view, read_if_view, view_read}
 use Rattle.addr2line_units.proofs.ReadyLemmas.{fault_by_view, functions_by_view, known_not_oom, ready_fault}
 use Rattle.addr2line_units.proofs.parses.read_in_view.Goals as goal
@@ -137,3 +138,24 @@ returns-clause-had_memory g c = λ ready.
     let x = c.in_ok-unit.unit.unit.now in
     let v = view_known scope u 0 old c.requires.right c.requires.decided c.in_ok-unit.unit.dwarf.now x inner c.in_ok-unit.ensures.gives (c.scope_of.ensures.gives scope.file.sections u c.requires.right.view) in
     c.read.ensures.had_memory (subst (IsReadyFor c.args.reads) (functions_by_view scope.file.sections u (here scope u 0 old c.requires.right c.requires.decided) v.view old.view.state c.read.new.self c.requires.decided c.requires.right.view.right v.is) ready)
+
+pub returns-in_err-unit-clause-no_memory : goal.returns-in_err-unit-clause-no_memory
+returns-in_err-unit-clause-no_memory g c =
+    let p = err_from_is_err_and c.from_residual.result c.from_residual.ensures.1 in
+    let scope = seen_scope c.args.scope in
+    let u = c.args.dw_unit.now in
+    let old : UnitEntries g.row.R.Denot = record { view = c.args.view.now; functions = c.args.functions.now } in
+    let x = c.in_err-unit.field-0.0 in
+    let is = fault_known scope u 0 old c.requires.right c.requires.decided x c.in_err-unit.ensures.gives in
+    rw (p.1, p.2) (λ none. ap (read_of_view c.args.reads scope) is)
+
+pub returns-clause-no_memory : goal.returns-clause-no_memory
+returns-clause-no_memory g c = λ none.
+    let scope = seen_scope c.args.scope in
+    let u = c.args.dw_unit.now in
+    let old : UnitEntries g.row.R.Denot = record { view = c.args.view.now; functions = c.args.functions.now } in
+    let inner = seen_scope c.scope_of.result in
+    let x = c.in_ok-unit.unit.unit.now in
+    let v = view_known scope u 0 old c.requires.right c.requires.decided c.in_ok-unit.unit.dwarf.now x inner c.in_ok-unit.ensures.gives (c.scope_of.ensures.gives scope.file.sections u c.requires.right.view) in
+    subst (λ given. IfErr c.read.result (λ e. given ≡ Err e)) (sym (ap (read_of_view c.args.reads scope) v.is ∙ view_read c.args.reads scope v.view inner x v.unit v.leads))
+    (c.read.ensures.no_memory (functions_take_in scope u 0 old c.requires.right c.requires.decided inner x v g.R.Reader.shares none))

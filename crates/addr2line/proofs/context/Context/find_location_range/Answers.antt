@@ -2,9 +2,10 @@ use Rattle.std.proofs.Common.{Err, Ok, ap, refl, sym, ◌∙◌}
 use Rattle.std.proofs.lemmas.Result.{err_from_is_err_and}
 use Rattle.addr2line_units.specs.Cover.{cover_range}
 use Rattle.addr2line_units.specs.Located.{spans_of}
-use Rattle.addr2line_units.specs.Parsed.{AreParsed}
+use Rattle.addr2line_units.specs.Parsed.{TakeNone}
 use Rattle.addr2line_units.specs.UnitsState.{UnitsState}
-use Rattle.addr2line.proofs.ContextLemmas.{after_range_lookup, at_made, lines_context, parsed_more}
+use Rattle.addr2line_units.proofs.UnitsLemmas.{none_more_along}
+use Rattle.addr2line.proofs.ContextLemmas.{after_range_lookup, at_made, lines_context}
 use Rattle.addr2line.proofs.context.Context.find_location_range.Goals as goal
 
 pub invariant_of-self : goal.invariant_of-self
@@ -19,7 +20,7 @@ cached_rows-requires g c =
     let i = c.self.invariant in
     let a = rw c.find_range.ensures.gives at c.in_ok-cache_lines.ensures.after in
     let now = c.cache_lines.new.self in
-    record { parsed = (after_range_lookup s.ranges s.units i {X = Unit {0}} {Y = Unit {0}} c.args.low c.args.high (Ok tt) now a (Ok tt) (λ told parsed. parsed) (λ h. h)).ready tt }
+    record { parsed = (after_range_lookup s.ranges s.units i {X = Unit {0}} {Y = Unit {0}} g.R.Reader.shares c.args.low c.args.high (Ok tt) now a (Ok tt) (λ told parsed. parsed) (λ h. h)).ready tt }
 
 pub returns-in_err-cache_lines : goal.returns-in_err-cache_lines
 returns-in_err-cache_lines g c =
@@ -29,12 +30,13 @@ returns-in_err-cache_lines g c =
     let a = rw c.find_range.ensures.gives at c.in_err-cache_lines.ensures.after in
     let now = c.cache_lines.new.self in
     let rows = cover_range c.args.low c.args.high s.ranges in
+    let shares = g.R.Reader.shares in
     rw (p.1, p.2, sym c.self.view_is) (
-      (refl, (λ _. tt), after_range_lookup s.ranges s.units i c.args.low c.args.high (Err c.in_err-cache_lines.field-0.0) now a (Err c.in_err-cache_lines.field-0.0) (λ told. absurd (told a.refused)) (λ h. h)),
+      (refl, (λ _. tt), after_range_lookup s.ranges s.units i g.R.Reader.shares c.args.low c.args.high (Err c.in_err-cache_lines.field-0.0) now a (Err c.in_err-cache_lines.field-0.0) (λ told. absurd (told a.refused)) (λ h. h)),
       record {
         gives = tt;
         refused = a.refused;
-        exact = λ ready. absurd (a.memory (parsed_more s.units.parsed now.parsed a.lines.parsed rows (at_made s.ranges s.units i (λ x xs rs. AreParsed s.units.parsed (cover_range c.args.low c.args.high rs)) ready)) a.refused);
+        exact = λ none. absurd (a.memory (none_more_along shares s.units.units s.units.parsed now.parsed a.lines.parsed rows (at_made s.ranges s.units i (λ x xs rs. TakeNone shares xs s.units.parsed (cover_range c.args.low c.args.high rs)) none)) a.refused);
         kept = tt;
       },
     )
@@ -46,11 +48,11 @@ returns g c =
     let a = rw c.find_range.ensures.gives at c.in_ok-cache_lines.ensures.after in
     let now = c.cache_lines.new.self in
     rw (sym c.self.view_is) (
-      (refl, (λ _. tt), after_range_lookup s.ranges s.units i c.args.low c.args.high (Ok tt) now a (Ok c.cached_rows.result) (λ told parsed. parsed) (λ h. h)),
+      (refl, (λ _. tt), after_range_lookup s.ranges s.units i g.R.Reader.shares c.args.low c.args.high (Ok tt) now a (Ok c.cached_rows.result) (λ told parsed. parsed) (λ h. h)),
       record {
         gives = ap (λ (x : UnitsState). spans_of x.scope.file.sections c.args.low c.args.high) (sym a.lines.same) ∙ c.cached_rows.ensures.gives;
         refused = tt;
-        exact = λ ready. refl;
+        exact = λ none. refl;
         kept = tt;
       },
     )

@@ -2,9 +2,10 @@ use Rattle.std.proofs.Common.{ap, subst, sym, ◌∙◌}
 use Rattle.std.specs.Prelude.{is_ok}
 use Rattle.gimli_read.specs.Reading.{ExactlyUnlessOom}
 use Rattle.addr2line_units.specs.Cover.{cover}
-use Rattle.addr2line_units.specs.Parsed.{AllAskFor, AreReadyForAll, ParsesOnly}
+use Rattle.addr2line_units.specs.Parsed.{AllAskFor, AreReadyForAll, ParsesOnly, TakeNoneForAll}
 use Rattle.addr2line_units.specs.UnitsState.{UnitsState}
 use Rattle.addr2line.specs.Context.{seen_context}
+use Rattle.addr2line_units.proofs.UnitsLemmas.{none_more_for_all}
 use Rattle.addr2line.proofs.ContextLemmas.{along_ok, at_lines, at_made, exactly_told, lines_are, lines_context, lines_stay, location_is, of_lines, of_made, range_ready_if_ok, ready_if_ok, same_if_asked, when_ok}
 use Rattle.addr2line.proofs.context.Context.parse_lines.Goals as goal
 
@@ -44,8 +45,10 @@ returns-clause-exact g c =
     let s = c.self.inside in
     let i = c.self.invariant in
     let a = c.parse_lines.ensures.after in
-    rw (sym c.self.view_is) (λ ready. exactly_told (λ x. x) c.parse_lines.result _ (subst (ExactlyUnlessOom (λ x. x) c.parse_lines.result) (sym (lines_are s.ranges s.units i)) c.parse_lines.ensures.gives)
-    (a.memory (λ n asked. a.lines.parsed n (at_made s.ranges s.units i (λ x xs rs. AreReadyForAll x.file.sections xs s.units.parsed) ready n asked))))
+    let shares = g.R.Reader.shares in
+    rw (sym c.self.view_is) (λ none. exactly_told (λ x. x) c.parse_lines.result _ (subst (ExactlyUnlessOom (λ x. x) c.parse_lines.result) (sym (lines_are s.ranges s.units i)) c.parse_lines.ensures.gives)
+    (a.memory (none_more_for_all shares s.units.units s.units.scope.file.sections s.units.parsed c.parse_lines.new.self.parsed a.lines.parsed
+    (at_made s.ranges s.units i (λ x xs rs. TakeNoneForAll shares x.file.sections xs s.units.parsed) none))))
 
 pub returns-clause-ready_for_all : goal.returns-clause-ready_for_all
 returns-clause-ready_for_all g c =
@@ -59,7 +62,7 @@ returns-clause-memory g c =
     let s = c.self.inside in
     let a = c.parse_lines.ensures.after in
     let now = c.parse_lines.new.self in
-    λ ready. a.memory (at_lines s.ranges s.units c.self.invariant _ now a.lines (λ x xs rs. AreReadyForAll x.file.sections xs now.parsed) ready)
+    λ none. a.memory (at_lines s.ranges s.units c.self.invariant _ now a.lines (λ x xs rs. TakeNoneForAll g.R.Reader.shares x.file.sections xs now.parsed) none)
 
 pub returns-clause-only : goal.returns-clause-only
 returns-clause-only g c =

@@ -1,7 +1,7 @@
 use Rattle.std.proofs.Common.{subst, sym}
 use Rattle.gimli_read.specs.Reading.{ExactlyUnlessOom}
 use Rattle.addr2line.proofs.AnsweredLemmas.{read_context}
-use Rattle.addr2line.proofs.LoadLemmas.{after_parse, all_known, all_reached, parse_is}
+use Rattle.addr2line.proofs.LoadLemmas.{after_parse, all_known, all_reached, parse_is, parsed_alone}
 use Rattle.addr2line.proofs.context.Context.read_functions.Goals as goal
 
 pub invariant_of-self : goal.invariant_of-self
@@ -28,3 +28,8 @@ pub returns-clause-reaches : goal.returns-clause-reaches
 returns-clause-reaches g c =
     let s = c.self.inside in
     all_reached s.ranges s.units c.self.invariant c.args.reads c.read_functions.result c.read_functions.new.self c.read_functions.ensures.after c.read_functions.ensures.gives
+
+pub returns-clause-no_memory : goal.returns-clause-no_memory
+returns-clause-no_memory g c =
+    let s = c.self.inside in
+    rw (sym c.self.view_is) (parsed_alone s.ranges s.units c.self.invariant c.args.reads c.read_functions.result c.read_functions.new.self c.read_functions.ensures.after g.R.Reader.shares c.read_functions.ensures.no_memory)

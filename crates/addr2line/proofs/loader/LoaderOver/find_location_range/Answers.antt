@@ -11,7 +11,7 @@ returns-in-Ok g c = (
     (λ _. tt),
     looked_in_context _ _ _ c.find_location_range.result _ _ _ (ap of_file (sym c.in-Ok.is)) c.find_location_range.follows.holds-at-none,
   ),
-  record { gives = c.in-Ok.ensures.gives; refused = tt; exact = λ ready. refl; kept = tt },
+  record { gives = c.in-Ok.ensures.gives; refused = tt; exact = λ none. refl; kept = tt },
 )
 
 pub returns-in-Err : goal.returns-in-Err
@@ -24,7 +24,7 @@ returns-in-Err g c = (
   record {
     gives = tt;
     refused = c.from.ensures ∙ ap loader_error_of c.in-Err.ensures.refused;
-    exact = λ ready. absurd (let no = c.in-Err.ensures.exact ready in cc);
+    exact = λ none. absurd (let no = c.in-Err.ensures.exact none in cc);
     kept = tt;
   },
 )

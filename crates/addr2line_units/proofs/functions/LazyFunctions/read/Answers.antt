@@ -1,10 +1,12 @@
-use Rattle.std.proofs.Common.{OnOk, ◌∙◌, ap, subst, sym}
+use Rattle.std.proofs.Common.{Err, OnOk, ◌≡◌, ◌∙◌, ap, subst, sym}
+use Rattle.std.specs.Prelude.{IfErr}
 use Rattle.gimli_read.specs.Reading.{ExactlyUnlessOom}
 use Rattle.addr2line_lines.specs.SeenScope.{seen_scope}
 use Rattle.addr2line_units.specs.FunctionParses.{IsReadyFor, read_of_functions}
 use Rattle.addr2line_units.specs.CachedParses.{HaveFunctions}
 use Rattle.addr2line_units.specs.CachedFunctions.{functions_fault, reading_takes_memory}
 use Rattle.addr2line_units.specs.CachedKnown.{known_functions}
+use Rattle.addr2line_units.proofs.AskMemoryLemmas.{exactly_if_none, reading_takes_none}
 use Rattle.addr2line_units.proofs.EntryLemmas.{exactly_unless_oom}
 use Rattle.addr2line_units.proofs.CachedParseLemmas.{details_have, details_cached}
 use Rattle.addr2line_units.proofs.functions.LazyFunctions.read.Goals as goal
@@ -63,3 +65,16 @@ returns-in-Details-clause-had_memory g c = λ ready.
 pub returns-in-Functions-clause-had_memory : goal.returns-in-Functions-clause-had_memory
 returns-in-Functions-clause-had_memory g c = λ ready.
     c.read_alone.ensures.had_memory (subst (λ r. IsReadyFor r (known_functions c.read_alone.new.self)) c.in-Functions.is ready)
+
+pub returns-in-Details-clause-no_memory : goal.returns-in-Details-clause-no_memory
+returns-in-Details-clause-no_memory g c = λ none.
+    let shares = g.R.Reader.shares in
+    let scope = seen_scope c.args.scope in
+    let view = c.args.view.now in
+    let old = c.args.self.now in
+    subst (λ r. IfErr c.read_all.result (λ e. read_of_functions r scope view ≡ Err e)) (sym c.in-Details.is)
+    (exactly_if_none (reading_takes_memory shares scope view old) (λ y. y) c.read_all.result (functions_fault scope view) (reading_takes_none shares scope view old c.requires.right none) c.read_all.ensures.gives)
+
+pub returns-in-Functions-clause-no_memory : goal.returns-in-Functions-clause-no_memory
+returns-in-Functions-clause-no_memory g c = λ none.
+    subst (λ r. IfErr c.read_alone.result (λ e. read_of_functions r (seen_scope c.args.scope) c.args.view.now ≡ Err e)) (sym c.in-Functions.is) (c.read_alone.ensures.no_memory none)

@@ -1,4 +1,5 @@
 use Rattle.std.proofs.Common.{ap, subst, sym, ◌∙◌}
+use Rattle.std.proofs.lemmas.Result.{err_from_is_err_and}
 use Rattle.addr2line_lines.specs.SeenScope.{seen_scope}
 use Rattle.addr2line_units.specs.declared.parses.ReadingDepth.TheVariants.{Functions}
 use Rattle.addr2line_units.specs.CachedFunctions.{AreFunctionsOf, StayFunctions, were_read}
@@ -47,3 +48,14 @@ returns-in_err-cache-clause-had_memory g c = λ ready.
 
 pub returns-in-Faulty-clause-had_memory : goal.returns-in-Faulty-clause-had_memory
 returns-in-Faulty-clause-had_memory g c = λ ready. known_not_oom Functions c.in-Faulty.error ready
+
+pub returns-in_err-cache-clause-no_memory : goal.returns-in_err-cache-clause-no_memory
+returns-in_err-cache-clause-no_memory g c =
+    let p = err_from_is_err_and c.from_residual.result c.from_residual.ensures.1 in
+    rw (p.1, p.2) (λ none. alone_fault (seen_scope c.args.scope) c.args.view.now _ (c.in_err-cache.ensures.memory none))
+
+pub returns-in-Faulty-clause-no_memory : goal.returns-in-Faulty-clause-no_memory
+returns-in-Faulty-clause-no_memory g c = λ _.
+    let scope = seen_scope c.args.scope in
+    let view = c.args.view.now in
+    alone_fault scope view c.in-Faulty.error (subst (λ x. AreFunctionsOf scope view x) c.in-Faulty.is c.cache.ensures.right)

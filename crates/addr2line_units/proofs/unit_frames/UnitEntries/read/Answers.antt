@@ -1,13 +1,17 @@
-use Rattle.std.proofs.Common.{◌∙◌, ap, subst, sym}
+use Rattle.std.proofs.Common.{◌≡◌, ◌∙◌, Err, None, ap, false, subst, sym}
+use Rattle.std.specs.Prelude.{IfErr}
 use Rattle.std.proofs.lemmas.Result.{err_from_is_err_and}
 use Rattle.addr2line_lines.specs.SeenScope.{seen_scope}
 use Rattle.addr2line_units.specs.declared.functions.LazyFunctions.{LazyFunctions}
 use Rattle.addr2line_units.specs.declared.unit_frames.UnitEntries.{UnitEntries}
 use Rattle.addr2line_units.specs.FunctionParses.{read_of_view}
-use Rattle.addr2line_units.specs.CachedEntries.{StayEntries}
+use Rattle.addr2line_units.specs.AskMemory.{functions_in_take_memory}
+use Rattle.addr2line_units.specs.CachedEntries.{StayEntries, first_answer_of}
 use Rattle.addr2line_units.specs.CachedParses.{HasRead, IsReadyUnit}
 use Rattle.addr2line_units.specs.Views.{verdict}
+use Rattle.addr2line_units.proofs.AnswerLemmas.{decided_if_not}
 use Rattle.addr2line_units.proofs.CachedUnitLemmas.{entries_same}
+use Rattle.addr2line_units.proofs.EntryLemmas.{not_open}
 use Rattle.addr2line_units.proofs.CachedParseLemmas.{entries_then, read_decided}
 use Rattle.addr2line_units.proofs.unit_frames.UnitEntries.read.Goals as goal
 
@@ -66,3 +70,16 @@ returns-in_err-answer-clause-had_memory g c = λ ready.
 
 pub returns-clause-had_memory : goal.returns-clause-had_memory
 returns-clause-had_memory g c = λ ready. c.read_in_view.ensures.had_memory ready.known
+
+pub returns-in_err-answer-clause-no_memory : goal.returns-in_err-answer-clause-no_memory
+returns-in_err-answer-clause-no_memory g c = λ none.
+    absurd (let no = c.in_err-answer.ensures.refused.2 in cc)
+
+pub returns-clause-no_memory : goal.returns-clause-no_memory
+returns-clause-no_memory g c = λ none.
+    let scope = seen_scope c.args.scope in
+    let u = c.args.dw_unit.now in
+    let mid = c.answer.new.self in
+    let same = decided_if_not scope.file.sections u (first_answer_of mid) None (not_open scope u 0 mid c.answer.ensures.right c.in_ok-answer.ensures.decided) in
+    subst (λ a. IfErr c.read_in_view.result (λ e. read_of_view c.args.reads scope (verdict scope.file.sections u a) ≡ Err e)) c.in_ok-answer.ensures.answer
+    (c.read_in_view.ensures.no_memory (subst (λ a. functions_in_take_memory g.R.Reader.shares scope u a ≡ false) same none))

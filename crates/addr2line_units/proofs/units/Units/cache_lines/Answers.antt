@@ -17,7 +17,7 @@ invariant_of-self g c =
 pub returns : goal.returns
 returns g c =
     let s = c.self.inside in
-    let e = c.cache_lines_along.ensures in
+    let e = rw (c.deref.ensures, c.deref-2.ensures.value) at c.cache_lines_along.ensures in
     rw (sym c.self.view_is) (record {
-      after = after_caching (scope_of s.sources) s.units.items s.entries.items c.cache_lines_along.new.units.items e.stay s.looks (seen_stop s.units.items s.entries.items s.stop) (ranges_left c.args.ranges) c.cache_lines_along.result e.parsed e.memory e.only e.refused;
+      after = after_caching (scope_of s.sources) s.units.items s.entries.items c.cache_lines_along.new.units.items e.stay s.looks (seen_stop s.units.items s.entries.items s.stop) g.R.Reader.shares (ranges_left c.args.ranges) c.cache_lines_along.result e.parsed e.memory e.only e.refused;
     })

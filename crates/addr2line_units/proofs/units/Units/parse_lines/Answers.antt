@@ -19,5 +19,5 @@ returns g c =
     let e = rw (c.deref.ensures, c.deref-2.ensures.value) at c.read_all_lines.ensures in
     rw (sym c.self.view_is) (record {
       gives = e.gives;
-      after = after_line_parse (scope_of s.sources) s.units.items s.entries.items c.read_all_lines.new.units.items e.stay s.looks (seen_stop s.units.items s.entries.items s.stop) c.read_all_lines.result e.ready e.memory e.parsed e.only;
+      after = after_line_parse (scope_of s.sources) s.units.items s.entries.items c.read_all_lines.new.units.items e.stay s.looks (seen_stop s.units.items s.entries.items s.stop) g.R.Reader.shares c.read_all_lines.result e.ready e.memory e.parsed e.only;
     })

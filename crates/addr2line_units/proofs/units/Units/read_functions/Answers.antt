@@ -1,12 +1,14 @@
-use Rattle.std.proofs.Common.{subst, sym}
+use Rattle.std.proofs.Common.{◌≡◌, Err, subst, sym}
+use Rattle.std.specs.Prelude.{IfErr}
 use Rattle.gimli_read.specs.Reading.{ExactlyUnlessOom}
 use Rattle.addr2line_lines.specs.References.{IsScope}
 use Rattle.addr2line_lines.specs.SeenScope.{seen_scope}
 use Rattle.addr2line_units.specs.AfterUnits.{AfterReading}
 use Rattle.addr2line_units.specs.CachedFrames.{seen_stop}
+use Rattle.addr2line_units.specs.CachedKnown.{known_in}
 use Rattle.addr2line_units.specs.CachedUnits.{HaveEntriesOf, answers_in}
 use Rattle.addr2line_units.specs.FramesLookup.{FindsNothing}
-use Rattle.addr2line_units.specs.FunctionParses.{read_of_units}
+use Rattle.addr2line_units.specs.FunctionParses.{ReadsNoMemory, read_of_units}
 use Rattle.addr2line_units.specs.StoredUnits.{seen_units}
 use Rattle.addr2line_units.proofs.StateLemmas.{after_reading}
 use Rattle.addr2line_units.proofs.units.Units.read_functions.Goals as goal
@@ -42,3 +44,12 @@ returns-clause-after g c =
     let kept = subst (λ S. HaveEntriesOf S S.file.units s.entries.items) (sym c.scope-scope.ensures.gives) c.self.invariant.entries in
     rw (sym c.self.view_is) (subst (λ S. AfterReading c.args.reads c.read_all_functions.result (seen_units S s.units.items s.entries.items s.looks was) (seen_units S s.units.items new s.looks FindsNothing)) c.scope-scope.ensures.gives
     (after_reading scope s.units.items s.entries.items kept new s.looks was c.args.reads c.read_all_functions.result e.right e.answers e.begun e.stay e.only e.read e.memory e.ready_for_all e.had_memory e.exact e.same))
+
+pub returns-clause-no_memory : goal.returns-clause-no_memory
+returns-clause-no_memory g c =
+    let s = c.self.inside in
+    let r = c.read_all_functions in
+    let new = r.new.entries.items in
+    subst (λ x. ReadsNoMemory g.R.Reader.shares c.args.reads x.scope x.scope.file.units (answers_in new) (known_in new) → IfErr r.result (λ e. read_of_units c.args.reads x.scope x.scope.file.units x.answers ≡ Err e)) c.self.view_is
+    (subst (λ S. ReadsNoMemory g.R.Reader.shares c.args.reads S S.file.units (answers_in new) (known_in new) → IfErr r.result (λ e. read_of_units c.args.reads S S.file.units (answers_in s.entries.items) ≡ Err e))
+    c.scope-scope.ensures.gives r.ensures.no_memory)

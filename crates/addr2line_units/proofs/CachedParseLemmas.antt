@@ -2,7 +2,8 @@
 -- specs/CachedParses.antt).
 use Rattle.std.proofs.Common.{◌≡◌, ℕ, zero, suc, ◌≤◌, ◌<◌, inl, inr, Bool, true, false, not, ◌&&◌, ◌||◌, ◌==◌, cond, nat_lt, List, [], ◌∷◌, length, get_or, slice_get, Option, Some, None, option_and_then, Result, Ok, Err, is_ok, is_some, refl, ap, sym, subst, ◌∙◌, arith}
 use Rattle.std.proofs.Math.ListN.{set}
-use Rattle.std.specs.Prelude.{IfSome, OnOk, position}
+use Rattle.std.specs.Prelude.{IfSome, OnOk, position, Box}
+use Rattle.std.specs.declared.alloc.Global.{Global}
 use Rattle.std.specs.List.{AllByRecursion, position_or_len}
 use Rattle.std.proofs.lemmas.Bool.Decides.{nat_tests}
 use Rattle.gimli_read.specs.declared.error.Error.{Error}
@@ -29,7 +30,7 @@ use Rattle.addr2line_units.specs.CachedEntries.{StayEntries, has_answered, has_e
 use Rattle.addr2line_units.specs.CachedFunctions.{AreFunctionsOf, StayFunctions, details_at, functions_fault, has_detail, cached_has_function, has_place, cached_functions, reading_takes_memory, were_read}
 use Rattle.addr2line_units.specs.CachedUnits.{HaveEntriesOf, StayAllEntries, answers_in, has_entries_at}
 use Rattle.addr2line_units.specs.CachedParses.{AreDecided, ChangesOnly, HasRead, HaveFunctions, HaveRead, StayDecided, has_view}
-use Rattle.addr2line_units.specs.CachedViews.{is_decided, seen_sections, verdict_in, view_by}
+use Rattle.addr2line_units.specs.CachedViews.{is_decided, seen_sections, unboxed, verdict_in, view_by}
 use Rattle.addr2line_units.specs.Views.{FirstAnswers, View, view_scope}
 use Rattle.addr2line_units.proofs.AnswerLemmas.{answer_at, decided_was_looked_at, got_unit}
 use Rattle.addr2line_units.proofs.EntryLemmas.{functions_stay}
@@ -120,7 +121,7 @@ module _ {R : Type 0} (d : Sections) (u : UnitRecord) (here : Option (Result Vie
   known_view v (states.Unnamed x) k right e = let no = right ∙ e in absurd cc
   known_view v (states.Answered a) k right e = by_unit a.unit (right ∙ e)
     where
-      by_unit : (r : Result (Option UnitRecord) Error) → Some (r >>= λ y. Ok (view_by d u (seen_sections a) y)) ≡ Some (Ok v) → is_ok r ≡ true
+      by_unit : (r : Result (Option (Box UnitRecord Global)) Error) → Some (unboxed r >>= λ y. Ok (view_by d u (seen_sections a) y)) ≡ Some (Ok v) → is_ok r ≡ true
       by_unit (Ok y) q = refl
       by_unit (Err y) q = absurd cc
 
@@ -131,7 +132,7 @@ module _ {R : Type 0} (d : Sections) (u : UnitRecord) (here : Option (Result Vie
   no_view x (states.Unnamed y) right e h = cc
   no_view x (states.Answered a) right e h = by_unit a.unit (right ∙ e) h
     where
-      by_unit : (r : Result (Option UnitRecord) Error) → Some (r >>= λ y. Ok (view_by d u (seen_sections a) y)) ≡ Some (Err x) → is_ok r ≡ true → ⊥
+      by_unit : (r : Result (Option (Box UnitRecord Global)) Error) → Some (unboxed r >>= λ y. Ok (view_by d u (seen_sections a) y)) ≡ Some (Err x) → is_ok r ≡ true → ⊥
       by_unit (Ok y) q k = cc
       by_unit (Err y) q k = cc
 
@@ -168,7 +169,7 @@ module _ {R : Type 0} (probe : ℕ) where
   has_by (states.Unnamed e) f h k = cc
   has_by (states.Answered a) f h k = by_unit a.unit h
     where
-      by_unit : (r : Result (Option UnitRecord) Error) → is_ok r ≡ true → has_answered probe r f ≡ true
+      by_unit : (r : Result (Option (Box UnitRecord Global)) Error) → is_ok r ≡ true → has_answered probe r f ≡ true
       by_unit (Ok y) q = has_functions f k
       by_unit (Err y) q = cc
 

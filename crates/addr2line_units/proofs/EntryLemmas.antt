@@ -1,5 +1,7 @@
 -- What is cached of the entries of a unit (on specs/CachedEntries.antt and specs/UnitFrames.antt).
 use Rattle.std.proofs.Common.{◌≡◌, ◌∙◌, ℕ, ap, sym, refl, subst, Bool, true, false, Option, Some, IfOk, IfSome, is_none, Result, Ok, Err}
+use Rattle.std.specs.Prelude.{Box}
+use Rattle.std.specs.declared.alloc.Global.{Global}
 use Rattle.gimli_read.specs.declared.error.Error.{Error}
 use Rattle.gimli_read.specs.Reading.{◌>>=◌, ExactlyUnlessOom, ExactlyUnlessOomIf}
 use Rattle.gimli.specs.Sections.{Sections}
@@ -17,7 +19,7 @@ use Rattle.addr2line_units.specs.AskMemory.{functions_in_take_memory, view_takes
 use Rattle.addr2line_units.specs.Frames.{function_at}
 use Rattle.addr2line_units.specs.CachedEntries.{AreEntriesOf, StayEntries, has_answered, has_entries_by, first_answer_of}
 use Rattle.addr2line_units.specs.CachedFunctions.{AreFunctionsOf, StayFunctions, cached_has_function, is_cached_fault, were_read}
-use Rattle.addr2line_units.specs.CachedViews.{IsViewOf, is_decided, parts_or_fault, seen_first_answer, seen_sections, verdict_in, view_by, waits, was_looked_at}
+use Rattle.addr2line_units.specs.CachedViews.{IsViewOf, is_decided, parts_or_fault, seen_first_answer, seen_sections, unboxed, verdict_in, view_by, waits, was_looked_at}
 use Rattle.addr2line_units.specs.UnitFrames.{function_by, function_in, has_many, is_many}
 use Rattle.addr2line_units.specs.Views.{View, is_open, parts_of, verdict, view_scope}
 
@@ -122,7 +124,7 @@ module _ {R : Type 0} (scope : Scope) (u : UnitRecord) (probe : ℕ) (old : Unit
       by_cached (states.Unnamed y) d k = let both = k ∙ e in let same : y ≡ x = cc in ap is_cached_fault same
       by_cached (states.Answered a) d k = by_unit a.unit (k ∙ e)
         where
-          by_unit : (r : Result (Option UnitRecord) Error) → Some (r >>= λ y. Ok (view_by scope.file.sections u (seen_sections a) y)) ≡ Some (Err x) → has_answered probe r fs ≡ is_cached_fault x
+          by_unit : (r : Result (Option (Box UnitRecord Global)) Error) → Some (unboxed r >>= λ y. Ok (view_by scope.file.sections u (seen_sections a) y)) ≡ Some (Err x) → has_answered probe r fs ≡ is_cached_fault x
           by_unit (Ok y) k = absurd cc
           by_unit (Err y) k = let same : y ≡ x = cc in ap is_cached_fault same
 
@@ -167,6 +169,6 @@ module _ {R : Type 0} (scope : Scope) (u : UnitRecord) (probe : ℕ) (old : Unit
         by_cached (states.Unnamed y) d k = let no = k ∙ v.is in absurd cc
         by_cached (states.Answered a) d k = by_unit a.unit (k ∙ v.is)
           where
-            by_unit : (r : Result (Option UnitRecord) Error) → Some (r >>= λ y. Ok (view_by scope.file.sections u (seen_sections a) y)) ≡ Some (Ok v.view) → has_answered probe r fs ≡ cached_has_function probe fs
+            by_unit : (r : Result (Option (Box UnitRecord Global)) Error) → Some (unboxed r >>= λ y. Ok (view_by scope.file.sections u (seen_sections a) y)) ≡ Some (Ok v.view) → has_answered probe r fs ≡ cached_has_function probe fs
             by_unit (Ok y) k = refl
             by_unit (Err y) k = absurd cc

@@ -2,7 +2,8 @@
 -- specs/FunctionParses.antt and specs/CachedParses.antt).
 use Rattle.std.proofs.Common.{◌≡◌, ◌≢◌, ◌∙◌, ℕ, zero, suc, ◌≤◌, ◌<◌, arith, inl, inr, Bool, true, false, List, [], ◌∷◌, length, get_or, slice_get, Option, Some, None, Result, Ok, Err, is_ok, refl, ap, sym, subst}
 use Rattle.std.proofs.Math.ListN.{set}
-use Rattle.std.specs.Prelude.{IfSome, if◌then◌else◌}
+use Rattle.std.specs.Prelude.{IfSome, if◌then◌else◌, Box}
+use Rattle.std.specs.declared.alloc.Global.{Global}
 use Rattle.gimli_read.specs.declared.error.Error.{Error}
 use Rattle.gimli_read.specs.declared.error.Error.TheVariants.{OutOfMemory}
 use Rattle.gimli_read.specs.Reading.{◌>>=◌}
@@ -22,7 +23,7 @@ use Rattle.addr2line_units.specs.FunctionParses.{AreReadBefore, AreReadyFor, IsR
 use Rattle.addr2line_units.specs.CachedFunctions.{details_at, functions_fault, were_read}
 use Rattle.addr2line_units.specs.CachedUnits.{HaveEntriesOf, answers_in}
 use Rattle.addr2line_units.specs.CachedParses.{AreReadyUnits, ChangesOnly, HasRead, HaveFunctions, IsReadyUnit, has_view}
-use Rattle.addr2line_units.specs.CachedViews.{is_decided, seen_sections, verdict_in, view_by, was_looked_at}
+use Rattle.addr2line_units.specs.CachedViews.{is_decided, seen_sections, unboxed, verdict_in, view_by, was_looked_at}
 use Rattle.addr2line_units.specs.CachedKnown.{known_answer, known_by, known_fault, known_functions, known_in}
 use Rattle.addr2line_units.specs.KnownEntries.{AllKnown, NothingKnown}
 use Rattle.addr2line_units.specs.Loads.{is_open_at}
@@ -107,7 +108,7 @@ module _ {R : Type 0} (d : Sections) (u : UnitRecord) (here : Option (Result Vie
   fault_by_view x (states.Unnamed y) f k right e = let both = right ∙ e in let same : y ≡ x = cc in ap known_fault same
   fault_by_view x (states.Answered a) f k right e = by_unit a.unit (right ∙ e)
     where
-      by_unit : (r : Result (Option UnitRecord) Error) → Some (r >>= λ y. Ok (view_by d u (seen_sections a) y)) ≡ Some (Err x) → known_answer r f ≡ known_fault x
+      by_unit : (r : Result (Option (Box UnitRecord Global)) Error) → Some (unboxed r >>= λ y. Ok (view_by d u (seen_sections a) y)) ≡ Some (Err x) → known_answer r f ≡ known_fault x
       by_unit (Ok y) q = absurd cc
       by_unit (Err y) q = let same : y ≡ x = cc in ap known_fault same
 
@@ -118,7 +119,7 @@ module _ {R : Type 0} (d : Sections) (u : UnitRecord) (here : Option (Result Vie
   functions_by_view v (states.Unnamed y) f k right e = let no = right ∙ e in absurd cc
   functions_by_view v (states.Answered a) f k right e = by_unit a.unit (right ∙ e)
     where
-      by_unit : (r : Result (Option UnitRecord) Error) → Some (r >>= λ y. Ok (view_by d u (seen_sections a) y)) ≡ Some (Ok v) → known_answer r f ≡ known_functions f
+      by_unit : (r : Result (Option (Box UnitRecord Global)) Error) → Some (unboxed r >>= λ y. Ok (view_by d u (seen_sections a) y)) ≡ Some (Ok v) → known_answer r f ≡ known_functions f
       by_unit (Ok y) q = refl
       by_unit (Err y) q = absurd cc
 

@@ -12,13 +12,14 @@ use Rattle.gimli.specs.Header.{UnitHeaderFields}
 use Rattle.gimli.specs.Unit.{UnitRecord, attr_string_of, unit_record_of}
 use Rattle.gimli.specs.UnitMemory.{unit_takes_memory}
 use Rattle.gimli.specs.UnitsLeft.{all_headers}
+use Rattle.gimli.proofs.UnitLemmas.{read_takes_memory}
 use Rattle.addr2line_lines.specs.FileTexts.{optional_string}
 use Rattle.addr2line_lines.specs.References.{IsScope, Scope}
 use Rattle.addr2line_units.specs.declared.view.AnsweredLoad.{AnsweredLoad}
 use Rattle.addr2line_units.specs.declared.view.UnitView.{UnitView}
 use Rattle.addr2line_units.specs.declared.view.ViewState.{ViewState}
 use Rattle.addr2line_units.specs.declared.view.ViewState.TheVariants as states
-use Rattle.addr2line_units.specs.CachedViews.{IsViewOf, answer_in, scope_by, seen_first_answer, seen_sections, split_file_by, split_file_in, split_unit, verdict_in, view_by, waits}
+use Rattle.addr2line_units.specs.CachedViews.{IsViewOf, answer_in, scope_by, seen_first_answer, seen_sections, split_file_by, split_file_in, split_unit, unboxed, verdict_in, view_by, waits}
 use Rattle.addr2line_units.specs.Views.{SplitLoad, View, answered_view, first_of, first_takes_memory, first_unit, first_unit_takes_memory, first_view, load_by, load_of_unit, main_view, split_name_of, verdict, verdict_by, view_scope}
 
 decided_by : (d : Sections) (u : UnitRecord) (load : Result (Option SplitLoad) Error) (r : Result View Error) (answer : Option (Option Sections)) → verdict_by d u load None ≡ Some r → verdict_by d u load answer ≡ Some r
@@ -129,6 +130,19 @@ module _ (shares : Bool) (d : Sections) where
       by_test true k = refl
       by_test false k = k
 
+  -- a first unit that is read had memory taken for it
+  pub first_read : (u : UnitRecord) → first_unit d ≡ Ok (Some u) → first_unit_takes_memory shares d ≡ true
+  first_read u h = by_headers (all_headers d.debug_info) refl h
+    where
+      by_record : (header : UnitHeaderFields) (rest : List (Result UnitHeaderFields Error)) (r : Result UnitRecord Error) → all_headers d.debug_info ≡ Ok header ∷ rest → unit_record_of d header ≡ r → (r >>= λ x. Ok (Some x)) ≡ Ok (Some u) → first_unit_takes_memory shares d ≡ true
+      by_record header rest (Err e) all k p = absurd cc
+      by_record header rest (Ok x) all k p = first_taken header rest all (read_takes_memory shares d header x k)
+
+      by_headers : (headers : List (Result UnitHeaderFields Error)) → all_headers d.debug_info ≡ headers → first_of d headers ≡ Ok (Some u) → first_unit_takes_memory shares d ≡ true
+      by_headers [] all p = absurd cc
+      by_headers (Err e ∷ rest) all p = absurd cc
+      by_headers (Ok header ∷ rest) all p = by_record header rest (unit_record_of d header) all refl p
+
   pub first_refused : (f : Error) (rest : List (Result UnitHeaderFields Error)) → all_headers d.debug_info ≡ Err f ∷ rest → first_unit d ≡ Err f
   first_refused f rest e = ap (first_of d) e
 
@@ -136,7 +150,7 @@ module _ (shares : Bool) (d : Sections) where
   first_faulty header rest f e h = ap (first_of d) e ∙ ap (λ r. r >>= λ (u : UnitRecord). Ok (Some u)) h
 
 -- an answer with its split unit is the view of a unit that was open
-pub answered_is_right : {R : Type 0} (d : Sections) (u : UnitRecord) (a : AnsweredLoad R) → verdict d u None ≡ None → a.unit ≡ split_unit u (seen_sections a) → IsViewOf {R = R} d u (record { state = states.Answered a })
+pub answered_is_right : {R : Type 0} (d : Sections) (u : UnitRecord) (a : AnsweredLoad R) → verdict d u None ≡ None → unboxed a.unit ≡ split_unit u (seen_sections a) → IsViewOf {R = R} d u (record { state = states.Answered a })
 answered_is_right d u a waiting h = record {
   right = ap Some (ap (λ r. r >>= λ x. Ok (view_by d u (seen_sections a) x)) h ∙ view_by_split_unit d u (seen_sections a)) ∙ sym (verdict_of_open d u (seen_sections a) waiting);
   waited = λ _. ap is_none waiting;
@@ -189,7 +203,7 @@ scope_in scope d u states.Undecided h = unanswered_scope scope d u (load_of_unit
 scope_in scope d u states.Open h = unanswered_scope scope d u (load_of_unit d 0 u)
 scope_in scope d u states.Main h = unanswered_scope scope d u (load_of_unit d 0 u)
 scope_in scope d u (states.Unnamed e) h = unanswered_scope scope d u (load_of_unit d 0 u)
-scope_in scope d u (states.Answered a) h = subst (λ w. IfSome w (λ view. IfOk view (λ v. scope_by scope (split_file_by (seen_sections a) a.unit) ≡ view_scope scope v))) h (answered_scope scope d u (seen_sections a) a.unit)
+scope_in scope d u (states.Answered a) h = subst (λ w. IfSome w (λ view. IfOk view (λ v. scope_by scope (split_file_by (seen_sections a) (unboxed a.unit)) ≡ view_scope scope v))) h (answered_scope scope d u (seen_sections a) (unboxed a.unit))
 
 -- references lead from a view as its split file says, if it is in one
 pub scope_of_split : {R : Type 0} (scope : Scope) (split : Option Sections) (v : UnitView R) → split ≡ split_file_in v.state → (d : Sections) (u : UnitRecord) → IsViewOf d u v → IfSome (verdict d u (seen_first_answer v)) (λ view. IfOk view (λ x. scope_by scope split ≡ view_scope scope x))

@@ -1,9 +1,10 @@
 -- What is cached of a unit's view, as the private functions see it.
 -- Own: whether a unit needs an answer is cached once it was looked at. Its first answer is stored,
 -- and what it decides is cached, until the unit is forgotten. OutOfMemory is never cached.
-use Rattle.std.specs.Prelude.{◌≡◌, Bool, true, false, [], is_some, Option, Some, None, option_map, IfSome, Result, Ok, Err}
+use Rattle.std.specs.Prelude.{◌≡◌, Bool, true, false, [], is_some, Option, Some, None, option_map, IfSome, Result, Ok, Err, Box, box_value}
+use Rattle.std.specs.declared.alloc.Global.{Global}
 use Rattle.gimli_read.specs.declared.error.Error.{Error}
-use Rattle.gimli_read.specs.Reading.{◌>>=◌}
+use Rattle.gimli_read.specs.Reading.{◌>>=◌, result_map}
 use Rattle.gimli.specs.Sections.{Sections}
 use Rattle.gimli.specs.Split.{relocated}
 use Rattle.gimli.specs.Unit.{UnitRecord}
@@ -17,6 +18,11 @@ use Rattle.addr2line_units.specs.Views.{View, first_unit, is_open, main_view, pa
 -- an answer
 abbrev pub seen_sections : {R : Type 0} → AnsweredLoad R → Option Sections
 seen_sections a = option_map (λ d. d.value) a.sections
+
+-- a unit that stands in a box, or the fault
+abbrev pub unboxed : Result (Option (Box UnitRecord Global)) Error
+    → Result (Option UnitRecord) Error
+unboxed given = result_map (option_map box_value) given
 
 -- the first answer that a state has
 abbrev pub answer_in : {R : Type 0} → ViewState R → Option (Option Sections)
@@ -39,7 +45,7 @@ view_by d main _ _ = main_view d main
 
 -- the view that is cached of an answer, or the fault
 abbrev pub view_in : {R : Type 0} → Sections → UnitRecord → AnsweredLoad R → Result View Error
-view_in d main a = a.unit >>= λ x. Ok (view_by d main (seen_sections a) x)
+view_in d main a = unboxed a.unit >>= λ x. Ok (view_by d main (seen_sections a) x)
 
 -- what is cached of the verdict: whether the unit is open, and else its view or the fault; none
 -- before the unit was looked at
@@ -85,7 +91,7 @@ split_file_by _ _ = None
 
 -- the same of what is cached
 abbrev pub split_file_in : {R : Type 0} → ViewState R → Option Sections
-split_file_in (states.Answered a) = split_file_by (seen_sections a) a.unit
+split_file_in (states.Answered a) = split_file_by (seen_sections a) (unboxed a.unit)
 split_file_in _ = None
 
 -- where references lead from a view in a split file, if it is in one

@@ -8,7 +8,7 @@ ghost use Rattle.gimli.specs.Unit.{UnitRecord};
 ghost use Rattle.addr2line_lines.specs.References.{IsScope};
 ghost use Rattle.addr2line_lines.specs.SeenScope.{seen_scope};
 ghost use Rattle.addr2line_units.specs.AnswerMemory.{answer_takes_memory};
-ghost use Rattle.addr2line_units.specs.CachedViews.{IsViewOf, answer_in, is_decided, parts_or_fault, seen_first_answer, seen_sections, split_file_by, split_file_in, split_unit, verdict_in, view_in, waits, was_looked_at};
+ghost use Rattle.addr2line_units.specs.CachedViews.{IsViewOf, answer_in, is_decided, parts_or_fault, seen_first_answer, seen_sections, split_file_by, split_file_in, split_unit, unboxed, verdict_in, view_in, waits, was_looked_at};
 ghost use Rattle.addr2line_units.specs.Views.{answered_view, first_unit, first_unit_takes_memory, load_of_unit, split_name_of, verdict, view_scope};
 
 use addr2line_lines::{FileUnits, Scope};
@@ -55,11 +55,12 @@ impl<R: Reader> Model for SplitDwarfLoad<R> {
 }
 
 // The first answer to the load of a unit, and the split unit that it gives: none where it has no
-// sections, or these no unit; or the fault of that.
+// sections, or these no unit; or the fault of that. The unit stands in a box, since most units have
+// no answer, and a context has room for one beside each.
 #[derive(Drop)]
 struct AnsweredLoad<R: Reader> {
     sections: Option<Rc<Dwarf<R>>>,
-    unit: Result<Option<Unit<R>>, Error>,
+    unit: Result<Option<Box<Unit<R>>>, Error>,
 }
 
 // What is cached of a unit's view.
@@ -152,9 +153,9 @@ fn read_split_unit<R: Reader>(
     alloc: Global,
     main: &Unit<R>,
     sections: &Option<Rc<Dwarf<R>>>,
-) -> Result<Option<Unit<R>>, Error>
+) -> Result<Option<Box<Unit<R>>>, Error>
     ensures gives { ExactlyUnlessOomIf (answer_takes_memory R.shares
-        (option_map (λ d. d.value) sections.now)) (λ u. u) result
+        (option_map (λ d. d.value) sections.now)) (option_map (λ b. b.value)) result
         (split_unit main.now (option_map (λ d. d.value) sections.now)) }
 {
     let Some(dwarf) = sections else {
@@ -164,7 +165,7 @@ fn read_split_unit<R: Reader>(
         return Ok(None);
     };
     unit.copy_relocated_attributes(main);
-    Ok(Some(unit))
+    Ok(Some(Box::new(alloc, unit)?))
 }
 
 // Whether a unit waits for an answer, its view, or the fault of its split file's name. Takes no
@@ -187,7 +188,7 @@ impl<R: Reader> AnsweredLoad<R> {
     // The sections that the answer has, where they have a unit.
     fn split_file(&self) -> Option<&Dwarf<R>>
         ensures gives { option_map (λ d. d.now) result
-            ≡ split_file_by (seen_sections self.now) self.now.unit }
+            ≡ split_file_by (seen_sections self.now) (unboxed self.now.unit) }
     {
         match (&self.sections, &self.unit) {
             (Some(split), Ok(Some(_))) => Some(split),

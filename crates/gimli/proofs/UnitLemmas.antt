@@ -14,7 +14,7 @@ use Rattle.gimli.specs.Header.{UnitHeaderFields}
 use Rattle.gimli.specs.Record.{RootValues, root_values_of}
 use Rattle.gimli.specs.Sections.{Sections}
 use Rattle.gimli.specs.Text.{from_offset}
-use Rattle.gimli.specs.Unit.{completed_record, unit_by, unit_record_of}
+use Rattle.gimli.specs.Unit.{UnitRecord, completed_record, unit_by, unit_record_of}
 use Rattle.gimli.specs.UnitMemory.{abbreviations_take_memory, unit_takes_memory}
 
 -- a reading of no value
@@ -84,3 +84,23 @@ unit_is d header shares rest table root h k l = (
       ∙ ap (λ (r : Result (List Abbrev) Error). r >>= λ t. root_values_of header.encoding t header.entries >>= λ v. completed_record d header t v) k
       ∙ ap (λ (r : Result RootValues Error). r >>= λ v. completed_record d header table v) l,
 )
+
+-- so memory may be taken for a unit that is read
+pub read_takes_memory : (shares : Bool) (d : Sections) (header : UnitHeaderFields) (u : UnitRecord) → unit_record_of d header ≡ Ok u → unit_takes_memory shares d header ≡ true
+unfolding unit_record_of unit_by
+read_takes_memory shares d header u h = by_rest (from_offset header.debug_abbrev_offset d.debug_abbrev) refl h
+  where
+    by_root : (rest : Section) (table : List Abbrev) (r : Result RootValues Error) → from_offset header.debug_abbrev_offset d.debug_abbrev ≡ Ok rest → table_at rest ≡ Ok table → root_values_of header.encoding table header.entries ≡ r
+        → (r >>= λ v. completed_record d header table v) ≡ Ok u → unit_takes_memory shares d header ≡ true
+    by_root rest table (Err e) a b c p = absurd cc
+    by_root rest table (Ok root) a b c p = (unit_is d header shares rest table root a b c).0
+
+    by_table : (rest : Section) (r : Result (List Abbrev) Error) → from_offset header.debug_abbrev_offset d.debug_abbrev ≡ Ok rest → table_at rest ≡ r
+        → (r >>= λ t. root_values_of header.encoding t header.entries >>= λ v. completed_record d header t v) ≡ Ok u → unit_takes_memory shares d header ≡ true
+    by_table rest (Err e) a b p = absurd cc
+    by_table rest (Ok table) a b p = by_root rest table (root_values_of header.encoding table header.entries) a b refl p
+
+    by_rest : (r : Result Section Error) → from_offset header.debug_abbrev_offset d.debug_abbrev ≡ r
+        → ((r >>= table_at) >>= λ t. root_values_of header.encoding t header.entries >>= λ v. completed_record d header t v) ≡ Ok u → unit_takes_memory shares d header ≡ true
+    by_rest (Err e) a p = absurd cc
+    by_rest (Ok rest) a p = by_table rest (table_at rest) a refl p

@@ -49,3 +49,4 @@ pub mod DetailRanges
 pub mod DetailOrder
 pub mod DetailPlaces
 pub mod DetailMemory
+pub mod FaultLemmas

@@ -50,3 +50,4 @@ pub mod FunctionTable
 pub mod FunctionCache
 pub mod ManyInlined
 pub mod LastAddress
+pub mod FaultLaws

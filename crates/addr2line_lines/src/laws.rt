@@ -12,6 +12,7 @@ ghost use Rattle.addr2line_lines.specs.NameChains.{ChainGivesName, LongChainGive
 ghost use Rattle.addr2line_lines.specs.ItemsAround.{DepthsAreNumbers, InsideIsRead, OpenAreAround};
 ghost use Rattle.addr2line_lines.specs.NestedInlined.{ChainBeginsOutermost, ChainIsWhole, NestedChain, NestedInFunction};
 ghost use Rattle.addr2line_lines.specs.Spans.{EachAddressHasRow};
+ghost use Rattle.addr2line_lines.specs.FaultLaws.{DetailsAreNotRefused, FunctionsAreNotRefused, LinesAreNotRefused, NamesAreNotRefused};
 
 /// Where addresses don't fall within a sequence, the sequences of the rows rise.
 pub fn sequences_rise()
@@ -91,4 +92,13 @@ pub fn cached_details_stay()
 pub fn listed_functions_stay()
     ensures read { ReadKeepsListed }
     ensures more { MoreKeepsListed }
+{}
+
+/// No reading of lines, functions, names or details gives `OutOfMemory`: whatever the bytes are, it
+/// gives a value or another fault.
+pub fn fault_laws()
+    ensures lines { LinesAreNotRefused }
+    ensures functions { FunctionsAreNotRefused }
+    ensures names { NamesAreNotRefused }
+    ensures details { DetailsAreNotRefused }
 {}

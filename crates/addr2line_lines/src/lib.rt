@@ -32,9 +32,9 @@ pub use crate::function::{RangeAttributes, read_ranges};
 pub use crate::functions::Functions;
 pub use crate::inlined::{CallSite, InlinedFunction};
 pub use crate::laws::{
-    cached_details_stay, each_address_has_a_row, inlined_are_nested, inlined_chain_is_whole,
-    listed_functions_stay, lone_is_picked, lone_is_shortest, name_chains, none_is_shorter,
-    order_is_free, sequences_rise,
+    cached_details_stay, each_address_has_a_row, fault_laws, inlined_are_nested,
+    inlined_chain_is_whole, listed_functions_stay, lone_is_picked, lone_is_shortest, name_chains,
+    none_is_shorter, order_is_free, sequences_rise,
 };
 pub use crate::line::Lines;
 pub use crate::location::Location;

@@ -1,3 +1,4 @@
+pub mod FaultLemmas
 pub mod LegacySteps
 pub mod LegacyMarks
 pub mod LegacyElements

@@ -46,3 +46,4 @@ pub mod UnitsState
 pub mod AfterUnits
 pub mod StoredUnits
 pub mod AskedUnits
+pub mod FaultLaws

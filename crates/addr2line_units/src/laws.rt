@@ -1,6 +1,7 @@
-//! Laws of legacy names, of the units of a context, of their views and loads, and of parses of all
-//! functions, with no code.
+//! Laws of legacy names, of the units of a context, of their views and loads, of parses of all
+//! functions, and of faults, with no code.
 
+ghost use Rattle.addr2line_units.specs.FaultLaws.{FramesAreNotRefused, LinesAreNotRefused, ParsesAreNotRefused, UnitsAreNotRefused, ViewsAreNotRefused};
 ghost use Rattle.addr2line_units.specs.FunctionParseLaws.{ReachesAll, ReadsAgain};
 ghost use Rattle.addr2line_units.specs.LegacyLaws.{FindsLegacyNames, FindsOnlyLegacyNames, HasOneText};
 ghost use Rattle.addr2line_units.specs.LoadLaws.{LeaveFewer, LeaveOthers, NeedLoadsToWait, WaitForListed};
@@ -45,4 +46,15 @@ pub fn load_laws()
 pub fn function_parse_laws()
     ensures reached { ReachesAll }
     ensures again { ReadsAgain }
+{}
+
+/// Nothing that units give is `OutOfMemory`, whatever the sections, the first answers and the
+/// address are: units, lines, locations, views, loads, functions and frames are values or other
+/// faults. So an answer `OutOfMemory` of a call is never what the sections give.
+pub fn fault_laws()
+    ensures units { UnitsAreNotRefused }
+    ensures lines { LinesAreNotRefused }
+    ensures views { ViewsAreNotRefused }
+    ensures frames { FramesAreNotRefused }
+    ensures parses { ParsesAreNotRefused }
 {}

@@ -26,5 +26,5 @@ pub mod view;
 
 pub use crate::frame::{Frame, FrameIter, FunctionName};
 pub use crate::laws::{
-    function_parse_laws, legacy_name_laws, load_laws, units_in_order, view_laws,
+    fault_laws, function_parse_laws, legacy_name_laws, load_laws, units_in_order, view_laws,
 };

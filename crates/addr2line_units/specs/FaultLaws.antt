@@ -1,0 +1,96 @@
+-- Nothing that the units of a context give is OutOfMemory: whatever the sections, the first answers
+-- and the address are, it is a value or another fault.
+-- Own: a refused growth alone answers OutOfMemory, so only where a contract allows it beside what
+-- is given.
+use Rattle.std.specs.Prelude.{ℕ, List, Option, IfOk, IfSome}
+use Rattle.gimli_read.specs.Alike.{WasNotRefused}
+use Rattle.gimli_read.specs.FaultLaws.{NoneWasRefused}
+use Rattle.gimli_read.specs.Section.{Section}
+use Rattle.gimli.specs.Header.{UnitHeaderFields}
+use Rattle.gimli.specs.Sections.{Sections, SupSections}
+use Rattle.gimli.specs.Unit.{UnitRecord}
+use Rattle.addr2line_lines.specs.References.{Scope}
+use Rattle.addr2line_units.specs.declared.aranges.UnitArange.{UnitArange}
+use Rattle.addr2line_units.specs.declared.frames_lookup.OnFault.{OnFault}
+use Rattle.addr2line_units.specs.declared.index.UnitRange.{UnitRange}
+use Rattle.addr2line_units.specs.declared.parses.ReadingDepth.{ReadingDepth}
+use Rattle.addr2line_units.specs.AskedUnits.{stop_at}
+use Rattle.addr2line_units.specs.CachedFunctions.{functions_fault}
+use Rattle.addr2line_units.specs.Frames.{function_at}
+use Rattle.addr2line_units.specs.FramesLookup.{asked_frames, frames_of_number}
+use Rattle.addr2line_units.specs.FunctionParses.{read_of_unit, read_of_units}
+use Rattle.addr2line_units.specs.Loads.{forget_result, load_result, unit_of_token}
+use Rattle.addr2line_units.specs.Located.{all_lines, along, lines_of_unit, location_in, location_of, spans_along, spans_of}
+use Rattle.addr2line_units.specs.RangedUnits.{IndexedUnit, ranged_units, unit_of_header}
+use Rattle.addr2line_units.specs.UnitAranges.{aranges_in}
+use Rattle.addr2line_units.specs.UnitAttributes.{unit_attributes}
+use Rattle.addr2line_units.specs.UnitFrames.{frames_in, function_in}
+use Rattle.addr2line_units.specs.UnitIndex.{index_units, sup_units}
+use Rattle.addr2line_units.specs.UnitsState.{UnitsState, new_units, stop_of}
+use Rattle.addr2line_units.specs.Views.{FirstAnswers, answered_view, first_unit, load_of_unit, split_name_of, verdict}
+
+-- no unit of a file is, nor what its root entry says, nor all that a context is made of
+pub record UnitsAreNotRefused : Type 0 where
+  pub aranges : (s : Section) → WasNotRefused (aranges_in s)
+  pub attributes : (d : Sections) (u : UnitRecord) → WasNotRefused (unit_attributes d u)
+  pub unit : (d : Sections) (aranges : List UnitArange) (header : UnitHeaderFields)
+      → WasNotRefused (unit_of_header d aranges header)
+  pub ranged : (d : Sections) → WasNotRefused (ranged_units d)
+  pub sup : (sup : Option SupSections) → WasNotRefused (sup_units sup)
+  pub index : (d : Sections) → WasNotRefused (index_units d)
+  pub state : (d : Sections) → WasNotRefused (new_units d)
+
+-- no lines are, nor a location, nor a row that a range of addresses meets
+pub record LinesAreNotRefused : Type 0 where
+  pub unit : (d : Sections) (u : IndexedUnit) → WasNotRefused (lines_of_unit d u)
+  pub all : (d : Sections) (units : List IndexedUnit) → WasNotRefused (all_lines d units)
+  pub location : (d : Sections) (probe : ℕ) (u : Option IndexedUnit)
+      → WasNotRefused (location_in d probe u)
+  pub along_ranges : (d : Sections) (units : List IndexedUnit) (probe : ℕ)
+      (ranges : List UnitRange) → WasNotRefused (along d units probe ranges)
+  pub of_address : (d : Sections) (probe : ℕ) → WasNotRefused (location_of d probe)
+  pub spans : (d : Sections) (units : List IndexedUnit) (low high : ℕ) (ranges : List UnitRange)
+      → NoneWasRefused (spans_along d units low high ranges)
+  pub of_range : (d : Sections) (low high : ℕ) → WasNotRefused (spans_of d low high)
+  pub in_range : (d : Sections) (low high : ℕ)
+      → IfOk (spans_of d low high) (λ spans. NoneWasRefused spans)
+
+-- no view is, nor a load, the name of a split file or what an answer to a load gives
+pub record ViewsAreNotRefused : Type 0 where
+  pub split_name : (d : Sections) (u : UnitRecord) → WasNotRefused (split_name_of d u)
+  pub first : (d : Sections) → WasNotRefused (first_unit d)
+  pub answered : (d : Sections) (u : UnitRecord) (given : Option Sections)
+      → WasNotRefused (answered_view d u given)
+  pub load : (d : Sections) (n : ℕ) (u : UnitRecord) → WasNotRefused (load_of_unit d n u)
+  pub view : (d : Sections) (u : UnitRecord) (answer : Option (Option Sections))
+      → IfSome (verdict d u answer) (λ v. WasNotRefused v)
+  pub token : (us : List UnitRecord) (n : ℕ) → WasNotRefused (unit_of_token us n)
+  pub answer : (d : Sections) (us : List UnitRecord) (answers : FirstAnswers) (n : ℕ)
+      (given : Option Sections) → WasNotRefused (load_result d us answers n given)
+  pub forget : (us : List UnitRecord) (n : ℕ) → WasNotRefused (forget_result us n)
+
+-- no function at an address is, nor frames, nor what a lookup comes to
+pub record FramesAreNotRefused : Type 0 where
+  pub function : (scope : Scope) (view : UnitRecord) (probe : ℕ)
+      → WasNotRefused (function_at scope view probe)
+  pub in_view : (scope : Scope) (u : UnitRecord) (answer : Option (Option Sections)) (probe : ℕ)
+      → WasNotRefused (function_in scope u answer probe)
+  pub in_unit : (scope : Scope) (u : IndexedUnit) (answer : Option (Option Sections)) (probe : ℕ)
+      → WasNotRefused (frames_in scope u answer probe)
+  pub of_number : (scope : Scope) (units : List IndexedUnit) (answers : FirstAnswers)
+      (probe n : ℕ) → WasNotRefused (frames_of_number scope units answers probe n)
+  pub asked : (faults : OnFault) (scope : Scope) (units : List IndexedUnit)
+      (answers : FirstAnswers) (probe n : ℕ)
+      → WasNotRefused (asked_frames faults scope units answers probe n)
+  pub stop : (faults : OnFault) (probe : ℕ) (s : UnitsState) (ranges : List UnitRange)
+      → WasNotRefused (stop_of faults probe s ranges)
+  pub stop_in_unit : (faults : OnFault) (probe : ℕ) (s : UnitsState) (n : ℕ)
+      → WasNotRefused (stop_at faults probe s n)
+
+-- no fault of a parse of functions and their details is
+pub record ParsesAreNotRefused : Type 0 where
+  pub functions : (scope : Scope) (view : UnitRecord) → WasNotRefused (functions_fault scope view)
+  pub unit : (reads : ReadingDepth) (scope : Scope) (u : UnitRecord)
+      (answer : Option (Option Sections)) → WasNotRefused (read_of_unit reads scope u answer)
+  pub units : (reads : ReadingDepth) (scope : Scope) (us : List UnitRecord)
+      (answers : FirstAnswers) → WasNotRefused (read_of_units reads scope us answers)

@@ -39,6 +39,10 @@ split_at p xs n x h is =
     fails : (k : ℕ) (d : Specification) → k < n → p (slice_index_or xs k d) ≡ false
     fails k d b = (position-Some p xs n d h).2 k b
 
+-- the test holds there
+pub holds_there : (p : Specification → Bool) (xs : List Specification) (n : ℕ) (x : Specification) → position p xs ≡ Some n → x ≡ slice_index_or xs n x → p x ≡ true
+holds_there p xs n x h is = ap p is ∙ (position-Some p xs n x h).1
+
 -- an attribute has the name of its specification
 pub named : (e : Encoding) (x : Specification) (s t : Section) (a : NamedValue) → attribute_at e x s ≡ Ok (a, t) → a.name ≡ x.name
 unfolding attribute_at

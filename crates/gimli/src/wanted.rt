@@ -1,6 +1,6 @@
 //! Attributes that are asked for by their names, among others.
 
-ghost use Rattle.std.specs.Prelude.{◌≡◌, ◌<◌, None, IfSome, length};
+ghost use Rattle.std.specs.Prelude.{◌≡◌, ◌<◌, true, None, IfSome, length};
 ghost use Rattle.std.specs.List.{position};
 ghost use Rattle.gimli.specs.WantedAttributes.{HasNoWanted, IsSplitAtWanted, is_wanted_specification};
 
@@ -46,6 +46,7 @@ fn first_wanted<W: WantedNames>(specifications: &[AttributeSpecification]) -> Op
 pub fn split_at_wanted<W: WantedNames>(all: &[AttributeSpecification]) -> Option<AtWanted<'_>>
     ensures split { IfSome result (λ x.
         IsSplitAtWanted W.wanted all.now x.before.now x.specification x.after.now) }
+    ensures found { IfSome result (λ x. W.wanted x.specification.name ≡ true) }
     ensures none { result ≡ None → HasNoWanted W.wanted all.now }
 {
     let place = first_wanted::<W>(all)?;

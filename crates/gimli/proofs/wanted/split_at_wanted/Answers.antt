@@ -1,6 +1,6 @@
 use Rattle.std.proofs.Common.{sym}
 use Rattle.gimli.specs.WantedAttributes.{is_wanted_specification}
-use Rattle.gimli.proofs.WantedLemmas.{none_split, split_at}
+use Rattle.gimli.proofs.WantedLemmas.{holds_there, none_split, split_at}
 use Rattle.gimli.proofs.wanted.split_at_wanted.Goals as goal
 
 pub returns-in_err-place-clause-none : goal.returns-in_err-place-clause-none
@@ -8,3 +8,6 @@ returns-in_err-place-clause-none g c = λ none. none_split (is_wanted_specificat
 
 pub returns-clause-split : goal.returns-clause-split
 returns-clause-split g c = split_at (is_wanted_specification g.W.WantedNames.wanted) c.args.all.now c.in_ok-place.place c.index-all-place.result (sym c.in_ok-place.ensures.gives) c.index-all-place.is
+
+pub returns-clause-found : goal.returns-clause-found
+returns-clause-found g c = holds_there (is_wanted_specification g.W.WantedNames.wanted) c.args.all.now c.in_ok-place.place c.index-all-place.result (sym c.in_ok-place.ensures.gives) c.index-all-place.is

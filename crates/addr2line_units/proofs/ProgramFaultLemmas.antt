@@ -1,5 +1,5 @@
 -- The faults of a line program, of which none is OutOfMemory (on gimli_line's Opcode and Rows).
-use Rattle.std.proofs.Common.{◌≡◌, ◌≢◌, ◌∙◌, ◌-◌, ◌==◌, ℕ, zero, suc, ap, subst, sym, ◌&&◌, not, length, nat_le, nat_lt, Bool, true, false, List, [], ◌∷◌, Option, Some, None, Result, Ok, Err}
+use Rattle.std.proofs.Common.{◌≡◌, ◌≢◌, ◌-◌, ◌==◌, ℕ, zero, suc, subst, ◌&&◌, not, length, nat_lt, Bool, true, false, List, [], ◌∷◌, Option, Some, None, Result, Ok, Err}
 use Rattle.std.specs.Prelude.{if◌then◌else◌, slice_index}
 use Rattle.std.specs.List.{position}
 use Rattle.gimli_read.specs.declared.error.Error.{Error}
@@ -13,10 +13,9 @@ use Rattle.gimli_read.specs.Section.{Section}
 use Rattle.gimli_line.specs.declared.encoding.LineEncoding.{LineEncoding}
 use Rattle.gimli_line.specs.declared.opcode.Opcode.{Opcode}
 use Rattle.gimli_line.specs.declared.opcode.Opcode.TheVariants.{AdvanceLine, AdvancePc, ConstAddPc, Copy, EndSequence, FixedAdvancePc, Other, SetAddress, SetColumn, SetFile}
-use Rattle.gimli_line.specs.declared.opcode.LineInstruction.{LineInstruction}
 use Rattle.gimli_line.specs.declared.row.LineRow.{LineRow}
 use Rattle.gimli_line.specs.Encoding.{limit}
-use Rattle.gimli_line.specs.Header.{File, Header, Program}
+use Rattle.gimli_line.specs.Header.{Header, Program}
 use Rattle.gimli_line.specs.Lines.{lines_of}
 use Rattle.gimli_line.specs.Opcode.{coded_instruction_at, extended_at, extended_in, file_entry_at, file_with_path_at, instruction_at, instructions_of, numbers_skipped, opcodes_in, operand_at, standard_at}
 use Rattle.gimli_line.specs.Rows.{address_after, address_state, is_end, makes_row, past_after, row_after, rows_after}

@@ -97,7 +97,8 @@ pub record AfterFrames {X : Type 0} (faults : OnFault) (probe : ℕ) (result : R
   pub raised : old.looks ≤ new.looks
   pub ready : WasNotRefused result → IsKnown faults new probe
   pub memory : IsKnownFew faults new probe
-      → is_waiting (lookup_stop faults old.sections old.answers probe) ≡ false → WasNotRefused result
+      → is_waiting (lookup_stop faults old.sections old.answers probe) ≡ false
+      → WasNotRefused result
 
 -- the same over readers that share their bytes or don't: where the lookup takes no memory and
 -- waits for nothing, a refusal is the fault of a unit that it asks
@@ -118,12 +119,13 @@ abbrev pub IsFoundUnit : ContextState → Option (Sections × UnitRecord) → Ty
 IsFoundUnit c found = (m : UnitIndex) → index_units c.sections ≡ Ok m
     → found ≡ unit_found c.sections (unit_records m.units) c.answers c.stop
 
--- what is lent after a lookup: where it doesn't wait, a refusal is that of the lookup, and memory is
--- refused only where it was for the lookup
+-- what is lent after a lookup: where it doesn't wait, a refusal is that of the lookup, and memory
+-- is refused only where it was for the lookup
 pub record IsLent {X : Type 0} (walked : Result (Unit {0}) Error) (stop : Stop)
     (result : Result X Error) : Type 0 where
   pub ready : WasNotRefused result → WasNotRefused walked
-  pub memory : is_waiting (walked >>= λ _. Ok stop) ≡ false → WasNotRefused walked → WasNotRefused result
+  pub memory : is_waiting (walked >>= λ _. Ok stop) ≡ false → WasNotRefused walked
+      → WasNotRefused result
   pub refused : is_waiting (walked >>= λ _. Ok stop) ≡ false
       → IfErr result (λ e. walked ≡ Err e)
 

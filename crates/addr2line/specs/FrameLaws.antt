@@ -10,7 +10,8 @@ use Rattle.addr2line_units.specs.UnitIndex.{UnitIndex, index_units}
 use Rattle.addr2line_units.specs.Views.{FirstAnswers}
 use Rattle.addr2line.specs.Lookups.{lookup_stop}
 
--- the function at the probe in the view of the unit of a number, if one holds it, or the first fault
+-- the function at the probe in the view of the unit of a number, if one holds it, or the first
+-- fault
 abbrev pub function_of_number : Sections → UnitIndex → FirstAnswers → ℕ → ℕ
     → Result (Option FoundFunction) Error
 function_of_number d m answers probe n = elim (slice_get m.units n) [

@@ -101,8 +101,8 @@ IsReadyToRead reads c = (m : UnitIndex) → index_units c.sections ≡ Ok m
 
 -- after a parse of all functions open units are decided by none, up to the first fault; where
 -- memory was refused, some of the first ones. What was known of the others stays. Unless memory was
--- refused all is known that the parse reads, and where it is, none was refused; where it was before,
--- nothing is changed of what is known and answered
+-- refused all is known that the parse reads, and where it is, none was refused; where it was
+-- before, nothing is changed of what is known and answered
 pub record AfterParse (reads : ReadingDepth) (result : Result (Unit {0}) Error)
     (old new : ContextState) : Type 0 where
   pub stays : StaysRead old new

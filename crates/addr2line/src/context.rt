@@ -27,8 +27,8 @@ use std::alloc::Global;
 use std::marker::Model;
 use std::rc::Rc;
 
-/// What addresses are looked up in: the units of a file, with what is parsed of them, and the ranges
-/// of addresses that lead to them.
+/// What addresses are looked up in: the units of a file, with what is parsed of them, and the
+/// ranges of addresses that lead to them.
 #[derive(Drop)]
 pub struct Context<R: Reader> {
     pub(crate) alloc: Global,

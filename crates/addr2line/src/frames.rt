@@ -245,8 +245,8 @@ impl<R: Reader> Context<R> {
     /// that it asks; may fail with `OutOfMemory` instead, which is never cached. An output takes no
     /// memory where all that it asks for is cached, or takes none to read, and at most 16 inlined
     /// functions stand there. Unless readers share their bytes, functions take none where a view
-    /// has none, nor do some lines that have a fault, as `Lines::parse` has it. Where no unit covers
-    /// `probe`, as at 2^64 - 1, it waits for nothing and takes no memory.
+    /// has none, nor do some lines that have a fault, as `Lines::parse` has it. Where no unit
+    /// covers `probe`, as at 2^64 - 1, it waits for nothing and takes no memory.
     ///
     /// Source: DWARF 5, sections 2.17, 3.3, 3.1.2 and 7.3.2. Own: which unit counts, and what a
     /// lookup waits for.

@@ -43,8 +43,9 @@ impl<R: Reader> Context<R> {
     ///
     /// Refused `UnknownToken` where there is no such unit, and then nothing is changed; refused by
     /// the fault of the view that the unit has then, and the unit is decided all the same. May fail
-    /// with `OutOfMemory` instead, where the unit is open and is given sections, and where bytes are
-    /// shared or the header of their first unit can be read; then all first answers are as before.
+    /// with `OutOfMemory` instead, where the unit is open and is given sections, and where bytes
+    /// are shared or the header of their first unit can be read; then all first answers are as
+    /// before.
     /// A token of another context counts by its number.
     ///
     /// Source: DWARF 5, section 7.3.2. Own: which answer counts.

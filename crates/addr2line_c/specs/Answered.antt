@@ -1,6 +1,6 @@
 -- What a call comes to, by what is there.
--- Own: memory that was refused may stand in place of any answer. A buffer without room for all that is there changes the
--- status alone.
+-- Own: memory that was refused may stand in place of any answer. A buffer without room for all
+-- that is there changes the status alone.
 use Rattle.std.specs.Prelude.{◌≡◌, ◌≢◌, Bool, true, false, Option, Some, None, Ok, Err, if◌then◌else◌}
 use Rattle.elf.specs.declared.error.LoaderError.TheVariants.{OutOfMemory}
 use Rattle.elf.specs.Loading.{Loading}
@@ -11,8 +11,10 @@ use Rattle.addr2line_c.specs.declared.status.Status.TheVariants.{Done, TooSmall,
 abbrev pub IsThere : {A : Type 0} → Loading (Option A) → (A → Type 0) → Type 0
 IsThere {A} given written = (x : A) × (given ≡ Ok (Some x)) × written x
 
--- the status says what is there: whether it was written whole, that there is nothing, or the refusal
-abbrev pub SaysWhatIsThere : {A : Type 0} → Loading (Option A) → (A → Type 0) → Bool → Status → Type 0
+-- the status says what is there: whether it was written whole, that there is nothing, or the
+-- refusal
+abbrev pub SaysWhatIsThere : {A : Type 0} → Loading (Option A) → (A → Type 0) → Bool → Status
+    → Type 0
 SaysWhatIsThere given written fits Done = (fits ≡ true) × IsThere given written
 SaysWhatIsThere given written fits TooSmall = (fits ≡ false) × IsThere given written
 SaysWhatIsThere given written fits Nothing = given ≡ Ok None

@@ -1,6 +1,6 @@
 -- The loads that a handle was asked to answer (DWARF 5, section 7.3.2).
--- Own: the load of a unit keeps the place where it was first asked for, which is its token. It waits
--- from each time that it is asked for until it is answered or forgotten.
+-- Own: the load of a unit keeps the place where it was first asked for, which is its token. It
+-- waits from each time that it is asked for until it is answered or forgotten.
 use Rattle.std.specs.Prelude.{◌==◌, ◌++◌, ◌∷◌, ℕ, Bool, true, List, [], fold, position, slice_get, slice_set, Option, Some, None, option_and_then, option_map}
 use Rattle.addr2line_units.specs.Views.{SplitLoad}
 use Rattle.addr2line_c.specs.declared.loads.AskedLoad.{AskedLoad}

@@ -36,8 +36,8 @@ use Rattle.addr2line_c.specs.Written.{IsWrittenFrames, IsWrittenLocation}
 use Rattle.addr2line_c.specs.WrittenSpans.{IsWrittenSpans, spans_from}
 use Rattle.addr2line_c.specs.WrittenSymbols.{IsWrittenRange, IsWrittenSymbol}
 
--- what a handle owns before and after a call, and the number that it answers: those of a call of the open file, or nothing, and
--- that it is closed
+-- what a handle owns before and after a call, and the number that it answers: those of a call of
+-- the open file, or nothing, and that it is closed
 abbrev pub CallsFile : {F : Type 0} → Option F → Option F → ℕ → (F → F → Status → Type 0) → Type 0
 CallsFile None new number says = (new ≡ None) × (number ≡ status_number Closed)
 CallsFile {F} (Some old) new number says = (left : F) × (s : Status)
@@ -142,7 +142,8 @@ given_sup sup = if length sup == 0 then None else Some sup
 
 -- a new file of these bytes: its sections are read, and nothing was asked for
 pub record IsOpened (bytes sup : List ℕ) (file : OpenFile) : Type 0 where
-  pub loaded : loaded_bytes compressed.Refused bytes (given_sup sup) ≡ Ok (file.object, file.context)
+  pub loaded : loaded_bytes compressed.Refused bytes (given_sup sup)
+      ≡ Ok (file.object, file.context)
   pub loads : file.loads.loads.items ≡ []
 
 -- a handle has the file of these bytes, or nothing, and the number says why

@@ -1,4 +1,5 @@
--- What a handle owns that C holds. Own: at null nothing, else the box at its pointer, which may be compared with null.
+-- What a handle owns that C holds.
+-- Own: at null nothing, else the box at its pointer, which may be compared with null.
 use Rattle.std.specs.Prelude.{◌≡◌}
 use base.Fml.{Fml, ftrue, fsep, fex}
 use denote.RattleType.{RattleType}

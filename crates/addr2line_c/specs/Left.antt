@@ -34,19 +34,22 @@ abbrev pub was_made : {X : Type 0} → Result X Error → Result (Unit {0}) Erro
 was_made r = result_map (λ _. tt {0}) r
 
 -- a lookup of the location at the probe has left a context
-pub record LeavesLocation (probe : ℕ) (fits : Bool) (s : Status) (old new : ContextState) : Type 0 where
+pub record LeavesLocation (probe : ℕ) (fits : Bool) (s : Status) (old new : ContextState)
+    : Type 0 where
   pub came : Result (Option (Unit {0})) Error
   pub status : s ≡ status_by Nothing fits came
   pub after : AfterLookup probe came old new
 
 -- a lookup of the rows that a range of addresses meets has left a context
-pub record LeavesRange (low high : ℕ) (fits : Bool) (s : Status) (old new : ContextState) : Type 0 where
+pub record LeavesRange (low high : ℕ) (fits : Bool) (s : Status) (old new : ContextState)
+    : Type 0 where
   pub came : Result (Unit {0}) Error
   pub status : s ≡ after_reply came (done_if fits)
   pub after : AfterRangeLookup low high came old new
 
 -- a lookup of the frames at the probe has left a context; one that waits comes to none
-pub record LeavesFrames (probe : ℕ) (fits : Bool) (s : Status) (old new : ContextState) : Type 0 where
+pub record LeavesFrames (probe : ℕ) (fits : Bool) (s : Status) (old new : ContextState)
+    : Type 0 where
   pub came : Result (Option (Unit {0})) Error
   pub status : (s ≡ Refused OutOfMemory) ⊎ (s ≡ status_by Waits fits came)
   pub after : AfterFrames End probe came old new

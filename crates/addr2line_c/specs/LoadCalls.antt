@@ -1,7 +1,7 @@
--- What answers to loads come to, and what forgets them, asks for them and reads all units: the status, the context that is left,
--- and which loads wait then (DWARF 5, sections 3.1.2 and 7.3.2).
--- Own: a file that is refused and one of another unit are answered none, and the status says why. Where memory is refused the
--- load goes on waiting.
+-- What answers to loads come to, and what forgets them, asks for them and reads all units: the
+-- status, the context that is left, and which loads wait then (DWARF 5, sections 3.1.2 and 7.3.2).
+-- Own: a file that is refused and one of another unit are answered none, and the status says why.
+-- Where memory is refused the load goes on waiting.
 use Rattle.std.specs.Prelude.{◌≡◌, ◌≢◌, ◌==◌, ◌++◌, ℕ, Bool, true, false, not, List, [], length, Option, Some, None, Result, Ok, Err, if◌then◌else◌}
 use Rattle.gimli_read.specs.declared.error.Error.{Error}
 use Rattle.gimli_read.specs.declared.error.Error.TheVariants.{UnknownToken}
@@ -29,10 +29,12 @@ has_bytes bytes = not (length bytes == 0)
 
 -- what the file that bytes are has for a load, nothing where there are no bytes
 abbrev pub answer_of_bytes : SplitLoad → List ℕ → Loading (Option Sections)
-answer_of_bytes load bytes = if length bytes == 0 then Ok None else split_of compressed.Refused load bytes
+answer_of_bytes load bytes = if length bytes == 0
+    then Ok None
+    else split_of compressed.Refused load bytes
 
--- what a status says of the file that was to answer: that it was taken, or that there was none, that it is another unit's, or
--- its refusal
+-- what a status says of the file that was to answer: that it was taken, or that there was none,
+-- that it is another unit's, or its refusal
 abbrev pub status_of_answer : Bool → Loading (Option Sections) → Status
 status_of_answer has_file (Ok None) = if has_file then OtherUnit else Done
 status_of_answer has_file (Ok (Some d)) = Done

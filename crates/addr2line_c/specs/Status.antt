@@ -1,6 +1,6 @@
 -- The numbers of statuses, and what they say.
--- Own: the library's own statuses come first, then refusals of files, then those of DWARF bytes; a refused growth has one
--- number, wherever it was refused.
+-- Own: the library's own statuses come first, then refusals of files, then those of DWARF bytes; a
+-- refused growth has one number, wherever it was refused.
 use Rattle.std.specs.Prelude.{ℕ, List, codes, Result, Ok, Err}
 use Rattle.gimli_read.specs.declared.error.Error.{Error}
 use Rattle.gimli_read.specs.declared.error.Error.TheVariants as reading

@@ -18,7 +18,8 @@ text_after before None = record { offset = 0; length = 0; is_there = 0 }
 text_after before (Some text) =
     record { offset = saturated (length (joined before)); length = length text; is_there = 1 }
 
--- a part names this text, which stands in the buffer with a zero after it, or says that there is none
+-- a part names this text, which stands in the buffer with a zero after it, or says that there is
+-- none
 abbrev pub NamesText : List ℕ → TextPart → Option (List ℕ) → Type 0
 NamesText buffer part None = part ≡ record { offset = 0; length = 0; is_there = 0 }
 NamesText buffer part (Some text) = (part.is_there ≡ 1) × (part.length ≡ length text)

@@ -11,7 +11,8 @@ pub record IsWrittenSymbol (out : WrittenSymbol) (buffer : List ℕ) (needed : �
     : Type 0 where
   pub parts : out ≡ record { address = s.address; name = text_after [] (Some s.name) }
   pub texts : IsFilled needed buffer (joined (s.name ∷ []))
-  pub named : length (joined (s.name ∷ [])) ≤ length buffer → NamesText buffer out.name (Some s.name)
+  pub named : length (joined (s.name ∷ [])) ≤ length buffer
+      → NamesText buffer out.name (Some s.name)
 
 -- this range is written
 abbrev pub IsWrittenRange : ℕ → ℕ → Range → Type 0

@@ -139,8 +139,8 @@ fn put_found_spans<R: Reader>(
     }
 }
 
-/// The rows that a range of addresses meets, from the one that has `first` rows and faults before it
-/// on, as many as `out` has room for, with their texts in the buffer.
+/// The rows that a range of addresses meets, from the one that has `first` rows and faults before
+/// it on, as many as `out` has room for, with their texts in the buffer.
 pub(crate) fn find_spans<R: Reader>(
     context: &mut Context<R>,
     low: u64,

@@ -77,7 +77,8 @@ fn loader_number(error: LoaderError) -> u32
 // The refusal of a reading that a number stands for; an offset that it had is 0.
 fn dwarf_of_number(number: u32) -> Option<Error>
     ensures gives { IfSome result (λ e. dwarf_number e ≡ number) }
-    ensures none { IfNone result ((e : RefusedReading) → e ≢ OutOfMemory → dwarf_number e ≢ number) }
+    ensures none { IfNone result ((e : RefusedReading) → e ≢ OutOfMemory
+        → dwarf_number e ≢ number) }
 {
     match number {
         32 => Some(Error::UnexpectedEof),

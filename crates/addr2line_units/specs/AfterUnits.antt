@@ -121,7 +121,8 @@ pub record AfterLoad (n : ℕ) (given : Option Sections) (result : Result (Unit 
       ≡ with_answer old.scope.file.sections old.scope.file.units old.answers n given
   pub begun : (new.answers ≡ old.answers) ⊎ (new.answers
       ≡ with_answer old.scope.file.sections old.scope.file.units old.answers n given)
-  pub refused : result ≢ load_result old.scope.file.sections old.scope.file.units old.answers n given
+  pub refused : result
+      ≢ load_result old.scope.file.sections old.scope.file.units old.answers n given
       → (new.answers ≡ old.answers) × StaysKnown old.known new.known
   pub known : is_open_at old.scope.file.sections old.scope.file.units old.answers n ≡ false
       → StaysKnown old.known new.known
@@ -149,8 +150,8 @@ pub record AfterListing (old new : UnitsState) : Type 0 where
 
 -- after a parse of all functions open units are decided by none, up to the first fault; where
 -- memory was refused, some of the first ones. What was known of the others stays. Unless memory was
--- refused all is known that the parse reads, and where it is, none was refused; where it was before,
--- nothing is changed of what is known and answered
+-- refused all is known that the parse reads, and where it is, none was refused; where it was
+-- before, nothing is changed of what is known and answered
 pub record AfterReading (reads : ReadingDepth) (result : Result (Unit {0}) Error)
     (old new : UnitsState) : Type 0 where
   pub stays : StayRead old new

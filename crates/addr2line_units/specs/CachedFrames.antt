@@ -62,8 +62,8 @@ abbrev pub IsStopIn : {R : Type 0} → List ResUnit → List (UnitEntries R) →
 IsStopIn units views (stops.Finds p) = IsFramePlaceIn units views p
 IsStopIn units views _ = Unit {0}
 
--- what a lookup comes to can be lent: the unit waits that it waits for, or the places of what it has
--- found are among what is cached, and the view of their unit is known
+-- what a lookup comes to can be lent: the unit waits that it waits for, or the places of what it
+-- has found are among what is cached, and the view of their unit is known
 abbrev pub IsLendable : {R : Type 0} → List ResUnit → List (UnitEntries R) → FramesStop → Type 0
 IsLendable units views (stops.Waits n) = waits_at views n ≡ true
 IsLendable units views (stops.Finds p) =

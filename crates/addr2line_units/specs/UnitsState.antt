@@ -31,7 +31,8 @@ pub record UnitsState : Type 0 where
   pub looks : ℕ
   pub stop : Stop
 
--- units as they are read, and those of the supplementary file: nothing is answered, and nothing known
+-- units as they are read, and those of the supplementary file: nothing is answered, and nothing
+-- known
 abbrev pub first_state : Sections → List RangedUnit → List UnitRecord → UnitsState
 first_state d units sup = record {
   scope = main_scope d (record {

@@ -47,8 +47,8 @@ impl<R: Reader> Units<R> {
     ///
     /// Refused `UnknownToken` where there is no such unit; then nothing is changed. Refused by the
     /// fault of the view that the unit has then; the unit is decided all the same. May fail with
-    /// `OutOfMemory` instead, only of an open unit that is given sections, and where bytes are shared
-    /// or the header of their first unit can be read.
+    /// `OutOfMemory` instead, only of an open unit that is given sections, and where bytes are
+    /// shared or the header of their first unit can be read.
     pub fn load_unit(
         &mut self,
         token: UnitToken,

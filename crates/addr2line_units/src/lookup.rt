@@ -45,8 +45,10 @@ fn find_row_in<R: Reader>(
         (option_map (λ row. location_of_unit_row units.new.items (unit_row number row))) result
         (location_in dwarf.now probe
         (slice_get (indexed_units dw_units.now units.old.items) number)) }
-    ensures parsed { WasNotRefused result → has_parsed (parsed_units units.new.items) number ≡ true }
-    ensures memory { has_parsed (parsed_units units.new.items) number ≡ true → WasNotRefused result }
+    ensures parsed { WasNotRefused result
+        → has_parsed (parsed_units units.new.items) number ≡ true }
+    ensures memory { has_parsed (parsed_units units.new.items) number ≡ true
+        → WasNotRefused result }
     ensures no_memory { lines_of_take_memory R.shares
         (indexed_units dw_units.now units.old.items) number ≡ false → IfErr result (λ e.
         location_in dwarf.now probe (slice_get (indexed_units dw_units.now units.old.items) number)
@@ -91,7 +93,8 @@ pub(crate) fn find_place_along<R: Reader>(
         (indexed_units dw_units.now units.old.items) (parsed_units units.new.items) probe
         (ranges_left ranges.entry) ≡ true }
     ensures memory { ready_along dwarf.now (indexed_units dw_units.now units.old.items)
-        (parsed_units units.new.items) probe (ranges_left ranges.entry) ≡ true → WasNotRefused result }
+        (parsed_units units.new.items) probe (ranges_left ranges.entry) ≡ true
+        → WasNotRefused result }
     ensures no_memory { takes_none_along R.shares dwarf.now
         (indexed_units dw_units.now units.old.items) (parsed_units units.new.items) probe
         (ranges_left ranges.entry) ≡ true → IfErr result (λ e. along dwarf.now
@@ -183,7 +186,8 @@ fn read_lines_in<R: Reader>(
     ensures gives { IsUnlessOom result
         (lines_result_at dwarf.now
         (slice_get (indexed_units dw_units.now units.old.items) number)) }
-    ensures parsed { WasNotRefused result → has_parsed (parsed_units units.new.items) number ≡ true }
+    ensures parsed { WasNotRefused result
+        → has_parsed (parsed_units units.new.items) number ≡ true }
     ensures memory { parses_no_memory R.shares (indexed_units dw_units.now units.old.items)
         (parsed_units units.new.items) number ≡ true → WasNotRefused result }
     ensures only { ParsesOnly (λ n. n ≡ number)

@@ -57,7 +57,8 @@ impl<R: Reader> LazyFunctions<R> {
         ensures memory { HaveFunctions Functions self.old → result ≡ Ok tt }
         ensures ready_for_all { WasNotRefused result
             → IsReadyFor Functions (known_functions self.new) }
-        ensures had_memory { IsReadyFor Functions (known_functions self.new) → WasNotRefused result }
+        ensures had_memory { IsReadyFor Functions (known_functions self.new)
+            → WasNotRefused result }
         ensures no_memory { functions_take_memory R.shares scope.entry.file.dwarf.now view.now
             ≡ false → IfErr result (λ e. read_of_functions Functions (seen_scope scope.entry)
             view.now ≡ Err e) }

@@ -27,8 +27,8 @@ fn sections_for<R: Reader>(
     Ok(None)
 }
 
-/// The frames at an address, where the sections of split files are among `files`; a unit whose split
-/// file isn't there is answered none.
+/// The frames at an address, where the sections of split files are among `files`; a unit whose
+/// split file isn't there is answered none.
 pub fn frames_at<'a, R: Reader>(
     context: &'a mut Context<R>,
     files: &[SplitFile<R>],

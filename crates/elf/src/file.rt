@@ -141,7 +141,8 @@ impl ElfFile {
     /// The same of a file of which only some pieces were read.
     #[tactic(auto, unfolding(crate::specs::ObjectFile::object_file_of))]
     pub fn parse_image(alloc: Global, file: FileImage) -> Result<ElfFile, LoaderError>
-        ensures gives { LoadsUnlessOomFor gives_sections result (object_file_of (image_bytes file)) }
+        ensures gives { LoadsUnlessOomFor gives_sections result
+            (object_file_of (image_bytes file)) }
     {
         let ident = header::read_ident(&file)?;
         let header = header::read_header(&file, ident)?;
@@ -379,7 +380,8 @@ impl ElfFile {
     fn packed_bytes_in(&self, number: usize, section: &SectionHeader) -> Option<&[u8]>
         requires of_number { slice_get self.now.sections number ≡ Some section.now }
         requires packed { is_packed (section_names_of self.now) section.now ≡ true }
-        ensures gives { option_map (λ b. b.now) result ≡ section_bytes_in self.now.bytes section.now }
+        ensures gives { option_map (λ b. b.now) result
+            ≡ section_bytes_in self.now.bytes section.now }
     {
         if section.is_nobits() {
             return Some(&[]);

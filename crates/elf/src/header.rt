@@ -82,7 +82,8 @@ pub(crate) fn read_ident(file: &FileImage) -> Result<Ident, LoaderError>
 #[tactic(auto, unfolding(crate::specs::Layout::number_at))]
 fn count_of(file: &FileImage, at: u64, ident: Ident) -> Result<u64, LoaderError>
     requires whole { (layout_of ident.class).header_size ≤ length (image_bytes file.now) }
-    ensures gives { result ≡ count_in ident.endian (layout_of ident.class) at (image_bytes file.now) }
+    ensures gives { result
+        ≡ count_in ident.endian (layout_of ident.class) at (image_bytes file.now) }
 {
     let layout = ident.class.layout();
     let count = file.number(0, layout.e_shnum, HALF_SIZE, ident.endian);

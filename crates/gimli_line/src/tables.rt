@@ -114,7 +114,8 @@ fn read_new_tables<R: Reader>(
     encoding: Encoding,
     input: &mut R,
 ) -> Result<HeaderTables<R>, Error>
-    ensures gives { ReadsUnlessOomIf (R.shares || new_tables_take_memory encoding (R.section input.old))
+    ensures gives { ReadsUnlessOomIf
+        (R.shares || new_tables_take_memory encoding (R.section input.old))
         R.section input.old input.new result (new_tables_at encoding) }
 {
     let directories = read_table(alloc, encoding, input)?;

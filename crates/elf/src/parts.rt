@@ -72,6 +72,7 @@ fn read_pieces<S: PartSource>(
 
 /// A file of which these ranges are read, which have to stand in order; none where they don't, or
 /// where the file can't be read.
+#[tactic(auto, using(crate::proofs::ImageLemmas::pieces_at_are))]
 pub(crate) fn read_ranges<S: PartSource>(
     alloc: Global,
     source: &S,

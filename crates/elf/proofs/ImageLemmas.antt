@@ -1,7 +1,7 @@
 -- What the pieces of a file say of its bytes (on specs/FileImage.antt).
-use Rattle.std.proofs.Common.{◌≡◌, ◌∙◌, ℕ, zero, suc, ◌⊎◌, inl, inr, ◌+◌, ◌-◌, ◌≤◌, ◌<◌, Bool, true, false, cond, List, [], ◌∷◌, ◌++◌, Option, Some, None, length, take, drop, get_or, replicate, set, is_some, option_map, ap, append-nil, arith, refl, sym, subst}
-use Rattle.std.specs.Prelude.{IfOk, IfSome, Ok, Result}
-use Rattle.std.specs.List.{find}
+use Rattle.std.proofs.Common.{◌≡◌, ◌∙◌, ℕ, zero, suc, ◌⊎◌, inl, inr, ◌+◌, ◌-◌, ◌≤◌, ◌<◌, Bool, true, false, cond, List, [], ◌∷◌, ◌++◌, Option, Some, None, length, map, take, drop, get_or, replicate, set, is_some, option_map, ap, append-nil, arith, refl, sym, subst}
+use Rattle.std.specs.Prelude.{IfSome}
+use Rattle.std.specs.List.{find, list_all}
 use Rattle.std.proofs.lemmas.Bool.{cases_lt}
 use Rattle.std.proofs.lemmas.Bool.Decides.{nat_tests}
 use Rattle.std.proofs.lemmas.List.{drop-drop, drop-take, take-take, get_or-drop, take_more, take_more_set, drop-append-le, take-append-le, length-append, length-replicate, length-drop, length-take-le, get_or_append_left, get_or-append_right}
@@ -11,8 +11,9 @@ use Rattle.byteorder.specs.Numbers.{big_from-take, little_from-take}
 use Rattle.gimli_read.specs.declared.endian.RunTimeEndian.{RunTimeEndian}
 use Rattle.gimli_read.specs.declared.endian.RunTimeEndian.TheVariants.{Little, Big}
 use Rattle.gimli_read.specs.Number.{number_of}
+use Rattle.gimli_read.specs.declared.range.Range.{Range}
 use Rattle.elf.specs.declared.image.Piece.{Piece}
-use Rattle.elf.specs.FileImage.{Image, HasPart, IsWhole, AreInOrder, bytes_from, holds, image_bytes, is_held, piece_end, ArePiecesOf, IsPieceOf, Shows}
+use Rattle.elf.specs.FileImage.{Image, HasPart, IsWhole, AreInOrder, bytes_from, holds, image_bytes, is_held, piece_end, ArePiecesOf, IsPieceOf, Shows, is_range_of, piece_in, pieces_at}
 use Rattle.elf.specs.Layout.{number_at}
 
 -- where a piece stands that has n bytes at s, behind a place at
@@ -232,21 +233,25 @@ pieces_show len ps bytes o size are =
 pub shows_itself : (i : Image) (bytes : List ℕ) → image_bytes i ≡ bytes → Shows i bytes
 shows_itself i bytes e = record { len = ap length e; same = λ s n h. ap (λ b. take n (drop s b)) e }
 
--- one more piece
-pub more_pieces : (bytes : List ℕ) (ps : List Piece) (p : Piece) → ArePiecesOf bytes ps → IsPieceOf bytes p → ArePiecesOf bytes (ps ++ p ∷ [])
-more_pieces bytes [] p h is = (is, tt)
-more_pieces bytes (q ∷ ps) p h is = (h.0, more_pieces bytes ps p h.1 is)
-
 -- the first piece and the others
 pub first_and_rest : (ps : List Piece) (first : Piece) → first ≡ get_or ps 0 first → 0 < length ps → first ∷ drop 1 ps ≡ ps
 first_and_rest [] first e h = absurd (omega (arith, h))
 first_and_rest (p ∷ ps) first e h = ap (λ q. q ∷ ps) e
 
--- one more piece that was read
-pub read_more : {E : Type 0} (o : Option (List ℕ)) (r : Result (Option Piece) E) (found : Option Piece) (ps : List Piece) (p : Piece) → r ≡ Ok found → found ≡ Some p
-    → IfSome o (λ b. IfOk r (λ f. IfSome f (IsPieceOf b))) → IfSome o (λ b. ArePiecesOf b ps) → IfSome o (λ b. ArePiecesOf b (ps ++ p ∷ []))
-read_more None r found ps p is some gives are = tt
-read_more {E} (Some b) r found ps p is some gives are =
-    let G : Result (Option Piece) E → Type 0 = λ x. IfOk x (λ f. IfSome f (IsPieceOf b)) in
-    let H : Option Piece → Type 0 = λ f. IfSome f (IsPieceOf b) in
-    more_pieces b ps p are (subst H some (subst G is gives))
+-- what is taken of a list is as many items of it as were taken
+taken : (n : ℕ) (xs : List ℕ) → take n xs ≡ take (length (take n xs)) xs
+taken zero xs = refl
+taken (suc n) [] = refl
+taken (suc n) (x ∷ xs) = ap (λ ys. x ∷ ys) (taken n xs)
+
+-- the pieces in ranges of a file have its bytes
+pub pieces_in_are : (bytes : List ℕ) (rs : List Range) → ArePiecesOf bytes (map (piece_in bytes) rs)
+pieces_in_are bytes [] = tt
+pieces_in_are bytes (r ∷ rs) = (taken (r.end - r.begin) (drop r.begin bytes), pieces_in_are bytes rs)
+
+pub pieces_at_are : (bytes : List ℕ) (rs : List Range) (ps : List Piece) → pieces_at bytes rs ≡ Some ps → ArePiecesOf bytes ps
+pieces_at_are bytes rs ps e = by_cases (list_all (is_range_of bytes) rs) e
+  where
+    by_cases : (b : Bool) → cond b (Some (map (piece_in bytes) rs)) None ≡ Some ps → ArePiecesOf bytes ps
+    by_cases true e = let same : map (piece_in bytes) rs ≡ ps = cc in subst (ArePiecesOf bytes) same (pieces_in_are bytes rs)
+    by_cases false e = absurd cc

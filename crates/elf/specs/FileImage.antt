@@ -1,7 +1,9 @@
 -- The bytes of a file of which only some pieces were read.
 -- Own: zeros stand for the bytes that no piece has.
-use Rattle.std.specs.Prelude.{◌≡◌, ℕ, ◌+◌, ◌-◌, ◌≤◌, ◌&&◌, Bool, true, List, [], ◌∷◌, ◌++◌, drop, is_some, length, nat_le, replicate, take}
-use Rattle.std.specs.List.{find}
+use Rattle.std.specs.Prelude.{◌≡◌, ℕ, ◌+◌, ◌-◌, ◌≤◌, ◌&&◌, Bool, true, cond, List, [], ◌∷◌, ◌++◌, Option, None, Some, drop, is_some, length, map, nat_le, replicate, take}
+use Rattle.std.specs.List.{find, list_all}
+use Rattle.gimli_read.specs.declared.endian.RunTimeEndian.TheVariants.{Little}
+use Rattle.gimli_read.specs.declared.range.Range.{Range}
 use Rattle.elf.specs.declared.image.Piece.{Piece}
 
 -- a file, as far as it was read: its length, and its pieces in order
@@ -61,3 +63,26 @@ IsPieceOf bytes p = p.bytes.bytes ≡ take (length p.bytes.bytes) (drop p.start 
 abbrev pub ArePiecesOf : List ℕ → List Piece → Type 0
 ArePiecesOf bytes [] = Unit {0}
 ArePiecesOf bytes (p ∷ pieces) = IsPieceOf bytes p × ArePiecesOf bytes pieces
+
+-- the n bytes at a place of a file, none where it ends before
+abbrev pub part_at : List ℕ → ℕ → ℕ → Option (List ℕ)
+part_at bytes at n = cond (nat_le (at + n) (length bytes)) (Some (take n (drop at bytes))) None
+
+-- whether a range of places is in a file
+abbrev pub is_range_of : List ℕ → Range → Bool
+is_range_of bytes r = nat_le r.begin r.end && nat_le r.end (length bytes)
+
+-- the piece of a file in a range of places
+abbrev pub piece_in : List ℕ → Range → Piece
+piece_in bytes r = record {
+  start = r.begin;
+  bytes = record { bytes = take (r.end - r.begin) (drop r.begin bytes); endian = Little };
+}
+
+-- the same, none where the range isn't in the file
+abbrev pub piece_at : List ℕ → Range → Option Piece
+piece_at bytes r = cond (is_range_of bytes r) (Some (piece_in bytes r)) None
+
+-- the pieces in ranges of places, none where one of them isn't in the file
+abbrev pub pieces_at : List ℕ → List Range → Option (List Piece)
+pieces_at bytes rs = cond (list_all (is_range_of bytes) rs) (Some (map (piece_in bytes) rs)) None

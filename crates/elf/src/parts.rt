@@ -1,7 +1,7 @@
 //! Parts of a file.
 
-ghost use Rattle.std.specs.Prelude.{◌≡◌, IfOk, IfSome};
-ghost use Rattle.elf.specs.FileImage.{ArePiecesOf, IsPieceOf, IsWhole, Shows};
+ghost use Rattle.std.specs.Prelude.{◌≡◌, IfOk, IfSome, is_some, option_map, true};
+ghost use Rattle.elf.specs.FileImage.{IsWhole, Shows, piece_at, pieces_at};
 
 use crate::image::{FileImage, Piece};
 use bytes::Bytes;
@@ -10,9 +10,10 @@ use std::alloc::{AllocError, Global};
 
 /// What gives parts of one file.
 pub trait PartSource: Drop {
-    ghost use Rattle.std.specs.Prelude.{ℕ, List, IfOk, IfSome, None, Option, drop, length, take};
+    ghost use Rattle.std.specs.Prelude.{ℕ, List, IfOk, IfSome, None, Option, length, option_map};
+    ghost use Rattle.elf.specs.FileImage.{part_at};
 
-    /// The bytes of the file, where they are known.
+    /// The bytes of the file, where they are known. Then each part of it can be read.
     ghost bytes: { Self → Option (List ℕ) } = { λ _. None };
 
     /// How many bytes the file has.
@@ -21,8 +22,8 @@ pub trait PartSource: Drop {
 
     /// The `len` bytes from a place; none where the file ends before, or can't be read.
     fn part(&self, alloc: Global, start: u64, len: usize) -> Result<Option<Vec<u8>>, AllocError>
-        ensures gives { IfSome (bytes self.now) (λ held. IfOk result (λ found. IfSome found (λ v.
-            v.items ≡ take len (drop start held)))) };
+        ensures gives { IfSome (bytes self.now) (λ held. IfOk result (λ found.
+            option_map (λ (v : _). v.items) found ≡ part_at held start len)) };
 }
 
 // The piece in a range of places.
@@ -31,8 +32,8 @@ fn read_piece<S: PartSource>(
     source: &S,
     range: Range,
 ) -> Result<Option<Piece>, AllocError>
-    ensures gives { IfSome (S.bytes source.now) (λ bytes. IfOk result (λ found. IfSome found
-        (IsPieceOf bytes))) }
+    ensures gives { IfSome (S.bytes source.now) (λ bytes. IfOk result (λ found.
+        found ≡ piece_at bytes range)) }
 {
     if range.begin > range.end {
         return Ok(None);
@@ -56,8 +57,8 @@ fn read_pieces<S: PartSource>(
     source: &S,
     ranges: &[Range],
 ) -> Result<Option<Vec<Piece>>, AllocError>
-    ensures gives { IfSome (S.bytes source.now) (λ bytes. IfOk result (λ found. IfSome found (λ v.
-        ArePiecesOf bytes v.items))) }
+    ensures gives { IfSome (S.bytes source.now) (λ bytes. IfOk result (λ found.
+        option_map (λ (v : _). v.items) found ≡ pieces_at bytes ranges.now)) }
 {
     let mut pieces = Vec::new(alloc);
     for range in ranges {
@@ -71,6 +72,7 @@ fn read_pieces<S: PartSource>(
 
 /// A file of which these ranges are read, which have to stand in order; none where they don't, or
 /// where the file can't be read.
+#[tactic(auto, using(crate::proofs::ImageLemmas::pieces_at_are))]
 pub(crate) fn read_ranges<S: PartSource>(
     alloc: Global,
     source: &S,
@@ -93,6 +95,8 @@ pub(crate) fn read_whole<S: PartSource>(
     ensures gives { IfSome (S.bytes source.now) (λ bytes. IfOk result (λ found. IfSome found (λ f.
         Shows f bytes))) }
     ensures whole { IfOk result (λ found. IfSome found IsWhole) }
+    ensures found { IfSome (S.bytes source.now) (λ _. IfOk result (λ found.
+        is_some found ≡ true)) }
 {
     let Some(bytes) = source.part(alloc, 0, source.len() as usize)? else {
         return Ok(None);

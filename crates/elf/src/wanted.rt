@@ -1,6 +1,6 @@
 //! The parts of a file that lookups read.
 
-ghost use Rattle.std.specs.Prelude.{◌≡◌, ◌≤◌, ◌+◌, ◌*◌, ◌||◌, length, not, true, IfOk, IfSome};
+ghost use Rattle.std.specs.Prelude.{◌≡◌, ◌≤◌, ◌+◌, ◌*◌, ◌||◌, is_some, length, not, true, IfOk, IfSome};
 ghost use Rattle.std.specs.List.{list_all};
 ghost use Rattle.std.specs.Option.{option_map_or};
 ghost use Rattle.elf.specs.FileImage.{Shows, image_bytes};
@@ -389,6 +389,8 @@ pub fn read_wanted<S: PartSource>(
     ensures gives { IfSome (S.bytes source.now) (λ bytes. IfOk result (λ found. IfSome found (λ f.
         Shows f bytes))) }
     ensures wanted { IfOk result (λ found. IfSome found HasWanted) }
+    ensures found { IfSome (S.bytes source.now) (λ _. IfOk result (λ found.
+        is_some found ≡ true)) }
 {
     match read_planned(alloc, source)? {
         Some(file) => Ok(Some(file)),

@@ -22,8 +22,9 @@ use Rattle.addr2line_units.specs.declared.functions.LazyFunctions.TheVariants as
 use Rattle.addr2line_units.specs.AskMemory.{any_program_takes_memory, is_fault_at_once, lines_take_memory}
 use Rattle.addr2line_units.specs.CachedFunctions.{AreFunctionsOf, find_takes_memory, reading_takes_memory, table_takes_memory}
 use Rattle.addr2line_units.specs.CachedLines.{lines_result}
+use Rattle.gimli_read.proofs.FaultLemmas.{not_refused}
+use Rattle.addr2line_lines.proofs.FaultLemmas.{unit_lines_are}
 use Rattle.addr2line_units.proofs.FunctionMemoryLemmas.{details_take, place_takes}
-use Rattle.addr2line_units.proofs.ProgramFaultLemmas.{at_once_not_oom}
 
 -- where no memory may be taken, a refusal is what is given
 pub exactly_if_none : {X Y : Type 0} (may : Bool) (see : X → Y) (r : Result X Error) (given : Result Y Error) → may ≡ false → ExactlyUnlessOomIf may see r given → IfErr r (λ e. given ≡ Err e)
@@ -95,26 +96,10 @@ alone_if_none true takes e given none known gives alone = gives (known refl)
 alone_if_none false true e given none known gives alone = cc
 alone_if_none false false e given none known gives alone = alone refl
 
--- lines that take no memory have no fault of that name
-lines_not_oom : (shares : Bool) (d : Sections) (u : UnitRecord) → lines_take_memory shares u ≡ false → WasNotRefused (unit_lines d u)
-unfolding lines_take_memory
-lines_not_oom shares d u none = by_program u.line_program none
-  where
-    by_lists : (p : Program) (files : List File) (rows : List (Result LineRow Error)) → (lines_of p).left ≡ rows → is_fault_at_once files rows ≡ true → WasNotRefused (program_lines d u p)
-    by_lists p [] [] l h = cc
-    by_lists p [] (Ok row ∷ rows) l h = cc
-    by_lists p [] (Err f ∷ []) l h = subst WasNotRefused (sym (at_once d u p f l)) (at_once_not_oom p f l)
-    by_lists p [] (Err f ∷ row ∷ rows) l h = cc
-    by_lists p (file ∷ files) rows l h = cc
-
-    by_program : (o : Option Program) → any_program_takes_memory shares o ≡ false → WasNotRefused (lines_in d u o)
-    by_program None h = tt
-    by_program (Some p) h = by_lists p (lines_of p).ahead (lines_of p).left refl (or_none (header_copy_takes_memory shares p.header) (is_fault_at_once (lines_of p).ahead (lines_of p).left) h).1
-
 -- a call that is refused by their fault alone isn't refused memory
 pub none_refused : {X : Type 0} (shares : Bool) (d : Sections) (u : UnitRecord) (r : Result X Error) → (lines_take_memory shares u ≡ false → IfErr r (λ e. lines_result d u ≡ Err e)) → lines_take_memory shares u ≡ false → WasNotRefused r
 none_refused shares d u (Ok x) alone none = tt
-none_refused shares d u (Err e) alone none = by_lines (unit_lines d u) (lines_not_oom shares d u none) (alone none)
+none_refused shares d u (Err e) alone none = by_lines (unit_lines d u) (not_refused (unit_lines_are d u)) (alone none)
   where
     by_lines : (l : Result LineTable Error) → WasNotRefused l → ◌≡◌ {A = Result (Option LineTable) Error} (l >>= λ lines. Ok (Some lines)) (Err e) → e ≢ OutOfMemory
     by_lines (Ok x) known q = cc

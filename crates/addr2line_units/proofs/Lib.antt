@@ -16,7 +16,6 @@ pub mod FunctionMemoryLemmas
 pub mod CachedFunctionLemmas
 pub mod CachedPlaceLemmas
 pub mod EntryLemmas
-pub mod ProgramFaultLemmas
 pub mod AskMemoryLemmas
 pub mod UnitFrameLemmas
 pub mod ViewLemmas

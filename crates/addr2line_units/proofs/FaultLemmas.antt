@@ -1,5 +1,5 @@
 -- Nothing that units, their views, lines and functions give is OutOfMemory (on the specs of this crate).
-use Rattle.std.proofs.Common.{Bool, true, false, cond, ℕ, List, [], ◌∷◌, ◌++◌, map, fold, flat_map, filter_map, is_some, slice_get, Option, Some, None, IfSome, IfOk, Result, Ok, Err}
+use Rattle.std.proofs.Common.{ℕ, List, [], ◌∷◌, map, is_some, slice_get, Option, Some, None, IfSome, IfOk, Result, Ok, Err}
 use Rattle.gimli_read.specs.declared.error.Error.{Error}
 use Rattle.gimli_read.specs.declared.error.Error.TheVariants.{UnknownToken}
 use Rattle.gimli_read.specs.declared.range.Range.{Range}
@@ -21,8 +21,6 @@ use Rattle.addr2line_lines.specs.Functions.{entries_of, function_offset_at}
 use Rattle.addr2line_lines.specs.Location.{LineTable, Location}
 use Rattle.addr2line_lines.specs.RangeLocations.{LocatedSpan, locations_in_range}
 use Rattle.addr2line_lines.specs.References.{Scope}
-use Rattle.addr2line_lines.specs.Rows.{read_all}
-use Rattle.addr2line_lines.specs.UnitLines.{unit_lines}
 use Rattle.addr2line_lines.proofs.FaultLemmas.{read_all_is, optional_string_is, unit_lines_are, with_range_attribute_is, attribute_ranges_are, functions_are, detail_is}
 use Rattle.addr2line_units.specs.declared.aranges.UnitArange.{UnitArange}
 use Rattle.addr2line_units.specs.declared.attributes.UnitAttributes.{UnitAttributes}
@@ -34,13 +32,13 @@ use Rattle.addr2line_units.specs.declared.parses.ReadingDepth.TheVariants as rea
 use Rattle.addr2line_units.specs.Cover.{cover, cover_range}
 use Rattle.addr2line_units.specs.UnitAranges.{aranges_at, aranges_in}
 use Rattle.addr2line_units.specs.UnitAttributes.{no_unit_attributes, with_unit_attribute, or_with_unit_attribute, unit_attributes}
-use Rattle.addr2line_units.specs.RangedUnits.{IndexedUnit, RangedUnit, is_type_unit, is_partial, or_attribute_ranges, given_ranges, given_in_unit, ranged_unit, unless_faulty, unit_of_header, units_of, ranged_units}
+use Rattle.addr2line_units.specs.RangedUnits.{IndexedUnit, is_type_unit, is_partial, or_attribute_ranges, given_ranges, given_in_unit, unless_faulty, unit_of_header, units_of, ranged_units}
 use Rattle.addr2line_units.specs.UnitIndex.{UnitIndex, sup_unit_of_header, sup_sections, sup_units, index_units}
 use Rattle.addr2line_units.specs.UnitsState.{UnitsState, new_units, asked_by, stop_of}
 use Rattle.addr2line_units.specs.Views.{FirstAnswers, View, SplitLoad, split_name_of, first_of, first_unit, answered_view, load_by, load_of_unit, verdict_by, verdict, is_open, decided_answer, view_scope}
 use Rattle.addr2line_units.specs.Frames.{FoundFunction, FrameRecord, function_from, function_at}
 use Rattle.addr2line_units.specs.UnitFrames.{FramesResult, function_by, function_in, frames_by, frames_in}
-use Rattle.addr2line_units.specs.FramesLookup.{Stop, Waits, Finds, FindsNothing, answer_of, frames_of_number, after_fault, asked_frames, or_stop, stop_along}
+use Rattle.addr2line_units.specs.FramesLookup.{Stop, FindsNothing, answer_of, frames_of_number, after_fault, asked_frames, or_stop, stop_along}
 use Rattle.addr2line_units.specs.AskedUnits.{stop_at}
 use Rattle.addr2line_units.specs.CachedFunctions.{details_at, functions_fault}
 use Rattle.addr2line_units.specs.FunctionParses.{read_of_functions, read_of_view, read_of_unit, read_of_number, read_of_units}

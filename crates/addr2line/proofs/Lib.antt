@@ -22,3 +22,4 @@ pub mod ByFilesLemmas
 pub mod UncoveredLemmas
 pub mod NoLoadLemmas
 pub mod LoadedLemmas
+pub mod FaultLemmas

@@ -23,3 +23,4 @@ pub mod FramesByFiles
 pub mod LoadsByFiles
 pub mod Loader
 pub mod BorrowedLoader
+pub mod FaultLaws

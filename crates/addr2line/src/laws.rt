@@ -1,6 +1,7 @@
 //! Laws of lookups and of what they are answered, with no code.
 
 ghost use Rattle.addr2line.specs.AnswerLaws.{FirstAnswersStay, WaitsForNoneAnswered};
+ghost use Rattle.addr2line.specs.FaultLaws.{ContextsAreNotRefused, LoadsAreNotRefused, LocationsAreNotRefused, LookupsAreNotRefused, RepliesAreNotRefused};
 ghost use Rattle.addr2line.specs.FrameLaws.{HasFrameOfEach};
 ghost use Rattle.addr2line.specs.HistoryLaws.{WaitsForEachOnce};
 ghost use Rattle.addr2line.specs.SkipLaws.{SkippedGivesSame, SkippedWaitsForNone};
@@ -39,4 +40,14 @@ pub fn has_frame_of_each()
 pub fn finds_all_when_warm()
     ensures found { FindsAllWhenWarm }
     ensures located { LocatesWhenWarm }
+{}
+
+/// Whatever the sections, the first answers and the address are, what they say of a context, of a
+/// lookup, of a load or of the replies to calls is never `OutOfMemory`.
+pub fn fault_laws()
+    ensures contexts { ContextsAreNotRefused }
+    ensures locations { LocationsAreNotRefused }
+    ensures lookups { LookupsAreNotRefused }
+    ensures loads { LoadsAreNotRefused }
+    ensures replies { RepliesAreNotRefused }
 {}

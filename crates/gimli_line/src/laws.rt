@@ -14,8 +14,7 @@ pub fn rows_laws()
 {}
 
 /// No reading of a line program gives `OutOfMemory`: whatever the bytes are, it gives a value or
-/// another fault, in the header and its tables, in an instruction and among the rows: a law, with no
-/// code.
+/// another fault, in the header and its tables, in an instruction and among the rows.
 pub fn fault_laws()
     ensures headers { HeadersAreNotRefused }
     ensures instructions { InstructionsAreNotRefused }

@@ -1,0 +1,91 @@
+-- Nothing that sections say of a context, of a lookup or of a reply is OutOfMemory (on specs/FaultLaws.antt).
+use Rattle.std.proofs.Common.{ℕ, List, [], ◌∷◌, Option, Result, Ok, Err}
+use Rattle.std.specs.Prelude.{IfOk}
+use Rattle.std.specs.List.{AllByRecursion}
+use Rattle.gimli_read.specs.declared.error.Error.{Error}
+use Rattle.gimli_read.specs.FaultLaws.{NoneWasRefused}
+use Rattle.gimli_read.proofs.FaultLemmas.{IsByBytes, step, value, fault_of_is, not_refused}
+use Rattle.gimli.specs.Sections.{Sections}
+use Rattle.addr2line_units.specs.declared.frames_lookup.OnFault.{OnFault}
+use Rattle.addr2line_units.specs.declared.frames_lookup.OnFault.TheVariants.{End, PassOver}
+use Rattle.addr2line_units.specs.declared.parses.ReadingDepth.{ReadingDepth}
+use Rattle.addr2line_units.specs.Cover.{cover}
+use Rattle.addr2line_units.specs.FramesLookup.{Stop, Waits, Finds, FindsNothing, main_scope}
+use Rattle.addr2line_units.specs.Located.{spans_of}
+use Rattle.addr2line_units.specs.RangedUnits.{unit_records}
+use Rattle.addr2line_units.specs.UnitIndex.{UnitIndex}
+use Rattle.addr2line_units.specs.Views.{FirstAnswers}
+use Rattle.addr2line_units.proofs.FaultLemmas.{all_lines_are, asked_frames_are, forget_result_is, index_units_is, load_result_is, location_of_is, ranged_units_are, read_of_units_is, spans_unrefused, stop_along_is, sup_units_are}
+use Rattle.addr2line.specs.Context.{lines_of_all, new_context}
+use Rattle.addr2line.specs.FaultLaws.{ReplyIsNotRefused}
+use Rattle.addr2line.specs.History.{HistoryCall, AsksLocation, AsksRange, AsksFrames, AsksUnit, AsksLoads, AnswersLoad, Forgets, ParsesLines, ParsesFunctions, answers_given, answers_left, replies_to, reply_to}
+use Rattle.addr2line.specs.Loads.{forget_reply, load_reply, parse_reply}
+use Rattle.addr2line.specs.Lookups.{UnitResult, asked_of, frames_of, lookup_stop, stop_in, unit_of}
+use Rattle.addr2line.specs.Replies.{reply_of_frames, reply_of_range, reply_of_unit}
+
+-- ---- contexts
+pub new_context_is : (d : Sections) → IsByBytes (new_context d)
+new_context_is d = step (ranged_units_are d) (λ units. step (sup_units_are d.sup) (λ sup. value))
+
+pub lines_of_all_are : (d : Sections) → IsByBytes (lines_of_all d)
+lines_of_all_are d = step (index_units_is d) (λ m. fault_of_is (all_lines_are d m.units))
+
+pub parse_reply_is : (reads : ReadingDepth) (d : Sections) (answers : FirstAnswers) → IsByBytes (parse_reply reads d answers)
+parse_reply_is reads d answers = step (index_units_is d) (λ m. read_of_units_is reads (main_scope d m) (unit_records m.units) answers)
+
+-- ---- lookups
+stop_in_is : (faults : OnFault) (d : Sections) (answers : FirstAnswers) (probe : ℕ) (m : UnitIndex) → IsByBytes (stop_in faults d answers probe m)
+stop_in_is faults d answers probe m =
+    stop_along_is (asked_of faults d answers probe m) (asked_frames_are faults (main_scope d m) m.units answers probe) (cover probe m.ranges)
+
+pub lookup_stop_is : (faults : OnFault) (d : Sections) (answers : FirstAnswers) (probe : ℕ) → IsByBytes (lookup_stop faults d answers probe)
+lookup_stop_is faults d answers probe = step (index_units_is d) (stop_in_is faults d answers probe)
+
+pub frames_of_are : (d : Sections) (answers : FirstAnswers) (probe : ℕ) → IsByBytes (frames_of d answers probe)
+frames_of_are d answers probe = step (lookup_stop_is End d answers probe) (λ s. value)
+
+pub unit_of_is : (d : Sections) (answers : FirstAnswers) (probe : ℕ) → IsByBytes (unit_of d answers probe)
+unit_of_is d answers probe = step (index_units_is d) (λ m. step (stop_in_is PassOver d answers probe m) (λ s. value))
+
+-- ---- loads
+pub load_reply_is : (d : Sections) (answers : FirstAnswers) (n : ℕ) (given : Option Sections) → IsByBytes (load_reply d answers n given)
+load_reply_is d answers n given = step (index_units_is d) (λ m. load_result_is d (unit_records m.units) answers n given)
+
+pub forget_reply_is : (d : Sections) (n : ℕ) → IsByBytes (forget_reply d n)
+forget_reply_is d n = step (index_units_is d) (λ m. forget_result_is (unit_records m.units) n)
+
+-- ---- replies
+range_replied : (d : Sections) (low high : ℕ) → ReplyIsNotRefused (reply_of_range (spans_of d low high))
+range_replied d low high = by_result (spans_of d low high) (spans_unrefused d low high)
+  where
+    by_result : (r : Result _ Error) → IfOk r (λ rows. NoneWasRefused rows) → ReplyIsNotRefused (reply_of_range r)
+    by_result (Ok rows) h = h
+    by_result (Err e) h = tt
+
+frames_replied_are : (stop : Result Stop Error) → IsByBytes stop → ReplyIsNotRefused (reply_of_frames stop)
+frames_replied_are (Ok (Waits n)) h = tt
+frames_replied_are (Ok (Finds n frames)) h = tt
+frames_replied_are (Ok FindsNothing) h = tt
+frames_replied_are (Err e) h = not_refused h
+
+unit_replied_is : (stop : Result Stop Error) (found : UnitResult) → ReplyIsNotRefused (reply_of_unit stop found)
+unit_replied_is (Ok (Waits n)) found = tt
+unit_replied_is (Ok (Finds n frames)) found = tt
+unit_replied_is (Ok FindsNothing) found = tt
+unit_replied_is (Err e) found = tt
+
+reply_is : (d : Sections) (answers : FirstAnswers) (call : HistoryCall) → ReplyIsNotRefused (reply_to d answers call)
+reply_is d answers (AsksLocation probe) = not_refused (location_of_is d probe)
+reply_is d answers (AsksRange low high) = range_replied d low high
+reply_is d answers (AsksFrames probe given) = frames_replied_are _ (lookup_stop_is End d (answers_given End d probe answers given) probe)
+reply_is d answers (AsksUnit probe given) =
+    unit_replied_is (lookup_stop PassOver d (answers_given PassOver d probe answers given) probe) (unit_of d (answers_given PassOver d probe answers given) probe)
+reply_is d answers (AsksLoads probe) = tt
+reply_is d answers (AnswersLoad n x) = not_refused (load_reply_is d answers n x)
+reply_is d answers (Forgets n) = not_refused (forget_reply_is d n)
+reply_is d answers ParsesLines = not_refused (lines_of_all_are d)
+reply_is d answers (ParsesFunctions reads) = not_refused (parse_reply_is reads d answers)
+
+pub replies_are : (d : Sections) (answers : FirstAnswers) (calls : List HistoryCall) → AllByRecursion ReplyIsNotRefused (replies_to d answers calls)
+replies_are d answers [] = tt
+replies_are d answers (call ∷ calls) = (reply_is d answers call, replies_are d (answers_left d answers call) calls)

@@ -16,14 +16,13 @@ const APART: usize = 0x12000;
 // Fewer than that, so that nothing of what stands between two parts can be read.
 const MOST: usize = 0x1000;
 
-// A file in memory, read by parts of at most so many bytes.
+// A file in memory.
 #[derive(Drop)]
-struct FileByParts {
+struct FileInMemory {
     bytes: Vec<u8>,
-    most: usize,
 }
 
-impl PartSource for FileByParts {
+impl PartSource for FileInMemory {
     ghost use Rattle.std.specs.Prelude.{Some};
 
     ghost bytes = { λ s. Some s.bytes.items };
@@ -34,12 +33,32 @@ impl PartSource for FileByParts {
 
     fn part(&self, alloc: Global, start: u64, len: usize) -> Result<Option<Vec<u8>>, AllocError> {
         let all = self.len();
-        if len > self.most || start > all || all - start < len as u64 {
+        if start > all || all - start < len as u64 {
             return Ok(None);
         }
         let (_, rest) = self.bytes.as_slice().split_at(start as usize);
         let (own, _) = rest.split_at(len);
         Ok(Some(Vec::from_slice(alloc, own)?))
+    }
+}
+
+// The same, of which parts of more than so many bytes can't be read.
+#[derive(Drop)]
+struct FileByParts {
+    file: FileInMemory,
+    most: usize,
+}
+
+impl PartSource for FileByParts {
+    fn len(&self) -> u64 {
+        self.file.len()
+    }
+
+    fn part(&self, alloc: Global, start: u64, len: usize) -> Result<Option<Vec<u8>>, AllocError> {
+        if len > self.most {
+            return Ok(None);
+        }
+        self.file.part(alloc, start, len)
     }
 }
 
@@ -58,8 +77,9 @@ impl FileSource for FilesByParts {
     fn read_image(&self, alloc: Global, path: &str) -> Result<Option<FileImage>, AllocError> {
         match self.files.read(alloc, path)? {
             Some(bytes) => {
+                let file = FileInMemory { bytes };
                 let most = self.most;
-                read_wanted(alloc, &FileByParts { bytes, most })
+                read_wanted(alloc, &FileByParts { file, most })
             }
             None => Ok(None),
         }

@@ -1,5 +1,5 @@
-use Rattle.std.proofs.Common.{rules, ◌≡◌, ◌∙◌, sym, None, Err, option_map}
-use Rattle.addr2line_units.specs.CachedViews.{split_unit}
+use Rattle.std.proofs.Common.{rules, ◌≡◌, ◌∙◌, ap, sym, None, Err, option_map}
+use Rattle.addr2line_units.specs.CachedViews.{split_unit, unboxed}
 use Rattle.addr2line_units.specs.Views.{verdict}
 use Rattle.addr2line_units.proofs.ViewLemmas.{answered_is_right, verdict_of_open, waiting_is_open}
 use Rattle.addr2line_units.proofs.view.UnitView.decide.Goals as goal
@@ -9,10 +9,10 @@ pub returns-clause-view : goal.returns-clause-view
 returns-clause-view g c =
     let waiting : verdict c.args.dwarf.now c.args.dw_unit.now None ≡ None = waiting_is_open c.args.dwarf.now c.args.dw_unit.now c.args.self.now.state c.requires.waits c.requires.view in
     elim c.match-read_split_unit.branch [
-      | in-Ok w ↦ answered_is_right _ _ _ waiting (w.unit-is ∙ sym w.in-Ok.ensures.gives)
+      | in-Ok w ↦ answered_is_right _ _ _ waiting (ap unboxed w.unit-is ∙ sym w.in-Ok.ensures.gives)
       | in-Err w ↦
           let fault : split_unit c.args.dw_unit.now (option_map (λ d. d.value) c.args.sections) ≡ Err w.in-Err.error = search rules in
-          answered_is_right _ _ _ waiting (w.unit-is ∙ sym fault)
+          answered_is_right _ _ _ waiting (ap unboxed w.unit-is ∙ sym fault)
     ]
 
 pub returns-clause-verdict : goal.returns-clause-verdict

@@ -11,6 +11,7 @@ returns-then-piece-end-clause-found c = λ ordered.
     let ends = next.1 in
     let own = c.len-own.ensures.gives in
     elim c.then-piece-end.branch [
-      then-piece-end-via-then-piece-end w ↦ let test = w.if-piece-end in grind (arith, nat_tests)
-    | then-piece-end-via-else-piece-end+then-own-len w ↦ let test = w.if-own-len in grind (arith, nat_tests)
-    | then-piece-end-via-else-piece-end+else-own-len+then-piece-len w ↦ let test = w.if-piece-len in grind (arith, nat_tests) ]
+      | then-piece-end-via-then-piece-end w ↦ let test = w.if-piece-end in grind (arith, nat_tests)
+      | then-piece-end-via-else-piece-end+then-own-len w ↦ let test = w.if-own-len in grind (arith, nat_tests)
+      | then-piece-end-via-else-piece-end+else-own-len+then-piece-len w ↦ let test = w.if-piece-len in grind (arith, nat_tests)
+    ]

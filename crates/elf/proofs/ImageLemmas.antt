@@ -4,7 +4,7 @@ use Rattle.std.specs.Prelude.{IfSome}
 use Rattle.std.specs.List.{find, list_all}
 use Rattle.std.proofs.lemmas.Bool.{cases_lt}
 use Rattle.std.proofs.lemmas.Bool.Decides.{nat_tests}
-use Rattle.std.proofs.lemmas.List.{drop-drop, drop-take, take-take, get_or-drop, take_more, take_more_set, drop-append-le, take-append-le, length-append, length-replicate, length-drop, length-take-le, get_or_append_left, get_or-append_right}
+use Rattle.std.proofs.lemmas.List.{drop-drop, drop-take, drop_more, take-take, get_or-drop, take_more, take_more_set, drop-append-le, take-append-le, length-append, length-replicate, length-drop, length-take-le, get_or_append_left, get_or-append_right}
 use Rattle.std.proofs.Math.Seq.{drop-append-add}
 use Rattle.byteorder.specs.Endian.{big_from, little_from}
 use Rattle.byteorder.specs.Numbers.{big_from-take, little_from-take}
@@ -37,6 +37,13 @@ filled at len (p ∷ ps) o =
     let size = rest.1 in
     let before = o.0 in
     (omega (arith, before, after), omega (arith, whole, front, gap, size, before, after))
+
+-- the next of the pieces in order stands behind a place and within the file
+pub next_in_order : (at len i : ℕ) (ps : List Piece) (p : Piece) → i < length ps → p ≡ get_or ps i p → AreInOrder at len (drop i ps) → (at ≤ p.start) × (piece_end p ≤ len)
+next_in_order at len i ps p lt is o =
+    let Ordered : List Piece → Type 0 = λ (qs : List Piece). AreInOrder at len qs in
+    let here : Ordered (p ∷ drop (i + 1) ps) = subst Ordered (drop_more ps i p lt ∙ ap (λ (q : Piece). q ∷ drop (i + 1) ps) (sym is)) o in
+    (here.0, (filled (piece_end p) len (drop (i + 1) ps) here.1).0)
 
 -- the bytes that a piece has are those of the file
 part_of : (at s n : ℕ) (zs own rest : List ℕ) (start : ℕ) → length zs ≡ start - at → at ≤ start → start ≤ s → s + n ≤ start + length own

@@ -86,3 +86,13 @@ piece_at bytes r = cond (is_range_of bytes r) (Some (piece_in bytes r)) None
 -- the pieces in ranges of places, none where one of them isn't in the file
 abbrev pub pieces_at : List ℕ → List Range → Option (List Piece)
 pieces_at bytes rs = cond (list_all (is_range_of bytes) rs) (Some (map (piece_in bytes) rs)) None
+
+-- the file of which ranges of places are read
+abbrev pub image_in : List ℕ → List Range → Image
+image_in bytes rs = record { len = length bytes; pieces = map (piece_in bytes) rs }
+
+-- ranges of places stand in a file, in order, and there is at least one
+pub record AreRangesOf (bytes : List ℕ) (rs : List Range) : Type 0 where
+  pub some : 1 ≤ length rs
+  pub within : list_all (is_range_of bytes) rs ≡ true
+  pub in_order : AreInOrder 0 (length bytes) (map (piece_in bytes) rs)

@@ -81,6 +81,7 @@ fn find_piece<'a>(first: &'a Piece, others: &'a [Piece], start: u64, len: u64) -
 // Whether pieces stand in order in a file of `len` bytes.
 fn are_in_order(pieces: &[Piece], len: u64) -> bool
     ensures in_order { result ≡ true → AreInOrder 0 len pieces.now }
+    ensures found { AreInOrder 0 len pieces.now → result ≡ true }
 {
     let mut end = 0;
     for piece in pieces {
@@ -132,6 +133,10 @@ impl FileImage {
     pub(crate) fn of_pieces(alloc: Global, len: u64, pieces: Vec<Piece>) -> Option<FileImage>
         ensures shows { IfSome result (λ image. (bytes : List ℕ) → len ≡ length bytes
             → ArePiecesOf bytes pieces.items → Shows image bytes) }
+        ensures gives { IfSome result (λ image.
+            image ≡ record { len = len; pieces = pieces.items }) }
+        ensures found { 1 ≤ length pieces.items → AreInOrder 0 len pieces.items
+            → is_some result ≡ true }
     {
         if pieces.is_empty() || !are_in_order(&pieces, len) {
             return None;

@@ -1,7 +1,7 @@
 //! Parts of a file.
 
-ghost use Rattle.std.specs.Prelude.{◌≡◌, IfOk, IfSome, is_some, option_map, true};
-ghost use Rattle.elf.specs.FileImage.{IsWhole, Shows, piece_at, pieces_at};
+ghost use Rattle.std.specs.Prelude.{◌≡◌, IfOk, IfSome, Some, is_some, option_map, true};
+ghost use Rattle.elf.specs.FileImage.{AreRangesOf, IsWhole, Shows, image_in, piece_at, pieces_at};
 
 use crate::image::{FileImage, Piece};
 use bytes::Bytes;
@@ -80,6 +80,8 @@ pub(crate) fn read_ranges<S: PartSource>(
 ) -> Result<Option<FileImage>, AllocError>
     ensures gives { IfSome (S.bytes source.now) (λ bytes. IfOk result (λ found. IfSome found (λ f.
         Shows f bytes))) }
+    ensures found { IfSome (S.bytes source.now) (λ bytes. AreRangesOf bytes ranges.now
+        → IfOk result (λ found. found ≡ Some (image_in bytes ranges.now))) }
 {
     match read_pieces(alloc, source, ranges)? {
         Some(pieces) => Ok(FileImage::of_pieces(alloc, source.len(), pieces)),

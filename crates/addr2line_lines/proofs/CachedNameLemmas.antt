@@ -1,5 +1,5 @@
 -- Names that are cached, as more are (on specs/CachedNames.antt).
-use Rattle.std.proofs.Common.{◌≡◌, ◌⊎◌, ℕ, List, [], ◌∷◌, ◌++◌, length, map, take, Option, option_map, Some, Ok, refl, ap, sym, subst, ◌∙◌, inl, inr, slice_get}
+use Rattle.std.proofs.Common.{◌≡◌, ℕ, List, [], ◌∷◌, ◌++◌, length, map, take, option_map, Some, Ok, refl, ap, sym, subst, ◌∙◌, inl, inr, slice_get}
 use Rattle.std.specs.List.{AllByRecursion}
 use Rattle.std.proofs.lemmas.Option.{slice_get-map}
 use Rattle.std.proofs.Math.Seq.{take-append_seam}

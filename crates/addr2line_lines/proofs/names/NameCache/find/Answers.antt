@@ -1,6 +1,5 @@
 use Rattle.std.proofs.Common.{rules, ◌≡◌, Some, slice_get, subst}
 use Rattle.std.proofs.lemmas.Option.{gets}
-use Rattle.gimli_read.specs.declared.value.UnitOffset.{UnitOffset}
 use Rattle.addr2line_lines.proofs.CachedNameLemmas.{known_at}
 use Rattle.addr2line_lines.proofs.names.NameCache.find.Goals as goal
 

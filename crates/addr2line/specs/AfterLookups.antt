@@ -1,7 +1,7 @@
 -- What lookups of frames and of units leave of a context: the lines and the functions that are
 -- parsed for them (DWARF 5, sections 3.1.2, 3.3 and 7.3.2).
--- Own: a lookup parses what it asks for and nothing else, and nothing that is known is parsed
--- again.
+-- Own: a lookup parses only lines that it asks for, and reads nothing of a unit that it doesn't
+-- ask; nothing that is known is parsed again.
 use Rattle.std.specs.Prelude.{◌≡◌, ◌⊎◌, ℕ, ◌≤◌, Bool, true, false, slice_get, Option, IfErr, Result, Ok, Err}
 use Rattle.gimli_read.specs.declared.error.Error.{Error}
 use Rattle.gimli_read.specs.Reading.{◌>>=◌, ExactlyUnlessOom}

@@ -1,6 +1,5 @@
 -- What an answer to the load of a unit, and to forget one, makes of a context.
--- Own: the first answer to a unit's load counts until the unit is forgotten; one to a unit that is
--- decided changes nothing.
+-- Own: the first answer to a unit's load counts until the unit is forgotten.
 use Rattle.std.specs.Prelude.{◌≡◌, ◌≢◌, ◌⊎◌, ℕ, Bool, true, false, slice_get, Option, is_some, IfErr, OnOk, Result, Ok, Err}
 use Rattle.gimli_read.specs.declared.error.Error.{Error}
 use Rattle.gimli_read.specs.declared.error.Error.TheVariants.{OutOfMemory}
@@ -42,8 +41,8 @@ pub record AfterAnswer (n : ℕ) (given : Option Sections) (result : Result (Uni
       × StaysKnown old.known new.known × (is_some given ≡ true))
   pub others : (k : ℕ) → k ≢ n → slice_get new.known k ≡ slice_get old.known k
 
--- after an answer with which a lookup went on, or after OutOfMemory in the answer's place, which is
--- its fault where the answer takes no memory
+-- after an answer with which a lookup went on, or after OutOfMemory in the answer's place: where
+-- the answer takes no memory, only if that is the fault of its view
 abbrev pub AfterResume : {X : Type 0} → Bool → OnFault → ℕ → ℕ → Option Sections → Result X Error
     → ContextState → ContextState → Type 0
 AfterResume shares faults probe n given result old new =

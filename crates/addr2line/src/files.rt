@@ -1,7 +1,7 @@
 //! Where files come from.
 
 ghost use Rattle.std.specs.Prelude.{◌≡◌, ℕ, List, [], IfOk, IsOk, OnErr, OnOk};
-ghost use Rattle.elf.specs.FileImage.{image_bytes};
+ghost use Rattle.elf.specs.FileImage.{IsWhole, image_bytes};
 ghost use Rattle.addr2line.specs.Files.{listed_files, with_file};
 
 use bytes::Bytes;
@@ -17,6 +17,7 @@ use std::os::unix::fs::FileExt;
 fn whole_file(alloc: Global, bytes: Vec<u8>) -> Result<FileImage, AllocError>
     ensures gives { IfOk result (λ file. image_bytes file ≡ bytes.items) }
     ensures none { bytes.items ≡ [] → IsOk result }
+    ensures whole { IfOk result IsWhole }
 {
     match Bytes::from_vec(bytes) {
         Ok(bytes) => Ok(FileImage::whole(alloc, EndianBytes::new(bytes, RunTimeEndian::Little))),
@@ -28,6 +29,7 @@ fn whole_file(alloc: Global, bytes: Vec<u8>) -> Result<FileImage, AllocError>
 pub trait FileSource: Drop {
     ghost use Rattle.std.specs.Prelude.{[], IfOk, IfSome, None, Ok, Option, Some, option_map};
     ghost use Rattle.elf.specs.FileImage.{image_bytes};
+    ghost use Rattle.elf.specs.Wanted.{HasWanted};
     ghost use Rattle.gimli_read.specs.Reading.{result_map};
     ghost use Rattle.addr2line.specs.Files.{Files, HasEmptyFile, HasNoFile};
 
@@ -47,7 +49,7 @@ pub trait FileSource: Drop {
 
     /// The file at a path, of which only the pieces may be read that lookups ask for, as
     /// `read_wanted` reads them; none where there is no file or it can't be read. Where it is known
-    /// what files there are, it is all of the file.
+    /// what files there are, it has the bytes of the file.
     ///
     /// Fails as `read` does. Source: own.
     fn read_image(&self, alloc: Global, path: &str) -> Result<Option<FileImage>, AllocError>
@@ -56,6 +58,7 @@ pub trait FileSource: Drop {
         ensures none { HasNoFile (files self.now) path.now → result ≡ Ok None }
         ensures empty { HasEmptyFile (files self.now) path.now
             → result_map (option_map image_bytes) result ≡ Ok (Some []) }
+        ensures wanted { IfOk result (λ found. IfSome found HasWanted) }
     {
         match self.read(alloc, path)? {
             Some(bytes) => Ok(Some(whole_file(alloc, bytes)?)),

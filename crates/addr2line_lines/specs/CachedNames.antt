@@ -1,6 +1,6 @@
 -- The names that entries of a unit give where they are referred to in that unit, as they are cached
 -- (DWARF 5, sections 2.13.2 and 3.3.8).
--- Own: a name is cached when it is first found, also that there is none; a fault isn't.
+-- Own: a name may be cached when it is found, also that there is none; a fault never is.
 use Rattle.std.specs.Prelude.{◌≡◌, ◌⊎◌, List, [], ◌∷◌, ◌++◌, map, Option, option_map, Ok}
 use Rattle.std.specs.List.{AllByRecursion}
 use Rattle.gimli_read.specs.declared.value.AttributeValue.TheVariants as values

@@ -65,7 +65,7 @@ fn set_slot(slots: &mut Vec<usize>, offset: UnitOffset, place: usize) {
     }
 }
 
-// Makes room for more slots, if there are fewer than two for each name, and sets them anew.
+// Makes room for more slots, if there are at most two for each name, and sets them anew.
 fn make_slots<R: Reader>(names: &[CachedName<R>], slots: &mut Vec<usize>) {
     if slots.len() / 2 > names.len() {
         return;
@@ -123,7 +123,7 @@ impl<R: Reader> NameCache<R> {
         None
     }
 
-    /// Adds the name of an entry. Where memory is refused it isn't added.
+    /// Adds the name of an entry, or nothing where memory is refused.
     pub(crate) fn add(&mut self, offset: UnitOffset, name: &Option<R>)
         ensures more { IsOneMoreAtMost (record {
           offset = offset;

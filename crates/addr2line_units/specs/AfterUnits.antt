@@ -1,6 +1,7 @@
 -- What calls leave of the units of a context (DWARF 5, sections 3.1.2, 3.3, 6.2 and 7.3.2).
--- Own: a lookup parses what it asks for and nothing else, and nothing that is known is parsed
--- again; the first answer to a unit's load counts until the unit is forgotten.
+-- Own: a lookup parses only lines that it asks for, and reads nothing of a unit that it doesn't
+-- ask; nothing that is known is parsed again. The first answer to a unit's load counts until the
+-- unit is forgotten.
 use Rattle.std.specs.Prelude.{◌≡◌, ◌≢◌, ◌⊎◌, ◌+◌, ◌<◌, ◌≤◌, ℕ, Bool, true, false, List, length, IfErr, OnOk, is_some, slice_get, Option, Some, None, Result, Ok}
 use Rattle.std.specs.List.{AllByRecursion}
 use Rattle.gimli_read.specs.declared.error.Error.{Error}

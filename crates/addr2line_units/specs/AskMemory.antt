@@ -1,8 +1,8 @@
 -- When memory may be taken to read what a lookup asks a unit for (DWARF 5, sections 3.1.2, 3.3 and
 -- 6.2): its lines, and the functions in its view.
--- Own: unless readers share their bytes none is taken for functions where a view has none, nor for
--- lines whose header has neither a directory nor a file, and whose program has a fault before its
--- first row and before a file that it defines.
+-- Own: unless readers share their bytes none is taken for functions where none of a view has a
+-- range before the first fault, nor for lines whose header has neither a directory nor a file, and
+-- whose program has a fault before its first row and before a file that it defines.
 use Rattle.std.specs.Prelude.{ℕ, ◌||◌, not, Bool, true, false, List, [], ◌∷◌, slice_get, Option, Some, None, Result, Ok, Err}
 use Rattle.gimli_read.specs.declared.error.Error.{Error}
 use Rattle.gimli_line.specs.declared.row.LineRow.{LineRow}

@@ -123,8 +123,8 @@ impl<R: Reader> Units<R> {
     /// Decides the unit of a number by an answer to its load if it is open, and else leaves it as
     /// it is.
     ///
-    /// Refused `OutOfMemory` alone, and only of an open unit that is given sections, where bytes
-    /// are shared or the header of their first unit can be read.
+    /// Refused `OutOfMemory` alone, and only where sections are given, whose bytes are shared or
+    /// the header of whose first unit can be read.
     pub fn answer(&mut self, number: usize, sections: Option<Rc<Dwarf<R>>>) -> Result<(), Error>
         ensures after { AfterAnswer number (option_map (λ d. d.value) sections) result self.old
             self.new }

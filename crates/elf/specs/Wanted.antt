@@ -1,7 +1,8 @@
 -- Which parts of an ELF file lookups read, and whether a file of which only some pieces were read
 -- has them (System V ABI, Object Files; DWARF 5, section 7.5).
 -- Own: they are the file's header, the section headers, the names of the sections, the symbols with
--- their names, and the sections of debug information whose names begin with .debug_ or .zdebug_.
+-- their names, and the sections of debug information that lookups know by name, with .debug_ or
+-- .zdebug_ before it and perhaps .dwo behind it.
 use Rattle.std.specs.Prelude.{◌≡◌, ◌⊎◌, ℕ, ◌*◌, ◌&&◌, ◌||◌, Bool, false, true, not, List, ◌==◌, Ok, Err, drop, length, nat_eq, codes, slice_get}
 use Rattle.std.specs.List.{list_all, starts_with}
 use Rattle.std.specs.Option.{option_map_or}

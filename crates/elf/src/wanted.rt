@@ -22,7 +22,7 @@ use std::alloc::{AllocError, Global};
 // Sections of fewer bytes are read whatever their names are.
 const SMALL: u64 = 4096;
 
-// Two ranges with fewer bytes between them are read as one.
+// Two ranges with at most so many bytes between them are read as one.
 const GAP: u64 = 65536;
 
 // Whether a text is a stem, or one with `.dwo` behind it.
@@ -132,7 +132,7 @@ fn names_in<'a>(file: &'a FileImage, sections: &[SectionHeader], number: u64) ->
     file.slice(section.offset, section.size)
 }
 
-// Whether pieces have the tables of a file, and its sections of debug information.
+// True only where pieces have the tables of a file, and its sections of debug information.
 fn shows_sections(file: &FileImage, sections: &[SectionHeader], name_table: u64) -> bool
     ensures tables { result ≡ true
         → (is_shown_at file.now sections.now name_table ≡ true)
@@ -154,7 +154,7 @@ fn shows_sections(file: &FileImage, sections: &[SectionHeader], name_table: u64)
     }
 }
 
-// Whether pieces have the section headers, and what is wanted of the sections.
+// True only where pieces have the section headers, and what is wanted of the sections.
 fn shows_all(
     alloc: Global,
     file: &FileImage,
@@ -177,7 +177,7 @@ fn shows_all(
     Ok(shows_sections(file, &sections, name_table))
 }
 
-// Whether pieces have all of a file that is wanted.
+// True only where pieces have all of a file that is wanted.
 #[tactic(auto, unfolding(crate::specs::Wanted::has_wanted))]
 fn has_wanted(alloc: Global, file: &FileImage) -> Result<bool, AllocError>
     ensures wanted { IfOk result (λ b. b ≡ true → has_wanted file.now ≡ true) }
@@ -293,7 +293,7 @@ fn push_section(
     Ok(())
 }
 
-// Where the header stands, the section headers and the sections that are wanted, in order.
+// Where the section headers stand, and the sections that are wanted or small, by where they begin.
 fn wanted_ranges(
     alloc: Global,
     sections: &[SectionHeader],

@@ -72,6 +72,7 @@ module _ (faults : OnFault) (probe : ℕ) (old mid : ContextState) (walked : Res
       known = a.known;
       only = a.only;
       learns = a.learns;
+      details = a.details;
       raised = a.raised;
       ready = λ told. a.ready (h.1.ready told);
       memory = λ few ended. h.1.memory (stop_ended walked mid.stop (lookup_stop faults mid.sections mid.answers probe) stored (ap is_waiting same_lookup ∙ ended)) (a.memory few ended);

@@ -2,7 +2,7 @@
 -- specs/LoadsByFiles.antt).
 use Rattle.std.proofs.Common.{◌≡◌, ◌≢◌, ◌⊎◌, inl, inr, ℕ, Bool, true, false, ◌&&◌, not, List, [], ◌∷◌, slice_get, Option, Some, None, Result, Ok, Err, refl, sym, ap, subst, ◌∙◌}
 use Rattle.std.proofs.lemmas.Bool.Decides.{eqb_tells}
-use Rattle.std.specs.Prelude.{is_ok}
+use Rattle.std.specs.Prelude.{is_none, is_ok}
 use Rattle.gimli_read.specs.declared.error.Error.{Error}
 use Rattle.gimli_read.specs.Reading.{◌>>=◌}
 use Rattle.gimli.specs.Sections.{Sections}
@@ -11,13 +11,13 @@ use Rattle.addr2line_lines.specs.References.{Scope}
 use Rattle.addr2line_units.specs.declared.frames_lookup.OnFault.TheVariants.{End}
 use Rattle.addr2line_units.specs.declared.index.UnitRange.{UnitRange}
 use Rattle.addr2line_units.specs.Cover.{cover}
-use Rattle.addr2line_units.specs.FramesLookup.{LookupAsks, Stop, Waits, answer_of, asked_frames, asks_lines_of, ends_lookup, main_scope, or_stop, stop_along, with_answer}
-use Rattle.addr2line_units.specs.KnownEntries.{KnownEntries}
+use Rattle.addr2line_units.specs.FramesLookup.{LookupAsks, Stop, Waits, answer_of, asked_frames, asks_lines_of, ends_lookup, function_offset_of, main_scope, or_stop, stop_along, with_answer}
+use Rattle.addr2line_units.specs.KnownEntries.{KnownEntries, LearnsDetailsAt, LearnsNoDetails}
 use Rattle.addr2line_units.specs.Parsed.{ParsesOnly, has_parsed}
-use Rattle.addr2line_units.specs.UnitFrames.{FramesResult, asks_lines_in, function_in}
+use Rattle.addr2line_units.specs.UnitFrames.{FramesResult, asks_lines_in, function_in, function_offset_by, function_offset_in}
 use Rattle.addr2line_units.specs.UnitIndex.{UnitIndex, index_units}
 use Rattle.addr2line_units.specs.RangedUnits.{IndexedUnit, unit_records}
-use Rattle.addr2line_units.specs.Views.{FirstAnswers, SplitLoad, is_open}
+use Rattle.addr2line_units.specs.Views.{FirstAnswers, SplitLoad, View, is_open, verdict}
 use Rattle.addr2line_units.proofs.FramesLookupLemmas.{parses_more}
 use Rattle.addr2line_units.proofs.WaitLemmas.{same_number}
 use Rattle.addr2line.proofs.FilesLookupLemmas.{Awaits, awaits_in, other_now, same_asked}
@@ -35,6 +35,15 @@ never_waits x e q = let f : true ≡ false = sym (ap ends_lookup q) ∙ e in cc
 no_lines_if_open : (scope : Scope) (u : UnitRecord) (answer : Option (Option Sections)) (probe : ℕ) → is_open scope.file.sections u answer ≡ true → asks_lines_in scope u answer probe ≡ false
 unfolding asks_lines_in
 no_lines_if_open scope u answer probe e = ap (λ b. not b && is_ok (function_in scope u answer probe)) e
+
+-- no function stands at an address in a unit that waits
+no_offset_if_open : (scope : Scope) (u : UnitRecord) (answer : Option (Option Sections)) (probe : ℕ) → is_open scope.file.sections u answer ≡ true → function_offset_in scope u answer probe ≡ None
+unfolding function_offset_in
+no_offset_if_open scope u answer probe e = by (verdict scope.file.sections u answer) e
+  where
+    by : (v : Option (Result View Error)) → is_none v ≡ true → function_offset_by scope probe v ≡ None
+    by None h = refl
+    by (Some v) h = absurd cc
 
 -- a lookup asks the unit that it waits for
 asks_waiting : (f : ℕ → FramesResult) (n : ℕ) (ranges : List UnitRange) → stop_along f ranges ≡ Ok (Waits n) → LookupAsks f ranges n
@@ -77,6 +86,21 @@ module _ (scope : Scope) (units : List IndexedUnit) (answers : FirstAnswers) (n 
           let f : false ≡ true = sym (ap (lines_by (answer_of answers n)) w.there ∙ no_lines_if_open scope w.unit.unit (answer_of answers n) probe w.open_is) ∙ at in
           cc
 
+  still_there : (k offset : ℕ) → function_offset_of scope units answers probe k ≡ Some offset → function_offset_of scope units now probe k ≡ Some offset
+  still_there k offset e = elim (eqb_tells k n) [
+    | inl p ↦ absurd (not_here k p.1 e)
+    | inr q ↦ ap (λ a. offset_by a (slice_get units k)) (other_now (λ l. Ok None) scope units answers n load w given k q.1) ∙ e
+  ]
+    where
+      offset_by : Option (Option Sections) → Option IndexedUnit → Option ℕ
+      offset_by a o = elim o [ None ↦ None | Some u ↦ function_offset_in scope u.unit a probe ]
+
+      not_here : (j : ℕ) → j ≡ n → function_offset_of scope units answers probe j ≡ Some offset → ⊥
+      not_here j q h =
+          let at : function_offset_of scope units answers probe n ≡ Some offset = subst (λ i. function_offset_of scope units answers probe i ≡ Some offset) q h in
+          let f : None ≡ Some offset = sym (ap (offset_by (answer_of answers n)) w.there ∙ no_offset_if_open scope w.unit.unit (answer_of answers n) probe w.open_is) ∙ at in
+          cc
+
 -- what is read along a lookup of the probe, by sections and first answers
 module _ (probe : ℕ) where
   abbrev Asks : Sections → FirstAnswers → UnitIndex → ℕ → Type 0
@@ -91,14 +115,18 @@ module _ (probe : ℕ) where
   abbrev EntriesBy : Sections → FirstAnswers → List KnownEntries → List KnownEntries → Type 0
   EntriesBy d answers old new = (m : UnitIndex) → index_units d ≡ Ok m → (k : ℕ) → (slice_get new k ≡ slice_get old k) ⊎ Asks d answers m k
 
-  reads_by : (d : Sections) (answers : FirstAnswers) (old new : ContextState) → new.sections ≡ d → new.answers ≡ answers → LinesBy d answers old.parsed new.parsed → EntriesBy d answers old.known new.known → ReadsAsked probe old new
-  reads_by d answers old new s a lines entries = record {
+  abbrev DetailsBy : Sections → FirstAnswers → List KnownEntries → List KnownEntries → Type 0
+  DetailsBy d answers old new = (m : UnitIndex) → index_units d ≡ Ok m → LearnsDetailsAt (function_offset_of (main_scope d m) m.units answers probe) old new
+
+  reads_by : (d : Sections) (answers : FirstAnswers) (old new : ContextState) → new.sections ≡ d → new.answers ≡ answers → LinesBy d answers old.parsed new.parsed → EntriesBy d answers old.known new.known → DetailsBy d answers old.known new.known → ReadsAsked probe old new
+  reads_by d answers old new s a lines entries details = record {
     lines = subst (λ x. LinesBy x new.answers old.parsed new.parsed) (sym s) (subst (λ x. LinesBy d x old.parsed new.parsed) (sym a) lines);
     entries = subst (λ x. EntriesBy x new.answers old.known new.known) (sym s) (subst (λ x. EntriesBy d x old.known new.known) (sym a) entries);
+    details = subst (λ x. DetailsBy x new.answers old.known new.known) (sym s) (subst (λ x. DetailsBy d x old.known new.known) (sym a) details);
   }
 
   pub reads_nothing : (c : ContextState) → ReadsAsked probe c c
-  reads_nothing c = record { lines = λ m e n p. inl p; entries = λ m e n. inl refl }
+  reads_nothing c = record { lines = λ m e n p. inl p; entries = λ m e n. inl refl; details = λ m e n o k. inl k }
 
   -- one more step of the lookup
   pub reads_more : {X : Type 0} (r : Result X Error) (first mid new : ContextState) → AfterFrames End probe r mid new → ReadsAsked probe first mid → ReadsAsked probe first new
@@ -108,6 +136,7 @@ module _ (probe : ℕ) where
         | inl x ↦ elim (h.entries m e k) [ inl y ↦ inl (x ∙ y) | inr q ↦ inr q ]
         | inr q ↦ inr q
       ])
+      (λ m e k offset known. elim (a.details m e k offset known) [ inl before ↦ h.details m e k offset before | inr here ↦ inr here ])
 
   -- the answer to the load that it waits for
   module _ (n : ℕ) (load : SplitLoad) (first mid new : ContextState) (waits : lookup_stop End mid.sections mid.answers probe ≡ Ok (Waits n)) (is : IsLoadOf mid.sections n load) (h : ReadsAsked probe first mid) where
@@ -118,8 +147,10 @@ module _ (probe : ℕ) where
     by_answers : (answers : FirstAnswers) → new.sections ≡ mid.sections → new.answers ≡ answers → new.parsed ≡ mid.parsed → ((k : ℕ) → k ≢ n → slice_get new.known k ≡ slice_get mid.known k)
         → ((m : UnitIndex) → index_units mid.sections ≡ Ok m → (k : ℕ) → Asks mid.sections mid.answers m k → Asks mid.sections answers m k)
         → ((m : UnitIndex) → index_units mid.sections ≡ Ok m → (k : ℕ) → asks_lines_of (main_scope mid.sections m) m.units mid.answers probe k ≡ true → asks_lines_of (main_scope mid.sections m) m.units answers probe k ≡ true)
+        → LearnsNoDetails mid.known new.known
+        → ((m : UnitIndex) → index_units mid.sections ≡ Ok m → (k offset : ℕ) → function_offset_of (main_scope mid.sections m) m.units mid.answers probe k ≡ Some offset → function_offset_of (main_scope mid.sections m) m.units answers probe k ≡ Some offset)
         → ReadsAsked probe first new
-    by_answers answers s a parsed others asks lines = reads_by mid.sections answers first new s a
+    by_answers answers s a parsed others asks lines learns there = reads_by mid.sections answers first new s a
         (λ m e k p. elim (h.lines m e k (subst (λ x. has_parsed x k ≡ true) parsed p)) [
           | inl before ↦ inl before
           | inr q ↦ inr (asks m e k q.0, lines m e k q.1)
@@ -128,15 +159,18 @@ module _ (probe : ℕ) where
           | inl p ↦ inr (asks m e k (subst (λ i. Asks mid.sections mid.answers m i) (sym p.1) (waits_in m e)))
           | inr q ↦ elim (h.entries m e k) [ inl y ↦ inl (others k q.1 ∙ y) | inr asked ↦ inr (asks m e k asked) ]
         ])
+        (λ m e k offset known. elim (h.details m e k offset (learns k offset known)) [ inl before ↦ inl before | inr here ↦ inr (there m e k offset here) ])
 
     pub reads_answered : (given : Option Sections) (r : Result (Unit {0}) Error) → AfterAnswer n given r mid new → ReadsAsked probe first new
     reads_answered given (Ok x) a = by_answers (answered mid.sections mid.answers n given) a.sections a.answers a.parsed a.others
         (λ m e k q. subst (λ x. Asks mid.sections x m k) (sym (now_is m e)) (still_asked (main_scope mid.sections m) m.units mid.answers n load (awaits m e) given probe (cover probe m.ranges) k q))
         (λ m e k q. subst (λ x. asks_lines_of (main_scope mid.sections m) m.units x probe k ≡ true) (sym (now_is m e)) (still_lines (main_scope mid.sections m) m.units mid.answers n load (awaits m e) given probe k q))
+        a.details
+        (λ m e k offset q. subst (λ x. function_offset_of (main_scope mid.sections m) m.units x probe k ≡ Some offset) (sym (now_is m e)) (still_there (main_scope mid.sections m) m.units mid.answers n load (awaits m e) given probe k offset q))
       where
         now_is : (m : UnitIndex) → index_units mid.sections ≡ Ok m → answered mid.sections mid.answers n given ≡ with_answer mid.sections (unit_records m.units) mid.answers n given
         now_is m e = ap (λ (r : Result UnitIndex Error). elim r [ Err f ↦ mid.answers | Ok x ↦ with_answer mid.sections (unit_records x.units) mid.answers n given ]) e
 
         awaits : (m : UnitIndex) → index_units mid.sections ≡ Ok m → Awaits mid.sections m.units mid.answers n load
         awaits m e = awaits_in mid.sections mid.answers probe n load waits is m e
-    reads_answered given (Err f) a = by_answers mid.answers a.sections a.refused.1 a.parsed a.others (λ m e k q. q) (λ m e k q. q)
+    reads_answered given (Err f) a = by_answers mid.answers a.sections a.refused.1 a.parsed a.others (λ m e k q. q) (λ m e k q. q) a.details (λ m e k offset q. q)

@@ -77,6 +77,7 @@ module _ (ranges : List UnitRange) (u : UnitsState) (i : IsContext ranges u) whe
     known = of_made ranges u i (λ s xs rs. is_open_at s.file.sections s.file.units u.answers n ≡ false → StaysKnown u.known now.known) a.known;
     same = a.same;
     others = a.others;
+    details = a.details;
   }
 
   pub after_forget : (n : ℕ) (now : UnitsState) → left.AfterForget n u now → AfterForget n (seen_context u) (seen_context now)

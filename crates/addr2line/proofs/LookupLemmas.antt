@@ -11,8 +11,8 @@ use Rattle.addr2line_units.specs.declared.frames_lookup.OnFault.TheVariants.{Pas
 use Rattle.addr2line_units.specs.declared.index.UnitRange.{UnitRange}
 use Rattle.addr2line_units.specs.AfterUnits as left
 use Rattle.addr2line_units.specs.Cover.{cover}
-use Rattle.addr2line_units.specs.FramesLookup.{LookupAsks, Stop, after_fault, asked_frames, asks_lines_of, frames_of_number, has_many_of, holds_along, or_stop, stop_along}
-use Rattle.addr2line_units.specs.KnownEntries.{knows_at}
+use Rattle.addr2line_units.specs.FramesLookup.{LookupAsks, Stop, after_fault, asked_frames, asks_lines_of, frames_of_number, function_offset_of, has_many_of, holds_along, or_stop, stop_along}
+use Rattle.addr2line_units.specs.KnownEntries.{LearnsDetailsAt, knows_at}
 use Rattle.addr2line_units.specs.Parsed.{ParsesOnly, has_parsed}
 use Rattle.addr2line_units.specs.RangedUnits.{IndexedUnit}
 use Rattle.addr2line_units.specs.UnitFrames.{FramesResult}
@@ -101,6 +101,7 @@ module _ (ranges : List UnitRange) (u : UnitsState) (i : IsContext ranges u) (fa
       known = w.asked.known;
       only = of_made ranges u i (λ s xs rs. ParsesOnly (λ n. LookupAsks (asked_frames faults s xs u.answers probe) (cover probe rs) n × (asks_lines_of s xs u.answers probe n ≡ true)) u.parsed now.parsed) w.asked.only;
       learns = of_made ranges u i (λ s xs rs. (n : ℕ) → (slice_get now.known n ≡ slice_get u.known n) ⊎ LookupAsks (asked_frames faults s xs u.answers probe) (cover probe rs) n) w.asked.learns;
+      details = of_made ranges u i (λ s xs rs. LearnsDetailsAt (function_offset_of s xs u.answers probe) u.known now.known) w.asked.details;
       raised = w.asked.raised;
       ready = λ told. of_made ranges now walked_context (λ s xs rs. holds_along (all_by s xs) (asked_frames faults s xs now.answers probe) (cover probe rs) ≡ true)
           (as_after (λ s xs a. holds_along (has_all_at probe now) (asked_frames faults s xs a probe) (cover probe ranges) ≡ true) (w.ready told));

@@ -9,8 +9,9 @@ use Rattle.gimli.specs.Sections.{Sections}
 use Rattle.gimli.specs.Unit.{UnitRecord}
 use Rattle.addr2line_units.specs.declared.frames_lookup.OnFault.{OnFault}
 use Rattle.addr2line_units.specs.Cover.{cover}
-use Rattle.addr2line_units.specs.FramesLookup.{Stop, Waits, LookupAsks, asks_lines_of, holds_along, is_waiting, main_scope, unit_found}
+use Rattle.addr2line_units.specs.FramesLookup.{Stop, Waits, LookupAsks, asks_lines_of, function_offset_of, holds_along, is_waiting, main_scope, unit_found}
 use Rattle.gimli_read.specs.Alike.{WasNotRefused}
+use Rattle.addr2line_units.specs.KnownEntries.{LearnsDetailsAt}
 use Rattle.addr2line_units.specs.Parsed.{ParsesOnly, StaysParsed}
 use Rattle.addr2line_units.specs.RangedUnits.{unit_records}
 use Rattle.addr2line_units.specs.StaysKnown.{StaysKnown}
@@ -82,8 +83,14 @@ abbrev pub LearnsAsked : OnFault → ℕ → ContextState → ContextState → C
 LearnsAsked faults probe c old new = (m : UnitIndex) → index_units c.sections ≡ Ok m
     → (n : ℕ) → (slice_get new.known n ≡ slice_get old.known n) ⊎ AsksUnit faults c probe m n
 
+-- no detail of a function becomes known but that of the one at the probe, in this context
+abbrev pub LearnsDetails : ℕ → ContextState → ContextState → ContextState → Type 0
+LearnsDetails probe c old new = (m : UnitIndex) → index_units c.sections ≡ Ok m
+    → LearnsDetailsAt (function_offset_of (main_scope c.sections m) m.units c.answers probe)
+    old.known new.known
+
 -- after a lookup of the probe: the first answers are the same, what was read stays, and nothing was
--- read of units that it doesn't ask; unless memory was refused, the same lookup reads nothing more;
+-- read of units that it doesn't ask, nor a detail but that of the function at the probe; unless memory was refused, the same lookup reads nothing more;
 -- memory is refused only where something is left to read, a load is wanted, or more than 16 inlined
 -- functions stand there
 pub record AfterFrames {X : Type 0} (faults : OnFault) (probe : ℕ) (result : Result X Error)
@@ -94,6 +101,7 @@ pub record AfterFrames {X : Type 0} (faults : OnFault) (probe : ℕ) (result : R
   pub known : StaysKnown old.known new.known
   pub only : ParsesAsked faults probe old old new
   pub learns : LearnsAsked faults probe old old new
+  pub details : LearnsDetails probe old old new
   pub raised : old.looks ≤ new.looks
   pub ready : WasNotRefused result → IsKnown faults new probe
   pub memory : IsKnownFew faults new probe

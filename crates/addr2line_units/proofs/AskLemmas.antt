@@ -1,6 +1,6 @@
 -- What the units of a context are after one of them was asked (on specs/AfterUnits.antt and
 -- specs/StoredUnits.antt).
-use Rattle.std.proofs.Common.{◌≡◌, ◌≢◌, inl, inr, ℕ, ◌<◌, ◌≤◌, ◌&&◌, ◌||◌, Bool, true, false, not, List, [], ◌∷◌, length, get_or, slice_get, Option, Some, None, Result, Ok, Err, refl, sym, ap, subst, ◌∙◌, arith}
+use Rattle.std.proofs.Common.{◌≡◌, ◌≢◌, ◌⊎◌, inl, inr, ℕ, ◌<◌, ◌≤◌, ◌&&◌, ◌||◌, Bool, true, false, not, List, [], ◌∷◌, length, get_or, slice_get, Option, Some, None, Result, Ok, Err, refl, sym, ap, subst, ◌∙◌, arith}
 use Rattle.std.proofs.Math.ListN.{set}
 use Rattle.std.proofs.lemmas.Option.{get_or_from_slice_get, slice_get_within}
 use Rattle.std.specs.Prelude.{IfErr, IfOk, unwrap_or}
@@ -24,7 +24,9 @@ use Rattle.addr2line_units.specs.CachedEntries.{AreEntriesOf, AreFramesIn, AsksN
 use Rattle.addr2line_units.specs.CachedFrames.{AreFoundAt, IsLendable, IsStopIn, found_after_fault, frames_found_at, has_frames_at, seen_stop, stop_of_found}
 use Rattle.addr2line_units.specs.CachedLines.{AreLinesOf, StaysUnit, StayUnits, indexed_unit, indexed_units, is_uncached, parsed_units}
 use Rattle.addr2line_units.specs.CachedUnits.{StayAllEntries, answers_in, has_entries_at}
-use Rattle.addr2line_units.specs.FramesLookup.{FindsNothing, Stop, after_fault, asks_lines_of, ends_lookup, functions_of_take_memory, has_many_of, or_stop}
+use Rattle.addr2line_units.specs.FramesLookup.{FindsNothing, Stop, after_fault, asks_lines_of, ends_lookup, function_offset_of, functions_of_take_memory, has_many_of, or_stop}
+use Rattle.addr2line_units.specs.CachedKnown.{known_in}
+use Rattle.addr2line_units.specs.KnownEntries.{knows_detail_at}
 use Rattle.addr2line_units.specs.Parsed.{has_parsed}
 use Rattle.addr2line_units.specs.StoredUnits.{AreUnits, seen_units}
 use Rattle.addr2line_units.specs.UnitFrames.{FramesResult, asks_lines_in, frames_in, has_many}
@@ -33,7 +35,8 @@ use Rattle.addr2line_units.proofs.CachedUnitLemmas.{as_many_entries, entries_at,
 use Rattle.addr2line_units.proofs.FoundLemmas.{lendable_if_told}
 use Rattle.addr2line_units.proofs.FramesLookupLemmas.{gives_after, no_stop, oom_before, refused_before, stop_is, stop_there, there_after}
 use Rattle.addr2line_units.proofs.KnownLemmas.{known_is, known_unchanged}
-use Rattle.addr2line_units.proofs.NumberedFrames.{asks_are, frames_are, frames_given, functions_take, known_then, lines_only, lines_take, many_are, none_known, none_past, nothing_at, places_there, then_known, then_no_memory}
+use Rattle.addr2line_units.proofs.LearnedLemmas.{detail_at, detail_set, detail_unchanged, entries_learn}
+use Rattle.addr2line_units.proofs.NumberedFrames.{asks_are, frames_are, frames_given, functions_take, known_then, lines_only, lines_take, many_are, none_known, none_past, nothing_at, offset_is, places_there, then_known, then_no_memory}
 use Rattle.addr2line_units.proofs.StayLemmas.{stays_known}
 use Rattle.addr2line_units.proofs.UnitsLemmas.{as_many, own_at, own_set, stay_indexed, stay_parsed, stay_set}
 use Rattle.addr2line_units.proofs.WalkLemmas.{and_first, and_not}
@@ -76,7 +79,7 @@ module _ {R : Type 0} (scope : Scope) (rs : List ResUnit) (vs : List (UnitEntrie
 
     pub none_after : AfterAsk {X = Unit {0}} n probe (Ok tt) old (seen_units scope rs vs looks FindsNothing)
     none_after = record {
-      asked = record { scope = refl; units = refl; answers = refl; parsed = λ m e. e; known = λ m. record { at = λ p e. e; whole = λ k h. h }; only = λ m e. inl e; learns = λ m. inl refl; raised = omega arith };
+      asked = record { scope = refl; units = refl; answers = refl; parsed = λ m e. e; known = λ m. record { at = λ p e. e; whole = λ k h. h }; only = λ m e. inl e; learns = λ m. inl refl; details = λ m o e. inl e; raised = omega arith };
       ready = λ h. ap (λ b. b && (not (asks_lines_of scope (indexed_units us rs) (answers_in vs) probe n) || has_parsed (parsed_units rs) n)) (known_is probe vs n) ∙ none_known scope probe us rs vs n rs_past vs_past;
       memory = λ h. tt;
     }
@@ -214,8 +217,14 @@ module _ {R : Type 0} (scope : Scope) (rs : List ResUnit) (vs : List (UnitEntrie
                       ∙ ap (λ b. (has_entries_at probe new_vs n || not (functions_in_take_memory shares scope u (first_answer_of v))) && (not b || (has_parsed (parsed_units new_rs) n || not (lines_of_take_memory shares (indexed_units us rs) n)))) (asks_are scope probe us rs vs n d i.lines i.entries in_lines u r s v w unit own_is entries_is)
                       ∙ ap (λ b. (has_entries_at probe new_vs n || not (functions_in_take_memory shares scope u (first_answer_of v))) && (not (asks_lines_in scope u (first_answer_of v) probe) || (has_parsed (parsed_units new_rs) n || not b))) (lines_take scope probe us rs vs n d i.lines i.entries in_lines u r s v w unit own_is entries_is shares)
 
-              pub after_asked : {X : Type 0} (q : Result X Error) → (WasNotRefused q → WasNotRefused result) → (WasNotRefused result → WasNotRefused q) → AfterAsk n probe q old new
-              after_asked q before then = record {
+              details_there : AreEntriesOf scope u w → (m : ℕ) → m ≡ n → (offset : ℕ) → knows_detail_at (known_in new_vs) offset m ≡ true → (knows_detail_at (known_in vs) offset m ≡ true) ⊎ (function_offset_of scope (indexed_units us rs) (answers_in vs) probe m ≡ Some offset)
+              details_there right m is offset e = elim (entries_learn scope u probe offset v w (entries_at scope us vs n u v in_views unit entries_is i.entries) right stay only.alone (sym (detail_set vs n v w in_views entries_is offset m is) ∙ e)) [
+                | inl h ↦ inl (detail_at vs n v w in_views entries_is offset m is ∙ h)
+                | inr h ↦ inr (ap (function_offset_of scope (indexed_units us rs) (answers_in vs) probe) is ∙ offset_is scope probe us rs vs n d i.lines i.entries in_lines u r s v w unit own_is entries_is ∙ h)
+              ]
+
+              pub after_asked : {X : Type 0} (q : Result X Error) → AreEntriesOf scope u w → (WasNotRefused q → WasNotRefused result) → (WasNotRefused result → WasNotRefused q) → AfterAsk n probe q old new
+              after_asked q right before then = record {
                 asked = record {
                   scope = refl;
                   units = units_same;
@@ -226,6 +235,10 @@ module _ {R : Type 0} (scope : Scope) (rs : List ResUnit) (vs : List (UnitEntrie
                   learns = λ m. elim (reads_set probe vs n v w entries_is only m) [
                     | inl e ↦ inl (known_unchanged vs new_vs m e)
                     | inr x ↦ inr x.0
+                  ];
+                  details = λ m offset e. elim (reads_set probe vs n v w entries_is only m) [
+                    | inl same ↦ inl (detail_unchanged vs new_vs offset m same e)
+                    | inr x ↦ details_there right m x.0 offset e
                   ];
                   raised = raised;
                 };

@@ -58,7 +58,7 @@ unfolding function_at
 function_is scope view probe r e = ap (λ x. x >>= λ functions. function_from scope view probe (function_offset_at probe functions)) e
 
 -- the first function of an offset is at the same place where the offsets are the same
-first_same : (offset : ℕ) (fs gs : List CachedFunction) → AllZip IsFunctionMore fs gs
+pub first_same : (offset : ℕ) (fs gs : List CachedFunction) → AllZip IsFunctionMore fs gs
     → position_or_len (λ (f : CachedFunction). f.offset == offset) gs ≡ position_or_len (λ (f : CachedFunction). f.offset == offset) fs
 first_same offset [] [] all = refl
 first_same offset [] (g ∷ gs) all = absurd all

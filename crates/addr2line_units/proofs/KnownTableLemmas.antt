@@ -22,7 +22,7 @@ fault_known : (b : Bool) → is_detail_known (if b then HasFault else NotRead) �
 fault_known true = refl
 fault_known false = refl
 
-detail_known : (o : Option (Result Detail Error)) → is_detail_known (known_detail o) ≡ has_detail o
+pub detail_known : (o : Option (Result Detail Error)) → is_detail_known (known_detail o) ≡ has_detail o
 detail_known None = refl
 detail_known (Some (Ok d)) = refl
 detail_known (Some (Err e)) = fault_known (is_cached_fault e)
@@ -42,7 +42,7 @@ module _ (offset : ℕ) where
   has_first fs None = true
   has_first fs (Some n) = has_detail (option_and_then (λ (f : CachedFunction). f.detail) (slice_get fs n))
 
-  find_known : (fs : List CachedFunction) → find (λ (f : KnownFunction). f.offset == offset) (map known_function fs) ≡ option_map known_function (find begins fs)
+  pub find_known : (fs : List CachedFunction) → find (λ (f : KnownFunction). f.offset == offset) (map known_function fs) ≡ option_map known_function (find begins fs)
   find_known [] = refl
   find_known (f ∷ fs) = by (f.offset == offset) (find_known fs)
     where

@@ -1,7 +1,8 @@
 -- What is answered, loaded and forgotten of the unit of a number (on specs/AfterUnits.antt and
 -- specs/StoredUnits.antt).
-use Rattle.std.proofs.Common.{◌≡◌, inl, inr, ℕ, ◌<◌, ◌≤◌, Bool, true, false, List, length, get_or, slice_get, Option, Some, None, Result, Ok, Err, refl, sym, ap, subst, ◌∙◌, arith}
+use Rattle.std.proofs.Common.{◌≡◌, ◌≢◌, ◌⊎◌, inl, inr, ℕ, ◌<◌, ◌≤◌, Bool, true, false, List, length, get_or, slice_get, Option, Some, None, Result, Ok, Err, refl, sym, ap, subst, ◌∙◌, arith}
 use Rattle.std.proofs.Math.ListN.{set}
+use Rattle.std.proofs.lemmas.Bool.Decides.{eqb_tells}
 use Rattle.std.proofs.lemmas.Option.{get_or_from_slice_get, slice_get_within}
 use Rattle.std.specs.Prelude.{IfErr, OnOk, is_some}
 use Rattle.gimli_read.specs.declared.error.Error.{Error}
@@ -16,15 +17,18 @@ use Rattle.addr2line_units.specs.declared.unit.ResUnit.{ResUnit}
 use Rattle.addr2line_units.specs.declared.unit_frames.UnitEntries.{UnitEntries}
 use Rattle.addr2line_units.specs.AfterUnits.{AfterAnswer, AfterForget, AfterLoad}
 use Rattle.addr2line_units.specs.CachedEntries.{AreEntriesOf, StayEntries, first_answer_of}
+use Rattle.addr2line_units.specs.CachedKnown.{known_in}
 use Rattle.addr2line_units.specs.CachedUnits.{answers_in, decided_at}
 use Rattle.addr2line_units.specs.CachedViews.{is_decided}
 use Rattle.addr2line_units.specs.FramesLookup.{FindsNothing, Stop, answer_of}
+use Rattle.addr2line_units.specs.KnownEntries.{LearnsNoDetails}
 use Rattle.addr2line_units.specs.Loads.{load_result, view_fault}
 use Rattle.addr2line_units.specs.StoredUnits.{AreUnits, seen_units}
 use Rattle.addr2line_units.specs.UnitsState.{UnitsState}
 use Rattle.addr2line_units.specs.Views.{decided_answer, is_open, verdict}
 use Rattle.addr2line_units.proofs.AnswerLemmas.{answer_at, answered_if_ok, answers_if_refused, answers_set, decided_there, others_stay, same_set}
 use Rattle.addr2line_units.proofs.CachedUnitLemmas.{as_many_entries, entries_at, entries_set}
+use Rattle.addr2line_units.proofs.LearnedLemmas.{answered_learns, detail_at, detail_set, detail_unchanged}
 use Rattle.addr2line_units.proofs.LoadLemmas.{as_many_answers, past_set, slice_get_none, this_unit, unknown_answer, unknown_load}
 use Rattle.addr2line_units.proofs.OpenLemmas.{not_open_there}
 use Rattle.addr2line_units.proofs.StateLemmas.{after_answer, after_forget, after_load}
@@ -45,6 +49,8 @@ module _ {R : Type 0} (scope : Scope) (units : List ResUnit) (held : List (UnitE
       answers = sym (unknown_answer d us (answers_in held) n given none);
       refused = tt;
       others = λ k ne. refl;
+      details = λ k offset e. e;
+      not_open = λ shut. refl;
       beside = as_many_entries scope us held i.entries ∙ sym (as_many_answers held);
     }
 
@@ -57,6 +63,7 @@ module _ {R : Type 0} (scope : Scope) (units : List ResUnit) (held : List (UnitE
       known = λ shut k. record { at = λ probe q. q; whole = λ kind q. q };
       same = λ one e. refl;
       others = λ k ne. refl;
+      details = λ k offset e. e;
       not_open = λ shut. sym (unknown_load d us (answers_in held) n given none);
       none = λ e. sym (unknown_load d us (answers_in held) n None none);
     }
@@ -122,12 +129,22 @@ module _ {R : Type 0} (scope : Scope) (units : List ResUnit) (held : List (UnitE
           abbrev new : UnitsState
           new = seen_units scope units now looks FindsNothing
 
-          pub answered_there : (r : Result (Unit {0}) Error) → OnOk r (first_answer_of w ≡ decided_answer d u (first_answer_of v) given) → IfErr r (λ e. (e ≡ OutOfMemory) × StayEntries v w × (b ≡ true)) → AfterAnswer n given r old new
-          answered_there r answer refused = after_answer scope units held i.entries now looks was n given r (λ h. some ∙ h)
-              (answered_if_ok d us held n u v w given r within in_entries unit at answer)
-              (answers_if_refused held n v w r (b ≡ true) in_entries at refused) (λ k ne. others_stay held n k w ne)
+          no_details : w.functions ≡ v.functions → (is_decided v.view.state ≡ true → w ≡ v) → LearnsNoDetails (known_in held) (known_in now)
+          no_details functions same k offset e = elim (same_number k) [
+            | inl is ↦ detail_at held n v w in_entries at offset k is ∙ answered_learns scope u offset v w right_there functions same (sym (detail_set held n v w in_entries at offset k is) ∙ e)
+            | inr ne ↦ detail_unchanged held now offset k (others_stay held n k w ne) e
+          ]
+            where
+              same_number : (k : ℕ) → (k ≡ n) ⊎ (k ≢ n)
+              same_number k = elim (eqb_tells k n) [ inl p ↦ inl p.1 | inr q ↦ inr q.1 ]
 
-          module _ (own : AreEntriesOf scope u w) (same : is_decided v.view.state ≡ true → w ≡ v) where
+          pub answered_there : w.functions ≡ v.functions → (is_decided v.view.state ≡ true → w ≡ v) → (r : Result (Unit {0}) Error) → OnOk r (first_answer_of w ≡ decided_answer d u (first_answer_of v) given) → IfErr r (λ e. (e ≡ OutOfMemory) × StayEntries v w × (b ≡ true)) → (is_open d u (first_answer_of v) ≡ false → r ≡ Ok tt) → AfterAnswer n given r old new
+          answered_there functions same r answer refused shut = after_answer scope units held i.entries now looks was n given r (λ h. some ∙ h)
+              (answered_if_ok d us held n u v w given r within in_entries unit at answer)
+              (answers_if_refused held n v w r (b ≡ true) in_entries at refused) (λ k ne. others_stay held n k w ne) (no_details functions same)
+              (λ h. shut (not_open_there d us held n u v there in_entries at h))
+
+          module _ (own : AreEntriesOf scope u w) (functions : w.functions ≡ v.functions) (same : is_decided v.view.state ≡ true → w ≡ v) where
             same_decided : decided_at held n ≡ true → now ≡ held
             same_decided h = same_set held n v w at (same (decided_there held n v at h))
 
@@ -140,7 +157,7 @@ module _ {R : Type 0} (scope : Scope) (units : List ResUnit) (held : List (UnitE
                 let told = load_told given r answer fault in
                 let answers = answered_if_ok d us held n u v w given (Ok tt) within in_entries unit at answer in
                 after_load scope units held i.entries now looks was n (λ k ne. others_stay held n k w ne) same_decided many given r (λ h. answers) (inr answers) (λ ne. absurd (ne told)) (λ shut. told)
-                (λ e. told ∙ ap (load_result d us (answers_in held) n) e)
+                (λ e. told ∙ ap (load_result d us (answers_in held) n) e) (no_details functions same)
 
             -- memory was refused
             pub refused_there : (e : Error) → (e ≡ OutOfMemory) × StayEntries v w × (b ≡ true) → (is_open d u (first_answer_of v) ≡ false → ◌≡◌ {A = Result (Unit {0}) Error} (Err e) (Ok tt)) → AfterLoad n given (Err e) old new
@@ -148,7 +165,7 @@ module _ {R : Type 0} (scope : Scope) (units : List ResUnit) (held : List (UnitE
                 let r = answers_if_refused held n v w (Err e) (b ≡ true) in_entries at refused in
                 after_load scope units held i.entries now looks was n (λ k ne. others_stay held n k w ne) same_decided many given (Err e) (λ told. absurd (told refused.0)) (inl r.1) (λ ne. (r.1, r.2))
                 (λ h. absurd (let no = shut (not_open_there d us held n u v there in_entries at h) in cc))
-                (λ none. absurd (let f : false ≡ true = ap is_some (sym none) ∙ some ∙ refused.2 in cc))
+                (λ none. absurd (let f : false ≡ true = ap is_some (sym none) ∙ some ∙ refused.2 in cc)) (no_details functions same)
 
         pub forgotten_there : (looks : ℕ) (was : Stop) → first_answer_of w ≡ None → (first_answer_of v ≡ None → w ≡ v) → AfterForget n (seen_units scope units held looks was) (seen_units scope units now looks FindsNothing)
         forgotten_there looks was none same = after_forget scope units held i.entries now looks was n

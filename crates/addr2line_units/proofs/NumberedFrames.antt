@@ -16,17 +16,17 @@ use Rattle.addr2line_units.specs.declared.unit_frames.UnitFrames.{UnitFrames}
 use Rattle.addr2line_units.specs.declared.unit_frames.UnitFrames.TheVariants as found
 use Rattle.addr2line_units.specs.AskMemory.{any_lines_take_memory, functions_in_take_memory, lines_of_take_memory, lines_take_memory}
 use Rattle.addr2line_units.specs.CachedLines.{HaveLinesOf, indexed_unit, indexed_units, is_uncached, parsed_units}
-use Rattle.addr2line_units.specs.FramesLookup.{asks_lines_of, frames_of_number, functions_of_take_memory, has_many_of}
+use Rattle.addr2line_units.specs.FramesLookup.{asks_lines_of, frames_of_number, function_offset_of, functions_of_take_memory, has_many_of}
 use Rattle.addr2line_units.specs.CachedEntries.{AreFramesIn, AsksNoMemoryIn, frames_of_place, has_entries, first_answer_of}
 use Rattle.addr2line_units.specs.CachedFrames.{AreFoundAt, frames_found_at, functions_at, has_frames_at, language_at}
 use Rattle.addr2line_units.specs.CachedUnits.{HaveEntriesOf, answers_in, has_entries_at}
 use Rattle.addr2line_units.specs.Parsed.{ParsesOnly, has_parsed}
-use Rattle.addr2line_units.specs.UnitFrames.{asks_lines_in, frames_in, has_many}
+use Rattle.addr2line_units.specs.UnitFrames.{asks_lines_in, frames_in, function_offset_in, has_many}
 use Rattle.addr2line_units.proofs.UnitsLemmas.{in_units, no_parsed, no_unit, only_set, parsed_set, set_parsed, unit_at}
 use Rattle.addr2line_units.proofs.CachedUnitLemmas.{answer_at, as_many_entries}
 use Rattle.addr2line_units.proofs.WalkLemmas.{and_first}
 
-got_set : {X : Type 0} (xs : List X) (n : ℕ) (x : X) → n < length xs → slice_get (set xs n x) n ≡ Some x
+pub got_set : {X : Type 0} (xs : List X) (n : ℕ) (x : X) → n < length xs → slice_get (set xs n x) n ≡ Some x
 got_set [] n x h = absurd (omega arith)
 got_set (y ∷ xs) zero x h = refl
 got_set (y ∷ xs) (suc n) x h = got_set xs n x (omega arith)
@@ -76,6 +76,9 @@ module _ {R : Type 0} (scope : Scope) (probe : ℕ) (us : List UnitRecord) (rs :
 
     pub many_are : has_many_of scope (indexed_units us rs) (answers_in vs) probe n ≡ has_many scope u (first_answer_of v) probe
     many_are = rw (unit_is, has_many_of, answer_is) refl
+
+    pub offset_is : function_offset_of scope (indexed_units us rs) (answers_in vs) probe n ≡ function_offset_in scope u (first_answer_of v) probe
+    offset_is = rw (unit_is, function_offset_of, answer_is) refl
 
     pub functions_take : (shares : Bool) → functions_of_take_memory shares scope (indexed_units us rs) (answers_in vs) n ≡ functions_in_take_memory shares scope u (first_answer_of v)
     functions_take shares = rw (unit_is, functions_of_take_memory, answer_is) refl

@@ -34,7 +34,7 @@ use Rattle.addr2line_units.specs.CachedUnits.{HaveEntriesOf, ReadsOnly, StayAllE
 use Rattle.addr2line_units.specs.FramesLookup.{FindsNothing, LookupAsks, Stop, Waits, answer_of, asks_lines_of, ends_lookup, has_many_of, holds_along, with_answer}
 use Rattle.addr2line_units.specs.FunctionParses.{AreFirstDecided, AreReadBefore, IsReadyFor, answers_after_parse, read_of_units}
 use Rattle.addr2line_units.specs.CachedKnown.{known_in}
-use Rattle.addr2line_units.specs.KnownEntries.{knows_at}
+use Rattle.addr2line_units.specs.KnownEntries.{LearnsNoDetails, knows_at}
 use Rattle.addr2line_units.specs.Loads.{forgotten, is_open_at, load_result}
 use Rattle.addr2line_units.specs.Located.{is_found, looks_along, spans_along, spans_in, spans_or_fault}
 use Rattle.addr2line_units.specs.Parsed.{AllAskFor, AreAllParsed, AreParsed, AreReadyForAll, AsksFor, LeadTo, ParsesOnly, TakeNone, TakeNoneForAll, has_parsed, ready_along}
@@ -184,61 +184,6 @@ module _ {R : Type 0} (scope : Scope) (units : List ResUnit) (held : List (UnitE
     parsed = parsed;
   }
 
-  -- after a lookup of frames
-  module _ (now : List ResUnit) (stay : StayUnits units now) (entries : List (UnitEntries R)) (stays : StayAllEntries held entries) (looks later : ℕ) (was is : Stop) (faults : OnFault) (probe : ℕ) (ranges : List UnitRange) where
-    abbrev first : UnitsState
-    first = seen_units scope units held looks was
-
-    abbrev last : UnitsState
-    last = seen_units scope now entries later is
-
-    units_same : indexed_units us now ≡ indexed_units us units
-    units_same = stay_indexed us units now stay
-
-    answers_same : answers_in entries ≡ answers_in held
-    answers_same = same_answers held entries stays
-
-    abbrev frames : ℕ → FramesResult
-    frames = asked_by faults probe first
-
-    abbrev asks : ℕ → Bool
-    asks = asks_lines_of scope (indexed_units us units) (answers_in held) probe
-
-    abbrev has : ℕ → Bool
-    has = has_frames_at asks probe (parsed_units now) entries
-
-    abbrev few : ℕ → Bool
-    few n = has n && not (has_many_of scope (indexed_units us units) (answers_in held) probe n)
-
-    all_is : (n : ℕ) → has_all_at probe last n ≡ has n
-    all_is n =
-        ap (λ b. b && (not (asks_lines_of scope (indexed_units us now) (answers_in entries) probe n) || has_parsed (parsed_units now) n)) (known_is probe entries n)
-        ∙ ap (λ xs. has_entries_at probe entries n && (not (asks_lines_of scope xs (answers_in entries) probe n) || has_parsed (parsed_units now) n)) units_same
-        ∙ ap (λ a. has_entries_at probe entries n && (not (asks_lines_of scope (indexed_units us units) a probe n) || has_parsed (parsed_units now) n)) answers_same
-
-    few_is : (n : ℕ) → has_few_at probe last n ≡ few n
-    few_is n =
-        ap (λ b. b && not (has_many_of scope (indexed_units us now) (answers_in entries) probe n)) (all_is n)
-        ∙ ap (λ xs. has n && not (has_many_of scope xs (answers_in entries) probe n)) units_same
-        ∙ ap (λ a. has n && not (has_many_of scope (indexed_units us units) a probe n)) answers_same
-
-    pub after_walk : {X : Type 0} (result : Result X Error) → ReadsOnly (LookupAsks frames ranges) probe held entries → ParsesOnly (λ n. LookupAsks frames ranges n × (asks n ≡ true)) (parsed_units units) (parsed_units now)
-        → (WasNotRefused result → holds_along has frames ranges ≡ true) → (holds_along few frames ranges ≡ true → WasNotRefused result) → looks ≤ later → AfterWalk faults probe ranges result first last
-    after_walk result only lines ready memory raised = record {
-      asked = record {
-        scope = refl;
-        units = units_same;
-        answers = answers_same;
-        parsed = stay_parsed units now stay;
-        known = stays_known held entries stays;
-        only = lines;
-        learns = λ n. elim (only n) [ inl e ↦ inl (known_unchanged held entries n e) | inr q ↦ inr q.0 ];
-        raised = raised;
-      };
-      ready = λ told. holds_same (has_all_at probe last) has frames ranges all_is ∙ ready told;
-      memory = λ h. memory (sym (holds_same (has_few_at probe last) few frames ranges few_is) ∙ h);
-    }
-
   -- after answers to loads, and what is known of entries
   module _ (own : HaveEntriesOf scope us held) (entries : List (UnitEntries R)) (looks : ℕ) (was : Stop) where
     abbrev old : UnitsState
@@ -251,12 +196,14 @@ module _ {R : Type 0} (scope : Scope) (units : List ResUnit) (held : List (UnitE
     beside = as_many_entries scope us held own ∙ sym (as_many_answers held)
 
     pub after_answer : (n : ℕ) (given : Option Sections) (result : Result (Unit {0}) Error) {P : Type 0} → (P → is_some given ≡ true) → OnOk result (answers_in entries ≡ with_answer d us (answers_in held) n given)
-        → IfErr result (λ e. (e ≡ OutOfMemory) × (answers_in entries ≡ answers_in held) × StayAllEntries held entries × P) → ((k : ℕ) → k ≢ n → slice_get entries k ≡ slice_get held k) → AfterAnswer n given result old new
-    after_answer n given result {P} wants answers refused others = record {
+        → IfErr result (λ e. (e ≡ OutOfMemory) × (answers_in entries ≡ answers_in held) × StayAllEntries held entries × P) → ((k : ℕ) → k ≢ n → slice_get entries k ≡ slice_get held k) → LearnsNoDetails (known_in held) (known_in entries) → (is_open_at d us (answers_in held) n ≡ false → result ≡ Ok tt) → AfterAnswer n given result old new
+    after_answer n given result {P} wants answers refused others details not_open = record {
       stays = refl;
       answers = answers;
       refused = of_err result refused;
       others = λ k ne. known_unchanged held entries k (others k ne);
+      details = details;
+      not_open = not_open;
       beside = beside;
     }
       where
@@ -286,8 +233,8 @@ module _ {R : Type 0} (scope : Scope) (units : List ResUnit) (held : List (UnitE
       pub after_load : (given : Option Sections) (result : Result (Unit {0}) Error) → (WasNotRefused result → answers_in entries ≡ with_answer d us (answers_in held) n given)
           → (answers_in entries ≡ answers_in held) ⊎ (answers_in entries ≡ with_answer d us (answers_in held) n given)
           → (result ≢ load_result d us (answers_in held) n given → (answers_in entries ≡ answers_in held) × StayAllEntries held entries)
-          → (is_open_at d us (answers_in held) n ≡ false → result ≡ load_result d us (answers_in held) n given) → (given ≡ None → result ≡ load_result d us (answers_in held) n None) → AfterLoad n given result old new
-      after_load given result answers begun refused not_open none = record {
+          → (is_open_at d us (answers_in held) n ≡ false → result ≡ load_result d us (answers_in held) n given) → (given ≡ None → result ≡ load_result d us (answers_in held) n None) → LearnsNoDetails (known_in held) (known_in entries) → AfterLoad n given result old new
+      after_load given result answers begun refused not_open none details = record {
         stays = refl;
         answers = answers;
         begun = begun;
@@ -298,6 +245,7 @@ module _ {R : Type 0} (scope : Scope) (units : List ResUnit) (held : List (UnitE
         };
         same = λ one e. ap known_in (same_decided (answered_is_decided held n one e));
         others = λ k ne. known_unchanged held entries k (others k ne);
+        details = details;
         not_open = not_open;
         none = none;
       }

@@ -7,8 +7,8 @@ use Rattle.gimli_read.specs.Reading.{◌>>=◌}
 use Rattle.addr2line_lines.specs.References.{Scope}
 use Rattle.addr2line_units.specs.declared.frames_lookup.OnFault.{OnFault}
 use Rattle.addr2line_units.specs.declared.index.UnitRange.{UnitRange}
-use Rattle.addr2line_units.specs.FramesLookup.{FindsNothing, Finds, LookupAsks, Stop, Waits, asked_frames, asks_lines_of, ends_lookup, frames_of_number, holds_along, or_stop, stop_along}
-use Rattle.addr2line_units.specs.KnownEntries.{knows_at}
+use Rattle.addr2line_units.specs.FramesLookup.{FindsNothing, Finds, LookupAsks, Stop, Waits, asked_frames, asks_lines_of, ends_lookup, frames_of_number, function_offset_of, holds_along, or_stop, stop_along}
+use Rattle.addr2line_units.specs.KnownEntries.{LearnsDetailsAt, knows_at}
 use Rattle.addr2line_units.specs.Parsed.{ParsesOnly, has_parsed}
 use Rattle.addr2line_units.specs.RangedUnits.{IndexedUnit}
 use Rattle.addr2line_units.specs.UnitFrames.{FramesResult}
@@ -31,7 +31,7 @@ pub record Walked (faults : OnFault) (probe : ℕ) (all rest : List UnitRange) (
 
 pub walked_first : (faults : OnFault) (probe : ℕ) (all : List UnitRange) (old : UnitsState) → Walked faults probe all all old (record old { stop = FindsNothing })
 walked_first faults probe all old = record {
-  asked = record { scope = refl; units = refl; answers = refl; parsed = λ n e. e; known = λ n. record { at = λ p e. e; whole = λ k h. h }; only = λ n e. inl e; learns = λ n. inl refl; raised = omega arith };
+  asked = record { scope = refl; units = refl; answers = refl; parsed = λ n e. e; known = λ n. record { at = λ p e. e; whole = λ k h. h }; only = λ n e. inl e; learns = λ n. inl refl; details = λ n o e. inl e; raised = omega arith };
   stop = refl;
   rest_is = refl;
   less = λ holds e. e;
@@ -98,6 +98,7 @@ any_asked asks probe old new a = record {
   known = a.known;
   only = λ n e. elim (a.only n e) [ inl p ↦ inl p | inr q ↦ inr (tt, q.1) ];
   learns = λ n. elim (a.learns n) [ inl p ↦ inl p | inr q ↦ inr tt ];
+  details = a.details;
   raised = a.raised;
 }
 
@@ -122,6 +123,10 @@ module _ (faults : OnFault) (probe : ℕ) (all : List UnitRange) (r : UnitRange)
       learns = λ n. elim (a.asked.learns n) [
         | inl p ↦ elim (w.asked.learns n) [ inl q ↦ inl (p ∙ q) | inr q ↦ inr q ]
         | inr p ↦ inr (subst (LookupAsks frames all) (sym p) first)
+      ];
+      details = λ n offset e. elim (at_old mid old w.asked.scope w.asked.units w.asked.answers (λ s us xs. LearnsDetailsAt (function_offset_of s us xs probe) mid.known now.known) a.asked.details n offset e) [
+        | inl before ↦ w.asked.details n offset before
+        | inr here ↦ inr here
       ];
       raised = let x = w.asked.raised in let y = a.asked.raised in omega (arith, x, y);
     }

@@ -12,9 +12,9 @@ use Rattle.addr2line_units.specs.declared.frames_lookup.OnFault.{OnFault}
 use Rattle.addr2line_units.specs.declared.index.UnitRange.{UnitRange}
 use Rattle.addr2line_units.specs.declared.parses.ReadingDepth.{ReadingDepth}
 use Rattle.addr2line_units.specs.declared.parses.ReadingDepth.TheVariants as kinds
-use Rattle.addr2line_units.specs.FramesLookup.{FindsNothing, LookupAsks, answer_of, asks_lines_of, holds_along, with_answer}
+use Rattle.addr2line_units.specs.FramesLookup.{FindsNothing, LookupAsks, answer_of, asks_lines_of, holds_along, function_offset_of, with_answer}
 use Rattle.addr2line_units.specs.FunctionParses.{AreFirstDecided, AreReadBefore, AreReadyFor, answers_after_parse, read_of_units}
-use Rattle.addr2line_units.specs.KnownEntries.{knows_at}
+use Rattle.addr2line_units.specs.KnownEntries.{LearnsDetailsAt, LearnsNoDetails, knows_at}
 use Rattle.addr2line_units.specs.Loads.{forgotten, is_open_at, load_result}
 use Rattle.addr2line_units.specs.Located.{is_found, looks_along}
 use Rattle.addr2line_units.specs.Parsed.{AllAskFor, AreAllParsed, AreParsed, AreReadyForAll, AsksFor, LeadTo, ParsesOnly, StaysParsed, TakeNone, TakeNoneForAll, ready_along}
@@ -62,7 +62,8 @@ pub record AfterLineParse (shares : Bool) (result : Result (Unit {0}) Error) (ol
       → WasNotRefused result
   pub parsed : OnOk result (AreAllParsed new.parsed)
 
--- units were asked for the probe: what was read stays, and nothing is read of others
+-- units were asked for the probe: what was read stays, nothing is read of others, and no detail of
+-- a function but that of the one at the probe
 pub record WereAsked (asks : ℕ → Type 0) (probe : ℕ) (old new : UnitsState) : Type 0 where
   pub scope : new.scope ≡ old.scope
   pub units : new.units ≡ old.units
@@ -72,6 +73,8 @@ pub record WereAsked (asks : ℕ → Type 0) (probe : ℕ) (old new : UnitsState
   pub only : ParsesOnly (λ n. asks n
       × (asks_lines_of old.scope old.units old.answers probe n ≡ true)) old.parsed new.parsed
   pub learns : (n : ℕ) → (slice_get new.known n ≡ slice_get old.known n) ⊎ asks n
+  pub details : LearnsDetailsAt (function_offset_of old.scope old.units old.answers probe) old.known
+      new.known
   pub raised : old.looks ≤ new.looks
 
 -- and the same asks nothing more to be read, but after OutOfMemory
@@ -100,9 +103,9 @@ abbrev pub StayRead : UnitsState → UnitsState → Type 0
 StayRead old new = new
     ≡ record old { answers = new.answers; known = new.known; stop = FindsNothing }
 
--- after an answer to the load of the unit of a number nothing is changed but of that unit; after
--- OutOfMemory in the place of given sections all first answers are as before, and what was known
--- stays known
+-- after an answer to the load of the unit of a number nothing is changed but of that unit, and no
+-- detail becomes known; after OutOfMemory in the place of given sections all first answers are as
+-- before, and what was known stays known
 pub record AfterAnswer (n : ℕ) (given : Option Sections) (result : Result (Unit {0}) Error)
     (old new : UnitsState) : Type 0 where
   pub stays : StayRead old new
@@ -111,6 +114,9 @@ pub record AfterAnswer (n : ℕ) (given : Option Sections) (result : Result (Uni
   pub refused : IfErr result (λ e. (e ≡ OutOfMemory) × (new.answers ≡ old.answers)
       × StaysKnown old.known new.known × (is_some given ≡ true))
   pub others : (k : ℕ) → k ≢ n → slice_get new.known k ≡ slice_get old.known k
+  pub details : LearnsNoDetails old.known new.known
+  pub not_open : is_open_at old.scope.file.sections old.scope.file.units old.answers n ≡ false
+      → result ≡ Ok tt
   pub beside : length old.scope.file.units ≡ length old.answers
 
 -- the same outside a lookup, where the fault of the unit's view refuses too: nothing is changed of
@@ -130,6 +136,7 @@ pub record AfterLoad (n : ℕ) (given : Option Sections) (result : Result (Unit 
   pub same : (first : Option Sections) → answer_of old.answers n ≡ Some first
       → new.known ≡ old.known
   pub others : (k : ℕ) → k ≢ n → slice_get new.known k ≡ slice_get old.known k
+  pub details : LearnsNoDetails old.known new.known
   pub not_open : is_open_at old.scope.file.sections old.scope.file.units old.answers n ≡ false
       → result ≡ load_result old.scope.file.sections old.scope.file.units old.answers n given
   pub none : given ≡ None

@@ -13,7 +13,7 @@ use Rattle.addr2line_units.specs.declared.frames_lookup.OnFault.TheVariants.{End
 use Rattle.addr2line_units.specs.AskMemory.{functions_in_take_memory}
 use Rattle.addr2line_units.specs.Cover.{ComesTo, holds_until}
 use Rattle.addr2line_units.specs.Frames.{FrameRecord}
-use Rattle.addr2line_units.specs.UnitFrames.{FramesResult, asks_lines_in, frames_in, has_many}
+use Rattle.addr2line_units.specs.UnitFrames.{FramesResult, asks_lines_in, frames_in, has_many, function_offset_in}
 use Rattle.addr2line_units.specs.UnitIndex.{UnitIndex, sup_sections}
 use Rattle.addr2line_units.specs.RangedUnits.{IndexedUnit, unit_records}
 use Rattle.addr2line_units.specs.Views.{FirstAnswers, View, decided_answer, parts_of, verdict}
@@ -112,6 +112,12 @@ LookupAsks frames ranges n = ComesTo (λ m. ends_lookup (frames m)) ranges n
 abbrev pub asks_lines_of : Scope → List IndexedUnit → FirstAnswers → ℕ → ℕ → Bool
 asks_lines_of scope units answers probe n = elim (slice_get units n)
     [ None ↦ false | Some u ↦ asks_lines_in scope u.unit (answer_of answers n) probe ]
+
+-- where the entry of the function at the probe begins in the unit of a number, in bytes from the
+-- start of the length of the unit of its view; none where there is none that can be read
+abbrev pub function_offset_of : Scope → List IndexedUnit → FirstAnswers → ℕ → ℕ → Option ℕ
+function_offset_of scope units answers probe n = elim (slice_get units n)
+    [ None ↦ None | Some u ↦ function_offset_in scope u.unit (answer_of answers n) probe ]
 
 -- whether many inlined functions stand at the probe in the unit of a number
 abbrev pub has_many_of : Scope → List IndexedUnit → FirstAnswers → ℕ → ℕ → Bool

@@ -1,7 +1,7 @@
 -- What is known of the entries of a unit.
 -- Own: nothing before they are read; all of a unit that waits for an answer, or has a fault; else
 -- the functions of its view, and of each its detail, or the fault of that, once it is read.
-use Rattle.std.specs.Prelude.{ℕ, ◌==◌, Bool, true, false, List, slice_get, Option, option_and_then, option_map, unwrap_or}
+use Rattle.std.specs.Prelude.{◌≡◌, ◌⊎◌, ℕ, ◌==◌, Bool, true, false, List, slice_get, Option, Some, option_and_then, option_map, unwrap_or}
 use Rattle.std.specs.List.{find}
 use Rattle.addr2line_lines.specs.Functions.{FunctionRange, function_offset_at}
 
@@ -52,3 +52,27 @@ is_known_at probe (FunctionsKnown ranges functions) = unwrap_or
 -- asks for none
 abbrev pub knows_at : List KnownEntries → ℕ → ℕ → Bool
 knows_at known probe n = unwrap_or (option_map (is_known_at probe) (slice_get known n)) true
+
+-- whether the detail of the function whose entry begins at an offset is known, or its fault
+abbrev pub knows_detail : ℕ → KnownEntries → Bool
+knows_detail offset NothingKnown = false
+knows_detail offset AllKnown = false
+knows_detail offset (FunctionsKnown ranges functions) = unwrap_or
+    (option_map (λ (f : KnownFunction). is_detail_known f.detail)
+    (known_function_at functions offset)) false
+
+-- the same in the unit of a number
+abbrev pub knows_detail_at : List KnownEntries → ℕ → ℕ → Bool
+knows_detail_at known offset n =
+    unwrap_or (option_map (knows_detail offset) (slice_get known n)) false
+
+-- no detail becomes known but, in the unit of each number, that of the function whose entry begins
+-- where this says
+abbrev pub LearnsDetailsAt : (ℕ → Option ℕ) → List KnownEntries → List KnownEntries → Type 0
+LearnsDetailsAt at old new = (n offset : ℕ) → knows_detail_at new offset n ≡ true
+    → (knows_detail_at old offset n ≡ true) ⊎ (at n ≡ Some offset)
+
+-- no detail becomes known
+abbrev pub LearnsNoDetails : List KnownEntries → List KnownEntries → Type 0
+LearnsNoDetails old new = (n offset : ℕ) → knows_detail_at new offset n ≡ true
+    → knows_detail_at old offset n ≡ true

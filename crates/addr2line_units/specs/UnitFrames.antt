@@ -7,6 +7,7 @@ use Rattle.gimli_read.specs.declared.error.Error.{Error}
 use Rattle.gimli_read.specs.Reading.{◌>>=◌}
 use Rattle.gimli.specs.Sections.{Sections}
 use Rattle.gimli.specs.Unit.{UnitRecord}
+use Rattle.addr2line_lines.specs.Functions.{FunctionRange, function_offset_at, functions_of}
 use Rattle.addr2line_lines.specs.Location.{location_at}
 use Rattle.addr2line_lines.specs.ManyInlined.{are_many}
 use Rattle.addr2line_lines.specs.References.{Scope}
@@ -31,6 +32,21 @@ abbrev pub function_in : Scope → UnitRecord → Option (Option Sections) → �
     → Result (Option FoundFunction) Error
 function_in scope u answer probe =
     function_by scope probe (verdict scope.file.sections u answer)
+
+-- where the entry of the function at the probe begins, by the functions, if they can be read
+abbrev pub function_offset_among : ℕ → Result (List FunctionRange) Error → Option ℕ
+function_offset_among probe (Ok functions) = function_offset_at probe functions
+function_offset_among probe (Err e) = None
+
+-- the same by the functions of a view, if it can be read
+abbrev pub function_offset_by : Scope → ℕ → Option (Result View Error) → Option ℕ
+function_offset_by scope probe (Some (Ok v)) =
+    function_offset_among probe (functions_of (view_scope scope v).file.sections v.unit)
+function_offset_by scope probe _ = None
+
+-- the same in the view of a unit with this first answer, none while it is open
+unfoldable pub function_offset_in : Scope → UnitRecord → Option (Option Sections) → ℕ → Option ℕ
+function_offset_in scope u answer probe = function_offset_by scope probe (verdict scope.file.sections u answer)
 
 -- the frames at the probe of a function that was found in the view of a unit, or none was
 abbrev pub frames_by : Scope → IndexedUnit → ℕ → Result (Option FoundFunction) Error

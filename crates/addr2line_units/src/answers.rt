@@ -41,6 +41,7 @@ impl<R: Reader> UnitEntries<R> {
         ensures answer { OnOk result (first_answer_of self.new
             ≡ Some (option_map (λ d. d.value) sections)) }
         ensures decided { OnOk result (is_decided self.new.view.state ≡ true) }
+        ensures functions { self.new.functions ≡ self.old.functions }
         ensures refused { IfErr result (λ e. (e ≡ OutOfMemory) × (self.new ≡ self.old)
             × (is_some sections ≡ true)) }
         ensures exact { answer_takes_memory R.shares (option_map (λ d. d.value) sections) ≡ false
@@ -98,8 +99,7 @@ impl<R: Reader> UnitEntries<R> {
         ensures decided { OnOk result (is_decided self.new.view.state ≡ true) }
         ensures refused { IfErr result (λ e. (e ≡ OutOfMemory)
             × StayEntries self.old self.new × (is_some sections ≡ true)) }
-        ensures functions { is_open scope.entry.file.dwarf.now dw_unit.now
-            (first_answer_of self.old) ≡ false → self.new.functions ≡ self.old.functions }
+        ensures functions { self.new.functions ≡ self.old.functions }
         ensures same { is_decided self.old.view.state ≡ true
             → (self.new ≡ self.old) × (result ≡ Ok tt) }
         ensures not_open { is_open scope.entry.file.dwarf.now dw_unit.now (first_answer_of self.old)

@@ -200,7 +200,7 @@ returns-in_err-found-clause-after g c =
     let w = found.new.entries in
     let e = rw (c.scope-scope.ensures.gives, sections_is) at found.ensures in
     let p = err_from_is_err_and c.from_residual.result c.from_residual.ensures.1 in
-    rw (p.1, p.2, sym c.self.view_is) (after_asked S rs vs s.stop i probe n s.looks was u there r own_is v entries_is x w c.args.faults found.result e.gives e.stays e.stay e.only e.lines e.ready e.parsed e.memory found.new.looks e.raised FindsNothing _
+    rw (p.1, p.2, sym c.self.view_is) (after_asked S rs vs s.stop i probe n s.looks was u there r own_is v entries_is x w c.args.faults found.result e.gives e.stays e.stay e.only e.lines e.ready e.parsed e.memory found.new.looks e.raised FindsNothing _ e.right
     (λ told. oom_before c.args.faults found.result (subst WasNotRefused c.in_err-found.ensures.gives told)) (λ told. subst WasNotRefused (sym c.in_err-found.ensures.gives) (oom_after c.args.faults found.result told)))
 
 pub invariant_of-self-2 : goal.invariant_of-self-2
@@ -278,7 +278,7 @@ returns-clause-after g c =
     let x = found.new.unit in
     let w = found.new.entries in
     let e = rw (c.scope-scope.ensures.gives, sections_is) at found.ensures in
-    rw (sym c.self.view_is) (after_asked S rs vs s.stop i probe n s.looks was u there r own_is v entries_is x w c.args.faults found.result e.gives e.stays e.stay e.only e.lines e.ready e.parsed e.memory found.new.looks e.raised _ _
+    rw (sym c.self.view_is) (after_asked S rs vs s.stop i probe n s.looks was u there r own_is v entries_is x w c.args.faults found.result e.gives e.stays e.stay e.only e.lines e.ready e.parsed e.memory found.new.looks e.raised _ _ e.right
     (λ told. oom_before c.args.faults found.result (subst WasNotRefused c.in_ok-found.ensures.gives told)) (λ told. subst WasNotRefused (sym c.in_ok-found.ensures.gives) (oom_after c.args.faults found.result told)))
 
 pub returns-in_err-found-clause-no_memory : goal.returns-in_err-found-clause-no_memory

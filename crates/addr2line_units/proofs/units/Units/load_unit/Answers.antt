@@ -100,7 +100,7 @@ returns-in_err-answer-clause-after g c =
     let w = c.answer.new.self in
     let e = rw (c.scope-scope.ensures.gives, sections_is) at c.in_err-answer.ensures in
     rw (p.1, p.2, sym c.self.view_is) (refused_there (scope_of s.sources) s.units.items s.entries.items s.stop c.self.invariant n u there v at w (option_map (λ x. x.value) c.args.sections) _ (some_given _ c.args.sections) s.looks (seen_stop s.units.items s.entries.items s.stop)
-    e.right (λ h. (e.same h).0) c.in_err-answer.field-0.0 e.refused e.not_open)
+    e.right e.functions (λ h. (e.same h).0) c.in_err-answer.field-0.0 e.refused e.not_open)
 
 pub returns-clause-gives : goal.returns-clause-gives
 returns-clause-gives g c =
@@ -134,7 +134,7 @@ returns-clause-after g c =
     let e = rw (c.scope-scope.ensures.gives, sections_is) at c.in_ok-answer.ensures in
     let fault = rw sections_is at c.check_view.ensures.gives in
     rw (sym c.self.view_is) (loaded_there (scope_of s.sources) s.units.items s.entries.items s.stop c.self.invariant n u there v at w (option_map (λ x. x.value) c.args.sections) _ (some_given _ c.args.sections) s.looks (seen_stop s.units.items s.entries.items s.stop)
-    e.right (λ h. (e.same h).0) c.check_view.result e.answer fault)
+    e.right e.functions (λ h. (e.same h).0) c.check_view.result e.answer fault)
 
 pub returns-in_default-clause-exact : goal.returns-in_default-clause-exact
 returns-in_default-clause-exact g c =

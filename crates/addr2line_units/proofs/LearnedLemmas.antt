@@ -1,0 +1,213 @@
+-- Of which functions details become known where a unit is asked (on specs/KnownEntries.antt and
+-- specs/CachedKnown.antt).
+use Rattle.std.proofs.Common.{◌≡◌, ◌≢◌, ◌⊎◌, inl, inr, ◌∙◌, ap, sym, refl, subst, ℕ, ◌<◌, ◌==◌, nat_lt, cond, lt-ltb, eqb-true, Bool, true, false, List, [], ◌∷◌, get_or, length, map, position, Option, Some, None, option_and_then, option_map, slice_get, Result, Ok, Err, if◌then◌else◌, find}
+use Rattle.std.proofs.lemmas.Bool.{cases_eq}
+use Rattle.std.proofs.lemmas.List.Folds.{find_at}
+use Rattle.std.proofs.lemmas.List.Quantifiers.{position-Some}
+use Rattle.std.proofs.lemmas.Option.{slice_get-map, slice_get_read, slice_get_within}
+use Rattle.std.proofs.Math.ListN.{set}
+use Rattle.std.specs.Prelude.{IfOk, IfSome, unwrap_or}
+use Rattle.std.specs.List.{position_or_len}
+use Rattle.gimli_read.specs.declared.error.Error.{Error}
+use Rattle.gimli_read.specs.Reading.{◌>>=◌}
+use Rattle.gimli.specs.Sections.{Sections}
+use Rattle.gimli.specs.Unit.{UnitRecord}
+use Rattle.addr2line_lines.specs.Details.{Detail}
+use Rattle.addr2line_lines.specs.FunctionTable.{CachedFunction, FunctionTable, cached_detail, function_place_at}
+use Rattle.addr2line_lines.specs.Functions.{function_offset_at}
+use Rattle.addr2line_lines.specs.References.{Scope}
+use Rattle.addr2line_lines.proofs.PlaceLemmas.{some_at}
+use Rattle.addr2line_units.specs.declared.functions.LazyFunctions.{LazyFunctions}
+use Rattle.addr2line_units.specs.declared.functions.LazyFunctions.TheVariants as lazy
+use Rattle.addr2line_units.specs.declared.unit_frames.UnitEntries.{UnitEntries}
+use Rattle.addr2line_units.specs.declared.view.ViewState.{ViewState}
+use Rattle.addr2line_units.specs.declared.view.ViewState.TheVariants as states
+use Rattle.addr2line_units.specs.CachedEntries.{AreEntriesOf, StayEntries, first_answer_of}
+use Rattle.addr2line_units.specs.CachedFunctions.{AreFunctionsOf, ReadsNoOther, StayFunctions, cached_functions, has_detail, is_cached_fault, no_functions, were_read}
+use Rattle.addr2line_units.specs.CachedKnown.{known_answer, known_by, known_fault, known_function, known_functions, known_in, known_table}
+use Rattle.addr2line_units.specs.CachedViews.{cached_verdict, is_decided, seen_sections, unboxed, verdict_in, view_by, view_in, was_looked_at}
+use Rattle.addr2line_units.specs.KnownEntries.{AllKnown, KnownFunction, NothingKnown, is_detail_known, knows_detail, knows_detail_at}
+use Rattle.addr2line_units.specs.UnitFrames.{function_offset_among, function_offset_by, function_offset_in}
+use Rattle.addr2line_units.specs.Views.{View, verdict, view_scope}
+use Rattle.addr2line_units.proofs.CachedFunctionLemmas.{first_same}
+use Rattle.addr2line_units.proofs.KnownLemmas.{known_unchanged}
+use Rattle.addr2line_units.proofs.KnownTableLemmas.{detail_known, find_known}
+use Rattle.addr2line_units.proofs.NumberedFrames.{got_set}
+
+-- the place of the first function whose entry begins at an offset
+abbrev first_at : ℕ → FunctionTable → ℕ
+first_at offset t = position_or_len (λ (f : CachedFunction). f.offset == offset) t.functions
+
+-- its detail, by the table
+table_detail : (offset : ℕ) (t : FunctionTable) → knows_detail offset (known_table t) ≡ has_detail (cached_detail t (first_at offset t))
+table_detail offset t =
+    ap (λ (o : Option KnownFunction). unwrap_or (option_map (λ (f : KnownFunction). is_detail_known f.detail) o) false) (find_known offset t.functions ∙ ap (λ (o : Option CachedFunction). option_map known_function o) (find_at (λ (f : CachedFunction). f.offset == offset) t.functions))
+    ∙ by (slice_get t.functions (first_at offset t))
+  where
+    by : (o : Option CachedFunction) → unwrap_or (option_map (λ (f : KnownFunction). is_detail_known f.detail) (option_map known_function o)) false ≡ has_detail (option_and_then (λ (f : CachedFunction). f.detail) o)
+    by None = refl
+    by (Some f) = detail_known f.detail
+
+-- what has a detail is a function
+detail_there : (t : FunctionTable) (n : ℕ) → has_detail (cached_detail t n) ≡ true → (f : CachedFunction) × (slice_get t.functions n ≡ Some f)
+detail_there t n e = by (slice_get t.functions n) refl e
+  where
+    by : (o : Option CachedFunction) → slice_get t.functions n ≡ o → has_detail (option_and_then (λ (f : CachedFunction). f.detail) o) ≡ true → (f : CachedFunction) × (slice_get t.functions n ≡ Some f)
+    by None at h = absurd cc
+    by (Some f) at h = (f, at)
+
+-- a place that is the first of two offsets is that of one
+same_offset : (fs : List CachedFunction) (a b n : ℕ) → n < length fs → position (λ (f : CachedFunction). f.offset == a) fs ≡ Some n → position_or_len (λ (f : CachedFunction). f.offset == b) fs ≡ n → a ≡ b
+same_offset fs a b n within first is =
+    let f = some_at fs n within in
+    let x = position-Some (λ (f : CachedFunction). f.offset == a) fs n f.0 first in
+    let y = position-Some (λ (f : CachedFunction). f.offset == b) fs n f.0 (ap (λ k. cond (nat_lt k (length fs)) (Some k) None) is ∙ ap (λ c. cond c (Some n) None) (lt-ltb _ _ within)) in
+    sym (eqb-true _ _ x.1.0) ∙ eqb-true _ _ y.1.0
+
+-- no detail becomes known but that of the function at the probe
+table_learns : (probe offset : ℕ) (old new : FunctionTable) → ReadsNoOther probe old new → knows_detail offset (known_table new) ≡ true
+    → (has_detail (cached_detail old (first_at offset new)) ≡ true) ⊎ (function_offset_at probe new.ranges ≡ Some offset)
+table_learns probe offset old new alone e = by_place (function_place_at probe new) refl
+  where
+    n : ℕ
+    n = first_at offset new
+
+    known : has_detail (cached_detail new n) ≡ true
+    known = sym (table_detail offset new) ∙ e
+
+    before : function_place_at probe new ≢ Some n → has_detail (cached_detail old n) ≡ true
+    before ne = ap has_detail (sym (alone n ne)) ∙ known
+
+    here : (o : Option ℕ) → function_offset_at probe new.ranges ≡ o → option_and_then (λ a. position (λ (f : CachedFunction). f.offset == a) new.functions) o ≡ Some n → function_offset_at probe new.ranges ≡ Some offset
+    here None at p = absurd cc
+    here (Some a) at p =
+        let f = detail_there new n known in
+        at ∙ ap Some (same_offset new.functions a offset n (slice_get_within new.functions n f.0 f.1) p refl)
+
+    by_place : (o : Option ℕ) → function_place_at probe new ≡ o → (has_detail (cached_detail old n) ≡ true) ⊎ (function_offset_at probe new.ranges ≡ Some offset)
+    by_place None p = inl (before (λ q. let no : None ≡ Some n = sym p ∙ q in cc))
+    by_place (Some m) p = elim (cases_eq m n) [
+      | inl same ↦ inr (here (function_offset_at probe new.ranges) refl (p ∙ ap Some same))
+      | inr ne ↦ inl (before (λ q. ne (let same : Some m ≡ Some n = sym p ∙ q in cc)))
+    ]
+
+fault_has_none : (offset : ℕ) (e : Error) → knows_detail offset (known_fault e) ≡ false
+fault_has_none offset e = by (is_cached_fault e)
+  where
+    by : (b : Bool) → knows_detail offset (if b then AllKnown else NothingKnown) ≡ false
+    by true = refl
+    by false = refl
+
+never : {A : Type 0} → false ≡ true → A
+never e = absurd cc
+
+module _ {R : Type 0} (offset : ℕ) where
+  -- the functions of a view that were read
+  are_read : (f : LazyFunctions R) → knows_detail offset (known_functions f) ≡ true → were_read f ≡ true
+  are_read lazy.Unread e = never e
+  are_read (lazy.Read t) e = refl
+  are_read (lazy.Faulty x) e = refl
+
+  functions_learn : (probe : ℕ) (f g : LazyFunctions R) → StayFunctions f g → ReadsNoOther probe (cached_functions f) (cached_functions g) → knows_detail offset (known_functions g) ≡ true
+      → (knows_detail offset (known_functions f) ≡ true) ⊎ ((t : FunctionTable) × (g ≡ lazy.Read t) × (function_offset_at probe t.ranges ≡ Some offset))
+  functions_learn probe f lazy.Unread stay alone e = never e
+  functions_learn probe f (lazy.Faulty x) stay alone e = never (sym (fault_has_none offset x) ∙ e)
+  functions_learn probe lazy.Unread (lazy.Read u) stay alone e = elim (table_learns probe offset no_functions u alone e) [ inl h ↦ never h | inr h ↦ inr (u, refl, h) ]
+  functions_learn probe (lazy.Read t) (lazy.Read u) stay alone e = elim (table_learns probe offset t u alone e) [
+    | inl h ↦ inl (table_detail offset t ∙ ap (λ n. has_detail (cached_detail t n)) (sym (first_same offset t.functions u.functions stay.functions)) ∙ h)
+    | inr h ↦ inr (u, refl, h)
+  ]
+  functions_learn probe (lazy.Faulty x) (lazy.Read u) stay alone e = absurd cc
+
+  -- a view whose functions are known can be read
+  answer_read : {X : Type 0} (r : Result X Error) (g : LazyFunctions R) → knows_detail offset (known_answer r g) ≡ true → (x : X) × (r ≡ Ok x)
+  answer_read (Ok x) g e = (x, refl)
+  answer_read (Err x) g e = never (sym (fault_has_none offset x) ∙ e)
+
+  view_read : (d : Sections) (u : UnitRecord) (s : ViewState R) (g : LazyFunctions R) → knows_detail offset (known_by s g) ≡ true → (x : View) × (verdict_in d u s ≡ Some (Some (Ok x)))
+  view_read d u states.Undecided g e = never e
+  view_read d u states.Open g e = never e
+  view_read d u states.Main g e = (_, refl)
+  view_read d u (states.Unnamed x) g e = never (sym (fault_has_none offset x) ∙ e)
+  view_read d u (states.Answered a) g e =
+      let x = answer_read a.unit g e in
+      (_, ap (λ r. Some (Some (unboxed r >>= λ y. Ok (view_by d u (seen_sections a) y)))) x.1)
+
+  -- of such a view what is known of the functions is what is known of them
+  same_answered : {X : Type 0} (r : Result X Error) (f g : LazyFunctions R) → knows_detail offset (known_answer r g) ≡ true → knows_detail offset (known_answer r f) ≡ knows_detail offset (known_functions f)
+  same_answered (Ok x) f g e = refl
+  same_answered (Err x) f g e = never (sym (fault_has_none offset x) ∙ e)
+
+  same_known : (s : ViewState R) (f g : LazyFunctions R) → knows_detail offset (known_by s g) ≡ true → knows_detail offset (known_by s f) ≡ knows_detail offset (known_functions f)
+  same_known states.Undecided f g e = never e
+  same_known states.Open f g e = never e
+  same_known states.Main f g e = refl
+  same_known (states.Unnamed x) f g e = never (sym (fault_has_none offset x) ∙ e)
+  same_known (states.Answered a) f g e = same_answered a.unit f g e
+
+-- a view that was decided was looked at
+looked_if_decided : {R : Type 0} (s : ViewState R) → is_decided s ≡ true → was_looked_at s ≡ true
+looked_if_decided states.Undecided e = never e
+looked_if_decided states.Open e = refl
+looked_if_decided states.Main e = refl
+looked_if_decided (states.Unnamed x) e = refl
+looked_if_decided (states.Answered a) e = refl
+
+decided_if_read : (decided read : Bool) → (decided ≡ false → read ≡ false) → read ≡ true → decided ≡ true
+decided_if_read true read h e = refl
+decided_if_read false read h e = never (sym (h refl) ∙ e)
+
+-- a unit that was asked
+module _ {R : Type 0} (scope : Scope) (u : UnitRecord) (probe offset : ℕ) (v w : UnitEntries R) (before : AreEntriesOf scope u v) (after : AreEntriesOf scope u w) (stay : StayEntries v w) where
+  -- the function at the probe by what is cached is that of the view
+  by_view : (x : View) → verdict scope.file.sections u (first_answer_of v) ≡ Some (Ok x) → (t : FunctionTable) → w.functions ≡ lazy.Read t → function_offset_at probe t.ranges ≡ Some offset → function_offset_in scope u (first_answer_of v) probe ≡ Some offset
+  unfolding function_offset_in
+  by_view x is t read at =
+      let there = subst (λ o. IfSome o (λ view. IfOk view (λ y. AreFunctionsOf (view_scope scope y) y.unit w.functions))) (ap (verdict scope.file.sections u) stay.answer ∙ is) after.functions in
+      let table = subst (AreFunctionsOf (view_scope scope x) x.unit) read there in
+      ap (function_offset_by scope probe) is ∙ ap (function_offset_among probe) table.ranges ∙ at
+
+  pub entries_learn : ReadsNoOther probe (cached_functions v.functions) (cached_functions w.functions) → knows_detail offset (known_by w.view.state w.functions) ≡ true
+      → (knows_detail offset (known_by v.view.state v.functions) ≡ true) ⊎ (function_offset_in scope u (first_answer_of v) probe ≡ Some offset)
+  entries_learn alone e =
+      elim (functions_learn offset probe v.functions w.functions stay.functions alone (sym (same_known offset w.view.state w.functions w.functions e) ∙ e)) [
+        | inl h ↦ inl (was_known h)
+        | inr h ↦ inr (by_view x.0 view_is h.0 h.1.0 h.1.1)
+      ]
+    where
+      x : (y : View) × (verdict_in scope.file.sections u w.view.state ≡ Some (Some (Ok y)))
+      x = view_read offset scope.file.sections u w.view.state w.functions e
+
+      view_is : verdict scope.file.sections u (first_answer_of v) ≡ Some (Ok x.0)
+      view_is = sym (ap (verdict scope.file.sections u) stay.answer) ∙ sym (subst (λ o. IfSome o (λ cached. cached ≡ verdict scope.file.sections u (first_answer_of w))) x.1 after.view.right)
+
+      was_known : knows_detail offset (known_functions v.functions) ≡ true → knows_detail offset (known_by v.view.state v.functions) ≡ true
+      was_known h =
+          let decided = decided_if_read (is_decided v.view.state) (were_read v.functions) before.unread (are_read offset v.functions h) in
+          let same = stay.view (looked_if_decided v.view.state decided) in
+          same_known offset v.view.state v.functions w.functions (ap (λ y. knows_detail offset (known_by y.state w.functions)) (sym same) ∙ e) ∙ h
+
+-- a unit that was answered, by which nothing is changed of its functions
+pub answered_learns : {R : Type 0} (scope : Scope) (u : UnitRecord) (offset : ℕ) (v w : UnitEntries R) → AreEntriesOf scope u v → w.functions ≡ v.functions → (is_decided v.view.state ≡ true → w ≡ v)
+    → knows_detail offset (known_by w.view.state w.functions) ≡ true → knows_detail offset (known_by v.view.state v.functions) ≡ true
+answered_learns scope u offset v w before functions same e =
+    let known = sym (same_known offset w.view.state w.functions w.functions e) ∙ e in
+    let read = are_read offset v.functions (ap (λ f. knows_detail offset (known_functions f)) (sym functions) ∙ known) in
+    let is = same (decided_if_read (is_decided v.view.state) (were_read v.functions) before.unread read) in
+    ap (λ y. knows_detail offset (known_by y.view.state y.functions)) (sym is) ∙ e
+
+-- what is known of the unit of a number, of which another is put in its place
+module _ {R : Type 0} (vs : List (UnitEntries R)) (n : ℕ) (v w : UnitEntries R) (within : n < length vs) (at : v ≡ get_or vs n v) (offset : ℕ) where
+  pub detail_set : (k : ℕ) → k ≡ n → knows_detail_at (known_in (set vs n w)) offset k ≡ knows_detail offset (known_by w.view.state w.functions)
+  detail_set k e =
+      ap (λ j. unwrap_or (option_map (knows_detail offset) (slice_get (known_in (set vs n w)) j)) false) e
+      ∙ ap (λ o. unwrap_or (option_map (knows_detail offset) o) false) (slice_get-map (λ x. known_by x.view.state x.functions) (set vs n w) n ∙ ap (option_map (λ x. known_by x.view.state x.functions)) (got_set vs n w within))
+
+  pub detail_at : (k : ℕ) → k ≡ n → knows_detail_at (known_in vs) offset k ≡ knows_detail offset (known_by v.view.state v.functions)
+  detail_at k e =
+      ap (λ j. unwrap_or (option_map (knows_detail offset) (slice_get (known_in vs) j)) false) e
+      ∙ ap (λ o. unwrap_or (option_map (knows_detail offset) o) false) (slice_get-map (λ x. known_by x.view.state x.functions) vs n ∙ ap (option_map (λ x. known_by x.view.state x.functions)) (slice_get_read vs (length vs) n v refl within at))
+
+-- what is known of a unit of which nothing is changed
+pub detail_unchanged : {R : Type 0} (old new : List (UnitEntries R)) (offset n : ℕ) → slice_get new n ≡ slice_get old n → knows_detail_at (known_in new) offset n ≡ true → knows_detail_at (known_in old) offset n ≡ true
+detail_unchanged old new offset n same e = ap (λ o. unwrap_or (option_map (knows_detail offset) o) false) (sym (known_unchanged old new n same)) ∙ e

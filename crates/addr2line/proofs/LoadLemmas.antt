@@ -95,6 +95,7 @@ module _ (ranges : List UnitRange) (u : UnitsState) (i : IsContext ranges u) whe
       known = of_made ranges u i (λ s xs rs. (probe n : ℕ) → is_open_at s.file.sections s.file.units u.answers n ≡ false → knows_at u.known probe n ≡ true → knows_at now.known probe n ≡ true) a.known;
       whole = of_made ranges u i (λ s xs rs. (kind : ReadingDepth) (n : ℕ) → is_open_at s.file.sections s.file.units u.answers n ≡ false → IsReadyAt kind u.known n → IsReadyAt kind now.known n) a.whole;
       only = of_made ranges u i (λ s xs rs. (n : ℕ) → (slice_get now.known n ≡ slice_get u.known n) ⊎ AreReadBefore reads s s.file.units u.answers n) a.only;
+      details = a.details;
       read = a.read;
       whole_known = a.whole_known;
       memory = λ known. a.memory (at_now ranges u i now (scope_same ranges u i now a.stays) (units_same ranges u i now a.stays) (λ s xs rs. AreReadyFor reads s s.file.units now.answers now.known) known);

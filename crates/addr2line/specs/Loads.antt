@@ -9,6 +9,7 @@ use Rattle.gimli_read.specs.Reading.{◌>>=◌}
 use Rattle.gimli.specs.Sections.{Sections}
 use Rattle.addr2line_units.specs.declared.frames_lookup.OnFault.{OnFault}
 use Rattle.addr2line_units.specs.declared.parses.ReadingDepth.{ReadingDepth}
+use Rattle.addr2line_units.specs.declared.parses.ReadingDepth.TheVariants as kinds
 use Rattle.addr2line_units.specs.Cover.{cover}
 use Rattle.addr2line_units.specs.FramesLookup.{answer_of, main_scope}
 use Rattle.addr2line_units.specs.FunctionParseLaws.{IsReached}
@@ -102,9 +103,10 @@ IsReadyToRead reads c = (m : UnitIndex) → index_units c.sections ≡ Ok m
     → AreReadyFor reads (main_scope c.sections m) (unit_records m.units) c.answers c.known
 
 -- after a parse of all functions open units are decided by none, up to the first fault; where
--- memory was refused, some of the first ones. What was known of the others stays. Unless memory was
--- refused all is known that the parse reads, and where it is, none was refused; where it was
--- before, nothing is changed of what is known and answered
+-- memory was refused, some of the first ones. What was known of the others stays, and where
+-- functions alone are read no detail becomes known. Unless memory was refused all is known that the
+-- parse reads, and where it is, none was refused; where it was before, nothing is changed of what
+-- is known and answered
 pub record AfterParse (reads : ReadingDepth) (result : Result (Unit {0}) Error)
     (old new : ContextState) : Type 0 where
   pub stays : StaysRead old new
@@ -121,6 +123,7 @@ pub record AfterParse (reads : ReadingDepth) (result : Result (Unit {0}) Error)
   pub only : (m : UnitIndex) → index_units old.sections ≡ Ok m → (n : ℕ)
       → (slice_get new.known n ≡ slice_get old.known n)
       ⊎ AreReadBefore reads (main_scope old.sections m) (unit_records m.units) old.answers n
+  pub details : reads ≡ kinds.Functions → LearnsNoDetails old.known new.known
   pub read : OnOk result (AreReadBy reads new)
   pub whole_known : AreReadBy reads old → result ≡ Ok tt
   pub ready : WasNotRefused result → IsReadyToRead reads new

@@ -57,6 +57,12 @@ pub function_is : (scope : Scope) (view : UnitRecord) (probe : ℕ) (r : Result 
 unfolding function_at
 function_is scope view probe r e = ap (λ x. x >>= λ functions. function_from scope view probe (function_offset_at probe functions)) e
 
+-- no detail is cached of functions that were not read
+pub unread_at : (fs : List CachedFunction) (n : ℕ) → AllByRecursion (λ (f : CachedFunction). f.detail ≡ None) fs → option_and_then (λ (f : CachedFunction). f.detail) (slice_get fs n) ≡ None
+unread_at [] n all = refl
+unread_at (f ∷ fs) zero all = all.0
+unread_at (f ∷ fs) (suc n) all = unread_at fs n all.1
+
 -- the first function of an offset is at the same place where the offsets are the same
 pub first_same : (offset : ℕ) (fs gs : List CachedFunction) → AllZip IsFunctionMore fs gs
     → position_or_len (λ (f : CachedFunction). f.offset == offset) gs ≡ position_or_len (λ (f : CachedFunction). f.offset == offset) fs
@@ -388,11 +394,6 @@ module _ {R : Type 0} (old mid : LazyFunctions R) (kept : were_read old ≡ true
       by_old lazy.Unread q = tt
       by_old (lazy.Read s) q = let is : lazy.Faulty e ≡ lazy.Read s = sym at ∙ kept (ap were_read q) ∙ q in absurd cc
       by_old (lazy.Faulty x) q = sym at ∙ kept (ap were_read q) ∙ q
-
-  unread_at : (fs : List CachedFunction) (n : ℕ) → AllByRecursion (λ (f : CachedFunction). f.detail ≡ None) fs → option_and_then (λ (f : CachedFunction). f.detail) (slice_get fs n) ≡ None
-  unread_at [] n all = refl
-  unread_at (f ∷ fs) zero all = all.0
-  unread_at (f ∷ fs) (suc n) all = unread_at fs n all.1
 
   -- no detail is cached where functions are read
   pub details_before : (t : FunctionTable) → (were_read old ≡ false → AreUnread (cached_functions mid)) → mid ≡ lazy.Read t → (n : ℕ) → cached_detail t n ≡ cached_detail (cached_functions old) n

@@ -13,6 +13,7 @@ use Rattle.gimli_read.specs.Reading.{◌>>=◌}
 use Rattle.gimli.specs.Sections.{Sections}
 use Rattle.gimli.specs.Unit.{UnitRecord}
 use Rattle.addr2line_lines.specs.Details.{Detail}
+use Rattle.addr2line_lines.specs.FunctionDetails.{AreUnread}
 use Rattle.addr2line_lines.specs.FunctionTable.{CachedFunction, FunctionTable, cached_detail, function_place_at}
 use Rattle.addr2line_lines.specs.Functions.{function_offset_at}
 use Rattle.addr2line_lines.specs.References.{Scope}
@@ -23,13 +24,14 @@ use Rattle.addr2line_units.specs.declared.unit_frames.UnitEntries.{UnitEntries}
 use Rattle.addr2line_units.specs.declared.view.ViewState.{ViewState}
 use Rattle.addr2line_units.specs.declared.view.ViewState.TheVariants as states
 use Rattle.addr2line_units.specs.CachedEntries.{AreEntriesOf, StayEntries, first_answer_of}
-use Rattle.addr2line_units.specs.CachedFunctions.{AreFunctionsOf, ReadsNoOther, StayFunctions, cached_functions, has_detail, is_cached_fault, no_functions, were_read}
+use Rattle.addr2line_units.specs.CachedFunctions.{AreFunctionsOf, ReadsNoDetail, ReadsNoOther, StayFunctions, cached_functions, has_detail, is_cached_fault, no_functions, were_read}
 use Rattle.addr2line_units.specs.CachedKnown.{known_answer, known_by, known_fault, known_function, known_functions, known_in, known_table}
 use Rattle.addr2line_units.specs.CachedViews.{cached_verdict, is_decided, seen_sections, unboxed, verdict_in, view_by, view_in, was_looked_at}
 use Rattle.addr2line_units.specs.KnownEntries.{AllKnown, KnownFunction, NothingKnown, is_detail_known, knows_detail, knows_detail_at}
 use Rattle.addr2line_units.specs.UnitFrames.{function_offset_among, function_offset_by, function_offset_in}
 use Rattle.addr2line_units.specs.Views.{View, verdict, view_scope}
-use Rattle.addr2line_units.proofs.CachedFunctionLemmas.{first_same}
+use Rattle.addr2line_units.proofs.AnswerLemmas.{others_stay}
+use Rattle.addr2line_units.proofs.CachedFunctionLemmas.{first_same, unread_at}
 use Rattle.addr2line_units.proofs.KnownLemmas.{known_unchanged}
 use Rattle.addr2line_units.proofs.KnownTableLemmas.{detail_known, find_known}
 use Rattle.addr2line_units.proofs.NumberedFrames.{got_set}
@@ -196,6 +198,33 @@ answered_learns scope u offset v w before functions same e =
     let is = same (decided_if_read (is_decided v.view.state) (were_read v.functions) before.unread read) in
     ap (λ y. knows_detail offset (known_by y.view.state y.functions)) (sym is) ∙ e
 
+-- functions that were read, or were before, without a detail
+pub cache_reads_none : {R : Type 0} (f g : LazyFunctions R) → (were_read f ≡ true → g ≡ f) → (were_read f ≡ false → AreUnread (cached_functions g)) → ReadsNoDetail (cached_functions f) (cached_functions g)
+cache_reads_none lazy.Unread g same unread n = unread_at (cached_functions g).functions n (unread refl)
+cache_reads_none (lazy.Read t) g same unread n = ap (λ x. cached_detail (cached_functions x) n) (same refl)
+cache_reads_none (lazy.Faulty e) g same unread n = ap (λ x. cached_detail (cached_functions x) n) (same refl)
+
+module _ {R : Type 0} (offset : ℕ) where
+  functions_keep : (f g : LazyFunctions R) → StayFunctions f g → ReadsNoDetail (cached_functions f) (cached_functions g) → knows_detail offset (known_functions g) ≡ true → knows_detail offset (known_functions f) ≡ true
+  functions_keep f lazy.Unread stay none e = never e
+  functions_keep f (lazy.Faulty x) stay none e = never (sym (fault_has_none offset x) ∙ e)
+  functions_keep lazy.Unread (lazy.Read u) stay none e = never (sym (ap has_detail (none (first_at offset u))) ∙ sym (table_detail offset u) ∙ e)
+  functions_keep (lazy.Read t) (lazy.Read u) stay none e =
+      table_detail offset t ∙ ap (λ n. has_detail (cached_detail t n)) (sym (first_same offset t.functions u.functions stay.functions))
+      ∙ sym (ap has_detail (none (first_at offset u))) ∙ sym (table_detail offset u) ∙ e
+  functions_keep (lazy.Faulty x) (lazy.Read u) stay none e = absurd cc
+
+-- a unit that was answered, of which functions were read then without a detail
+pub functions_learn_none : {R : Type 0} (scope : Scope) (u : UnitRecord) (offset : ℕ) (v w : UnitEntries R) (f : LazyFunctions R) → AreEntriesOf scope u v → w.functions ≡ v.functions → (is_decided v.view.state ≡ true → w ≡ v) → StayFunctions w.functions f
+    → ReadsNoDetail (cached_functions w.functions) (cached_functions f) → knows_detail offset (known_by w.view.state f) ≡ true → knows_detail offset (known_by v.view.state v.functions) ≡ true
+functions_learn_none scope u offset v w f before functions same stay none e =
+    answered_learns scope u offset v w before functions same
+    (same_known offset w.view.state w.functions f e ∙ functions_keep offset w.functions f stay none (sym (same_known offset w.view.state f f e) ∙ e))
+
+-- what is known of a unit of which nothing is changed
+pub detail_unchanged : {R : Type 0} (old new : List (UnitEntries R)) (offset n : ℕ) → slice_get new n ≡ slice_get old n → knows_detail_at (known_in new) offset n ≡ true → knows_detail_at (known_in old) offset n ≡ true
+detail_unchanged old new offset n same e = ap (λ o. unwrap_or (option_map (knows_detail offset) o) false) (sym (known_unchanged old new n same)) ∙ e
+
 -- what is known of the unit of a number, of which another is put in its place
 module _ {R : Type 0} (vs : List (UnitEntries R)) (n : ℕ) (v w : UnitEntries R) (within : n < length vs) (at : v ≡ get_or vs n v) (offset : ℕ) where
   pub detail_set : (k : ℕ) → k ≡ n → knows_detail_at (known_in (set vs n w)) offset k ≡ knows_detail offset (known_by w.view.state w.functions)
@@ -208,6 +237,9 @@ module _ {R : Type 0} (vs : List (UnitEntries R)) (n : ℕ) (v w : UnitEntries R
       ap (λ j. unwrap_or (option_map (knows_detail offset) (slice_get (known_in vs) j)) false) e
       ∙ ap (λ o. unwrap_or (option_map (knows_detail offset) o) false) (slice_get-map (λ x. known_by x.view.state x.functions) vs n ∙ ap (option_map (λ x. known_by x.view.state x.functions)) (slice_get_read vs (length vs) n v refl within at))
 
--- what is known of a unit of which nothing is changed
-pub detail_unchanged : {R : Type 0} (old new : List (UnitEntries R)) (offset n : ℕ) → slice_get new n ≡ slice_get old n → knows_detail_at (known_in new) offset n ≡ true → knows_detail_at (known_in old) offset n ≡ true
-detail_unchanged old new offset n same e = ap (λ o. unwrap_or (option_map (knows_detail offset) o) false) (sym (known_unchanged old new n same)) ∙ e
+  -- what becomes known of it alone becomes known
+  pub set_learns : (knows_detail offset (known_by w.view.state w.functions) ≡ true → knows_detail offset (known_by v.view.state v.functions) ≡ true) → (k : ℕ) → knows_detail_at (known_in (set vs n w)) offset k ≡ true → knows_detail_at (known_in vs) offset k ≡ true
+  set_learns none k e = elim (cases_eq k n) [
+    | inl is ↦ detail_at k is ∙ none (sym (detail_set k is) ∙ e)
+    | inr ne ↦ detail_unchanged vs (set vs n w) offset k (others_stay vs n k w ne) e
+  ]

@@ -1,8 +1,7 @@
 -- What is answered, loaded and forgotten of the unit of a number (on specs/AfterUnits.antt and
 -- specs/StoredUnits.antt).
-use Rattle.std.proofs.Common.{◌≡◌, ◌≢◌, ◌⊎◌, inl, inr, ℕ, ◌<◌, ◌≤◌, Bool, true, false, List, length, get_or, slice_get, Option, Some, None, Result, Ok, Err, refl, sym, ap, subst, ◌∙◌, arith}
+use Rattle.std.proofs.Common.{◌≡◌, inl, inr, ℕ, ◌<◌, ◌≤◌, Bool, true, false, List, length, get_or, slice_get, Option, Some, None, Result, Ok, Err, refl, sym, ap, subst, ◌∙◌, arith}
 use Rattle.std.proofs.Math.ListN.{set}
-use Rattle.std.proofs.lemmas.Bool.Decides.{eqb_tells}
 use Rattle.std.proofs.lemmas.Option.{get_or_from_slice_get, slice_get_within}
 use Rattle.std.specs.Prelude.{IfErr, OnOk, is_some}
 use Rattle.gimli_read.specs.declared.error.Error.{Error}
@@ -28,7 +27,7 @@ use Rattle.addr2line_units.specs.UnitsState.{UnitsState}
 use Rattle.addr2line_units.specs.Views.{decided_answer, is_open, verdict}
 use Rattle.addr2line_units.proofs.AnswerLemmas.{answer_at, answered_if_ok, answers_if_refused, answers_set, decided_there, others_stay, same_set}
 use Rattle.addr2line_units.proofs.CachedUnitLemmas.{as_many_entries, entries_at, entries_set}
-use Rattle.addr2line_units.proofs.LearnedLemmas.{answered_learns, detail_at, detail_set, detail_unchanged}
+use Rattle.addr2line_units.proofs.LearnedLemmas.{answered_learns, set_learns}
 use Rattle.addr2line_units.proofs.LoadLemmas.{as_many_answers, past_set, slice_get_none, this_unit, unknown_answer, unknown_load}
 use Rattle.addr2line_units.proofs.OpenLemmas.{not_open_there}
 use Rattle.addr2line_units.proofs.StateLemmas.{after_answer, after_forget, after_load}
@@ -130,13 +129,7 @@ module _ {R : Type 0} (scope : Scope) (units : List ResUnit) (held : List (UnitE
           new = seen_units scope units now looks FindsNothing
 
           no_details : w.functions ≡ v.functions → (is_decided v.view.state ≡ true → w ≡ v) → LearnsNoDetails (known_in held) (known_in now)
-          no_details functions same k offset e = elim (same_number k) [
-            | inl is ↦ detail_at held n v w in_entries at offset k is ∙ answered_learns scope u offset v w right_there functions same (sym (detail_set held n v w in_entries at offset k is) ∙ e)
-            | inr ne ↦ detail_unchanged held now offset k (others_stay held n k w ne) e
-          ]
-            where
-              same_number : (k : ℕ) → (k ≡ n) ⊎ (k ≢ n)
-              same_number k = elim (eqb_tells k n) [ inl p ↦ inl p.1 | inr q ↦ inr q.1 ]
+          no_details functions same k offset e = set_learns held n v w in_entries at offset (answered_learns scope u offset v w right_there functions same) k e
 
           pub answered_there : w.functions ≡ v.functions → (is_decided v.view.state ≡ true → w ≡ v) → (r : Result (Unit {0}) Error) → OnOk r (first_answer_of w ≡ decided_answer d u (first_answer_of v) given) → IfErr r (λ e. (e ≡ OutOfMemory) × StayEntries v w × (b ≡ true)) → (is_open d u (first_answer_of v) ≡ false → r ≡ Ok tt) → AfterAnswer n given r old new
           answered_there functions same r answer refused shut = after_answer scope units held i.entries now looks was n given r (λ h. some ∙ h)

@@ -20,6 +20,7 @@ use Rattle.addr2line_units.specs.declared.frames_lookup.FramesStop.{FramesStop}
 use Rattle.addr2line_units.specs.declared.frames_lookup.FramesStop.TheVariants as stops
 use Rattle.addr2line_units.specs.declared.index.UnitRange.{UnitRange}
 use Rattle.addr2line_units.specs.declared.parses.ReadingDepth.{ReadingDepth}
+use Rattle.addr2line_units.specs.declared.parses.ReadingDepth.TheVariants as kinds
 use Rattle.addr2line_units.specs.declared.unit.LazyLines.{LazyLines}
 use Rattle.addr2line_units.specs.declared.unit.LazyLines.TheVariants.{Faulty, Read, Unread}
 use Rattle.addr2line_units.specs.declared.unit.ResUnit.{ResUnit}
@@ -264,14 +265,15 @@ module _ {R : Type 0} (scope : Scope) (units : List ResUnit) (held : List (UnitE
     pub after_reading : (reads : ReadingDepth) (result : Result (Unit {0}) Error) → HaveEntriesOf scope us entries → (WasNotRefused result → answers_in entries ≡ answers_after_parse reads scope us (answers_in held)) → AreFirstDecided reads scope us (answers_in held) (answers_in entries)
         → StayDecided held entries → ChangesOnly (AreReadBefore reads scope us (answers_in held)) held entries → OnOk result (HaveRead reads entries) → (HaveRead reads held → result ≡ Ok tt)
         → (WasNotRefused result → AreReadyUnits reads scope us (answers_in held) entries) → (AreReadyUnits reads scope us (answers_in entries) entries → WasNotRefused result) → (AreReadyUnits reads scope us (answers_in held) held → result ≡ read_of_units reads scope us (answers_in held))
-        → (AreReadyUnits reads scope us (answers_in held) held → entries ≡ held) → AfterReading reads result old new
-    after_reading reads result right answers begun stay only read whole ready memory exact unchanged = record {
+        → (AreReadyUnits reads scope us (answers_in held) held → entries ≡ held) → (reads ≡ kinds.Functions → LearnsNoDetails (known_in held) (known_in entries)) → AfterReading reads result old new
+    after_reading reads result right answers begun stay only read whole ready memory exact unchanged details = record {
       stays = refl;
       answers = answers;
       begun = begun;
       known = λ probe n shut k. known_is probe entries n ∙ decided_more scope probe us held entries n own stay shut (sym (known_is probe held n) ∙ k);
       whole = λ kind n shut k. whole_decided kind scope us held entries n own stay shut k;
       only = λ n. elim (only n) [ inl k ↦ inl (known_unchanged held entries n k) | inr q ↦ inr q ];
+      details = details;
       read = read_after reads result entries read;
       whole_known = λ all. whole (read_before reads held all);
       ready = λ told. ready_after reads scope us (answers_in held) entries right (answers told) (ready told);

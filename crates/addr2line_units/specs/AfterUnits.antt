@@ -157,7 +157,8 @@ pub record AfterListing (old new : UnitsState) : Type 0 where
   pub known : StaysKnown old.known new.known
 
 -- after a parse of all functions open units are decided by none, up to the first fault; where
--- memory was refused, some of the first ones. What was known of the others stays. Unless memory was
+-- memory was refused, some of the first ones. What was known of the others stays, and where functions
+-- alone are read no detail becomes known. Unless memory was
 -- refused all is known that the parse reads, and where it is, none was refused; where it was
 -- before, nothing is changed of what is known and answered
 pub record AfterReading (reads : ReadingDepth) (result : Result (Unit {0}) Error)
@@ -174,6 +175,7 @@ pub record AfterReading (reads : ReadingDepth) (result : Result (Unit {0}) Error
       → IsReadyAt kind old.known n → IsReadyAt kind new.known n
   pub only : (n : ℕ) → (slice_get new.known n ≡ slice_get old.known n)
       ⊎ AreReadBefore reads old.scope old.scope.file.units old.answers n
+  pub details : reads ≡ kinds.Functions → LearnsNoDetails old.known new.known
   pub read : OnOk result (AllByRecursion (IsReadBy reads) new.known)
   pub whole_known : AllByRecursion (IsReadBy reads) old.known → result ≡ Ok tt
   pub ready : WasNotRefused result

@@ -61,6 +61,10 @@ abbrev pub ReadsNoOther : ℕ → FunctionTable → FunctionTable → Type 0
 ReadsNoOther probe old new =
     (n : ℕ) → function_place_at probe new ≢ Some n → cached_detail new n ≡ cached_detail old n
 
+-- no detail is read
+abbrev pub ReadsNoDetail : FunctionTable → FunctionTable → Type 0
+ReadsNoDetail old new = (n : ℕ) → cached_detail new n ≡ cached_detail old n
+
 -- a place is that of a function, and those of its inlined functions are of inlined entries
 pub record ArePlacesIn (t : FunctionTable) (p : FunctionPlace) : Type 0 where
   pub function : p.place < length t.functions

@@ -10,11 +10,12 @@ ghost use Rattle.addr2line_units.specs.AskMemory.{functions_in_take_memory};
 ghost use Rattle.addr2line_units.specs.FramesLookup.{with_answer};
 ghost use Rattle.addr2line_units.specs.FunctionParses.{AreFirstDecided, AreReadBefore, IsReadyFor, ReadsNoMemory, answers_after_parse, parse_of_takes_memory, parse_takes_memory, read_of_functions, read_of_number, read_of_unit, read_of_units, read_of_view};
 ghost use Rattle.addr2line_units.specs.CachedEntries.{AreEntriesOf, StayEntries, first_answer_of};
-ghost use Rattle.addr2line_units.specs.CachedFunctions.{AreFunctionsOf, StayFunctions};
+ghost use Rattle.addr2line_units.specs.CachedFunctions.{AreFunctionsOf, ReadsNoDetail, StayFunctions, cached_functions};
 ghost use Rattle.addr2line_units.specs.CachedUnits.{HaveEntriesOf, answers_in};
 ghost use Rattle.addr2line_units.specs.CachedParses.{AreReadyUnits, ChangesOnly, HasRead, HaveFunctions, HaveRead, IsReadyUnit, StayDecided};
 ghost use Rattle.addr2line_units.specs.CachedViews.{is_decided, seen_first_answer};
 ghost use Rattle.addr2line_units.specs.CachedKnown.{known_by, known_functions, known_in};
+ghost use Rattle.addr2line_units.specs.KnownEntries.{LearnsNoDetails, knows_detail};
 ghost use Rattle.gimli_read.specs.Alike.{WasNotRefused};
 ghost use Rattle.addr2line_units.specs.AfterUnits.{AfterReading};
 ghost use Rattle.addr2line_units.specs.Views.{decided_answer, verdict};
@@ -65,6 +66,7 @@ impl<R: Reader> LazyFunctions<R> {
         ensures exact { IsReadyFor Functions (known_functions self.old)
             → result ≡ read_of_functions Functions (seen_scope scope.entry) view.now }
         ensures same { IsReadyFor Functions (known_functions self.old) → self.new ≡ self.old }
+        ensures details { ReadsNoDetail (cached_functions self.old) (cached_functions self.new) }
     {
         self.cache(alloc, scope, view)?;
         match self {
@@ -98,6 +100,8 @@ impl<R: Reader> LazyFunctions<R> {
         ensures exact { IsReadyFor reads (known_functions self.old)
             → result ≡ read_of_functions reads (seen_scope scope.entry) view.now }
         ensures same { IsReadyFor reads (known_functions self.old) → self.new ≡ self.old }
+        ensures details { reads ≡ Functions
+            → ReadsNoDetail (cached_functions self.old) (cached_functions self.new) }
     {
         match reads {
             ReadingDepth::Functions => self.read_alone(alloc, scope, view),
@@ -141,6 +145,8 @@ fn read_in_view<'x, R: Reader>(
         (verdict scope.entry.file.dwarf.now dw_unit.now (seen_first_answer view.now)) }
     ensures same { IsReadyFor reads (known_by view.now.state functions.old)
         → functions.new ≡ functions.old }
+    ensures details { reads ≡ Functions
+        → ReadsNoDetail (cached_functions functions.old) (cached_functions functions.new) }
 {
     let unit = view.unit_ref(scope.file.dwarf, dw_unit)?;
     functions.read(alloc, view.scope_of(scope), unit.unit, reads)
@@ -183,6 +189,9 @@ impl<R: Reader> UnitEntries<R> {
         ensures exact { IsReadyUnit reads self.old → result ≡ read_of_unit reads
             (seen_scope scope.entry) dw_unit.now (first_answer_of self.old) }
         ensures same { IsReadyUnit reads self.old → self.new ≡ self.old }
+        ensures details { reads ≡ Functions → (offset : ℕ)
+            → knows_detail offset (known_by self.new.view.state self.new.functions) ≡ true
+            → knows_detail offset (known_by self.old.view.state self.old.functions) ≡ true }
     {
         self.answer(alloc, scope, dw_unit, None)?;
         let UnitEntries { view, functions } = self;
@@ -230,6 +239,8 @@ fn read_functions_in<R: Reader>(
         (answers_in entries.old.items) number }
     ensures same { IfSome (slice_get entries.old.items number) (IsReadyUnit reads)
         → entries.new.items ≡ entries.old.items }
+    ensures details { reads ≡ Functions
+        → LearnsNoDetails (known_in entries.old.items) (known_in entries.new.items) }
 {
     let Some(dw_unit) = scope.file.units.get(number) else {
         return Ok(());
@@ -280,6 +291,8 @@ fn read_all_functions<R: Reader>(
     ensures same { AreReadyUnits reads (seen_scope scope.entry) scope.entry.file.units.now
         (answers_in entries.old.items) entries.old.items
         → entries.new.items ≡ entries.old.items }
+    ensures details { reads ≡ Functions
+        → LearnsNoDetails (known_in entries.old.items) (known_in entries.new.items) }
 {
     let count = entries.len();
     for number in 0..count {

@@ -23,6 +23,7 @@ loop-number-init g c =
       stay = decided_same c.args.entries.now.items;
       read = λ n h. absurd (omega arith);
       same = λ _. refl;
+      details = λ _ n offset e. e;
       behind = λ n h. refl;
     }
 
@@ -134,6 +135,7 @@ loop-number-preserved g c =
       stay = decided_over vs mid new i.stay step.stay;
       read = subst (λ m. (n : ℕ) → n < m → IfSome (slice_get new n) (HasRead c.args.reads)) one (read_more c.args.reads mid new k i.read step.only step.read);
       same = λ ready. step.same (subst (λ o. IfSome o (IsReadyUnit c.args.reads)) (sym (i.behind k (omega arith))) (ready k i.before)) ∙ i.same ready;
+      details = λ is n offset e. i.details is n offset (step.details is n offset e);
       behind = subst (λ m. (n : ℕ) → m ≤ n → slice_get new n ≡ slice_get vs n) one (behind_more vs mid new k i.behind step.only);
     }
 
@@ -293,3 +295,9 @@ returns-in_err-read_functions_in-clause-no_memory g c =
     ] in
     let at = sym (number_behind c.args.reads scope us (answers_in vs) k) ∙ ap (λ a. read_of_number c.args.reads scope us a k) (sym i.answers) ∙ fault in
     read_stop c.args.reads scope us (answers_in vs) k _ many i.before at)
+
+pub returns-in_err-read_functions_in-clause-details : goal.returns-in_err-read_functions_in-clause-details
+returns-in_err-read_functions_in-clause-details g c = λ is. λ n offset e. c.loop-number.invariant.details is n offset (c.in_err-read_functions_in.ensures.details is n offset e)
+
+pub returns-clause-details : goal.returns-clause-details
+returns-clause-details g c = c.loop-number.invariant.details

@@ -6,6 +6,7 @@ use Rattle.addr2line_lines.specs.SeenScope.{seen_scope}
 use Rattle.addr2line_units.proofs.AnswerLemmas.{answered_all, answers_stay}
 use Rattle.addr2line_units.proofs.CachedUnitLemmas.{as_many_entries, entries_at, entries_set}
 use Rattle.addr2line_units.proofs.CachedParseLemmas.{changes_set, decided_same, decided_set, number_is, read_entry, read_set, takes_of_set}
+use Rattle.addr2line_units.proofs.LearnedLemmas.{set_learns}
 use Rattle.addr2line_units.proofs.NumberedFrames.{none_past}
 use Rattle.addr2line_units.proofs.ReadyLemmas.{ready_entry, ready_set, ready_was_set, same_set}
 use Rattle.addr2line_units.proofs.parses.read_functions_in.Goals as goal
@@ -176,3 +177,7 @@ returns-clause-no_memory g c = λ none.
     let h : n < length us = subst (λ m. n < m) (sym (as_many_entries scope us vs c.requires.right)) c.requires.there in
     subst (λ given. IfErr c.read.result (λ x. given ≡ Err x)) (sym (number_is c.args.reads scope us vs n u v h c.requires.there e c.index_mut-entries.ensures.value))
     (c.read.ensures.no_memory (sym (takes_of_set g.R.Reader.shares scope us vs n u c.read.new.self h c.requires.there e) ∙ none))
+
+pub returns-clause-details : goal.returns-clause-details
+returns-clause-details g c = λ is. λ n offset.
+    set_learns c.args.entries.now.items c.args.number c.index_mut-entries.result.now c.read.new.self c.requires.there c.index_mut-entries.ensures.value offset (c.read.ensures.details is offset) n

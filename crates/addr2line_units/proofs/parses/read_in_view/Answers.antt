@@ -159,3 +159,6 @@ returns-clause-no_memory g c = λ none.
     let v = view_known scope u 0 old c.requires.right c.requires.decided c.in_ok-unit.unit.dwarf.now x inner c.in_ok-unit.ensures.gives (c.scope_of.ensures.gives scope.file.sections u c.requires.right.view) in
     subst (λ given. IfErr c.read.result (λ e. given ≡ Err e)) (sym (ap (read_of_view c.args.reads scope) v.is ∙ view_read c.args.reads scope v.view inner x v.unit v.leads))
     (c.read.ensures.no_memory (functions_take_in scope u 0 old c.requires.right c.requires.decided inner x v g.R.Reader.shares none))
+
+pub returns-in_err-unit-clause-details : goal.returns-in_err-unit-clause-details
+returns-in_err-unit-clause-details g c = λ _. λ n. refl

@@ -2,6 +2,7 @@ use Rattle.std.proofs.Common.{Err, OnOk, ◌≡◌, ◌∙◌, ap, subst, sym}
 use Rattle.std.specs.Prelude.{IfErr}
 use Rattle.gimli_read.specs.Reading.{ExactlyUnlessOom}
 use Rattle.addr2line_lines.specs.SeenScope.{seen_scope}
+use Rattle.addr2line_units.specs.declared.parses.ReadingDepth.TheVariants.{Details, Functions}
 use Rattle.addr2line_units.specs.FunctionParses.{IsReadyFor, read_of_functions}
 use Rattle.addr2line_units.specs.CachedParses.{HaveFunctions}
 use Rattle.addr2line_units.specs.CachedFunctions.{functions_fault, reading_takes_memory}
@@ -78,3 +79,9 @@ returns-in-Details-clause-no_memory g c = λ none.
 pub returns-in-Functions-clause-no_memory : goal.returns-in-Functions-clause-no_memory
 returns-in-Functions-clause-no_memory g c = λ none.
     subst (λ r. IfErr c.read_alone.result (λ e. read_of_functions r (seen_scope c.args.scope) c.args.view.now ≡ Err e)) (sym c.in-Functions.is) (c.read_alone.ensures.no_memory none)
+
+pub returns-in-Functions-clause-details : goal.returns-in-Functions-clause-details
+returns-in-Functions-clause-details g c = λ _. c.read_alone.ensures.details
+
+pub returns-in-Details-clause-details : goal.returns-in-Details-clause-details
+returns-in-Details-clause-details g c = λ is. absurd (let no : Details ≡ Functions = sym c.in-Details.is ∙ is in cc)

@@ -2,7 +2,9 @@ use Rattle.std.proofs.Common.{ap, subst, sym, ◌∙◌}
 use Rattle.std.proofs.lemmas.Result.{err_from_is_err_and}
 use Rattle.addr2line_lines.specs.SeenScope.{seen_scope}
 use Rattle.addr2line_units.specs.declared.parses.ReadingDepth.TheVariants.{Functions}
-use Rattle.addr2line_units.specs.CachedFunctions.{AreFunctionsOf, StayFunctions, were_read}
+use Rattle.addr2line_units.specs.CachedFunctions.{AreFunctionsOf, ReadsNoDetail, StayFunctions, cached_functions, were_read}
+use Rattle.addr2line_lines.specs.FunctionTable.{cached_detail}
+use Rattle.addr2line_units.proofs.LearnedLemmas.{cache_reads_none}
 use Rattle.addr2line_units.proofs.CachedParseLemmas.{alone_fault, cached_stay, have_no_fault, have_were_read}
 use Rattle.addr2line_units.proofs.ReadyLemmas.{known_not_oom, ready_fault, ready_same, ready_were_read}
 use Rattle.addr2line_units.proofs.functions.LazyFunctions.read_alone.Goals as goal
@@ -59,3 +61,15 @@ returns-in-Faulty-clause-no_memory g c = λ _.
     let scope = seen_scope c.args.scope in
     let view = c.args.view.now in
     alone_fault scope view c.in-Faulty.error (subst (λ x. AreFunctionsOf scope view x) c.in-Faulty.is c.cache.ensures.right)
+
+pub returns-in_err-cache-clause-details : goal.returns-in_err-cache-clause-details
+returns-in_err-cache-clause-details g c = λ n. ap (λ f. cached_detail (cached_functions f) n) c.in_err-cache.ensures.refused.1
+
+pub returns-in-Read-clause-details : goal.returns-in-Read-clause-details
+returns-in-Read-clause-details g c =
+    cache_reads_none c.args.self.now c.cache.new.self (λ read. (c.cache.ensures.kept read).0) c.cache.ensures.unread
+
+pub returns-in-Faulty-clause-details : goal.returns-in-Faulty-clause-details
+returns-in-Faulty-clause-details g c =
+    subst (λ f. ReadsNoDetail (cached_functions c.args.self.now) (cached_functions f)) c.in-Faulty.is
+    (cache_reads_none c.args.self.now c.cache.new.self (λ read. (c.cache.ensures.kept read).0) c.cache.ensures.unread)

@@ -13,6 +13,7 @@ use Rattle.addr2line_units.proofs.AnswerLemmas.{decided_if_not}
 use Rattle.addr2line_units.proofs.CachedUnitLemmas.{entries_same}
 use Rattle.addr2line_units.proofs.EntryLemmas.{not_open}
 use Rattle.addr2line_units.proofs.CachedParseLemmas.{entries_then, read_decided}
+use Rattle.addr2line_units.proofs.LearnedLemmas.{answered_learns, functions_learn_none}
 use Rattle.addr2line_units.proofs.unit_frames.UnitEntries.read.Goals as goal
 
 pub returns-in_err-answer-clause-stay : goal.returns-in_err-answer-clause-stay
@@ -83,3 +84,11 @@ returns-clause-no_memory g c = λ none.
     let same = decided_if_not scope.file.sections u (first_answer_of mid) None (not_open scope u 0 mid c.answer.ensures.right c.in_ok-answer.ensures.decided) in
     subst (λ a. IfErr c.read_in_view.result (λ e. read_of_view c.args.reads scope (verdict scope.file.sections u a) ≡ Err e)) c.in_ok-answer.ensures.answer
     (c.read_in_view.ensures.no_memory (subst (λ a. functions_in_take_memory g.R.Reader.shares scope u a ≡ false) same none))
+
+pub returns-in_err-answer-clause-details : goal.returns-in_err-answer-clause-details
+returns-in_err-answer-clause-details g c = λ _. λ offset. answered_learns (seen_scope c.args.scope) c.args.dw_unit.now offset c.args.self.now c.answer.new.self c.requires.right
+    c.in_err-answer.ensures.functions (λ h. (c.in_err-answer.ensures.same h).0)
+
+pub returns-clause-details : goal.returns-clause-details
+returns-clause-details g c = λ is. λ offset. functions_learn_none (seen_scope c.args.scope) c.args.dw_unit.now offset c.args.self.now c.answer.new.self c.read_in_view.new.functions c.requires.right
+    c.answer.ensures.functions (λ h. (c.answer.ensures.same h).0) c.read_in_view.ensures.stay (c.read_in_view.ensures.details is)

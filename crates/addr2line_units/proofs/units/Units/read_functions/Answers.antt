@@ -43,7 +43,7 @@ returns-clause-after g c =
     let was = seen_stop s.units.items s.entries.items s.stop in
     let kept = subst (λ S. HaveEntriesOf S S.file.units s.entries.items) (sym c.scope-scope.ensures.gives) c.self.invariant.entries in
     rw (sym c.self.view_is) (subst (λ S. AfterReading c.args.reads c.read_all_functions.result (seen_units S s.units.items s.entries.items s.looks was) (seen_units S s.units.items new s.looks FindsNothing)) c.scope-scope.ensures.gives
-    (after_reading scope s.units.items s.entries.items kept new s.looks was c.args.reads c.read_all_functions.result e.right e.answers e.begun e.stay e.only e.read e.memory e.ready_for_all e.had_memory e.exact e.same))
+    (after_reading scope s.units.items s.entries.items kept new s.looks was c.args.reads c.read_all_functions.result e.right e.answers e.begun e.stay e.only e.read e.memory e.ready_for_all e.had_memory e.exact e.same e.details))
 
 pub returns-clause-no_memory : goal.returns-clause-no_memory
 returns-clause-no_memory g c =

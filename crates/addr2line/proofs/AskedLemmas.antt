@@ -1,31 +1,35 @@
 -- What was asked for by a lookup that waits is asked for after an answer (on
--- specs/LoadsByFiles.antt).
-use Rattle.std.proofs.Common.{◌≡◌, ◌≢◌, ◌⊎◌, inl, inr, ℕ, Bool, true, false, ◌&&◌, not, List, [], ◌∷◌, slice_get, Option, Some, None, Result, Ok, Err, refl, sym, ap, subst, ◌∙◌}
+-- specs/AfterLookups.antt).
+use Rattle.std.proofs.Common.{◌≡◌, ◌≢◌, ◌⊎◌, inl, inr, ℕ, Bool, true, false, ◌&&◌, not, List, [], ◌∷◌, slice_get, Option, Some, None, option_map, Result, Ok, Err, refl, sym, ap, subst, ◌∙◌}
 use Rattle.std.proofs.lemmas.Bool.Decides.{eqb_tells}
-use Rattle.std.specs.Prelude.{is_none, is_ok}
+use Rattle.std.proofs.lemmas.Option.{slice_get-map}
+use Rattle.std.proofs.Math.ListN.{set}
+use Rattle.std.specs.Prelude.{is_none, is_ok, unwrap_or}
 use Rattle.gimli_read.specs.declared.error.Error.{Error}
 use Rattle.gimli_read.specs.Reading.{◌>>=◌}
 use Rattle.gimli.specs.Sections.{Sections}
 use Rattle.gimli.specs.Unit.{UnitRecord}
 use Rattle.addr2line_lines.specs.References.{Scope}
-use Rattle.addr2line_units.specs.declared.frames_lookup.OnFault.TheVariants.{End}
+use Rattle.addr2line_units.specs.declared.frames_lookup.OnFault.{OnFault}
 use Rattle.addr2line_units.specs.declared.index.UnitRange.{UnitRange}
 use Rattle.addr2line_units.specs.Cover.{cover}
-use Rattle.addr2line_units.specs.FramesLookup.{LookupAsks, Stop, Waits, answer_of, asked_frames, asks_lines_of, ends_lookup, function_offset_of, main_scope, or_stop, stop_along, with_answer}
+use Rattle.addr2line_units.specs.FramesLookup.{LookupAsks, Stop, Waits, after_fault, answer_of, asked_frames, asks_lines_of, ends_lookup, function_offset_of, main_scope, or_stop, stop_along, with_answer}
 use Rattle.addr2line_units.specs.KnownEntries.{KnownEntries, LearnsDetailsAt, LearnsNoDetails}
 use Rattle.addr2line_units.specs.Parsed.{ParsesOnly, has_parsed}
-use Rattle.addr2line_units.specs.UnitFrames.{FramesResult, asks_lines_in, function_in, function_offset_by, function_offset_in}
+use Rattle.addr2line_units.specs.Loads.{is_open_at}
+use Rattle.addr2line_units.specs.UnitFrames.{FramesResult, asks_lines_in, frames_in, function_in, function_offset_by, function_offset_in}
 use Rattle.addr2line_units.specs.UnitIndex.{UnitIndex, index_units}
 use Rattle.addr2line_units.specs.RangedUnits.{IndexedUnit, unit_records}
-use Rattle.addr2line_units.specs.Views.{FirstAnswers, SplitLoad, View, is_open, verdict}
+use Rattle.addr2line_units.specs.Views.{FirstAnswers, View, decided_answer, is_open, verdict}
+use Rattle.addr2line_units.proofs.AnswerLemmas.{others_stay}
 use Rattle.addr2line_units.proofs.FramesLookupLemmas.{parses_more}
+use Rattle.addr2line_units.proofs.LoadLawLemmas.{waits_listed}
 use Rattle.addr2line_units.proofs.WaitLemmas.{same_number}
-use Rattle.addr2line.proofs.FilesLookupLemmas.{Awaits, awaits_in, other_now, same_asked}
+use Rattle.addr2line.proofs.FilesLookupLemmas.{none_if_open}
 use Rattle.addr2line.specs.Answers.{AfterAnswer, answered}
 use Rattle.addr2line.specs.Context.{ContextState}
-use Rattle.addr2line.specs.LoadsByFiles.{ReadsAsked}
-use Rattle.addr2line.specs.AfterLookups.{AfterFrames}
-use Rattle.addr2line.specs.Lookups.{IsLoadOf, asked_of, lookup_stop, stop_in}
+use Rattle.addr2line.specs.AfterLookups.{AfterFrames, ReadsAsked}
+use Rattle.addr2line.specs.Lookups.{asked_of, lookup_stop, stop_in}
 
 -- what ends no lookup is no unit that waits
 never_waits : (x : FramesResult) → ends_lookup x ≡ false → x ≢ Ok None
@@ -56,17 +60,55 @@ asks_waiting f n (r ∷ ranges) e = step (f r.unit) (stop_along f ranges) e (ask
     step (Ok (Some (x ∷ xs))) rest w later = absurd cc
     step (Err e) rest w later = absurd cc
 
--- among units, of which one waits for a load
-module _ (scope : Scope) (units : List IndexedUnit) (answers : FirstAnswers) (n : ℕ) (load : SplitLoad) (w : Awaits scope.file.sections units answers n load) (given : Option Sections) (probe : ℕ) where
+-- the unit of a number that waits for an answer
+record IsOpenThere (d : Sections) (units : List IndexedUnit) (answers : FirstAnswers) (n : ℕ) : Type 0 where
+  pub unit : IndexedUnit
+  pub there : slice_get units n ≡ Some unit
+  pub open_is : is_open d unit.unit (answer_of answers n) ≡ true
+
+open_there : (d : Sections) (units : List IndexedUnit) (answers : FirstAnswers) (n : ℕ) → is_open_at d (unit_records units) answers n ≡ true → IsOpenThere d units answers n
+open_there d units answers n o = by (slice_get units n) refl (subst (λ x. elim x [ None ↦ false | Some u ↦ is_open d u (answer_of answers n) ] ≡ true) (slice_get-map (λ (u : IndexedUnit). u.unit) units n) o)
+  where
+    by : (x : Option IndexedUnit) → slice_get units n ≡ x → elim (option_map (λ (u : IndexedUnit). u.unit) x) [ None ↦ false | Some u ↦ is_open d u (answer_of answers n) ] ≡ true → IsOpenThere d units answers n
+    by None e p = absurd cc
+    by (Some u) e p = record { unit = u; there = e; open_is = p }
+
+-- the first answers of other units stay
+other_answers : (d : Sections) (us : List UnitRecord) (answers : FirstAnswers) (n : ℕ) (given : Option Sections) (k : ℕ) → k ≢ n → answer_of (with_answer d us answers n given) k ≡ answer_of answers k
+other_answers d us answers n given k ne = by (slice_get us n)
+  where
+    by : (o : Option UnitRecord) → answer_of (elim o [ None ↦ answers | Some u ↦ set answers n (decided_answer d u (answer_of answers n) given) ]) k ≡ answer_of answers k
+    by None = refl
+    by (Some u) = ap (λ o. unwrap_or o None) (others_stay answers n k _ ne)
+
+-- among units, of which one waits for an answer
+module _ (faults : OnFault) (scope : Scope) (units : List IndexedUnit) (answers : FirstAnswers) (n : ℕ) (w : IsOpenThere scope.file.sections units answers n) (given : Option Sections) (probe : ℕ) where
   abbrev now : FirstAnswers
   now = with_answer scope.file.sections (unit_records units) answers n given
 
-  still_asked : (ranges : List UnitRange) (k : ℕ) → LookupAsks (asked_frames End scope units answers probe) ranges k → LookupAsks (asked_frames End scope units now probe) ranges k
+  other_now : (k : ℕ) → k ≢ n → answer_of now k ≡ answer_of answers k
+  other_now = other_answers scope.file.sections (unit_records units) answers n given
+
+  -- a unit that doesn't wait is asked for the same
+  same_asked : (k : ℕ) → asked_frames faults scope units answers probe k ≢ Ok None → asked_frames faults scope units now probe k ≡ asked_frames faults scope units answers probe k
+  same_asked k ne = elim (eqb_tells k n) [
+    | inl p ↦ absurd (ne (waits_at k p.1))
+    | inr q ↦ ap (λ a. after_fault faults (frames_by a (slice_get units k))) (other_now k q.1)
+  ]
+    where
+      frames_by : Option (Option Sections) → Option IndexedUnit → FramesResult
+      frames_by a o = elim o [ None ↦ Ok (Some []) | Some u ↦ frames_in scope u a probe ]
+
+      waits_at : (j : ℕ) → j ≡ n → asked_frames faults scope units answers probe j ≡ Ok None
+      waits_at j q = subst (λ i. asked_frames faults scope units answers probe i ≡ Ok None) (sym q)
+          (ap (after_fault faults) (ap (frames_by (answer_of answers n)) w.there ∙ none_if_open scope w.unit (answer_of answers n) probe w.open_is))
+
+  still_asked : (ranges : List UnitRange) (k : ℕ) → LookupAsks (asked_frames faults scope units answers probe) ranges k → LookupAsks (asked_frames faults scope units now probe) ranges k
   still_asked [] k asked = absurd asked
   still_asked (r ∷ ranges) k asked = elim asked [
     | inl e ↦ inl e
     | inr more ↦ inr (
-      ap ends_lookup (same_asked (λ l. Ok None) scope units answers n load w given probe r.unit (never_waits (asked_frames End scope units answers probe r.unit) more.0)) ∙ more.0,
+      ap ends_lookup (same_asked r.unit (never_waits (asked_frames faults scope units answers probe r.unit) more.0)) ∙ more.0,
       still_asked ranges k more.1,
     )
   ]
@@ -74,7 +116,7 @@ module _ (scope : Scope) (units : List IndexedUnit) (answers : FirstAnswers) (n 
   still_lines : (k : ℕ) → asks_lines_of scope units answers probe k ≡ true → asks_lines_of scope units now probe k ≡ true
   still_lines k e = elim (eqb_tells k n) [
     | inl p ↦ absurd (not_here k p.1 e)
-    | inr q ↦ ap (λ a. lines_by a (slice_get units k)) (other_now (λ l. Ok None) scope units answers n load w given k q.1) ∙ e
+    | inr q ↦ ap (λ a. lines_by a (slice_get units k)) (other_now k q.1) ∙ e
   ]
     where
       lines_by : Option (Option Sections) → Option IndexedUnit → Bool
@@ -89,7 +131,7 @@ module _ (scope : Scope) (units : List IndexedUnit) (answers : FirstAnswers) (n 
   still_there : (k offset : ℕ) → function_offset_of scope units answers probe k ≡ Some offset → function_offset_of scope units now probe k ≡ Some offset
   still_there k offset e = elim (eqb_tells k n) [
     | inl p ↦ absurd (not_here k p.1 e)
-    | inr q ↦ ap (λ a. offset_by a (slice_get units k)) (other_now (λ l. Ok None) scope units answers n load w given k q.1) ∙ e
+    | inr q ↦ ap (λ a. offset_by a (slice_get units k)) (other_now k q.1) ∙ e
   ]
     where
       offset_by : Option (Option Sections) → Option IndexedUnit → Option ℕ
@@ -102,9 +144,9 @@ module _ (scope : Scope) (units : List IndexedUnit) (answers : FirstAnswers) (n 
           cc
 
 -- what is read along a lookup of the probe, by sections and first answers
-module _ (probe : ℕ) where
+module _ (faults : OnFault) (probe : ℕ) where
   abbrev Asks : Sections → FirstAnswers → UnitIndex → ℕ → Type 0
-  Asks d answers m k = LookupAsks (asked_of End d answers probe m) (cover probe m.ranges) k
+  Asks d answers m k = LookupAsks (asked_of faults d answers probe m) (cover probe m.ranges) k
 
   abbrev AsksLines : Sections → FirstAnswers → UnitIndex → ℕ → Type 0
   AsksLines d answers m k = Asks d answers m k × (asks_lines_of (main_scope d m) m.units answers probe k ≡ true)
@@ -118,18 +160,18 @@ module _ (probe : ℕ) where
   abbrev DetailsBy : Sections → FirstAnswers → List KnownEntries → List KnownEntries → Type 0
   DetailsBy d answers old new = (m : UnitIndex) → index_units d ≡ Ok m → LearnsDetailsAt (function_offset_of (main_scope d m) m.units answers probe) old new
 
-  reads_by : (d : Sections) (answers : FirstAnswers) (old new : ContextState) → new.sections ≡ d → new.answers ≡ answers → LinesBy d answers old.parsed new.parsed → EntriesBy d answers old.known new.known → DetailsBy d answers old.known new.known → ReadsAsked probe old new
+  reads_by : (d : Sections) (answers : FirstAnswers) (old new : ContextState) → new.sections ≡ d → new.answers ≡ answers → LinesBy d answers old.parsed new.parsed → EntriesBy d answers old.known new.known → DetailsBy d answers old.known new.known → ReadsAsked faults probe old new
   reads_by d answers old new s a lines entries details = record {
     lines = subst (λ x. LinesBy x new.answers old.parsed new.parsed) (sym s) (subst (λ x. LinesBy d x old.parsed new.parsed) (sym a) lines);
     entries = subst (λ x. EntriesBy x new.answers old.known new.known) (sym s) (subst (λ x. EntriesBy d x old.known new.known) (sym a) entries);
     details = subst (λ x. DetailsBy x new.answers old.known new.known) (sym s) (subst (λ x. DetailsBy d x old.known new.known) (sym a) details);
   }
 
-  pub reads_nothing : (c : ContextState) → ReadsAsked probe c c
+  pub reads_nothing : (c : ContextState) → ReadsAsked faults probe c c
   reads_nothing c = record { lines = λ m e n p. inl p; entries = λ m e n. inl refl; details = λ m e n o k. inl k }
 
   -- one more step of the lookup
-  pub reads_more : {X : Type 0} (r : Result X Error) (first mid new : ContextState) → AfterFrames End probe r mid new → ReadsAsked probe first mid → ReadsAsked probe first new
+  pub reads_more : {X : Type 0} (r : Result X Error) (first mid new : ContextState) → AfterFrames faults probe r mid new → ReadsAsked faults probe first mid → ReadsAsked faults probe first new
   reads_more r first mid new a h = reads_by mid.sections mid.answers first new a.sections a.answers
       (λ m e. parses_more _ _ first.parsed mid.parsed new.parsed (h.lines m e) (a.only m e) (λ n q. q))
       (λ m e k. elim (a.learns m e k) [
@@ -139,9 +181,12 @@ module _ (probe : ℕ) where
       (λ m e k offset known. elim (a.details m e k offset known) [ inl before ↦ h.details m e k offset before | inr here ↦ inr here ])
 
   -- the answer to the load that it waits for
-  module _ (n : ℕ) (load : SplitLoad) (first mid new : ContextState) (waits : lookup_stop End mid.sections mid.answers probe ≡ Ok (Waits n)) (is : IsLoadOf mid.sections n load) (h : ReadsAsked probe first mid) where
+  module _ (n : ℕ) (first mid new : ContextState) (waits : lookup_stop faults mid.sections mid.answers probe ≡ Ok (Waits n)) (h : ReadsAsked faults probe first mid) where
+    stop_is : (m : UnitIndex) → index_units mid.sections ≡ Ok m → stop_along (asked_of faults mid.sections mid.answers probe m) (cover probe m.ranges) ≡ Ok (Waits n)
+    stop_is m e = sym (ap (λ r. r >>= stop_in faults mid.sections mid.answers probe) e) ∙ waits
+
     waits_in : (m : UnitIndex) → index_units mid.sections ≡ Ok m → Asks mid.sections mid.answers m n
-    waits_in m e = asks_waiting (asked_of End mid.sections mid.answers probe m) n (cover probe m.ranges) (sym (ap (λ r. r >>= stop_in End mid.sections mid.answers probe) e) ∙ waits)
+    waits_in m e = asks_waiting (asked_of faults mid.sections mid.answers probe m) n (cover probe m.ranges) (stop_is m e)
 
     -- what was asked for still is by these first answers
     by_answers : (answers : FirstAnswers) → new.sections ≡ mid.sections → new.answers ≡ answers → new.parsed ≡ mid.parsed → ((k : ℕ) → k ≢ n → slice_get new.known k ≡ slice_get mid.known k)
@@ -149,7 +194,7 @@ module _ (probe : ℕ) where
         → ((m : UnitIndex) → index_units mid.sections ≡ Ok m → (k : ℕ) → asks_lines_of (main_scope mid.sections m) m.units mid.answers probe k ≡ true → asks_lines_of (main_scope mid.sections m) m.units answers probe k ≡ true)
         → LearnsNoDetails mid.known new.known
         → ((m : UnitIndex) → index_units mid.sections ≡ Ok m → (k offset : ℕ) → function_offset_of (main_scope mid.sections m) m.units mid.answers probe k ≡ Some offset → function_offset_of (main_scope mid.sections m) m.units answers probe k ≡ Some offset)
-        → ReadsAsked probe first new
+        → ReadsAsked faults probe first new
     by_answers answers s a parsed others asks lines learns there = reads_by mid.sections answers first new s a
         (λ m e k p. elim (h.lines m e k (subst (λ x. has_parsed x k ≡ true) parsed p)) [
           | inl before ↦ inl before
@@ -161,16 +206,16 @@ module _ (probe : ℕ) where
         ])
         (λ m e k offset known. elim (h.details m e k offset (learns k offset known)) [ inl before ↦ inl before | inr here ↦ inr (there m e k offset here) ])
 
-    pub reads_answered : (given : Option Sections) (r : Result (Unit {0}) Error) → AfterAnswer n given r mid new → ReadsAsked probe first new
+    pub reads_answered : (given : Option Sections) (r : Result (Unit {0}) Error) → AfterAnswer n given r mid new → ReadsAsked faults probe first new
     reads_answered given (Ok x) a = by_answers (answered mid.sections mid.answers n given) a.sections a.answers a.parsed a.others
-        (λ m e k q. subst (λ x. Asks mid.sections x m k) (sym (now_is m e)) (still_asked (main_scope mid.sections m) m.units mid.answers n load (awaits m e) given probe (cover probe m.ranges) k q))
-        (λ m e k q. subst (λ x. asks_lines_of (main_scope mid.sections m) m.units x probe k ≡ true) (sym (now_is m e)) (still_lines (main_scope mid.sections m) m.units mid.answers n load (awaits m e) given probe k q))
+        (λ m e k q. subst (λ x. Asks mid.sections x m k) (sym (now_is m e)) (still_asked faults (main_scope mid.sections m) m.units mid.answers n (opens m e) given probe (cover probe m.ranges) k q))
+        (λ m e k q. subst (λ x. asks_lines_of (main_scope mid.sections m) m.units x probe k ≡ true) (sym (now_is m e)) (still_lines faults (main_scope mid.sections m) m.units mid.answers n (opens m e) given probe k q))
         a.details
-        (λ m e k offset q. subst (λ x. function_offset_of (main_scope mid.sections m) m.units x probe k ≡ Some offset) (sym (now_is m e)) (still_there (main_scope mid.sections m) m.units mid.answers n load (awaits m e) given probe k offset q))
+        (λ m e k offset q. subst (λ x. function_offset_of (main_scope mid.sections m) m.units x probe k ≡ Some offset) (sym (now_is m e)) (still_there faults (main_scope mid.sections m) m.units mid.answers n (opens m e) given probe k offset q))
       where
         now_is : (m : UnitIndex) → index_units mid.sections ≡ Ok m → answered mid.sections mid.answers n given ≡ with_answer mid.sections (unit_records m.units) mid.answers n given
         now_is m e = ap (λ (r : Result UnitIndex Error). elim r [ Err f ↦ mid.answers | Ok x ↦ with_answer mid.sections (unit_records x.units) mid.answers n given ]) e
 
-        awaits : (m : UnitIndex) → index_units mid.sections ≡ Ok m → Awaits mid.sections m.units mid.answers n load
-        awaits m e = awaits_in mid.sections mid.answers probe n load waits is m e
+        opens : (m : UnitIndex) → index_units mid.sections ≡ Ok m → IsOpenThere mid.sections m.units mid.answers n
+        opens m e = open_there mid.sections m.units mid.answers n (waits_listed faults (main_scope mid.sections m) m.units mid.answers probe n (cover probe m.ranges) (stop_is m e)).0
     reads_answered given (Err f) a = by_answers mid.answers a.sections a.refused.1 a.parsed a.others (λ m e k q. q) (λ m e k q. q) a.details (λ m e k offset q. q)

@@ -20,8 +20,8 @@ use Rattle.addr2line.specs.Context.{ContextState}
 use Rattle.addr2line.specs.Files.{ReadFiles}
 use Rattle.addr2line.specs.FramesByFiles.{ended_frames_of, frames_by_files, stop_frames}
 use Rattle.addr2line.specs.History.{Given, Answered}
-use Rattle.addr2line.specs.LoadsByFiles.{AfterAnswers, AnswersInTurn, AnswersOne, IsFaultByFiles, ReadsAsked, StayAnswered, WaitsForNone}
-use Rattle.addr2line.specs.AfterLookups.{AfterFrames, IsKnownFew}
+use Rattle.addr2line.specs.LoadsByFiles.{AfterAnswers, AnswersInTurn, AnswersOne, IsFaultByFiles, StayAnswered, WaitsForNone}
+use Rattle.addr2line.specs.AfterLookups.{AfterFrames, IsKnownFew, ReadsAsked}
 use Rattle.addr2line.specs.Lookups.{IsLoadOf, loads_at, lookup_stop}
 use Rattle.addr2line.specs.SplitFiles.{given_by_files}
 use Rattle.addr2line.proofs.AskedLemmas.{reads_more, reads_nothing}
@@ -144,24 +144,24 @@ waits_no_more probe n c w waits = let no = sym (ap is_waiting waits) ∙ w in ab
 -- loads of a lookup were answered by files, in turn
 pub record HasAnswered (files : Option ReadFiles) (probe : ℕ) (first now : ContextState) : Type 0 where
   pub after : AfterAnswers files first now
-  pub only : ReadsAsked probe first now
+  pub only : ReadsAsked End probe first now
   pub given : List Given
   pub so : HasGiven End first.sections probe first.answers given now.answers
 
 module _ (files : Option ReadFiles) (probe : ℕ) (first : ContextState) where
   pub has_answered_none : HasAnswered files probe first first
-  has_answered_none = record { after = unanswered files first; only = reads_nothing probe first; given = []; so = λ rest. refl }
+  has_answered_none = record { after = unanswered files first; only = reads_nothing End probe first; given = []; so = λ rest. refl }
 
   module _ (now : ContextState) (h : HasAnswered files probe first now) where
     pub has_looked : {X : Type 0} (r : Result X Error) (new : ContextState) → AfterFrames End probe r now new → HasAnswered files probe first new
     has_looked r new a = record {
       after = then_answered files first now new h.after (after_look files probe r now new a);
-      only = reads_more probe r first now new a h.only;
+      only = reads_more End probe r first now new a h.only;
       given = h.given;
       so = subst (λ x. HasGiven End first.sections probe first.answers h.given x) (sym a.answers) h.so;
     }
 
-    pub has_answered_one : (n : ℕ) (new : ContextState) → lookup_stop End now.sections now.answers probe ≡ Ok (Waits n) → AfterAnswers files now new → ((c : ContextState) → ReadsAsked probe c now → ReadsAsked probe c new) → AnswersOne n now new → HasAnswered files probe first new
+    pub has_answered_one : (n : ℕ) (new : ContextState) → lookup_stop End now.sections now.answers probe ≡ Ok (Waits n) → AfterAnswers files now new → ((c : ContextState) → ReadsAsked End probe c now → ReadsAsked End probe c new) → AnswersOne n now new → HasAnswered files probe first new
     has_answered_one n new waits b only (inl same) = record {
       after = then_answered files first now new h.after b;
       only = only first h.only;
@@ -181,7 +181,7 @@ module _ (files : Option ReadFiles) (probe : ℕ) (first : ContextState) where
 
   -- the unit that a lookup waits for by then was answered
   pub has_answered_after : {X : Type 0} (now : ContextState) → HasAnswered files probe first now → (r : Result X Error) (mid : ContextState) → AfterFrames End probe r now mid → (n : ℕ) → lookup_stop End mid.sections mid.answers probe ≡ Ok (Waits n)
-      → (new : ContextState) → AfterAnswers files mid new → ((c : ContextState) → ReadsAsked probe c mid → ReadsAsked probe c new) → AnswersOne n mid new → HasAnswered files probe first new
+      → (new : ContextState) → AfterAnswers files mid new → ((c : ContextState) → ReadsAsked End probe c mid → ReadsAsked End probe c new) → AnswersOne n mid new → HasAnswered files probe first new
   has_answered_after now h r mid a n stop new b only one =
       has_answered_one mid (has_looked now h r mid a) n new stop b only one
 

@@ -33,7 +33,7 @@ use Rattle.addr2line.specs.LoadsByFiles.{StayAnswered}
 use Rattle.addr2line.specs.Lookups.{IsLoadOf, loads_at, lookup_stop, stop_in}
 use Rattle.addr2line.specs.SplitFiles.{of_file}
 
-none_if_open : (scope : Scope) (u : IndexedUnit) (answer : Option (Option Sections)) (probe : ℕ) → is_open scope.file.sections u.unit answer ≡ true → frames_in scope u answer probe ≡ Ok None
+pub none_if_open : (scope : Scope) (u : IndexedUnit) (answer : Option (Option Sections)) (probe : ℕ) → is_open scope.file.sections u.unit answer ≡ true → frames_in scope u answer probe ≡ Ok None
 unfolding frames_in
 none_if_open scope u answer probe e = by (is_open scope.file.sections u.unit answer) _ e
   where

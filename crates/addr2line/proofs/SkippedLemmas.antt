@@ -7,11 +7,12 @@ use Rattle.addr2line_units.specs.declared.frames_lookup.OnFault.{OnFault}
 use Rattle.addr2line_units.specs.FramesLookup.{Stop, Waits, Finds, FindsNothing, is_waiting}
 use Rattle.gimli_read.specs.Alike.{WasNotRefused}
 use Rattle.addr2line_units.specs.Parsed.{StaysParsed, has_parsed}
+use Rattle.addr2line.proofs.AskedLemmas.{reads_answered, reads_more, reads_nothing}
 use Rattle.addr2line.proofs.HistoryLemmas.{HasGiven, given_all, given_ended, given_more}
 use Rattle.addr2line.specs.Answers.{AfterAnswer, answered}
 use Rattle.addr2line.specs.Context.{ContextState}
 use Rattle.addr2line.specs.History.{Given, Answered, answers_given}
-use Rattle.addr2line.specs.AfterLookups.{AfterFrames, IsKnown, IsKnownFew, NeedsNoMemory}
+use Rattle.addr2line.specs.AfterLookups.{AfterFrames, IsKnown, IsKnownFew, NeedsNoMemory, ReadsAsked}
 use Rattle.addr2line.specs.Lookups.{IsFaultOfAsked, loads_at, lookup_stop, waits_for}
 use Rattle.addr2line_units.specs.UnitsState.{waiting_unit}
 use Rattle.addr2line.specs.Skips.{AfterSkip, nones, skipped_answers}
@@ -58,6 +59,7 @@ pub record HasSkipped (faults : OnFault) (probe : ℕ) (first now : ContextState
   pub given : HasGiven faults first.sections probe first.answers (nones count) now.answers
   pub left : count + length (loads_at now.sections now.answers probe) ≤ length (loads_at first.sections first.answers probe)
   pub parsed : StaysParsed first.parsed now.parsed
+  pub only : ReadsAsked faults probe first now
   pub raised : first.looks ≤ now.looks
 
 module _ (faults : OnFault) (probe : ℕ) (first : ContextState) where
@@ -68,6 +70,7 @@ module _ (faults : OnFault) (probe : ℕ) (first : ContextState) where
     given = λ rest. refl;
     left = omega arith;
     parsed = λ n e. e;
+    only = reads_nothing faults probe first;
     raised = omega arith;
   }
 
@@ -80,6 +83,7 @@ module _ (faults : OnFault) (probe : ℕ) (first : ContextState) where
       given = subst (λ x. HasGiven faults first.sections probe first.answers (nones so.count) x) (sym a.answers) so.given;
       left = subst (λ l. so.count + l ≤ length (loads_at first.sections first.answers probe)) (sym (same_left new a.sections a.answers)) so.left;
       parsed = λ n e. a.parsed n (so.parsed n e);
+      only = reads_more faults probe r first now new a so.only;
       raised = let x = so.raised in let y = a.raised in omega (arith, x, y);
     }
       where
@@ -96,18 +100,20 @@ module _ (faults : OnFault) (probe : ℕ) (first : ContextState) where
           (given_more faults first.sections probe first.answers now.answers (nones so.count) so.given n None (ap (λ d. lookup_stop faults d now.answers probe) (sym so.sections) ∙ waits) (nones (suc so.count)) (nones_then so.count));
       left = let x = so.left in omega (arith, x, fewer);
       parsed = λ k e. subst (λ p. has_parsed p k ≡ true) (sym a.parsed) (so.parsed k e);
+      only = reads_answered faults probe n first now new waits so.only None (Ok tt) a;
       raised = subst (λ l. first.looks ≤ l) (sym a.looks) so.raised;
     }
 
     -- none could not be given
-    pub skipped_refused : (n : ℕ) (e : Error) (new : ContextState) → AfterAnswer n None (Err e) now new → HasSkipped faults probe first new
-    skipped_refused n e new a = record {
+    pub skipped_refused : (n : ℕ) (e : Error) (new : ContextState) → lookup_stop faults now.sections now.answers probe ≡ Ok (Waits n) → AfterAnswer n None (Err e) now new → HasSkipped faults probe first new
+    skipped_refused n e new waits a = record {
       sections = a.sections ∙ so.sections;
       count = so.count;
       given = subst (λ x. HasGiven faults first.sections probe first.answers (nones so.count) x) (sym a.refused.1) so.given;
       left = subst (λ l. so.count + l ≤ length (loads_at first.sections first.answers probe))
           (sym (ap (λ d. length (loads_at d new.answers probe)) a.sections ∙ ap (λ x. length (loads_at now.sections x probe)) a.refused.1)) so.left;
       parsed = λ k q. subst (λ p. has_parsed p k ≡ true) (sym a.parsed) (so.parsed k q);
+      only = reads_answered faults probe n first now new waits so.only None (Err e) a;
       raised = subst (λ l. first.looks ≤ l) (sym a.looks) so.raised;
     }
 
@@ -130,6 +136,7 @@ module _ (faults : OnFault) (probe : ℕ) (first : ContextState) where
       answers = λ told. sym (skip_end (ended told));
       begun = (so.count, sym (given_all faults first.sections probe first.answers now.answers (nones so.count) so.given));
       parsed = so.parsed;
+      only = so.only;
       raised = so.raised;
       ready = ready;
       memory = memory;

@@ -89,6 +89,13 @@ LearnsDetails probe c old new = (m : UnitIndex) → index_units c.sections ≡ O
     → LearnsDetailsAt (function_offset_of (main_scope c.sections m) m.units c.answers probe)
     old.known new.known
 
+-- nothing was read but what a lookup of the probe asks for by the first answers that are left:
+-- lines of units, their entries, and details of functions
+pub record ReadsAsked (faults : OnFault) (probe : ℕ) (old new : ContextState) : Type 0 where
+  pub lines : ParsesAsked faults probe new old new
+  pub entries : LearnsAsked faults probe new old new
+  pub details : LearnsDetails probe new old new
+
 -- after a lookup of the probe: the first answers are the same, what was read stays, and nothing was
 -- read of units that it doesn't ask, nor a detail but that of the function at the probe; unless memory was refused, the same lookup reads nothing more;
 -- memory is refused only where something is left to read, a load is wanted, or more than 16 inlined

@@ -14,8 +14,8 @@ use Rattle.addr2line.specs.declared.loader.LoaderOver.{LoaderOver}
 use Rattle.addr2line.specs.Context.{AfterLookup, AfterRangeLookup, ContextState}
 use Rattle.addr2line.specs.Files.{Files, ReadFiles, as_read_if_known}
 use Rattle.addr2line.specs.FramesByFiles.{ended_frames_of}
-use Rattle.addr2line.specs.LoadsByFiles.{AfterAnswers, AnswersInTurn, HasEnded, MayLackMemory, ReadsAsked, WaitsForNone, WaitsForOne}
-use Rattle.addr2line.specs.AfterLookups.{IsKnown, IsKnownFew}
+use Rattle.addr2line.specs.LoadsByFiles.{AfterAnswers, AnswersInTurn, HasEnded, MayLackMemory, WaitsForNone, WaitsForOne}
+use Rattle.addr2line.specs.AfterLookups.{IsKnown, IsKnownFew, ReadsAsked}
 use Rattle.addr2line.specs.SplitFiles.{of_file}
 
 -- the files, where they are known, as they are read, the main file, and the context
@@ -44,7 +44,7 @@ pub record AfterLoads {X : Type 0} (see : X → List FrameRecord) (probe : ℕ) 
   pub object : new.object ≡ old.object
   pub context : AfterAnswers old.files old.context new.context
   pub in_turn : AnswersInTurn probe old.context new.context
-  pub only : ReadsAsked probe old.context new.context
+  pub only : ReadsAsked End probe old.context new.context
   pub ended : HasEnded result → WaitsForNone new.context probe
   pub ready : HasEnded result → IsKnown End new.context probe
   pub told : HasEnded result → Exactly see result (ended_frames_of new.context probe)

@@ -17,7 +17,7 @@ use Rattle.addr2line.specs.Files.{ReadFiles}
 use Rattle.addr2line.specs.FramesByFiles.{frames_by_files}
 use Rattle.addr2line.specs.History.{Given, answers_given}
 use Rattle.addr2line.specs.Lookups.{IsLoadOf, lookup_stop}
-use Rattle.addr2line.specs.AfterLookups.{LearnsAsked, LearnsDetails, ParsesAsked, TakesMemory}
+use Rattle.addr2line.specs.AfterLookups.{TakesMemory}
 use Rattle.addr2line_units.specs.StaysKnown.{StaysKnownOf}
 use Rattle.addr2line.specs.SplitFiles.{given_by_files}
 
@@ -77,13 +77,6 @@ AnswersOne n old new = (new.answers ≡ old.answers) ⊎ ((given : Option Sectio
 abbrev pub AnswersInTurn : ℕ → ContextState → ContextState → Type 0
 AnswersInTurn probe old new = (given : List Given)
     × (new.answers ≡ answers_given End old.sections probe old.answers given)
-
--- nothing was read but what a lookup of the probe asks for by the first answers that are left:
--- lines of units, their entries, and details of functions
-pub record ReadsAsked (probe : ℕ) (old new : ContextState) : Type 0 where
-  pub lines : ParsesAsked End probe new old new
-  pub entries : LearnsAsked End probe new old new
-  pub details : LearnsDetails probe new old new
 
 -- a refusal that ends a lookup: the fault of a unit, and none of these
 abbrev pub IsUnitFault : LoaderError → Type 0

@@ -9,7 +9,7 @@ use Rattle.addr2line_units.specs.Parsed.{StaysParsed}
 use Rattle.addr2line.specs.Context.{ContextState}
 use Rattle.addr2line.specs.History.{Given, Answered, answers_given}
 use Rattle.addr2line.specs.Lookups.{IsFaultOfAsked, loads_at}
-use Rattle.addr2line.specs.AfterLookups.{IsKnown, IsKnownFew, NeedsNoMemory}
+use Rattle.addr2line.specs.AfterLookups.{IsKnown, IsKnownFew, NeedsNoMemory, ReadsAsked}
 use Rattle.addr2line_units.specs.Views.{FirstAnswers}
 
 -- none as the answer to each of so many loads
@@ -22,9 +22,10 @@ skipped_answers faults d probe answers =
     answers_given faults d probe answers (nones (length (loads_at d answers probe)))
 
 -- after a lookup where each load is answered None: the units that waited are decided by none,
--- and stay so; after OutOfMemory some of the first ones. Memory is refused only where something is
--- left to read, or more than 16 inlined functions stand there; where what is left takes none, a
--- refusal is the fault of a unit
+-- and stay so; after OutOfMemory some of the first ones. Nothing is read but what the lookup asks
+-- for by the first answers that are left. Memory is refused only where something is left to read,
+-- or more than 16 inlined functions stand there; where what is left takes none, a refusal is the
+-- fault of a unit
 pub record AfterSkip {X : Type 0} (shares : Bool) (faults : OnFault) (probe : ℕ)
     (result : Result X Error) (old new : ContextState) : Type 0 where
   pub sections : new.sections ≡ old.sections
@@ -33,6 +34,7 @@ pub record AfterSkip {X : Type 0} (shares : Bool) (faults : OnFault) (probe : �
   pub begun : (n : ℕ)
       × (new.answers ≡ answers_given faults old.sections probe old.answers (nones n))
   pub parsed : StaysParsed old.parsed new.parsed
+  pub only : ReadsAsked faults probe old new
   pub raised : old.looks ≤ new.looks
   pub ready : WasNotRefused result → IsKnown faults new probe
   pub memory : IsKnownFew faults new probe → WasNotRefused result

@@ -7,10 +7,10 @@ ghost use Rattle.addr2line_units.specs.declared.frames_lookup.OnFault.TheVariant
 ghost use Rattle.addr2line_units.specs.FramesLookup.{Waits};
 ghost use Rattle.addr2line.specs.Context.{ContextState, IsUncovered};
 ghost use Rattle.addr2line.specs.Files.{as_read_if_known};
-ghost use Rattle.addr2line.specs.LoadsByFiles.{AfterAnswers, AnswersInTurn, AnswersOne, HasEnded, IsAnswerByFiles, IsFaultByFiles, IsUnitFault, ReadsAsked, WaitsForNone, WaitsForOne};
+ghost use Rattle.addr2line.specs.LoadsByFiles.{AfterAnswers, AnswersInTurn, AnswersOne, HasEnded, IsAnswerByFiles, IsFaultByFiles, IsUnitFault, WaitsForNone, WaitsForOne};
 ghost use Rattle.addr2line.specs.FramesByFiles.{ended_frames_of};
 ghost use Rattle.addr2line.specs.SplitFiles.{LeavesOpen};
-ghost use Rattle.addr2line.specs.AfterLookups.{IsKnown, IsKnownFew};
+ghost use Rattle.addr2line.specs.AfterLookups.{IsKnown, IsKnownFew, ReadsAsked};
 ghost use Rattle.addr2line.specs.Lookups.{lookup_stop};
 ghost use Rattle.addr2line.specs.WaitingLookups.{count_loads};
 
@@ -60,8 +60,8 @@ fn answer_load<F: FileSource>(
     requires stored { ctx.old.stop ≡ Waits number }
     ensures after { AfterAnswers (as_read_if_known compressed (F.files files.now)) ctx.old ctx.new }
     ensures one { AnswersOne number ctx.old ctx.new }
-    ensures only { (first : ContextState) → ReadsAsked probe first ctx.old
-        → ReadsAsked probe first ctx.new }
+    ensures only { (first : ContextState) → ReadsAsked End probe first ctx.old
+        → ReadsAsked End probe first ctx.new }
     ensures fewer { OnOk result (count_loads ctx.new probe < count_loads ctx.old probe) }
     ensures refused { IfErr result
         (IsFaultByFiles (as_read_if_known compressed (F.files files.now)) ctx.old probe) }
@@ -84,7 +84,7 @@ pub(crate) fn answer_loads<F: FileSource>(
 ) -> Result<(), LoaderError>
     ensures after { AfterAnswers (as_read_if_known compressed (F.files files.now)) ctx.old ctx.new }
     ensures in_turn { AnswersInTurn probe ctx.old ctx.new }
-    ensures only { ReadsAsked probe ctx.old ctx.new }
+    ensures only { ReadsAsked End probe ctx.old ctx.new }
     ensures stored { OnOk result
         (lookup_stop End ctx.new.sections ctx.new.answers probe ≡ Ok ctx.new.stop) }
     ensures ended { HasEnded result → WaitsForNone ctx.new probe }

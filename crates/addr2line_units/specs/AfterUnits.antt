@@ -157,10 +157,10 @@ pub record AfterListing (old new : UnitsState) : Type 0 where
   pub known : StaysKnown old.known new.known
 
 -- after a parse of all functions open units are decided by none, up to the first fault; where
--- memory was refused, some of the first ones. What was known of the others stays, and where functions
--- alone are read no detail becomes known. Unless memory was
--- refused all is known that the parse reads, and where it is, none was refused; where it was
--- before, nothing is changed of what is known and answered
+-- memory was refused, some of the first ones. What was known of the others stays, and where
+-- functions alone are read no detail becomes known. Unless memory was refused all is known that the
+-- parse reads, and where it is, none was refused; where it was before, nothing is changed of what
+-- is known and answered
 pub record AfterReading (reads : ReadingDepth) (result : Result (Unit {0}) Error)
     (old new : UnitsState) : Type 0 where
   pub stays : StayRead old new

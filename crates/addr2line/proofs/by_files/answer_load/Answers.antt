@@ -19,12 +19,10 @@ returns-clause-one g c = one_answered c.args.number (option_map (λ d. d.value) 
 
 pub returns-clause-only : goal.returns-clause-only
 returns-clause-only g c = λ first h.
-    let was = c.in_ok-sections.ensures.gives in
     let given = option_map (λ d. d.value) c.in_ok-sections.sections in
-    reads_answered c.args.probe c.args.number was.0 first c.args.ctx.now c.answer.new.self c.requires.waits was.1 h given _ c.answer.ensures.after
+    reads_answered End c.args.probe c.args.number first c.args.ctx.now c.answer.new.self c.requires.waits h given _ c.answer.ensures.after
 
 pub returns-in_err-answer-clause-only : goal.returns-in_err-answer-clause-only
 returns-in_err-answer-clause-only g c = λ first h.
-    let was = c.in_ok-sections.ensures.gives in
     let given = option_map (λ d. d.value) c.in_ok-sections.sections in
-    reads_answered c.args.probe c.args.number was.0 first c.args.ctx.now c.answer.new.self c.requires.waits was.1 h given _ c.answer.ensures.after
+    reads_answered End c.args.probe c.args.number first c.args.ctx.now c.answer.new.self c.requires.waits h given _ c.answer.ensures.after

@@ -31,7 +31,7 @@ returns-in_err-answer-in-Some-clause-after g c =
     let mid = c.walk.new.self in
     let e = c.in_err-answer-in-Some.ensures in
     let so = skipped_look c.args.faults c.args.probe c.args.self.now c.loop-self.self c.loop-self.invariant _ mid c.in_ok-walk.ensures.after in
-    rw (p.1, p.2) (after_skip c.args.faults c.args.probe c.args.self.now c.answer.new.self (skipped_refused c.args.faults c.args.probe c.args.self.now mid so n _ c.answer.new.self e.after) g.R.Reader.shares _
+    rw (p.1, p.2) (after_skip c.args.faults c.args.probe c.args.self.now c.answer.new.self (skipped_refused c.args.faults c.args.probe c.args.self.now mid so n _ c.answer.new.self (told_waits n mid.stop _ c.in_ok-walk.ensures.gives (search rules)) e.after) g.R.Reader.shares _
     (λ told. absurd (told e.after.refused.0)) (λ told. absurd (told e.after.refused.0)) (λ few. absurd (let no = e.after.refused.3 in cc)) (λ none. absurd (let no = e.after.refused.3 in cc)))
 
 pub returns-in-None-clause-after : goal.returns-in-None-clause-after

@@ -239,7 +239,8 @@ impl<R: Reader> Context<R> {
     /// `probe` is an address as the file has it. Units are asked in the order of `find_location`.
     /// The lookup waits for an answer where it comes to a unit whose entries stand in a split file
     /// and that has no answer yet. What it reads of a unit, views, functions, details and lines,
-    /// is cached, faults too, and nothing is read of units that it doesn't ask.
+    /// is cached, faults too. Nothing is read of units that it doesn't ask, nor the detail of a
+    /// function but that of the one at `probe`.
     ///
     /// Refused by the first fault of the view, the functions, the detail or the lines of a unit
     /// that it asks; may fail with `OutOfMemory` instead, which is never cached. An output takes no

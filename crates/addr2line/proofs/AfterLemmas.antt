@@ -104,6 +104,7 @@ module _ (faults : OnFault) (probe : ℕ) (old mid : ContextState) (walked : Res
       answers = λ told. a.answers (h.1.ready told);
       begun = a.begun;
       parsed = a.parsed;
+      known = a.known;
       only = a.only;
       raised = a.raised;
       ready = λ told. a.ready (h.1.ready told);

@@ -61,7 +61,7 @@ asks_waiting f n (r ∷ ranges) e = step (f r.unit) (stop_along f ranges) e (ask
     step (Err e) rest w later = absurd cc
 
 -- the unit of a number that waits for an answer
-record IsOpenThere (d : Sections) (units : List IndexedUnit) (answers : FirstAnswers) (n : ℕ) : Type 0 where
+pub record IsOpenThere (d : Sections) (units : List IndexedUnit) (answers : FirstAnswers) (n : ℕ) : Type 0 where
   pub unit : IndexedUnit
   pub there : slice_get units n ≡ Some unit
   pub open_is : is_open d unit.unit (answer_of answers n) ≡ true
@@ -74,7 +74,7 @@ open_there d units answers n o = by (slice_get units n) refl (subst (λ x. elim 
     by (Some u) e p = record { unit = u; there = e; open_is = p }
 
 -- the first answers of other units stay
-other_answers : (d : Sections) (us : List UnitRecord) (answers : FirstAnswers) (n : ℕ) (given : Option Sections) (k : ℕ) → k ≢ n → answer_of (with_answer d us answers n given) k ≡ answer_of answers k
+pub other_answers : (d : Sections) (us : List UnitRecord) (answers : FirstAnswers) (n : ℕ) (given : Option Sections) (k : ℕ) → k ≢ n → answer_of (with_answer d us answers n given) k ≡ answer_of answers k
 other_answers d us answers n given k ne = by (slice_get us n)
   where
     by : (o : Option UnitRecord) → answer_of (elim o [ None ↦ answers | Some u ↦ set answers n (decided_answer d u (answer_of answers n) given) ]) k ≡ answer_of answers k

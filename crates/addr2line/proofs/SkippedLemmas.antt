@@ -1,19 +1,31 @@
 -- Lookups of which none is answered to each load (on specs/Skips.antt).
-use Rattle.std.proofs.Common.{◌≡◌, ℕ, zero, suc, ◌+◌, ◌-◌, ◌<◌, ◌≤◌, arith, Bool, true, false, List, ◌∷◌, ◌++◌, length, Option, Some, None, Result, Ok, Err, refl, sym, ap, subst, ◌∙◌}
+use Rattle.std.proofs.Common.{◌≡◌, ◌≢◌, slice_get, ℕ, zero, suc, ◌+◌, ◌-◌, ◌<◌, ◌≤◌, arith, Bool, true, false, List, ◌∷◌, ◌++◌, length, Option, Some, None, Result, Ok, Err, refl, sym, ap, subst, ◌∙◌}
 use Rattle.std.proofs.lemmas.Bool.{eq-eqb}
 use Rattle.std.specs.Prelude.{IfErr}
 use Rattle.gimli_read.specs.declared.error.Error.{Error}
+use Rattle.gimli_read.specs.Reading.{◌>>=◌}
+use Rattle.gimli.specs.Sections.{Sections}
+use Rattle.gimli.specs.Unit.{UnitRecord}
+use Rattle.addr2line_units.specs.Cover.{cover}
 use Rattle.addr2line_units.specs.declared.frames_lookup.OnFault.{OnFault}
-use Rattle.addr2line_units.specs.FramesLookup.{Stop, Waits, Finds, FindsNothing, is_waiting}
+use Rattle.addr2line_units.specs.FramesLookup.{Stop, Waits, Finds, FindsNothing, answer_of, is_waiting, main_scope, with_answer}
 use Rattle.gimli_read.specs.Alike.{WasNotRefused}
+use Rattle.addr2line_units.specs.Loads.{is_open_at}
 use Rattle.addr2line_units.specs.Parsed.{StaysParsed, has_parsed}
-use Rattle.addr2line.proofs.AskedLemmas.{reads_answered, reads_more, reads_nothing}
+use Rattle.addr2line_units.specs.RangedUnits.{unit_records}
+use Rattle.addr2line_units.specs.StaysKnown.{StaysKnownOf}
+use Rattle.addr2line_units.specs.UnitIndex.{UnitIndex, index_units}
+use Rattle.addr2line_units.specs.Views.{FirstAnswers, is_open}
+use Rattle.addr2line_units.proofs.LoadLawLemmas.{waits_listed}
+use Rattle.addr2line_units.proofs.StayLemmas.{known_of_twice, same_stays_known}
+use Rattle.addr2line.proofs.AskedLemmas.{other_answers, reads_answered, reads_more, reads_nothing}
 use Rattle.addr2line.proofs.HistoryLemmas.{HasGiven, given_all, given_ended, given_more}
 use Rattle.addr2line.specs.Answers.{AfterAnswer, answered}
 use Rattle.addr2line.specs.Context.{ContextState}
 use Rattle.addr2line.specs.History.{Given, Answered, answers_given}
 use Rattle.addr2line.specs.AfterLookups.{AfterFrames, IsKnown, IsKnownFew, NeedsNoMemory, ReadsAsked}
-use Rattle.addr2line.specs.Lookups.{IsFaultOfAsked, loads_at, lookup_stop, waits_for}
+use Rattle.addr2line.specs.Loads.{IsNotOpen}
+use Rattle.addr2line.specs.Lookups.{IsFaultOfAsked, loads_at, lookup_stop, stop_in, waits_for}
 use Rattle.addr2line_units.specs.UnitsState.{waiting_unit}
 use Rattle.addr2line.specs.Skips.{AfterSkip, nones, skipped_answers}
 
@@ -52,6 +64,37 @@ pub fault_now : {X : Type 0} (faults : OnFault) (probe : ℕ) (old new : Context
 fault_now faults probe old new r s a h =
     subst (λ d. IfErr r (IsFaultOfAsked faults d new.answers probe)) (sym s) (subst (λ x. IfErr r (IsFaultOfAsked faults old.sections x probe)) (sym a) h)
 
+abbrev Shut : Sections → FirstAnswers → ℕ → Type 0
+Shut d answers n = (m : UnitIndex) → index_units d ≡ Ok m → is_open_at d (unit_records m.units) answers n ≡ false
+
+-- a unit that isn't open still isn't after an answer to another, and a lookup waits for no such unit
+module _ (faults : OnFault) (probe n : ℕ) (now new : ContextState) (waits : lookup_stop faults now.sections now.answers probe ≡ Ok (Waits n)) where
+  not_shut : IsNotOpen now n → ⊥
+  not_shut shut = by (index_units now.sections) refl waits
+    where
+      by : (r : Result UnitIndex Error) → index_units now.sections ≡ r → (r >>= stop_in faults now.sections now.answers probe) ≡ Ok (Waits n) → ⊥
+      by (Err e) is w = cc
+      by (Ok m) is w =
+          let open_is : is_open_at now.sections (unit_records m.units) now.answers n ≡ true = (waits_listed faults (main_scope now.sections m) m.units now.answers probe n (cover probe m.ranges) w).0 in
+          let no : true ≡ false = sym open_is ∙ shut m is in
+          cc
+
+  not_this : (k : ℕ) → IsNotOpen now k → k ≢ n
+  not_this k shut e = not_shut (subst (IsNotOpen now) e shut)
+
+  still_shut : (given : Option Sections) → new.sections ≡ now.sections → new.answers ≡ answered now.sections now.answers n given → (k : ℕ) → IsNotOpen now k → IsNotOpen new k
+  still_shut given s a k shut m e = ap (λ d. is_open_at d (unit_records m.units) new.answers k) s ∙ ap (open_by (slice_get (unit_records m.units) k)) same ∙ shut m is
+    where
+      open_by : Option UnitRecord → Option (Option Sections) → Bool
+      open_by o x = elim o [ None ↦ false | Some u ↦ is_open now.sections u x ]
+
+      is : index_units now.sections ≡ Ok m
+      is = ap index_units (sym s) ∙ e
+
+      same : answer_of new.answers k ≡ answer_of now.answers k
+      same = ap (λ xs. answer_of xs k) (a ∙ ap (λ (r : Result UnitIndex Error). elim r [ Err f ↦ now.answers | Ok x ↦ with_answer now.sections (unit_records x.units) now.answers n given ]) is)
+          ∙ other_answers now.sections (unit_records m.units) now.answers n given k (not_this k shut)
+
 -- of so many loads none was the answer, and no more are left than there were less these
 pub record HasSkipped (faults : OnFault) (probe : ℕ) (first now : ContextState) : Type 0 where
   pub sections : now.sections ≡ first.sections
@@ -59,6 +102,8 @@ pub record HasSkipped (faults : OnFault) (probe : ℕ) (first now : ContextState
   pub given : HasGiven faults first.sections probe first.answers (nones count) now.answers
   pub left : count + length (loads_at now.sections now.answers probe) ≤ length (loads_at first.sections first.answers probe)
   pub parsed : StaysParsed first.parsed now.parsed
+  pub shut : (n : ℕ) → IsNotOpen first n → IsNotOpen now n
+  pub known : (n : ℕ) → IsNotOpen first n → StaysKnownOf n first.known now.known
   pub only : ReadsAsked faults probe first now
   pub raised : first.looks ≤ now.looks
 
@@ -70,6 +115,8 @@ module _ (faults : OnFault) (probe : ℕ) (first : ContextState) where
     given = λ rest. refl;
     left = omega arith;
     parsed = λ n e. e;
+    shut = λ n h. h;
+    known = λ n h. same_stays_known n first.known first.known refl;
     only = reads_nothing faults probe first;
     raised = omega arith;
   }
@@ -83,6 +130,8 @@ module _ (faults : OnFault) (probe : ℕ) (first : ContextState) where
       given = subst (λ x. HasGiven faults first.sections probe first.answers (nones so.count) x) (sym a.answers) so.given;
       left = subst (λ l. so.count + l ≤ length (loads_at first.sections first.answers probe)) (sym (same_left new a.sections a.answers)) so.left;
       parsed = λ n e. a.parsed n (so.parsed n e);
+      shut = λ n h. subst (λ d. Shut d new.answers n) (sym a.sections) (subst (λ x. Shut now.sections x n) (sym a.answers) (so.shut n h));
+      known = λ n h. known_of_twice n first.known now.known new.known (so.known n h) (a.known n);
       only = reads_more faults probe r first now new a so.only;
       raised = let x = so.raised in let y = a.raised in omega (arith, x, y);
     }
@@ -100,6 +149,8 @@ module _ (faults : OnFault) (probe : ℕ) (first : ContextState) where
           (given_more faults first.sections probe first.answers now.answers (nones so.count) so.given n None (ap (λ d. lookup_stop faults d now.answers probe) (sym so.sections) ∙ waits) (nones (suc so.count)) (nones_then so.count));
       left = let x = so.left in omega (arith, x, fewer);
       parsed = λ k e. subst (λ p. has_parsed p k ≡ true) (sym a.parsed) (so.parsed k e);
+      shut = λ k h. still_shut faults probe n now new waits None a.sections a.answers k (so.shut k h);
+      known = λ k h. known_of_twice k first.known now.known new.known (so.known k h) (same_stays_known k now.known new.known (a.others k (not_this faults probe n now new waits k (so.shut k h))));
       only = reads_answered faults probe n first now new waits so.only None (Ok tt) a;
       raised = subst (λ l. first.looks ≤ l) (sym a.looks) so.raised;
     }
@@ -113,6 +164,8 @@ module _ (faults : OnFault) (probe : ℕ) (first : ContextState) where
       left = subst (λ l. so.count + l ≤ length (loads_at first.sections first.answers probe))
           (sym (ap (λ d. length (loads_at d new.answers probe)) a.sections ∙ ap (λ x. length (loads_at now.sections x probe)) a.refused.1)) so.left;
       parsed = λ k q. subst (λ p. has_parsed p k ≡ true) (sym a.parsed) (so.parsed k q);
+      shut = λ k h. subst (λ d. Shut d new.answers k) (sym a.sections) (subst (λ x. Shut now.sections x k) (sym a.refused.1) (so.shut k h));
+      known = λ k h. known_of_twice k first.known now.known new.known (so.known k h) (a.refused.2 k);
       only = reads_answered faults probe n first now new waits so.only None (Err e) a;
       raised = subst (λ l. first.looks ≤ l) (sym a.looks) so.raised;
     }
@@ -136,6 +189,7 @@ module _ (faults : OnFault) (probe : ℕ) (first : ContextState) where
       answers = λ told. sym (skip_end (ended told));
       begun = (so.count, sym (given_all faults first.sections probe first.answers now.answers (nones so.count) so.given));
       parsed = so.parsed;
+      known = so.known;
       only = so.only;
       raised = so.raised;
       ready = ready;

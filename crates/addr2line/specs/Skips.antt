@@ -6,7 +6,9 @@ use Rattle.gimli.specs.Sections.{Sections}
 use Rattle.addr2line_units.specs.declared.frames_lookup.OnFault.{OnFault}
 use Rattle.gimli_read.specs.Alike.{WasNotRefused}
 use Rattle.addr2line_units.specs.Parsed.{StaysParsed}
+use Rattle.addr2line_units.specs.StaysKnown.{StaysKnownOf}
 use Rattle.addr2line.specs.Context.{ContextState}
+use Rattle.addr2line.specs.Loads.{IsNotOpen}
 use Rattle.addr2line.specs.History.{Given, Answered, answers_given}
 use Rattle.addr2line.specs.Lookups.{IsFaultOfAsked, loads_at}
 use Rattle.addr2line.specs.AfterLookups.{IsKnown, IsKnownFew, NeedsNoMemory, ReadsAsked}
@@ -22,8 +24,8 @@ skipped_answers faults d probe answers =
     answers_given faults d probe answers (nones (length (loads_at d answers probe)))
 
 -- after a lookup where each load is answered None: the units that waited are decided by none,
--- and stay so; after OutOfMemory some of the first ones. Nothing is read but what the lookup asks
--- for by the first answers that are left. Memory is refused only where something is left to read,
+-- and stay so; after OutOfMemory some of the first ones. What was known of the others stays, and
+-- nothing is read but what the lookup asks for by the first answers that are left. Memory is refused only where something is left to read,
 -- or more than 16 inlined functions stand there; where what is left takes none, a refusal is the
 -- fault of a unit
 pub record AfterSkip {X : Type 0} (shares : Bool) (faults : OnFault) (probe : ℕ)
@@ -34,6 +36,7 @@ pub record AfterSkip {X : Type 0} (shares : Bool) (faults : OnFault) (probe : �
   pub begun : (n : ℕ)
       × (new.answers ≡ answers_given faults old.sections probe old.answers (nones n))
   pub parsed : StaysParsed old.parsed new.parsed
+  pub known : (n : ℕ) → IsNotOpen old n → StaysKnownOf n old.known new.known
   pub only : ReadsAsked faults probe old new
   pub raised : old.looks ≤ new.looks
   pub ready : WasNotRefused result → IsKnown faults new probe

@@ -79,18 +79,20 @@ pub record AfterLoad (n : ℕ) (given : Option Sections) (result : Result (Unit 
   pub details : LearnsNoDetails old.known new.known
 
 -- after the unit of a number is forgotten nothing is changed but of that unit, and nothing at all
--- where it had no answer
+-- where it had no answer; no detail becomes known
 pub record AfterForget (n : ℕ) (old new : ContextState) : Type 0 where
   pub stays : StaysRead old new
   pub answers : new.answers ≡ forgotten old.answers n
   pub same : answer_of old.answers n ≡ None → new.known ≡ old.known
   pub others : (k : ℕ) → k ≢ n → slice_get new.known k ≡ slice_get old.known k
+  pub details : LearnsNoDetails old.known new.known
 
--- after loads were listed nothing is changed but that more may be known
+-- after loads were listed nothing is changed but that more may be known, and no detail of it
 pub record AfterPreload (old new : ContextState) : Type 0 where
   pub stays : StaysRead old new
   pub answers : new.answers ≡ old.answers
   pub known : StaysKnown old.known new.known
+  pub details : LearnsNoDetails old.known new.known
 
 -- all is known that a parse of functions reads of all units
 abbrev pub AreReadBy : ReadingDepth → ContextState → Type 0

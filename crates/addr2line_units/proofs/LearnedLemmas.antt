@@ -6,7 +6,7 @@ use Rattle.std.proofs.lemmas.List.Folds.{find_at}
 use Rattle.std.proofs.lemmas.List.Quantifiers.{position-Some}
 use Rattle.std.proofs.lemmas.Option.{slice_get-map, slice_get_read, slice_get_within}
 use Rattle.std.proofs.Math.ListN.{set}
-use Rattle.std.specs.Prelude.{IfOk, IfSome, unwrap_or}
+use Rattle.std.specs.Prelude.{IfOk, IfSome, is_some, unwrap_or}
 use Rattle.std.specs.List.{position_or_len}
 use Rattle.gimli_read.specs.declared.error.Error.{Error}
 use Rattle.gimli_read.specs.Reading.{◌>>=◌}
@@ -197,6 +197,25 @@ answered_learns scope u offset v w before functions same e =
     let read = are_read offset v.functions (ap (λ f. knows_detail offset (known_functions f)) (sym functions) ∙ known) in
     let is = same (decided_if_read (is_decided v.view.state) (were_read v.functions) before.unread read) in
     ap (λ y. knows_detail offset (known_by y.view.state y.functions)) (sym is) ∙ e
+
+-- a unit that was looked at, by which nothing is changed of its functions
+pub looked_learns : {R : Type 0} (scope : Scope) (u : UnitRecord) (offset : ℕ) (v w : UnitEntries R) → AreEntriesOf scope u v → StayEntries v w → w.functions ≡ v.functions
+    → knows_detail offset (known_by w.view.state w.functions) ≡ true → knows_detail offset (known_by v.view.state v.functions) ≡ true
+looked_learns scope u offset v w before stay functions e =
+    let known = sym (same_known offset w.view.state w.functions w.functions e) ∙ e in
+    let read = are_read offset v.functions (ap (λ f. knows_detail offset (known_functions f)) (sym functions) ∙ known) in
+    let decided = decided_if_read (is_decided v.view.state) (were_read v.functions) before.unread read in
+    ap (λ y. knows_detail offset (known_by y.state v.functions)) (sym (stay.view (looked_if_decided v.view.state decided)))
+    ∙ ap (λ f. knows_detail offset (known_by w.view.state f)) (sym functions) ∙ e
+
+-- a unit that was forgotten
+pub forgotten_learns : {R : Type 0} (offset : ℕ) (v w : UnitEntries R) → (first_answer_of v ≡ None → w ≡ v) → (is_some (first_answer_of v) ≡ true → were_read w.functions ≡ false)
+    → knows_detail offset (known_by w.view.state w.functions) ≡ true → knows_detail offset (known_by v.view.state v.functions) ≡ true
+forgotten_learns offset v w same unread e = by (first_answer_of v) same unread
+  where
+    by : {X : Type 0} (a : Option X) → (a ≡ None → w ≡ v) → (is_some a ≡ true → were_read w.functions ≡ false) → knows_detail offset (known_by v.view.state v.functions) ≡ true
+    by None h k = ap (λ y. knows_detail offset (known_by y.view.state y.functions)) (sym (h refl)) ∙ e
+    by (Some a) h k = never (sym (k refl) ∙ are_read offset w.functions (sym (same_known offset w.view.state w.functions w.functions e) ∙ e))
 
 -- functions that were read, or were before, without a detail
 pub cache_reads_none : {R : Type 0} (f g : LazyFunctions R) → (were_read f ≡ true → g ≡ f) → (were_read f ≡ false → AreUnread (cached_functions g)) → ReadsNoDetail (cached_functions f) (cached_functions g)

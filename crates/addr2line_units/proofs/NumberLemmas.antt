@@ -16,6 +16,7 @@ use Rattle.addr2line_units.specs.declared.unit.ResUnit.{ResUnit}
 use Rattle.addr2line_units.specs.declared.unit_frames.UnitEntries.{UnitEntries}
 use Rattle.addr2line_units.specs.AfterUnits.{AfterAnswer, AfterForget, AfterLoad}
 use Rattle.addr2line_units.specs.CachedEntries.{AreEntriesOf, StayEntries, first_answer_of}
+use Rattle.addr2line_units.specs.CachedFunctions.{were_read}
 use Rattle.addr2line_units.specs.CachedKnown.{known_in}
 use Rattle.addr2line_units.specs.CachedUnits.{answers_in, decided_at}
 use Rattle.addr2line_units.specs.CachedViews.{is_decided}
@@ -27,7 +28,7 @@ use Rattle.addr2line_units.specs.UnitsState.{UnitsState}
 use Rattle.addr2line_units.specs.Views.{decided_answer, is_open, verdict}
 use Rattle.addr2line_units.proofs.AnswerLemmas.{answer_at, answered_if_ok, answers_if_refused, answers_set, decided_there, others_stay, same_set}
 use Rattle.addr2line_units.proofs.CachedUnitLemmas.{as_many_entries, entries_at, entries_set}
-use Rattle.addr2line_units.proofs.LearnedLemmas.{answered_learns, set_learns}
+use Rattle.addr2line_units.proofs.LearnedLemmas.{answered_learns, forgotten_learns, set_learns}
 use Rattle.addr2line_units.proofs.LoadLemmas.{as_many_answers, past_set, slice_get_none, this_unit, unknown_answer, unknown_load}
 use Rattle.addr2line_units.proofs.OpenLemmas.{not_open_there}
 use Rattle.addr2line_units.proofs.StateLemmas.{after_answer, after_forget, after_load}
@@ -73,6 +74,7 @@ module _ {R : Type 0} (scope : Scope) (units : List ResUnit) (held : List (UnitE
       answers = sym (past_set (answers_in held) n None past);
       same = λ e. refl;
       others = λ k ne. refl;
+      details = λ k offset e. e;
     }
       where
         past : length (answers_in held) ≤ n
@@ -160,7 +162,8 @@ module _ {R : Type 0} (scope : Scope) (units : List ResUnit) (held : List (UnitE
                 (λ h. absurd (let no = shut (not_open_there d us held n u v there in_entries at h) in cc))
                 (λ none. absurd (let f : false ≡ true = ap is_some (sym none) ∙ some ∙ refused.2 in cc)) (no_details functions same)
 
-        pub forgotten_there : (looks : ℕ) (was : Stop) → first_answer_of w ≡ None → (first_answer_of v ≡ None → w ≡ v) → AfterForget n (seen_units scope units held looks was) (seen_units scope units now looks FindsNothing)
-        forgotten_there looks was none same = after_forget scope units held i.entries now looks was n
+        pub forgotten_there : (looks : ℕ) (was : Stop) → first_answer_of w ≡ None → (first_answer_of v ≡ None → w ≡ v) → (is_some (first_answer_of v) ≡ true → were_read w.functions ≡ false) → AfterForget n (seen_units scope units held looks was) (seen_units scope units now looks FindsNothing)
+        forgotten_there looks was none same unread = after_forget scope units held i.entries now looks was n
             (answers_set held n w ∙ ap (λ a. set (answers_in held) n a) none)
             (λ h. same_set held n v w at (same (sym answer_is ∙ h))) (λ k ne. others_stay held n k w ne)
+            (λ k offset. set_learns held n v w in_entries at offset (forgotten_learns offset v w same unread) k)

@@ -251,16 +251,17 @@ module _ {R : Type 0} (scope : Scope) (units : List ResUnit) (held : List (UnitE
         none = none;
       }
 
-    pub after_forget : (n : ℕ) → answers_in entries ≡ forgotten (answers_in held) n → (answer_of (answers_in held) n ≡ None → entries ≡ held) → ((k : ℕ) → k ≢ n → slice_get entries k ≡ slice_get held k) → AfterForget n old new
-    after_forget n answers nothing others = record {
+    pub after_forget : (n : ℕ) → answers_in entries ≡ forgotten (answers_in held) n → (answer_of (answers_in held) n ≡ None → entries ≡ held) → ((k : ℕ) → k ≢ n → slice_get entries k ≡ slice_get held k) → LearnsNoDetails (known_in held) (known_in entries) → AfterForget n old new
+    after_forget n answers nothing others details = record {
       stays = refl;
       answers = answers;
       same = λ e. ap known_in (nothing e);
       others = λ k ne. known_unchanged held entries k (others k ne);
+      details = details;
     }
 
-    pub after_listing : StayAllEntries held entries → AfterListing old new
-    after_listing stay = record { stays = refl; answers = same_answers held entries stay; known = stays_known held entries stay }
+    pub after_listing : StayAllEntries held entries → LearnsNoDetails (known_in held) (known_in entries) → AfterListing old new
+    after_listing stay details = record { stays = refl; answers = same_answers held entries stay; known = stays_known held entries stay; details = details }
 
     pub after_reading : (reads : ReadingDepth) (result : Result (Unit {0}) Error) → HaveEntriesOf scope us entries → (WasNotRefused result → answers_in entries ≡ answers_after_parse reads scope us (answers_in held)) → AreFirstDecided reads scope us (answers_in held) (answers_in entries)
         → StayDecided held entries → ChangesOnly (AreReadBefore reads scope us (answers_in held)) held entries → OnOk result (HaveRead reads entries) → (HaveRead reads held → result ≡ Ok tt)

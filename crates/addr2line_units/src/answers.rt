@@ -4,6 +4,7 @@ ghost use Rattle.std.specs.Prelude.{◌≡◌, Err, IfErr, IfOk, None, OnOk, Ok,
 ghost use Rattle.gimli_read.specs.declared.error.Error.TheVariants.{OutOfMemory};
 ghost use Rattle.addr2line_lines.specs.SeenScope.{seen_scope};
 ghost use Rattle.addr2line_units.specs.CachedEntries.{AreEntriesOf, StayEntries, first_answer_of};
+ghost use Rattle.addr2line_units.specs.CachedFunctions.{were_read};
 ghost use Rattle.addr2line_units.specs.CachedViews.{IsViewOf, is_decided, waits};
 ghost use Rattle.addr2line_units.specs.AnswerMemory.{answer_takes_memory};
 ghost use Rattle.addr2line_units.specs.Loads.{view_fault};
@@ -58,6 +59,8 @@ impl<R: Reader> UnitEntries<R> {
         ensures right { AreEntriesOf (seen_scope scope.entry) dw_unit.now self.new }
         ensures answer { first_answer_of self.new ≡ None }
         ensures same { first_answer_of self.old ≡ None → self.new ≡ self.old }
+        ensures unread { is_some (first_answer_of self.old) ≡ true
+            → were_read self.new.functions ≡ false }
     {
         if self.view.is_answered() {
             self.view.forget(scope.file.dwarf, dw_unit);

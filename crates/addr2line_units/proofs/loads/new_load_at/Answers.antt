@@ -8,6 +8,7 @@ use Rattle.addr2line_units.specs.ListedLoads.{MarksLoad, if_new}
 use Rattle.addr2line_units.specs.Loads.{load_of_number}
 use Rattle.addr2line_units.proofs.AnswerLemmas.{decided_there, in_same_scope}
 use Rattle.addr2line_units.proofs.CachedUnitLemmas.{as_many_entries, entries_at, entries_set, stay_entries, stay_entries_set}
+use Rattle.addr2line_units.proofs.LearnedLemmas.{set_learns}
 use Rattle.addr2line_units.proofs.LoadLemmas.{load_there, marks_none, no_load}
 use Rattle.addr2line_units.proofs.OpenLemmas.{not_open_there}
 use Rattle.addr2line_units.proofs.loads.new_load_at.Goals as goal
@@ -114,3 +115,16 @@ returns-clause-not_open g c h =
     let scope = scope_in c.args.dwarf.now.value us c.args.sup.now in
     let within = subst (λ m. n < m) (as_many_entries scope us vs c.requires.right) (slice_get_within us n u there) in
     c.new_load.ensures.not_open (not_open_there c.args.dwarf.now.value us vs n u c.index_mut-entries.result.now there within c.index_mut-entries.ensures.value h)
+
+pub returns-in_default-clause-details : goal.returns-in_default-clause-details
+returns-in_default-clause-details g c = λ n offset e. e
+
+pub returns-clause-details : goal.returns-clause-details
+returns-clause-details g c = λ k offset.
+    let us = c.args.dw_units.now in
+    let vs = c.args.entries.now.items in
+    let n = c.args.number in
+    let u = c.in-Some.dw_unit.now in
+    let there : slice_get us n ≡ Some u = slice_get_read us _ n u refl (ltb-true _ _ (sym c.in-Some.ensures.lookup.0)) c.in-Some.ensures.lookup.1 in
+    let within = subst (λ m. n < m) (as_many_entries (scope_in c.args.dwarf.now.value us c.args.sup.now) us vs c.requires.right) (slice_get_within us n u there) in
+    set_learns vs n c.index_mut-entries.result.now c.new_load.new.self within c.index_mut-entries.ensures.value offset (c.new_load.ensures.details offset) k

@@ -22,6 +22,7 @@ loop-range-init g c =
       listed = ap (λ ls. ls ++ filter (is_new c.new-marks.result.items) all) none ∙ ap (λ m. filter (is_new m) all) blank ∙ none_marked all;
       decided = λ h. h;
       none_open = λ h. h;
+      details = λ n offset e. e;
     }
 
 pub returns-in_err-load-clause-memory : goal.returns-in_err-load-clause-memory
@@ -62,6 +63,7 @@ loop-range-preserved g c =
           c.in_ok-load.load (same_answers vs ws i.stay) c.in-Some.ensures.steps c.in_ok-load.ensures.gives c.in_ok-load.ensures.marked i.listed;
       decided = λ h. (subst (AllByRecursion (λ (r : UnitRange). decided_at vs r.unit ≡ true)) c.in-Some.ensures.steps (i.decided h)).1;
       none_open = λ h. (subst (NoneOpen c.args.dwarf.now.value us (answers_in vs)) c.in-Some.ensures.steps (i.none_open h)).1;
+      details = λ n offset e. i.details n offset (c.new_load_at.ensures.details n offset e);
     }
 
 pub returns-clause-gives : goal.returns-clause-gives
@@ -82,3 +84,12 @@ returns-in_err-push_if-clause-none_open g c h =
     let i = c.loop-range.invariant in
     let now = first_not_open c.args.dwarf.now.value c.args.dw_units.now c.args.entries.now.items c.loop-range.entries.items _ c.in-Some.range _ c.in-Some.ensures.steps i.stay (i.none_open h) in
     absurd (let e = c.in_ok-load.ensures.not_open now in let f = c.in_err-push_if.ensures.none (found_same _ _ e) in cc)
+
+pub returns-in_err-load-clause-details : goal.returns-in_err-load-clause-details
+returns-in_err-load-clause-details g c = λ n offset e. c.loop-range.invariant.details n offset (c.new_load_at.ensures.details n offset e)
+
+pub returns-in_err-push_if-clause-details : goal.returns-in_err-push_if-clause-details
+returns-in_err-push_if-clause-details g c = λ n offset e. c.loop-range.invariant.details n offset (c.new_load_at.ensures.details n offset e)
+
+pub returns-clause-details : goal.returns-clause-details
+returns-clause-details g c = c.loop-range.invariant.details

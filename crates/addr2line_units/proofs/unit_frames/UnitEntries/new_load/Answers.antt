@@ -5,6 +5,8 @@ use Rattle.addr2line_units.specs.Views.{awaited_load, is_open}
 use Rattle.addr2line_units.proofs.AnswerLemmas.{never_waits, no_answer, open_by_look}
 use Rattle.addr2line_units.proofs.LoadLemmas.{awaited_unit, awaits_this, is_new_load, marks_load, marks_none, not_new, open_awaits}
 use Rattle.addr2line_units.proofs.OpenLemmas.{waits_only_open}
+use Rattle.addr2line_lines.specs.SeenScope.{seen_scope}
+use Rattle.addr2line_units.proofs.LearnedLemmas.{looked_learns}
 use Rattle.addr2line_units.proofs.unit_frames.UnitEntries.new_load.Goals as goal
 
 pub returns-then-not-is_open-clause-gives : goal.returns-then-not-is_open-clause-gives
@@ -94,3 +96,23 @@ returns-clause-not_open g c h =
 pub returns-in_err-load-clause-decided : goal.returns-in_err-load-clause-decided
 returns-in_err-load-clause-decided g c h =
     absurd (never_waits c.args.self.now c.check_split.new.self true h c.check_split.ensures.same (search rules) refl)
+
+pub returns-then-not-is_open-clause-details : goal.returns-then-not-is_open-clause-details
+returns-then-not-is_open-clause-details g c offset =
+    looked_learns (seen_scope c.args.scope) c.args.dw_unit.now offset c.args.self.now c.check_split.new.self c.requires.right c.check_split.ensures.stay c.check_split.ensures.functions
+
+pub returns-in_err-mark_unit-clause-details : goal.returns-in_err-mark_unit-clause-details
+returns-in_err-mark_unit-clause-details g c offset =
+    looked_learns (seen_scope c.args.scope) c.args.dw_unit.now offset c.args.self.now c.check_split.new.self c.requires.right c.check_split.ensures.stay c.check_split.ensures.functions
+
+pub returns-then-not-branch-clause-details : goal.returns-then-not-branch-clause-details
+returns-then-not-branch-clause-details g c offset =
+    looked_learns (seen_scope c.args.scope) c.args.dw_unit.now offset c.args.self.now c.check_split.new.self c.requires.right c.check_split.ensures.stay c.check_split.ensures.functions
+
+pub returns-in_err-load-clause-details : goal.returns-in_err-load-clause-details
+returns-in_err-load-clause-details g c offset =
+    looked_learns (seen_scope c.args.scope) c.args.dw_unit.now offset c.args.self.now c.check_split.new.self c.requires.right c.check_split.ensures.stay c.check_split.ensures.functions
+
+pub returns-clause-details : goal.returns-clause-details
+returns-clause-details g c offset =
+    looked_learns (seen_scope c.args.scope) c.args.dw_unit.now offset c.args.self.now c.check_split.new.self c.requires.right c.check_split.ensures.stay c.check_split.ensures.functions

@@ -67,5 +67,5 @@ returns g c =
     let at = c.index_mut-entries.ensures.value in
     rw (sym c.self.view_is) (record {
       gives = sym (known_forget s.sources.units.items n u there);
-      after = forgotten_there (scope_of s.sources) s.units.items s.entries.items s.stop c.self.invariant n u there v at c.forget.new.self s.looks (seen_stop s.units.items s.entries.items s.stop) c.forget.ensures.answer c.forget.ensures.same;
+      after = forgotten_there (scope_of s.sources) s.units.items s.entries.items s.stop c.self.invariant n u there v at c.forget.new.self s.looks (seen_stop s.units.items s.entries.items s.stop) c.forget.ensures.answer c.forget.ensures.same c.forget.ensures.unread;
     })

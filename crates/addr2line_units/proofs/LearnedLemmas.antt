@@ -64,7 +64,7 @@ same_offset fs a b n within first is =
     let f = some_at fs n within in
     let x = position-Some (λ (f : CachedFunction). f.offset == a) fs n f.0 first in
     let y = position-Some (λ (f : CachedFunction). f.offset == b) fs n f.0 (ap (λ k. cond (nat_lt k (length fs)) (Some k) None) is ∙ ap (λ c. cond c (Some n) None) (lt-ltb _ _ within)) in
-    sym (eqb-true _ _ x.1.0) ∙ eqb-true _ _ y.1.0
+    sym (eqb-true _ _ x.1) ∙ eqb-true _ _ y.1
 
 -- no detail becomes known but that of the function at the probe
 table_learns : (probe offset : ℕ) (old new : FunctionTable) → ReadsNoOther probe old new → knows_detail offset (known_table new) ≡ true

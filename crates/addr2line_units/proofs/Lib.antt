@@ -10,6 +10,7 @@ pub mod UnitIndexLemmas
 pub mod UnitsLemmas
 pub mod UnitLemmas
 pub mod IndexLemmas
+pub mod LearnedLemmas
 pub mod LeastBeginLemmas
 pub mod FrameLemmas
 pub mod FunctionMemoryLemmas

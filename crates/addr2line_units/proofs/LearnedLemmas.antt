@@ -174,7 +174,7 @@ module _ {R : Type 0} (scope : Scope) (u : UnitRecord) (probe offset : ℕ) (v w
   entries_learn alone e =
       elim (functions_learn offset probe v.functions w.functions stay.functions alone (sym (same_known offset w.view.state w.functions w.functions e) ∙ e)) [
         | inl h ↦ inl (was_known h)
-        | inr h ↦ inr (by_view x.0 view_is h.0 h.1.0 h.1.1)
+        | inr h ↦ inr (by_view x.0 view_is h.0 h.1 h.2)
       ]
     where
       x : (y : View) × (verdict_in scope.file.sections u w.view.state ≡ Some (Some (Ok y)))

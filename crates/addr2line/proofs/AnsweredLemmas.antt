@@ -66,7 +66,7 @@ module _ (ranges : List UnitRange) (u : UnitsState) (i : IsContext ranges u) whe
       answers = of_ok r a.answers;
       refused = a.refused;
       others = a.others;
-      details = a.details;
+      functions = a.functions;
     }
       where
         of_ok : (q : Result (Unit {0}) Error) → OnOk q (now.answers ≡ with_answer d u.scope.file.units u.answers n given) → OnOk q (now.answers ≡ answered d u.answers n given)

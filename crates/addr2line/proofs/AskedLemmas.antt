@@ -23,6 +23,7 @@ use Rattle.addr2line_units.specs.RangedUnits.{IndexedUnit, unit_records}
 use Rattle.addr2line_units.specs.Views.{FirstAnswers, View, decided_answer, is_open, verdict}
 use Rattle.addr2line_units.proofs.AnswerLemmas.{others_stay}
 use Rattle.addr2line_units.proofs.FramesLookupLemmas.{parses_more}
+use Rattle.addr2line_units.proofs.LearnedLemmas.{learns_no_details}
 use Rattle.addr2line_units.proofs.LoadLawLemmas.{waits_listed}
 use Rattle.addr2line_units.proofs.WaitLemmas.{same_number}
 use Rattle.addr2line.proofs.FilesLookupLemmas.{none_if_open}
@@ -210,7 +211,7 @@ module _ (faults : OnFault) (probe : ℕ) where
     reads_answered given (Ok x) a = by_answers (answered mid.sections mid.answers n given) a.sections a.answers a.parsed a.others
         (λ m e k q. subst (λ x. Asks mid.sections x m k) (sym (now_is m e)) (still_asked faults (main_scope mid.sections m) m.units mid.answers n (opens m e) given probe (cover probe m.ranges) k q))
         (λ m e k q. subst (λ x. asks_lines_of (main_scope mid.sections m) m.units x probe k ≡ true) (sym (now_is m e)) (still_lines faults (main_scope mid.sections m) m.units mid.answers n (opens m e) given probe k q))
-        a.details
+        (learns_no_details mid.known new.known a.functions)
         (λ m e k offset q. subst (λ x. function_offset_of (main_scope mid.sections m) m.units x probe k ≡ Some offset) (sym (now_is m e)) (still_there faults (main_scope mid.sections m) m.units mid.answers n (opens m e) given probe k offset q))
       where
         now_is : (m : UnitIndex) → index_units mid.sections ≡ Ok m → answered mid.sections mid.answers n given ≡ with_answer mid.sections (unit_records m.units) mid.answers n given
@@ -218,4 +219,4 @@ module _ (faults : OnFault) (probe : ℕ) where
 
         opens : (m : UnitIndex) → index_units mid.sections ≡ Ok m → IsOpenThere mid.sections m.units mid.answers n
         opens m e = open_there mid.sections m.units mid.answers n (waits_listed faults (main_scope mid.sections m) m.units mid.answers probe n (cover probe m.ranges) (stop_is m e)).0
-    reads_answered given (Err f) a = by_answers mid.answers a.sections a.refused.1 a.parsed a.others (λ m e k q. q) (λ m e k q. q) a.details (λ m e k offset q. q)
+    reads_answered given (Err f) a = by_answers mid.answers a.sections a.refused.1 a.parsed a.others (λ m e k q. q) (λ m e k q. q) (learns_no_details mid.known new.known a.functions) (λ m e k offset q. q)

@@ -77,14 +77,14 @@ module _ (ranges : List UnitRange) (u : UnitsState) (i : IsContext ranges u) whe
     known = of_made ranges u i (λ s xs rs. is_open_at s.file.sections s.file.units u.answers n ≡ false → StaysKnown u.known now.known) a.known;
     same = a.same;
     others = a.others;
-    details = a.details;
+    functions = a.functions;
   }
 
   pub after_forget : (n : ℕ) (now : UnitsState) → left.AfterForget n u now → AfterForget n (seen_context u) (seen_context now)
-  after_forget n now a = record { stays = stays_read now a.stays; answers = a.answers; same = a.same; others = a.others; details = a.details }
+  after_forget n now a = record { stays = stays_read now a.stays; answers = a.answers; same = a.same; others = a.others; functions = a.functions }
 
   pub after_preload : (now : UnitsState) → left.AfterListing u now → AfterPreload (seen_context u) (seen_context now)
-  after_preload now a = record { stays = stays_read now a.stays; answers = a.answers; known = a.known; details = a.details }
+  after_preload now a = record { stays = stays_read now a.stays; answers = a.answers; known = a.known; functions = a.functions }
 
   module _ (reads : ReadingDepth) (r : Result (Unit {0}) Error) (now : UnitsState) (a : left.AfterReading reads r u now) where
     pub after_parse : AfterParse reads r (seen_context u) (seen_context now)

@@ -8,7 +8,7 @@ use Rattle.gimli.specs.Sections.{Sections}
 use Rattle.addr2line_units.specs.declared.frames_lookup.OnFault.{OnFault}
 use Rattle.addr2line_units.specs.AnswerMemory.{answer_takes_memory}
 use Rattle.addr2line_units.specs.FramesLookup.{with_answer}
-use Rattle.addr2line_units.specs.KnownEntries.{LearnsNoDetails}
+use Rattle.addr2line_units.specs.KnownEntries.{LearnsNoFunctions}
 use Rattle.addr2line_units.specs.Loads.{load_result}
 use Rattle.addr2line_units.specs.UnitIndex.{index_units}
 use Rattle.addr2line_units.specs.RangedUnits.{unit_records}
@@ -30,7 +30,7 @@ load_reply d answers n given =
     index_units d >>= λ m. load_result d (unit_records m.units) answers n given
 
 -- after an answer to the load of the unit of a number, or after OutOfMemory in the place of given
--- sections, nothing is changed but of that unit, and no detail becomes known; after OutOfMemory
+-- sections, nothing is changed but of that unit, and no function becomes known; after OutOfMemory
 -- all first answers are as before, and what was known stays known
 pub record AfterAnswer (n : ℕ) (given : Option Sections) (result : Result (Unit {0}) Error)
     (old new : ContextState) : Type 0 where
@@ -41,7 +41,7 @@ pub record AfterAnswer (n : ℕ) (given : Option Sections) (result : Result (Uni
   pub refused : IfErr result (λ e. (e ≡ OutOfMemory) × (new.answers ≡ old.answers)
       × StaysKnown old.known new.known × (is_some given ≡ true))
   pub others : (k : ℕ) → k ≢ n → slice_get new.known k ≡ slice_get old.known k
-  pub details : LearnsNoDetails old.known new.known
+  pub functions : LearnsNoFunctions old.known new.known
 
 -- after an answer with which a lookup went on, or after OutOfMemory in the answer's place: where
 -- the answer takes no memory, only if that is the fault of its view

@@ -18,7 +18,8 @@ use Rattle.addr2line.specs.Loads.{forget_reply, load_reply, parse_reply}
 use Rattle.addr2line.specs.Lookups.{frames_of, lookup_stop, unit_of}
 use Rattle.addr2line.specs.Replies.{CopiedReply, Located, Ranged, Framed, Ended}
 
--- no context that is made is refused so, nor are the lines of all units, or what is read of them
+-- no context that is made is refused so, nor are the lines of all units, or a parse of their
+-- functions
 pub record ContextsAreNotRefused : Type 0 where
   pub made : (d : Sections) → WasNotRefused (new_context d)
   pub lines : (d : Sections) → WasNotRefused (lines_of_all d)

@@ -14,7 +14,7 @@ use Rattle.addr2line_units.specs.Cover.{cover}
 use Rattle.addr2line_units.specs.FramesLookup.{answer_of, main_scope}
 use Rattle.addr2line_units.specs.FunctionParseLaws.{IsReached}
 use Rattle.addr2line_units.specs.FunctionParses.{AreFirstDecided, AreReadBefore, AreReadyFor, ReadsNoMemory, answers_after_parse, read_of_units}
-use Rattle.addr2line_units.specs.KnownEntries.{LearnsNoDetails, knows_at}
+use Rattle.addr2line_units.specs.KnownEntries.{LearnsNoDetails, LearnsNoFunctions, knows_at}
 use Rattle.addr2line_units.specs.Loads.{NoneOpen, forget_result, forgotten, is_open_at}
 use Rattle.gimli_read.specs.Alike.{WasNotRefused}
 use Rattle.addr2line_units.specs.UnitIndex.{UnitIndex, index_units}
@@ -59,7 +59,7 @@ pub record StaysRead (old new : ContextState) : Type 0 where
   pub looks : new.looks ≡ old.looks
 
 -- after an answer to the load of the unit of a number nothing is changed but of that unit, of which
--- what was known stays unless it was open, and nothing is changed where it had an answer; no detail
+-- what was known stays unless it was open, and nothing is changed where it had an answer; no function
 -- becomes known; where memory was refused in place of it, all first answers are as before, and what
 -- was known stays
 pub record AfterLoad (n : ℕ) (given : Option Sections) (result : Result (Unit {0}) Error)
@@ -76,23 +76,23 @@ pub record AfterLoad (n : ℕ) (given : Option Sections) (result : Result (Unit 
   pub same : (first : Option Sections) → answer_of old.answers n ≡ Some first
       → new.known ≡ old.known
   pub others : (k : ℕ) → k ≢ n → slice_get new.known k ≡ slice_get old.known k
-  pub details : LearnsNoDetails old.known new.known
+  pub functions : LearnsNoFunctions old.known new.known
 
 -- after the unit of a number is forgotten nothing is changed but of that unit, and nothing at all
--- where it had no answer; no detail becomes known
+-- where it had no answer; no function becomes known
 pub record AfterForget (n : ℕ) (old new : ContextState) : Type 0 where
   pub stays : StaysRead old new
   pub answers : new.answers ≡ forgotten old.answers n
   pub same : answer_of old.answers n ≡ None → new.known ≡ old.known
   pub others : (k : ℕ) → k ≢ n → slice_get new.known k ≡ slice_get old.known k
-  pub details : LearnsNoDetails old.known new.known
+  pub functions : LearnsNoFunctions old.known new.known
 
--- after loads were listed nothing is changed but that more may be known, and no detail of it
+-- after loads were listed nothing is changed but that more may be known, and no function of it
 pub record AfterPreload (old new : ContextState) : Type 0 where
   pub stays : StaysRead old new
   pub answers : new.answers ≡ old.answers
   pub known : StaysKnown old.known new.known
-  pub details : LearnsNoDetails old.known new.known
+  pub functions : LearnsNoFunctions old.known new.known
 
 -- all is known that a parse of functions reads of all units
 abbrev pub AreReadBy : ReadingDepth → ContextState → Type 0

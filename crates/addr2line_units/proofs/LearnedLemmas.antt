@@ -27,7 +27,7 @@ use Rattle.addr2line_units.specs.CachedEntries.{AreEntriesOf, StayEntries, first
 use Rattle.addr2line_units.specs.CachedFunctions.{AreFunctionsOf, ReadsNoDetail, ReadsNoOther, StayFunctions, cached_functions, has_detail, is_cached_fault, no_functions, were_read}
 use Rattle.addr2line_units.specs.CachedKnown.{known_answer, known_by, known_fault, known_function, known_functions, known_in, known_table}
 use Rattle.addr2line_units.specs.CachedViews.{cached_verdict, is_decided, seen_sections, unboxed, verdict_in, view_by, view_in, was_looked_at}
-use Rattle.addr2line_units.specs.KnownEntries.{AllKnown, KnownFunction, NothingKnown, is_detail_known, knows_detail, knows_detail_at}
+use Rattle.addr2line_units.specs.KnownEntries.{AllKnown, FunctionsKnown, HasNoFunctions, KnownEntries, KnownFunction, LearnsNoDetails, LearnsNoFunctions, NothingKnown, is_detail_known, knows_detail, knows_detail_at}
 use Rattle.addr2line_units.specs.UnitFrames.{function_offset_among, function_offset_by, function_offset_in}
 use Rattle.addr2line_units.specs.Views.{View, verdict, view_scope}
 use Rattle.addr2line_units.proofs.AnswerLemmas.{others_stay}
@@ -189,33 +189,82 @@ module _ {R : Type 0} (scope : Scope) (u : UnitRecord) (probe offset : ℕ) (v w
           let same = stay.view (looked_if_decided v.view.state decided) in
           same_known offset v.view.state v.functions w.functions (ap (λ y. knows_detail offset (known_by y.state w.functions)) (sym same) ∙ e) ∙ h
 
+-- no functions are known that were not read
+unread_has_none : {R : Type 0} (s : ViewState R) (f : LazyFunctions R) → were_read f ≡ false → HasNoFunctions (known_by s f)
+unread_has_none s (lazy.Read t) e = absurd cc
+unread_has_none s (lazy.Faulty x) e = absurd cc
+unread_has_none {R = R} s lazy.Unread e = by s
+  where
+    of_fault : (b : Bool) → HasNoFunctions (if b then AllKnown else NothingKnown)
+    of_fault true = tt
+    of_fault false = tt
+
+    of_answer : {X : Type 0} (r : Result X Error) → HasNoFunctions (known_answer {R = R} r lazy.Unread)
+    of_answer (Ok x) = tt
+    of_answer (Err x) = of_fault (is_cached_fault x)
+
+    by : (s : ViewState R) → HasNoFunctions (known_by s lazy.Unread)
+    by states.Undecided = tt
+    by states.Open = tt
+    by states.Main = tt
+    by (states.Unnamed x) = of_fault (is_cached_fault x)
+    by (states.Answered a) = of_answer a.unit
+
+-- what is known of a unit is what was, or no function of it is
+abbrev UnitLearnsNone : {R : Type 0} → UnitEntries R → UnitEntries R → Type 0
+UnitLearnsNone v w = (known_by w.view.state w.functions ≡ known_by v.view.state v.functions) ⊎ HasNoFunctions (known_by w.view.state w.functions)
+
+decided_or_unread : {R : Type 0} (scope : Scope) (u : UnitRecord) (v w : UnitEntries R) → AreEntriesOf scope u v → w.functions ≡ v.functions → (is_decided v.view.state ≡ true → known_by w.view.state w.functions ≡ known_by v.view.state v.functions) → UnitLearnsNone v w
+decided_or_unread scope u v w before functions same = by (is_decided v.view.state) refl
+  where
+    by : (b : Bool) → is_decided v.view.state ≡ b → UnitLearnsNone v w
+    by true e = inl (same e)
+    by false e = inr (unread_has_none w.view.state w.functions (ap were_read functions ∙ before.unread e))
+
 -- a unit that was answered, by which nothing is changed of its functions
-pub answered_learns : {R : Type 0} (scope : Scope) (u : UnitRecord) (offset : ℕ) (v w : UnitEntries R) → AreEntriesOf scope u v → w.functions ≡ v.functions → (is_decided v.view.state ≡ true → w ≡ v)
-    → knows_detail offset (known_by w.view.state w.functions) ≡ true → knows_detail offset (known_by v.view.state v.functions) ≡ true
-answered_learns scope u offset v w before functions same e =
-    let known = sym (same_known offset w.view.state w.functions w.functions e) ∙ e in
-    let read = are_read offset v.functions (ap (λ f. knows_detail offset (known_functions f)) (sym functions) ∙ known) in
-    let is = same (decided_if_read (is_decided v.view.state) (were_read v.functions) before.unread read) in
-    ap (λ y. knows_detail offset (known_by y.view.state y.functions)) (sym is) ∙ e
+pub answered_learns : {R : Type 0} (scope : Scope) (u : UnitRecord) (v w : UnitEntries R) → AreEntriesOf scope u v → w.functions ≡ v.functions → (is_decided v.view.state ≡ true → w ≡ v) → UnitLearnsNone v w
+answered_learns scope u v w before functions same = decided_or_unread scope u v w before functions (λ e. ap (λ y. known_by y.view.state y.functions) (same e))
 
 -- a unit that was looked at, by which nothing is changed of its functions
-pub looked_learns : {R : Type 0} (scope : Scope) (u : UnitRecord) (offset : ℕ) (v w : UnitEntries R) → AreEntriesOf scope u v → StayEntries v w → w.functions ≡ v.functions
-    → knows_detail offset (known_by w.view.state w.functions) ≡ true → knows_detail offset (known_by v.view.state v.functions) ≡ true
-looked_learns scope u offset v w before stay functions e =
-    let known = sym (same_known offset w.view.state w.functions w.functions e) ∙ e in
-    let read = are_read offset v.functions (ap (λ f. knows_detail offset (known_functions f)) (sym functions) ∙ known) in
-    let decided = decided_if_read (is_decided v.view.state) (were_read v.functions) before.unread read in
-    ap (λ y. knows_detail offset (known_by y.state v.functions)) (sym (stay.view (looked_if_decided v.view.state decided)))
-    ∙ ap (λ f. knows_detail offset (known_by w.view.state f)) (sym functions) ∙ e
+pub looked_learns : {R : Type 0} (scope : Scope) (u : UnitRecord) (v w : UnitEntries R) → AreEntriesOf scope u v → StayEntries v w → w.functions ≡ v.functions → UnitLearnsNone v w
+looked_learns scope u v w before stay functions = decided_or_unread scope u v w before functions
+    (λ e. ap (known_by w.view.state) functions ∙ ap (λ y. known_by y.state v.functions) (stay.view (looked_if_decided v.view.state e)))
 
 -- a unit that was forgotten
-pub forgotten_learns : {R : Type 0} (offset : ℕ) (v w : UnitEntries R) → (first_answer_of v ≡ None → w ≡ v) → (is_some (first_answer_of v) ≡ true → were_read w.functions ≡ false)
-    → knows_detail offset (known_by w.view.state w.functions) ≡ true → knows_detail offset (known_by v.view.state v.functions) ≡ true
-forgotten_learns offset v w same unread e = by (first_answer_of v) same unread
+pub forgotten_learns : {R : Type 0} (v w : UnitEntries R) → (first_answer_of v ≡ None → w ≡ v) → (is_some (first_answer_of v) ≡ true → were_read w.functions ≡ false) → UnitLearnsNone v w
+forgotten_learns v w same unread = by (first_answer_of v) same unread
   where
-    by : {X : Type 0} (a : Option X) → (a ≡ None → w ≡ v) → (is_some a ≡ true → were_read w.functions ≡ false) → knows_detail offset (known_by v.view.state v.functions) ≡ true
-    by None h k = ap (λ y. knows_detail offset (known_by y.view.state y.functions)) (sym (h refl)) ∙ e
-    by (Some a) h k = never (sym (k refl) ∙ are_read offset w.functions (sym (same_known offset w.view.state w.functions w.functions e) ∙ e))
+    by : {X : Type 0} (a : Option X) → (a ≡ None → w ≡ v) → (is_some a ≡ true → were_read w.functions ≡ false) → UnitLearnsNone v w
+    by None h k = inl (ap (λ y. known_by y.view.state y.functions) (h refl))
+    by (Some a) h k = inr (unread_has_none w.view.state w.functions (k refl))
+
+-- where no function becomes known no detail does
+none_has_no_detail : (offset : ℕ) (k : KnownEntries) → HasNoFunctions k → knows_detail offset k ≡ true → ⊥
+none_has_no_detail offset NothingKnown h e = never e
+none_has_no_detail offset AllKnown h e = never e
+none_has_no_detail offset (FunctionsKnown ranges functions) h e = absurd h
+
+pub unit_learns_none : {R : Type 0} (offset : ℕ) (v w : UnitEntries R) → UnitLearnsNone v w → knows_detail offset (known_by w.view.state w.functions) ≡ true → knows_detail offset (known_by v.view.state v.functions) ≡ true
+unit_learns_none offset v w h e = elim h [
+  | inl same ↦ ap (knows_detail offset) (sym same) ∙ e
+  | inr none ↦ absurd (none_has_no_detail offset (known_by w.view.state w.functions) none e)
+]
+
+pub learns_no_details : (old new : List KnownEntries) → LearnsNoFunctions old new → LearnsNoDetails old new
+learns_no_details old new h n offset e = elim (h n) [
+  | inl same ↦ ap (λ o. unwrap_or (option_map (knows_detail offset) o) false) (sym same) ∙ e
+  | inr none ↦ absurd (by (slice_get new n) none e)
+]
+  where
+    by : (o : Option KnownEntries) → IfSome o HasNoFunctions → unwrap_or (option_map (knows_detail offset) o) false ≡ true → ⊥
+    by None k f = never f
+    by (Some x) k f = none_has_no_detail offset x k f
+
+pub learns_none_twice : (old mid new : List KnownEntries) → LearnsNoFunctions old mid → LearnsNoFunctions mid new → LearnsNoFunctions old new
+learns_none_twice old mid new a b n = elim (b n) [
+  | inl same ↦ elim (a n) [ inl e ↦ inl (same ∙ e) | inr none ↦ inr (subst (λ o. IfSome o HasNoFunctions) (sym same) none) ]
+  | inr none ↦ inr none
+]
 
 -- functions that were read, or were before, without a detail
 pub cache_reads_none : {R : Type 0} (f g : LazyFunctions R) → (were_read f ≡ true → g ≡ f) → (were_read f ≡ false → AreUnread (cached_functions g)) → ReadsNoDetail (cached_functions f) (cached_functions g)
@@ -237,7 +286,7 @@ module _ {R : Type 0} (offset : ℕ) where
 pub functions_learn_none : {R : Type 0} (scope : Scope) (u : UnitRecord) (offset : ℕ) (v w : UnitEntries R) (f : LazyFunctions R) → AreEntriesOf scope u v → w.functions ≡ v.functions → (is_decided v.view.state ≡ true → w ≡ v) → StayFunctions w.functions f
     → ReadsNoDetail (cached_functions w.functions) (cached_functions f) → knows_detail offset (known_by w.view.state f) ≡ true → knows_detail offset (known_by v.view.state v.functions) ≡ true
 functions_learn_none scope u offset v w f before functions same stay none e =
-    answered_learns scope u offset v w before functions same
+    unit_learns_none offset v w (answered_learns scope u v w before functions same)
     (same_known offset w.view.state w.functions f e ∙ functions_keep offset w.functions f stay none (sym (same_known offset w.view.state f f e) ∙ e))
 
 -- what is known of a unit of which nothing is changed
@@ -257,8 +306,24 @@ module _ {R : Type 0} (vs : List (UnitEntries R)) (n : ℕ) (v w : UnitEntries R
       ∙ ap (λ o. unwrap_or (option_map (knows_detail offset) o) false) (slice_get-map (λ x. known_by x.view.state x.functions) vs n ∙ ap (option_map (λ x. known_by x.view.state x.functions)) (slice_get_read vs (length vs) n v refl within at))
 
   -- what becomes known of it alone becomes known
-  pub set_learns : (knows_detail offset (known_by w.view.state w.functions) ≡ true → knows_detail offset (known_by v.view.state v.functions) ≡ true) → (k : ℕ) → knows_detail_at (known_in (set vs n w)) offset k ≡ true → knows_detail_at (known_in vs) offset k ≡ true
-  set_learns none k e = elim (cases_eq k n) [
+  pub set_details : (knows_detail offset (known_by w.view.state w.functions) ≡ true → knows_detail offset (known_by v.view.state v.functions) ≡ true) → (k : ℕ) → knows_detail_at (known_in (set vs n w)) offset k ≡ true → knows_detail_at (known_in vs) offset k ≡ true
+  set_details none k e = elim (cases_eq k n) [
     | inl is ↦ detail_at k is ∙ none (sym (detail_set k is) ∙ e)
     | inr ne ↦ detail_unchanged vs (set vs n w) offset k (others_stay vs n k w ne) e
   ]
+
+-- of the unit of a number alone no function becomes known
+pub set_learns : {R : Type 0} (vs : List (UnitEntries R)) (n : ℕ) (v w : UnitEntries R) → n < length vs → v ≡ get_or vs n v → UnitLearnsNone v w → LearnsNoFunctions (known_in vs) (known_in (set vs n w))
+set_learns vs n v w within at none k = elim (cases_eq k n) [
+  | inl is ↦ elim none [
+    | inl same ↦ inl (now is ∙ ap Some same ∙ sym (was is))
+    | inr h ↦ inr (subst (λ o. IfSome o HasNoFunctions) (sym (now is)) h)
+  ]
+  | inr ne ↦ inl (known_unchanged vs (set vs n w) k (others_stay vs n k w ne))
+]
+  where
+    now : k ≡ n → slice_get (known_in (set vs n w)) k ≡ Some (known_by w.view.state w.functions)
+    now e = ap (slice_get (known_in (set vs n w))) e ∙ slice_get-map (λ x. known_by x.view.state x.functions) (set vs n w) n ∙ ap (option_map (λ x. known_by x.view.state x.functions)) (got_set vs n w within)
+
+    was : k ≡ n → slice_get (known_in vs) k ≡ Some (known_by v.view.state v.functions)
+    was e = ap (slice_get (known_in vs)) e ∙ slice_get-map (λ x. known_by x.view.state x.functions) vs n ∙ ap (option_map (λ x. known_by x.view.state x.functions)) (slice_get_read vs (length vs) n v refl within at)

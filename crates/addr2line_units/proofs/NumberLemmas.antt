@@ -21,7 +21,7 @@ use Rattle.addr2line_units.specs.CachedKnown.{known_in}
 use Rattle.addr2line_units.specs.CachedUnits.{answers_in, decided_at}
 use Rattle.addr2line_units.specs.CachedViews.{is_decided}
 use Rattle.addr2line_units.specs.FramesLookup.{FindsNothing, Stop, answer_of}
-use Rattle.addr2line_units.specs.KnownEntries.{LearnsNoDetails}
+use Rattle.addr2line_units.specs.KnownEntries.{LearnsNoFunctions}
 use Rattle.addr2line_units.specs.Loads.{load_result, view_fault}
 use Rattle.addr2line_units.specs.StoredUnits.{AreUnits, seen_units}
 use Rattle.addr2line_units.specs.UnitsState.{UnitsState}
@@ -49,7 +49,9 @@ module _ {R : Type 0} (scope : Scope) (units : List ResUnit) (held : List (UnitE
       answers = sym (unknown_answer d us (answers_in held) n given none);
       refused = tt;
       others = λ k ne. refl;
-      details = λ k offset e. e;
+      functions = λ k. inl refl;
+      known = λ shut k. record { at = λ probe q. q; whole = λ kind q. q };
+      same = λ one e. refl;
       not_open = λ shut. refl;
       beside = as_many_entries scope us held i.entries ∙ sym (as_many_answers held);
     }
@@ -63,7 +65,7 @@ module _ {R : Type 0} (scope : Scope) (units : List ResUnit) (held : List (UnitE
       known = λ shut k. record { at = λ probe q. q; whole = λ kind q. q };
       same = λ one e. refl;
       others = λ k ne. refl;
-      details = λ k offset e. e;
+      functions = λ k. inl refl;
       not_open = λ shut. sym (unknown_load d us (answers_in held) n given none);
       none = λ e. sym (unknown_load d us (answers_in held) n None none);
     }
@@ -74,7 +76,7 @@ module _ {R : Type 0} (scope : Scope) (units : List ResUnit) (held : List (UnitE
       answers = sym (past_set (answers_in held) n None past);
       same = λ e. refl;
       others = λ k ne. refl;
-      details = λ k offset e. e;
+      functions = λ k. inl refl;
     }
       where
         past : length (answers_in held) ≤ n
@@ -130,15 +132,6 @@ module _ {R : Type 0} (scope : Scope) (units : List ResUnit) (held : List (UnitE
           abbrev new : UnitsState
           new = seen_units scope units now looks FindsNothing
 
-          no_details : w.functions ≡ v.functions → (is_decided v.view.state ≡ true → w ≡ v) → LearnsNoDetails (known_in held) (known_in now)
-          no_details functions same k offset e = set_learns held n v w in_entries at offset (answered_learns scope u offset v w right_there functions same) k e
-
-          pub answered_there : w.functions ≡ v.functions → (is_decided v.view.state ≡ true → w ≡ v) → (r : Result (Unit {0}) Error) → OnOk r (first_answer_of w ≡ decided_answer d u (first_answer_of v) given) → IfErr r (λ e. (e ≡ OutOfMemory) × StayEntries v w × (b ≡ true)) → (is_open d u (first_answer_of v) ≡ false → r ≡ Ok tt) → AfterAnswer n given r old new
-          answered_there functions same r answer refused shut = after_answer scope units held i.entries now looks was n given r (λ h. some ∙ h)
-              (answered_if_ok d us held n u v w given r within in_entries unit at answer)
-              (answers_if_refused held n v w r (b ≡ true) in_entries at refused) (λ k ne. others_stay held n k w ne) (no_details functions same)
-              (λ h. shut (not_open_there d us held n u v there in_entries at h))
-
           module _ (own : AreEntriesOf scope u w) (functions : w.functions ≡ v.functions) (same : is_decided v.view.state ≡ true → w ≡ v) where
             same_decided : decided_at held n ≡ true → now ≡ held
             same_decided h = same_set held n v w at (same (decided_there held n v at h))
@@ -146,13 +139,22 @@ module _ {R : Type 0} (scope : Scope) (units : List ResUnit) (held : List (UnitE
             many : length us ≡ length now
             many = as_many_entries scope us now (entries_set scope us held n u w unit i.entries own)
 
+            learns : LearnsNoFunctions (known_in held) (known_in now)
+            learns = set_learns held n v w in_entries at (answered_learns scope u v w right_there functions same)
+
+            pub answered_there : (r : Result (Unit {0}) Error) → OnOk r (first_answer_of w ≡ decided_answer d u (first_answer_of v) given) → IfErr r (λ e. (e ≡ OutOfMemory) × StayEntries v w × (b ≡ true)) → (is_open d u (first_answer_of v) ≡ false → r ≡ Ok tt) → AfterAnswer n given r old new
+            answered_there r answer refused shut = after_answer scope units held i.entries now looks was n (λ k ne. others_stay held n k w ne) same_decided many given r (λ h. some ∙ h)
+                (answered_if_ok d us held n u v w given r within in_entries unit at answer)
+                (answers_if_refused held n v w r (b ≡ true) in_entries at refused) learns
+                (λ h. shut (not_open_there d us held n u v there in_entries at h))
+
             -- the answer was given
             pub loaded_there : (r : Result (Unit {0}) Error) → first_answer_of w ≡ decided_answer d u (first_answer_of v) given → r ≡ view_fault (verdict d u (first_answer_of w)) → AfterLoad n given r old new
             loaded_there r answer fault =
                 let told = load_told given r answer fault in
                 let answers = answered_if_ok d us held n u v w given (Ok tt) within in_entries unit at answer in
                 after_load scope units held i.entries now looks was n (λ k ne. others_stay held n k w ne) same_decided many given r (λ h. answers) (inr answers) (λ ne. absurd (ne told)) (λ shut. told)
-                (λ e. told ∙ ap (load_result d us (answers_in held) n) e) (no_details functions same)
+                (λ e. told ∙ ap (load_result d us (answers_in held) n) e) learns
 
             -- memory was refused
             pub refused_there : (e : Error) → (e ≡ OutOfMemory) × StayEntries v w × (b ≡ true) → (is_open d u (first_answer_of v) ≡ false → ◌≡◌ {A = Result (Unit {0}) Error} (Err e) (Ok tt)) → AfterLoad n given (Err e) old new
@@ -160,10 +162,10 @@ module _ {R : Type 0} (scope : Scope) (units : List ResUnit) (held : List (UnitE
                 let r = answers_if_refused held n v w (Err e) (b ≡ true) in_entries at refused in
                 after_load scope units held i.entries now looks was n (λ k ne. others_stay held n k w ne) same_decided many given (Err e) (λ told. absurd (told refused.0)) (inl r.1) (λ ne. (r.1, r.2))
                 (λ h. absurd (let no = shut (not_open_there d us held n u v there in_entries at h) in cc))
-                (λ none. absurd (let f : false ≡ true = ap is_some (sym none) ∙ some ∙ refused.2 in cc)) (no_details functions same)
+                (λ none. absurd (let f : false ≡ true = ap is_some (sym none) ∙ some ∙ refused.2 in cc)) learns
 
         pub forgotten_there : (looks : ℕ) (was : Stop) → first_answer_of w ≡ None → (first_answer_of v ≡ None → w ≡ v) → (is_some (first_answer_of v) ≡ true → were_read w.functions ≡ false) → AfterForget n (seen_units scope units held looks was) (seen_units scope units now looks FindsNothing)
         forgotten_there looks was none same unread = after_forget scope units held i.entries now looks was n
             (answers_set held n w ∙ ap (λ a. set (answers_in held) n a) none)
             (λ h. same_set held n v w at (same (sym answer_is ∙ h))) (λ k ne. others_stay held n k w ne)
-            (λ k offset. set_learns held n v w in_entries at offset (forgotten_learns offset v w same unread) k)
+            (set_learns held n v w in_entries at (forgotten_learns v w same unread))

@@ -35,7 +35,7 @@ use Rattle.addr2line_units.specs.CachedUnits.{HaveEntriesOf, ReadsOnly, StayAllE
 use Rattle.addr2line_units.specs.FramesLookup.{FindsNothing, LookupAsks, Stop, Waits, answer_of, asks_lines_of, ends_lookup, has_many_of, holds_along, with_answer}
 use Rattle.addr2line_units.specs.FunctionParses.{AreFirstDecided, AreReadBefore, IsReadyFor, answers_after_parse, read_of_units}
 use Rattle.addr2line_units.specs.CachedKnown.{known_in}
-use Rattle.addr2line_units.specs.KnownEntries.{LearnsNoDetails, knows_at}
+use Rattle.addr2line_units.specs.KnownEntries.{LearnsNoDetails, LearnsNoFunctions, knows_at}
 use Rattle.addr2line_units.specs.Loads.{forgotten, is_open_at, load_result}
 use Rattle.addr2line_units.specs.Located.{is_found, looks_along, spans_along, spans_in, spans_or_fault}
 use Rattle.addr2line_units.specs.Parsed.{AllAskFor, AreAllParsed, AreParsed, AreReadyForAll, AsksFor, LeadTo, ParsesOnly, TakeNone, TakeNoneForAll, has_parsed, ready_along}
@@ -196,23 +196,6 @@ module _ {R : Type 0} (scope : Scope) (units : List ResUnit) (held : List (UnitE
     beside : length us ≡ length (answers_in held)
     beside = as_many_entries scope us held own ∙ sym (as_many_answers held)
 
-    pub after_answer : (n : ℕ) (given : Option Sections) (result : Result (Unit {0}) Error) {P : Type 0} → (P → is_some given ≡ true) → OnOk result (answers_in entries ≡ with_answer d us (answers_in held) n given)
-        → IfErr result (λ e. (e ≡ OutOfMemory) × (answers_in entries ≡ answers_in held) × StayAllEntries held entries × P) → ((k : ℕ) → k ≢ n → slice_get entries k ≡ slice_get held k) → LearnsNoDetails (known_in held) (known_in entries) → (is_open_at d us (answers_in held) n ≡ false → result ≡ Ok tt) → AfterAnswer n given result old new
-    after_answer n given result {P} wants answers refused others details not_open = record {
-      stays = refl;
-      answers = answers;
-      refused = of_err result refused;
-      others = λ k ne. known_unchanged held entries k (others k ne);
-      details = details;
-      not_open = not_open;
-      beside = beside;
-    }
-      where
-        of_err : (r : Result (Unit {0}) Error) → IfErr r (λ e. (e ≡ OutOfMemory) × (answers_in entries ≡ answers_in held) × StayAllEntries held entries × P)
-            → IfErr r (λ e. (e ≡ OutOfMemory) × (answers_in entries ≡ answers_in held) × StaysKnown (known_in held) (known_in entries) × (is_some given ≡ true))
-        of_err (Ok x) h = tt
-        of_err (Err e) h = (h.0, h.1, stays_known held entries h.2, wants h.3)
-
     same_or : (n k : ℕ) → (k ≡ n) ⊎ (k ≢ n)
     same_or n k = elim (eqb_tells k n) [ inl p ↦ inl p.1 | inr q ↦ inr q.1 ]
 
@@ -231,37 +214,59 @@ module _ {R : Type 0} (scope : Scope) (units : List ResUnit) (held : List (UnitE
         | inr past ↦ none_whole kind entries k (subst (λ l. l ≤ k) many past)
       ]
 
+      stays_shut : is_open_at d us (answers_in held) n ≡ false → StaysKnown (known_in held) (known_in entries)
+      stays_shut shut k = record {
+        at = λ probe q. known_is probe entries k ∙ shut_stays probe k shut (same_or n k) (sym (known_is probe held k) ∙ q);
+        whole = λ kind q. shut_whole kind k shut (same_or n k) q;
+      }
+
+      pub after_answer : (given : Option Sections) (result : Result (Unit {0}) Error) {P : Type 0} → (P → is_some given ≡ true) → OnOk result (answers_in entries ≡ with_answer d us (answers_in held) n given)
+          → IfErr result (λ e. (e ≡ OutOfMemory) × (answers_in entries ≡ answers_in held) × StayAllEntries held entries × P) → LearnsNoFunctions (known_in held) (known_in entries) → (is_open_at d us (answers_in held) n ≡ false → result ≡ Ok tt) → AfterAnswer n given result old new
+      after_answer given result {P} wants answers refused functions not_open = record {
+        stays = refl;
+        answers = answers;
+        refused = of_err result refused;
+        others = λ k ne. known_unchanged held entries k (others k ne);
+        functions = functions;
+        known = stays_shut;
+        same = λ one e. ap known_in (same_decided (answered_is_decided held n one e));
+        not_open = not_open;
+        beside = beside;
+      }
+        where
+          of_err : (r : Result (Unit {0}) Error) → IfErr r (λ e. (e ≡ OutOfMemory) × (answers_in entries ≡ answers_in held) × StayAllEntries held entries × P)
+              → IfErr r (λ e. (e ≡ OutOfMemory) × (answers_in entries ≡ answers_in held) × StaysKnown (known_in held) (known_in entries) × (is_some given ≡ true))
+          of_err (Ok x) h = tt
+          of_err (Err e) h = (h.0, h.1, stays_known held entries h.2, wants h.3)
+
       pub after_load : (given : Option Sections) (result : Result (Unit {0}) Error) → (WasNotRefused result → answers_in entries ≡ with_answer d us (answers_in held) n given)
           → (answers_in entries ≡ answers_in held) ⊎ (answers_in entries ≡ with_answer d us (answers_in held) n given)
           → (result ≢ load_result d us (answers_in held) n given → (answers_in entries ≡ answers_in held) × StayAllEntries held entries)
-          → (is_open_at d us (answers_in held) n ≡ false → result ≡ load_result d us (answers_in held) n given) → (given ≡ None → result ≡ load_result d us (answers_in held) n None) → LearnsNoDetails (known_in held) (known_in entries) → AfterLoad n given result old new
-      after_load given result answers begun refused not_open none details = record {
+          → (is_open_at d us (answers_in held) n ≡ false → result ≡ load_result d us (answers_in held) n given) → (given ≡ None → result ≡ load_result d us (answers_in held) n None) → LearnsNoFunctions (known_in held) (known_in entries) → AfterLoad n given result old new
+      after_load given result answers begun refused not_open none functions = record {
         stays = refl;
         answers = answers;
         begun = begun;
         refused = λ ne. let r = refused ne in (r.0, stays_known held entries r.1);
-        known = λ shut k. record {
-          at = λ probe q. known_is probe entries k ∙ shut_stays probe k shut (same_or n k) (sym (known_is probe held k) ∙ q);
-          whole = λ kind q. shut_whole kind k shut (same_or n k) q;
-        };
+        known = stays_shut;
         same = λ one e. ap known_in (same_decided (answered_is_decided held n one e));
         others = λ k ne. known_unchanged held entries k (others k ne);
-        details = details;
+        functions = functions;
         not_open = not_open;
         none = none;
       }
 
-    pub after_forget : (n : ℕ) → answers_in entries ≡ forgotten (answers_in held) n → (answer_of (answers_in held) n ≡ None → entries ≡ held) → ((k : ℕ) → k ≢ n → slice_get entries k ≡ slice_get held k) → LearnsNoDetails (known_in held) (known_in entries) → AfterForget n old new
-    after_forget n answers nothing others details = record {
+    pub after_forget : (n : ℕ) → answers_in entries ≡ forgotten (answers_in held) n → (answer_of (answers_in held) n ≡ None → entries ≡ held) → ((k : ℕ) → k ≢ n → slice_get entries k ≡ slice_get held k) → LearnsNoFunctions (known_in held) (known_in entries) → AfterForget n old new
+    after_forget n answers nothing others functions = record {
       stays = refl;
       answers = answers;
       same = λ e. ap known_in (nothing e);
       others = λ k ne. known_unchanged held entries k (others k ne);
-      details = details;
+      functions = functions;
     }
 
-    pub after_listing : StayAllEntries held entries → LearnsNoDetails (known_in held) (known_in entries) → AfterListing old new
-    after_listing stay details = record { stays = refl; answers = same_answers held entries stay; known = stays_known held entries stay; details = details }
+    pub after_listing : StayAllEntries held entries → LearnsNoFunctions (known_in held) (known_in entries) → AfterListing old new
+    after_listing stay functions = record { stays = refl; answers = same_answers held entries stay; known = stays_known held entries stay; functions = functions }
 
     pub after_reading : (reads : ReadingDepth) (result : Result (Unit {0}) Error) → HaveEntriesOf scope us entries → (WasNotRefused result → answers_in entries ≡ answers_after_parse reads scope us (answers_in held)) → AreFirstDecided reads scope us (answers_in held) (answers_in entries)
         → StayDecided held entries → ChangesOnly (AreReadBefore reads scope us (answers_in held)) held entries → OnOk result (HaveRead reads entries) → (HaveRead reads held → result ≡ Ok tt)

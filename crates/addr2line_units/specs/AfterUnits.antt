@@ -14,7 +14,7 @@ use Rattle.addr2line_units.specs.declared.parses.ReadingDepth.{ReadingDepth}
 use Rattle.addr2line_units.specs.declared.parses.ReadingDepth.TheVariants as kinds
 use Rattle.addr2line_units.specs.FramesLookup.{FindsNothing, LookupAsks, answer_of, asks_lines_of, holds_along, function_offset_of, with_answer}
 use Rattle.addr2line_units.specs.FunctionParses.{AreFirstDecided, AreReadBefore, AreReadyFor, answers_after_parse, read_of_units}
-use Rattle.addr2line_units.specs.KnownEntries.{LearnsDetailsAt, LearnsNoDetails, knows_at}
+use Rattle.addr2line_units.specs.KnownEntries.{LearnsDetailsAt, LearnsNoDetails, LearnsNoFunctions, knows_at}
 use Rattle.addr2line_units.specs.Loads.{forgotten, is_open_at, load_result}
 use Rattle.addr2line_units.specs.Located.{is_found, looks_along}
 use Rattle.addr2line_units.specs.Parsed.{AllAskFor, AreAllParsed, AreParsed, AreReadyForAll, AsksFor, LeadTo, ParsesOnly, StaysParsed, TakeNone, TakeNoneForAll, ready_along}
@@ -29,7 +29,8 @@ pub record AfterLines (asks : ℕ → Type 0) (old new : UnitsState) : Type 0 wh
   pub parsed : StaysParsed old.parsed new.parsed
   pub only : ParsesOnly asks old.parsed new.parsed
 
--- after a lookup of a row along ranges the same lookup parses nothing more, but after OutOfMemory
+-- after a lookup of a row along ranges the same lookup parses nothing more, but after OutOfMemory,
+-- where something is left to parse
 pub record AfterRow {X : Type 0} (probe : ℕ) (ranges : List UnitRange)
     (result : Result (Option X) Error) (old new : UnitsState) : Type 0 where
   pub lines : AfterLines (AsksFor old.scope.file.sections old.units probe ranges) old new
@@ -41,8 +42,8 @@ pub record AfterRow {X : Type 0} (probe : ℕ) (ranges : List UnitRange)
   pub counted : is_found result ≡ true → old.looks < new.looks
   pub cost : new.looks ≤ old.looks + looks_along old.scope.file.sections old.units ranges
 
--- after the lines of units along ranges were parsed, or after OutOfMemory, over readers that share
--- their bytes or don't
+-- after the lines of units along ranges were parsed, or after OutOfMemory, where those of a unit
+-- are left that take memory, over readers that share their bytes or don't
 pub record AfterCaching {X : Type 0} (shares : Bool) (ranges : List UnitRange)
     (result : Result X Error) (old new : UnitsState) : Type 0 where
   pub lines : AfterLines (LeadTo ranges) old new
@@ -51,8 +52,8 @@ pub record AfterCaching {X : Type 0} (shares : Bool) (ranges : List UnitRange)
   pub memory : TakeNone shares old.units new.parsed ranges → WasNotRefused result
   pub refused : IfErr result (λ e. e ≡ OutOfMemory)
 
--- after the lines of all units were parsed, up to the first fault, or after OutOfMemory, over
--- readers that share their bytes or don't
+-- after the lines of all units were parsed, up to the first fault, or after OutOfMemory, where
+-- those of a unit are left that take memory, over readers that share their bytes or don't
 pub record AfterLineParse (shares : Bool) (result : Result (Unit {0}) Error) (old new : UnitsState)
     : Type 0 where
   pub lines : AfterLines (AllAskFor old.scope.file.sections old.units) old new
@@ -103,8 +104,9 @@ abbrev pub StayRead : UnitsState → UnitsState → Type 0
 StayRead old new = new
     ≡ record old { answers = new.answers; known = new.known; stop = FindsNothing }
 
--- after an answer to the load of the unit of a number nothing is changed but of that unit, and no
--- detail becomes known; after OutOfMemory in the place of given sections all first answers are as
+-- after an answer to the load of the unit of a number nothing is changed but of that unit, of which
+-- what was known stays unless it was open, and nothing is changed where it had an answer; no
+-- function becomes known; after OutOfMemory in the place of given sections all first answers are as
 -- before, and what was known stays known
 pub record AfterAnswer (n : ℕ) (given : Option Sections) (result : Result (Unit {0}) Error)
     (old new : UnitsState) : Type 0 where
@@ -114,7 +116,11 @@ pub record AfterAnswer (n : ℕ) (given : Option Sections) (result : Result (Uni
   pub refused : IfErr result (λ e. (e ≡ OutOfMemory) × (new.answers ≡ old.answers)
       × StaysKnown old.known new.known × (is_some given ≡ true))
   pub others : (k : ℕ) → k ≢ n → slice_get new.known k ≡ slice_get old.known k
-  pub details : LearnsNoDetails old.known new.known
+  pub functions : LearnsNoFunctions old.known new.known
+  pub known : is_open_at old.scope.file.sections old.scope.file.units old.answers n ≡ false
+      → StaysKnown old.known new.known
+  pub same : (first : Option Sections) → answer_of old.answers n ≡ Some first
+      → new.known ≡ old.known
   pub not_open : is_open_at old.scope.file.sections old.scope.file.units old.answers n ≡ false
       → result ≡ Ok tt
   pub beside : length old.scope.file.units ≡ length old.answers
@@ -136,27 +142,27 @@ pub record AfterLoad (n : ℕ) (given : Option Sections) (result : Result (Unit 
   pub same : (first : Option Sections) → answer_of old.answers n ≡ Some first
       → new.known ≡ old.known
   pub others : (k : ℕ) → k ≢ n → slice_get new.known k ≡ slice_get old.known k
-  pub details : LearnsNoDetails old.known new.known
+  pub functions : LearnsNoFunctions old.known new.known
   pub not_open : is_open_at old.scope.file.sections old.scope.file.units old.answers n ≡ false
       → result ≡ load_result old.scope.file.sections old.scope.file.units old.answers n given
   pub none : given ≡ None
       → result ≡ load_result old.scope.file.sections old.scope.file.units old.answers n None
 
 -- after the unit of a number is forgotten nothing is changed but of that unit, and nothing at all
--- where it had no answer; no detail becomes known
+-- where it had no answer; no function becomes known
 pub record AfterForget (n : ℕ) (old new : UnitsState) : Type 0 where
   pub stays : StayRead old new
   pub answers : new.answers ≡ forgotten old.answers n
   pub same : answer_of old.answers n ≡ None → new.known ≡ old.known
   pub others : (k : ℕ) → k ≢ n → slice_get new.known k ≡ slice_get old.known k
-  pub details : LearnsNoDetails old.known new.known
+  pub functions : LearnsNoFunctions old.known new.known
 
--- after loads were listed nothing is changed but that more may be known, and no detail of it
+-- after loads were listed nothing is changed but that more may be known, and no function of it
 pub record AfterListing (old new : UnitsState) : Type 0 where
   pub stays : StayRead old new
   pub answers : new.answers ≡ old.answers
   pub known : StaysKnown old.known new.known
-  pub details : LearnsNoDetails old.known new.known
+  pub functions : LearnsNoFunctions old.known new.known
 
 -- after a parse of all functions open units are decided by none, up to the first fault; where
 -- memory was refused, some of the first ones. What was known of the others stays, and where

@@ -3,8 +3,8 @@ use Rattle.std.specs.Prelude.{Bool, false, Option, Some, None}
 use Rattle.gimli.specs.Sections.{Sections}
 use Rattle.addr2line_units.specs.Views.{first_unit_takes_memory}
 
--- whether memory may be taken for an answer: for the first unit of its sections, or to look for one
--- where readers share their bytes
+-- whether memory may be taken for an answer: for the first unit of its sections, which is stored,
+-- or to look for one where readers share their bytes
 abbrev pub answer_takes_memory : Bool → Option Sections → Bool
 answer_takes_memory shares None = false
 answer_takes_memory shares (Some d) = first_unit_takes_memory shares d

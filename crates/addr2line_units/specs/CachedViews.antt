@@ -19,7 +19,7 @@ use Rattle.addr2line_units.specs.Views.{View, first_unit, is_open, main_view, pa
 abbrev pub seen_sections : {R : Type 0} → AnsweredLoad R → Option Sections
 seen_sections a = option_map (λ d. d.value) a.sections
 
--- a unit that stands in a box, or the fault
+-- the unit that stands in a box, if there is one, or the fault
 abbrev pub unboxed : Result (Option (Box UnitRecord Global)) Error
     → Result (Option UnitRecord) Error
 unboxed given = result_map (option_map box_value) given

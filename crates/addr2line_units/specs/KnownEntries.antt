@@ -1,7 +1,7 @@
 -- What is known of the entries of a unit.
 -- Own: nothing before they are read; all of a unit that waits for an answer, or has a fault; else
 -- the functions of its view, and of each its detail, or the fault of that, once it is read.
-use Rattle.std.specs.Prelude.{◌≡◌, ◌⊎◌, ℕ, ◌==◌, Bool, true, false, List, slice_get, Option, Some, option_and_then, option_map, unwrap_or}
+use Rattle.std.specs.Prelude.{◌≡◌, ◌⊎◌, ℕ, ◌==◌, Bool, true, false, List, slice_get, Option, Some, IfSome, option_and_then, option_map, unwrap_or}
 use Rattle.std.specs.List.{find}
 use Rattle.addr2line_lines.specs.Functions.{FunctionRange, function_offset_at}
 
@@ -71,6 +71,17 @@ knows_detail_at known offset n =
 abbrev pub LearnsDetailsAt : (ℕ → Option ℕ) → List KnownEntries → List KnownEntries → Type 0
 LearnsDetailsAt at old new = (n offset : ℕ) → knows_detail_at new offset n ≡ true
     → (knows_detail_at old offset n ≡ true) ⊎ (at n ≡ Some offset)
+
+-- no function of a unit is known
+abbrev pub HasNoFunctions : KnownEntries → Type 0
+HasNoFunctions NothingKnown = Unit {0}
+HasNoFunctions AllKnown = Unit {0}
+HasNoFunctions (FunctionsKnown ranges functions) = ⊥
+
+-- no function becomes known: what is known of each unit is what was, or no function is
+abbrev pub LearnsNoFunctions : List KnownEntries → List KnownEntries → Type 0
+LearnsNoFunctions old new =
+    (n : ℕ) → (slice_get new n ≡ slice_get old n) ⊎ IfSome (slice_get new n) HasNoFunctions
 
 -- no detail becomes known
 abbrev pub LearnsNoDetails : List KnownEntries → List KnownEntries → Type 0

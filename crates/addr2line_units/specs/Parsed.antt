@@ -69,7 +69,7 @@ abbrev pub AreReadyForAll : Sections → List IndexedUnit → List Bool → Type
 AreReadyForAll d units parsed = (n : ℕ) → AllAskFor d units n → has_parsed parsed n ≡ true
 
 -- the lines of all units are parsed, or no memory is taken for them, up to the first that has a
--- fault
+-- fault, and of that one too
 abbrev pub TakeNoneForAll : Bool → Sections → List IndexedUnit → List Bool → Type 0
 TakeNoneForAll shares d units parsed =
     (n : ℕ) → AllAskFor d units n → parses_no_memory shares units parsed n ≡ true

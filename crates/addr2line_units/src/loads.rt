@@ -1,6 +1,6 @@
 //! Answers to the loads of units that no lookup waits for, and the loads that an address waits for.
 
-ghost use Rattle.std.specs.Prelude.{◌≡◌, ◌++◌, ◌<◌, ℕ, IfErr, IfOk, IsOk, None, Ok, OnOk, Some, false, length, not, option_map, slice_get, true};
+ghost use Rattle.std.specs.Prelude.{◌≡◌, ◌⊎◌, ◌++◌, ◌<◌, IfErr, IfOk, IsOk, None, Ok, OnOk, Some, false, length, not, option_map, slice_get, true};
 ghost use Rattle.std.specs.List.{AllByRecursion};
 ghost use Rattle.std.specs.Option.{option_to_list};
 ghost use Rattle.gimli_read.specs.declared.error.Error.TheVariants.{OutOfMemory};
@@ -12,7 +12,7 @@ ghost use Rattle.addr2line_units.specs.CachedEntries.{AreEntriesOf, StayEntries,
 ghost use Rattle.addr2line_units.specs.CachedUnits.{HaveEntriesOf, StayAllEntries, answers_in, decided_at};
 ghost use Rattle.addr2line_units.specs.CachedKnown.{known_by, known_in};
 ghost use Rattle.addr2line_units.specs.CachedViews.{is_decided};
-ghost use Rattle.addr2line_units.specs.KnownEntries.{LearnsNoDetails, knows_detail};
+ghost use Rattle.addr2line_units.specs.KnownEntries.{HasNoFunctions, LearnsNoFunctions};
 ghost use Rattle.addr2line_units.specs.ListedLoads.{MarksLoad, MarksUnit, if_new, is_marked};
 ghost use Rattle.addr2line_units.specs.Loads.{NoneOpen, forget_result, is_open_at, load_of_number, load_result, loads_along, view_fault};
 ghost use Rattle.addr2line_units.specs.UnitRangesLeft.{ranges_left};
@@ -137,9 +137,9 @@ impl<R: Reader> UnitEntries<R> {
         ensures refused { IfErr result (λ e. e ≡ OutOfMemory) }
         ensures right { AreEntriesOf (seen_scope scope.entry) dw_unit.now self.new }
         ensures stay { StayEntries self.old self.new }
-        ensures details { (offset : ℕ)
-            → knows_detail offset (known_by self.new.view.state self.new.functions) ≡ true
-            → knows_detail offset (known_by self.old.view.state self.old.functions) ≡ true }
+        ensures functions { (known_by self.new.view.state self.new.functions
+            ≡ known_by self.old.view.state self.old.functions)
+            ⊎ HasNoFunctions (known_by self.new.view.state self.new.functions) }
     {
         self.check_split(scope, dw_unit);
         if !self.is_open() {
@@ -177,7 +177,8 @@ fn new_load_at<R: Reader>(
     ensures right { HaveEntriesOf (scope_in dwarf.now.value dw_units.now sup.now) dw_units.now
         entries.new.items }
     ensures stay { StayAllEntries entries.old.items entries.new.items }
-    ensures details { LearnsNoDetails (known_in entries.old.items) (known_in entries.new.items) }
+    ensures functions {
+        LearnsNoFunctions (known_in entries.old.items) (known_in entries.new.items) }
 {
     let Some(dw_unit) = dw_units.get(number) else {
         return Ok(None);
@@ -233,7 +234,8 @@ fn read_loads<R: Reader>(
     ensures right { HaveEntriesOf (scope_in dwarf.now.value dw_units.now sup.now) dw_units.now
         entries.new.items }
     ensures stay { StayAllEntries entries.old.items entries.new.items }
-    ensures details { LearnsNoDetails (known_in entries.old.items) (known_in entries.new.items) }
+    ensures functions {
+        LearnsNoFunctions (known_in entries.old.items) (known_in entries.new.items) }
 {
     let mut loads = Vec::new(alloc);
     let mut marks = Vec::new(alloc);

@@ -1,4 +1,4 @@
-use Rattle.std.proofs.Common.{◌≡◌, ◌<◌, None, Some, ap, arith, ltb-false, ltb-true, option_map, refl, slice_get, subst, sym}
+use Rattle.std.proofs.Common.{◌≡◌, ◌<◌, inl, None, Some, ap, arith, ltb-false, ltb-true, option_map, refl, slice_get, subst, sym}
 use Rattle.std.specs.Prelude.{IfOk, OnOk}
 use Rattle.std.proofs.lemmas.Option.{get_or_from_slice_get, slice_get_past, slice_get_read, slice_get_within}
 use Rattle.addr2line_lines.specs.SeenScope.{seen_file}
@@ -116,15 +116,15 @@ returns-clause-not_open g c h =
     let within = subst (λ m. n < m) (as_many_entries scope us vs c.requires.right) (slice_get_within us n u there) in
     c.new_load.ensures.not_open (not_open_there c.args.dwarf.now.value us vs n u c.index_mut-entries.result.now there within c.index_mut-entries.ensures.value h)
 
-pub returns-in_default-clause-details : goal.returns-in_default-clause-details
-returns-in_default-clause-details g c = λ n offset e. e
+pub returns-in_default-clause-functions : goal.returns-in_default-clause-functions
+returns-in_default-clause-functions g c = λ n. inl refl
 
-pub returns-clause-details : goal.returns-clause-details
-returns-clause-details g c = λ k offset.
+pub returns-clause-functions : goal.returns-clause-functions
+returns-clause-functions g c =
     let us = c.args.dw_units.now in
     let vs = c.args.entries.now.items in
     let n = c.args.number in
     let u = c.in-Some.dw_unit.now in
     let there : slice_get us n ≡ Some u = slice_get_read us _ n u refl (ltb-true _ _ (sym c.in-Some.ensures.lookup.0)) c.in-Some.ensures.lookup.1 in
     let within = subst (λ m. n < m) (as_many_entries (scope_in c.args.dwarf.now.value us c.args.sup.now) us vs c.requires.right) (slice_get_within us n u there) in
-    set_learns vs n c.index_mut-entries.result.now c.new_load.new.self within c.index_mut-entries.ensures.value offset (c.new_load.ensures.details offset) k
+    set_learns vs n c.index_mut-entries.result.now c.new_load.new.self within c.index_mut-entries.ensures.value c.new_load.ensures.functions

@@ -1,4 +1,4 @@
-use Rattle.std.proofs.Common.{◌≡◌, ◌∙◌, ◌++◌, [], ap, filter, rules, subst, sym, true}
+use Rattle.std.proofs.Common.{◌≡◌, ◌∙◌, inl, refl, ◌++◌, [], ap, filter, rules, subst, sym, true}
 use Rattle.std.specs.List.{AllByRecursion}
 use Rattle.std.proofs.lemmas.List.{append-nil}
 use Rattle.addr2line_units.specs.declared.index.UnitRange.{UnitRange}
@@ -7,6 +7,8 @@ use Rattle.addr2line_units.specs.ListedLoads.{is_new}
 use Rattle.addr2line_units.specs.Loads.{NoneOpen, load_of_number, loads_along}
 use Rattle.addr2line_units.specs.UnitRangesLeft.{ranges_left}
 use Rattle.addr2line_units.proofs.CachedUnitLemmas.{same_answers, stay_entries, stay_entries_over}
+use Rattle.addr2line_units.specs.CachedKnown.{known_in}
+use Rattle.addr2line_units.proofs.LearnedLemmas.{learns_none_twice}
 use Rattle.addr2line_units.proofs.LoadLemmas.{decided_stays, found_same, listed_step, none_marked}
 use Rattle.addr2line_units.proofs.OpenLemmas.{first_not_open}
 use Rattle.addr2line_units.proofs.loads.read_loads.Goals as goal
@@ -22,7 +24,7 @@ loop-range-init g c =
       listed = ap (λ ls. ls ++ filter (is_new c.new-marks.result.items) all) none ∙ ap (λ m. filter (is_new m) all) blank ∙ none_marked all;
       decided = λ h. h;
       none_open = λ h. h;
-      details = λ n offset e. e;
+      functions = λ n. inl refl;
     }
 
 pub returns-in_err-load-clause-memory : goal.returns-in_err-load-clause-memory
@@ -63,7 +65,7 @@ loop-range-preserved g c =
           c.in_ok-load.load (same_answers vs ws i.stay) c.in-Some.ensures.steps c.in_ok-load.ensures.gives c.in_ok-load.ensures.marked i.listed;
       decided = λ h. (subst (AllByRecursion (λ (r : UnitRange). decided_at vs r.unit ≡ true)) c.in-Some.ensures.steps (i.decided h)).1;
       none_open = λ h. (subst (NoneOpen c.args.dwarf.now.value us (answers_in vs)) c.in-Some.ensures.steps (i.none_open h)).1;
-      details = λ n offset e. i.details n offset (c.new_load_at.ensures.details n offset e);
+      functions = learns_none_twice (known_in vs) (known_in ws) (known_in c.new_load_at.new.entries.items) i.functions c.new_load_at.ensures.functions;
     }
 
 pub returns-clause-gives : goal.returns-clause-gives
@@ -85,11 +87,13 @@ returns-in_err-push_if-clause-none_open g c h =
     let now = first_not_open c.args.dwarf.now.value c.args.dw_units.now c.args.entries.now.items c.loop-range.entries.items _ c.in-Some.range _ c.in-Some.ensures.steps i.stay (i.none_open h) in
     absurd (let e = c.in_ok-load.ensures.not_open now in let f = c.in_err-push_if.ensures.none (found_same _ _ e) in cc)
 
-pub returns-in_err-load-clause-details : goal.returns-in_err-load-clause-details
-returns-in_err-load-clause-details g c = λ n offset e. c.loop-range.invariant.details n offset (c.new_load_at.ensures.details n offset e)
+pub returns-in_err-load-clause-functions : goal.returns-in_err-load-clause-functions
+returns-in_err-load-clause-functions g c =
+    learns_none_twice (known_in c.args.entries.now.items) (known_in c.loop-range.entries.items) (known_in c.new_load_at.new.entries.items) c.loop-range.invariant.functions c.new_load_at.ensures.functions
 
-pub returns-in_err-push_if-clause-details : goal.returns-in_err-push_if-clause-details
-returns-in_err-push_if-clause-details g c = λ n offset e. c.loop-range.invariant.details n offset (c.new_load_at.ensures.details n offset e)
+pub returns-in_err-push_if-clause-functions : goal.returns-in_err-push_if-clause-functions
+returns-in_err-push_if-clause-functions g c =
+    learns_none_twice (known_in c.args.entries.now.items) (known_in c.loop-range.entries.items) (known_in c.new_load_at.new.entries.items) c.loop-range.invariant.functions c.new_load_at.ensures.functions
 
-pub returns-clause-details : goal.returns-clause-details
-returns-clause-details g c = c.loop-range.invariant.details
+pub returns-clause-functions : goal.returns-clause-functions
+returns-clause-functions g c = c.loop-range.invariant.functions

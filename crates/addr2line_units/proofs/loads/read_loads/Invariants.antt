@@ -3,7 +3,7 @@ use Rattle.std.specs.List.{AllByRecursion}
 use Rattle.addr2line_units.specs.declared.index.UnitRange.{UnitRange}
 use Rattle.addr2line_units.specs.CachedUnits.{HaveEntriesOf, StayAllEntries, answers_in, decided_at}
 use Rattle.addr2line_units.specs.CachedKnown.{known_in}
-use Rattle.addr2line_units.specs.KnownEntries.{LearnsNoDetails}
+use Rattle.addr2line_units.specs.KnownEntries.{LearnsNoFunctions}
 use Rattle.addr2line_units.specs.ListedLoads.{is_new}
 use Rattle.addr2line_units.specs.Loads.{NoneOpen, load_of_number, loads_along}
 use Rattle.addr2line_units.specs.UnitRangesLeft.{ranges_left}
@@ -20,7 +20,7 @@ invariant-loop-range g l =
       listed : l.loads.items ++ filter (is_new l.marks.items) (loads_along load (ranges_left l.ranges)) ≡ loads_along load (ranges_left l.fn.ranges);
       decided : AllByRecursion (λ (r : UnitRange). decided_at l.fn.entries.items r.unit ≡ true) (ranges_left l.fn.ranges) → AllByRecursion (λ (r : UnitRange). decided_at l.fn.entries.items r.unit ≡ true) (ranges_left l.ranges);
       none_open : NoneOpen l.dwarf.value l.dw_units (answers_in l.fn.entries.items) (ranges_left l.fn.ranges) → NoneOpen l.dwarf.value l.dw_units (answers_in l.fn.entries.items) (ranges_left l.ranges);
-      details : LearnsNoDetails (known_in l.fn.entries.items) (known_in l.entries.items);
+      functions : LearnsNoFunctions (known_in l.fn.entries.items) (known_in l.entries.items);
     }
 
 abbrev pub decreases-loop-range : goal.decreases-loop-range

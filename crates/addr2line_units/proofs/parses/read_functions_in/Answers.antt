@@ -6,7 +6,7 @@ use Rattle.addr2line_lines.specs.SeenScope.{seen_scope}
 use Rattle.addr2line_units.proofs.AnswerLemmas.{answered_all, answers_stay}
 use Rattle.addr2line_units.proofs.CachedUnitLemmas.{as_many_entries, entries_at, entries_set}
 use Rattle.addr2line_units.proofs.CachedParseLemmas.{changes_set, decided_same, decided_set, number_is, read_entry, read_set, takes_of_set}
-use Rattle.addr2line_units.proofs.LearnedLemmas.{set_learns}
+use Rattle.addr2line_units.proofs.LearnedLemmas.{set_details}
 use Rattle.addr2line_units.proofs.NumberedFrames.{none_past}
 use Rattle.addr2line_units.proofs.ReadyLemmas.{ready_entry, ready_set, ready_was_set, same_set}
 use Rattle.addr2line_units.proofs.parses.read_functions_in.Goals as goal
@@ -180,4 +180,4 @@ returns-clause-no_memory g c = λ none.
 
 pub returns-clause-details : goal.returns-clause-details
 returns-clause-details g c = λ is. λ n offset.
-    set_learns c.args.entries.now.items c.args.number c.index_mut-entries.result.now c.read.new.self c.requires.there c.index_mut-entries.ensures.value offset (c.read.ensures.details is offset) n
+    set_details c.args.entries.now.items c.args.number c.index_mut-entries.result.now c.read.new.self c.requires.there c.index_mut-entries.ensures.value offset (c.read.ensures.details is offset) n

@@ -97,22 +97,22 @@ pub returns-in_err-load-clause-decided : goal.returns-in_err-load-clause-decided
 returns-in_err-load-clause-decided g c h =
     absurd (never_waits c.args.self.now c.check_split.new.self true h c.check_split.ensures.same (search rules) refl)
 
-pub returns-then-not-is_open-clause-details : goal.returns-then-not-is_open-clause-details
-returns-then-not-is_open-clause-details g c offset =
-    looked_learns (seen_scope c.args.scope) c.args.dw_unit.now offset c.args.self.now c.check_split.new.self c.requires.right c.check_split.ensures.stay c.check_split.ensures.functions
+pub returns-then-not-is_open-clause-functions : goal.returns-then-not-is_open-clause-functions
+returns-then-not-is_open-clause-functions g c =
+    looked_learns (seen_scope c.args.scope) c.args.dw_unit.now c.args.self.now c.check_split.new.self c.requires.right c.check_split.ensures.stay c.check_split.ensures.functions
 
-pub returns-in_err-mark_unit-clause-details : goal.returns-in_err-mark_unit-clause-details
-returns-in_err-mark_unit-clause-details g c offset =
-    looked_learns (seen_scope c.args.scope) c.args.dw_unit.now offset c.args.self.now c.check_split.new.self c.requires.right c.check_split.ensures.stay c.check_split.ensures.functions
+pub returns-in_err-mark_unit-clause-functions : goal.returns-in_err-mark_unit-clause-functions
+returns-in_err-mark_unit-clause-functions g c =
+    looked_learns (seen_scope c.args.scope) c.args.dw_unit.now c.args.self.now c.check_split.new.self c.requires.right c.check_split.ensures.stay c.check_split.ensures.functions
 
-pub returns-then-not-branch-clause-details : goal.returns-then-not-branch-clause-details
-returns-then-not-branch-clause-details g c offset =
-    looked_learns (seen_scope c.args.scope) c.args.dw_unit.now offset c.args.self.now c.check_split.new.self c.requires.right c.check_split.ensures.stay c.check_split.ensures.functions
+pub returns-then-not-branch-clause-functions : goal.returns-then-not-branch-clause-functions
+returns-then-not-branch-clause-functions g c =
+    looked_learns (seen_scope c.args.scope) c.args.dw_unit.now c.args.self.now c.check_split.new.self c.requires.right c.check_split.ensures.stay c.check_split.ensures.functions
 
-pub returns-in_err-load-clause-details : goal.returns-in_err-load-clause-details
-returns-in_err-load-clause-details g c offset =
-    looked_learns (seen_scope c.args.scope) c.args.dw_unit.now offset c.args.self.now c.check_split.new.self c.requires.right c.check_split.ensures.stay c.check_split.ensures.functions
+pub returns-in_err-load-clause-functions : goal.returns-in_err-load-clause-functions
+returns-in_err-load-clause-functions g c =
+    looked_learns (seen_scope c.args.scope) c.args.dw_unit.now c.args.self.now c.check_split.new.self c.requires.right c.check_split.ensures.stay c.check_split.ensures.functions
 
-pub returns-clause-details : goal.returns-clause-details
-returns-clause-details g c offset =
-    looked_learns (seen_scope c.args.scope) c.args.dw_unit.now offset c.args.self.now c.check_split.new.self c.requires.right c.check_split.ensures.stay c.check_split.ensures.functions
+pub returns-clause-functions : goal.returns-clause-functions
+returns-clause-functions g c =
+    looked_learns (seen_scope c.args.scope) c.args.dw_unit.now c.args.self.now c.check_split.new.self c.requires.right c.check_split.ensures.stay c.check_split.ensures.functions

@@ -13,7 +13,7 @@ use Rattle.addr2line_units.proofs.AnswerLemmas.{decided_if_not}
 use Rattle.addr2line_units.proofs.CachedUnitLemmas.{entries_same}
 use Rattle.addr2line_units.proofs.EntryLemmas.{not_open}
 use Rattle.addr2line_units.proofs.CachedParseLemmas.{entries_then, read_decided}
-use Rattle.addr2line_units.proofs.LearnedLemmas.{answered_learns, functions_learn_none}
+use Rattle.addr2line_units.proofs.LearnedLemmas.{answered_learns, functions_learn_none, unit_learns_none}
 use Rattle.addr2line_units.proofs.unit_frames.UnitEntries.read.Goals as goal
 
 pub returns-in_err-answer-clause-stay : goal.returns-in_err-answer-clause-stay
@@ -86,8 +86,8 @@ returns-clause-no_memory g c = λ none.
     (c.read_in_view.ensures.no_memory (subst (λ a. functions_in_take_memory g.R.Reader.shares scope u a ≡ false) same none))
 
 pub returns-in_err-answer-clause-details : goal.returns-in_err-answer-clause-details
-returns-in_err-answer-clause-details g c = λ _. λ offset. answered_learns (seen_scope c.args.scope) c.args.dw_unit.now offset c.args.self.now c.answer.new.self c.requires.right
-    c.in_err-answer.ensures.functions (λ h. (c.in_err-answer.ensures.same h).0)
+returns-in_err-answer-clause-details g c = λ _. λ offset. unit_learns_none offset c.args.self.now c.answer.new.self
+    (answered_learns (seen_scope c.args.scope) c.args.dw_unit.now c.args.self.now c.answer.new.self c.requires.right c.in_err-answer.ensures.functions (λ h. (c.in_err-answer.ensures.same h).0))
 
 pub returns-clause-details : goal.returns-clause-details
 returns-clause-details g c = λ is. λ offset. functions_learn_none (seen_scope c.args.scope) c.args.dw_unit.now offset c.args.self.now c.answer.new.self c.read_in_view.new.functions c.requires.right

@@ -65,6 +65,6 @@ returns g c =
     let at = c.index_mut-entries.ensures.value in
     let e = rw (c.scope-scope.ensures.gives, sections_is) at c.answer.ensures in
     rw (sym c.self.view_is) (record {
-      after = answered_there (scope_of s.sources) s.units.items s.entries.items s.stop c.self.invariant n u there v at c.answer.new.self (option_map (λ x. x.value) c.args.sections) _ (some_given _ c.args.sections) s.looks (seen_stop s.units.items s.entries.items s.stop) e.functions (λ h. (e.same h).0) c.answer.result e.answer e.refused e.not_open;
+      after = answered_there (scope_of s.sources) s.units.items s.entries.items s.stop c.self.invariant n u there v at c.answer.new.self (option_map (λ x. x.value) c.args.sections) _ (some_given _ c.args.sections) s.looks (seen_stop s.units.items s.entries.items s.stop) e.right e.functions (λ h. (e.same h).0) c.answer.result e.answer e.refused e.not_open;
       no_memory = λ none. refused_told (scope_of s.sources) s.units.items s.entries.items s.stop c.self.invariant n u there v at (option_map (λ x. x.value) c.args.sections) c.answer.result (e.exact none);
     })

@@ -34,4 +34,4 @@ returns-clause-none_open g c =
 pub returns-clause-after : goal.returns-clause-after
 returns-clause-after g c =
     let s = c.self.inside in
-    rw (sym c.self.view_is) (after_listing (scope_of s.sources) s.units.items s.entries.items c.self.invariant.entries c.read_loads.new.entries.items s.looks (seen_stop s.units.items s.entries.items s.stop) c.read_loads.ensures.stay c.read_loads.ensures.details)
+    rw (sym c.self.view_is) (after_listing (scope_of s.sources) s.units.items s.entries.items c.self.invariant.entries c.read_loads.new.entries.items s.looks (seen_stop s.units.items s.entries.items s.stop) c.read_loads.ensures.stay c.read_loads.ensures.functions)

@@ -41,6 +41,7 @@ pub mod NameLemmas
 pub mod UnitOrder
 pub mod NameChains
 pub mod DetailLemmas
+pub mod NumberLemmas
 pub mod FoundRanges
 pub mod WantedLemmas
 pub mod NestingLemmas

@@ -1,5 +1,5 @@
 -- Numbers among the attributes of inlined entries, as the private functions see them.
-use Rattle.std.specs.Prelude.{ℕ, ◌≡◌, ◌==◌, ◌||◌, Bool, Option, Some, Result, Ok, Err, if◌then◌else◌}
+use Rattle.std.specs.Prelude.{◌≡◌, ◌==◌, ◌||◌, Bool, true, Option, Some, None, Result, Ok, Err, if◌then◌else◌}
 use Rattle.std.specs.Option.{option_or}
 use Rattle.gimli_read.specs.declared.constants.DwAt.{DwAt}
 use Rattle.gimli_read.specs.declared.constants.TheConstants.DwAt.{DW_AT_high_pc, DW_AT_low_pc}
@@ -50,6 +50,14 @@ abbrev pub IsNumberTaken : {X Y : Type 0} → Bool → (X → Y) → (NamedValue
 IsNumberTaken may view more name number old result =
     (value : AttributeValue Section) → number_of value ≡ Some number
     → IsTakenIn may view (more (record { name = name; value = value })) old result
+
+-- a number was read, which was wanted; or none, and nothing was read; or what is given is the fault
+abbrev pub IsNumberRead : Bool → Section → Section → Result (Option NumberValue) Error
+    → Reading (Option NumberValue) → Type 0
+IsNumberRead wanted old left (Ok (Some n)) given =
+    (given ≡ Ok (Some n, left)) × (wanted ≡ true)
+IsNumberRead wanted old left (Ok None) given = left ≡ old
+IsNumberRead wanted old left (Err e) given = given ≡ Err e
 
 -- an attribute was read, and taken in
 pub record IsNextTaken {X Y : Type 0} (may : Bool) (view : X → Y)

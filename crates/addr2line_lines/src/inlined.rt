@@ -3,12 +3,13 @@
 ghost use Rattle.std.specs.Prelude.{◌≡◌, Ok, OnOk, option_and_then, true};
 ghost use Rattle.std.specs.Option.{option_or};
 ghost use Rattle.gimli_read.specs.Form.{attribute_at, rest_of};
+ghost use Rattle.gimli_read.specs.NumberValue.{number_at};
 ghost use Rattle.gimli_read.specs.Reading.{ExactlyUnlessOomIf};
 ghost use Rattle.gimli.specs.Entry.{attributes_at};
 ghost use Rattle.addr2line_lines.specs.CachedNames.{AreNamesMore, AreNamesOf, seen_names};
 ghost use Rattle.addr2line_lines.specs.InlinedEntries.{constant_bits, counted_file, no_call, no_inlined_attributes, with_call_constant, with_inlined_attribute};
 ghost use Rattle.addr2line_lines.specs.FoundAttributes.{IsReadIf, IsTakenIn, inlined_attributes_after, is_call, or_fault, seen_attributes};
-ghost use Rattle.addr2line_lines.specs.FoundNumbers.{IsNextRead, IsNumberTaken, is_number_name, with_origin_name};
+ghost use Rattle.addr2line_lines.specs.FoundNumbers.{IsNextRead, IsNumberRead, IsNumberTaken, is_number_name, with_origin_name};
 ghost use Rattle.addr2line_lines.specs.References.{IsScope};
 ghost use Rattle.addr2line_lines.specs.SeenScope.{seen_scope};
 
@@ -146,6 +147,34 @@ fn is_call(name: DwAt) -> bool
     )
 }
 
+// Whether an attribute's value is mostly a number.
+#[inline(always)]
+fn is_number_name(name: DwAt) -> bool
+    ensures gives { result ≡ is_number_name name }
+{
+    is_call(name) || name == DwAt::DW_AT_low_pc || name == DwAt::DW_AT_high_pc || is_origin(name)
+}
+
+// Reads the next attribute as a number, if it is wanted so and one of a frequent form; else reads
+// nothing.
+#[inline(always)]
+fn read_number_if<R: Reader>(
+    entries: &mut EntriesRaw<'_, R>,
+    specification: AttributeSpecification,
+    wanted: bool,
+) -> Result<Option<NumberValue>, Error>
+    ensures gives { IsNumberRead wanted entries.old.cursor.left entries.new.cursor.left result
+        (number_at entries.old.unit.encoding specification entries.old.cursor.left) }
+    ensures unit { entries.new.unit ≡ entries.old.unit }
+    ensures depth { entries.new.cursor.depth ≡ entries.old.cursor.depth }
+{
+    if wanted {
+        entries.read_number(specification)
+    } else {
+        Ok(None)
+    }
+}
+
 impl<R: Reader> InlinedAttributes<R> {
     // Before the first attribute.
     fn new() -> InlinedAttributes<R>
@@ -279,7 +308,8 @@ impl<R: Reader> InlinedAttributes<R> {
         }
         match number {
             NumberValue::UnitRef(offset) => self.take_origin(scope, unit, fault, offset, names),
-            _ => fault,
+            NumberValue::Address(_) => fault,
+            NumberValue::Constant(_) => fault,
         }
     }
 
@@ -307,22 +337,13 @@ impl<R: Reader> InlinedAttributes<R> {
             (seen_names R.section names.old) (seen_names R.section names.new) }
     {
         let name = specification.name();
-        if is_number_name(name) {
-            if let Some(number) = entries.read_number(specification)? {
-                return Ok(self.take_number(scope, unit, fault, name, number, names));
-            }
+        let wanted = is_number_name(name);
+        if let Some(number) = read_number_if(entries, specification, wanted)? {
+            return Ok(self.take_number(scope, unit, fault, name, number, names));
         }
         let attribute = entries.read_attribute(specification)?;
         Ok(self.take_unless(scope, unit, fault, attribute, names))
     }
-}
-
-// Whether an attribute's value is mostly a number.
-#[inline(always)]
-fn is_number_name(name: DwAt) -> bool
-    ensures gives { result ≡ is_number_name name }
-{
-    is_call(name) || name == DwAt::DW_AT_low_pc || name == DwAt::DW_AT_high_pc || is_origin(name)
 }
 
 // The attributes that say something of an inlined entry.

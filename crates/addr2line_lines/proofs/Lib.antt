@@ -37,6 +37,7 @@ pub mod WholeEntries
 pub mod ItemsAround
 pub mod NestedInlined
 pub mod ReferenceLemmas
+pub mod PassLemmas
 pub mod NameLemmas
 pub mod UnitOrder
 pub mod NameChains

@@ -143,8 +143,9 @@ impl<R: Reader> NameOrOrigin<R> {
     }
 }
 
-/// Passes over attributes, if there are any. Refused as `EntriesRaw::skip_attributes` is. Takes no
-/// memory.
+/// Passes over attributes, one at a time: mostly there are none, or two. Refused as
+/// `EntriesRaw::skip_attributes` is. Takes no memory.
+#[inline(always)]
 pub(crate) fn pass_over<R: Reader>(
     entries: &mut EntriesRaw<'_, R>,
     specifications: &[AttributeSpecification],
@@ -154,11 +155,10 @@ pub(crate) fn pass_over<R: Reader>(
     ensures unit { entries.new.unit ≡ entries.old.unit }
     ensures depth { entries.new.cursor.depth ≡ entries.old.cursor.depth }
 {
-    if specifications.is_empty() {
-        Ok(())
-    } else {
-        entries.skip_attributes(specifications)
+    for specification in specifications {
+        entries.skip_attribute(*specification)?;
     }
+    Ok(())
 }
 
 // What an entry says of its name, by its attributes up to the first linkage name.

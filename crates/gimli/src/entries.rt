@@ -11,7 +11,7 @@ ghost use Rattle.gimli.specs.EntryCursor.{entries_at, entry_abbreviation_at};
 use crate::unit::UnitHeader;
 use gimli_read::{
     Abbreviation, Abbreviations, Attribute, AttributeSpecification, CLOSING_CODE, Encoding, Error,
-    NumberValue, Reader, UnitOffset, read_attribute, read_number, skip_attributes,
+    NumberValue, Reader, UnitOffset, read_attribute, read_number, skip_attribute, skip_attributes,
     skip_attributes_of,
 };
 use std::marker::Model;
@@ -62,6 +62,22 @@ fn depth_after_closing(depth: isize) -> isize
     ensures gives { result ≡ depth_after_closing depth }
 {
     depth - 1
+}
+
+// Passes over an attribute, at once where its form alone says how many bytes it has.
+#[inline(always)]
+fn skip_one<R: Reader>(
+    input: &mut R,
+    encoding: Encoding,
+    specification: AttributeSpecification,
+) -> Result<(), Error>
+    ensures gives { Exactly (λ _. R.section input.new) result
+        (rest_of (attribute_at encoding specification (R.section input.old))) }
+{
+    match specification.size(encoding) {
+        Some(size) => input.skip(u64::from(size)),
+        None => skip_attribute(input, encoding, specification),
+    }
 }
 
 impl<'a, R: Reader> EntriesRaw<'a, R> {
@@ -199,6 +215,29 @@ impl<'a, R: Reader> EntriesRaw<'a, R> {
     {
         match read_number(&mut self.input, self.encoding, specification) {
             Ok(number) => Ok(number),
+            Err(error) => {
+                self.input.skip(self.input.len())?;
+                Err(error)
+            }
+        }
+    }
+
+    /// Passes over the next attribute, which is read and dropped, or passed over at once where its
+    /// form alone says how many bytes it has. Takes no memory.
+    ///
+    /// Refused as `read_attribute` is, but for `OutOfMemory`. After a refusal nothing is left to
+    /// read.
+    #[inline(always)]
+    #[tactic(auto, using(crate::proofs::EntryLemmas::rest_leaves, crate::proofs::EntryLemmas::still_in_unit))]
+    pub fn skip_attribute(&mut self, specification: AttributeSpecification) -> Result<(), Error>
+        ensures gives { Exactly (λ _. self.new.cursor.left) result (rest_of (attribute_at
+            self.old.unit.encoding specification self.old.cursor.left)) }
+        ensures refused { OnErr result (self.new.cursor.left.bytes ≡ []) }
+        ensures unit { self.new.unit ≡ self.old.unit }
+        ensures depth { self.new.cursor.depth ≡ self.old.cursor.depth }
+    {
+        match skip_one(&mut self.input, self.encoding, specification) {
+            Ok(()) => Ok(()),
             Err(error) => {
                 self.input.skip(self.input.len())?;
                 Err(error)

@@ -66,7 +66,9 @@ constant_bits n = low_bits (unwrap_or n 0)
 abbrev pub with_call_constant : ℕ → CallSite → DwAt → Option ℕ → CallSite
 with_call_constant version call name constant =
     if name.0 == DW_AT_call_file.0
-    then record call { file = option_or (option_and_then (counted_file version) constant) call.file }
+    then record call {
+      file = option_or (option_and_then (counted_file version) constant) call.file;
+    }
     else if name.0 == DW_AT_call_line.0 then record call { line = constant_bits constant }
     else if name.0 == DW_AT_call_column.0 then record call { column = constant_bits constant }
     else call

@@ -30,13 +30,7 @@ returns-in_ok-decide-clause-answer g c =
     c.in_ok-decide.ensures.answer ∙ sym (decided_if_open d u (first_answer_of s) (option_map (λ x. x.value) c.args.sections) was)
 
 pub returns-in_ok-decide-clause-functions : goal.returns-in_ok-decide-clause-functions
-returns-in_ok-decide-clause-functions g c h =
-    let d = c.args.scope.file.dwarf.now in
-    let u = c.args.dw_unit.now in
-    let s = c.args.self.now in
-    let n = c.check_split.new.self in
-    let was : is_open d u (first_answer_of s) ≡ true = open_by_look d u s.view n.view true c.check_split.ensures.right.view c.check_split.ensures.looked c.check_split.ensures.stay.answer (search rules) in
-    absurd (let e : true ≡ false = sym was ∙ h in cc)
+returns-in_ok-decide-clause-functions g c = c.in_ok-decide.ensures.functions ∙ c.check_split.ensures.functions
 
 pub returns-in_ok-decide-clause-same : goal.returns-in_ok-decide-clause-same
 returns-in_ok-decide-clause-same g c h =

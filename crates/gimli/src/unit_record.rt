@@ -42,8 +42,8 @@ pub struct Unit<R: Reader> {
     pub rnglists_base: u64,
     /// The identifier that the unit shares with a split unit, where it has one.
     pub dwo_id: Option<DwoId>,
-    /// The line program, where it has one; its opcodes aren't run yet. It stands in a box, so that a
-    /// unit without one is small.
+    /// The line program, where it has one; its opcodes aren't run yet. It stands in a box, so that
+    /// a unit without one is small.
     pub line_program: Option<Box<IncompleteLineProgram<R>>>,
 }
 

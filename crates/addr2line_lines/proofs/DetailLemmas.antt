@@ -30,7 +30,7 @@ use Rattle.addr2line_lines.specs.RangeAttributes.{gives_a_range, with_range_attr
 use Rattle.addr2line_lines.specs.References.{Scope}
 
 -- none of two tests
-neither : (b c : Bool) → (b || c) ≡ false → (b ≡ false) × (c ≡ false)
+pub neither : (b c : Bool) → (b || c) ≡ false → (b ≡ false) × (c ≡ false)
 neither true c h = absurd cc
 neither false c h = (refl, h)
 
@@ -39,7 +39,7 @@ second : {A : Type 0} (b : Bool) (x y : A) → b ≡ false → cond b x y ≡ y
 second b x y h = ap (λ c. cond c x y) h
 
 -- what holds of three names holds of each that is one of them
-by_one_of : (x y z : DwAt) (P : DwAt → Type 0) → P x → P y → P z → (name : DwAt) → (name.0 == x.0 || name.0 == y.0 || name.0 == z.0) ≡ true → P name
+pub by_one_of : (x y z : DwAt) (P : DwAt → Type 0) → P x → P y → P z → (name : DwAt) → (name.0 == x.0 || name.0 == y.0 || name.0 == z.0) ≡ true → P name
 by_one_of x y z P at_x at_y at_z name h = by_x (name.0 == x.0) refl h
   where
     same : (other : DwAt) → (name.0 == other.0) ≡ true → P other → P name
@@ -54,7 +54,7 @@ by_one_of x y z P at_x at_y at_z name h = by_x (name.0 == x.0) refl h
     by_x false e h = by_y (name.0 == y.0) refl h
 
 -- what holds of the names of ranges holds of each of them
-by_range_name : (P : DwAt → Type 0) → P DW_AT_low_pc → P DW_AT_high_pc → P DW_AT_ranges → (name : DwAt) → is_range_name name ≡ true → P name
+pub by_range_name : (P : DwAt → Type 0) → P DW_AT_low_pc → P DW_AT_high_pc → P DW_AT_ranges → (name : DwAt) → is_range_name name ≡ true → P name
 by_range_name P low high ranges name h = by_one_of DW_AT_low_pc DW_AT_high_pc DW_AT_ranges P low high ranges name h
 
 -- what holds of the names of calls holds of each of them

@@ -1,16 +1,14 @@
 -- What attributes say of names (on specs/Names.antt).
-use Rattle.std.proofs.Common.{ℕ, ◌+◌, ◌≡◌, ◌≢◌, ◌==◌, ◌||◌, Bool, true, false, cond, List, [], ◌∷◌, length, Option, Some, None, is_some, option_map, Result, Ok, Err, add-one, arith, refl, ap, ◌∙◌, ℤ, pos}
+use Rattle.std.proofs.Common.{ℕ, ◌+◌, ◌≡◌, ◌≢◌, ◌==◌, ◌||◌, Bool, true, false, cond, List, Option, Some, None, is_some, option_map, Result, Ok, Err, add-one, arith, refl, ap, ◌∙◌, ℤ, pos}
 use Rattle.std.specs.Option.{option_or}
 use Rattle.std.specs.Result.{result_ok}
-use Rattle.std.proofs.lemmas.Bool.{eqb-true}
 use Rattle.std.proofs.lemmas.Bool.Decides.{nat_tests}
 use Rattle.gimli_read.specs.declared.constants.TheConstants.DwAt.{DW_AT_name}
-use Rattle.gimli_read.specs.declared.endian.Encoding.{Encoding}
 use Rattle.gimli_read.specs.declared.error.Error.{Error}
 use Rattle.gimli_read.specs.declared.error.Error.TheVariants.{OutOfMemory}
 use Rattle.gimli_read.specs.declared.value.AttributeValue.{AttributeValue}
 use Rattle.gimli_read.specs.Abbreviations.{Abbrev, Specification}
-use Rattle.gimli_read.specs.Form.{NamedValue, attributes_at, rest_of, seen_value}
+use Rattle.gimli_read.specs.Form.{NamedValue, seen_value}
 use Rattle.gimli_read.specs.Reading.{Reading, ExactlyUnlessOomIf, ◌>>=◌}
 use Rattle.gimli_read.specs.Section.{Section}
 use Rattle.gimli.specs.Entries.{entry_bytes_from}
@@ -105,12 +103,6 @@ named_linkage s u after found more a t name h = ap (by_linkage s u after found t
 pub named_other : (s : Scope) (u : UnitRecord) (after : List Specification) (found more : NameOrOrigin) (a : NamedValue) (t : Section) → ◌≡◌ {A = Result (Option Section × NameOrOrigin) Error} (Ok (with_linkage (linkage_name_of s u a) (with_name_or_origin s u found a))) (Ok (with_linkage None more))
     → named_after s u after found (a, t) ≡ named_at s u after t more
 named_other s u after found more a t h = let p = gives s u found more a None h in ap (by_linkage s u after found t a) p.0 ∙ ap (named_at s u after t) p.1
-
--- after no attributes all is left
-pub none_passed : (e : Encoding) (xs : List Specification) (left : Section) → (length xs == 0) ≡ true → rest_of (attributes_at e xs left) ≡ Ok left
-unfolding attributes_at
-none_passed e [] left h = refl
-none_passed e (x ∷ xs) left h = let none : length (x ∷ xs) ≡ 0 = eqb-true (length (x ∷ xs)) 0 h in absurd (omega arith)
 
 -- what an entry says, whose reading begins
 abbrev entry_read : EntryPlace → EntriesLeft → Result NameOrOrigin Error

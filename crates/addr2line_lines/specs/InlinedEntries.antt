@@ -5,6 +5,7 @@
 -- counts.
 use Rattle.std.specs.Prelude.{ℕ, ◌==◌, ◌||◌, nat_lt, Bool, List, fold, map, Option, Some, None, option_and_then, unwrap_or, Result, Ok, if◌then◌else◌}
 use Rattle.std.specs.Option.{option_or}
+use Rattle.gimli_read.specs.declared.constants.DwAt.{DwAt}
 use Rattle.gimli_read.specs.declared.constants.TheConstants.DwAt.{DW_AT_call_column, DW_AT_call_file, DW_AT_call_line}
 use Rattle.gimli_read.specs.declared.constants.TheConstants.DwTag.{DW_TAG_inlined_subroutine}
 use Rattle.gimli_read.specs.declared.error.Error.{Error}
@@ -61,18 +62,20 @@ counted_file version n = if nat_lt 0 n || is_5 version then Some n else None
 abbrev pub constant_bits : Option ℕ → ℕ
 constant_bits n = low_bits (unwrap_or n 0)
 
+-- one more attribute of a call, by its name and its constant, if its value is one
+abbrev pub with_call_constant : ℕ → CallSite → DwAt → Option ℕ → CallSite
+with_call_constant version call name constant =
+    if name.0 == DW_AT_call_file.0
+    then record call {
+      file = option_or (option_and_then (counted_file version) constant) call.file;
+    }
+    else if name.0 == DW_AT_call_line.0 then record call { line = constant_bits constant }
+    else if name.0 == DW_AT_call_column.0 then record call { column = constant_bits constant }
+    else call
+
 -- one more attribute of a call
 abbrev pub with_call : ℕ → CallSite → NamedValue → CallSite
-with_call version call a =
-    if a.name.0 == DW_AT_call_file.0
-    then record call {
-      file = option_or (option_and_then (counted_file version) (constant_of a.value)) call.file;
-    }
-    else if a.name.0 == DW_AT_call_line.0
-    then record call { line = constant_bits (constant_of a.value) }
-    else if a.name.0 == DW_AT_call_column.0
-    then record call { column = constant_bits (constant_of a.value) }
-    else call
+with_call version call a = with_call_constant version call a.name (constant_of a.value)
 
 -- one more attribute of an inlined entry
 unfoldable pub with_inlined_attribute : Scope → UnitRecord → InlinedAttributes → NamedValue

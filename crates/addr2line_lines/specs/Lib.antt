@@ -40,6 +40,7 @@ pub mod NameChains
 pub mod CachedNames
 pub mod FoundRanges
 pub mod FoundAttributes
+pub mod FoundNumbers
 pub mod OpenEntries
 pub mod FoundInlined
 pub mod FoundItems

@@ -8,9 +8,12 @@ ghost use Rattle.gimli_read.specs.Form.{rest_of, seen_value};
 ghost use Rattle.gimli.specs.Entry.{attributes_at};
 ghost use Rattle.gimli.specs.Ranges.{ranges_at};
 ghost use Rattle.addr2line_lines.specs.FoundRanges.{is_range_specification, is_range_name};
+ghost use Rattle.addr2line_lines.specs.FoundNumbers.{with_range_number};
 ghost use Rattle.addr2line_lines.specs.RangeAttributes.{attr_address, no_range_attributes, with_range_attribute, or_with_range_attribute, range_attributes_after, range_between, ranges_of, all_ranges, attribute_ranges, begins_well, gives_a_range};
 
-use gimli::read::{Attribute, AttributeSpecification, AttributeValue, DwAt, Error, Range, Reader};
+use gimli::read::{
+    Attribute, AttributeSpecification, AttributeValue, DwAt, Error, NumberValue, Range, Reader,
+};
 use gimli::{EntriesRaw, UnitRef, WantedNames, split_at_wanted};
 use std::alloc::Global;
 
@@ -116,6 +119,24 @@ impl RangeAttributes {
                 ranges_offset: unit.attr_ranges_offset(value)?,
             }),
             _ => Ok(self),
+        }
+    }
+
+    /// Takes a number in, as `take` does an attribute of low_pc or high_pc; one of another name
+    /// changes nothing. Takes no memory.
+    #[inline(always)]
+    pub(crate) fn take_number(&mut self, name: DwAt, number: NumberValue)
+        ensures gives { self.new ≡ with_range_number self.old name number }
+    {
+        match name {
+            DwAt::DW_AT_low_pc => {
+                self.low_pc = number.address().or(self.low_pc);
+            }
+            DwAt::DW_AT_high_pc => {
+                self.high_pc = number.address().or(self.high_pc);
+                self.size = number.constant().or(self.size);
+            }
+            _ => {}
         }
     }
 

@@ -1,22 +1,26 @@
 //! Inlined entries: what their attributes say.
 
-ghost use Rattle.std.specs.Prelude.{◌≡◌, Ok, OnOk, option_and_then};
+ghost use Rattle.std.specs.Prelude.{◌≡◌, Ok, OnOk, option_and_then, true};
 ghost use Rattle.std.specs.Option.{option_or};
 ghost use Rattle.gimli_read.specs.Form.{attribute_at, rest_of};
+ghost use Rattle.gimli_read.specs.NumberValue.{number_at};
 ghost use Rattle.gimli_read.specs.Reading.{ExactlyUnlessOomIf};
 ghost use Rattle.gimli.specs.Entry.{attributes_at};
 ghost use Rattle.addr2line_lines.specs.CachedNames.{AreNamesMore, AreNamesOf, seen_names};
-ghost use Rattle.addr2line_lines.specs.InlinedEntries.{constant_bits, counted_file, no_call, no_inlined_attributes, with_call, with_inlined_attribute};
+ghost use Rattle.addr2line_lines.specs.InlinedEntries.{constant_bits, counted_file, no_call, no_inlined_attributes, with_call_constant, with_inlined_attribute};
 ghost use Rattle.addr2line_lines.specs.FoundAttributes.{IsReadIf, IsTakenIn, inlined_attributes_after, is_call, or_fault, seen_attributes};
+ghost use Rattle.addr2line_lines.specs.FoundNumbers.{IsNextRead, IsNumberRead, IsNumberTaken, is_number_name, with_origin_name};
 ghost use Rattle.addr2line_lines.specs.References.{IsScope};
 ghost use Rattle.addr2line_lines.specs.SeenScope.{seen_scope};
 
 use crate::function::{RangeAttributes, is_range_name};
-use crate::name::{is_name_attribute, pass_over, take_name};
+use crate::name::{is_name_attribute, is_origin, name_by_origin, pass_over, take_name};
 use crate::names::NameCache;
 use crate::references::Scope;
 use crate::row::low_bits;
-use gimli::read::{Attribute, AttributeSpecification, DWARF_5, DwAt, Error, Reader, UnitOffset};
+use gimli::read::{
+    Attribute, AttributeSpecification, DWARF_5, DwAt, Error, NumberValue, Reader, UnitOffset,
+};
 use gimli::{EntriesRaw, Unit, UnitRef, WantedNames, split_at_wanted};
 use std::marker::Model;
 
@@ -100,12 +104,11 @@ impl CallSite {
         }
     }
 
-    // Takes one more attribute in.
-    fn take<R: Reader>(self, version: u16, attribute: &Attribute<R>) -> CallSite
-        ensures gives { result ≡ with_call version self attribute.now }
+    // Takes one more attribute in, by its name and its constant, if its value is one.
+    fn take(self, version: u16, name: DwAt, constant: Option<u64>) -> CallSite
+        ensures gives { result ≡ with_call_constant version self name constant }
     {
-        let constant = attribute.udata_value();
-        match attribute.name() {
+        match name {
             DwAt::DW_AT_call_file => CallSite {
                 file: self.file_after(version, constant),
                 line: self.line,
@@ -144,6 +147,34 @@ fn is_call(name: DwAt) -> bool
     )
 }
 
+// Whether an attribute's value is mostly a number.
+#[inline(always)]
+fn is_number_name(name: DwAt) -> bool
+    ensures gives { result ≡ is_number_name name }
+{
+    is_call(name) || name == DwAt::DW_AT_low_pc || name == DwAt::DW_AT_high_pc || is_origin(name)
+}
+
+// Reads the next attribute as a number, if it is wanted so and one of a frequent form; else reads
+// nothing.
+#[inline(always)]
+fn read_number_if<R: Reader>(
+    entries: &mut EntriesRaw<'_, R>,
+    specification: AttributeSpecification,
+    wanted: bool,
+) -> Result<Option<NumberValue>, Error>
+    ensures gives { IsNumberRead wanted entries.old.cursor.left entries.new.cursor.left result
+        (number_at entries.old.unit.encoding specification entries.old.cursor.left) }
+    ensures unit { entries.new.unit ≡ entries.old.unit }
+    ensures depth { entries.new.cursor.depth ≡ entries.old.cursor.depth }
+{
+    if wanted {
+        entries.read_number(specification)
+    } else {
+        Ok(None)
+    }
+}
+
 impl<R: Reader> InlinedAttributes<R> {
     // Before the first attribute.
     fn new() -> InlinedAttributes<R>
@@ -174,7 +205,8 @@ impl<R: Reader> InlinedAttributes<R> {
     {
         let name = attribute.name();
         if is_call(name) {
-            self.call = self.call.take(unit.header.version(), &attribute);
+            let constant = attribute.udata_value();
+            self.call = self.call.take(unit.header.version(), name, constant);
         } else if is_range_name(name) {
             let unit = UnitRef::new(scope.file.dwarf, unit);
             self.ranges = self.ranges.take(unit, attribute)?;
@@ -209,6 +241,108 @@ impl<R: Reader> InlinedAttributes<R> {
                 Err(error) => Some(error),
             },
         }
+    }
+
+    // Takes a reference to an entry of the unit in, unless there is a fault, and answers the fault
+    // that there is.
+    fn take_origin(
+        &mut self,
+        scope: Scope<'_, R>,
+        unit: &Unit<R>,
+        fault: Option<Error>,
+        offset: UnitOffset,
+        names: &mut NameCache<R>,
+    ) -> Option<Error>
+        requires in_order { IsScope (seen_scope scope) }
+        requires names { AreNamesOf (seen_scope scope) unit.now (seen_names R.section names.old) }
+        ensures gives { IsTakenIn R.shares (seen_attributes R.section)
+            (λ x. with_origin_name (seen_scope scope.entry) unit.now x offset)
+            (or_fault self.old fault) (or_fault self.new result) }
+        ensures names { AreNamesMore (seen_scope scope.entry) unit.now
+            (seen_names R.section names.old) (seen_names R.section names.new) }
+    {
+        match fault {
+            Some(error) => Some(error),
+            None => {
+                let before = self.name.take();
+                match name_by_origin(scope, unit, before, offset, names) {
+                    Ok(name) => {
+                        self.name = name;
+                        None
+                    }
+                    Err(error) => Some(error),
+                }
+            }
+        }
+    }
+
+    // Takes a number in, as `take_unless` does an attribute.
+    #[inline(always)]
+    fn take_number(
+        &mut self,
+        scope: Scope<'_, R>,
+        unit: &Unit<R>,
+        fault: Option<Error>,
+        name: DwAt,
+        number: NumberValue,
+        names: &mut NameCache<R>,
+    ) -> Option<Error>
+        requires in_order { IsScope (seen_scope scope) }
+        requires names { AreNamesOf (seen_scope scope) unit.now (seen_names R.section names.old) }
+        requires named { is_number_name name ≡ true }
+        ensures gives { IsNumberTaken R.shares (seen_attributes R.section)
+            (λ a x. with_inlined_attribute (seen_scope scope.entry) unit.now x a) name number
+            (or_fault self.old fault) (or_fault self.new result) }
+        ensures names { AreNamesMore (seen_scope scope.entry) unit.now
+            (seen_names R.section names.old) (seen_names R.section names.new) }
+    {
+        if is_call(name) {
+            self.call = self
+                .call
+                .take(unit.header.version(), name, number.constant());
+            return fault;
+        }
+        if is_range_name(name) {
+            self.ranges.take_number(name, number);
+            return fault;
+        }
+        match number {
+            NumberValue::UnitRef(offset) => self.take_origin(scope, unit, fault, offset, names),
+            NumberValue::Address(_) => fault,
+            NumberValue::Constant(_) => fault,
+        }
+    }
+
+    // Reads the next attribute and takes it in, unless there is a fault, and answers the fault that
+    // there is. A number is read without a value being made.
+    #[inline(always)]
+    fn read_next(
+        &mut self,
+        scope: Scope<'_, R>,
+        unit: &Unit<R>,
+        entries: &mut EntriesRaw<'_, R>,
+        fault: Option<Error>,
+        specification: AttributeSpecification,
+        names: &mut NameCache<R>,
+    ) -> Result<Option<Error>, Error>
+        requires in_order { IsScope (seen_scope scope) }
+        requires names { AreNamesOf (seen_scope scope) unit.now (seen_names R.section names.old) }
+        ensures gives { IsNextRead R.shares (seen_attributes R.section)
+            (λ a x. with_inlined_attribute (seen_scope scope.entry) unit.now x a)
+            entries.new.cursor.left (attribute_at entries.old.unit.encoding specification
+            entries.old.cursor.left) (or_fault self.old fault) self.new result }
+        ensures unit { entries.new.unit ≡ entries.old.unit }
+        ensures depth { entries.new.cursor.depth ≡ entries.old.cursor.depth }
+        ensures names { AreNamesMore (seen_scope scope.entry) unit.now
+            (seen_names R.section names.old) (seen_names R.section names.new) }
+    {
+        let name = specification.name();
+        let wanted = is_number_name(name);
+        if let Some(number) = read_number_if(entries, specification, wanted)? {
+            return Ok(self.take_number(scope, unit, fault, name, number, names));
+        }
+        let attribute = entries.read_attribute(specification)?;
+        Ok(self.take_unless(scope, unit, fault, attribute, names))
     }
 }
 
@@ -271,8 +405,7 @@ pub(crate) fn read_inlined_attributes<R: Reader>(
     let mut rest = specifications;
     while let Some(next) = split_at_wanted::<InlinedWanted>(rest) {
         pass_over(entries, next.before)?;
-        let attribute = entries.read_attribute(next.specification)?;
-        fault = found.take_unless(scope, unit, fault, attribute, names);
+        fault = found.read_next(scope, unit, entries, fault, next.specification, names)?;
         rest = next.after;
     }
     pass_over(entries, rest)?;

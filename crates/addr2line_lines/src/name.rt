@@ -7,7 +7,7 @@ ghost use Rattle.gimli_read.specs.Reading.{Exactly, ExactlyUnlessOomIf};
 ghost use Rattle.gimli.specs.Entry.{attributes_at};
 ghost use Rattle.addr2line_lines.specs.CachedNames.{AreNamesMore, AreNamesOf, seen_names};
 ghost use Rattle.addr2line_lines.specs.FoundNames.{is_name_attribute, seen_name_or_origin, seen_place, with_linkage, with_origin, with_string};
-ghost use Rattle.addr2line_lines.specs.Names.{is_linkage_name, is_origin, linkage_name_of, named_at, no_name, readable, referred_name, visited, with_name, with_name_or_origin};
+ghost use Rattle.addr2line_lines.specs.Names.{is_linkage_name, is_origin, linkage_name_of, named_at, no_name, or_referred_name, readable, referred_name, visited, with_name, with_name_or_origin};
 ghost use Rattle.addr2line_lines.specs.References.{IsScope};
 ghost use Rattle.addr2line_lines.specs.SeenScope.{seen_scope};
 
@@ -28,8 +28,9 @@ fn is_linkage_name(name: DwAt) -> bool
     name == DwAt::DW_AT_linkage_name || name == DwAt::DW_AT_MIPS_linkage_name
 }
 
-// Whether an attribute refers to an entry that has the name.
-fn is_origin(name: DwAt) -> bool
+/// Whether an attribute refers to an entry that has the name. Takes no memory.
+#[inline(always)]
+pub(crate) fn is_origin(name: DwAt) -> bool
     ensures gives { result ≡ is_origin name }
 {
     name == DwAt::DW_AT_abstract_origin || name == DwAt::DW_AT_specification
@@ -142,8 +143,9 @@ impl<R: Reader> NameOrOrigin<R> {
     }
 }
 
-/// Passes over attributes, if there are any. Refused as `EntriesRaw::skip_attributes` is. Takes no
-/// memory.
+/// Passes over attributes, one at a time: mostly there are none, or two. Refused as
+/// `EntriesRaw::skip_attributes` is. Takes no memory.
+#[inline(always)]
 pub(crate) fn pass_over<R: Reader>(
     entries: &mut EntriesRaw<'_, R>,
     specifications: &[AttributeSpecification],
@@ -153,11 +155,10 @@ pub(crate) fn pass_over<R: Reader>(
     ensures unit { entries.new.unit ≡ entries.old.unit }
     ensures depth { entries.new.cursor.depth ≡ entries.old.cursor.depth }
 {
-    if specifications.is_empty() {
-        Ok(())
-    } else {
-        entries.skip_attributes(specifications)
+    for specification in specifications {
+        entries.skip_attribute(*specification)?;
     }
+    Ok(())
 }
 
 // What an entry says of its name, by its attributes up to the first linkage name.
@@ -269,6 +270,29 @@ fn referred_name_once<R: Reader>(
     match value {
         AttributeValue::UnitRef(offset) => name_in_unit(scope, unit, offset, names),
         value => referred_name(scope, unit, value),
+    }
+}
+
+/// The name that was found, else that by the entry at an offset of the unit, as `name_in_unit`
+/// gives it.
+pub(crate) fn name_by_origin<R: Reader>(
+    scope: Scope<'_, R>,
+    unit: &Unit<R>,
+    name: Option<R>,
+    offset: UnitOffset,
+    names: &mut NameCache<R>,
+) -> Result<Option<R>, Error>
+    requires in_order { IsScope (seen_scope scope) }
+    requires names { AreNamesOf (seen_scope scope) unit.now (seen_names R.section names.old) }
+    ensures gives { ExactlyUnlessOomIf R.shares (option_map R.section) result
+        (or_referred_name (seen_scope scope.entry) unit.now (option_map R.section name)
+        (values.UnitRef offset)) }
+    ensures names { AreNamesMore (seen_scope scope.entry) unit.now
+        (seen_names R.section names.old) (seen_names R.section names.new) }
+{
+    match name {
+        Some(name) => Ok(Some(name)),
+        None => name_in_unit(scope, unit, offset, names),
     }
 }
 

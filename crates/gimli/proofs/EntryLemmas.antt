@@ -1,18 +1,25 @@
 -- Each level of depth took a byte of the unit (on specs/Entry.antt).
-use Rattle.std.proofs.Common.{◌≡◌, ℕ, zero, suc, ◌+◌, ◌^◌, ◌<◌, ◌≤◌, ◌++◌, ◌==◌, Bool, true, false, cond, List, [], ◌∷◌, Option, Some, None, IfOk, length, Ok, Err, refl, ap, sym, ◌∙◌, arith, ℤ, pos, negsuc, ◌+ℤ◌, FitsSigned, w64, length-append}
+use Rattle.std.proofs.Common.{◌≡◌, ℕ, zero, suc, ◌+◌, ◌^◌, ◌<◌, ◌≤◌, ◌++◌, ◌==◌, Bool, true, false, cond, List, [], ◌∷◌, Option, Some, None, IfOk, length, Result, Ok, Err, refl, ap, sym, ◌∙◌, arith, ℤ, pos, negsuc, ◌+ℤ◌, FitsSigned, w64, length-append}
 use Rattle.std.specs.Prelude.{unsigned_abs}
 use Rattle.std.proofs.lemmas.Bool.{eqb-true}
 use Rattle.std.proofs.lemmas.Grind.{common_steps}
 use Rattle.std.proofs.lemmas.Result.{IfOk-at_ok}
 use Rattle.std.proofs.lemmas.Int.{fits_signed_from_abs}
 use Rattle.gimli_read.specs.declared.endian.Encoding.{Encoding}
+use Rattle.gimli_read.specs.declared.error.Error.{Error}
 use Rattle.gimli_read.specs.Abbreviations.{Abbrev, Specification, with_code}
 use Rattle.gimli_read.specs.Section.{Section}
-use Rattle.gimli_read.specs.Reading.{Reading, ◌>>=◌}
+use Rattle.gimli_read.specs.Reading.{Exactly, Reading, ◌>>=◌}
 use Rattle.gimli_read.specs.Leb128.{uleb128_at}
 use Rattle.gimli_read.specs.Form.{NamedValue, attribute_at, rest_of}
+use Rattle.gimli_read.specs.NumberValue.{implicit_number, is_number_form, number_at, number_of}
+use Rattle.gimli_read.specs.declared.constants.TheConstants.DwForm.{DW_FORM_implicit_const}
+use Rattle.gimli_read.specs.declared.number_value.NumberValue.{NumberValue}
 use Rattle.gimli_read.proofs.Shorter.{Shorter, shorter_at, uleb128-shorter}
+use Rattle.gimli_read.specs.Number.{skipped_at}
+use Rattle.gimli_read.specs.ValueSize.{attribute_size}
 use Rattle.gimli_read.proofs.AttributeTexts.{attribute_alone}
+use Rattle.gimli_read.proofs.SizeLemmas.{attribute_leaves_size}
 use Rattle.gimli.specs.Entry.{attributes_at, depth_after_entry, depth_after_closing}
 use Rattle.gimli.specs.EntryCursor.{EntryCursor, IsInUnit, entry_abbreviation_at}
 use Rattle.gimli.proofs.CursorLemmas.{abbreviation_is, opening_entry}
@@ -46,6 +53,38 @@ attribute_leaves e x s t a h =
     let p = attribute_alone e x s t a h in
     let same : length s.bytes ≡ length (p.0 ++ t.bytes) = ap (λ (u : Section). length u.bytes) p.2 in
     omega (arith, same, length-append p.0 t.bytes)
+
+-- so does one that is passed over
+pub rest_leaves : (e : Encoding) (x : Specification) (s t : Section) → rest_of (attribute_at e x s) ≡ Ok t → length t.bytes ≤ length s.bytes
+rest_leaves e x s t h = read (attribute_at e x s) refl h
+  where
+    read : (r : Reading NamedValue) → attribute_at e x s ≡ r → rest_of r ≡ Ok t → length t.bytes ≤ length s.bytes
+    read (Ok a) is h = let same : a.1 ≡ t = cc in let left : length a.1.bytes ≡ length t.bytes = ap (λ (y : Section). length y.bytes) same in omega (arith, left, attribute_leaves e x s a.1 a.0 is)
+    read (Err f) is h = absurd cc
+
+-- so does a value that is a number, if it is read
+pub number_leaves : (e : Encoding) (x : Specification) (s t : Section) (n : Option NumberValue) → number_at e x s ≡ Ok (n, t) → length t.bytes ≤ length s.bytes
+number_leaves e x s t n h = by_form (x.form.0 == DW_FORM_implicit_const.0) (is_number_form x.form) h
+  where
+    nothing_read : (o : Option NumberValue) → ◌≡◌ {A = Reading (Option NumberValue)} (Ok (o, s)) (Ok (n, t)) → length t.bytes ≤ length s.bytes
+    nothing_read o h = let same : ◌≡◌ {A = Option NumberValue × Section} (o, s) (n, t) = cc in let left : length s.bytes ≡ length t.bytes = ap (λ (y : Option NumberValue × Section). length y.1.bytes) same in omega (arith, left)
+
+    read : (r : Reading NamedValue) → attribute_at e x s ≡ r → ◌≡◌ {A = Reading (Option NumberValue)} (r >>= λ a. Ok (number_of a.0.value, a.1)) (Ok (n, t)) → length t.bytes ≤ length s.bytes
+    read (Ok a) is h =
+        let same : ◌≡◌ {A = Option NumberValue × Section} (number_of a.0.value, a.1) (n, t) = cc in
+        let left : length a.1.bytes ≡ length t.bytes = ap (λ (y : Option NumberValue × Section). length y.1.bytes) same in
+        omega (arith, left, attribute_leaves e x s a.1 a.0 is)
+    read (Err f) is h = absurd cc
+
+    by_form : (b c : Bool) → ◌≡◌ {A = Reading (Option NumberValue)} (cond b (Ok (implicit_number x.constant, s)) (cond c (attribute_at e x s >>= λ a. Ok (number_of a.0.value, a.1)) (Ok (None, s)))) (Ok (n, t)) → length t.bytes ≤ length s.bytes
+    by_form true c h = nothing_read (implicit_number x.constant) h
+    by_form false true h = read (attribute_at e x s) refl h
+    by_form false false h = nothing_read None h
+
+-- so many bytes are passed over of an attribute of that size
+pub sized_passed : (e : Encoding) (x : Specification) (n : ℕ) (s t : Section) (r : Result (Unit {0}) Error) → attribute_size e x ≡ Some n → Exactly (λ y. (y, t)) r (skipped_at n s) → Exactly (λ _. t) r (rest_of (attribute_at e x s))
+sized_passed e x n s t (Ok y) h k = attribute_leaves_size e x n s h ∙ ap rest_of k
+sized_passed e x n s t (Err f) h k = attribute_leaves_size e x n s h ∙ ap rest_of k
 
 up_is : (n : ℕ) → negsuc (suc n) +ℤ pos 1 ≡ negsuc n
 up_is n = grind (arith, common_steps)

@@ -1,16 +1,18 @@
 //! The entries of a unit.
 
-ghost use Rattle.std.specs.Prelude.{◌≡◌, ◌<◌, ◌≤◌, ◌+◌, ◌-◌, ◌^◌, ◌==◌, [], length, option_map, OnErr, unsigned_abs};
+ghost use Rattle.std.specs.Prelude.{◌≡◌, ◌<◌, ◌≤◌, ◌+◌, ◌-◌, ◌^◌, ◌==◌, [], length, None, Ok, option_map, OnErr, unsigned_abs};
 ghost use Rattle.gimli_read.specs.Reading.{Exactly, ExactlyUnlessOomFor};
 ghost use Rattle.gimli_read.specs.HeldBytes.{gives_attribute_bytes};
 ghost use Rattle.gimli_read.specs.Form.{attribute_at, attributes_at, rest_of};
+ghost use Rattle.gimli_read.specs.NumberValue.{number_at};
 ghost use Rattle.gimli.specs.Entry.{depth_after_entry, depth_after_closing};
 ghost use Rattle.gimli.specs.EntryCursor.{entries_at, entry_abbreviation_at};
 
 use crate::unit::UnitHeader;
 use gimli_read::{
     Abbreviation, Abbreviations, Attribute, AttributeSpecification, CLOSING_CODE, Encoding, Error,
-    Reader, UnitOffset, read_attribute, skip_attributes, skip_attributes_of,
+    NumberValue, Reader, UnitOffset, read_attribute, read_number, skip_attribute, skip_attributes,
+    skip_attributes_of,
 };
 use std::marker::Model;
 
@@ -60,6 +62,22 @@ fn depth_after_closing(depth: isize) -> isize
     ensures gives { result ≡ depth_after_closing depth }
 {
     depth - 1
+}
+
+// Passes over an attribute, at once where its form alone says how many bytes it has.
+#[inline(always)]
+fn skip_one<R: Reader>(
+    input: &mut R,
+    encoding: Encoding,
+    specification: AttributeSpecification,
+) -> Result<(), Error>
+    ensures gives { Exactly (λ _. R.section input.new) result
+        (rest_of (attribute_at encoding specification (R.section input.old))) }
+{
+    match specification.size(encoding) {
+        Some(size) => input.skip(u64::from(size)),
+        None => skip_attribute(input, encoding, specification),
+    }
 }
 
 impl<'a, R: Reader> EntriesRaw<'a, R> {
@@ -170,6 +188,56 @@ impl<'a, R: Reader> EntriesRaw<'a, R> {
     {
         match read_attribute(&mut self.input, self.encoding, specification) {
             Ok(attribute) => Ok(attribute),
+            Err(error) => {
+                self.input.skip(self.input.len())?;
+                Err(error)
+            }
+        }
+    }
+
+    /// Reads the next attribute's value as a number, where its specification says that it is one of
+    /// a frequent form; else nothing is read, and the answer is none. Takes no memory.
+    ///
+    /// Refused as `read_number` of the section reader is: `UnexpectedEof`, `BadLeb128` and
+    /// `UnsupportedAddressSize`. After a refusal nothing is left to read.
+    #[inline(always)]
+    #[tactic(auto, using(crate::proofs::EntryLemmas::number_leaves, crate::proofs::EntryLemmas::still_in_unit))]
+    pub fn read_number(
+        &mut self,
+        specification: AttributeSpecification,
+    ) -> Result<Option<NumberValue>, Error>
+        ensures gives { Exactly (λ n. (n, self.new.cursor.left)) result
+            (number_at self.old.unit.encoding specification self.old.cursor.left) }
+        ensures none { result ≡ Ok None → self.new.cursor.left ≡ self.old.cursor.left }
+        ensures refused { OnErr result (self.new.cursor.left.bytes ≡ []) }
+        ensures unit { self.new.unit ≡ self.old.unit }
+        ensures depth { self.new.cursor.depth ≡ self.old.cursor.depth }
+    {
+        match read_number(&mut self.input, self.encoding, specification) {
+            Ok(number) => Ok(number),
+            Err(error) => {
+                self.input.skip(self.input.len())?;
+                Err(error)
+            }
+        }
+    }
+
+    /// Passes over the next attribute, which is read and dropped, or passed over at once where its
+    /// form alone says how many bytes it has. Takes no memory.
+    ///
+    /// Refused as `read_attribute` is, but for `OutOfMemory`. After a refusal nothing is left to
+    /// read.
+    #[inline(always)]
+    #[tactic(auto, using(crate::proofs::EntryLemmas::rest_leaves, crate::proofs::EntryLemmas::still_in_unit))]
+    pub fn skip_attribute(&mut self, specification: AttributeSpecification) -> Result<(), Error>
+        ensures gives { Exactly (λ _. self.new.cursor.left) result (rest_of (attribute_at
+            self.old.unit.encoding specification self.old.cursor.left)) }
+        ensures refused { OnErr result (self.new.cursor.left.bytes ≡ []) }
+        ensures unit { self.new.unit ≡ self.old.unit }
+        ensures depth { self.new.cursor.depth ≡ self.old.cursor.depth }
+    {
+        match skip_one(&mut self.input, self.encoding, specification) {
+            Ok(()) => Ok(()),
             Err(error) => {
                 self.input.skip(self.input.len())?;
                 Err(error)

@@ -43,5 +43,5 @@ pub use gimli_read as read;
 pub use gimli_read::{
     Abbreviation, Abbreviations, Attribute, AttributeSpecification, AttributeValue,
     DebugInfoOffset, DwAt, DwForm, DwLang, DwTag, Encoding, EndianBytes, EndianSlice, Error,
-    Format, Range, Reader, RunTimeEndian, UnitOffset,
+    Format, NumberValue, Range, Reader, RunTimeEndian, UnitOffset,
 };

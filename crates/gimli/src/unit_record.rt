@@ -1,6 +1,6 @@
 //! Units: headers with what their root entry says.
 
-ghost use Rattle.std.specs.Prelude.{◌≡◌, Ok, is_some, option_map};
+ghost use Rattle.std.specs.Prelude.{◌≡◌, Ok, box_value, is_some, option_map};
 ghost use Rattle.gimli_read.specs.Reading.{Exactly, ExactlyUnlessOomFor, ExactlyUnlessOomIf};
 ghost use Rattle.gimli_read.specs.Form.{seen_value};
 ghost use Rattle.gimli.specs.Split.{dwo_name_fault, dwo_name_of, relocated};
@@ -42,12 +42,13 @@ pub struct Unit<R: Reader> {
     pub rnglists_base: u64,
     /// The identifier that the unit shares with a split unit, where it has one.
     pub dwo_id: Option<DwoId>,
-    /// The line program, where it has one; its opcodes aren't run yet.
-    pub line_program: Option<IncompleteLineProgram<R>>,
+    /// The line program, where it has one; its opcodes aren't run yet. It stands in a box, so that
+    /// a unit without one is small.
+    pub line_program: Option<Box<IncompleteLineProgram<R>>>,
 }
 
 impl<R: Reader> Model for Unit<R> {
-    ghost use Rattle.std.specs.Prelude.{option_map};
+    ghost use Rattle.std.specs.Prelude.{box_value, option_map};
     ghost use Rattle.gimli.specs.Text.{from_offset};
     ghost use Rattle.gimli.specs.Unit.{UnitRecord};
 
@@ -63,7 +64,7 @@ impl<R: Reader> Model for Unit<R> {
       addr_base = u.addr_base;
       rnglists_base = u.rnglists_base;
       dwo_id = u.dwo_id;
-      line_program = u.line_program;
+      line_program = option_map box_value u.line_program;
     } };
 }
 
@@ -114,8 +115,8 @@ fn read_program<R: Reader>(
     dwarf: &Dwarf<R>,
     encoding: Encoding,
     stmt_list: Option<u64>,
-) -> Result<Option<IncompleteLineProgram<R>>, Error>
-    ensures gives { ExactlyUnlessOomIf (is_some stmt_list) (λ p. p) result
+) -> Result<Option<Box<IncompleteLineProgram<R>>>, Error>
+    ensures gives { ExactlyUnlessOomIf (is_some stmt_list) (option_map box_value) result
         (line_program_of dwarf.now encoding stmt_list) }
 {
     let Some(offset) = stmt_list else {
@@ -123,7 +124,7 @@ fn read_program<R: Reader>(
     };
     let rest = read_from(&dwarf.debug_line.section, offset)?;
     let program = read_line_program(alloc, rest, encoding.address_size)?;
-    Ok(Some(program))
+    Ok(Some(Box::new(alloc, program)?))
 }
 
 // The string of a value, none where it can't be read. Refused `OutOfMemory` alone.
@@ -167,8 +168,9 @@ fn read_program_and_low_pc<R: Reader>(
     encoding: Encoding,
     addr_base: u64,
     root: &RootAttributes<R>,
-) -> Result<(Option<IncompleteLineProgram<R>>, u64), Error>
-    ensures gives { ExactlyUnlessOomIf (is_some root.now.stmt_list) (λ x. x) result
+) -> Result<(Option<Box<IncompleteLineProgram<R>>>, u64), Error>
+    ensures gives { ExactlyUnlessOomIf (is_some root.now.stmt_list)
+        (λ x. (option_map box_value x.0, x.1)) result
         (program_and_low_pc_of dwarf.now encoding addr_base root.now) }
 {
     let line_program = read_program(alloc, dwarf, encoding, root.stmt_list)?;

@@ -14,6 +14,7 @@ pub mod ValueSize
 pub mod Skip
 pub mod SizedRuns
 pub mod HeldBytes
+pub mod NumberValue
 pub mod StringForm
 pub mod Value
 pub mod ValueLaws

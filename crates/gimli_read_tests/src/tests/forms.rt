@@ -5,8 +5,8 @@ use super::{
     spelled, words,
 };
 use gimli_read::{
-    AttributeSpecification, AttributeValue, DwAt, DwForm, Encoding, Error, Format, Reader,
-    RunTimeEndian, read_attribute, read_value,
+    AttributeSpecification, AttributeValue, DwAt, DwForm, Encoding, Error, Format, NumberValue,
+    Reader, RunTimeEndian, read_attribute, read_number, read_value,
 };
 use std::alloc::{AllocError, Global};
 
@@ -352,6 +352,69 @@ fn attributes_have_their_constants(rt: HostRuntime) {
     ];
     for (form, constant, bytes, want) in cases {
         let found = attributes(rt.alloc(), form, constant, bytes);
+        assert_eq!(rt; found, [want; 2], "form {form}");
+    }
+}
+
+// A number by its kind: 1 an address, 2 a constant, 3 a reference, 0 none.
+fn told(number: Option<NumberValue>) -> [u128; 2] {
+    match number {
+        Some(NumberValue::Address(number)) => [1, u128::from(number)],
+        Some(NumberValue::Constant(number)) => [2, u128::from(number)],
+        Some(NumberValue::UnitRef(offset)) => [3, u128::from(offset.0)],
+        None => [0, 0],
+    }
+}
+
+// The kind of the number that is read, the number, and how many bytes are left.
+fn number_read<R: Reader>(
+    input: Result<R, AllocError>,
+    specification: AttributeSpecification,
+) -> [u128; 3] {
+    let Ok(mut input) = input else {
+        return [OOM, 0, 0];
+    };
+    match read_number(&mut input, encoding(Format::Dwarf32), specification) {
+        Ok(number) => {
+            let [kind, number] = told(number);
+            [kind, number, u128::from(input.len())]
+        }
+        Err(error) => [fault(error), 0, 0],
+    }
+}
+
+// The same over both readers, of a form and its value in the table.
+fn numbers_read(alloc: Global, form: u64, constant: u8, bytes: &[u8]) -> [[u128; 3]; 2] {
+    let order = RunTimeEndian::Little;
+    match specification(alloc, form, constant) {
+        Ok(specification) => [
+            number_read(Ok(borrowed(bytes, order)), specification),
+            number_read(shared(alloc, bytes, order), specification),
+        ],
+        Err(_) => [[OTHER, 0, 0]; 2],
+    }
+}
+
+#[test]
+fn numbers_of_frequent_forms_are_read(rt: HostRuntime) {
+    // A form, its value in the table where it is implicit_const, and the bytes.
+    let cases: [(u64, u8, &[u8], [u128; 3]); 13] = [
+        (0x01, 0, &BYTES, [1, 0x403_0201, 14]),
+        (0x0b, 0, &BYTES, [2, 1, 17]),
+        (0x05, 0, &BYTES, [2, 0x201, 16]),
+        (0x06, 0, &BYTES, [2, 0x403_0201, 14]),
+        (0x07, 0, &BYTES, [2, 0x807_0605_0403_0201, 10]),
+        (0x0f, 0, &BYTES, [2, 1, 17]),
+        (0x13, 0, &BYTES, [3, 0x403_0201, 14]),
+        (0x21, 9, &BYTES, [2, 9, 18]),
+        (0x21, 0x77, &BYTES, [0, 0, 18]),
+        (0x0d, 0, &BYTES, [0, 0, 18]),
+        (0x11, 0, &BYTES, [0, 0, 18]),
+        (0x16, 0, &BYTES, [0, 0, 18]),
+        (0x05, 0, &[7], [EOF, 0, 0]),
+    ];
+    for (form, constant, bytes, want) in cases {
+        let found = numbers_read(rt.alloc(), form, constant, bytes);
         assert_eq!(rt; found, [want; 2], "form {form}");
     }
 }

@@ -29,15 +29,15 @@ returns-in_err-pass_over-clause-gives g c =
     let fault = rw i.same at c.in_err-pass_over.ensures.gives in
     rw (p.1, p.2) (λ _. sym i.gives ∙ wanted_passed (inlined_passes (seen_scope c.args.scope) c.args.unit.now i.given) _ _ _ split fault)
 
-pub returns-in_err-attribute-clause-gives : goal.returns-in_err-attribute-clause-gives
-returns-in_err-attribute-clause-gives g c =
-    let p = err_from_is_err_and c.from_residual-in_err-attribute.result c.from_residual-in_err-attribute.ensures.1 in
+pub returns-in_err-fault-clause-gives : goal.returns-in_err-fault-clause-gives
+returns-in_err-fault-clause-gives g c =
+    let p = err_from_is_err_and c.from_residual-in_err-fault.result c.from_residual-in_err-fault.ensures.1 in
     let i = c.loop-next.invariant in
     let split = c.in-Some.ensures.split in
     let skipped = rw i.same at c.in_ok-pass_over.ensures.gives in
     let same = ap (λ v. v.encoding) c.in_ok-pass_over.ensures.unit ∙ i.same in
-    let fault = rw same at c.in_err-attribute.ensures.gives in
-    rw (p.1, p.2) (λ ne. sym i.gives ∙ wanted_next (inlined_passes (seen_scope c.args.scope) c.args.unit.now i.given) _ _ _ split skipped (fault (λ shares _. ne shares)))
+    let fault = rw same at c.in_err-fault.ensures.gives in
+    rw (p.1, p.2) (λ ne. sym i.gives ∙ wanted_next (inlined_passes (seen_scope c.args.scope) c.args.unit.now i.given) _ _ _ split skipped (fault ne))
 
 pub loop-next-preserved : goal.loop-next-preserved
 loop-next-preserved g c =
@@ -47,17 +47,17 @@ loop-next-preserved g c =
     let split = c.in-Some.ensures.split in
     let skipped = rw i.same at c.in_ok-pass_over.ensures.gives in
     let same = ap (λ v. v.encoding) c.in_ok-pass_over.ensures.unit ∙ i.same in
-    let read = rw same at c.in_ok-attribute.ensures.gives in
-    let a = c.in_ok-attribute.attribute in
+    let next = rw same at c.in_ok-fault.ensures.gives in
+    let a = next.attribute in
     record {
       given = or_with_inlined_attribute scope u i.given a;
-      is = taken g.R.Reader.shares (seen_attributes g.R.Reader.section) (λ x. with_inlined_attribute scope u x a) (or_fault c.loop-next.found c.loop-next.fault) (or_fault c.take_unless-fault.new.self c.take_unless-fault.result) i.given i.is c.take_unless-fault.ensures.gives;
-      gives = sym (wanted_next (inlined_passes scope u i.given) _ _ _ split skipped read) ∙ i.gives;
-      same = ap (λ v. v.encoding) c.in_ok-attribute.ensures.unit ∙ same;
-      left = sym (wanted_next (rest_passes u.header.encoding is_wanted) _ _ _ split skipped read) ∙ i.left;
-      unit = c.in_ok-attribute.ensures.unit ∙ c.in_ok-pass_over.ensures.unit ∙ i.unit;
-      depth = c.in_ok-attribute.ensures.depth ∙ c.in_ok-pass_over.ensures.depth ∙ i.depth;
-      names = names_on scope u _ _ _ i.names c.take_unless-fault.ensures.names;
+      is = taken g.R.Reader.shares (seen_attributes g.R.Reader.section) (λ x. with_inlined_attribute scope u x a) (or_fault c.loop-next.found c.loop-next.fault) (or_fault c.read_next.new.self c.in_ok-fault.fault) i.given i.is next.taken;
+      gives = sym (wanted_next (inlined_passes scope u i.given) _ _ _ split skipped next.is) ∙ i.gives;
+      same = ap (λ v. v.encoding) c.in_ok-fault.ensures.unit ∙ same;
+      left = sym (wanted_next (rest_passes u.header.encoding is_wanted) _ _ _ split skipped next.is) ∙ i.left;
+      unit = c.in_ok-fault.ensures.unit ∙ c.in_ok-pass_over.ensures.unit ∙ i.unit;
+      depth = c.in_ok-fault.ensures.depth ∙ c.in_ok-pass_over.ensures.depth ∙ i.depth;
+      names = names_on scope u _ _ _ i.names c.in_ok-fault.ensures.names;
     }
 
 pub returns-in_err-pass_over-2-clause-gives : goal.returns-in_err-pass_over-2-clause-gives
@@ -93,14 +93,14 @@ returns-in_err-pass_over-clause-unit g c = c.in_err-pass_over.ensures.unit ∙ c
 pub returns-in_err-pass_over-clause-depth : goal.returns-in_err-pass_over-clause-depth
 returns-in_err-pass_over-clause-depth g c = c.in_err-pass_over.ensures.depth ∙ c.loop-next.invariant.depth
 
-pub returns-in_err-attribute-clause-left : goal.returns-in_err-attribute-clause-left
-returns-in_err-attribute-clause-left g c = let p = err_from_is_err_and c.from_residual-in_err-attribute.result c.from_residual-in_err-attribute.ensures.1 in rw p.1 tt
+pub returns-in_err-fault-clause-left : goal.returns-in_err-fault-clause-left
+returns-in_err-fault-clause-left g c = let p = err_from_is_err_and c.from_residual-in_err-fault.result c.from_residual-in_err-fault.ensures.1 in rw p.1 tt
 
-pub returns-in_err-attribute-clause-unit : goal.returns-in_err-attribute-clause-unit
-returns-in_err-attribute-clause-unit g c = c.in_err-attribute.ensures.unit ∙ c.in_ok-pass_over.ensures.unit ∙ c.loop-next.invariant.unit
+pub returns-in_err-fault-clause-unit : goal.returns-in_err-fault-clause-unit
+returns-in_err-fault-clause-unit g c = c.in_err-fault.ensures.unit ∙ c.in_ok-pass_over.ensures.unit ∙ c.loop-next.invariant.unit
 
-pub returns-in_err-attribute-clause-depth : goal.returns-in_err-attribute-clause-depth
-returns-in_err-attribute-clause-depth g c = c.in_err-attribute.ensures.depth ∙ c.in_ok-pass_over.ensures.depth ∙ c.loop-next.invariant.depth
+pub returns-in_err-fault-clause-depth : goal.returns-in_err-fault-clause-depth
+returns-in_err-fault-clause-depth g c = c.in_err-fault.ensures.depth ∙ c.in_ok-pass_over.ensures.depth ∙ c.loop-next.invariant.depth
 
 pub returns-in_err-pass_over-2-clause-left : goal.returns-in_err-pass_over-2-clause-left
 returns-in_err-pass_over-2-clause-left g c = let p = err_from_is_err_and c.from_residual-in_err-pass_over-2.result c.from_residual-in_err-pass_over-2.ensures.1 in rw p.1 tt
@@ -135,8 +135,8 @@ returns-in-None-clause-depth g c = c.in_ok-pass_over-2.ensures.depth ∙ c.loop-
 pub returns-in_err-pass_over-clause-names : goal.returns-in_err-pass_over-clause-names
 returns-in_err-pass_over-clause-names g c = c.loop-next.invariant.names
 
-pub returns-in_err-attribute-clause-names : goal.returns-in_err-attribute-clause-names
-returns-in_err-attribute-clause-names g c = c.loop-next.invariant.names
+pub returns-in_err-fault-clause-names : goal.returns-in_err-fault-clause-names
+returns-in_err-fault-clause-names g c = names_on (seen_scope c.args.scope) c.args.unit.now _ _ _ c.loop-next.invariant.names c.in_err-fault.ensures.names
 
 pub returns-in_err-pass_over-2-clause-names : goal.returns-in_err-pass_over-2-clause-names
 returns-in_err-pass_over-2-clause-names g c = c.loop-next.invariant.names
@@ -147,5 +147,5 @@ returns-in-Some-fault-clause-names g c = c.loop-next.invariant.names
 pub returns-in-None-clause-names : goal.returns-in-None-clause-names
 returns-in-None-clause-names g c = c.loop-next.invariant.names
 
-pub take_unless-fault-requires-clause-names : goal.take_unless-fault-requires-clause-names
-take_unless-fault-requires-clause-names g c = c.loop-next.invariant.names.right
+pub read_next-requires-clause-names : goal.read_next-requires-clause-names
+read_next-requires-clause-names g c = c.loop-next.invariant.names.right

@@ -1,6 +1,29 @@
-use Rattle.std.proofs.Common.{sym}
-use Rattle.addr2line_lines.proofs.NameLemmas.{none_passed}
+use Rattle.std.proofs.Common.{ap, sym, ◌∙◌}
+use Rattle.std.proofs.lemmas.Result.{err_from_is_err_and}
+use Rattle.addr2line_lines.proofs.PassLemmas.{pass_next}
+use Rattle.addr2line_lines.proofs.RangeLemmas.{rest-end}
 use Rattle.addr2line_lines.proofs.name.pass_over.Goals as goal
 
-pub returns-then-is_empty-clause-gives : goal.returns-then-is_empty-clause-gives
-returns-then-is_empty-clause-gives g c = none_passed c.args.entries.now.unit.encoding c.args.specifications.now c.args.entries.now.cursor.left (sym c.if-is_empty.ensures)
+pub returns-in_err-skip_attribute-clause-gives : goal.returns-in_err-skip_attribute-clause-gives
+returns-in_err-skip_attribute-clause-gives g c =
+    let p = err_from_is_err_and c.from_residual.result c.from_residual.ensures.1 in
+    let i = c.loop-specification.invariant in
+    let same = ap (λ v. v.encoding) i.unit in
+    let fault = rw (same, c.specification-item.is) at c.in_err-skip_attribute.ensures.gives in
+    rw (p.1, p.2) (sym i.gives ∙ pass_next _ _ _ _ _ _ c.loop-specification-test.true fault)
+
+pub loop-specification-preserved : goal.loop-specification-preserved
+loop-specification-preserved g c =
+    let i = c.loop-specification.invariant in
+    let same = ap (λ v. v.encoding) i.unit in
+    let passed = rw (same, c.specification-item.is) at c.in_ok-skip_attribute.ensures.gives in
+    record {
+      gives = sym (pass_next _ _ _ _ _ _ c.loop-specification-test.true passed) ∙ i.gives;
+      unit = c.in_ok-skip_attribute.ensures.unit ∙ i.unit;
+      depth = c.in_ok-skip_attribute.ensures.depth ∙ i.depth;
+    }
+
+pub returns-clause-gives : goal.returns-clause-gives
+returns-clause-gives g c =
+    let i = c.loop-specification.invariant in
+    sym i.gives ∙ rest-end _ _ _ _ c.loop-specification-test.false

@@ -1,14 +1,16 @@
 use Rattle.std.proofs.Common.{◌≡◌, ℕ, Ok, ap, sym, ◌∙◌, true, false, Option, Result}
 use Rattle.gimli.specs.Unit.{UnitRecord}
 use Rattle.addr2line_lines.specs.declared.inlined.CallSite.{CallSite}
-use Rattle.addr2line_lines.specs.InlinedEntries.{InlinedAttributes, with_call}
+use Rattle.addr2line_lines.specs.InlinedEntries.{InlinedAttributes, with_call_constant}
 use Rattle.addr2line_lines.specs.FoundAttributes.{is_call, seen_attributes}
 use Rattle.addr2line_lines.specs.FoundRanges.{is_range_name}
 use Rattle.addr2line_lines.specs.SeenScope.{seen_scope}
 use Rattle.addr2line_lines.proofs.CachedNameLemmas.{names_same}
 use Rattle.addr2line_lines.proofs.DetailLemmas.{call_taken, ranges_taken, name_taken}
 use Rattle.std.proofs.lemmas.Result.{err_from_is_err_and}
+use Rattle.gimli_read.specs.declared.constants.DwAt.{DwAt}
 use Rattle.gimli_read.specs.declared.error.Error.{Error}
+use Rattle.gimli_read.specs.Form.{constant_of}
 use Rattle.gimli_read.specs.Reading.{◌>>=◌}
 use Rattle.gimli_read.specs.Section.{Section}
 use Rattle.addr2line_lines.specs.declared.function.RangeAttributes.{RangeAttributes}
@@ -28,9 +30,12 @@ returns-then-is_call g c =
     let x = seen_attributes g.R.Reader.section c.args.self.now in
     let made : CallSite → InlinedAttributes = λ call. record { ranges = x.ranges; name = x.name; call = call } in
     let version : c.version.result ≡ u.header.encoding.version = c.version.ensures.gives ∙ ap (λ (v : UnitRecord). v.header.encoding.version) c.unit.view_is in
+    let a = c.args.attribute in
+    let with : ℕ → DwAt → Option ℕ → Result InlinedAttributes Error = λ v n k. Ok (made (with_call_constant v x.call n k)) in
     record {
-      gives = call_taken (seen_scope c.args.scope) u x c.args.attribute (ap is_call (sym c.name-name.ensures.gives) ∙ sym c.if-is_call.ensures.gives)
-          ∙ ap (λ (v : ℕ). Ok (made (with_call v x.call c.args.attribute))) (sym version) ∙ ap (λ call. Ok (made call)) (sym c.take-self.ensures.gives);
+      gives = call_taken (seen_scope c.args.scope) u x a (ap is_call (sym c.name-name.ensures.gives) ∙ sym c.if-is_call.ensures.gives)
+          ∙ ap (λ v. with v a.name (constant_of a.value)) (sym version) ∙ ap (λ n. with c.version.result n (constant_of a.value)) (sym c.name-name.ensures.gives)
+          ∙ ap (with c.version.result c.name-name.result) (sym c.udata_value-constant.ensures.gives) ∙ ap (λ call. Ok (made call)) (sym c.take-self.ensures.gives);
       names = names_same (seen_scope c.args.scope) c.args.unit.now _ c.requires.names;
     }
 

@@ -1,0 +1,200 @@
+-- Numbers among the attributes of inlined entries (on specs/FoundNumbers.antt).
+use Rattle.std.proofs.Common.{◌≡◌, ℕ, ◌==◌, ◌||◌, Bool, true, false, cond, Option, Some, None, Result, Ok, Err, refl, ap, subst, sym, ◌∙◌, ℤ, pos, negsuc}
+use Rattle.std.specs.Option.{option_or}
+use Rattle.gimli_read.specs.declared.constants.DwAt.{DwAt}
+use Rattle.gimli_read.specs.declared.constants.TheConstants.DwAt.{DW_AT_abstract_origin, DW_AT_high_pc, DW_AT_low_pc, DW_AT_ranges, DW_AT_specification}
+use Rattle.gimli_read.specs.declared.constants.TheConstants.DwForm.{DW_FORM_implicit_const}
+use Rattle.gimli_read.specs.declared.endian.Encoding.{Encoding}
+use Rattle.gimli_read.specs.declared.error.Error.{Error}
+use Rattle.gimli_read.specs.declared.number_value.NumberValue.{NumberValue}
+use Rattle.gimli_read.specs.declared.number_value.NumberValue.TheVariants as numbers
+use Rattle.gimli_read.specs.declared.value.AttributeValue.{AttributeValue}
+use Rattle.gimli_read.specs.declared.value.AttributeValue.TheVariants as values
+use Rattle.gimli_read.specs.declared.value.UnitOffset.{UnitOffset}
+use Rattle.gimli_read.specs.Abbreviations.{Specification}
+use Rattle.gimli_read.specs.Form.{NamedValue, attribute_at, constant_of, implicit_of, named_value, value_at}
+use Rattle.gimli_read.specs.NumberValue.{implicit_number, is_number_form, number_address, number_at, number_constant, number_of}
+use Rattle.gimli_read.specs.Reading.{Reading, ◌>>=◌, ExactlyUnlessOomIf}
+use Rattle.gimli_read.specs.Section.{Section}
+use Rattle.gimli.specs.Sections.{Sections}
+use Rattle.gimli.specs.Unit.{UnitRecord}
+use Rattle.addr2line_lines.specs.declared.function.RangeAttributes.{RangeAttributes}
+use Rattle.addr2line_lines.specs.InlinedEntries.{InlinedAttributes, with_call_constant, with_inlined_attribute}
+use Rattle.addr2line_lines.specs.FoundAttributes.{IsTakenIn, is_call, or_fault}
+use Rattle.addr2line_lines.specs.FoundNumbers.{is_number_name, with_range_number}
+use Rattle.addr2line_lines.specs.FoundRanges.{is_range_name}
+use Rattle.addr2line_lines.specs.Names.{is_origin, or_referred_name, with_name}
+use Rattle.addr2line_lines.specs.RangeAttributes.{attr_address, with_range_attribute}
+use Rattle.addr2line_lines.specs.References.{Scope, referred}
+use Rattle.addr2line_lines.proofs.DetailLemmas.{by_one_of, by_range_name, call_taken, name_taken, neither, ranges_taken}
+use Rattle.addr2line_lines.proofs.NameLemmas.{within_none}
+
+-- what holds of each value that is a number
+by_number : (P : AttributeValue Section → NumberValue → Type 0) → ((x : ℕ) → P (values.Addr x) (numbers.Address x)) → ((x : ℕ) → P (values.Data1 x) (numbers.Constant x)) → ((x : ℕ) → P (values.Data2 x) (numbers.Constant x)) → ((x : ℕ) → P (values.Data4 x) (numbers.Constant x))
+    → ((x : ℕ) → P (values.Data8 x) (numbers.Constant x)) → ((x : ℕ) → P (values.Udata x) (numbers.Constant x)) → ((x : ℕ) → P (values.Sdata (pos x)) (numbers.Constant x)) → ((x : UnitOffset) → P (values.UnitRef x) (numbers.UnitRef x)) → (v : AttributeValue Section) (n : NumberValue) → number_of v ≡ Some n → P v n
+by_number P a b c d e f g o (values.Addr x) n h = subst (P (values.Addr x)) (let same : numbers.Address x ≡ n = cc in same) (a x)
+by_number P a b c d e f g o (values.Data1 x) n h = subst (P (values.Data1 x)) (let same : numbers.Constant x ≡ n = cc in same) (b x)
+by_number P a b c d e f g o (values.Data2 x) n h = subst (P (values.Data2 x)) (let same : numbers.Constant x ≡ n = cc in same) (c x)
+by_number P a b c d e f g o (values.Data4 x) n h = subst (P (values.Data4 x)) (let same : numbers.Constant x ≡ n = cc in same) (d x)
+by_number P a b c d e f g o (values.Data8 x) n h = subst (P (values.Data8 x)) (let same : numbers.Constant x ≡ n = cc in same) (e x)
+by_number P a b c d e f g o (values.Udata x) n h = subst (P (values.Udata x)) (let same : numbers.Constant x ≡ n = cc in same) (f x)
+by_number P a b c d e f g o (values.Sdata (pos x)) n h = subst (P (values.Sdata (pos x))) (let same : numbers.Constant x ≡ n = cc in same) (g x)
+by_number P a b c d e f g o (values.Sdata (negsuc x)) n h = absurd cc
+by_number P a b c d e f g o (values.UnitRef x) n h = subst (P (values.UnitRef x)) (let same : numbers.UnitRef x ≡ n = cc in same) (o x)
+by_number P a b c d e f g o (values.Block x) n h = absurd cc
+by_number P a b c d e f g o (values.Data16 x) n h = absurd cc
+by_number P a b c d e f g o (values.Exprloc x) n h = absurd cc
+by_number P a b c d e f g o (values.Flag x) n h = absurd cc
+by_number P a b c d e f g o (values.SecOffset x) n h = absurd cc
+by_number P a b c d e f g o (values.DebugAddrIndex x) n h = absurd cc
+by_number P a b c d e f g o (values.DebugInfoRef x) n h = absurd cc
+by_number P a b c d e f g o (values.DebugInfoRefSup x) n h = absurd cc
+by_number P a b c d e f g o (values.DebugTypesRef x) n h = absurd cc
+by_number P a b c d e f g o (values.DebugLocListsIndex x) n h = absurd cc
+by_number P a b c d e f g o (values.DebugRngListsIndex x) n h = absurd cc
+by_number P a b c d e f g o (values.DebugStrRef x) n h = absurd cc
+by_number P a b c d e f g o (values.DebugStrRefSup x) n h = absurd cc
+by_number P a b c d e f g o (values.DebugStrOffsetsIndex x) n h = absurd cc
+by_number P a b c d e f g o (values.DebugLineStrRef x) n h = absurd cc
+by_number P a b c d e f g o (values.String x) n h = absurd cc
+
+-- the constant that the value is
+pub as_constant : (v : AttributeValue Section) (n : NumberValue) → number_of v ≡ Some n → constant_of v ≡ number_constant n
+as_constant v n h = by_number (λ w m. constant_of w ≡ number_constant m) (λ x. refl) (λ x. refl) (λ x. refl) (λ x. refl) (λ x. refl) (λ x. refl) (λ x. refl) (λ x. refl) v n h
+
+-- the address that it is
+as_address : (d : Sections) (u : UnitRecord) (v : AttributeValue Section) (n : NumberValue) → number_of v ≡ Some n → attr_address d u v ≡ Ok (number_address n)
+as_address d u v n h = by_number (λ w m. attr_address d u w ≡ Ok (number_address m)) (λ x. refl) (λ x. refl) (λ x. refl) (λ x. refl) (λ x. refl) (λ x. refl) (λ x. refl) (λ x. refl) v n h
+
+-- the name by it, where it is a reference
+abbrev pub name_by_number : Scope → UnitRecord → Option Section → NumberValue → Result (Option Section) Error
+name_by_number scope u found (numbers.UnitRef offset) = or_referred_name scope u found (values.UnitRef offset)
+name_by_number scope u found _ = Ok found
+
+-- another value refers to no entry
+unreferred : (scope : Scope) (u : UnitRecord) (found : Option Section) (v : AttributeValue Section) → referred scope u v ≡ Ok None → or_referred_name scope u found v ≡ Ok found
+unreferred scope u (Some name) v h = refl
+unreferred scope u None v h = within_none 16 15 scope u v refl h
+
+as_reference : (scope : Scope) (u : UnitRecord) (found : Option Section) (v : AttributeValue Section) (n : NumberValue) → number_of v ≡ Some n → or_referred_name scope u found v ≡ name_by_number scope u found n
+as_reference scope u found v n h =
+    by_number (λ w m. or_referred_name scope u found w ≡ name_by_number scope u found m) (λ x. unreferred scope u found (values.Addr x) refl) (λ x. unreferred scope u found (values.Data1 x) refl) (λ x. unreferred scope u found (values.Data2 x) refl) (λ x. unreferred scope u found (values.Data4 x) refl)
+    (λ x. unreferred scope u found (values.Data8 x) refl) (λ x. unreferred scope u found (values.Udata x) refl) (λ x. unreferred scope u found (values.Sdata (pos x)) refl) (λ x. refl) v n h
+
+-- an attribute of a name
+abbrev pub attribute_of : DwAt → AttributeValue Section → NamedValue
+attribute_of name v = record { name = name; value = v }
+
+-- low_pc or high_pc
+range_number : (d : Sections) (u : UnitRecord) (r : RangeAttributes) (name : DwAt) (v : AttributeValue Section) (n : NumberValue) → number_of v ≡ Some n → is_range_name name ≡ true → is_number_name name ≡ true → with_range_attribute d u r (attribute_of name v) ≡ Ok (with_range_number r name n)
+unfolding with_range_attribute
+range_number d u r name v n h is number =
+    by_range_name (λ k. is_number_name k ≡ true → with_range_attribute d u r (attribute_of k v) ≡ Ok (with_range_number r k n)) (λ _. ap with_low address) (λ _. ap (with_high (constant_of v)) address ∙ ap (λ c. with_high c (Ok (number_address n))) (as_constant v n h)) (λ no. absurd cc) name is number
+  where
+    address : attr_address d u v ≡ Ok (number_address n)
+    address = as_address d u v n h
+
+    with_low : Result (Option ℕ) Error → Result RangeAttributes Error
+    with_low a = a >>= λ low. Ok (record r { low_pc = option_or low r.low_pc })
+
+    with_high : Option ℕ → Result (Option ℕ) Error → Result RangeAttributes Error
+    with_high size a = a >>= λ high. Ok (record r { high_pc = option_or high r.high_pc; size = option_or size r.size })
+
+-- a name of numbers that is of neither a call nor a range is an origin's
+origin_is : (name : DwAt) → is_call name ≡ false → is_range_name name ≡ false → is_number_name name ≡ true → is_origin name ≡ true
+origin_is name c r h =
+    let p = neither (name.0 == DW_AT_low_pc.0 || name.0 == DW_AT_high_pc.0) (name.0 == DW_AT_ranges.0) r in
+    let q = neither (name.0 == DW_AT_low_pc.0) (name.0 == DW_AT_high_pc.0) p.0 in
+    last (is_call name) (name.0 == DW_AT_low_pc.0) (name.0 == DW_AT_high_pc.0) (is_origin name) c q.0 q.1 h
+  where
+    last : (w x y z : Bool) → w ≡ false → x ≡ false → y ≡ false → (w || x || y || z) ≡ true → z ≡ true
+    last true x y z h k l m = absurd cc
+    last false true y z h k l m = absurd cc
+    last false false true z h k l m = absurd cc
+    last false false false z h k l m = m
+
+origin_name : (scope : Scope) (u : UnitRecord) (found : Option Section) (name : DwAt) (v : AttributeValue Section) → is_origin name ≡ true → with_name scope u found (attribute_of name v) ≡ or_referred_name scope u found v
+unfolding with_name
+origin_name scope u found name v is =
+    by_one_of DW_AT_abstract_origin DW_AT_specification DW_AT_specification (λ k. with_name scope u found (attribute_of k v) ≡ or_referred_name scope u found v) refl refl refl name (once_more (name.0 == DW_AT_abstract_origin.0) (name.0 == DW_AT_specification.0) is)
+  where
+    once_more : (x y : Bool) → (x || y) ≡ true → (x || y || y) ≡ true
+    once_more true y h = refl
+    once_more false true h = refl
+    once_more false false h = absurd cc
+
+module _ (scope : Scope) (u : UnitRecord) (x : InlinedAttributes) (name : DwAt) (v : AttributeValue Section) (n : NumberValue) (is : number_of v ≡ Some n) where
+  -- a number of a call
+  pub call_number : is_call name ≡ true → with_inlined_attribute scope u x (attribute_of name v) ≡ Ok (record { ranges = x.ranges; name = x.name; call = with_call_constant u.header.encoding.version x.call name (number_constant n) })
+  call_number c = call_taken scope u x (attribute_of name v) c ∙ ap (λ k. Ok (record { ranges = x.ranges; name = x.name; call = with_call_constant u.header.encoding.version x.call name k })) (as_constant v n is)
+
+  -- a number of a range
+  pub ranges_number : is_call name ≡ false → is_range_name name ≡ true → is_number_name name ≡ true → with_inlined_attribute scope u x (attribute_of name v) ≡ Ok (record { ranges = with_range_number x.ranges name n; name = x.name; call = x.call })
+  ranges_number c r h =
+      ranges_taken scope u x (attribute_of name v) c r
+      ∙ ap (λ (given : Result RangeAttributes Error). given >>= λ ranges. Ok (record { ranges = ranges; name = x.name; call = x.call })) (range_number scope.file.sections u x.ranges name v n is r h)
+
+  -- a number of an origin
+  pub origin_number : is_call name ≡ false → is_range_name name ≡ false → is_number_name name ≡ true
+      → with_inlined_attribute scope u x (attribute_of name v) ≡ (name_by_number scope u x.name n >>= λ named. Ok (record { ranges = x.ranges; name = named; call = x.call }))
+  origin_number c r h =
+      name_taken scope u x (attribute_of name v) c r
+      ∙ ap (λ (given : Result (Option Section) Error). given >>= λ named. Ok (record { ranges = x.ranges; name = named; call = x.call })) (origin_name scope u x.name name v (origin_is name c r h) ∙ as_reference scope u x.name v n is)
+
+-- what was taken in without a fault, where there may be one before
+pub unfaulted : {X Y : Type 0} (may : Bool) (view : X → Y) (more : Y → Result Y Error) (old new : X) (fault : Option Error) → more (view old) ≡ Ok (view new) → IsTakenIn may view more (or_fault old fault) (or_fault new fault)
+unfaulted may view more old new None h = h
+unfaulted may view more old new (Some e) h = refl
+
+-- what is given with an attribute, in other words
+pub taken_alike : {X Y : Type 0} (may : Bool) (view : X → Y) (more other : Y → Result Y Error) (old result : Result X Error) → ((y : Y) → more y ≡ other y) → IsTakenIn may view other old result → IsTakenIn may view more old result
+taken_alike may view more other (Ok x) result same h = subst (ExactlyUnlessOomIf may view result) (sym (same (view x))) h
+taken_alike may view more other (Err e) result same h = h
+
+none_is_some : (n : NumberValue) (s t : Section) → ◌≡◌ {A = Reading (Option NumberValue)} (Ok (None, s)) (Ok (Some n, t)) → ◌≡◌ {A = Option NumberValue} None (Some n)
+none_is_some n s t h = ap (λ (y : Option NumberValue × Section). y.0) (let same : ◌≡◌ {A = Option NumberValue × Section} (None, s) (Some n, t) = cc in same)
+
+-- an attribute whose value was read as a number
+pub record ReadAsNumber (given : Reading NamedValue) (left : Section) (n : NumberValue) : Type 0 where
+  pub attribute : NamedValue
+  pub is : given ≡ Ok (attribute, left)
+  pub number : number_of attribute.value ≡ Some n
+
+pub number_read : (e : Encoding) (x : Specification) (s t : Section) (n : NumberValue) → number_at e x s ≡ Ok (Some n, t) → ReadAsNumber (attribute_at e x s) t n
+unfolding attribute_at
+number_read e x s t n h = by_form (x.form.0 == DW_FORM_implicit_const.0) refl (is_number_form x.form) h
+  where
+    named_constant : Option ℤ → Reading NamedValue
+    named_constant o = implicit_of o >>= λ value. Ok (named_value x value, s)
+
+    by_constant : (o : Option ℤ) → attribute_at e x s ≡ named_constant o → ◌≡◌ {A = Reading (Option NumberValue)} (Ok (implicit_number o, s)) (Ok (Some n, t)) → ReadAsNumber (attribute_at e x s) t n
+    by_constant None is h = absurd (let no = none_is_some n s t h in cc)
+    by_constant (Some (pos m)) is h =
+        let same : ◌≡◌ {A = Option NumberValue × Section} (Some (numbers.Constant m), s) (Some n, t) = cc in
+        record { attribute = named_value x (values.Sdata (pos m)); is = is ∙ ap (λ (y : Option NumberValue × Section). Ok (named_value x (values.Sdata (pos m)), y.1)) same; number = ap (λ (y : Option NumberValue × Section). y.0) same }
+    by_constant (Some (negsuc m)) is h = absurd (let no = none_is_some n s t h in cc)
+
+    read : (r : Reading NamedValue) → attribute_at e x s ≡ r → ◌≡◌ {A = Reading (Option NumberValue)} (r >>= λ a. Ok (number_of a.0.value, a.1)) (Ok (Some n, t)) → ReadAsNumber (attribute_at e x s) t n
+    read (Ok a) is h =
+        let same : ◌≡◌ {A = Option NumberValue × Section} (number_of a.0.value, a.1) (Some n, t) = cc in
+        record { attribute = a.0; is = is ∙ ap (λ (y : Option NumberValue × Section). Ok (a.0, y.1)) same; number = ap (λ (y : Option NumberValue × Section). y.0) same }
+    read (Err f) is h = absurd cc
+
+    by_form : (b : Bool) → (x.form.0 == DW_FORM_implicit_const.0) ≡ b → (c : Bool) → ◌≡◌ {A = Reading (Option NumberValue)} (cond b (Ok (implicit_number x.constant, s)) (cond c (attribute_at e x s >>= λ a. Ok (number_of a.0.value, a.1)) (Ok (None, s)))) (Ok (Some n, t))
+        → ReadAsNumber (attribute_at e x s) t n
+    by_form true is c h = by_constant x.constant (ap (λ b. cond b (named_constant x.constant) (value_at e x.form.0 s >>= λ v. Ok (named_value x v.0, v.1))) is) h
+    by_form false is true h = read (attribute_at e x s) refl h
+    by_form false is false h = absurd (let no = none_is_some n s t h in cc)
+
+-- its fault is the attribute's
+pub number_fault : (e : Encoding) (x : Specification) (s : Section) (f : Error) → number_at e x s ≡ Err f → attribute_at e x s ≡ Err f
+number_fault e x s f h = by_form (x.form.0 == DW_FORM_implicit_const.0) (is_number_form x.form) h
+  where
+    read : (r : Reading NamedValue) → ◌≡◌ {A = Reading (Option NumberValue)} (r >>= λ a. Ok (number_of a.0.value, a.1)) (Err f) → r ≡ Err f
+    read (Ok a) h = absurd cc
+    read (Err g) h = let same : g ≡ f = cc in ap Err same
+
+    by_form : (b c : Bool) → ◌≡◌ {A = Reading (Option NumberValue)} (cond b (Ok (implicit_number x.constant, s)) (cond c (attribute_at e x s >>= λ a. Ok (number_of a.0.value, a.1)) (Ok (None, s)))) (Err f) → attribute_at e x s ≡ Err f
+    by_form true c h = absurd cc
+    by_form false true h = read (attribute_at e x s) h
+    by_form false false h = absurd cc

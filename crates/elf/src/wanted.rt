@@ -86,8 +86,8 @@ fn is_wanted(section: &SectionHeader, names: &[u8]) -> bool
     }
 }
 
-// Whether one piece has the bytes of a section that isn't NOBITS, if they are in the file. One of no
-// bytes needs a piece at its place too.
+// Whether one piece has the bytes of a section that isn't NOBITS, if they are in the file. One of
+// no bytes needs a piece at its place too.
 fn is_shown(section: &SectionHeader, file: &FileImage) -> bool
     ensures gives { result ≡ is_shown file.now section.now }
 {

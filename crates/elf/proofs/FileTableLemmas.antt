@@ -28,6 +28,11 @@ all_at p (y ∷ ys) (suc n) x h e = rest (p y) refl (λ r. all_at p ys n x r e)
     rest true t next = next cc
     rest false t next = absurd cc
 
+-- what holds of each holds of all
+pub all_of_each : {X : Type 0} (p : X → Bool) (xs : List X) → ((n : ℕ) (x : X) → slice_get xs n ≡ Some x → p x ≡ true) → list_all p xs ≡ true
+all_of_each p [] each = refl
+all_of_each p (y ∷ ys) each = ap (λ b. b && list_all p ys) (each 0 y refl) ∙ all_of_each p ys (λ n x e. each (suc n) x e)
+
 or_true : (b : Bool) → (b || true) ≡ true
 or_true true = refl
 or_true false = refl

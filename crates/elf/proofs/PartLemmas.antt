@@ -1,19 +1,23 @@
--- Bytes that begin alike, and what is read of them (on specs/Header.antt).
-use Rattle.std.proofs.Common.{◌≡◌, ◌∙◌, ℕ, zero, suc, ◌+◌, ◌-◌, ◌*◌, ◌<◌, ◌≤◌, ◌==◌, Bool, true, false, cond, not, List, ◌∷◌, Ok, Err, length, take, drop, get_or, nat_eq, nat_lt, ap, arith, refl, sym}
+-- Bytes that begin alike, and what is read of them, also by ranges (on specs/Header.antt).
+use Rattle.std.proofs.Common.{◌≡◌, ◌∙◌, ℕ, zero, suc, ◌+◌, ◌-◌, ◌*◌, ◌<◌, ◌≤◌, ◌==◌, Bool, true, false, ◌&&◌, cond, not, List, [], ◌∷◌, Some, None, Ok, Err, is_some, length, take, drop, get_or, nat_eq, nat_le, nat_lt, ap, arith, refl, subst, sym}
 use Rattle.std.specs.Prelude.{slice_index}
 use Rattle.std.specs.Cmp.Lexicographic.{pointwise}
 use Rattle.std.proofs.lemmas.Bool.{eqb-true}
-use Rattle.std.proofs.lemmas.List.{drop-take, take-take, get_or-take}
+use Rattle.std.proofs.lemmas.Bool.Decides.{nat_tests}
+use Rattle.std.proofs.lemmas.List.{drop-take, take-take, get_or-take, length-drop, length-take-le}
 use Rattle.gimli_read.specs.declared.endian.RunTimeEndian.{RunTimeEndian}
+use Rattle.gimli_read.specs.declared.range.Range.{Range}
 use Rattle.gimli_read.specs.Reading.{◌>>=◌}
 use Rattle.elf.specs.declared.constants.TheConstants.{EHDR_SIZE_MAX, HALF_SIZE, WORD_SIZE, EI_CLASS, EI_DATA, ET_REL}
 use Rattle.elf.specs.declared.error.LoaderError.TheVariants.{NotElf, BadElf}
 use Rattle.elf.specs.declared.header.Ident.{Ident}
 use Rattle.elf.specs.declared.header.FileHeader.{FileHeader}
+use Rattle.elf.specs.declared.section.SectionHeader.{SectionHeader}
 use Rattle.elf.specs.declared.layout.Class.{Class}
 use Rattle.elf.specs.declared.layout.Class.TheVariants.{Elf32, Elf64}
 use Rattle.elf.specs.declared.layout.Layout.{Layout}
-use Rattle.elf.specs.Header.{magic, has_magic, class_of, endian_of, ident_in, header_in, section_in, sections_in}
+use Rattle.elf.specs.FileImage.{AreRangesOf, Image, Shows, image_bytes, image_in, is_held, piece_in}
+use Rattle.elf.specs.Header.{magic, has_magic, class_of, endian_of, headers_in, ident_in, header_in, section_in, sections_in}
 use Rattle.elf.specs.Layout.{FieldsInHeader, FieldsInSection, layout_of, number_at}
 use Rattle.elf.specs.Loading.{Loading}
 use Rattle.elf.proofs.ImageLemmas.{number_of_shown}
@@ -150,3 +154,63 @@ start_by l len kind start entry count index size h e =
 
 pub header_start : (o : RunTimeEndian) (l : Layout) (xs : List ℕ) (h : FileHeader) → header_in o l xs ≡ Ok h → h.start ≡ start_in o l xs
 header_start o l xs h e = start_by l _ _ _ _ _ _ _ h (sym (header_is o l xs) ∙ e)
+
+-- ---- a range of a file that is read alone
+module _ (bytes : List ℕ) (r : Range) (rises : r.begin ≤ r.end) (within : r.end ≤ length bytes) where
+  size_read : length (piece_in bytes r).bytes.bytes ≡ r.end - r.begin
+  size_read = let left = length-drop r.begin bytes in length-take-le (r.end - r.begin) (drop r.begin bytes) (omega (arith, left, rises, within))
+
+  pub one_range : AreRangesOf bytes (r ∷ [])
+  one_range =
+      let size = size_read in
+      let begins : nat_le r.begin r.end ≡ true = grind (arith, nat_tests) in
+      let ends : nat_le r.end (length bytes) ≡ true = grind (arith, nat_tests) in
+      record {
+        some = omega arith;
+        within = ap (λ b. (b && nat_le r.end (length bytes)) && true) begins ∙ ap (λ b. b && true) ends;
+        in_order = (omega arith, omega (arith, size, rises, within));
+      }
+
+  held_range : is_held r.begin (r.end - r.begin) (image_in bytes (r ∷ [])) ≡ true
+  held_range =
+      let size = size_read in
+      let p = piece_in bytes r in
+      let begins : nat_le r.begin r.begin ≡ true = grind (arith, nat_tests) in
+      let ends : nat_le (r.begin + (r.end - r.begin)) (r.begin + length p.bytes.bytes) ≡ true = grind (arith, nat_tests) in
+      ap (λ b. is_some (cond (b && nat_le (r.begin + (r.end - r.begin)) (r.begin + length p.bytes.bytes)) (Some p) None)) begins ∙ ap (λ b. is_some (cond b (Some p) None)) ends
+
+  -- the section headers that stand in it are those of the file
+  headers_shown : (o : RunTimeEndian) (c : Class) (n : ℕ) → r.end ≡ r.begin + n * (layout_of c).section_size → Shows (image_in bytes (r ∷ [])) bytes
+      → sections_in o (layout_of c) n (drop r.begin (image_bytes (image_in bytes (r ∷ [])))) ≡ sections_in o (layout_of c) n (drop r.begin bytes)
+  headers_shown o c n end shows =
+      let own = image_bytes (image_in bytes (r ∷ [])) in
+      let size : r.end - r.begin ≡ n * (layout_of c).section_size = omega (arith, end) in
+      let same = subst (λ k. take k (drop r.begin own) ≡ take k (drop r.begin bytes)) size (shows.same r.begin (r.end - r.begin) held_range) in
+      sections_alike o (layout_of c) n (drop r.begin own) (drop r.begin bytes) (fields_in_section c) same
+
+-- section headers in the file
+headers_are : (i : Ident) (h : FileHeader) (bytes : List ℕ) → h.start + h.count * (layout_of i.class).section_size ≤ length bytes → headers_in i h bytes ≡ Some (sections_in i.endian (layout_of i.class) h.count (drop h.start bytes))
+headers_are i h bytes within =
+    let inside : nat_le (h.start + h.count * (layout_of i.class).section_size) (length bytes) ≡ true = grind (arith, nat_tests) in
+    ap (λ b. cond b (Some (sections_in i.endian (layout_of i.class) h.count (drop h.start bytes))) None) inside
+
+-- section headers that are read from a file of their range alone
+module _ (i : Ident) (h : FileHeader) (r : Range) (rs : List Range) (bytes : List ℕ) (begin : r.begin ≡ h.start) (end : r.end ≡ h.start + h.count * (layout_of i.class).section_size)
+    (within : r.end ≤ length bytes) (ranges : rs ≡ r ∷ []) where
+  are_ranges : AreRangesOf bytes rs
+  are_ranges = subst (AreRangesOf bytes) (sym ranges) (one_range bytes r (omega (arith, begin, end)) within)
+
+  pub headers_read : (file : Image) (items : List SectionHeader) → Shows file bytes → (AreRangesOf bytes rs → Some file ≡ Some (image_in bytes rs))
+      → items ≡ sections_in i.endian (layout_of i.class) h.count (drop r.begin (image_bytes file)) → Some items ≡ headers_in i h bytes
+  headers_read file items shows found read =
+      let whole : Some file ≡ Some (image_in bytes rs) = found are_ranges in
+      let is : file ≡ image_in bytes rs = cc in
+      let is_one : file ≡ image_in bytes (r ∷ []) = is ∙ ap (image_in bytes) ranges in
+      let rises : r.begin ≤ r.end = omega (arith, begin, end) in
+      let end_by : r.end ≡ r.begin + h.count * (layout_of i.class).section_size = end ∙ ap (λ k. k + h.count * (layout_of i.class).section_size) (sym begin) in
+      let own : Shows (image_in bytes (r ∷ [])) bytes = subst (λ (f : Image). Shows f bytes) is_one shows in
+      let same = headers_shown bytes r rises within i.endian i.class h.count end_by own in
+      let all : items ≡ sections_in i.endian (layout_of i.class) h.count (drop h.start bytes) =
+      read ∙ ap (λ (f : Image). sections_in i.endian (layout_of i.class) h.count (drop r.begin (image_bytes f))) is_one ∙ same ∙ ap (λ k. sections_in i.endian (layout_of i.class) h.count (drop k bytes)) begin in
+      let inside : h.start + h.count * (layout_of i.class).section_size ≤ length bytes = omega (arith, end, within) in
+      ap Some all ∙ sym (headers_are i h bytes inside)

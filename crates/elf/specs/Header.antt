@@ -3,7 +3,7 @@
 -- Own: a file without the whole magic is NotElf; one that has it, but no class or data byte,
 -- another value of these, or not the whole header of its class, is BadElf, and so are section
 -- headers outside the file or of another size than the class's.
-use Rattle.std.specs.Prelude.{ℕ, zero, suc, ◌+◌, ◌*◌, ◌==◌, Bool, not, List, [], ◌∷◌, Ok, Err, if◌then◌else◌, drop, length, slice_index, nat_eq, nat_lt, codes}
+use Rattle.std.specs.Prelude.{ℕ, zero, suc, ◌+◌, ◌*◌, ◌==◌, Bool, not, List, [], ◌∷◌, Option, Some, None, Ok, Err, if◌then◌else◌, drop, length, slice_index, nat_eq, nat_le, nat_lt, codes}
 use Rattle.std.specs.List.{starts_with}
 use Rattle.gimli_read.specs.declared.endian.RunTimeEndian.{RunTimeEndian}
 use Rattle.gimli_read.specs.declared.endian.RunTimeEndian.TheVariants.{Little, Big}
@@ -16,7 +16,7 @@ use Rattle.elf.specs.declared.layout.Layout.{Layout}
 use Rattle.elf.specs.declared.header.Ident.{Ident}
 use Rattle.elf.specs.declared.header.FileHeader.{FileHeader}
 use Rattle.elf.specs.declared.section.SectionHeader.{SectionHeader}
-use Rattle.elf.specs.Layout.{number_at}
+use Rattle.elf.specs.Layout.{layout_of, number_at}
 use Rattle.elf.specs.Loading.{Loading}
 
 -- the bytes that an ELF file begins with
@@ -91,3 +91,11 @@ abbrev pub sections_in : RunTimeEndian → Layout → ℕ → List ℕ → List 
 sections_in endian l zero bytes = []
 sections_in endian l (suc n) bytes = section_in endian l bytes
     ∷ sections_in endian l n (drop l.section_size bytes)
+
+-- the section headers that a file's header tells of, none where they aren't all in the file
+abbrev pub headers_in : Ident → FileHeader → List ℕ → Option (List SectionHeader)
+headers_in ident header bytes =
+    let l = layout_of ident.class in
+    if nat_le (header.start + header.count * l.section_size) (length bytes)
+    then Some (sections_in ident.endian l header.count (drop header.start bytes))
+    else None

@@ -1,6 +1,7 @@
 -- What a loading of an ELF file gives, and what an answer has to do with it.
 -- A loading gives a value, or the first fault in the order of its steps.
--- Own: no loading gives OutOfMemory, which only a refused growth answers.
+-- Own: the definitions of loadings are written without OutOfMemory, which stands for a refused
+-- growth alone; no law says so.
 use Rattle.std.specs.Prelude.{◌≡◌, ◌≢◌, Bool, true, Result}
 use Rattle.gimli_read.specs.Reading.{ExactlyUnless, ExactlyUnlessFor, ExactlyWhere}
 use Rattle.elf.specs.declared.error.LoaderError.{LoaderError}

@@ -41,7 +41,8 @@ is_table_stem text = is_stem_text text (codes "addr") || (is_stem_text text (cod
 abbrev pub is_wanted_stem : List ℕ → Bool
 is_wanted_stem text = is_unit_stem text || is_table_stem text
 
--- whether a text is the name of a section of debug information that lookups read
+-- whether a text is the name of a section of debug information that is wanted: each that lookups
+-- read, and with .dwo behind them also addr, aranges, ranges and line_str, which none reads
 abbrev pub is_wanted_text : List ℕ → Bool
 is_wanted_text text =
     (starts_with nat_eq text debug_prefix && is_wanted_stem (drop (length debug_prefix) text))
@@ -51,7 +52,8 @@ is_wanted_text text =
 abbrev pub is_wanted : List ℕ → SectionHeader → Bool
 is_wanted names s = option_map_or is_wanted_text (table_text_at names s.name) false
 
--- whether one piece has the bytes of a section, if it has any and they are in the file
+-- whether one piece has the bytes of a section that isn't NOBITS, if they are in the file; where it
+-- has no bytes, a piece still has to have its place in it or at its end
 abbrev pub is_shown : Image → SectionHeader → Bool
 is_shown image s = is_nobits s
     || (is_outside (image_bytes image) s || is_held s.offset s.size image)
@@ -84,7 +86,8 @@ abbrev pub or_false : Loading Bool → Bool
 or_false (Ok b) = b
 or_false (Err e) = false
 
--- whether pieces have all of a file that is wanted: each part of it stands in one of them
+-- whether pieces have all of a file that is wanted: each part of it stands in one of them; false of
+-- a file that has no header of an ELF file, or fewer bytes than the longest such header
 unfoldable pub has_wanted : Image → Bool
 has_wanted image = is_held 0 EHDR_SIZE_MAX image && or_false (do
   ident ← ident_in (image_bytes image)

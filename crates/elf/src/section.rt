@@ -243,8 +243,8 @@ fn are_readable(file: &FileImage, sections: &[SectionHeader], names: &[u8]) -> b
         .all(|section| section.is_readable(file, names))
 }
 
-/// The file with each packed section in one piece, if need be with all in one. Takes memory only
-/// where the file has a section.
+/// The file with each packed section in one piece: itself where each is so, else a copy that is
+/// all in one piece. Takes memory only for a copy.
 pub(crate) fn with_readable(
     file: FileImage,
     sections: &[SectionHeader],
@@ -252,6 +252,7 @@ pub(crate) fn with_readable(
 ) -> Result<FileImage, LoaderError>
     ensures gives { IfOk result (λ f. image_bytes f ≡ image_bytes file) }
     ensures readable { IfOk result (λ f. AreReadable f names.now sections.now) }
+    ensures exact { AreReadable file names.now sections.now → result ≡ Ok file }
     ensures none { sections.now ≡ [] → IsOk result }
     ensures refused { IfErr result (λ e. e ≡ OutOfMemory) }
 {

@@ -1,9 +1,12 @@
 //! The parts of a file that lookups read.
 
-ghost use Rattle.std.specs.Prelude.{◌≡◌, ◌≤◌, ◌+◌, ◌*◌, ◌||◌, is_some, length, not, true, IfOk, IfSome};
+ghost use Rattle.std.specs.Prelude.{◌≡◌, ◌≤◌, ◌+◌, ◌*◌, ◌==◌, ◌&&◌, ◌||◌, is_some, length, not, option_map, true, IfOk, IfSome};
 ghost use Rattle.std.specs.List.{list_all};
 ghost use Rattle.std.specs.Option.{option_map_or};
+ghost use Rattle.gimli_read.specs.Number.{fits_u64};
+ghost use Rattle.elf.specs.declared.constants.TheConstants.{SHN_UNDEF};
 ghost use Rattle.elf.specs.FileImage.{Shows, image_bytes};
+ghost use Rattle.elf.specs.Header.{headers_in};
 ghost use Rattle.elf.specs.Layout.{layout_of};
 ghost use Rattle.elf.specs.SectionBytes.{string_table_in};
 ghost use Rattle.elf.specs.Symbols.{symbol_names_number, symbol_table};
@@ -19,7 +22,8 @@ use crate::symbol;
 use gimli_read::Range;
 use std::alloc::{AllocError, Global};
 
-// Sections of fewer bytes are read whatever their names are.
+// Sections of fewer bytes are read whatever their names are. So a compressed one of them stands in
+// one piece, and the file isn't copied for it; one of no bytes needs a piece at its place too.
 const SMALL: u64 = 4096;
 
 // Two ranges with at most so many bytes between them are read as one.
@@ -62,7 +66,7 @@ fn is_wanted_stem(text: &[u8]) -> bool
     is_unit_stem(text) || is_table_stem(text)
 }
 
-// Whether a text is the name of a section of debug information that lookups read.
+// Whether a text is the name of a section of debug information that is wanted.
 fn is_wanted_text(text: &[u8]) -> bool
     ensures gives { result ≡ is_wanted_text text.now }
 {
@@ -82,7 +86,8 @@ fn is_wanted(section: &SectionHeader, names: &[u8]) -> bool
     }
 }
 
-// Whether one piece has the bytes of a section, if it has any and they are in the file.
+// Whether one piece has the bytes of a section that isn't NOBITS, if they are in the file. One of
+// no bytes needs a piece at its place too.
 fn is_shown(section: &SectionHeader, file: &FileImage) -> bool
     ensures gives { result ≡ is_shown file.now section.now }
 {
@@ -121,6 +126,8 @@ fn are_shown(sections: &[SectionHeader], names: &[u8], file: &FileImage) -> bool
 fn names_in<'a>(file: &'a FileImage, sections: &[SectionHeader], number: u64) -> Option<&'a [u8]>
     ensures gives { IfSome result (λ b.
         b.now ≡ string_table_in (image_bytes file.now) sections.now number) }
+    ensures some { is_some result
+        ≡ (number == SHN_UNDEF || is_shown_at file.now sections.now number) }
 {
     if number == SHN_UNDEF || number >= sections.len() as u64 {
         return Some(&[]);
@@ -132,29 +139,32 @@ fn names_in<'a>(file: &'a FileImage, sections: &[SectionHeader], number: u64) ->
     file.slice(section.offset, section.size)
 }
 
-// True only where pieces have the tables of a file, and its sections of debug information.
-fn shows_sections(file: &FileImage, sections: &[SectionHeader], name_table: u64) -> bool
-    ensures tables { result ≡ true
-        → (is_shown_at file.now sections.now name_table ≡ true)
-        × (is_shown_at file.now sections.now (symbol_names_number sections.now) ≡ true)
-        × (option_map_or (is_shown file.now) (symbol_table sections.now) true ≡ true) }
-    ensures sections { result ≡ true → list_all (λ s.
-        not (is_wanted (string_table_in (image_bytes file.now) sections.now name_table) s)
-        || is_shown file.now s) sections.now ≡ true }
+// Whether pieces have the tables of a file.
+fn shows_tables(file: &FileImage, sections: &[SectionHeader], name_table: u64) -> bool
+    ensures gives { result ≡ (is_shown_at file.now sections.now name_table
+        && (is_shown_at file.now sections.now (symbol_names_number sections.now)
+        && option_map_or (is_shown file.now) (symbol_table sections.now) true)) }
 {
-    if !is_shown_at(sections, name_table, file)
-        || !is_shown_at(sections, symbol::names_number(sections), file)
-        || !is_table_shown(sections, file)
-    {
-        return false;
-    }
+    is_shown_at(sections, name_table, file)
+        && (is_shown_at(sections, symbol::names_number(sections), file)
+            && is_table_shown(sections, file))
+}
+
+// Whether they have its sections of debug information.
+fn shows_sections(file: &FileImage, sections: &[SectionHeader], name_table: u64) -> bool
+    requires names { is_shown_at file.now sections.now name_table ≡ true }
+    ensures gives { result ≡ list_all (λ s.
+        not (is_wanted (string_table_in (image_bytes file.now) sections.now name_table) s)
+        || is_shown file.now s) sections.now }
+{
     match names_in(file, sections, name_table) {
         Some(names) => are_shown(sections, names, file),
+        // The table of names is shown, so one piece has it.
         None => false,
     }
 }
 
-// True only where pieces have the section headers, and what is wanted of the sections.
+// Whether pieces have the section headers, and what is wanted of the sections.
 fn shows_all(
     alloc: Global,
     file: &FileImage,
@@ -163,8 +173,10 @@ fn shows_all(
 ) -> Result<bool, AllocError>
     requires within { header.start + header.count * (layout_of ident.class).section_size
         ≤ length (image_bytes file.now) }
-    ensures wanted { IfOk result (λ b. b ≡ true → shows_all file.now ident header ≡ true) }
+    ensures exact { IfOk result (λ b. b ≡ shows_all file.now ident header) }
 {
+    // The end of the headers fits, since the length does.
+    let _ = file.len();
     let Some(range) = headers_range(ident, header) else {
         return Ok(false);
     };
@@ -174,13 +186,16 @@ fn shows_all(
     }
     let sections = section::headers(alloc, file, range.begin, header.count, ident)?;
     let name_table = name_table_in(header.name_index, &sections);
+    if !shows_tables(file, &sections, name_table) {
+        return Ok(false);
+    }
     Ok(shows_sections(file, &sections, name_table))
 }
 
-// True only where pieces have all of a file that is wanted.
+// Whether pieces have all of a file that is wanted.
 #[tactic(auto, unfolding(crate::specs::Wanted::has_wanted))]
 fn has_wanted(alloc: Global, file: &FileImage) -> Result<bool, AllocError>
-    ensures wanted { IfOk result (λ b. b ≡ true → has_wanted file.now ≡ true) }
+    ensures exact { IfOk result (λ b. b ≡ has_wanted file.now) }
 {
     if !file.is_held(0, EHDR_SIZE_MAX) {
         return Ok(false);
@@ -198,6 +213,8 @@ fn has_wanted(alloc: Global, file: &FileImage) -> Result<bool, AllocError>
 fn headers_range(ident: Ident, header: FileHeader) -> Option<Range>
     ensures gives { IfSome result (λ r. (r.begin ≡ header.start)
         × (r.end ≡ header.start + header.count * (layout_of ident.class).section_size)) }
+    ensures some { is_some result
+        ≡ fits_u64 (header.start + header.count * (layout_of ident.class).section_size) }
 {
     let begin = header.start as u64;
     let size = (header.count as u64).checked_mul(ident.class.layout().section_size as u64)?;
@@ -232,11 +249,15 @@ fn read_section_headers<S: PartSource>(
     source: &S,
     ident: Ident,
     header: FileHeader,
-) -> Result<Option<Vec<SectionHeader>>, AllocError> {
+) -> Result<Option<Vec<SectionHeader>>, AllocError>
+    ensures gives { IfSome (S.bytes source.now) (λ bytes. IfOk result (λ found.
+        option_map (λ (v : _). v.items) found ≡ headers_in ident header bytes)) }
+{
+    let len = source.len();
     let Some(range) = headers_range(ident, header) else {
         return Ok(None);
     };
-    if range.end > source.len() {
+    if range.end > len {
         return Ok(None);
     }
     let Some(file) = read_ranges(alloc, source, [range].as_slice())? else {
@@ -293,7 +314,8 @@ fn push_section(
     Ok(())
 }
 
-// Where the section headers stand, and the sections that are wanted or small, by where they begin.
+// Where the section headers stand, the two string tables, the symbol table, and the sections that
+// are wanted or small, by where they begin.
 fn wanted_ranges(
     alloc: Global,
     sections: &[SectionHeader],

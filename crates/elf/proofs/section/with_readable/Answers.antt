@@ -1,10 +1,10 @@
-use Rattle.std.proofs.Common.{◌≡◌, ◌∙◌, true, Result, Ok, Err, sym}
+use Rattle.std.proofs.Common.{◌≡◌, ◌∙◌, true, false, Result, Ok, Err, sym}
 use Rattle.std.specs.Prelude.{IfOk}
 use Rattle.std.specs.List.{list_all}
 use Rattle.elf.specs.declared.error.LoaderError.{LoaderError}
 use Rattle.elf.specs.FileImage.{Image, IsWhole}
 use Rattle.elf.specs.FileTables.{AreReadable, is_readable}
-use Rattle.elf.proofs.FileTableLemmas.{all_at, whole_readable}
+use Rattle.elf.proofs.FileTableLemmas.{all_at, all_of_each, whole_readable}
 use Rattle.elf.proofs.section.with_readable.Goals as goal
 
 pub returns-then-are_readable-clause-readable : goal.returns-then-are_readable-clause-readable
@@ -18,3 +18,9 @@ returns-clause-readable c = by_result c.flattened.result c.flattened.ensures.who
     by_result : (r : Result Image LoaderError) → IfOk r IsWhole → IfOk r (λ f. AreReadable f c.args.names.now c.args.sections.now)
     by_result (Ok f) w = whole_readable f c.args.names.now c.args.sections.now w
     by_result (Err e) w = tt
+
+pub returns-clause-exact : goal.returns-clause-exact
+returns-clause-exact c = λ readable.
+    let all : list_all (is_readable c.args.file c.args.names.now) c.args.sections.now ≡ true = all_of_each (is_readable c.args.file c.args.names.now) c.args.sections.now readable in
+    let refused : list_all (is_readable c.args.file c.args.names.now) c.args.sections.now ≡ false = sym c.are_readable.ensures.gives ∙ c.if-are_readable.false in
+    absurd cc

@@ -42,6 +42,7 @@ no_answer n given c = record {
   known = λ m e shut k. same_stays_known k c.known c.known refl;
   same = λ first is. refl;
   others = λ k ne. refl;
+  functions = λ k. inl refl;
 }
 
 -- the load was answered by what was read

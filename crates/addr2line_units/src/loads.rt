@@ -177,8 +177,7 @@ fn new_load_at<R: Reader>(
     ensures right { HaveEntriesOf (scope_in dwarf.now.value dw_units.now sup.now) dw_units.now
         entries.new.items }
     ensures stay { StayAllEntries entries.old.items entries.new.items }
-    ensures functions {
-        LearnsNoFunctions (known_in entries.old.items) (known_in entries.new.items) }
+    ensures functions { LearnsNoFunctions (known_in entries.old.items) (known_in entries.new.items) }
 {
     let Some(dw_unit) = dw_units.get(number) else {
         return Ok(None);
@@ -234,8 +233,7 @@ fn read_loads<R: Reader>(
     ensures right { HaveEntriesOf (scope_in dwarf.now.value dw_units.now sup.now) dw_units.now
         entries.new.items }
     ensures stay { StayAllEntries entries.old.items entries.new.items }
-    ensures functions {
-        LearnsNoFunctions (known_in entries.old.items) (known_in entries.new.items) }
+    ensures functions { LearnsNoFunctions (known_in entries.old.items) (known_in entries.new.items) }
 {
     let mut loads = Vec::new(alloc);
     let mut marks = Vec::new(alloc);

@@ -51,6 +51,22 @@ fn inlined_code(functions: &Functions<EndianSlice<'_>>, place: Option<usize>) ->
     }
 }
 
+// Reads the detail of the function of a place, whose references lead to no other unit.
+fn read_at<'a>(
+    functions: &mut Functions<EndianSlice<'a>>,
+    dwarf: &Dwarf<EndianSlice<'a>>,
+    unit: &Unit<EndianSlice<'a>>,
+    place: usize,
+) -> Result<(), Error>
+    requires names { AreNamesOf (sup_scope (record { sections = dwarf.now; units = [] }))
+        unit.now functions.old.names }
+    ensures names { AreNamesOf (sup_scope (record { sections = dwarf.now; units = [] }))
+        unit.now functions.new.names }
+{
+    let file = FileUnits { dwarf, units: &[] };
+    functions.read(Scope { file, sup: None }, unit, place)
+}
+
 // What stands at an address: the name of the function, how many functions are inlined there, and
 // the innermost of these.
 fn answer<'a>(
@@ -68,8 +84,7 @@ fn answer<'a>(
     let Some(place) = functions.find(probe) else {
         return Ok([0; 5]);
     };
-    let file = FileUnits { dwarf, units: &[] };
-    functions.read(Scope { file, sup: None }, unit, place)?;
+    read_at(functions, dwarf, unit, place)?;
     let chain = functions.find_inlined_functions(alloc, place, probe)?;
     let [a, b, c] = inlined_code(functions, chain.last().copied());
     Ok([letter(functions.name(place)), chain.len() as u64, a, b, c])

@@ -97,9 +97,9 @@ pub record ReadsAsked (faults : OnFault) (probe : ℕ) (old new : ContextState) 
   pub details : LearnsDetails probe new old new
 
 -- after a lookup of the probe: the first answers are the same, what was read stays, and nothing was
--- read of units that it doesn't ask, nor a detail but that of the function at the probe; unless memory was refused, the same lookup reads nothing more;
--- memory is refused only where something is left to read, a load is wanted, or more than 16 inlined
--- functions stand there
+-- read of units that it doesn't ask, nor a detail but that of the function at the probe; unless
+-- memory was refused, the same lookup reads nothing more; memory is refused only where something is
+-- left to read, a load is wanted, or more than 16 inlined functions stand there
 pub record AfterFrames {X : Type 0} (faults : OnFault) (probe : ℕ) (result : Result X Error)
     (old new : ContextState) : Type 0 where
   pub sections : new.sections ≡ old.sections

@@ -59,9 +59,9 @@ pub record StaysRead (old new : ContextState) : Type 0 where
   pub looks : new.looks ≡ old.looks
 
 -- after an answer to the load of the unit of a number nothing is changed but of that unit, of which
--- what was known stays unless it was open, and nothing is changed where it had an answer; no function
--- becomes known; where memory was refused in place of it, all first answers are as before, and what
--- was known stays
+-- what was known stays unless it was open, and nothing is changed where it had an answer; no
+-- function becomes known; where memory was refused in place of it, all first answers are as before,
+-- and what was known stays
 pub record AfterLoad (n : ℕ) (given : Option Sections) (result : Result (Unit {0}) Error)
     (old new : ContextState) : Type 0 where
   pub stays : StaysRead old new

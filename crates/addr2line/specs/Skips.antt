@@ -25,9 +25,9 @@ skipped_answers faults d probe answers =
 
 -- after a lookup where each load is answered None: the units that waited are decided by none,
 -- and stay so; after OutOfMemory some of the first ones. What was known of the others stays, and
--- nothing is read but what the lookup asks for by the first answers that are left. Memory is refused only where something is left to read,
--- or more than 16 inlined functions stand there; where what is left takes none, a refusal is the
--- fault of a unit
+-- nothing is read but what the lookup asks for by the first answers that are left. Memory is
+-- refused only where something is left to read, or more than 16 inlined functions stand there;
+-- where what is left takes none, a refusal is the fault of a unit
 pub record AfterSkip {X : Type 0} (shares : Bool) (faults : OnFault) (probe : ℕ)
     (result : Result X Error) (old new : ContextState) : Type 0 where
   pub sections : new.sections ≡ old.sections

@@ -53,7 +53,8 @@ is_known_at probe (FunctionsKnown ranges functions) = unwrap_or
 abbrev pub knows_at : List KnownEntries → ℕ → ℕ → Bool
 knows_at known probe n = unwrap_or (option_map (is_known_at probe) (slice_get known n)) true
 
--- whether the detail of the function whose entry begins at an offset is known, or its fault
+-- whether the detail of the function whose entry begins at an offset is known, or its fault; a unit
+-- that waits, or has a fault, has no functions
 abbrev pub knows_detail : ℕ → KnownEntries → Bool
 knows_detail offset NothingKnown = false
 knows_detail offset AllKnown = false
@@ -72,13 +73,14 @@ abbrev pub LearnsDetailsAt : (ℕ → Option ℕ) → List KnownEntries → List
 LearnsDetailsAt at old new = (n offset : ℕ) → knows_detail_at new offset n ≡ true
     → (knows_detail_at old offset n ≡ true) ⊎ (at n ≡ Some offset)
 
--- no function of a unit is known
+-- the functions of a unit weren't read, or it waits, or has a fault
 abbrev pub HasNoFunctions : KnownEntries → Type 0
 HasNoFunctions NothingKnown = Unit {0}
 HasNoFunctions AllKnown = Unit {0}
 HasNoFunctions (FunctionsKnown ranges functions) = ⊥
 
--- no function becomes known: what is known of each unit is what was, or no function is
+-- no function becomes known: what is known of each unit is what was, or its functions weren't read,
+-- or it waits, or has a fault
 abbrev pub LearnsNoFunctions : List KnownEntries → List KnownEntries → Type 0
 LearnsNoFunctions old new =
     (n : ℕ) → (slice_get new n ≡ slice_get old n) ⊎ IfSome (slice_get new n) HasNoFunctions

@@ -46,7 +46,8 @@ function_offset_by scope probe _ = None
 
 -- the same in the view of a unit with this first answer, none while it is open
 unfoldable pub function_offset_in : Scope → UnitRecord → Option (Option Sections) → ℕ → Option ℕ
-function_offset_in scope u answer probe = function_offset_by scope probe (verdict scope.file.sections u answer)
+function_offset_in scope u answer probe =
+    function_offset_by scope probe (verdict scope.file.sections u answer)
 
 -- the frames at the probe of a function that was found in the view of a unit, or none was
 abbrev pub frames_by : Scope → IndexedUnit → ℕ → Result (Option FoundFunction) Error

@@ -1,5 +1,5 @@
 -- Names that are cached, as more are (on specs/CachedNames.antt).
-use Rattle.std.proofs.Common.{◌≡◌, ℕ, List, [], ◌∷◌, ◌++◌, length, map, take, option_map, Some, Ok, refl, ap, sym, subst, ◌∙◌, inl, inr, slice_get}
+use Rattle.std.proofs.Common.{◌≡◌, ℕ, List, [], ◌∷◌, ◌++◌, length, map, take, option_map, Option, Some, None, IfSome, Ok, refl, ap, sym, subst, ◌∙◌, inl, inr, slice_get}
 use Rattle.std.specs.List.{AllByRecursion}
 use Rattle.std.proofs.lemmas.Option.{slice_get-map}
 use Rattle.std.proofs.Math.Seq.{take-append_seam}
@@ -37,8 +37,13 @@ names_one_more scope u n old new right is (inr e) =
 pub first_names : (n : ℕ) (old new : List CachedName) → IsGrown old new → n ≡ length old → take n new ≡ old
 first_names n old new h e = ap (λ m. take m new) e ∙ ap (λ v. take (length old) v) h.is ∙ take-append_seam old h.more
 
+-- what is known of a name is known where it is shared
+pub known_shared : {R Shared : Type 0} (see : R → Section) (value : Shared → Option R) (names : List CachedName) (name : Option R) (found : Option Shared) (offset : UnitOffset) → IfSome found (λ shared. value shared ≡ name) → IsKnownAs offset (option_map see name) names → IfSome found (λ shared. IsKnownAs offset (option_map see (value shared)) names)
+known_shared see value names name None offset h known = tt
+known_shared see value names name (Some shared) offset h known = subst (λ n. IsKnownAs offset (option_map see n) names) (sym h) known
+
 -- what stands at a place is known, where its offset is
-pub known_at : {R : Type 0} (see : R → Section) (xs : List (declared_name.CachedName R)) (n : ℕ) (x : declared_name.CachedName R) (offset : UnitOffset) → slice_get xs n ≡ Some x → x.offset ≡ offset → IsKnownAs offset (option_map see x.name) (map (seen_name see) xs)
+pub known_at : {R : Type 0} (see : R → Section) (xs : List (declared_name.CachedName R)) (n : ℕ) (x : declared_name.CachedName R) (offset : UnitOffset) → slice_get xs n ≡ Some x → x.offset ≡ offset → IsKnownAs offset (option_map see x.name.value) (map (seen_name see) xs)
 known_at see xs n x offset at e = λ scope u all.
-    subst (λ o. referred_name scope u (values.UnitRef o) ≡ Ok (option_map see x.name)) e
+    subst (λ o. referred_name scope u (values.UnitRef o) ≡ Ok (option_map see x.name.value)) e
     (all_at (IsNameOf scope u) (map (seen_name see) xs) n (seen_name see x) all (slice_get-map (seen_name see) xs n ∙ ap (option_map (seen_name see)) at))

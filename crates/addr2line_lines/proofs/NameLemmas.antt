@@ -18,7 +18,7 @@ use Rattle.gimli.specs.Unit.{UnitRecord, attr_string_of}
 use Rattle.gimli.proofs.WantedLemmas.{PassesOver}
 use Rattle.addr2line_lines.specs.declared.name.NameOrOrigin.{NameOrOrigin as NameOrOriginOf}
 use Rattle.addr2line_lines.specs.FoundNames.{is_name_attribute, seen_name_or_origin, with_linkage}
-use Rattle.addr2line_lines.specs.Names.{NameOrOrigin, entry_specifications, is_linkage_name, is_origin, linkage_name_of, name_within, named_at, no_name, or_referred_name, readable, visited, with_name, with_name_or_origin}
+use Rattle.addr2line_lines.specs.Names.{NameOrOrigin, entry_specifications, is_linkage_name, is_origin, linkage_name_of, name_within, named_at, no_name, or_referred_name, readable, referred_name, visited, with_name, with_name_or_origin}
 use Rattle.addr2line_lines.specs.References.{EntryPlace, Scope, referred}
 
 -- a string that can't be read is none
@@ -217,16 +217,26 @@ name_kept s u name a h =
     with_is s u name a false false false p.0 p.1 p.2
 
 -- a name that was found stays, where the attribute is no linkage name
-pub name_stays : {R : Type 0} (see : R → Section) (s : Scope) (u : UnitRecord) (name : Option R) (a : NamedValue) → is_linkage_name a.name ≡ false → true ≡ is_some name → with_name s u (option_map see name) a ≡ Ok (option_map see name)
-name_stays see s u None a h k = absurd cc
-name_stays see s u (Some name) a h k = with_is s u (Some (see name)) a false (a.name.0 == DW_AT_name.0) (is_origin a.name) h refl refl ∙ at (a.name.0 == DW_AT_name.0) (is_origin a.name)
+pub name_stays : (s : Scope) (u : UnitRecord) (name : Option Section) (a : NamedValue) → is_linkage_name a.name ≡ false → true ≡ is_some name → with_name s u name a ≡ Ok name
+name_stays s u None a h k = absurd cc
+name_stays s u (Some name) a h k = with_is s u (Some name) a false (a.name.0 == DW_AT_name.0) (is_origin a.name) h refl refl ∙ at (a.name.0 == DW_AT_name.0) (is_origin a.name)
   where
-    at : (y z : Bool) → by_name s u (Some (see name)) a false y z ≡ Ok (Some (see name))
+    at : (y z : Bool) → by_name s u (Some name) a false y z ≡ Ok (Some name)
     at true z = refl
     at false true = refl
     at false false = refl
 
+-- a name that was found stays, whatever a value refers to
+pub referred_stays : (s : Scope) (u : UnitRecord) (name : Option Section) (value : AttributeValue Section) → true ≡ is_some name → or_referred_name s u name value ≡ Ok name
+referred_stays s u None value h = absurd cc
+referred_stays s u (Some name) value h = refl
+
+-- where none was found, that by the reference counts
+pub referred_else : (s : Scope) (u : UnitRecord) (name : Option Section) (value : AttributeValue Section) → false ≡ is_some name → or_referred_name s u name value ≡ referred_name s u value
+referred_else s u None value h = refl
+referred_else s u (Some name) value h = absurd cc
+
 -- where none was found, by the attribute
-pub name_by : {R : Type 0} (see : R → Section) (s : Scope) (u : UnitRecord) (name : Option R) (a : NamedValue) (y z : Bool) → is_linkage_name a.name ≡ false → false ≡ is_some name → (a.name.0 == DW_AT_name.0) ≡ y → is_origin a.name ≡ z → with_name s u (option_map see name) a ≡ by_name s u None a false y z
-name_by see s u (Some name) a y z h k l m = absurd cc
-name_by see s u None a y z h k l m = with_is s u None a false y z h l m
+pub name_by : (s : Scope) (u : UnitRecord) (name : Option Section) (a : NamedValue) (y z : Bool) → is_linkage_name a.name ≡ false → false ≡ is_some name → (a.name.0 == DW_AT_name.0) ≡ y → is_origin a.name ≡ z → with_name s u name a ≡ by_name s u None a false y z
+name_by s u (Some name) a y z h k l m = absurd cc
+name_by s u None a y z h k l m = with_is s u None a false y z h l m

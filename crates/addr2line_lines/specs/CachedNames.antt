@@ -21,7 +21,7 @@ pub record CachedName : Type 0 where
 
 -- a name that is cached
 abbrev pub seen_name : {R : Type 0} → (R → Section) → declared_name.CachedName R → CachedName
-seen_name see n = record { offset = n.offset; name = option_map see n.name }
+seen_name see n = record { offset = n.offset; name = option_map see n.name.value }
 
 -- the names that are cached
 abbrev pub seen_names : {R : Type 0} → (R → Section) → NameCache R → List CachedName

@@ -1,5 +1,5 @@
 -- What attributes of inlined entries say, as the private functions see them.
-use Rattle.std.specs.Prelude.{◌≡◌, ◌==◌, ◌||◌, Bool, false, List, fold, Option, Some, None, option_map, Result, Ok, Err}
+use Rattle.std.specs.Prelude.{◌≡◌, ◌==◌, ◌||◌, Bool, false, List, fold, Option, Some, None, Result, Ok, Err}
 use Rattle.gimli_read.specs.declared.constants.DwAt.{DwAt}
 use Rattle.gimli_read.specs.declared.constants.TheConstants.DwAt.{DW_AT_call_column, DW_AT_call_file, DW_AT_call_line}
 use Rattle.gimli_read.specs.declared.error.Error.{Error}
@@ -9,7 +9,7 @@ use Rattle.gimli_read.specs.Section.{Section}
 use Rattle.gimli.specs.Unit.{UnitRecord}
 use Rattle.addr2line_lines.specs.declared.inlined.InlinedAttributes as declared_attributes
 use Rattle.addr2line_lines.specs.InlinedEntries.{InlinedAttributes, or_with_inlined_attribute}
-use Rattle.addr2line_lines.specs.FoundNames.{is_name_attribute}
+use Rattle.addr2line_lines.specs.FoundNames.{found_name, is_name_attribute}
 use Rattle.addr2line_lines.specs.FoundRanges.{is_range_name}
 use Rattle.addr2line_lines.specs.References.{Scope}
 
@@ -17,7 +17,7 @@ use Rattle.addr2line_lines.specs.References.{Scope}
 abbrev pub seen_attributes : {R : Type 0} → (R → Section) → declared_attributes.InlinedAttributes R
     → InlinedAttributes
 seen_attributes see x =
-    record { ranges = x.ranges; name = option_map see x.name; call = x.call }
+    record { ranges = x.ranges; name = found_name see x.name; call = x.call }
 
 -- whether an attribute says of a call
 abbrev pub is_call : DwAt → Bool

@@ -11,6 +11,8 @@ use Rattle.gimli_read.specs.Reading.{Reading, ◌>>=◌}
 use Rattle.gimli_read.specs.Section.{Section}
 use Rattle.gimli.specs.Unit.{UnitRecord}
 use Rattle.addr2line_lines.specs.declared.references.EntryPlace.{EntryPlace as EntryPlaceOf}
+use Rattle.addr2line_lines.specs.declared.found_name.FoundName.{FoundName}
+use Rattle.addr2line_lines.specs.declared.found_name.FoundName.TheVariants.{Own, Shared}
 use Rattle.addr2line_lines.specs.declared.name.NameOrOrigin.{NameOrOrigin as NameOrOriginOf}
 use Rattle.addr2line_lines.specs.Names.{NameOrOrigin, is_linkage_name, is_origin, or_with_name, with_name}
 use Rattle.addr2line_lines.specs.References.{EntryPlace, Scope}
@@ -36,6 +38,11 @@ seen_place p = record { scope = seen_scope p.scope; unit = p.unit.now; offset = 
 abbrev pub seen_name_or_origin : {R : Type 0} → (R → Section) → NameOrOriginOf R → NameOrOrigin
 seen_name_or_origin see n =
     record { name = option_map see n.name; origin = option_map (seen_value see) n.origin }
+
+-- the name of an entry as it is found
+abbrev pub found_name : {R : Type 0} → (R → Section) → FoundName R → Option Section
+found_name see (Own name) = option_map see name
+found_name see (Shared name) = option_map see name.value
 
 -- whether an attribute may give its entry a name
 abbrev pub is_name_attribute : DwAt → Bool

@@ -8,12 +8,13 @@ ghost use Rattle.gimli.specs.EntryCursor.{next_item_at};
 ghost use Rattle.addr2line_lines.specs.CachedNames.{AreNamesMore, AreNamesOf, seen_names};
 ghost use Rattle.addr2line_lines.specs.FoundInlined.{IsFoundMore, entry_found_at, read_lists_a_range, seen_lists};
 ghost use Rattle.addr2line_lines.specs.FoundAttributes.{IsTakenIn};
-ghost use Rattle.addr2line_lines.specs.FoundNames.{with_read_name, name_after};
+ghost use Rattle.addr2line_lines.specs.FoundNames.{found_name, with_read_name, name_after};
 ghost use Rattle.addr2line_lines.specs.FoundDetails.{detail_found_at, detail_takes_memory_at, function_found_at, function_takes_memory_at, is_memory_taken};
 ghost use Rattle.addr2line_lines.specs.FoundItems.{inside_found, inside_takes_memory, item_found_at, next_takes_memory, seen_around};
 ghost use Rattle.addr2line_lines.specs.References.{IsScope};
 ghost use Rattle.addr2line_lines.specs.SeenScope.{seen_scope};
 
+use crate::found_name::FoundName;
 use crate::inlined::{read_attribute_if, read_inlined_attributes};
 use crate::inlined_lists::InlinedLists;
 use crate::name::{is_name_attribute, take_name};
@@ -27,13 +28,13 @@ use gimli::{EntriesRaw, Unit, UnitRef};
 fn with_attribute<R: Reader>(
     scope: Scope<'_, R>,
     unit: &Unit<R>,
-    name: Result<Option<R>, Error>,
+    name: Result<FoundName<R>, Error>,
     attribute: Option<Attribute<R>>,
     names: &mut NameCache<R>,
-) -> Result<Option<R>, Error>
+) -> Result<FoundName<R>, Error>
     requires in_order { IsScope (seen_scope scope) }
     requires names { AreNamesOf (seen_scope scope) unit.now (seen_names R.section names.old) }
-    ensures gives { IsTakenIn R.shares (option_map R.section)
+    ensures gives { IsTakenIn R.shares (found_name R.section)
         (λ x. with_read_name (seen_scope scope.entry) unit.now x attribute) name result }
     ensures names { AreNamesMore (seen_scope scope.entry) unit.now
         (seen_names R.section names.old) (seen_names R.section names.new) }
@@ -49,6 +50,36 @@ fn with_attribute<R: Reader>(
 
 // The name by the attributes of specifications. A value that can't be read is a fault before that
 // of a reference, so the first of these waits until all are read.
+fn find_name<R: Reader>(
+    scope: Scope<'_, R>,
+    unit: &Unit<R>,
+    entries: &mut EntriesRaw<'_, R>,
+    specifications: &[AttributeSpecification],
+    names: &mut NameCache<R>,
+) -> Result<FoundName<R>, Error>
+    requires in_order { IsScope (seen_scope scope) }
+    requires names { AreNamesOf (seen_scope scope) unit.now (seen_names R.section names.old) }
+    requires encoding { entries.old.unit.encoding ≡ unit.now.header.encoding }
+    ensures gives { ExactlyUnlessOomIf R.shares (found_name R.section) result
+        (name_after (seen_scope scope.entry) unit.now (Ok None)
+        (attributes_at unit.now.header.encoding specifications.now entries.old.cursor.left)) }
+    ensures left { OnOk result (rest_of (attributes_at unit.now.header.encoding
+        specifications.now entries.old.cursor.left) ≡ Ok entries.new.cursor.left) }
+    ensures unit { entries.new.unit ≡ entries.old.unit }
+    ensures depth { entries.new.cursor.depth ≡ entries.old.cursor.depth }
+    ensures names { AreNamesMore (seen_scope scope.entry) unit.now
+        (seen_names R.section names.old) (seen_names R.section names.new) }
+{
+    let mut name = Ok(FoundName::none());
+    for specification in specifications {
+        let wanted = is_name_attribute(specification.name());
+        let attribute = read_attribute_if(entries, *specification, wanted)?;
+        name = with_attribute(scope, unit, name, attribute, names);
+    }
+    name
+}
+
+// The name by the attributes of specifications, for the function alone.
 fn read_name<R: Reader>(
     scope: Scope<'_, R>,
     unit: &Unit<R>,
@@ -69,13 +100,8 @@ fn read_name<R: Reader>(
     ensures names { AreNamesMore (seen_scope scope.entry) unit.now
         (seen_names R.section names.old) (seen_names R.section names.new) }
 {
-    let mut name = Ok(None);
-    for specification in specifications {
-        let wanted = is_name_attribute(specification.name());
-        let attribute = read_attribute_if(entries, *specification, wanted)?;
-        name = with_attribute(scope, unit, name, attribute, names);
-    }
-    name
+    let name = find_name(scope, unit, entries, specifications, names)?;
+    name.own()
 }
 
 // Adds the inlined entry whose attributes follow, if it is in no nested subprogram; passes over

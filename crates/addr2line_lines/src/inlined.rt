@@ -1,6 +1,6 @@
 //! Inlined entries: what their attributes say.
 
-ghost use Rattle.std.specs.Prelude.{◌≡◌, Ok, OnOk, option_and_then, true};
+ghost use Rattle.std.specs.Prelude.{◌≡◌, Ok, OnOk, option_and_then, option_map, true};
 ghost use Rattle.std.specs.Option.{option_or};
 ghost use Rattle.gimli_read.specs.Form.{attribute_at, rest_of};
 ghost use Rattle.gimli_read.specs.NumberValue.{number_at};
@@ -13,6 +13,7 @@ ghost use Rattle.addr2line_lines.specs.FoundNumbers.{IsNextRead, IsNumberRead, I
 ghost use Rattle.addr2line_lines.specs.References.{IsScope};
 ghost use Rattle.addr2line_lines.specs.SeenScope.{seen_scope};
 
+use crate::found_name::FoundName;
 use crate::function::{RangeAttributes, is_range_name};
 use crate::name::{is_name_attribute, is_origin, name_by_origin, pass_over, take_name};
 use crate::names::NameCache;
@@ -23,6 +24,7 @@ use gimli::read::{
 };
 use gimli::{EntriesRaw, Unit, UnitRef, WantedNames, split_at_wanted};
 use std::marker::Model;
+use std::rc::Rc;
 
 /// Where a function was called that is inlined.
 #[derive(Clone, Copy)]
@@ -40,8 +42,9 @@ pub struct CallSite {
 pub struct InlinedFunction<R: Reader> {
     /// Where the entry begins, in bytes from the start of the unit's length.
     pub dw_die_offset: UnitOffset,
-    /// The name, where there is one that can be read.
-    pub name: Option<R>,
+    // The name, where there is one that can be read: a reader has several times its bytes, and most
+    // entries have a name that others have as well.
+    pub(crate) name: Rc<Option<R>>,
     /// The index of the file of the call, if there is one that counts.
     pub call_file: Option<u64>,
     /// The low 32 bits of the line of the call; 0 where there is none.
@@ -58,9 +61,18 @@ impl<R: Reader> Model for InlinedFunction<R> {
 
     ghost view = { λ f. record {
       offset = f.dw_die_offset.0;
-      name = option_map R.section f.name;
+      name = option_map R.section f.name.value;
       call = record { file = f.call_file; line = f.call_line; column = f.call_column };
     } };
+}
+
+impl<R: Reader> InlinedFunction<R> {
+    /// The name, where there is one that can be read. Takes no memory.
+    pub fn name(&self) -> Option<&R>
+        ensures gives { option_map (λ r. R.section r.now) result ≡ self.now.name }
+    {
+        self.name.as_ref().as_ref()
+    }
 }
 
 // The index of a file, if it counts in a version.
@@ -133,7 +145,7 @@ impl CallSite {
 #[derive(Drop)]
 pub(crate) struct InlinedAttributes<R: Reader> {
     pub(crate) ranges: RangeAttributes,
-    pub(crate) name: Option<R>,
+    pub(crate) name: FoundName<R>,
     pub(crate) call: CallSite,
 }
 
@@ -182,7 +194,7 @@ impl<R: Reader> InlinedAttributes<R> {
     {
         InlinedAttributes {
             ranges: RangeAttributes::new(),
-            name: None,
+            name: FoundName::none(),
             call: CallSite::new(),
         }
     }

@@ -18,6 +18,7 @@ use std::alloc::Global;
 // Inlined entries, and their ranges.
 #[derive(Drop)]
 pub(crate) struct InlinedLists<R: Reader> {
+    alloc: Global,
     pub(crate) functions: Vec<InlinedFunction<R>>,
     pub(crate) ranges: Vec<InlinedFunctionAddress>,
 }
@@ -83,6 +84,7 @@ impl<R: Reader> InlinedLists<R> {
         ensures gives { seen_lists result ≡ none_inlined }
     {
         InlinedLists {
+            alloc,
             functions: Vec::new(alloc),
             ranges: Vec::new(alloc),
         }
@@ -118,6 +120,7 @@ impl<R: Reader> InlinedLists<R> {
         let function = self.functions.len();
         push_ranges(unit, &ranges, depth, function, &mut self.ranges)?;
         if self.ranges.len() > before {
+            let name = name.share(self.alloc)?;
             self.functions.push(InlinedFunction {
                 dw_die_offset: offset,
                 name,

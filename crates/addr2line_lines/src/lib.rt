@@ -6,6 +6,7 @@ mod count;
 mod detail;
 mod details;
 mod files;
+mod found_name;
 mod function;
 mod functions;
 mod inlined;

@@ -6,12 +6,13 @@ ghost use Rattle.gimli_read.specs.Form.{rest_of, seen_value};
 ghost use Rattle.gimli_read.specs.Reading.{Exactly, ExactlyUnlessOomIf};
 ghost use Rattle.gimli.specs.Entry.{attributes_at};
 ghost use Rattle.addr2line_lines.specs.CachedNames.{AreNamesMore, AreNamesOf, seen_names};
-ghost use Rattle.addr2line_lines.specs.FoundNames.{is_name_attribute, seen_name_or_origin, seen_place, with_linkage, with_origin, with_string};
+ghost use Rattle.addr2line_lines.specs.FoundNames.{found_name, is_name_attribute, seen_name_or_origin, seen_place, with_linkage, with_origin, with_string};
 ghost use Rattle.addr2line_lines.specs.Names.{is_linkage_name, is_origin, linkage_name_of, named_at, no_name, or_referred_name, readable, referred_name, visited, with_name, with_name_or_origin};
 ghost use Rattle.addr2line_lines.specs.References.{IsScope};
 ghost use Rattle.addr2line_lines.specs.SeenScope.{seen_scope};
 
-use crate::names::{NameCache, duplicate_name};
+use crate::found_name::FoundName;
+use crate::names::NameCache;
 use crate::references::{EntryPlace, Scope, referred};
 use gimli::read::{
     Attribute, AttributeSpecification, AttributeValue, DwAt, Error, Reader, UnitOffset,
@@ -231,26 +232,53 @@ fn referred_name<'a, R: Reader>(
     Ok(None)
 }
 
+// The string of a value as the name of an entry, none where it can't be read. Refused `OutOfMemory`
+// alone.
+fn readable_name<R: Reader>(
+    scope: Scope<'_, R>,
+    unit: &Unit<R>,
+    value: AttributeValue<R>,
+) -> Result<FoundName<R>, Error>
+    ensures gives { ExactlyUnlessOomIf R.shares (found_name R.section) result
+        (Ok (readable (seen_scope scope.entry) unit.now (seen_value R.section value))) }
+{
+    let name = readable(scope, unit, value)?;
+    Ok(FoundName::Own(name))
+}
+
+// The name by the entry that a value refers to, for the entry with that value alone.
+fn referred_name_anew<R: Reader>(
+    scope: Scope<'_, R>,
+    unit: &Unit<R>,
+    value: AttributeValue<R>,
+) -> Result<FoundName<R>, Error>
+    requires in_order { IsScope (seen_scope scope) }
+    ensures gives { ExactlyUnlessOomIf R.shares (found_name R.section) result
+        (referred_name (seen_scope scope.entry) unit.now (seen_value R.section value)) }
+{
+    let name = referred_name(scope, unit, value)?;
+    Ok(FoundName::Own(name))
+}
+
 // The name by the entry at an offset of the unit: the cached one, or it is cached then.
 fn name_in_unit<R: Reader>(
     scope: Scope<'_, R>,
     unit: &Unit<R>,
     offset: UnitOffset,
     names: &mut NameCache<R>,
-) -> Result<Option<R>, Error>
+) -> Result<FoundName<R>, Error>
     requires in_order { IsScope (seen_scope scope) }
     requires names { AreNamesOf (seen_scope scope) unit.now (seen_names R.section names.old) }
-    ensures gives { ExactlyUnlessOomIf R.shares (option_map R.section) result
+    ensures gives { ExactlyUnlessOomIf R.shares (found_name R.section) result
         (referred_name (seen_scope scope.entry) unit.now (values.UnitRef offset)) }
     ensures names { AreNamesMore (seen_scope scope.entry) unit.now
         (seen_names R.section names.old) (seen_names R.section names.new) }
 {
     if let Some(name) = names.find(offset) {
-        return duplicate_name(name);
+        return Ok(FoundName::Shared(name));
     }
     let name = referred_name(scope, unit, AttributeValue::UnitRef(offset))?;
-    names.add(offset, &name);
-    Ok(name)
+    Ok(names.add(offset, name))
 }
 
 // The name by the entry that a value refers to, which is cached if it is one of the unit.
@@ -259,17 +287,17 @@ fn referred_name_once<R: Reader>(
     unit: &Unit<R>,
     value: AttributeValue<R>,
     names: &mut NameCache<R>,
-) -> Result<Option<R>, Error>
+) -> Result<FoundName<R>, Error>
     requires in_order { IsScope (seen_scope scope) }
     requires names { AreNamesOf (seen_scope scope) unit.now (seen_names R.section names.old) }
-    ensures gives { ExactlyUnlessOomIf R.shares (option_map R.section) result
+    ensures gives { ExactlyUnlessOomIf R.shares (found_name R.section) result
         (referred_name (seen_scope scope.entry) unit.now (seen_value R.section value)) }
     ensures names { AreNamesMore (seen_scope scope.entry) unit.now
         (seen_names R.section names.old) (seen_names R.section names.new) }
 {
     match value {
         AttributeValue::UnitRef(offset) => name_in_unit(scope, unit, offset, names),
-        value => referred_name(scope, unit, value),
+        value => referred_name_anew(scope, unit, value),
     }
 }
 
@@ -278,22 +306,22 @@ fn referred_name_once<R: Reader>(
 pub(crate) fn name_by_origin<R: Reader>(
     scope: Scope<'_, R>,
     unit: &Unit<R>,
-    name: Option<R>,
+    name: FoundName<R>,
     offset: UnitOffset,
     names: &mut NameCache<R>,
-) -> Result<Option<R>, Error>
+) -> Result<FoundName<R>, Error>
     requires in_order { IsScope (seen_scope scope) }
     requires names { AreNamesOf (seen_scope scope) unit.now (seen_names R.section names.old) }
-    ensures gives { ExactlyUnlessOomIf R.shares (option_map R.section) result
-        (or_referred_name (seen_scope scope.entry) unit.now (option_map R.section name)
+    ensures gives { ExactlyUnlessOomIf R.shares (found_name R.section) result
+        (or_referred_name (seen_scope scope.entry) unit.now (found_name R.section name)
         (values.UnitRef offset)) }
     ensures names { AreNamesMore (seen_scope scope.entry) unit.now
         (seen_names R.section names.old) (seen_names R.section names.new) }
 {
-    match name {
-        Some(name) => Ok(Some(name)),
-        None => name_in_unit(scope, unit, offset, names),
+    if name.is_some() {
+        return Ok(name);
     }
+    name_in_unit(scope, unit, offset, names)
 }
 
 // The name after one more attribute of the entry itself.
@@ -301,30 +329,31 @@ pub(crate) fn name_by_origin<R: Reader>(
 pub(crate) fn take_name<R: Reader>(
     scope: Scope<'_, R>,
     unit: &Unit<R>,
-    name: Option<R>,
+    name: FoundName<R>,
     attribute: Attribute<R>,
     names: &mut NameCache<R>,
-) -> Result<Option<R>, Error>
+) -> Result<FoundName<R>, Error>
     requires in_order { IsScope (seen_scope scope) }
     requires names { AreNamesOf (seen_scope scope) unit.now (seen_names R.section names.old) }
-    ensures gives { ExactlyUnlessOomIf R.shares (option_map R.section) result
-        (with_name (seen_scope scope.entry) unit.now (option_map R.section name) attribute) }
+    ensures gives { ExactlyUnlessOomIf R.shares (found_name R.section) result
+        (with_name (seen_scope scope.entry) unit.now (found_name R.section name) attribute) }
     ensures names { AreNamesMore (seen_scope scope.entry) unit.now
         (seen_names R.section names.old) (seen_names R.section names.new) }
 {
     let attribute_name = attribute.name();
     let value = attribute.value();
     if is_linkage_name(attribute_name) {
-        return Ok(readable(scope, unit, value)?.or(name));
+        let linkage = readable(scope, unit, value)?;
+        return Ok(name.or_linkage_name(linkage));
     }
     if name.is_some() {
         return Ok(name);
     }
     if attribute_name == DwAt::DW_AT_name {
-        readable(scope, unit, value)
+        readable_name(scope, unit, value)
     } else if is_origin(attribute_name) {
         referred_name_once(scope, unit, value, names)
     } else {
-        Ok(None)
+        Ok(FoundName::none())
     }
 }

@@ -1,11 +1,13 @@
 //! The cached names of entries that are referred to.
 
-ghost use Rattle.std.specs.Prelude.{◌≡◌, IfSome, Ok, [], length, option_map, take};
-ghost use Rattle.gimli_read.specs.Reading.{ExactlyUnlessOomIf};
+ghost use Rattle.std.specs.Prelude.{◌≡◌, IfSome, [], length, option_map, take};
 ghost use Rattle.addr2line_lines.specs.CachedNames.{IsKnownAs, IsOneMoreAtMost, seen_names};
+ghost use Rattle.addr2line_lines.specs.FoundNames.{found_name};
 
-use gimli::read::{Error, Reader, UnitOffset};
+use crate::found_name::FoundName;
+use gimli::read::{Reader, UnitOffset};
 use std::alloc::Global;
+use std::rc::Rc;
 
 // The fewest slots.
 const FEWEST_SLOTS: usize = 64;
@@ -21,27 +23,27 @@ const NO_PLACE: usize = usize::MAX;
 struct CachedName<R: Reader> {
     // Where it begins, in bytes from the start of the unit's length.
     offset: UnitOffset,
-    name: Option<R>,
+    name: Rc<Option<R>>,
 }
 
 /// The names that entries of a unit give where they are referred to, in the order in which they
 /// were found.
 #[derive(Drop)]
 pub(crate) struct NameCache<R: Reader> {
+    alloc: Global,
     names: Vec<CachedName<R>>,
     // Where the name of an entry may stand among them, by its offset. A slot may say anything: the
     // offset that stands there decides.
     slots: Vec<usize>,
 }
 
-// The name again. Refused `OutOfMemory` alone, where readers share their bytes.
-pub(crate) fn duplicate_name<R: Reader>(name: &Option<R>) -> Result<Option<R>, Error>
-    ensures gives { ExactlyUnlessOomIf R.shares (option_map R.section) result
-        (Ok (option_map R.section name.now)) }
+// A name once more, none where it is shared as often as can be counted.
+fn share_name<R: Reader>(name: &Rc<Option<R>>) -> Option<Rc<Option<R>>>
+    ensures gives { IfSome result (λ shared. shared.value ≡ name.now.value) }
 {
-    match name {
-        Some(name) => Ok(Some(name.duplicate()?)),
-        None => Ok(None),
+    match name.clone() {
+        Ok(name) => Some(name),
+        Err(_) => None,
     }
 }
 
@@ -86,6 +88,7 @@ impl<R: Reader> NameCache<R> {
         ensures gives { seen_names R.section result ≡ [] }
     {
         NameCache {
+            alloc,
             names: Vec::new(alloc),
             slots: Vec::new(alloc),
         }
@@ -107,8 +110,8 @@ impl<R: Reader> NameCache<R> {
     }
 
     /// The name of an entry, if it is found in the cache. Takes no memory.
-    pub(crate) fn find(&self, offset: UnitOffset) -> Option<&Option<R>>
-        ensures found { IfSome result (λ name. IsKnownAs offset (option_map R.section name.now)
+    pub(crate) fn find(&self, offset: UnitOffset) -> Option<Rc<Option<R>>>
+        ensures found { IfSome result (λ name. IsKnownAs offset (option_map R.section name.value)
             (seen_names R.section self.now)) }
     {
         let last = self.slots.len().wrapping_sub(1);
@@ -117,30 +120,48 @@ impl<R: Reader> NameCache<R> {
             let place = self.slots.get(first.wrapping_add(step) & last)?;
             let cached = self.names.get(*place)?;
             if cached.offset == offset {
-                return Some(&cached.name);
+                return share_name(&cached.name);
             }
         }
         None
     }
 
-    /// Adds the name of an entry, or nothing where memory is refused.
-    pub(crate) fn add(&mut self, offset: UnitOffset, name: &Option<R>)
+    // Adds the name of an entry, or nothing where memory is refused.
+    fn push(&mut self, offset: UnitOffset, name: &Rc<Option<R>>)
         ensures more { IsOneMoreAtMost (record {
           offset = offset;
-          name = option_map R.section name.now;
+          name = option_map R.section name.now.value;
         }) (seen_names R.section self.old)
             (seen_names R.section self.new) }
     {
         let place = self.names.len();
-        match duplicate_name(name) {
-            Ok(name) => match self.names.push(CachedName { offset, name }) {
+        match share_name(name) {
+            Some(name) => match self.names.push(CachedName { offset, name }) {
                 Ok(()) => {
                     make_slots(&self.names, &mut self.slots);
                     set_slot(&mut self.slots, offset, place);
                 }
                 Err(_) => {}
             },
-            Err(_) => {}
+            None => {}
+        }
+    }
+
+    /// Adds the name of an entry, or nothing where memory is refused, and gives it back.
+    pub(crate) fn add(&mut self, offset: UnitOffset, name: Option<R>) -> FoundName<R>
+        ensures gives { found_name R.section result ≡ option_map R.section name }
+        ensures more { IsOneMoreAtMost (record {
+          offset = offset;
+          name = option_map R.section name;
+        }) (seen_names R.section self.old)
+            (seen_names R.section self.new) }
+    {
+        match Rc::new(self.alloc, name) {
+            Ok(name) => {
+                self.push(offset, &name);
+                FoundName::Shared(name)
+            }
+            Err(refused) => FoundName::Own(refused.value),
         }
     }
 }

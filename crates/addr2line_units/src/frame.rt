@@ -204,7 +204,7 @@ impl<'ctx, R: Reader> FunctionFrames<'ctx, R> {
         match entry {
             Some(entry) => Frame {
                 dw_die_offset: Some(entry.dw_die_offset),
-                function: self.function_name(entry.name.as_ref()),
+                function: self.function_name(entry.name()),
                 location: self.location,
             },
             None => Frame {

@@ -78,7 +78,7 @@ fn fields_of<R: Reader>(inlined: &InlinedFunction<R>) -> u64 {
         .wrapping_add(u64::from(inlined.call_column).wrapping_mul(5))
         .wrapping_add(inlined.call_file.unwrap_or(0).wrapping_mul(7))
         .wrapping_add(inlined.dw_die_offset.0.wrapping_mul(11))
-        .wrapping_add(name_length(inlined.name.as_ref()).wrapping_mul(13))
+        .wrapping_add(name_length(inlined.name()).wrapping_mul(13))
 }
 
 // The sum with the inlined entries of all functions.

@@ -43,7 +43,7 @@ fn letter(name: Option<&EndianSlice<'_>>) -> u64 {
 fn inlined_code(functions: &Functions<EndianSlice<'_>>, place: Option<usize>) -> [u64; 3] {
     match place.and_then(|place| functions.inlined(place)) {
         Some(inlined) => [
-            letter(inlined.name.as_ref()),
+            letter(inlined.name()),
             inlined.dw_die_offset.0,
             u64::from(inlined.call_line),
         ],

@@ -1,6 +1,7 @@
-use Rattle.std.proofs.Common.{arith, ◌≤◌, length, refl, ◌≡◌, ◌<◌, List, [], Ok, ap, sym, append-nil, ◌∙◌}
+use Rattle.std.proofs.Common.{arith, ◌≤◌, ◌++◌, ◌∷◌, length, refl, ◌≡◌, ◌<◌, List, [], Ok, Option, option_map, ap, sym, append-nil, ◌∙◌}
 use Rattle.std.proofs.lemmas.Bool.Decides.{nat_tests}
 use Rattle.std.proofs.lemmas.Result.{err_from_is_err_and}
+use Rattle.gimli_read.specs.Section.{Section}
 use Rattle.addr2line_lines.specs.FoundAttributes.{seen_attributes}
 use Rattle.addr2line_lines.specs.FoundInlined.{seen_lists, FoundInlined}
 use Rattle.addr2line_lines.proofs.DetailMemory.{pushed_well}
@@ -21,6 +22,19 @@ returns-in_err-push-clause-gives g c =
     let m = c.args.self.now.ranges.ok.0 in
     let n = c.push_ranges.new.ranges.ok.0 in
     rw (p.1, p.2) (λ wanted. absurd (wanted (pushed_well c.args.unit.dwarf.now c.args.unit.unit.now c.args.attributes.ranges c.args.depth c.len-function.result c.args.self.now.ranges.items c.push_ranges.new.ranges.items c.in_ok-push_ranges.ensures.gives (omega arith)) refl))
+
+pub returns-in_err-name-clause-gives : goal.returns-in_err-name-clause-gives
+returns-in_err-name-clause-gives g c =
+    let p = err_from_is_err_and c.from_residual-in_err-name.result c.from_residual-in_err-name.ensures.1 in
+    let a = c.len.ensures in
+    let b = c.len-before.ensures in
+    let l = c.if-len-before.true in
+    let m = c.args.self.now.ranges.ok.0 in
+    let n = c.push_ranges.new.ranges.ok.0 in
+    rw (p.1, p.2) (λ wanted. absurd (let no = c.in_err-name.ensures.gives (wanted (pushed_well c.args.unit.dwarf.now c.args.unit.unit.now c.args.attributes.ranges c.args.depth c.len-function.result c.args.self.now.ranges.items c.push_ranges.new.ranges.items c.in_ok-push_ranges.ensures.gives (omega arith))) in cc))
+
+pub returns-in_err-name-clause-kept : goal.returns-in_err-name-clause-kept
+returns-in_err-name-clause-kept g c = record { entries = grown_not _; ranges = c.in_ok-push_ranges.ensures.kept }
 
 pub returns-else-len-before-clause-gives : goal.returns-else-len-before-clause-gives
 returns-else-len-before-clause-gives g c =
@@ -45,7 +59,11 @@ returns-in_ok-push-clause-gives g c =
     let ranges = c.push_ranges.new.ranges.items in
     let place : c.len-function.result ≡ length functions.items = c.len-function.ensures ∙ functions.ok.0 in
     let longer : length c.args.self.now.ranges.items < length ranges = (let a = c.len.ensures in let b = c.len-before.ensures in let l = c.if-len-before.true in let m = c.args.self.now.ranges.ok.0 in let n = c.push_ranges.new.ranges.ok.0 in omega arith) in
-    some_added c.args.unit.dwarf.now c.args.unit.unit.now c.args.offset.0 c.args.depth c.len-function.result (seen_lists c.args.self.now) (seen_attributes g.R.Reader.section c.args.attributes) ranges c.in_ok-push_ranges.ensures.gives longer place
+    let x = seen_attributes g.R.Reader.section c.args.attributes in
+    let named : x.name ≡ option_map g.R.Reader.section c.in_ok-name.name.value = (let e = c.in_ok-name.ensures.gives in cc) in
+    let entry : Option Section → InlinedEntry = λ name. record { offset = c.args.offset.0; name = name; call = x.call } in
+    some_added c.args.unit.dwarf.now c.args.unit.unit.now c.args.offset.0 c.args.depth c.len-function.result (seen_lists c.args.self.now) x ranges c.in_ok-push_ranges.ensures.gives longer place
+    ∙ ap (λ name. Ok (found_of (functions.items ++ entry name ∷ []) ranges)) named
     ∙ ap (λ entries. Ok (found_of entries ranges)) (sym c.in_ok-push.ensures.items)
 
 pub returns-in_ok-push-clause-kept : goal.returns-in_ok-push-clause-kept

@@ -1,6 +1,6 @@
-use Rattle.std.proofs.Common.{rules, ◌≡◌, Some, slice_get, subst}
+use Rattle.std.proofs.Common.{rules, ◌≡◌, Option, Some, None, IfSome, slice_get, option_map, ap, subst, sym}
 use Rattle.std.proofs.lemmas.Option.{gets}
-use Rattle.addr2line_lines.proofs.CachedNameLemmas.{known_at}
+use Rattle.addr2line_lines.proofs.CachedNameLemmas.{known_at, known_shared}
 use Rattle.addr2line_lines.proofs.names.NameCache.find.Goals as goal
 
 pub returns-then-eq : goal.returns-then-eq
@@ -10,4 +10,5 @@ returns-then-eq g c =
     let x = c.in_ok-cached.cached.now in
     let there : slice_get c.deref-in-loop-step.result.now n ≡ Some x = search (rules, gets) in
     let same : x.offset ≡ c.args.offset = search rules in
-    record { found = known_at g.R.Reader.section names n x c.args.offset (subst (λ xs. slice_get xs n ≡ Some x) c.deref-in-loop-step.ensures.value there) same }
+    let known = known_at g.R.Reader.section names n x c.args.offset (subst (λ xs. slice_get xs n ≡ Some x) c.deref-in-loop-step.ensures.value there) same in
+    record { found = known_shared g.R.Reader.section (λ name. name.value) _ x.name.value c.share_name.result c.args.offset c.share_name.ensures.gives known }

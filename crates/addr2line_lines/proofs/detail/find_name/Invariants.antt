@@ -1,13 +1,13 @@
-use Rattle.std.proofs.Common.{◌≡◌, drop, None, Ok, Option, option_map, Result}
+use Rattle.std.proofs.Common.{◌≡◌, drop, None, Ok, Option, Result}
 use Rattle.gimli_read.specs.declared.error.Error.{Error as Fault}
 use Rattle.gimli_read.specs.Form.{rest_of}
 use Rattle.gimli_read.specs.Section.{Section}
 use Rattle.gimli_read.specs.Reading.{ExactlyUnlessOomIf}
 use Rattle.gimli.specs.Entry.{attributes_at}
 use Rattle.addr2line_lines.specs.CachedNames.{AreNamesMore, seen_names}
-use Rattle.addr2line_lines.specs.FoundNames.{name_after}
+use Rattle.addr2line_lines.specs.FoundNames.{found_name, name_after}
 use Rattle.addr2line_lines.specs.SeenScope.{seen_scope}
-use Rattle.addr2line_lines.proofs.detail.read_name.Given as goal
+use Rattle.addr2line_lines.proofs.detail.find_name.Given as goal
 
 abbrev pub invariant-loop-specification : goal.invariant-loop-specification
 invariant-loop-specification g l =
@@ -16,7 +16,7 @@ invariant-loop-specification g l =
     let encoding = l.unit.header.encoding in
     record {
       given : Result (Option Section) Fault;
-      is : ExactlyUnlessOomIf g.R.Reader.shares (option_map g.R.Reader.section) l.name given;
+      is : ExactlyUnlessOomIf g.R.Reader.shares (found_name g.R.Reader.section) l.name given;
       gives : name_after scope u given (attributes_at encoding (drop l.specification-index l.specifications) l.entries.cursor.left) ≡ name_after scope u (Ok None) (attributes_at encoding l.specifications l.fn.entries.cursor.left);
       same : l.entries.unit.encoding ≡ encoding;
       left : rest_of (attributes_at encoding (drop l.specification-index l.specifications) l.entries.cursor.left) ≡ rest_of (attributes_at encoding l.specifications l.fn.entries.cursor.left);

@@ -1,4 +1,4 @@
-use Rattle.std.proofs.Common.{rules, ◌≡◌, Option, Some, None, IfSome, slice_get, option_map, ap, subst, sym}
+use Rattle.std.proofs.Common.{rules, ◌≡◌, Some, slice_get, subst}
 use Rattle.std.proofs.lemmas.Option.{gets}
 use Rattle.addr2line_lines.proofs.CachedNameLemmas.{known_at, known_shared}
 use Rattle.addr2line_lines.proofs.names.NameCache.find.Goals as goal

@@ -17,6 +17,7 @@ pub mod FilesLookupLemmas
 pub mod LoadingLemmas
 pub mod FileSectionLemmas
 pub mod SplitFileLemmas
+pub mod KeptFileLemmas
 pub mod AskedLemmas
 pub mod ByFilesLemmas
 pub mod UncoveredLemmas

@@ -14,14 +14,12 @@ use Rattle.elf.specs.Loading.{Loading}
 use Rattle.addr2line_units.specs.Views.{SplitLoad, first_unit}
 use Rattle.addr2line.specs.FileSections.{as_file, sections_by}
 use Rattle.addr2line.specs.Files.{ReadFiles}
-use Rattle.addr2line.specs.SplitFiles.{given_at_path, given_by_files, has_wanted_id, of_file, or_none, split_at_path, split_by, split_of, split_path, utf8_path}
+use Rattle.addr2line.specs.SplitFiles.{has_wanted_id, of_file, or_none, split_at_path, split_by, split_of}
 
-pub given_is : (held : ReadFiles) (load : SplitLoad) (path text bytes : List ℕ) → Some path ≡ split_path load → utf8_path path ≡ Ok text → Some bytes ≡ held.files text → given_by_files held load ≡ Ok (or_none (split_of held.compressed load bytes))
-unfolding given_by_files
-given_is held load path text bytes a b c =
-    ap (λ o. elim o [ None ↦ Ok None | Some p ↦ given_at_path held load p ]) (sym a)
-    ∙ ap (λ r. r >>= λ t. Ok (split_at_path held load t)) b
-    ∙ ap (λ o. Ok (option_and_then (λ bs. or_none (split_of held.compressed load bs)) o)) (sym c)
+-- the sections at a path are those of the bytes there
+pub split_found : (held : ReadFiles) (load : SplitLoad) (path bytes : List ℕ) → Some bytes ≡ held.files path → split_at_path held load path ≡ or_none (split_of held.compressed load bytes)
+split_found held load path bytes h =
+    ap (λ o. option_and_then (λ bs. or_none (split_of held.compressed load bs)) o) (sym h)
 
 module _ (given : SectionId → Loading Section) (load : SplitLoad) where
   -- a fault of the sections is one of the split file

@@ -18,6 +18,7 @@ pub mod SeenCalls
 pub mod Files
 pub mod FileSections
 pub mod SplitFiles
+pub mod KeptFiles
 pub mod Loaded
 pub mod FramesByFiles
 pub mod LoadsByFiles

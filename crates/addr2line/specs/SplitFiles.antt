@@ -18,7 +18,7 @@ use Rattle.gimli.specs.Unit.{UnitRecord}
 use Rattle.elf.specs.declared.error.LoaderError.{LoaderError}
 use Rattle.elf.specs.declared.error.LoaderError.TheVariants.{OutOfMemory, PathNotUtf8}
 use Rattle.elf.specs.Loading.{Loading}
-use Rattle.elf.specs.ObjectFile.{object_file_of}
+use Rattle.elf.specs.ObjectFile.{ObjectFile, object_file_of}
 use Rattle.elf.specs.Symbols.{utf8_from}
 use Rattle.elf.specs.Text.{loader_error_of}
 use Rattle.addr2line_lines.specs.Paths.{lacks, slash}
@@ -78,6 +78,11 @@ split_by given load = do
 unfoldable pub split_of : CompressedSections → SplitLoad → List ℕ → Loading (Option Sections)
 split_of compressed load bytes =
     object_file_of bytes >>= λ file. split_by (split_section compressed file) load
+
+-- a file answers a load with these sections
+abbrev pub Answers : CompressedSections → SplitLoad → ObjectFile → Sections → Type 0
+Answers compressed load file sections =
+    split_by (split_section compressed file) load ≡ Ok (Some sections)
 
 -- what is loaded, or none in place of a fault
 abbrev pub or_none : Loading (Option Sections) → Option Sections

@@ -17,6 +17,7 @@ ghost use Rattle.addr2line.specs.WaitingLookups.{count_loads};
 use crate::compressed::CompressedSections;
 use crate::context::Context;
 use crate::files::FileSource;
+use crate::kept_files::KeptFiles;
 use crate::split_files::answer_to;
 use addr2line_units::frames_lookup::OnFault;
 use elf::LoaderError;
@@ -30,6 +31,7 @@ fn read_answer<F: FileSource>(
     alloc: Global,
     files: &F,
     compressed: CompressedSections,
+    kept: &mut KeptFiles,
     ctx: &Context<EndianBytes>,
     probe: u64,
     number: usize,
@@ -44,7 +46,7 @@ fn read_answer<F: FileSource>(
     ensures stays_open { IfErr result LeavesOpen }
 {
     let load = ctx.load_of(number)?;
-    answer_to(alloc, files, compressed, &load)
+    answer_to(alloc, files, compressed, kept, &load)
 }
 
 // Answers the load that a lookup of frames waits for by files.
@@ -52,6 +54,7 @@ fn answer_load<F: FileSource>(
     alloc: Global,
     files: &F,
     compressed: CompressedSections,
+    kept: &mut KeptFiles,
     ctx: &mut Context<EndianBytes>,
     probe: u64,
     number: usize,
@@ -69,7 +72,7 @@ fn answer_load<F: FileSource>(
     ensures still_waits { OnErr result
         (lookup_stop End ctx.new.sections ctx.new.answers probe ≡ Ok (Waits number)) }
 {
-    let sections = read_answer(alloc, files, compressed, ctx, probe, number)?;
+    let sections = read_answer(alloc, files, compressed, kept, ctx, probe, number)?;
     Ok(ctx.answer(number, sections)?)
 }
 
@@ -79,6 +82,7 @@ pub(crate) fn answer_loads<F: FileSource>(
     alloc: Global,
     files: &F,
     compressed: CompressedSections,
+    kept: &mut KeptFiles,
     ctx: &mut Context<EndianBytes>,
     probe: u64,
 ) -> Result<(), LoaderError>
@@ -102,7 +106,7 @@ pub(crate) fn answer_loads<F: FileSource>(
     loop {
         ctx.walk(probe, OnFault::End)?;
         match ctx.waits_for() {
-            Some(number) => answer_load(alloc, files, compressed, ctx, probe, number)?,
+            Some(number) => answer_load(alloc, files, compressed, kept, ctx, probe, number)?,
             None => return Ok(()),
         }
     }

@@ -8,10 +8,10 @@ use bytes::Bytes;
 use elf::{FileImage, PartSource, read_wanted};
 use gimli::read::{EndianBytes, RunTimeEndian};
 use std::alloc::{AllocError, Global};
-use std::fs::{self, File, OpenFile};
+use std::fs::{self, File, Metadata, OpenFile};
 use std::io::{self, ErrorKind};
 use std::marker::Model;
-use std::os::unix::fs::FileExt;
+use std::os::unix::fs::{FileExt, MetadataExt};
 
 // A file of which all bytes are there. Takes no memory where there are none.
 fn whole_file(alloc: Global, bytes: Vec<u8>) -> Result<FileImage, AllocError>
@@ -23,6 +23,30 @@ fn whole_file(alloc: Global, bytes: Vec<u8>) -> Result<FileImage, AllocError>
         Ok(bytes) => Ok(FileImage::whole(alloc, EndianBytes::new(bytes, RunTimeEndian::Little))),
         Err(_) => Err(AllocError),
     }
+}
+
+/// A time of a file, since 1970-01-01 00:00 UTC.
+#[derive(Clone, Copy, Debug, PartialEq, Eq)]
+pub struct FileTime {
+    /// Whole seconds, below zero before that.
+    pub seconds: i64,
+    /// What is beyond them, in nanoseconds.
+    pub nanoseconds: i64,
+}
+
+/// What tells a file from another that stood at its path before, and from itself before a change.
+#[derive(Clone, Copy, Debug, PartialEq, Eq)]
+pub struct FileStamp {
+    /// The number of the device that the file is on.
+    pub device: u64,
+    /// The file's number on that device.
+    pub inode: u64,
+    /// How many bytes the file has.
+    pub len: u64,
+    /// When its bytes were changed last.
+    pub modified: FileTime,
+    /// When its bytes or what is said of it, as its name or owner, were changed last.
+    pub changed: FileTime,
 }
 
 /// What gives files by their paths.
@@ -64,6 +88,15 @@ pub trait FileSource: Drop {
             Some(bytes) => Ok(Some(whole_file(alloc, bytes)?)),
             None => Ok(None),
         }
+    }
+
+    /// The stamp of the file at a path: as long as it is the same, the file is taken to have the
+    /// bytes that it had. None where that isn't told: then the file is read at each call. So it is
+    /// where it is known what files there are. Takes no memory. Source: own.
+    fn stamp(&self, path: &str) -> Option<FileStamp>
+        ensures known { IfSome (files self.now) (λ _. result ≡ None) }
+    {
+        None
     }
 }
 
@@ -193,6 +226,23 @@ fn opened(rt: &HostRuntime, path: &str) -> Result<Option<HostFile>, AllocError> 
     }
 }
 
+// The stamp of a file.
+fn stamp_of(metadata: &Metadata) -> FileStamp {
+    FileStamp {
+        device: metadata.dev(),
+        inode: metadata.ino(),
+        len: metadata.len(),
+        modified: FileTime {
+            seconds: metadata.mtime(),
+            nanoseconds: metadata.mtime_nsec(),
+        },
+        changed: FileTime {
+            seconds: metadata.ctime(),
+            nanoseconds: metadata.ctime_nsec(),
+        },
+    }
+}
+
 impl FileSource for HostFiles {
     fn read(&self, alloc: Global, path: &str) -> Result<Option<Vec<u8>>, AllocError> {
         match opened(&self.rt, path)? {
@@ -205,6 +255,15 @@ impl FileSource for HostFiles {
         match opened(&self.rt, path)? {
             Some(file) => read_wanted(alloc, &file),
             None => Ok(None),
+        }
+    }
+
+    fn stamp(&self, path: &str) -> Option<FileStamp> {
+        let metadata = fs::metadata(&self.rt, path).ok()?;
+        if metadata.is_file() {
+            Some(stamp_of(&metadata))
+        } else {
+            None
         }
     }
 }

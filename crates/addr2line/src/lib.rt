@@ -9,6 +9,7 @@ mod copies;
 mod file_sections;
 mod files;
 mod frames;
+mod kept_files;
 pub mod laws;
 mod loader;
 mod loads;
@@ -23,7 +24,7 @@ mod units;
 
 pub use crate::compressed::CompressedSections;
 pub use crate::context::Context;
-pub use crate::files::{FileSource, HostFiles, MemoryFiles};
+pub use crate::files::{FileSource, FileStamp, FileTime, HostFiles, MemoryFiles};
 pub use crate::frames::FramesLookup;
 pub use crate::loader::{Loader, LoaderOver};
 pub use crate::opened::open_bytes;

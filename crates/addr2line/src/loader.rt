@@ -29,6 +29,7 @@ use crate::compressed::CompressedSections;
 use crate::context::Context;
 use crate::file_sections::{MainFile, OpenFile, as_dwarf, read_sections};
 use crate::files::{FileSource, HostFiles};
+use crate::kept_files::KeptFiles;
 use crate::split_files::parse_image;
 use addr2line_lines::Location;
 use addr2line_units::FrameIter;
@@ -137,12 +138,14 @@ pub(crate) fn context_of<R: Reader>(
 }
 
 /// The debug information of an ELF file: a context of its sections, its symbols, and the files
-/// `F` that answer for its split files.
+/// `F` that answer for its split files. A split file that has answered is kept by its path, with its
+/// stamp.
 #[derive(Drop)]
 pub struct LoaderOver<F: FileSource> {
     alloc: Global,
     files: F,
     compressed: CompressedSections,
+    kept: KeptFiles,
     object: ElfFile,
     context: Context<EndianBytes>,
 }
@@ -248,6 +251,7 @@ impl<F: FileSource> LoaderOver<F> {
             alloc,
             files,
             compressed,
+            kept: KeptFiles::new(alloc),
             object,
             context,
         })
@@ -317,7 +321,8 @@ impl<F: FileSource> LoaderOver<F> {
     /// `comp_dir`, a `/` unless that is empty or ends in one, and `path`. A load without a path, a
     /// file that isn't there, one whose first unit has another identifier or none, and a faulty one
     /// are answered none. An answer stays: a file counts that was there when its unit was first
-    /// asked for frames.
+    /// asked for frames. A file that has answered another unit is read again only where its stamp
+    /// (`FileSource::stamp`) differs from the one that it had before it was read, or it has none.
     ///
     /// | Refusal | When |
     /// |---|---|
@@ -345,6 +350,7 @@ impl<F: FileSource> LoaderOver<F> {
             self.alloc,
             &self.files,
             self.compressed,
+            &mut self.kept,
             &mut self.context,
             probe,
         )?;

@@ -1,19 +1,22 @@
 //! The split files of units, which answer their loads.
 
 ghost use Rattle.std.specs.Prelude.{◌≡◌, [], Err, IfErr, IfOk, IfSome, None, Ok, Option, Some, option_map};
-ghost use Rattle.gimli_read.specs.Reading.{Exactly};
+ghost use Rattle.gimli_read.specs.Reading.{Exactly, result_map};
 ghost use Rattle.gimli.specs.Sections.{Sections};
 ghost use Rattle.elf.specs.declared.error.LoaderError.TheVariants.{NotElf, OutOfMemory, PathNotUtf8};
 ghost use Rattle.elf.specs.FileImage.{image_bytes};
 ghost use Rattle.elf.specs.Loading.{Loading, LoadsUnlessOom};
 ghost use Rattle.elf.specs.ObjectFile.{object_file_of};
 ghost use Rattle.addr2line.specs.declared.compressed.CompressedSections.TheVariants.{Refused};
+ghost use Rattle.addr2line.specs.FileSections.{split_section};
 ghost use Rattle.addr2line.specs.Files.{as_read};
-ghost use Rattle.addr2line.specs.SplitFiles.{LeavesOpen, bytes_or_none, given_by_files, has_wanted_id, is_absolute, is_same_id, or_none, path_in, separated, split_by, split_of, split_path, utf8_path};
+ghost use Rattle.addr2line.specs.KeptFiles.{KeepsAnswer, KeepsAnswering};
+ghost use Rattle.addr2line.specs.SplitFiles.{Answers, LeavesOpen, bytes_or_none, given_by_files, has_wanted_id, is_absolute, is_same_id, or_none, path_in, separated, split_at_path, split_by, split_of, split_path, utf8_path};
 
 use crate::compressed::CompressedSections;
 use crate::file_sections::{OpenFile, SectionSource, SplitFile, as_dwarf, read_sections};
-use crate::files::FileSource;
+use crate::files::{FileSource, FileStamp};
+use crate::kept_files::KeptFiles;
 use addr2line_units::view::{SplitDwarfLoad, read_first_unit};
 use bytes::Bytes;
 use elf::{ElfFile, FileImage, LoaderError};
@@ -101,6 +104,7 @@ fn path_of<R: Reader>(
 // A path as a text, if it is UTF-8.
 fn text_of(path: &[u8]) -> Result<&str, LoaderError>
     ensures gives { Exactly (λ text. text.now) result (utf8_path path.now) }
+    ensures same { IfOk result (λ text. text.now ≡ path.now) }
     ensures refused { IfErr result (λ e. e ≡ PathNotUtf8) }
 {
     match str::from_utf8(path) {
@@ -147,25 +151,51 @@ fn read_split<R: Reader, S: SectionSource<R>>(
     Ok(Some(Rc::new(alloc, dwarf)?))
 }
 
-// The sections of the split file of a load that a file has of which pieces were read, by what
-// becomes of those that are compressed.
+// The sections of the split file of a load that an ELF file has, by what becomes of those that are
+// compressed.
+fn read_split_object(
+    alloc: Global,
+    compressed: CompressedSections,
+    load: &SplitDwarfLoad<EndianBytes>,
+    object: &ElfFile,
+) -> Result<Option<Rc<Dwarf<EndianBytes>>>, LoaderError>
+    ensures gives { LoadsUnlessOom (option_map (λ d. d.value)) result
+        (split_by (split_section compressed object.now) load.now) }
+{
+    let file = OpenFile {
+        alloc,
+        compressed,
+        object,
+    };
+    read_split(alloc, &SplitFile(file), load)
+}
+
+// A split file that answers a load, and the sections that it answers with.
+#[derive(Drop)]
+struct AnsweringFile {
+    object: ElfFile,
+    sections: Rc<Dwarf<EndianBytes>>,
+}
+
+// The split file of a load that a file is of which pieces were read, none where it belongs to
+// another unit.
 #[tactic(auto, unfolding(crate::specs::SplitFiles::split_of))]
 fn read_split_file(
     alloc: Global,
     compressed: CompressedSections,
     load: &SplitDwarfLoad<EndianBytes>,
     file: FileImage,
-) -> Result<Option<Rc<Dwarf<EndianBytes>>>, LoaderError>
-    ensures gives { LoadsUnlessOom (option_map (λ d. d.value)) result
+) -> Result<Option<AnsweringFile>, LoaderError>
+    ensures gives { LoadsUnlessOom (option_map (λ f. f.sections.value)) result
         (split_of compressed load.now (image_bytes file)) }
+    ensures answers { IfOk result (λ found. IfSome found (λ f.
+        Answers compressed load.now f.object f.sections.value)) }
 {
     let object = parse_image(alloc, file)?;
-    let file = OpenFile {
-        alloc,
-        compressed,
-        object: &object,
-    };
-    read_split(alloc, &SplitFile(file), load)
+    match read_split_object(alloc, compressed, load, &object)? {
+        Some(sections) => Ok(Some(AnsweringFile { object, sections })),
+        None => Ok(None),
+    }
 }
 
 /// The sections of the split file of a load that the bytes of a file are, none where the file is
@@ -174,6 +204,7 @@ fn read_split_file(
 /// The bytes are shared, and none is copied. Refused as `ElfFile::parse` is, then as a section by
 /// name is, then `Dwarf` for the first unit and for what it needs of the sections that have the
 /// load's unit. May fail with `OutOfMemory` instead. Source: DWARF 5, sections 3.1.2 and 7.3.2.
+#[tactic(auto, unfolding(crate::specs::SplitFiles::split_of))]
 pub fn read_split_sections(
     alloc: Global,
     load: &SplitDwarfLoad<EndianBytes>,
@@ -182,18 +213,16 @@ pub fn read_split_sections(
     ensures gives { LoadsUnlessOom (option_map (λ d. d.value)) result
         (split_of Refused load.now bytes) }
 {
-    let bytes = EndianBytes::new(bytes, RunTimeEndian::Little);
-    let file = FileImage::whole(alloc, bytes);
-    read_split_file(alloc, CompressedSections::Refused, load, file)
+    let object = parse_bytes(alloc, bytes)?;
+    read_split_object(alloc, CompressedSections::Refused, load, &object)
 }
 
 // What was read, or none in place of a fault.
-fn without_fault<R: Reader>(
-    found: Result<Option<Rc<Dwarf<R>>>, LoaderError>,
-) -> Result<Option<Rc<Dwarf<R>>>, LoaderError>
-    ensures gives { (given : Loading (Option Sections))
-        → LoadsUnlessOom (option_map (λ d. d.value)) found given
-        → LoadsUnlessOom (option_map (λ d. d.value)) result (Ok (or_none given)) }
+fn without_fault<T: Drop>(found: Result<Option<T>, LoaderError>) -> Result<Option<T>, LoaderError>
+    ensures gives { (view : T → Sections) (given : Loading (Option Sections))
+        → LoadsUnlessOom (option_map view) found given
+        → LoadsUnlessOom (option_map view) result (Ok (or_none given)) }
+    ensures same { IfOk result (λ read. IfSome read (λ x. found ≡ Ok (Some x))) }
     ensures refused { IfErr result (λ e. e ≡ OutOfMemory) }
 {
     match found {
@@ -203,12 +232,94 @@ fn without_fault<R: Reader>(
     }
 }
 
-// The answer to the load of a unit, by the files. Takes no memory where the load has no path.
+// The file at a path that answers a load, none where it gives no sections for it.
+fn read_answering<F: FileSource>(
+    alloc: Global,
+    files: &F,
+    compressed: CompressedSections,
+    load: &SplitDwarfLoad<EndianBytes>,
+    path: &str,
+) -> Result<Option<AnsweringFile>, LoaderError>
+    ensures gives { IfSome (F.files files.now) (λ held.
+        LoadsUnlessOom (option_map (λ f. f.sections.value)) result
+        (Ok (split_at_path (as_read compressed held) load.now path.now))) }
+    ensures answers { IfOk result (λ found. IfSome found (λ f.
+        Answers compressed load.now f.object f.sections.value)) }
+    ensures refused { IfErr result (λ e. e ≡ OutOfMemory) }
+{
+    match files.read_image(alloc, path)? {
+        Some(file) => without_fault(read_split_file(alloc, compressed, load, file)),
+        None => Ok(None),
+    }
+}
+
+// The sections of the file at a path with a stamp for a load. The file is read where none is kept
+// with this stamp, and it is kept if it has them: what answers nothing isn't held, since a file may
+// name many.
+fn answer_stamped<F: FileSource>(
+    alloc: Global,
+    files: &F,
+    compressed: CompressedSections,
+    kept: &mut KeptFiles,
+    load: &SplitDwarfLoad<EndianBytes>,
+    path: &str,
+    stamp: FileStamp,
+) -> Result<Option<Rc<Dwarf<EndianBytes>>>, LoaderError>
+    ensures kept { KeepsAnswering compressed load.now path.now
+        (result_map (option_map (λ d. d.value)) result) kept.old kept.new }
+    ensures refused { IfErr result (λ e. e ≡ OutOfMemory) }
+{
+    if let Some(object) = kept.find(path, stamp) {
+        return without_fault(read_split_object(alloc, compressed, load, object));
+    }
+    kept.remove(path);
+    let Some(file) = read_answering(alloc, files, compressed, load, path)? else {
+        return Ok(None);
+    };
+    // A refused growth is no refusal of the answer: the file isn't kept then, and read again.
+    match kept.put(path, stamp, file.object) {
+        Ok(()) => {}
+        Err(_) => {}
+    }
+    Ok(Some(file.sections))
+}
+
+// The sections of the file at a path for a load, none where it has none.
+fn answer_at<F: FileSource>(
+    alloc: Global,
+    files: &F,
+    compressed: CompressedSections,
+    kept: &mut KeptFiles,
+    load: &SplitDwarfLoad<EndianBytes>,
+    path: &str,
+) -> Result<Option<Rc<Dwarf<EndianBytes>>>, LoaderError>
+    ensures gives { IfSome (F.files files.now) (λ held.
+        LoadsUnlessOom (option_map (λ d. d.value)) result
+        (Ok (split_at_path (as_read compressed held) load.now path.now))) }
+    ensures known { IfSome (F.files files.now) (λ _. kept.new ≡ kept.old) }
+    ensures kept { KeepsAnswering compressed load.now path.now
+        (result_map (option_map (λ d. d.value)) result) kept.old kept.new }
+    ensures refused { IfErr result (λ e. e ≡ OutOfMemory) }
+{
+    // The stamp is asked for before the file is read: one that changes in between has another stamp
+    // at the next call.
+    if let Some(stamp) = files.stamp(path) {
+        return answer_stamped(alloc, files, compressed, kept, load, path, stamp);
+    }
+    match read_answering(alloc, files, compressed, load, path)? {
+        Some(file) => Ok(Some(file.sections)),
+        None => Ok(None),
+    }
+}
+
+// The answer to the load of a unit, by the files or by one that is kept. Takes no memory where the
+// load has no path.
 #[tactic(auto, unfolding(crate::specs::SplitFiles::given_by_files))]
 pub(crate) fn answer_to<F: FileSource>(
     alloc: Global,
     files: &F,
     compressed: CompressedSections,
+    kept: &mut KeptFiles,
     load: &SplitDwarfLoad<EndianBytes>,
 ) -> Result<Option<Rc<Dwarf<EndianBytes>>>, LoaderError>
     ensures gives { IfSome (F.files files.now) (λ held.
@@ -216,12 +327,12 @@ pub(crate) fn answer_to<F: FileSource>(
         (given_by_files (as_read compressed held) load.now)) }
     ensures stays_open { IfErr result LeavesOpen }
     ensures unnamed { split_path load.now ≡ None → result ≡ Ok None }
+    ensures known { IfSome (F.files files.now) (λ _. kept.new ≡ kept.old) }
+    ensures kept { KeepsAnswer compressed load.now
+        (result_map (option_map (λ d. d.value)) result) kept.old kept.new }
 {
     let Some(path) = path_of(alloc, load)? else {
         return Ok(None);
     };
-    match files.read_image(alloc, text_of(&path)?)? {
-        Some(file) => without_fault(read_split_file(alloc, compressed, load, file)),
-        None => Ok(None),
-    }
+    answer_at(alloc, files, compressed, kept, load, text_of(&path)?)
 }

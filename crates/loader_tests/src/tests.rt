@@ -3,6 +3,7 @@
 mod compressed;
 mod growths;
 mod host;
+mod kept;
 mod late;
 mod parts;
 mod symbols;

@@ -1,7 +1,7 @@
 //! Loaders over files of the host.
 
 use super::{fault_code, plain_file, text_of};
-use addr2line::{Loader, LoaderError};
+use addr2line::{FileSource, HostFiles, Loader, LoaderError};
 use std::test::Fail;
 use std::{env, fs, process};
 
@@ -56,5 +56,33 @@ fn files_of_the_host_are_loaded_or_refused(rt: HostRuntime) -> Result<(), Fail> 
         text, text, no_file, no_elf, text, no_file, no_elf, no_file, no_file,
     ];
     assert_eq!(rt; told, wanted);
+    Ok(())
+}
+
+// How many bytes a file of the host has by its stamp, 9 without a stamp, and whether the stamp is
+// the same when it is asked for again.
+fn stamp_of(rt: HostRuntime, path: &str) -> (u64, bool) {
+    let files = HostFiles::new(rt);
+    let stamp = files.stamp(path);
+    (
+        stamp.map_or(9, |stamp| stamp.len),
+        files.stamp(path) == stamp,
+    )
+}
+
+#[test]
+fn regular_files_of_the_host_have_a_stamp(rt: HostRuntime) -> Result<(), Fail> {
+    let name = format!(in rt.alloc(); "addr2line-{}-stamp", process::id(rt.process()))?;
+    let path = env::temp_dir(&rt)?.join(rt.alloc(), name.as_str())?;
+    fs::write(&rt, path.as_path(), b"ab")?;
+    let before = HostFiles::new(rt).stamp(path.to_str().unwrap_or(""));
+    let two = stamp_of(rt, path.to_str().unwrap_or(""));
+    fs::write(&rt, path.as_path(), b"abc")?;
+    let after = HostFiles::new(rt).stamp(path.to_str().unwrap_or(""));
+    fs::remove_file(&rt, path.as_path())?;
+    let gone = stamp_of(rt, path.to_str().unwrap_or(""));
+    let others = [stamp_of(rt, "/"), stamp_of(rt, "/dev/zero"), gone];
+    assert_eq!(rt; (two, before == after), ((2, true), false));
+    assert_eq!(rt; others, [(9, true); 3]);
     Ok(())
 }

@@ -1,0 +1,36 @@
+-- Files that are kept by their paths (on specs/KeptFiles.antt).
+use Rattle.std.proofs.Common.{◌≡◌, ℕ, Bool, true, Option, Some, sym, ap, option_map, ◌∙◌}
+use Rattle.std.specs.Bool.{Decides}
+use Rattle.std.proofs.lemmas.Bool.Decides.{Decides-and, Decides-eqb, Decides-int_eq}
+use Rattle.elf.specs.ObjectFile.{ObjectFile}
+use Rattle.addr2line.specs.contracts.files.FileStampPartialEq.TheImpl as stamp_eq
+use Rattle.addr2line.specs.contracts.files.FileTimePartialEq.TheImpl as time_eq
+use Rattle.addr2line.specs.declared.files.FileStamp.{FileStamp}
+use Rattle.addr2line.specs.declared.files.FileTime.{FileTime}
+use Rattle.addr2line.specs.declared.kept_files.KeptFile.{KeptFile}
+
+-- a test decides whether it is true
+itself : (b : Bool) → Decides b (b ≡ true)
+itself b = ((λ e. e), λ e. e)
+
+same_time : (a b : FileTime) → time_eq.ghosts.eq a b ≡ true → a ≡ b
+same_time a b h =
+    let p = (Decides-and _ _ (Decides-int_eq a.seconds b.seconds) (Decides-int_eq a.nanoseconds b.nanoseconds)).0 h in
+    ap (λ s. record { seconds = s; nanoseconds = a.nanoseconds }) p.0 ∙ ap (λ n. record { seconds = b.seconds; nanoseconds = n }) p.1
+
+-- stamps that are found equal are the same
+pub same_stamp : (a b : FileStamp) → stamp_eq.ghosts.eq a b ≡ true → a ≡ b
+same_stamp a b h =
+    let p = (Decides-and _ _ (Decides-eqb a.device b.device) (Decides-and _ _ (Decides-eqb a.inode b.inode) (Decides-and _ _ (Decides-eqb a.len b.len) (Decides-and _ _ (itself (time_eq.ghosts.eq a.modified b.modified)) (itself (time_eq.ghosts.eq a.changed b.changed)))))).0 h in
+    ap (λ (d : ℕ). record { device = d; inode = a.inode; len = a.len; modified = a.modified; changed = a.changed }) p.0
+    ∙ ap (λ (i : ℕ). record { device = b.device; inode = i; len = a.len; modified = a.modified; changed = a.changed }) p.1.0
+    ∙ ap (λ (l : ℕ). record { device = b.device; inode = b.inode; len = l; modified = a.modified; changed = a.changed }) p.1.1.0
+    ∙ ap (λ (t : FileTime). record { device = b.device; inode = b.inode; len = b.len; modified = t; changed = a.changed }) (same_time a.modified b.modified p.1.1.1.0)
+    ∙ ap (λ (t : FileTime). record { device = b.device; inode = b.inode; len = b.len; modified = b.modified; changed = t }) (same_time a.changed b.changed p.1.1.1.1)
+
+-- a file that is kept with a stamp is the one that is kept with it
+pub found_with : (kept : Option KeptFile) (found : KeptFile) (stamp : FileStamp) → Some found ≡ kept → found.stamp ≡ stamp → (object : ObjectFile) → (Some found.object ≡ Some object → kept ≡ Some (record { stamp = stamp; object = object })) × (kept ≡ Some (record { stamp = stamp; object = object }) → Some found.object ≡ Some object)
+found_with kept found stamp is same object = (
+  (λ p. sym is ∙ ap (λ s. Some (record { stamp = s; object = found.object })) same ∙ ap (λ o. option_map (λ (x : ObjectFile). record { stamp = stamp; object = x }) o) p),
+  λ q. ap (λ o. option_map (λ (k : KeptFile). k.object) o) (is ∙ q),
+)

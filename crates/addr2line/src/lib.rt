@@ -19,6 +19,7 @@ mod session;
 mod skips;
 mod split_files;
 mod stops;
+mod suspended;
 mod units;
 
 pub use crate::compressed::CompressedSections;

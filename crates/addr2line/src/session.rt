@@ -88,9 +88,7 @@ fn share_given<R: Reader>(answer: &Answer<R>) -> Result<Option<Option<Rc<Dwarf<R
 }
 
 // The reply of a lookup that is given up at its load.
-fn suspended_reply<R: Reader, K: LookupKind>(
-    next: Suspended<'_, R, K, SplitDwarfLoad<R>>,
-) -> Reply
+fn suspended_reply<R: Reader, K: LookupKind>(next: Suspended<'_, R, K, SplitDwarfLoad<R>>) -> Reply
     ensures gives { seen_reply result ≡ SuspendedAt next.entry.load.unit }
     ensures kept { next.exit.0.now ≡ next.entry.ctx.now }
 {

@@ -45,8 +45,10 @@ returns-in-Output-resume g c =
     let left = answered l.ctx.now.sections l.ctx.now.answers l.number x in
     let o = c.in-Output-resume.frames in
     let out = subst (λ s. ExactlyUnlessOom (λ j. Some (frames_left j)) o (frames_of s left p)) inv.so.sections (subst (λ q. ExactlyUnlessOom (λ j. Some (frames_left j)) o (frames_of l.ctx.now.sections left q)) inv.probe c.in-Output-resume.ensures.output) in
-    record { made = ends_resumed End p first (map seen_given c.args.answers.now) i l.number l.ctx.now inv.so x one g.R.Reader.shares (frames_replied first.sections p) c.resume.result o c.in-Output-resume.is l.probe inv.probe _ c.resume.follows.lender-at-none (search rules) c.resume.follows.holds-at-none
-      c.frames_reply-in-Output-resume.result (e.gives (lookup_stop End first.sections left p) out) e.told e.refused }
+    record {
+      made = ends_resumed End p first (map seen_given c.args.answers.now) i l.number l.ctx.now inv.so x one g.R.Reader.shares (frames_replied first.sections p) c.resume.result o c.in-Output-resume.is l.probe inv.probe _ c.resume.follows.lender-at-none (search rules) c.resume.follows.holds-at-none
+          c.frames_reply-in-Output-resume.result (e.gives (lookup_stop End first.sections left p) out) e.told e.refused;
+    }
 
 pub returns-in-Ok-None : goal.returns-in-Ok-None
 returns-in-Ok-None g c =
@@ -93,5 +95,7 @@ returns g c =
     let inv = c.loop-answer.invariant in
     let all = map seen_given c.args.answers.now in
     let past : length c.args.answers.now ≤ i = (search rules) in
-    record { made = is_left End c.args.probe first all i l.number l.ctx.now inv.so (frames_replied first.sections c.args.probe) (λ w. ap reply_of_frames w) l.load.unit inv.token c.suspended_reply-2.result c.suspended_reply-2.ensures.gives _ (search rules)
-      (left_at_end End c.args.probe first all i l.number l.ctx.now inv.so (subst (λ n. n ≤ i) (sym (length-map c.args.answers.now seen_given)) past)) }
+    record {
+      made = is_left End c.args.probe first all i l.number l.ctx.now inv.so (frames_replied first.sections c.args.probe) (λ w. ap reply_of_frames w) l.load.unit inv.token c.suspended_reply-2.result c.suspended_reply-2.ensures.gives _ (search rules)
+          (left_at_end End c.args.probe first all i l.number l.ctx.now inv.so (subst (λ n. n ≤ i) (sym (length-map c.args.answers.now seen_given)) past));
+    }

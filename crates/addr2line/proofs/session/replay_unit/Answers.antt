@@ -45,8 +45,10 @@ returns-in-Output-resume g c =
     let left = answered l.ctx.now.sections l.ctx.now.answers l.number x in
     let o = c.in-Output-resume.unit in
     let out = subst (λ s. ExactlyUnlessOom seen_found o (unit_of s left p)) inv.so.sections (subst (λ q. ExactlyUnlessOom seen_found o (unit_of l.ctx.now.sections left q)) inv.probe c.in-Output-resume.ensures.output) in
-    record { made = ends_resumed PassOver p first (map seen_given c.args.answers.now) i l.number l.ctx.now inv.so x one g.R.Reader.shares (unit_replied first.sections p) c.resume.result o c.in-Output-resume.is l.probe inv.probe _ c.resume.follows.lender-at-none (search rules) c.resume.follows.holds-at-none
-      c.unit_reply-in-Output-resume.result (e.gives (lookup_stop PassOver first.sections left p) (unit_of first.sections left p) out (unit_waiting first.sections left p)) e.told e.refused }
+    record {
+      made = ends_resumed PassOver p first (map seen_given c.args.answers.now) i l.number l.ctx.now inv.so x one g.R.Reader.shares (unit_replied first.sections p) c.resume.result o c.in-Output-resume.is l.probe inv.probe _ c.resume.follows.lender-at-none (search rules) c.resume.follows.holds-at-none
+          c.unit_reply-in-Output-resume.result (e.gives (lookup_stop PassOver first.sections left p) (unit_of first.sections left p) out (unit_waiting first.sections left p)) e.told e.refused;
+    }
 
 pub returns-in-Ok-None : goal.returns-in-Ok-None
 returns-in-Ok-None g c =
@@ -93,5 +95,7 @@ returns g c =
     let inv = c.loop-answer.invariant in
     let all = map seen_given c.args.answers.now in
     let past : length c.args.answers.now ≤ i = (search rules) in
-    record { made = is_left PassOver c.args.probe first all i l.number l.ctx.now inv.so (unit_replied first.sections c.args.probe) (λ w. ap (λ r. reply_of_unit r (unit_of first.sections l.ctx.now.answers c.args.probe)) w) l.load.unit inv.token c.suspended_reply-2.result c.suspended_reply-2.ensures.gives _ (search rules)
-      (left_at_end PassOver c.args.probe first all i l.number l.ctx.now inv.so (subst (λ n. n ≤ i) (sym (length-map c.args.answers.now seen_given)) past)) }
+    record {
+      made = is_left PassOver c.args.probe first all i l.number l.ctx.now inv.so (unit_replied first.sections c.args.probe) (λ w. ap (λ r. reply_of_unit r (unit_of first.sections l.ctx.now.answers c.args.probe)) w) l.load.unit inv.token c.suspended_reply-2.result c.suspended_reply-2.ensures.gives _ (search rules)
+          (left_at_end PassOver c.args.probe first all i l.number l.ctx.now inv.so (subst (λ n. n ≤ i) (sym (length-map c.args.answers.now seen_given)) past));
+    }

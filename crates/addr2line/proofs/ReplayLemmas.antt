@@ -1,6 +1,6 @@
 -- What recorded lookups are given, answer by answer, and the replies that they come to (on
 -- specs/History.antt).
-use Rattle.std.proofs.Common.{◌≡◌, inl, inr, ℕ, ◌+◌, ◌≤◌, Bool, true, false, List, ◌∷◌, ◌++◌, length, slice_get, take, Option, Some, None, option_map, Result, Ok, Err, refl, sym, ap, subst, ◌∙◌}
+use Rattle.std.proofs.Common.{◌≡◌, inl, inr, ℕ, ◌+◌, ◌<◌, ◌≤◌, Bool, true, false, List, ◌∷◌, ◌++◌, drop, get_or, length, map, slice_get, take, Option, Some, None, option_map, Result, Ok, Err, refl, sym, ap, subst, ◌∙◌}
 use Rattle.std.proofs.lemmas.List.{take_all}
 use Rattle.std.specs.Prelude.{IfErr, IfOk, OnOk}
 use Rattle.gimli_read.specs.declared.error.Error.{Error}
@@ -21,13 +21,15 @@ use Rattle.addr2line_units.specs.Suspended.{IfOutput}
 use Rattle.addr2line_units.specs.UnitIndex.{UnitIndex, index_units}
 use Rattle.addr2line_units.specs.RangedUnits.{unit_records}
 use Rattle.addr2line_units.specs.Views.{FirstAnswers, SplitLoad, load_by, load_of_unit, split_name_of}
-use Rattle.addr2line.proofs.HistoryLemmas.{HasGiven, given_all, given_last, given_more, given_up, resumed_answers, resumed_begun, resumed_parsed, resumed_sections}
+use Rattle.addr2line.proofs.HistoryLemmas.{HasGiven, given_all, given_ended, given_last, given_more, given_up, resumed_answers, resumed_begun, resumed_parsed, resumed_sections, take_drop_one, take_then}
 use Rattle.addr2line.specs.Answers.{AfterResume, SuspendsAgain, answered}
 use Rattle.addr2line.specs.Context.{ContextState}
 use Rattle.addr2line.specs.History.{Given, Answered, Abandoned, Leaves, answers_given}
 use Rattle.addr2line.specs.AfterLookups.{AfterFramesOver, Suspends}
 use Rattle.addr2line.specs.Lookups.{IsLoadOf, lookup_stop, stop_in, unit_of, unit_told}
 use Rattle.addr2line.specs.Replies.{CopiedReply, SuspendedAt}
+use Rattle.addr2line.specs.SeenReplies.{seen_reply}
+use Rattle.addr2line.specs.declared.reply.Reply.{Reply}
 
 -- the load of a unit has its number
 load_number : (d : Sections) (n : ℕ) (u : UnitRecord) (l : SplitLoad) → load_of_unit d n u ≡ Ok (Some l) → l.unit ≡ n
@@ -61,6 +63,14 @@ load_token faults d answers probe n l w own = by (index_units d) refl
 of_output : {L O D S : Type 0} (result : LookupResult L O D S) (o : O) (P : O → Type 0) → result ≡ Output o → IfOutput result P → P o
 of_output result o P e h = subst (λ r. IfOutput r P) e h
 
+-- this answer comes next of all
+pub record IsNext (all : List Given) (i : ℕ) (x : Given) : Type 0 where
+  pub whole : take i all ++ (x ∷ drop (i + 1) all) ≡ all
+  pub more : (rest : List Given) → take (i + 1) all ++ rest ≡ take i all ++ (x ∷ rest)
+
+pub next_of : {A : Type 0} (see : A → Given) (xs : List A) (i : ℕ) (a : A) → i < length xs → a ≡ get_or xs i a → (x : Given) → x ≡ see a → IsNext (map see xs) i x
+next_of see xs i a h e x given = subst (IsNext (map see xs) i) (sym given) (record { whole = take_drop_one see xs i a h e; more = take_then see xs i a h e })
+
 -- a lookup was given so many answers, and waits for the unit of a number
 pub record HasAnswered (faults : OnFault) (probe : ℕ) (first : ContextState) (all : List Given) (i number : ℕ) (now : ContextState) : Type 0 where
   pub sections : now.sections ≡ first.sections
@@ -78,6 +88,30 @@ module _ (faults : OnFault) (probe : ℕ) (first : ContextState) (all : List Giv
     parsed = s.after.parsed;
   }
 
+  -- the first answers once all were given
+  abbrev all_given : FirstAnswers
+  all_given = answers_given faults first.sections probe first.answers all
+
+  -- those once the first of them were
+  abbrev SomeGiven : FirstAnswers → Type 0
+  SomeGiven answers = (n : ℕ) × (answers ≡ answers_given faults first.sections probe first.answers (take n all))
+
+  -- what a lookup replies by the first answers that it leaves, and what it leaves
+  abbrev Replies : (FirstAnswers → CopiedReply) → Result Reply Error → ContextState → Type 0
+  Replies replied r new = IfOk r (λ y. seen_reply y ≡ replied all_given) × Leaves all_given SomeGiven r first new
+
+  replies_by : {ended told : Type 0} (replied : FirstAnswers → CopiedReply) (left : FirstAnswers) (r : Result Reply Error) (new : ContextState) → IfOk r (λ y. (seen_reply y ≡ replied left) × ended) → (ended → all_given ≡ left)
+      → OnOk r told → (told → new.answers ≡ left) → IfErr r (λ e. e ≡ OutOfMemory) → SomeGiven new.answers → new.sections ≡ first.sections → StaysParsed first.parsed new.parsed → Replies replied r new
+  replies_by replied left (Ok y) new h all_left t answers oom some d p =
+      (h.0 ∙ ap replied (sym (all_left h.1)), record { sections = d; answers = answers t ∙ sym (all_left h.1); refused = tt; parsed = p })
+  replies_by replied left (Err e) new h all_left t answers oom some d p = (tt, record { sections = d; answers = tt; refused = (oom, some); parsed = p })
+
+  -- it has ended at once
+  pub ends_at_once : {X : Type 0} (shares : Bool) (replied : FirstAnswers → CopiedReply) (o : Result X Error) (new : ContextState) → AfterFramesOver shares faults probe o first new → (r : Result Reply Error)
+      → IfOk r (λ y. (seen_reply y ≡ replied first.answers) × (is_waiting (lookup_stop faults first.sections first.answers probe) ≡ false)) → OnOk r (WasNotRefused o) → IfErr r (λ e. e ≡ OutOfMemory) → Replies replied r new
+  ends_at_once shares replied o new a r h told oom =
+      replies_by replied first.answers r new h (λ w. given_ended faults first.sections probe first.answers all w) told (λ t. a.after.answers) oom (0, a.after.answers) a.after.sections a.after.parsed
+
   module _ (i number : ℕ) (now : ContextState) (so : HasAnswered faults probe first all i number now) where
     own_waits : lookup_stop faults first.sections now.answers probe ≡ Ok (Waits number)
     own_waits = ap (λ d. lookup_stop faults d now.answers probe) (sym so.sections) ∙ so.waits
@@ -86,119 +120,80 @@ module _ (faults : OnFault) (probe : ℕ) (first : ContextState) (all : List Giv
     own_answered x = ap (λ d. answered d now.answers number x) so.sections
 
     -- it waits again
-    pub goes_on : (x : Option Sections) → ((rest : List Given) → take (i + 1) all ++ rest ≡ take i all ++ (Answered x ∷ rest)) → (next : ℕ) (load : SplitLoad) (new : ContextState)
-        → SuspendsAgain faults probe number x next load now new → HasAnswered faults probe first all (i + 1) next new
-    goes_on x more next load new (mid, a, s) = record {
+    pub goes_on : (x : Option Sections) → IsNext all i (Answered x) → (next : ℕ) (load : SplitLoad) (new : ContextState) → SuspendsAgain faults probe number x next load now new → HasAnswered faults probe first all (i + 1) next new
+    goes_on x one next load new (mid, a, s) = record {
       sections = s.after.sections ∙ a.sections ∙ so.sections;
       given = subst (λ y. HasGiven faults first.sections probe first.answers (take (i + 1) all) y) (sym (s.after.answers ∙ a.answers ∙ own_answered x))
-          (given_more faults first.sections probe first.answers now.answers (take i all) so.given number x own_waits (take (i + 1) all) more);
+          (given_more faults first.sections probe first.answers now.answers (take i all) so.given number x own_waits (take (i + 1) all) one.more);
       waits = ap (λ d. lookup_stop faults d new.answers probe) s.after.sections ∙ ap (λ y. lookup_stop faults mid.sections y probe) s.after.answers ∙ s.waits;
       parsed = λ k e. s.after.parsed k (subst (λ p. has_parsed p k ≡ true) (sym a.parsed) (so.parsed k e));
     }
 
-    -- it has ended after one more answer
-    pub ended_by : (x : Option Sections) (rest : List Given) → take i all ++ (Answered x ∷ rest) ≡ all → is_waiting (lookup_stop faults first.sections (answered now.sections now.answers number x) probe) ≡ false
-        → answers_given faults first.sections probe first.answers all ≡ answered now.sections now.answers number x
-    ended_by x rest whole ended =
-        given_last faults first.sections probe first.answers now.answers (take i all) so.given number x own_waits rest all whole
-        (subst (λ y. is_waiting (lookup_stop faults first.sections y probe) ≡ false) (own_answered x) ended)
-        ∙ sym (own_answered x)
-
-    -- it is given up, or no answer is left
-    pub left_by : (rest : List Given) → take i all ++ (Abandoned ∷ rest) ≡ all → answers_given faults first.sections probe first.answers all ≡ now.answers
-    left_by rest whole = given_up faults first.sections probe first.answers now.answers (take i all) so.given rest all whole
-
-    pub left_at_end : length all ≤ i → answers_given faults first.sections probe first.answers all ≡ now.answers
-    left_at_end h = ap (answers_given faults first.sections probe first.answers) (sym (take_all i all h)) ∙ given_all faults first.sections probe first.answers now.answers (take i all) so.given
-
     -- a beginning of the answers was given
-    pub begun_so : (new : ContextState) → new.answers ≡ now.answers → (n : ℕ) × (new.answers ≡ answers_given faults first.sections probe first.answers (take n all))
+    begun_so : (new : ContextState) → new.answers ≡ now.answers → SomeGiven new.answers
     begun_so new e = (i, e ∙ sym (given_all faults first.sections probe first.answers now.answers (take i all) so.given))
 
-    pub begun_more : {X : Type 0} (shares : Bool) (x : Option Sections) → ((rest : List Given) → take (i + 1) all ++ rest ≡ take i all ++ (Answered x ∷ rest)) → (o : Result X Error) (new : ContextState) → AfterResume shares faults probe number x o now new
-        → (n : ℕ) × (new.answers ≡ answers_given faults first.sections probe first.answers (take n all))
-    begun_more shares x more o new after = elim (resumed_begun shares faults probe number x o now new after) [
-      | inl e ↦ begun_so new e
-      | inr e ↦ (
-        i + 1,
-        e ∙ own_answered x ∙ sym (given_all faults first.sections probe first.answers (answered first.sections now.answers number x) (take (i + 1) all)
-            (given_more faults first.sections probe first.answers now.answers (take i all) so.given number x own_waits (take (i + 1) all) more)),
-      )
-    ]
+    -- it is given up, or has no answer left
+    pub left_by : IsNext all i Abandoned → all_given ≡ now.answers
+    left_by one = given_up faults first.sections probe first.answers now.answers (take i all) so.given (drop (i + 1) all) all one.whole
 
-    -- what it replies that waits for its unit
-    pub suspended_by : (replied : FirstAnswers → CopiedReply) → (lookup_stop faults first.sections now.answers probe ≡ Ok (Waits number) → replied now.answers ≡ SuspendedAt number)
-        → (token : ℕ) → token ≡ number → answers_given faults first.sections probe first.answers all ≡ now.answers → SuspendedAt token ≡ replied (answers_given faults first.sections probe first.answers all)
-    suspended_by replied told token e left = ap (λ n. SuspendedAt n) e ∙ sym (told own_waits) ∙ ap replied (sym left)
+    pub left_at_end : length all ≤ i → all_given ≡ now.answers
+    left_at_end h = ap (answers_given faults first.sections probe first.answers) (sym (take_all i all h)) ∙ given_all faults first.sections probe first.answers now.answers (take i all) so.given
 
-    abbrev all_given : FirstAnswers
-    all_given = answers_given faults first.sections probe first.answers all
-
-    abbrev SomeGiven : FirstAnswers → Type 0
-    SomeGiven answers = (n : ℕ) × (answers ≡ answers_given faults first.sections probe first.answers (take n all))
-
-    -- what it leaves that is given up, or has no answer left
-    pub left_leaves : {Y : Type 0} (y : Y) (new : ContextState) → new ≡ now → all_given ≡ now.answers → Leaves {X = Y} all_given SomeGiven (Ok y) first new
-    left_leaves y new e left = record {
-      sections = ap (λ (s : ContextState). s.sections) e ∙ so.sections;
-      answers = ap (λ (s : ContextState). s.answers) e ∙ sym left;
-      refused = tt;
-      parsed = subst (λ (s : ContextState). StaysParsed first.parsed s.parsed) (sym e) so.parsed;
-    }
+    pub is_left : (replied : FirstAnswers → CopiedReply) → (lookup_stop faults first.sections now.answers probe ≡ Ok (Waits number) → replied now.answers ≡ SuspendedAt number)
+        → (token : ℕ) → token ≡ number → (y : Reply) → seen_reply y ≡ SuspendedAt token → (new : ContextState) → new ≡ now → all_given ≡ now.answers → Replies replied (Ok y) new
+    is_left replied told token own y is new e left = (
+      is ∙ ap (λ n. SuspendedAt n) own ∙ sym (told own_waits) ∙ ap replied (sym left),
+      record {
+        sections = ap (λ (s : ContextState). s.sections) e ∙ so.sections;
+        answers = ap (λ (s : ContextState). s.answers) e ∙ sym left;
+        refused = tt;
+        parsed = subst (λ (s : ContextState). StaysParsed first.parsed s.parsed) (sym e) so.parsed;
+      },
+    )
 
     -- an answer could not be shared
-    pub refused_leaves : {Y : Type 0} (f : Error) (new : ContextState) → new ≡ now → f ≡ OutOfMemory → Leaves {X = Y} all_given SomeGiven (Err f) first new
-    refused_leaves f new e oom = record {
-      sections = ap (λ (s : ContextState). s.sections) e ∙ so.sections;
-      answers = tt;
-      refused = (oom, begun_so new (ap (λ (s : ContextState). s.answers) e));
-      parsed = subst (λ (s : ContextState). StaysParsed first.parsed s.parsed) (sym e) so.parsed;
-    }
+    pub is_refused : (replied : FirstAnswers → CopiedReply) (f : Error) (new : ContextState) → new ≡ now → f ≡ OutOfMemory → Replies replied (Err f) new
+    is_refused replied f new e oom = (
+      tt,
+      record {
+        sections = ap (λ (s : ContextState). s.sections) e ∙ so.sections;
+        answers = tt;
+        refused = (oom, begun_so new (ap (λ (s : ContextState). s.answers) e));
+        parsed = subst (λ (s : ContextState). StaysParsed first.parsed s.parsed) (sym e) so.parsed;
+      },
+    )
 
     -- it has ended with an answer
-    pub resumed_leaves : {L D S X Y ended : Type 0} (shares : Bool) (result : LookupResult L (Result X Error) D S) (x : Option Sections) → ((rest : List Given) → take (i + 1) all ++ rest ≡ take i all ++ (Answered x ∷ rest)) → (o : Result X Error) (new : ContextState) (asked : ℕ) → asked ≡ probe → result ≡ Output o → (lender : ContextState) → new ≡ lender → IfOutput result (λ p. AfterResume shares faults asked number x p now lender) → (r : Result Y Error)
-        → (P : Y → Type 0) → IfOk r (λ y. P y × ended) → (ended → all_given ≡ answered now.sections now.answers number x) → OnOk r (WasNotRefused o) → IfErr r (λ e. e ≡ OutOfMemory) → Leaves all_given SomeGiven r first new
-    resumed_leaves {ended = ended} shares result x more o new asked same_probe is lender ends rests r P h same told oom = record {
-      sections = resumed_sections shares faults asked number x o now new after ∙ so.sections;
-      answers = of_ok r P h told;
-      refused = of_err r oom;
-      parsed = λ k e. resumed_parsed shares faults asked number x o now new after k (so.parsed k e);
-    }
-      where
-        after : AfterResume shares faults asked number x o now new
-        after = subst (λ s. AfterResume shares faults asked number x o now s) (sym ends) (of_output result o (λ p. AfterResume shares faults asked number x p now lender) is rests)
+    module _ (x : Option Sections) (one : IsNext all i (Answered x)) where
+      abbrev left : FirstAnswers
+      left = answered now.sections now.answers number x
 
-        of_ok : {Y : Type 0} (r : Result Y Error) (P : Y → Type 0) → IfOk r (λ y. P y × ended) → OnOk r (WasNotRefused o) → OnOk r (new.answers ≡ all_given)
-        of_ok (Err e) P h t = tt
-        of_ok (Ok y) P h t = resumed_answers shares faults asked number x o now new after t ∙ sym (same h.1)
+      ended_by : is_waiting (lookup_stop faults first.sections left probe) ≡ false → all_given ≡ left
+      ended_by ended =
+          given_last faults first.sections probe first.answers now.answers (take i all) so.given number x own_waits (drop (i + 1) all) all one.whole
+          (subst (λ y. is_waiting (lookup_stop faults first.sections y probe) ≡ false) (own_answered x) ended)
+          ∙ sym (own_answered x)
 
-        of_err : {Y : Type 0} (r : Result Y Error) → IfErr r (λ e. e ≡ OutOfMemory) → IfErr r (λ e. (e ≡ OutOfMemory) × SomeGiven new.answers)
-        of_err (Ok y) k = tt
-        of_err (Err e) k = (k, begun_more shares x more o new (subst (λ q. AfterResume shares faults q number x o now new) same_probe after))
+      begun_more : {X : Type 0} (shares : Bool) (o : Result X Error) (new : ContextState) → AfterResume shares faults probe number x o now new → SomeGiven new.answers
+      begun_more shares o new after = elim (resumed_begun shares faults probe number x o now new after) [
+        | inl e ↦ begun_so new e
+        | inr e ↦ (
+          i + 1,
+          e ∙ own_answered x ∙ sym (given_all faults first.sections probe first.answers (answered first.sections now.answers number x) (take (i + 1) all)
+              (given_more faults first.sections probe first.answers now.answers (take i all) so.given number x own_waits (take (i + 1) all) one.more)),
+        )
+      ]
 
--- the reply of a lookup by the first answers that it leaves
-pub reply_by : {R ended : Type 0} (seen : R → CopiedReply) (replied : FirstAnswers → CopiedReply) (r : Result R Error) (left all : FirstAnswers) → IfOk r (λ x. (seen x ≡ replied left) × ended) → (ended → all ≡ left) → IfOk r (λ x. seen x ≡ replied all)
-reply_by seen replied (Err e) left all h same = tt
-reply_by seen replied (Ok x) left all h same = h.0 ∙ ap replied (sym (same h.1))
-
--- what a lookup leaves that has ended at once
-pub looked_leaves : {X Y ended : Type 0} (shares : Bool) (faults : OnFault) (probe : ℕ) (given : List Given) (o : Result X Error) (old new : ContextState) → AfterFramesOver shares faults probe o old new → (r : Result Y Error) (P : Y → Type 0)
-    → IfOk r (λ y. P y × ended) → (ended → answers_given faults old.sections probe old.answers given ≡ old.answers) → IfErr r (λ e. e ≡ OutOfMemory)
-    → Leaves (answers_given faults old.sections probe old.answers given) (λ answers. (n : ℕ) × (answers ≡ answers_given faults old.sections probe old.answers (take n given))) r old new
-looked_leaves {ended = ended} shares faults probe given o old new a r P h same oom = record {
-  sections = a.after.sections;
-  answers = of_ok r P h;
-  refused = of_err r oom;
-  parsed = a.after.parsed;
-}
-  where
-    of_ok : {Y : Type 0} (r : Result Y Error) (P : Y → Type 0) → IfOk r (λ y. P y × ended) → OnOk r (new.answers ≡ answers_given faults old.sections probe old.answers given)
-    of_ok (Err e) P h = tt
-    of_ok (Ok y) P h = a.after.answers ∙ sym (same h.1)
-
-    of_err : {Y : Type 0} (r : Result Y Error) → IfErr r (λ e. e ≡ OutOfMemory) → IfErr r (λ e. (e ≡ OutOfMemory) × ((n : ℕ) × (new.answers ≡ answers_given faults old.sections probe old.answers (take n given))))
-    of_err (Ok y) k = tt
-    of_err (Err e) k = (k, (0, a.after.answers))
+      pub ends_resumed : {L D S X : Type 0} (shares : Bool) (replied : FirstAnswers → CopiedReply) (result : LookupResult L (Result X Error) D S) (o : Result X Error) → result ≡ Output o → (asked : ℕ) → asked ≡ probe → (new lender : ContextState) → new ≡ lender
+          → IfOutput result (λ q. AfterResume shares faults asked number x q now lender) → (r : Result Reply Error) → IfOk r (λ y. (seen_reply y ≡ replied (answered now.sections now.answers number x)) × (is_waiting (lookup_stop faults first.sections (answered now.sections now.answers number x) probe) ≡ false))
+          → OnOk r (WasNotRefused o) → IfErr r (λ e. e ≡ OutOfMemory) → Replies replied r new
+      ends_resumed shares replied result o is asked same new lender ends rests r h told oom =
+          replies_by replied left r new h ended_by told (resumed_answers shares faults probe number x o now new after) oom (begun_more shares o new after)
+          (resumed_sections shares faults probe number x o now new after ∙ so.sections) (λ k e. resumed_parsed shares faults probe number x o now new after k (so.parsed k e))
+        where
+          after : AfterResume shares faults probe number x o now new
+          after = subst (λ q. AfterResume shares faults q number x o now new) same (subst (λ s. AfterResume shares faults asked number x o now s) (sym ends) (of_output result o (λ p. AfterResume shares faults asked number x p now lender) is rests))
 
 -- a lookup of a unit that waits has found none
 pub unit_waiting : (d : Sections) (answers : FirstAnswers) (probe : ℕ) → is_waiting (lookup_stop PassOver d answers probe) ≡ true → unit_of d answers probe ≡ Ok None

@@ -1,5 +1,5 @@
 -- Lookups of an address that no unit covers (on specs/Context.antt and specs/AfterLookups.antt).
-use Rattle.std.proofs.Common.{◌≡◌, ℕ, true, false, [], Result, Ok, Err, is_ok, ap, refl, subst, sym, ◌∙◌}
+use Rattle.std.proofs.Common.{◌≡◌, ℕ, Bool, true, false, [], Result, Ok, Err, is_ok, ap, refl, subst, sym, ◌∙◌}
 use Rattle.gimli_read.specs.declared.error.Error.{Error}
 use Rattle.gimli_read.specs.Alike.{WasNotRefused}
 use Rattle.gimli_read.specs.Reading.{◌>>=◌, ExactlyUnlessOom}
@@ -12,7 +12,7 @@ use Rattle.addr2line_units.specs.FramesLookup.{FindsNothing, Waits, holds_along,
 use Rattle.addr2line_units.specs.Suspended.{IfLoad, IfOutput, IsOkOutput}
 use Rattle.addr2line_units.specs.UnitIndex.{UnitIndex, index_units}
 use Rattle.addr2line_units.proofs.NewUnitsLemmas.{ok_is}
-use Rattle.addr2line.specs.AfterLookups.{AfterFrames, IsKnownFew, has_few_of}
+use Rattle.addr2line.specs.AfterLookups.{AfterFrames, AfterFramesOver, IsKnownFew, has_few_of}
 use Rattle.addr2line.specs.Context.{ContextState, IsUncovered}
 use Rattle.addr2line.specs.Lookups.{asked_of, frames_of, frames_of_stop, lookup_stop, stop_in, unit_of, unit_told}
 
@@ -38,14 +38,14 @@ module _ (faults : OnFault) (probe : ℕ) (c : ContextState) (u : IsUncovered c 
       a.memory (uncovered_few faults probe new (still_uncovered probe new c (sym a.sections) u)) (ap is_waiting uncovered_stop)
 
   -- and it ends without a fault
-  pub uncovered_ends : {L V X D S : Type 0} (see : X → V) (given : Result V Error) → is_ok given ≡ true → (new : ContextState) (result : LookupResult L (Result X Error) D S)
-      → IfLoad result (λ _. (n : ℕ) × (lookup_stop faults c.sections c.answers probe ≡ Ok (Waits n))) → IfOutput result (λ o. AfterFrames faults probe o c new) → IfOutput result (λ o. ExactlyUnlessOom see o given) → IsOkOutput result
-  uncovered_ends see given ok new (Load x) load after output =
+  pub uncovered_ends : {L V X D S : Type 0} (shares : Bool) (see : X → V) (given : Result V Error) → is_ok given ≡ true → (new : ContextState) (result : LookupResult L (Result X Error) D S)
+      → IfLoad result (λ _. (n : ℕ) × (lookup_stop faults c.sections c.answers probe ≡ Ok (Waits n))) → IfOutput result (λ o. AfterFramesOver shares faults probe o c new) → IfOutput result (λ o. ExactlyUnlessOom see o given) → IsOkOutput result
+  uncovered_ends shares see given ok new (Load x) load after output =
       let f : true ≡ false = sym (ap is_waiting load.1) ∙ ap is_waiting uncovered_stop in
       absurd cc
-  uncovered_ends see given ok new (Output (Ok x)) load after output = refl
-  uncovered_ends see given ok new (Output (Err e)) load after output =
-      let f : false ≡ true = sym (ap is_ok (output (uncovered_told (Err e) new after))) ∙ ok in
+  uncovered_ends shares see given ok new (Output (Ok x)) load after output = refl
+  uncovered_ends shares see given ok new (Output (Err e)) load after output =
+      let f : false ≡ true = sym (ap is_ok (output (uncovered_told (Err e) new after.after))) ∙ ok in
       absurd cc
 
 -- what it gives there

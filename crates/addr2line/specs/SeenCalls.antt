@@ -1,13 +1,17 @@
 -- Recorded calls and answers, as contracts see them.
-use Rattle.std.specs.Prelude.{map, Option, Some, None, option_map}
+use Rattle.std.specs.Prelude.{◌≡◌, map, Option, Some, None, option_map, IfOk, Result}
+use Rattle.gimli_read.specs.declared.error.Error.{Error}
 use Rattle.gimli.specs.Sections.{Sections}
 use Rattle.addr2line_units.specs.declared.parses.ReadingDepth.TheVariants.{Details, Functions}
 use Rattle.addr2line_units.specs.Loads.{token_number}
+use Rattle.addr2line.specs.declared.reply.Reply.{Reply}
 use Rattle.addr2line.specs.declared.session.Answer.{Answer}
 use Rattle.addr2line.specs.declared.session.Answer.TheVariants.{Give, Abandon}
 use Rattle.addr2line.specs.declared.session.Call.{Call}
 use Rattle.addr2line.specs.declared.session.Call.TheVariants as calls
-use Rattle.addr2line.specs.History.{Given, Answered, Abandoned, HistoryCall, AsksLocation, AsksRange, AsksFrames, AsksUnit, AsksLoads, AnswersLoad, Forgets, ParsesLines, ParsesFunctions}
+use Rattle.addr2line.specs.Context.{ContextState}
+use Rattle.addr2line.specs.History.{AfterCall, Given, Answered, Abandoned, HistoryCall, AsksLocation, AsksRange, AsksFrames, AsksUnit, AsksLoads, AnswersLoad, Forgets, ParsesLines, ParsesFunctions, reply_to}
+use Rattle.addr2line.specs.SeenReplies.{seen_reply}
 
 -- what is given: sections or none, or nothing where a lookup is given up
 abbrev pub given_by : Option (Option Sections) → Given
@@ -32,3 +36,9 @@ seen_call (calls.Forget unit) = Forgets (token_number unit)
 seen_call calls.ParseLines = ParsesLines
 seen_call calls.ParseFunctions = ParsesFunctions Functions
 seen_call calls.ParseInlinedFunctions = ParsesFunctions Details
+
+-- a call was made: what it replies, unless memory was refused, and what it leaves
+abbrev pub Makes : HistoryCall → Result Reply Error → ContextState → ContextState → Type 0
+Makes call result old new =
+    IfOk result (λ r. seen_reply r ≡ reply_to old.sections old.answers call)
+    × AfterCall call result old new

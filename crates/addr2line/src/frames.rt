@@ -1,57 +1,45 @@
 //! Lookups of frames, which may wait for split files.
 
-ghost use Rattle.std.specs.Prelude.{◌≡◌, ◌<◌, None, Some, option_map, true};
+ghost use Rattle.std.specs.Prelude.{◌≡◌, ◌<◌, Some, option_map, true};
 ghost use Rattle.std.specs.Borrow.{sem};
 ghost use Rattle.gimli_read.specs.Reading.{ExactlyUnlessOom};
 ghost use Rattle.addr2line_units.specs.declared.frames_lookup.OnFault.TheVariants.{End};
 ghost use Rattle.addr2line_units.specs.FramesLeft.{frames_left};
 ghost use Rattle.addr2line_lines.specs.LastAddress.{last_address};
-ghost use Rattle.addr2line_units.specs.Suspended.{IfLoad, IfOutput, IsOkOutput, SkipsTo};
+ghost use Rattle.addr2line_units.specs.Suspended.{IfLoad, IfOutput, IsOkOutput};
 ghost use Rattle.addr2line.specs.Answers.{AfterResume};
 ghost use Rattle.addr2line.specs.Borrowed.{RestsAs};
 ghost use Rattle.addr2line.specs.Context.{IsUncovered};
 ghost use Rattle.addr2line.specs.AfterLookups.{AfterFramesOver, IsLent, IsStored};
 ghost use Rattle.addr2line.specs.Lookups.{lookup_stop, waits_for};
 ghost use Rattle.addr2line.specs.Skips.{AfterSkip};
-ghost use Rattle.addr2line.specs.WaitingLookups.{HoldsIn, SuspendsAgainIn, SuspendsIn, count_loads, frames_answered, frames_of_context, frames_skipped, frames_with_none};
+ghost use Rattle.addr2line.specs.WaitingLookups.{HoldsIn, SuspendsAgainIn, SuspendsIn, count_loads, frames_answered, frames_of_context, frames_skipped};
 
 use crate::context::Context;
+use crate::suspended::{LookupKind, Suspended};
 use addr2line_units::FrameIter;
-use addr2line_units::continuation::{LookupContinuation, LookupResult};
+use addr2line_units::continuation::LookupResult;
 use addr2line_units::frames_lookup::OnFault;
 use addr2line_units::view::SplitDwarfLoad;
 use gimli::Dwarf;
 use gimli::read::{Error, Reader};
+use std::marker::PhantomData;
 use std::rc::Rc;
 
-/// The rest of a lookup of frames that waits for the load `B`.
-///
-/// It holds the context for writing. Dropping it ends the lookup, as `abandon` does: the unit that
-/// it waits for stays open.
-pub struct FramesLookupWith<'ctx, R: Reader, B> {
-    pub(crate) ctx: &'ctx mut Context<R>,
-    pub(crate) probe: u64,
-    pub(crate) number: usize,
-    pub(crate) load: B,
-    ghost stands: { waits_for number (lookup_stop End ctx.now.sections ctx.now.answers probe)
-        ≡ true },
+/// Frames, up to the first fault of a unit that is asked.
+#[derive(Drop)]
+pub struct Frames;
+
+impl LookupKind for Frames {
+    ghost faults = { End };
+
+    fn on_fault() -> OnFault {
+        OnFault::End
+    }
 }
 
 /// The rest of a lookup of frames that waits for a split file.
-pub type FramesLookup<'ctx, R> = FramesLookupWith<'ctx, R, SplitDwarfLoad<R>>;
-
-impl<'ctx, R: Reader, B: Drop> Drop for FramesLookupWith<'ctx, R, B> {
-    fn drop(self)
-        ensures kept { self.exit.0.now ≡ self.entry.ctx.now }
-    {
-        let FramesLookupWith {
-            ctx: _,
-            probe: _,
-            number: _,
-            load: _,
-        } = self;
-    }
-}
+pub type FramesLookup<'ctx, R> = Suspended<'ctx, R, Frames, SplitDwarfLoad<R>>;
 
 // What a lookup of frames gives that the context has stored.
 fn lend<R: Reader>(
@@ -71,11 +59,12 @@ fn lend<R: Reader>(
         Ok(()) => match ctx.waits_for() {
             Some(number) => match ctx.load_of(number) {
                 Ok(load) => LookupResult::Load {
-                    continuation: FramesLookupWith {
+                    continuation: Suspended {
                         ctx,
                         probe,
                         number,
                         load,
+                        kind: PhantomData,
                     },
                 },
                 Err(error) => LookupResult::Output(Err(error)),
@@ -94,13 +83,14 @@ fn begin<R: Reader>(ctx: &mut Context<R>, probe: u64) -> LookupResult<FramesLook
         SuspendsIn End ctx.entry probe c.ctx c.probe c.number c.load) }
     ensures output { IfOutput result (λ o. ExactlyUnlessOom (λ i. Some (frames_left i)) o
         (frames_of_context ctx.old probe)) }
+    ensures last { probe ≡ last_address → IsUncovered ctx.old probe }
 {
-    let walked = ctx.walk(probe, OnFault::End);
+    let walked = ctx.walk(probe, Frames::on_fault());
     lend(ctx, probe, walked)
 }
 
 // The rest of a lookup of frames after an answer to the load that it waited for.
-fn resume_with<R: Reader>(
+pub(crate) fn resume_with<R: Reader>(
     ctx: &mut Context<R>,
     probe: u64,
     number: usize,
@@ -124,112 +114,15 @@ fn resume_with<R: Reader>(
 }
 
 // A lookup of frames from its beginning, where each load is answered `None`.
-fn skip<R: Reader>(ctx: &mut Context<R>, probe: u64) -> LookupResult<FramesLookup<'_, R>>
+pub(crate) fn skip<R: Reader>(ctx: &mut Context<R>, probe: u64) -> LookupResult<FramesLookup<'_, R>>
     ensures* ends { sem 𝓛 (RestsAs (λ c. c.ctx.ghost_name) R.row R.Reader ctx.entry result
         (λ o n. AfterSkip R.shares End probe o ctx.old n)) }
     ensures load { IfLoad result (λ c. ⊥) }
     ensures output { IfOutput result (λ o. ExactlyUnlessOom (λ i. Some (frames_left i)) o
         (frames_skipped ctx.old probe)) }
 {
-    let walked = ctx.skip_loads(probe, OnFault::End);
+    let walked = ctx.skip_loads(probe, Frames::on_fault());
     lend(ctx, probe, walked)
-}
-
-impl<'ctx, R: Reader> LookupContinuation for FramesLookup<'ctx, R> {
-    type Output = Result<FrameIter<'ctx, R>, Error>;
-
-    type Load = SplitDwarfLoad<R>;
-
-    type Sections = Rc<Dwarf<R>>;
-
-    ghost left = { λ c. count_loads c.ctx.now c.probe };
-
-    ghost skips_to = { λ c o. ExactlyUnlessOom (λ i. Some (frames_left i)) o
-        (frames_with_none c.ctx.now c.probe) };
-
-    fn load(&self) -> &SplitDwarfLoad<R>
-        ensures gives { result.now ≡ self.now.load }
-    {
-        &self.load
-    }
-
-    fn resume(self, input: Option<Rc<Dwarf<R>>>) -> LookupResult<Self>
-        ensures* ends { sem 𝓛 (RestsAs (λ c. c.ctx.ghost_name) R.row R.Reader
-            self.entry.ctx result (λ o n. AfterResume R.shares End self.entry.probe
-            self.entry.number (option_map (λ d. d.value) input) o self.entry.ctx.now n)) }
-        ensures load { IfLoad result (λ c. SuspendsAgainIn End self.entry.ctx self.entry.probe
-            self.entry.number (option_map (λ d. d.value) input)
-            c.ctx c.probe c.number c.load) }
-        ensures fewer { IfLoad result (λ c. count_loads c.ctx.now c.probe < count_loads
-            self.entry.ctx.now self.entry.probe) }
-        ensures output { IfOutput result (λ o. ExactlyUnlessOom (λ i. Some (frames_left i)) o
-            (frames_answered self.entry.ctx.now self.entry.number (option_map (λ d. d.value) input)
-            self.entry.probe)) }
-        ensures skips { input ≡ None → (o : _) → SkipsTo (λ c p. ExactlyUnlessOom
-            (λ i. Some (frames_left i)) p (frames_with_none c.ctx.now c.probe)) result o
-            → ExactlyUnlessOom (λ i. Some (frames_left i)) o
-            (frames_with_none self.entry.ctx.now self.entry.probe) }
-    {
-        let FramesLookupWith {
-            ctx,
-            probe,
-            number,
-            load: _,
-        } = self;
-        resume_with(ctx, probe, number, input)
-    }
-}
-
-impl<'ctx, R: Reader> FramesLookup<'ctx, R> {
-    /// Answers none to this load and to each later one, and gives the output. The units that waited
-    /// are decided by none, and stay so until they are forgotten.
-    ///
-    /// Refused as `find_frames` is. It is what `skip_all_loads` gives; here it is said too which
-    /// context is left.
-    pub fn skip(self) -> LookupResult<FramesLookup<'ctx, R>>
-        ensures* ends { sem 𝓛 (RestsAs (λ c. c.ctx.ghost_name) R.row R.Reader
-            self.entry.ctx result (λ o n. AfterSkip R.shares End self.entry.probe o
-            self.entry.ctx.now n)) }
-        ensures load { IfLoad result (λ c. ⊥) }
-        ensures output { IfOutput result (λ o. ExactlyUnlessOom (λ i. Some (frames_left i)) o
-            (frames_skipped self.entry.ctx.now self.entry.probe)) }
-    {
-        let FramesLookupWith {
-            ctx,
-            probe,
-            number: _,
-            load: _,
-        } = self;
-        skip(ctx, probe)
-    }
-}
-
-impl<'ctx, R: Reader, B: Drop> FramesLookupWith<'ctx, R, B> {
-    /// Ends the lookup: the unit that it waits for stays open. Takes no memory.
-    pub fn abandon(self)
-        ensures kept { self.exit.0.now ≡ self.entry.ctx.now }
-    {
-        let FramesLookupWith {
-            ctx: _,
-            probe: _,
-            number: _,
-            load: _,
-        } = self;
-    }
-
-    /// Ends the lookup, and gives its load. Takes no memory.
-    pub fn into_load(self) -> B
-        ensures kept { self.exit.0.now ≡ self.entry.ctx.now }
-        ensures load { result ≡ self.entry.load }
-    {
-        let FramesLookupWith {
-            ctx: _,
-            probe: _,
-            number: _,
-            load,
-        } = self;
-        load
-    }
 }
 
 impl<R: Reader> Context<R> {
@@ -261,7 +154,6 @@ impl<R: Reader> Context<R> {
         ensures last { probe ≡ last_address → IsOkOutput result }
         ensures uncovered { IsUncovered self.old probe → IsOkOutput result }
     {
-        let walked = self.walk(probe, OnFault::End);
-        lend(self, probe, walked)
+        begin(self, probe)
     }
 }

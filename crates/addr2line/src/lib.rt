@@ -20,6 +20,7 @@ mod session;
 mod skips;
 mod split_files;
 mod stops;
+mod suspended;
 mod units;
 
 pub use crate::compressed::CompressedSections;

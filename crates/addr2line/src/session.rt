@@ -2,16 +2,15 @@
 
 ghost use Rattle.std.specs.Prelude.{◌≡◌, IfErr, IfOk, map, option_map};
 ghost use Rattle.gimli_read.specs.declared.error.Error.TheVariants.{OutOfMemory};
-ghost use Rattle.addr2line_units.specs.declared.frames_lookup.OnFault.TheVariants.{End, PassOver};
 ghost use Rattle.addr2line_units.specs.declared.parses.ReadingDepth.TheVariants as kinds;
 ghost use Rattle.addr2line_units.specs.Loads.{token_number};
 ghost use Rattle.addr2line_units.specs.Located.{location_of, spans_of};
 ghost use Rattle.addr2line.specs.Context.{lines_of_all};
-ghost use Rattle.addr2line.specs.History.{AfterCall, AfterCalls, AnswersLoad, AsksFrames, AsksLoads, AsksLocation, AsksRange, AsksUnit, Forgets, ParsesFunctions, ParsesLines, answers_given, frames_replied, replies_to, reply_to, unit_replied};
+ghost use Rattle.addr2line.specs.History.{AfterCall, AfterCalls, AnswersLoad, AsksFrames, AsksLoads, AsksLocation, AsksRange, AsksUnit, Forgets, ParsesFunctions, ParsesLines, replies_to, reply_to};
 ghost use Rattle.addr2line.specs.Loads.{forget_reply, load_reply, parse_reply};
 ghost use Rattle.addr2line.specs.Lookups.{loads_at};
-ghost use Rattle.addr2line.specs.Replies.{Ended, Listed, Located, copied_load, reply_of_range};
-ghost use Rattle.addr2line.specs.SeenCalls.{given_by, seen_call, seen_given};
+ghost use Rattle.addr2line.specs.Replies.{Ended, Listed, Located, SuspendedAt, copied_load, reply_of_range};
+ghost use Rattle.addr2line.specs.SeenCalls.{Makes, given_by, seen_call, seen_given};
 ghost use Rattle.addr2line.specs.SeenReplies.{seen_reply};
 
 use crate::context::Context;
@@ -19,8 +18,9 @@ use crate::copies::{
     done_reply, frames_reply, loads_reply, location_reply, rows_reply, unit_reply,
 };
 use crate::reply::Reply;
+use crate::suspended::{LookupKind, Suspended};
 use addr2line_units::continuation::{LookupContinuation, LookupResult};
-use addr2line_units::view::UnitToken;
+use addr2line_units::view::{SplitDwarfLoad, UnitToken};
 use gimli::Dwarf;
 use gimli::read::{Error, Reader};
 use std::rc::Rc;
@@ -87,51 +87,45 @@ fn share_given<R: Reader>(answer: &Answer<R>) -> Result<Option<Option<Rc<Dwarf<R
     }
 }
 
+// The reply of a lookup that is given up at its load.
+fn suspended_reply<R: Reader, K: LookupKind>(next: Suspended<'_, R, K, SplitDwarfLoad<R>>) -> Reply
+    ensures gives { seen_reply result ≡ SuspendedAt next.entry.load.unit }
+    ensures kept { next.exit.0.now ≡ next.entry.ctx.now }
+{
+    let load = next.into_load();
+    Reply::Suspended(load.unit)
+}
+
 // `find_frames` with answers to its loads in turn; where none is left it is given up.
 fn replay_frames<R: Reader>(
     context: &mut Context<R>,
     probe: u64,
     answers: &[Answer<R>],
 ) -> Result<Reply, Error>
-    ensures gives { IfOk result (λ r. seen_reply r ≡ frames_replied context.old.sections probe
-        (answers_given End context.old.sections probe context.old.answers
-        (map seen_given answers.now))) }
-    ensures after { AfterCall (AsksFrames probe (map seen_given answers.now)) result context.old
+    ensures made { Makes (AsksFrames probe (map seen_given answers.now)) result context.old
         context.new }
 {
     let alloc = context.alloc;
     let mut next = match context.find_frames(probe) {
         LookupResult::Load { continuation } => continuation,
-        LookupResult::Output(frames) => {
-            return frames_reply(alloc, frames);
-        }
+        LookupResult::Output(frames) => return frames_reply(alloc, frames),
     };
     for answer in answers {
         match share_given(answer) {
             Ok(Some(input)) => {
                 next = match next.resume(input) {
                     LookupResult::Load { continuation } => continuation,
-                    LookupResult::Output(frames) => {
-                        return frames_reply(alloc, frames);
-                    }
+                    LookupResult::Output(frames) => return frames_reply(alloc, frames),
                 };
             }
-            Ok(None) => {
-                let wanted = next.load();
-                let unit = wanted.unit;
-                next.abandon();
-                return Ok(Reply::Suspended(unit));
-            }
+            Ok(None) => return Ok(suspended_reply(next)),
             Err(error) => {
                 next.abandon();
                 return Err(error);
             }
         }
     }
-    let wanted = next.load();
-    let unit = wanted.unit;
-    next.abandon();
-    Ok(Reply::Suspended(unit))
+    Ok(suspended_reply(next))
 }
 
 // `find_dwarf_and_unit` with answers to its loads in turn; where none is left it is given up.
@@ -140,44 +134,29 @@ fn replay_unit<R: Reader>(
     probe: u64,
     answers: &[Answer<R>],
 ) -> Result<Reply, Error>
-    ensures gives { IfOk result (λ r. seen_reply r ≡ unit_replied context.old.sections probe
-        (answers_given PassOver context.old.sections probe context.old.answers
-        (map seen_given answers.now))) }
-    ensures after { AfterCall (AsksUnit probe (map seen_given answers.now)) result context.old
+    ensures made { Makes (AsksUnit probe (map seen_given answers.now)) result context.old
         context.new }
 {
     let mut next = match context.find_dwarf_and_unit(probe) {
         LookupResult::Load { continuation } => continuation,
-        LookupResult::Output(unit) => {
-            return unit_reply(unit);
-        }
+        LookupResult::Output(unit) => return unit_reply(unit),
     };
     for answer in answers {
         match share_given(answer) {
             Ok(Some(input)) => {
                 next = match next.resume(input) {
                     LookupResult::Load { continuation } => continuation,
-                    LookupResult::Output(unit) => {
-                        return unit_reply(unit);
-                    }
+                    LookupResult::Output(unit) => return unit_reply(unit),
                 };
             }
-            Ok(None) => {
-                let wanted = next.load();
-                let unit = wanted.unit;
-                next.abandon();
-                return Ok(Reply::Suspended(unit));
-            }
+            Ok(None) => return Ok(suspended_reply(next)),
             Err(error) => {
                 next.abandon();
                 return Err(error);
             }
         }
     }
-    let wanted = next.load();
-    let unit = wanted.unit;
-    next.abandon();
-    Ok(Reply::Suspended(unit))
+    Ok(suspended_reply(next))
 }
 
 // `find_location` of an address.

@@ -1,35 +1,23 @@
-use Rattle.std.proofs.Common.{◌≡◌, ◌++◌, ◌∷◌, ◌+◌, ◌≤◌, List, Some, ap, drop, length, map, option_map, refl, rules, subst, sym, take, ◌∙◌}
+use Rattle.std.proofs.Common.{◌≡◌, ◌≤◌, Some, ap, length, map, option_map, refl, rules, subst, sym, ◌∙◌}
 use Rattle.std.proofs.lemmas.List.{length-map}
 use Rattle.gimli_read.specs.Reading.{ExactlyUnlessOom}
 use Rattle.addr2line_units.specs.declared.frames_lookup.OnFault.TheVariants.{End}
 use Rattle.addr2line_units.specs.FramesLeft.{frames_left}
-use Rattle.addr2line.proofs.HistoryLemmas.{given_ended, take_drop_one, take_then}
-use Rattle.addr2line.proofs.ReplayLemmas.{begun_at, ended_by, goes_on, left_at_end, left_by, left_leaves, load_token, looked_leaves, refused_leaves, reply_by, resumed_leaves, suspended_by}
+use Rattle.addr2line.proofs.ReplayLemmas.{begun_at, ends_at_once, ends_resumed, goes_on, is_left, is_refused, left_at_end, left_by, load_token, next_of}
 use Rattle.addr2line.specs.Answers.{SuspendsAgain, answered}
-use Rattle.addr2line.specs.History.{Given, frames_replied, answers_given}
-use Rattle.addr2line.specs.Lookups.{frames_of, lookup_stop}
+use Rattle.addr2line.specs.History.{frames_replied}
+use Rattle.addr2line.specs.Lookups.{lookup_stop, frames_of}
 use Rattle.addr2line.specs.Replies.{reply_of_frames}
 use Rattle.addr2line.specs.SeenCalls.{given_by, seen_given}
-use Rattle.addr2line.specs.SeenReplies.{seen_reply}
 use Rattle.addr2line.proofs.session.replay_frames.Goals as goal
 
-pub returns-in-Output-clause-gives : goal.returns-in-Output-clause-gives
-returns-in-Output-clause-gives g c =
+pub returns-in-Output : goal.returns-in-Output
+returns-in-Output g c =
     let first = c.args.context.now in
-    let d = first.sections in
     let p = c.args.probe in
+    let e = c.frames_reply.ensures in
     let all = map seen_given c.args.answers.now in
-    let told = c.frames_reply.ensures.gives (lookup_stop End d first.answers p) c.in-Output.ensures.output in
-    reply_by seen_reply (frames_replied d p) c.frames_reply.result first.answers (answers_given End d p first.answers all) told (λ w. given_ended End d p first.answers all w)
-
-pub returns-in-Output-clause-after : goal.returns-in-Output-clause-after
-returns-in-Output-clause-after g c =
-    let first = c.args.context.now in
-    let d = first.sections in
-    let p = c.args.probe in
-    let all = map seen_given c.args.answers.now in
-    let told = c.frames_reply.ensures.gives (lookup_stop End d first.answers p) c.in-Output.ensures.output in
-    looked_leaves g.R.Reader.shares End p all c.in-Output.frames first _ (search rules) c.frames_reply.result _ told (λ w. given_ended End d p first.answers all w) c.frames_reply.ensures.refused
+    record { made = ends_at_once End p first all g.R.Reader.shares (frames_replied first.sections p) c.in-Output.frames _ (search rules) c.frames_reply.result (e.gives (lookup_stop End first.sections first.answers p) c.in-Output.ensures.output) e.told e.refused }
 
 pub loop-answer-init : goal.loop-answer-init
 loop-answer-init g c =
@@ -43,114 +31,71 @@ loop-answer-init g c =
       so = begun_at End c.args.probe first (map seen_given c.args.answers.now) next.number _ next.ctx.now load.2;
     }
 
-pub returns-in-Output-resume-clause-gives : goal.returns-in-Output-resume-clause-gives
-returns-in-Output-resume-clause-gives g c =
+pub returns-in-Output-resume : goal.returns-in-Output-resume
+returns-in-Output-resume g c =
     let first = c.args.context.now in
-    let d = first.sections in
     let p = c.args.probe in
-    let all = map seen_given c.args.answers.now in
     let i = c.loop-answer.answer-index in
     let l = c.loop-answer.next in
     let inv = c.loop-answer.invariant in
+    let e = c.frames_reply-in-Output-resume.ensures in
     let x = option_map (λ r. r.value) c.in-Ok-Some.input in
-    let given = sym c.in-Ok-Some.ensures.gives ∙ ap (λ o. given_by (option_map (option_map (λ r. r.value)) o)) c.in-Ok-Some.field-0-is in
-    let whole = subst (λ y. take i all ++ (y ∷ drop (i + 1) all) ≡ all) given (take_drop_one seen_given c.args.answers.now i c.answer-item.result (search rules) c.answer-item.is) in
+    let given = sym (ap (λ o. given_by (option_map (option_map (λ r. r.value)) o)) c.in-Ok-Some.field-0-is) ∙ c.in-Ok-Some.ensures.gives in
+    let one = next_of seen_given c.args.answers.now i c.answer-item.result (search rules) c.answer-item.is _ given in
     let left = answered l.ctx.now.sections l.ctx.now.answers l.number x in
-    let out = subst (λ s. ExactlyUnlessOom (λ j. Some (frames_left j)) c.in-Output-resume.frames (frames_of s left p)) inv.so.sections (subst (λ q. ExactlyUnlessOom (λ j. Some (frames_left j)) c.in-Output-resume.frames (frames_of l.ctx.now.sections left q)) inv.probe c.in-Output-resume.ensures.output) in
-    let told = c.frames_reply-in-Output-resume.ensures.gives (lookup_stop End d left p) out in
-    reply_by seen_reply (frames_replied d p) c.frames_reply-in-Output-resume.result left (answers_given End d p first.answers all) told (λ w. ended_by End p first all i l.number l.ctx.now inv.so x (drop (i + 1) all) whole w)
+    let o = c.in-Output-resume.frames in
+    let out = subst (λ s. ExactlyUnlessOom (λ j. Some (frames_left j)) o (frames_of s left p)) inv.so.sections (subst (λ q. ExactlyUnlessOom (λ j. Some (frames_left j)) o (frames_of l.ctx.now.sections left q)) inv.probe c.in-Output-resume.ensures.output) in
+    record {
+      made = ends_resumed End p first (map seen_given c.args.answers.now) i l.number l.ctx.now inv.so x one g.R.Reader.shares (frames_replied first.sections p) c.resume.result o c.in-Output-resume.is l.probe inv.probe _ c.resume.follows.lender-at-none (search rules) c.resume.follows.holds-at-none
+          c.frames_reply-in-Output-resume.result (e.gives (lookup_stop End first.sections left p) out) e.told e.refused;
+    }
 
-pub returns-in-Output-resume-clause-after : goal.returns-in-Output-resume-clause-after
-returns-in-Output-resume-clause-after g c =
+pub returns-in-Ok-None : goal.returns-in-Ok-None
+returns-in-Ok-None g c =
     let first = c.args.context.now in
-    let d = first.sections in
-    let p = c.args.probe in
-    let all = map seen_given c.args.answers.now in
     let i = c.loop-answer.answer-index in
     let l = c.loop-answer.next in
     let inv = c.loop-answer.invariant in
-    let x = option_map (λ r. r.value) c.in-Ok-Some.input in
-    let given = sym c.in-Ok-Some.ensures.gives ∙ ap (λ o. given_by (option_map (option_map (λ r. r.value)) o)) c.in-Ok-Some.field-0-is in
-    let whole = subst (λ y. take i all ++ (y ∷ drop (i + 1) all) ≡ all) given (take_drop_one seen_given c.args.answers.now i c.answer-item.result (search rules) c.answer-item.is) in
-    let left = answered l.ctx.now.sections l.ctx.now.answers l.number x in
-    let out = subst (λ s. ExactlyUnlessOom (λ j. Some (frames_left j)) c.in-Output-resume.frames (frames_of s left p)) inv.so.sections (subst (λ q. ExactlyUnlessOom (λ j. Some (frames_left j)) c.in-Output-resume.frames (frames_of l.ctx.now.sections left q)) inv.probe c.in-Output-resume.ensures.output) in
-    let told = c.frames_reply-in-Output-resume.ensures.gives (lookup_stop End d left p) out in
-    let more = λ (rest : List Given). take_then seen_given c.args.answers.now i c.answer-item.result (search rules) c.answer-item.is rest ∙ ap (λ y. take i all ++ (y ∷ rest)) given in
-    resumed_leaves End p first all i l.number l.ctx.now inv.so g.R.Reader.shares c.resume.result x more c.in-Output-resume.frames _ l.probe inv.probe c.in-Output-resume.is c.resume.follows.lender-at-none (search rules) c.resume.follows.holds-at-none c.frames_reply-in-Output-resume.result _ told
-    (λ w. ended_by End p first all i l.number l.ctx.now inv.so x (drop (i + 1) all) whole w) c.frames_reply-in-Output-resume.ensures.told c.frames_reply-in-Output-resume.ensures.refused
-
-pub returns-in-Ok-None-clause-gives : goal.returns-in-Ok-None-clause-gives
-returns-in-Ok-None-clause-gives g c =
-    let first = c.args.context.now in
-    let p = c.args.probe in
     let all = map seen_given c.args.answers.now in
-    let i = c.loop-answer.answer-index in
-    let l = c.loop-answer.next in
-    let inv = c.loop-answer.invariant in
-    let given = sym c.in-Ok-None.ensures.gives ∙ ap (λ o. given_by (option_map (option_map (λ r. r.value)) o)) c.in-Ok-None.field-0-is in
-    let whole = subst (λ y. take i all ++ (y ∷ drop (i + 1) all) ≡ all) given (take_drop_one seen_given c.args.answers.now i c.answer-item.result (search rules) c.answer-item.is) in
-    suspended_by End p first all i l.number l.ctx.now inv.so (frames_replied first.sections p) (λ w. ap reply_of_frames w) _ (ap (λ r. r.unit) (c.wanted.view_is ∙ c.load-wanted.ensures.gives) ∙ inv.token)
-    (left_by End p first all i l.number l.ctx.now inv.so (drop (i + 1) all) whole)
+    let given = sym (ap (λ o. given_by (option_map (option_map (λ r. r.value)) o)) c.in-Ok-None.field-0-is) ∙ c.in-Ok-None.ensures.gives in
+    let one = next_of seen_given c.args.answers.now i c.answer-item.result (search rules) c.answer-item.is _ given in
+    record { made = is_left End c.args.probe first all i l.number l.ctx.now inv.so (frames_replied first.sections c.args.probe) (λ w. ap reply_of_frames w) l.load.unit inv.token c.suspended_reply.result c.suspended_reply.ensures.gives _ (search rules) (left_by End c.args.probe first all i l.number l.ctx.now inv.so one) }
 
-pub returns-in-Ok-None-clause-after : goal.returns-in-Ok-None-clause-after
-returns-in-Ok-None-clause-after g c =
+pub returns-in-Err : goal.returns-in-Err
+returns-in-Err g c =
     let first = c.args.context.now in
-    let p = c.args.probe in
-    let all = map seen_given c.args.answers.now in
-    let i = c.loop-answer.answer-index in
     let l = c.loop-answer.next in
-    let inv = c.loop-answer.invariant in
-    let given = sym c.in-Ok-None.ensures.gives ∙ ap (λ o. given_by (option_map (option_map (λ r. r.value)) o)) c.in-Ok-None.field-0-is in
-    let whole = subst (λ y. take i all ++ (y ∷ drop (i + 1) all) ≡ all) given (take_drop_one seen_given c.args.answers.now i c.answer-item.result (search rules) c.answer-item.is) in
-    left_leaves End p first all i l.number l.ctx.now inv.so _ _ (search rules) (left_by End p first all i l.number l.ctx.now inv.so (drop (i + 1) all) whole)
-
-pub returns-in-Err-clause-after : goal.returns-in-Err-clause-after
-returns-in-Err-clause-after g c =
-    let l = c.loop-answer.next in
-    refused_leaves End c.args.probe c.args.context.now (map seen_given c.args.answers.now) c.loop-answer.answer-index l.number l.ctx.now c.loop-answer.invariant.so _ _ (search rules) c.in-Err.ensures.refused
+    record { made = is_refused End c.args.probe first (map seen_given c.args.answers.now) c.loop-answer.answer-index l.number l.ctx.now c.loop-answer.invariant.so (frames_replied first.sections c.args.probe) _ _ (search rules) c.in-Err.ensures.refused }
 
 pub loop-answer-preserved : goal.loop-answer-preserved
 loop-answer-preserved g c =
     let first = c.args.context.now in
     let p = c.args.probe in
-    let all = map seen_given c.args.answers.now in
     let i = c.loop-answer.answer-index in
     let l = c.loop-answer.next in
     let inv = c.loop-answer.invariant in
     let next = c.in-Load-resume.continuation in
     let load = c.in-Load-resume.ensures.load in
     let x = option_map (λ r. r.value) c.in-Ok-Some.input in
-    let given = sym c.in-Ok-Some.ensures.gives ∙ ap (λ o. given_by (option_map (option_map (λ r. r.value)) o)) c.in-Ok-Some.field-0-is in
-    let more = λ (rest : List Given). take_then seen_given c.args.answers.now i c.answer-item.result (search rules) c.answer-item.is rest ∙ ap (λ y. take i all ++ (y ∷ rest)) given in
-    let wanted = next.load in
-    let again = subst (λ q. SuspendsAgain End q l.number x next.number wanted l.ctx.now next.ctx.now) inv.probe load.2 in
+    let given = sym (ap (λ o. given_by (option_map (option_map (λ r. r.value)) o)) c.in-Ok-Some.field-0-is) ∙ c.in-Ok-Some.ensures.gives in
+    let one = next_of seen_given c.args.answers.now i c.answer-item.result (search rules) c.answer-item.is _ given in
+    let again = subst (λ q. SuspendsAgain End q l.number x next.number next.load l.ctx.now next.ctx.now) inv.probe load.2 in
     record {
       name = load.0 ∙ inv.name;
       probe = load.1 ∙ inv.probe;
-      token = load_token End again.0.sections again.0.answers p next.number wanted again.2.waits again.2.load;
-      so = goes_on End p first all i l.number l.ctx.now inv.so x more next.number wanted next.ctx.now again;
+      token = load_token End again.0.sections again.0.answers p next.number next.load again.2.waits again.2.load;
+      so = goes_on End p first (map seen_given c.args.answers.now) i l.number l.ctx.now inv.so x one next.number next.load next.ctx.now again;
     }
 
-pub returns-clause-gives : goal.returns-clause-gives
-returns-clause-gives g c =
+pub returns : goal.returns
+returns g c =
     let first = c.args.context.now in
-    let p = c.args.probe in
-    let all = map seen_given c.args.answers.now in
     let i = c.loop-answer.answer-index in
     let l = c.loop-answer.next in
     let inv = c.loop-answer.invariant in
-    let past : length c.args.answers.now ≤ i = (search rules) in
-    suspended_by End p first all i l.number l.ctx.now inv.so (frames_replied first.sections p) (λ w. ap reply_of_frames w) _ (ap (λ r. r.unit) (c.wanted-2.view_is ∙ c.load-wanted-2.ensures.gives) ∙ inv.token)
-    (left_at_end End p first all i l.number l.ctx.now inv.so (subst (λ n. n ≤ i) (sym (length-map c.args.answers.now seen_given)) past))
-
-pub returns-clause-after : goal.returns-clause-after
-returns-clause-after g c =
-    let first = c.args.context.now in
-    let p = c.args.probe in
     let all = map seen_given c.args.answers.now in
-    let i = c.loop-answer.answer-index in
-    let l = c.loop-answer.next in
-    let inv = c.loop-answer.invariant in
     let past : length c.args.answers.now ≤ i = (search rules) in
-    left_leaves End p first all i l.number l.ctx.now inv.so _ _ (search rules)
-    (left_at_end End p first all i l.number l.ctx.now inv.so (subst (λ n. n ≤ i) (sym (length-map c.args.answers.now seen_given)) past))
+    record {
+      made = is_left End c.args.probe first all i l.number l.ctx.now inv.so (frames_replied first.sections c.args.probe) (λ w. ap reply_of_frames w) l.load.unit inv.token c.suspended_reply-2.result c.suspended_reply-2.ensures.gives _ (search rules)
+          (left_at_end End c.args.probe first all i l.number l.ctx.now inv.so (subst (λ n. n ≤ i) (sym (length-map c.args.answers.now seen_given)) past));
+    }

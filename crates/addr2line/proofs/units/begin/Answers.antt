@@ -7,16 +7,18 @@ use Rattle.addr2line.proofs.units.begin.Goals as goal
 
 pub returns : goal.returns
 returns g c =
-    let a = c.walk-walked.ensures.after in
-    let stored = c.walk-walked.ensures.gives in
+    let e = rw c.on_fault.ensures.gives at c.walk-walked.ensures in
+    let a = e.after in
+    let stored = e.gives in
     let old = c.args.ctx.now in
     let mid = c.walk-walked.new.self in
     let f = c.lend.follows in (
-      (refl, f.holds, frames_over PassOver c.args.probe old mid _ a stored g.R.Reader.shares c.walk-walked.ensures.no_memory _ c.lend.result f.holds-at-none),
+      (refl, f.holds, frames_over PassOver c.args.probe old mid _ a stored g.R.Reader.shares e.no_memory _ c.lend.result f.holds-at-none),
       record {
         ends = tt;
         load = if_load _ _ c.lend.result (λ x h. (h.0, h.1, suspends PassOver c.args.probe old mid _ a stored x.number x.load x.ctx.now h.2 h.3 h.4 h.5)) c.lend.ensures.load;
         output = outputs_same unit_of seen_found c.args.probe old mid c.lend.result a.sections a.answers c.lend.ensures.output;
         refused = c.lend.ensures.refused;
+        last = e.last;
       },
     )

@@ -7,7 +7,7 @@ use Rattle.addr2line.proofs.units.skip.Goals as goal
 
 pub returns : goal.returns
 returns g c =
-    let e = c.skip_loads-walked.ensures in
+    let e = rw c.on_fault.ensures.gives at c.skip_loads-walked.ensures in
     let old = c.args.ctx.now in
     let mid = c.skip_loads-walked.new.self in
     let f = c.lend.follows in (

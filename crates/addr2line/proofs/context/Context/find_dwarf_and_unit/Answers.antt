@@ -1,29 +1,20 @@
 use Rattle.std.proofs.Common.{refl}
 use Rattle.addr2line_units.specs.declared.frames_lookup.OnFault.TheVariants.{PassOver}
 use Rattle.addr2line_units.specs.SeenUnit.{seen_found}
-use Rattle.addr2line.proofs.AfterLemmas.{frames_after, frames_over, if_load, outputs_same, suspends}
-use Rattle.addr2line.specs.Lookups.{unit_of}
+use Rattle.addr2line.proofs.AfterLemmas.{if_load}
 use Rattle.addr2line.proofs.UncoveredLemmas.{uncovered_unit_ok, uncovered_ends}
 use Rattle.addr2line.specs.Context.{IsUncovered}
+use Rattle.addr2line.specs.WaitingLookups.{unit_of_context}
 use Rattle.addr2line.proofs.context.Context.find_dwarf_and_unit.Goals as goal
 
 pub returns : goal.returns
 returns g c =
-    let a = c.walk-walked.ensures.after in
-    let stored = c.walk-walked.ensures.gives in
     let old = c.args.self.now in
-    let mid = c.walk-walked.new.self in
-    let f = c.lend.follows in
-    let ends = λ (u : IsUncovered old c.args.probe). uncovered_ends PassOver c.args.probe old u seen_found (unit_of old.sections old.answers c.args.probe) (uncovered_unit_ok c.args.probe old u) _ c.lend.result
-    (if_load _ _ c.lend.result (λ x h. (x.number, (suspends PassOver c.args.probe old mid _ a stored x.number x.load x.ctx.now h.2 h.3 h.4 h.5).waits)) c.lend.ensures.load)
-    (frames_after PassOver c.args.probe old mid _ a stored _ c.lend.result f.holds-at-none) (outputs_same unit_of seen_found c.args.probe old mid c.lend.result a.sections a.answers c.lend.ensures.output) in (
-      (refl, f.holds, frames_over PassOver c.args.probe old mid _ a stored g.R.Reader.shares c.walk-walked.ensures.no_memory _ c.lend.result f.holds-at-none),
-      record {
-        ends = tt;
-        load = if_load _ _ c.lend.result (λ x h. (h.0, h.1, suspends PassOver c.args.probe old mid _ a stored x.number x.load x.ctx.now h.2 h.3 h.4 h.5)) c.lend.ensures.load;
-        output = outputs_same unit_of seen_found c.args.probe old mid c.lend.result a.sections a.answers c.lend.ensures.output;
-        refused = c.lend.ensures.refused;
-        last = λ q. ends (c.walk-walked.ensures.last q);
-        uncovered = ends;
-      },
+    let probe = c.args.probe in
+    let e = c.begin.ensures in
+    let f = c.begin.follows in
+    let ends = λ (u : IsUncovered old probe). uncovered_ends PassOver probe old u g.R.Reader.shares seen_found (unit_of_context old probe) (uncovered_unit_ok probe old u) _ c.begin.result
+    (if_load _ _ c.begin.result (λ x h. (x.number, h.2.waits)) e.load) f.holds-at-none e.output in (
+      (refl, f.holds, f.holds-at-none),
+      record { ends = tt; load = e.load; output = e.output; refused = e.refused; last = λ q. ends (e.last q); uncovered = ends },
     )

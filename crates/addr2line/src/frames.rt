@@ -17,7 +17,6 @@ ghost use Rattle.addr2line.specs.WaitingLookups.{HoldsIn, SuspendsAgainIn, Suspe
 
 use crate::context::Context;
 use crate::suspended::{LookupKind, Suspended};
-use addr2line_units::FrameIter;
 use addr2line_units::continuation::LookupResult;
 use addr2line_units::frames_lookup::OnFault;
 use addr2line_units::view::SplitDwarfLoad;

@@ -21,8 +21,8 @@ use crate::suspended::{LookupKind, Suspended};
 use addr2line_units::continuation::LookupResult;
 use addr2line_units::frames_lookup::OnFault;
 use addr2line_units::view::SplitDwarfLoad;
+use gimli::Dwarf;
 use gimli::read::{Error, Reader};
-use gimli::{Dwarf, UnitRef};
 use std::marker::PhantomData;
 use std::rc::Rc;
 

@@ -1,4 +1,4 @@
-use Rattle.std.proofs.Common.{◌≡◌, ◌≤◌, ap, length, map, option_map, refl, rules, subst, sym, ◌∙◌}
+use Rattle.std.proofs.Common.{◌≤◌, ap, length, map, option_map, refl, rules, subst, sym, ◌∙◌}
 use Rattle.std.proofs.lemmas.List.{length-map}
 use Rattle.gimli_read.specs.Reading.{ExactlyUnlessOom}
 use Rattle.addr2line_units.specs.declared.frames_lookup.OnFault.TheVariants.{PassOver}

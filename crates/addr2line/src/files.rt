@@ -90,9 +90,11 @@ pub trait FileSource: Drop {
         }
     }
 
-    /// The stamp of the file at a path: as long as it is the same, the file is taken to have the
-    /// bytes that it had. None where that isn't told: then the file is read at each call. So it is
-    /// where it is known what files there are. Takes no memory. Source: own.
+    /// The stamp of the file at a path. As long as it is the same, the file is taken to have the
+    /// bytes that were read under it.
+    ///
+    /// None where that isn't told, as where it is known what files there are, and where memory for
+    /// it is refused: then the file is read at each call. Source: own.
     fn stamp(&self, path: &str) -> Option<FileStamp>
         ensures known { IfSome (files self.now) (λ _. result ≡ None) }
     {

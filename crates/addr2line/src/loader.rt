@@ -138,7 +138,7 @@ pub(crate) fn context_of<R: Reader>(
 }
 
 /// The debug information of an ELF file: a context of its sections, its symbols, and the files
-/// `F` that answer for its split files. A split file that has answered is kept by its path, with its
+/// `F` that answer for its split files. A split file that has answered is kept by its path and its
 /// stamp.
 #[derive(Drop)]
 pub struct LoaderOver<F: FileSource> {

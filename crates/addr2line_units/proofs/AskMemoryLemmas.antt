@@ -1,5 +1,5 @@
 -- What is read without memory (on specs/AskMemory.antt).
-use Rattle.std.proofs.Common.{◌≡◌, ◌≢◌, ◌∙◌, ◌++◌, ℕ, ap, subst, sym, refl, ◌||◌, not, is_some, Bool, true, false, List, [], ◌∷◌, Option, Some, None, Result, Ok, Err}
+use Rattle.std.proofs.Common.{◌≡◌, ◌≢◌, ◌∙◌, ◌++◌, ℕ, ap, subst, sym, refl, ◌||◌, not, is_none, is_some, Bool, true, false, List, [], ◌∷◌, Option, Some, None, Result, Ok, Err}
 use Rattle.std.specs.Prelude.{IfErr, IfSome}
 use Rattle.gimli_read.specs.declared.error.Error.{Error}
 use Rattle.gimli_read.specs.declared.error.Error.TheVariants.{OutOfMemory}
@@ -67,6 +67,27 @@ pub lines_exact : {X : Type 0} (shares : Bool) (d : Sections) (u : UnitRecord) (
 unfolding lines_take_memory
 lines_exact shares d u see (Ok x) gives exact none = tt
 lines_exact shares d u see (Err e) gives exact none = ap (λ r. r >>= λ lines. Ok (Some lines)) (by_program shares d u see e u.line_program gives exact none)
+
+-- lines of a program that were read took memory
+module _ {X : Type 0} (shares : Bool) (x : X) where
+  no_fault : (p : Program) (files : List File) (rows : List (Result LineRow Error)) → (lines_of p).ahead ≡ files → (lines_of p).left ≡ rows → is_fault_at_once files rows ≡ true → IsFaultAtOnce {X = X} (lines_of p) (Ok x) → ⊥
+  no_fault p [] [] a l h k = cc
+  no_fault p [] (Ok row ∷ rows) a l h k = cc
+  no_fault p [] (Err f ∷ []) a l h k = let no : ◌≡◌ {A = Result X Error} (Ok x) (Err f) = k f a l in cc
+  no_fault p [] (Err f ∷ row ∷ rows) a l h k = cc
+  no_fault p (file ∷ files) rows a l h k = cc
+
+  read_of_program : (o : Option Program) → is_none o ≡ false → IfSome o (λ p. header_copy_takes_memory shares p.header ≡ false → IsFaultAtOnce {X = X} (lines_of p) (Ok x))
+      → any_program_takes_memory shares o ≡ false → ⊥
+  read_of_program None some exact none = cc
+  read_of_program (Some p) some exact none =
+      let both = or_none (header_copy_takes_memory shares p.header) (is_fault_at_once (lines_of p).ahead (lines_of p).left) none in
+      no_fault p (lines_of p).ahead (lines_of p).left refl refl both.1 (exact both.0)
+
+  pub lines_took : (u : UnitRecord) → is_none u.line_program ≡ false → IfSome u.line_program (λ p. header_copy_takes_memory shares p.header ≡ false → IsFaultAtOnce {X = X} (lines_of p) (Ok x))
+      → lines_take_memory shares u ≡ false → ⊥
+  unfolding lines_take_memory
+  lines_took u some exact none = read_of_program u.line_program some exact none
 
 -- functions that take no memory take none however many of them are cached
 pub find_takes_none : {R : Type 0} (shares : Bool) (scope : Scope) (view : UnitRecord) (probe : ℕ) (f : LazyFunctions R) → AreFunctionsOf scope view f → functions_take_memory shares scope.file.sections view ≡ false

@@ -1,5 +1,5 @@
 -- The frames in a unit by its functions and its lines (on specs/UnitFrames.antt).
-use Rattle.std.proofs.Common.{◌≡◌, ◌≢◌, ◌∙◌, ℕ, ap, sym, refl, subst, not, ◌&&◌, is_ok, is_none, Bool, true, false, Option, Some, None, option_map, Result, Ok, Err, if◌then◌else◌}
+use Rattle.std.proofs.Common.{◌≡◌, ◌≢◌, ◌∙◌, ℕ, ap, sym, refl, subst, not, ◌&&◌, is_ok, is_none, box_value, Bool, true, false, Option, Some, None, option_map, Result, Ok, Err, if◌then◌else◌}
 use Rattle.gimli_read.specs.declared.error.Error.{Error}
 use Rattle.gimli_read.specs.declared.error.Error.TheVariants.{OutOfMemory}
 use Rattle.gimli_read.specs.Reading.{◌>>=◌}
@@ -19,7 +19,7 @@ use Rattle.addr2line_units.specs.declared.view.UnitView.{UnitView}
 use Rattle.addr2line_units.specs.declared.view.ViewState.{ViewState}
 use Rattle.addr2line_units.specs.declared.view.ViewState.TheVariants as states
 use Rattle.addr2line_units.specs.AskMemory.{functions_in_take_memory, lines_take_memory}
-use Rattle.addr2line_units.specs.CachedLines.{AreLinesOf, cached_files, is_uncached}
+use Rattle.addr2line_units.specs.CachedLines.{AreLinesOf, cached_files, is_uncached, no_lines}
 use Rattle.addr2line_units.specs.Frames.{FoundFunction, found_frames}
 use Rattle.addr2line_units.specs.CachedEntries.{AreRead, AsksNoMemoryIn, ReadsEntriesOf, StayEntries, has_entries, has_entries_by}
 use Rattle.addr2line_units.specs.CachedFunctions.{StayFunctions, cached_functions}
@@ -113,14 +113,19 @@ module _ (scope : Scope) (x : IndexedUnit) (answer : Option (Option Sections)) (
           by_cases (Ok table) q k = absurd cc
           by_cases (Err y) q k = let same : y ≡ e = cc in by_lines (Err y) q ∙ ap (λ z. Err z) same
 
+      read_frames : (table : Lines) (row : Option Row) → unit_lines scope.file.sections x.unit ≡ Ok table → location_in scope.file.sections probe (Some x) ≡ Ok (option_map (location_of_row table.files) row)
+          → frames_in scope x answer probe ≡ Ok (Some (found_frames table.files x.language f (option_map (location_of_row table.files) row)))
+      read_frames table row right k =
+          let at : Ok (location_at probe table) ≡ Ok (option_map (location_of_row table.files) row) = sym (ap (λ (r : Result Lines Error). r >>= λ table. Ok (location_at probe table)) right) ∙ k in
+          let same : location_at probe table ≡ option_map (location_of_row table.files) row = cc in
+          by_lines (Ok table) right ∙ ap (λ (o : Option Location). Ok (Some (found_frames table.files x.language f o))) same
+
       pub lines_frames : (l : LazyLines) (row : Option Row) → AreLinesOf scope.file.sections x.unit l → is_uncached l ≡ false → location_in scope.file.sections probe (Some x) ≡ Ok (option_map (location_of_row (cached_files l)) row)
           → (AreRead l) × (frames_in scope x answer probe ≡ Ok (Some (found_frames (cached_files l) x.language f (option_map (location_of_row (cached_files l)) row))))
       lines_frames lines.Unread row right cached k = cc
+      lines_frames lines.Absent row right cached k = (tt, read_frames no_lines row right k)
       lines_frames (lines.Faulty e) row right cached k = (let no = sym (ap (λ (r : Result Lines Error). r >>= λ table. Ok (location_at probe table)) right.0) ∙ k in absurd cc)
-      lines_frames (lines.Read table) row right cached k =
-          let at : Ok (location_at probe table) ≡ Ok (option_map (location_of_row table.files) row) = sym (ap (λ (r : Result Lines Error). r >>= λ table. Ok (location_at probe table)) right) ∙ k in
-          let same : location_at probe table ≡ option_map (location_of_row table.files) row = cc in
-          (tt, by_lines (Ok table) right ∙ ap (λ (o : Option Location). Ok (Some (found_frames table.files x.language f o))) same)
+      lines_frames (lines.Read table) row right cached k = (tt, read_frames (box_value table) row right k)
 
 -- where a lookup takes no memory in a unit, its refusal is the fault of the function
 pub function_alone : {R : Type 0} (shares : Bool) (scope : Scope) (u : UnitRecord) (answer : Option (Option Sections)) (probe : ℕ) (r : ResUnit) (v : UnitEntries R) (e : Error) → AsksNoMemoryIn shares scope u answer probe r v

@@ -86,6 +86,7 @@ frames_of_place u v (found.Here function row) =
 
 -- lines were read, and have no fault
 abbrev pub AreRead : LazyLines → Type 0
+AreRead lines.Absent = Unit {0}
 AreRead (lines.Read table) = Unit {0}
 AreRead _ = ⊥
 

@@ -1,7 +1,7 @@
 -- The lines of units as a context caches them, as the private functions see them.
 -- Own: lines are read when they are first asked for, and cached then, their fault too. OutOfMemory
--- is never cached.
-use Rattle.std.specs.Prelude.{◌≡◌, ◌≢◌, ℕ, Bool, true, false, not, List, [], ◌∷◌, map, Option, Some, None, is_some, slice_get, Result, Ok, Err}
+-- is never cached. Lines are absent where the unit has no line program.
+use Rattle.std.specs.Prelude.{◌≡◌, ◌≢◌, ℕ, Bool, true, false, not, List, [], ◌∷◌, map, Option, Some, None, is_some, slice_get, Result, Ok, Err, box_value}
 use Rattle.std.specs.List.{AllZip}
 use Rattle.gimli_read.specs.declared.error.Error.{Error}
 use Rattle.gimli_read.specs.declared.error.Error.TheVariants.{OutOfMemory}
@@ -17,27 +17,34 @@ use Rattle.addr2line_lines.specs.Spans.{row_at}
 use Rattle.addr2line_lines.specs.UnitLines.{unit_lines}
 use Rattle.addr2line_units.specs.declared.unit_row.UnitRow.{UnitRow}
 use Rattle.addr2line_units.specs.declared.unit.LazyLines.{LazyLines}
-use Rattle.addr2line_units.specs.declared.unit.LazyLines.TheVariants.{Unread, Read, Faulty}
+use Rattle.addr2line_units.specs.declared.unit.LazyLines.TheVariants.{Unread, Absent, Read, Faulty}
 use Rattle.addr2line_units.specs.declared.unit.ResUnit.{ResUnit}
 use Rattle.addr2line_units.specs.RangedUnits.{IndexedUnit}
 use Rattle.addr2line_units.specs.Located.{all_read}
+
+-- no lines
+abbrev pub no_lines : Lines
+no_lines = record { files = []; sequences = [] }
 
 -- the cached lines are those that the unit's bytes give, or their fault, which is never
 -- OutOfMemory
 abbrev pub AreLinesOf : Sections → UnitRecord → LazyLines → Type 0
 AreLinesOf d u Unread = Unit {0}
-AreLinesOf d u (Read lines) = unit_lines d u ≡ Ok lines
+AreLinesOf d u Absent = unit_lines d u ≡ Ok no_lines
+AreLinesOf d u (Read lines) = unit_lines d u ≡ Ok (box_value lines)
 AreLinesOf d u (Faulty e) = (unit_lines d u ≡ Err e) × (e ≢ OutOfMemory)
 
 -- the cached lines, none before they are read and where they have a fault
 abbrev pub cached_lines : LazyLines → Option Lines
-cached_lines (Read lines) = Some lines
+cached_lines Absent = Some no_lines
+cached_lines (Read lines) = Some (box_value lines)
 cached_lines _ = None
 
 -- the cached lines, or their cached fault
 abbrev pub cached_lines_result : LazyLines → Result (Option Lines) Error
 cached_lines_result Unread = Ok None
-cached_lines_result (Read lines) = Ok (Some lines)
+cached_lines_result Absent = Ok (Some no_lines)
+cached_lines_result (Read lines) = Ok (Some (box_value lines))
 cached_lines_result (Faulty e) = Err e
 
 -- whether nothing is cached yet
@@ -61,28 +68,30 @@ lines_result d u = unit_lines d u >>= λ lines. Ok (Some lines)
 
 -- the texts of the files of cached lines
 abbrev pub cached_files : LazyLines → List (List ℕ)
-cached_files (Read lines) = lines.files
+cached_files (Read lines) = (box_value lines).files
 cached_files _ = []
 
 -- the ranges of the sequences of cached lines
 abbrev pub cached_ranges : LazyLines → List Range
-cached_ranges (Read lines) = sequence_ranges lines
+cached_ranges (Read lines) = sequence_ranges (box_value lines)
 cached_ranges _ = []
 
 -- the row of the probe in cached lines
 abbrev pub cached_row : ℕ → LazyLines → Option Row
-cached_row probe (Read lines) = row_at probe lines.sequences
+cached_row probe (Read lines) = row_at probe (box_value lines).sequences
 cached_row probe _ = None
 
 -- the most looks at cached lines
 abbrev pub cached_looks : LazyLines → ℕ
-cached_looks (Read lines) = most_looks_in lines
+cached_looks (Read lines) = most_looks_in (box_value lines)
 cached_looks _ = 0
 
 -- what cached lines have in a range, or their cached fault
 abbrev pub cached_spans : Range → ℕ → ℕ → LazyLines → List (Result LocatedSpan Error)
 cached_spans range low high Unread = []
-cached_spans range low high (Read lines) = all_read (locations_in_range lines range low high)
+cached_spans range low high Absent = []
+cached_spans range low high (Read lines) =
+    all_read (locations_in_range (box_value lines) range low high)
 cached_spans range low high (Faulty e) = Err e ∷ []
 
 -- a unit and its language

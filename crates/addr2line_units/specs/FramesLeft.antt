@@ -1,9 +1,10 @@
 -- The frames that an iterator has left, as the private functions see them.
+use Rattle.std.specs.Borrow.{Bor}
 use Rattle.std.specs.Prelude.{ℕ, List, [], ◌∷◌, reverse, slice_get, Option, Some, None, option_map}
 use Rattle.gimli_read.specs.declared.constants.DwLang.{DwLang}
 use Rattle.addr2line_lines.specs.InlinedEntries.{InlinedEntry}
 use Rattle.addr2line_lines.specs.FunctionTable.{FunctionTable, cached_name, cached_offset_at}
-use Rattle.addr2line_lines.specs.Location.{Location}
+use Rattle.addr2line_lines.specs.Location.{LineTable, Location}
 use Rattle.addr2line_lines.specs.SeenLocation.{seen_location}
 use Rattle.addr2line_units.specs.declared.frame.FrameIter.{FrameIter}
 use Rattle.addr2line_units.specs.declared.frame.FrameState.{FrameState}
@@ -33,12 +34,17 @@ frames_inside files language t place (n ∷ inlined) location =
     ∷ frames_inside files language t place inlined
     (option_map (λ (e : InlinedEntry). call_location files e.call) (slice_get t.inlined n))
 
+-- the texts of the files of lines, none without lines
+abbrev pub files_if : Option (Bor LineTable) → List (List ℕ)
+files_if None = []
+files_if (Some lines) = lines.now.files
+
 -- the frames that a state has left
 abbrev pub state_frames : {R : Type 0} → FrameState R → List FrameRecord
 state_frames Empty = []
 state_frames (Located l) = location_frames (option_map seen_location l)
 state_frames (Function f) =
-    frames_inside f.lines.now.files f.language f.functions.now f.place (reverse f.inlined.now)
+    frames_inside (files_if f.lines) f.language f.functions.now f.place (reverse f.inlined.now)
     (option_map seen_location f.location)
 
 -- the frames that are left

@@ -13,7 +13,7 @@ ghost use Rattle.addr2line_lines.specs.FunctionTable.{cached_name, cached_offset
 ghost use Rattle.gimli_read.specs.Reading.{result_map};
 ghost use Rattle.addr2line_lines.specs.SeenLocation.{seen_location};
 ghost use Rattle.addr2line_units.specs.Frames.{call_location, found_frames, frames_from, if_counted, location_frames};
-ghost use Rattle.addr2line_units.specs.FramesLeft.{entry_frame, frames_left, place_frame};
+ghost use Rattle.addr2line_units.specs.FramesLeft.{entry_frame, files_if, frames_left, place_frame};
 ghost use Rattle.addr2line_units.specs.CachedFunctions.{ArePlacesIn, function_of_place, cached_functions};
 ghost use Rattle.addr2line_units.specs.LegacyText.{demangled, demangled_auto};
 ghost use Rattle.addr2line_units.specs.SeenFrame.{YieldsFrame, language_text, name_text, raw_text, seen_frame, seen_name};
@@ -143,15 +143,19 @@ fn if_counted(number: u32) -> Option<u32>
 }
 
 // The text of the file of a call, if there is one.
-fn call_file<'ctx>(lines: &'ctx Lines, index: Option<u64>) -> Option<&'ctx str>
-    ensures gives { option_copied result ≡ option_and_then (slice_get lines.now.files) index }
+fn call_file<'ctx>(lines: Option<&'ctx Lines>, index: Option<u64>) -> Option<&'ctx str>
+    ensures gives { option_copied result
+        ≡ option_and_then (slice_get (files_if lines.entry)) index }
 {
-    lines.file(index?)
+    lines?.file(index?)
 }
 
 // Where an inlined function was called.
-fn call_location<'ctx, R: Reader>(lines: &'ctx Lines, entry: &InlinedFunction<R>) -> Location<'ctx>
-    ensures gives { seen_location result ≡ call_location lines.now.files entry.now.call }
+fn call_location<'ctx, R: Reader>(
+    lines: Option<&'ctx Lines>,
+    entry: &InlinedFunction<R>,
+) -> Location<'ctx>
+    ensures gives { seen_location result ≡ call_location (files_if lines.entry) entry.now.call }
 {
     Location {
         file: call_file(lines, entry.call_file),
@@ -177,8 +181,8 @@ struct FunctionFrames<'ctx, R: Reader> {
     place: usize,
     // The places of its inlined functions that are left, from the outside in.
     inlined: &'ctx [usize],
-    // The lines of the main unit, whose files those of calls are.
-    lines: &'ctx Lines,
+    // The lines of the main unit, if it has a line program; the files of calls are theirs.
+    lines: Option<&'ctx Lines>,
     language: Option<DwLang>,
     // The location of the next frame.
     location: Option<Location<'ctx>>,
@@ -218,7 +222,7 @@ impl<'ctx, R: Reader> FunctionFrames<'ctx, R> {
     // Where an inlined function was called.
     fn call_of(&self, entry: Option<&'ctx InlinedFunction<R>>) -> Option<Location<'ctx>>
         ensures gives { option_map seen_location result ≡ option_map
-            (λ e. call_location self.now.lines.now.files e.now.call) entry.entry }
+            (λ e. call_location (files_if self.now.lines) e.now.call) entry.entry }
     {
         Some(call_location(self.lines, entry?))
     }
@@ -278,20 +282,20 @@ impl<'ctx, R: Reader> FrameIter<'ctx, R> {
     ///
     /// `inlined` has the places of these from the outside in, as
     /// `Functions::find_inlined_functions` gives them; `lines` and `language` are those of the
-    /// main unit, and `location` is that of the address. Source: DWARF 5, section 3.3.8. Own: the
-    /// order of `next`.
+    /// main unit, as far as it has them, and `location` is that of the address. Source: DWARF 5,
+    /// section 3.3.8. Own: the order of `next`.
     #[tactic(auto, using(crate::proofs::FrameLemmas::function_frames, crate::proofs::FrameLemmas::function_frames_count))]
     pub fn new_function(
         functions: &'ctx Functions<R>,
         place: usize,
         inlined: &'ctx [usize],
-        lines: &'ctx Lines,
+        lines: Option<&'ctx Lines>,
         language: Option<DwLang>,
         location: Option<Location<'ctx>>,
     ) -> FrameIter<'ctx, R>
         requires there { AllByRecursion (λ n. n < length functions.now.inlined) inlined.now }
         ensures gives { IfSome (cached_offset_at functions.now place) (λ offset. frames_left result
-            ≡ frames_from lines.now.files language offset (cached_name functions.now place)
+            ≡ frames_from (files_if lines.entry) language offset (cached_name functions.now place)
             (reverse (map (entry_among functions.now.inlined) inlined.now))
             (option_map seen_location location.entry)) }
         ensures count { length (frames_left result) ≡ length inlined.now + 1 }
@@ -346,12 +350,12 @@ impl<'ctx, R: Reader> FrameIter<'ctx, R> {
 pub(crate) fn frames_of<'ctx, R: Reader>(
     functions: &'ctx LazyFunctions<R>,
     place: &'ctx Option<FunctionPlace>,
-    lines: &'ctx Lines,
+    lines: Option<&'ctx Lines>,
     language: Option<DwLang>,
     location: Option<Location<'ctx>>,
 ) -> FrameIter<'ctx, R>
     requires there { IfSome place.now (ArePlacesIn (cached_functions functions.now)) }
-    ensures gives { frames_left result ≡ found_frames lines.now.files language
+    ensures gives { frames_left result ≡ found_frames (files_if lines.entry) language
         (option_map (function_of_place (cached_functions functions.now)) place.now)
         (option_map seen_location location.entry) }
 {

@@ -232,12 +232,14 @@ pub(crate) fn read_all_lines<R: Reader>(
 }
 
 // The location of a row in cached lines.
-fn location_of(lines: &LazyLines, row: Row) -> Location<'_>
+pub(crate) fn location_of(lines: &LazyLines, row: Row) -> Location<'_>
     ensures gives { seen_location result ≡ location_of_row (cached_files lines.now) row }
 {
     match lines {
         LazyLines::Read(lines) => lines.location(row),
-        LazyLines::Faulty(_) | LazyLines::Unread => Location::without_file(row),
+        LazyLines::Faulty(_) | LazyLines::Absent | LazyLines::Unread => {
+            Location::without_file(row)
+        }
     }
 }
 

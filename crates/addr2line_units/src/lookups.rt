@@ -20,6 +20,7 @@ ghost use Rattle.addr2line_units.specs.Views.{load_of_unit};
 use crate::frame::{FrameIter, frames_of};
 use crate::frames_lookup::FramesStop;
 use crate::functions::FunctionPlace;
+use crate::lookup::location_of;
 use crate::sup::SupUnits;
 use crate::unit::{LazyLines, ResUnit};
 use crate::unit_frames::UnitEntries;
@@ -60,11 +61,13 @@ fn frames_in_unit<'ctx, R: Reader>(
         (option_map (function_of_place (cached_functions entries.now.functions)) function.now)
         (option_map (location_of_row (cached_files unit.now.lines)) row) }
 {
-    let LazyLines::Read(lines) = &unit.lines else {
-        return FrameIter::new_empty();
+    let lines = match &unit.lines {
+        LazyLines::Read(lines) => Some(&**lines),
+        LazyLines::Absent => None,
+        LazyLines::Faulty(_) | LazyLines::Unread => return FrameIter::new_empty(),
     };
     let location = match row {
-        Some(row) => Some(lines.location(row)),
+        Some(row) => Some(location_of(&unit.lines, row)),
         None => None,
     };
     frames_of(&entries.functions, function, lines, unit.lang, location)

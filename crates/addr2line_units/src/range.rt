@@ -41,7 +41,7 @@ fn rows_of<'ctx>(
         ≡ cached_spans range low high lines.now }
 {
     match lines {
-        LazyLines::Unread => Ok(None),
+        LazyLines::Unread | LazyLines::Absent => Ok(None),
         LazyLines::Read(lines) => Ok(Some(lines.find_location_range(range, low, high))),
         LazyLines::Faulty(error) => Err(*error),
     }

@@ -20,13 +20,16 @@ use gimli::read::{DwLang, Error, Range, Reader};
 use gimli::{Dwarf, Unit, UnitRef, UnitType};
 use std::alloc::Global;
 
-/// The lines of a unit, read when they are first asked for.
+/// The lines of a unit, read when they are first asked for. They stand in a box, so that a unit is
+/// small whose lines nobody has asked for.
 #[derive(Drop)]
 pub enum LazyLines {
     /// Nobody has asked for them yet.
     Unread,
+    /// There are none, as the unit has no line program.
+    Absent,
     /// They were read.
-    Read(Lines),
+    Read(Box<Lines>),
     /// They can't be read, for this reason.
     Faulty(Error),
 }
@@ -109,13 +112,13 @@ fn read_given<R: Reader>(
 
 // The lines of a unit before they are asked for: a unit without a line program has none. Takes no
 // memory.
-fn lines_at_first<R: Reader>(alloc: Global, unit: &Unit<R>) -> LazyLines
+fn lines_at_first<R: Reader>(unit: &Unit<R>) -> LazyLines
     ensures uncached { is_uncached result ≡ is_some unit.now.line_program }
     ensures read { (d : Sections) → AreLinesOf d unit.now result }
 {
     match &unit.line_program {
         Some(_) => LazyLines::Unread,
-        None => LazyLines::Read(Lines::none(alloc)),
+        None => LazyLines::Absent,
     }
 }
 
@@ -132,7 +135,7 @@ pub(crate) fn read_ranged_unit<R: Reader>(
     ensures unparsed { IfOk result (λ x. IsUnparsed dwarf.now dw_unit.now x.0) }
 {
     let (lang, ranges) = read_given(alloc, UnitRef::new(dwarf, dw_unit), aranges)?;
-    let lines = lines_at_first(alloc, dw_unit);
+    let lines = lines_at_first(dw_unit);
     Ok((ResUnit { lang, lines }, ranges))
 }
 
@@ -153,8 +156,11 @@ fn parse_lines<R: Reader>(
     ensures no_memory { lines_take_memory R.shares unit.now ≡ false
         → IfErr result (λ e. lines_result dwarf.now unit.now ≡ Err e) }
 {
+    let Some(_) = &unit.line_program else {
+        return Ok(LazyLines::Absent);
+    };
     match Lines::parse(alloc, dwarf, unit) {
-        Ok(lines) => Ok(LazyLines::Read(lines)),
+        Ok(lines) => Ok(LazyLines::Read(Box::new(alloc, lines)?)),
         Err(Error::OutOfMemory) => Err(Error::OutOfMemory),
         Err(error) => Ok(LazyLines::Faulty(error)),
     }
@@ -166,7 +172,7 @@ fn check_lines(lines: &LazyLines) -> Result<(), Error>
 {
     match lines {
         LazyLines::Faulty(error) => Err(*error),
-        LazyLines::Read(_) | LazyLines::Unread => Ok(()),
+        LazyLines::Read(_) | LazyLines::Absent | LazyLines::Unread => Ok(()),
     }
 }
 
@@ -203,7 +209,7 @@ fn find_cached_row(lines: &LazyLines, looks: &mut Count, probe: u64) -> Option<R
 {
     match lines {
         LazyLines::Read(lines) => lines.find_row(looks, probe),
-        LazyLines::Faulty(_) | LazyLines::Unread => None,
+        LazyLines::Faulty(_) | LazyLines::Absent | LazyLines::Unread => None,
     }
 }
 

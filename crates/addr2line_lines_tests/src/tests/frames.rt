@@ -68,7 +68,14 @@ fn frames_at(
     match functions.find_inlined_functions(alloc, place, probe) {
         Ok(inlined) => codes_of(
             alloc,
-            FrameIter::new_function(functions, place, inlined.as_slice(), lines, None, location),
+            FrameIter::new_function(
+                functions,
+                place,
+                inlined.as_slice(),
+                Some(lines),
+                None,
+                location,
+            ),
         ),
         Err(_) => FAULT,
     }

@@ -93,10 +93,11 @@ module _ {X : Type 0} (shares : Bool) (x : X) where
 pub find_takes_none : {R : Type 0} (shares : Bool) (scope : Scope) (view : UnitRecord) (probe : ℕ) (f : LazyFunctions R) → AreFunctionsOf scope view f → functions_take_memory shares scope.file.sections view ≡ false
     → find_takes_memory shares scope view probe f ≡ false
 find_takes_none shares scope view probe lazy.Unread right none = none
-find_takes_none shares scope view probe (lazy.Read t) right none = by_test (table_takes_memory probe t) refl
+find_takes_none shares scope view probe lazy.Absent right none = refl
+find_takes_none shares scope view probe (lazy.Read t) right none = by_test (table_takes_memory probe t.value) refl
   where
-    by_test : (b : Bool) → table_takes_memory probe t ≡ b → table_takes_memory probe t ≡ false
-    by_test true e = let no : false ≡ true = sym none ∙ place_takes shares scope view t right probe e in absurd cc
+    by_test : (b : Bool) → table_takes_memory probe t.value ≡ b → table_takes_memory probe t.value ≡ false
+    by_test true e = let no : false ≡ true = sym none ∙ place_takes shares scope view t.value right probe e in absurd cc
     by_test false e = e
 find_takes_none shares scope view probe (lazy.Faulty e) right none = refl
 
@@ -104,10 +105,11 @@ find_takes_none shares scope view probe (lazy.Faulty e) right none = refl
 pub reading_takes_none : {R : Type 0} (shares : Bool) (scope : Scope) (view : UnitRecord) (f : LazyFunctions R) → AreFunctionsOf scope view f → functions_take_memory shares scope.file.sections view ≡ false
     → reading_takes_memory shares scope view f ≡ false
 reading_takes_none shares scope view lazy.Unread right none = none
-reading_takes_none shares scope view (lazy.Read t) right none = by_test (details_take_memory shares scope view t.functions) refl
+reading_takes_none shares scope view lazy.Absent right none = refl
+reading_takes_none shares scope view (lazy.Read t) right none = by_test (details_take_memory shares scope view t.value.functions) refl
   where
-    by_test : (b : Bool) → details_take_memory shares scope view t.functions ≡ b → details_take_memory shares scope view t.functions ≡ false
-    by_test true e = let no : false ≡ true = sym none ∙ details_take shares scope view t right e in absurd cc
+    by_test : (b : Bool) → details_take_memory shares scope view t.value.functions ≡ b → details_take_memory shares scope view t.value.functions ≡ false
+    by_test true e = let no : false ≡ true = sym none ∙ details_take shares scope view t.value right e in absurd cc
     by_test false e = e
 reading_takes_none shares scope view (lazy.Faulty e) right none = refl
 

@@ -1,5 +1,5 @@
 -- The function at an address by what is cached of a view (on specs/CachedFunctions.antt).
-use Rattle.std.proofs.Common.{◌≡◌, ◌≢◌, ℕ, ◌+◌, ◌<◌, ◌==◌, ◌&&◌, ◌⊎◌, inl, inr, nat_lt, not, Bool, true, false, cond, List, [], ◌∷◌, length, map, slice_get, slice_set, Option, Some, None, option_and_then, option_map, unwrap_or, Result, Ok, Err, refl, ap, sym, subst, ◌∙◌, arith, zero, suc}
+use Rattle.std.proofs.Common.{Box, Global, ◌≡◌, ◌≢◌, ℕ, ◌+◌, ◌<◌, ◌==◌, ◌&&◌, ◌⊎◌, inl, inr, nat_lt, not, Bool, true, false, cond, List, [], ◌∷◌, length, map, slice_get, slice_set, Option, Some, None, option_and_then, option_map, unwrap_or, Result, Ok, Err, refl, ap, sym, subst, ◌∙◌, arith, zero, suc}
 use Rattle.std.specs.Prelude.{IfSome, OnOk, position, reverse}
 use Rattle.std.specs.List.{AllByRecursion, AllZip, position_or_len}
 use Rattle.std.proofs.lemmas.Bool.Decides.{nat_tests}
@@ -351,40 +351,47 @@ pub and_weaker : (a b c : Bool) → (a ≡ true → b ≡ true) → (a && c) ≡
 and_weaker true b c w h = ap (λ x. x && c) (w refl) ∙ h
 and_weaker false b c w h = absurd cc
 
+-- the first fault of a view without functions, which has none
+pub no_fault_of : (scope : Scope) (view : UnitRecord) → functions_of scope.file.sections view ≡ Ok [] → functions_fault scope view ≡ Ok tt
+no_fault_of scope view e = ap (λ (r : Result (List FunctionRange) Error). r >>= λ ranges. details_at scope view (entries_of ranges)) e
+
 -- functions that were read stay as they are, and others are read
 module _ {R : Type 0} (old mid : LazyFunctions R) (kept : were_read old ≡ true → (mid ≡ old)) where
   -- functions that are cached were cached before, or weren't read
-  pub memory_before : (shares : Bool) (scope : Scope) (view : UnitRecord) (t : FunctionTable) (probe : ℕ) → mid ≡ lazy.Read t → IsTableOf scope view t → table_takes_memory probe t ≡ true → find_takes_memory shares scope view probe old ≡ true
+  pub memory_before : (shares : Bool) (scope : Scope) (view : UnitRecord) (t : Box FunctionTable Global) (probe : ℕ) → mid ≡ lazy.Read t → IsTableOf scope view t.value → table_takes_memory probe t.value ≡ true → find_takes_memory shares scope view probe old ≡ true
   memory_before shares scope view t probe e is_table h = by_old old refl
     where
       by_old : (x : LazyFunctions R) → old ≡ x → find_takes_memory shares scope view probe x ≡ true
-      by_old lazy.Unread q = place_takes shares scope view t is_table probe h
+      by_old lazy.Unread q = place_takes shares scope view t.value is_table probe h
+      by_old lazy.Absent q = let is : lazy.Read t ≡ lazy.Absent = sym e ∙ kept (ap were_read q) ∙ q in absurd cc
       by_old (lazy.Read s) q =
           let is : lazy.Read t ≡ lazy.Read s = sym e ∙ kept (ap were_read q) ∙ q in
           let same : t ≡ s = cc in
-          ap (table_takes_memory probe) (sym same) ∙ h
+          ap (λ (u : Box FunctionTable Global). table_takes_memory probe u.value) (sym same) ∙ h
       by_old (lazy.Faulty x) q = let is : lazy.Read t ≡ lazy.Faulty x = sym e ∙ kept (ap were_read q) ∙ q in absurd cc
 
-  pub reading_before : (shares : Bool) (scope : Scope) (view : UnitRecord) (t : FunctionTable) → mid ≡ lazy.Read t → IsTableOf scope view t → details_take_memory shares scope view t.functions ≡ true → reading_takes_memory shares scope view old ≡ true
+  pub reading_before : (shares : Bool) (scope : Scope) (view : UnitRecord) (t : Box FunctionTable Global) → mid ≡ lazy.Read t → IsTableOf scope view t.value → details_take_memory shares scope view t.value.functions ≡ true → reading_takes_memory shares scope view old ≡ true
   reading_before shares scope view t e is_table h = by_old old refl
     where
       by_old : (x : LazyFunctions R) → old ≡ x → reading_takes_memory shares scope view x ≡ true
-      by_old lazy.Unread q = details_take shares scope view t is_table h
+      by_old lazy.Unread q = details_take shares scope view t.value is_table h
+      by_old lazy.Absent q = let is : lazy.Read t ≡ lazy.Absent = sym e ∙ kept (ap were_read q) ∙ q in absurd cc
       by_old (lazy.Read s) q =
           let is : lazy.Read t ≡ lazy.Read s = sym e ∙ kept (ap were_read q) ∙ q in
           let same : t ≡ s = cc in
-          ap (λ (u : FunctionTable). details_take_memory shares scope view u.functions) (sym same) ∙ h
+          ap (λ (u : Box FunctionTable Global). details_take_memory shares scope view u.value.functions) (sym same) ∙ h
       by_old (lazy.Faulty x) q = let is : lazy.Read t ≡ lazy.Faulty x = sym e ∙ kept (ap were_read q) ∙ q in absurd cc
 
-  pub stay_read : (t new : FunctionTable) → mid ≡ lazy.Read t → IsTableMore t new → StayFunctions old (lazy.Read new)
+  pub stay_read : (t new : Box FunctionTable Global) → mid ≡ lazy.Read t → IsTableMore t.value new.value → StayFunctions old (lazy.Read new)
   stay_read t new e more = by_old old refl
     where
       by_old : (x : LazyFunctions R) → old ≡ x → StayFunctions x (lazy.Read new)
       by_old lazy.Unread q = tt
+      by_old lazy.Absent q = let is : lazy.Read t ≡ lazy.Absent = sym e ∙ kept (ap were_read q) ∙ q in absurd cc
       by_old (lazy.Read s) q =
           let is : lazy.Read t ≡ lazy.Read s = sym e ∙ kept (ap were_read q) ∙ q in
           let same : t ≡ s = cc in
-          subst (λ (u : FunctionTable). IsTableMore u new) same more
+          subst (λ (u : Box FunctionTable Global). IsTableMore u.value new.value) same more
       by_old (lazy.Faulty x) q = let is : lazy.Read t ≡ lazy.Faulty x = sym e ∙ kept (ap were_read q) ∙ q in absurd cc
 
   pub stay_faulty : (e : Error) → mid ≡ lazy.Faulty e → StayFunctions old (lazy.Faulty e)
@@ -392,19 +399,21 @@ module _ {R : Type 0} (old mid : LazyFunctions R) (kept : were_read old ≡ true
     where
       by_old : (x : LazyFunctions R) → old ≡ x → StayFunctions x (lazy.Faulty e)
       by_old lazy.Unread q = tt
+      by_old lazy.Absent q = sym at ∙ kept (ap were_read q) ∙ q
       by_old (lazy.Read s) q = let is : lazy.Faulty e ≡ lazy.Read s = sym at ∙ kept (ap were_read q) ∙ q in absurd cc
       by_old (lazy.Faulty x) q = sym at ∙ kept (ap were_read q) ∙ q
 
   -- no detail is cached where functions are read
-  pub details_before : (t : FunctionTable) → (were_read old ≡ false → AreUnread (cached_functions mid)) → mid ≡ lazy.Read t → (n : ℕ) → cached_detail t n ≡ cached_detail (cached_functions old) n
+  pub details_before : (t : Box FunctionTable Global) → (were_read old ≡ false → AreUnread (cached_functions mid)) → mid ≡ lazy.Read t → (n : ℕ) → cached_detail t.value n ≡ cached_detail (cached_functions old) n
   details_before t unread e n = by_old old refl
     where
-      by_old : (x : LazyFunctions R) → old ≡ x → cached_detail t n ≡ cached_detail (cached_functions x) n
-      by_old lazy.Unread q = unread_at t.functions n (subst (λ (y : LazyFunctions R). AreUnread (cached_functions y)) e (unread (ap were_read q)))
+      by_old : (x : LazyFunctions R) → old ≡ x → cached_detail t.value n ≡ cached_detail (cached_functions x) n
+      by_old lazy.Unread q = unread_at t.value.functions n (subst (λ (y : LazyFunctions R). AreUnread (cached_functions y)) e (unread (ap were_read q)))
+      by_old lazy.Absent q = let is : lazy.Read t ≡ lazy.Absent = sym e ∙ kept (ap were_read q) ∙ q in absurd cc
       by_old (lazy.Read s) q =
           let is : lazy.Read t ≡ lazy.Read s = sym e ∙ kept (ap were_read q) ∙ q in
           let same : t ≡ s = cc in
-          ap (λ (u : FunctionTable). cached_detail u n) same
+          ap (λ (u : Box FunctionTable Global). cached_detail u.value n) same
       by_old (lazy.Faulty x) q = let is : lazy.Read t ≡ lazy.Faulty x = sym e ∙ kept (ap were_read q) ∙ q in absurd cc
 
   pub none_before : (e : Error) → mid ≡ lazy.Faulty e → (n : ℕ) → None ≡ cached_detail (cached_functions old) n
@@ -412,6 +421,7 @@ module _ {R : Type 0} (old mid : LazyFunctions R) (kept : were_read old ≡ true
     where
       by_old : (x : LazyFunctions R) → old ≡ x → None ≡ cached_detail (cached_functions x) n
       by_old lazy.Unread q = refl
+      by_old lazy.Absent q = refl
       by_old (lazy.Read s) q = let is : lazy.Faulty e ≡ lazy.Read s = sym at ∙ kept (ap were_read q) ∙ q in absurd cc
       by_old (lazy.Faulty x) q = refl
 

@@ -34,25 +34,28 @@ use Rattle.addr2line_units.specs.CachedViews.{is_decided, seen_sections, unboxed
 use Rattle.addr2line_units.specs.Views.{FirstAnswers, View, view_scope}
 use Rattle.addr2line_units.proofs.AnswerLemmas.{answer_at, decided_was_looked_at, got_unit}
 use Rattle.addr2line_units.proofs.EntryLemmas.{functions_stay}
-use Rattle.addr2line_units.proofs.CachedFunctionLemmas.{fault_is}
+use Rattle.addr2line_units.proofs.CachedFunctionLemmas.{fault_is, no_fault_of}
 use Rattle.addr2line_units.proofs.CachedUnitLemmas.{entries_on, entries_same}
 use Rattle.addr2line_units.proofs.ParseLemmas.{at_or_behind, below_next}
 
 -- functions that are cached were read
 pub have_were_read : {R : Type 0} (r : ReadingDepth) (f : LazyFunctions R) → HaveFunctions r f → were_read f ≡ true
 have_were_read r lazy.Unread h = absurd h
+have_were_read r lazy.Absent h = refl
 have_were_read r (lazy.Read t) h = refl
 have_were_read r (lazy.Faulty e) h = refl
 
 -- so they have no fault
 pub have_no_fault : {R : Type 0} (r : ReadingDepth) (f : LazyFunctions R) (e : Error) → HaveFunctions r f → f ≡ lazy.Faulty e → ⊥
 have_no_fault r lazy.Unread e h k = absurd h
+have_no_fault r lazy.Absent e h k = cc
 have_no_fault r (lazy.Read t) e h k = cc
 have_no_fault r (lazy.Faulty x) e h k = absurd h
 
 -- functions that were cached stay
 pub cached_stay : {R : Type 0} (scope : Scope) (u : UnitRecord) (old mid : LazyFunctions R) → (were_read old ≡ true → mid ≡ old) → StayFunctions old mid
 cached_stay scope u lazy.Unread mid kept = tt
+cached_stay scope u lazy.Absent mid kept = kept refl
 cached_stay {R} scope u (lazy.Read t) mid kept = subst (λ (m : LazyFunctions R). StayFunctions (lazy.Read t) m) (sym (kept refl)) (functions_stay {R = R} scope u (lazy.Read t))
 cached_stay scope u (lazy.Faulty e) mid kept = kept refl
 
@@ -68,6 +71,7 @@ pub details_have : {R : Type 0} (scope : Scope) (view : UnitRecord) (may : Bool)
     → OnOk r (were_read f ≡ true) → OnOk r (AllByRecursion HasDetail (cached_functions f).functions) → OnOk r (HaveFunctions reads.Details f)
 details_have scope view may f (Err e) right gives read details = tt
 details_have scope view may lazy.Unread (Ok x) right gives read details = absurd cc
+details_have scope view may lazy.Absent (Ok x) right gives read details = tt
 details_have scope view may (lazy.Read t) (Ok x) right gives read details = details
 details_have scope view may (lazy.Faulty e) (Ok x) right gives read details =
     absurd (let no = sym (ap (λ (r : Result (List FunctionRange) Error). r >>= λ ranges. details_at scope view (entries_of ranges)) right) ∙ gives in cc)
@@ -97,9 +101,10 @@ pub details_cached : {R : Type 0} (shares : Bool) (scope : Scope) (view : UnitRe
     → ExactlyUnlessOomIf (reading_takes_memory shares scope view f) (λ x. x) r (functions_fault scope view) → r ≡ Ok tt
 details_cached shares scope view lazy.Unread r right h gives = absurd h
 details_cached shares scope view (lazy.Faulty e) r right h gives = absurd h
+details_cached shares scope view lazy.Absent r right h gives = exactly_ok false r (functions_fault scope view) refl (no_fault_of scope view right) gives
 details_cached shares scope view (lazy.Read t) r right h gives =
-    exactly_ok (details_take_memory shares scope view t.functions) r (functions_fault scope view) (no_detail_memory shares scope view t.functions h)
-    (fault_is scope view t right ∙ no_detail_fault scope view t.functions h right.details) gives
+    exactly_ok (details_take_memory shares scope view t.value.functions) r (functions_fault scope view) (no_detail_memory shares scope view t.value.functions h)
+    (fault_is scope view t.value right ∙ no_detail_fault scope view t.value.functions h right.details) gives
 
 -- a view without a fault is decided
 pub view_decided : {R : Type 0} (s : ViewState R) → has_view s ≡ true → is_decided s ≡ true
@@ -159,7 +164,8 @@ has_all probe t all (Some n) e =
 module _ {R : Type 0} (probe : ℕ) where
   has_functions : (f : LazyFunctions R) → HaveFunctions reads.Details f → cached_has_function probe f ≡ true
   has_functions lazy.Unread h = absurd h
-  has_functions (lazy.Read t) h = has_all probe t h (function_place_at probe t) refl
+  has_functions lazy.Absent h = refl
+  has_functions (lazy.Read t) h = has_all probe t.value h (function_place_at probe t.value) refl
   has_functions (lazy.Faulty e) h = absurd h
 
   has_by : (s : ViewState R) (f : LazyFunctions R) → has_view s ≡ true → HaveFunctions reads.Details f → has_entries_by probe s f ≡ true

@@ -1,5 +1,6 @@
 -- What is known of the function at an address by what is cached (on specs/CachedFunctions.antt).
-use Rattle.std.proofs.Common.{◌≡◌, ◌≢◌, ℕ, inl, inr, true, false, List, [], slice_get, Option, Some, None, option_and_then, Result, Ok, Err, refl, ap, sym, ◌∙◌}
+use Rattle.std.proofs.Common.{Box, Global, ◌≡◌, ◌≢◌, ℕ, inl, inr, true, false, List, [], slice_get, Option, Some, None, option_and_then, Result, Ok, Err, refl, ap, sym, ◌∙◌}
+use Rattle.std.specs.Box.{with_value}
 use Rattle.gimli_read.specs.declared.error.Error.{Error}
 use Rattle.gimli_read.specs.declared.error.Error.TheVariants.{OutOfMemory}
 use Rattle.gimli.specs.Unit.{UnitRecord}
@@ -88,6 +89,7 @@ module _ (scope : Scope) (view : UnitRecord) (probe n : ℕ) (old new : Function
 module _ {R : Type 0} (old mid : LazyFunctions R) (kept : were_read old ≡ true → (mid ≡ old)) (probe : ℕ) (has : cached_has_function probe old ≡ true) where
   were_known : (x : LazyFunctions R) → cached_has_function probe x ≡ true → were_read x ≡ true
   were_known lazy.Unread h = cc
+  were_known lazy.Absent h = refl
   were_known (lazy.Read t) h = refl
   were_known (lazy.Faulty e) h = refl
 
@@ -96,5 +98,5 @@ module _ {R : Type 0} (old mid : LazyFunctions R) (kept : were_read old ≡ true
   same_known = kept (were_known old has)
 
   -- and they stay
-  pub table_known : (t new : FunctionTable) → mid ≡ lazy.Read t → (has_table probe t ≡ true → new ≡ t) → lazy.Read new ≡ old
-  table_known t new e stays = ap lazy.Read (stays (ap (cached_has_function probe) (sym e ∙ same_known) ∙ has)) ∙ sym e ∙ same_known
+  pub table_known : (t : Box FunctionTable Global) (new : FunctionTable) → mid ≡ lazy.Read t → (has_table probe t.value ≡ true → new ≡ t.value) → lazy.Read (with_value t new) ≡ old
+  table_known t new e stays = ap (λ x. lazy.Read (with_value t x)) (stays (ap (cached_has_function probe) (sym e ∙ same_known) ∙ has)) ∙ sym e ∙ same_known

@@ -66,15 +66,19 @@ none_at probe n e = cc
 module _ {R : Type 0} where
   stays_same : (f : LazyFunctions R) → StayFunctions f f
   stays_same lazy.Unread = tt
-  stays_same (lazy.Read t) = record { ranges = refl; functions = functions_same t.functions; inlined = grown_not t.inlined; names = grown_not t.names }
+  stays_same lazy.Absent = refl
+  stays_same (lazy.Read t) = record { ranges = refl; functions = functions_same t.value.functions; inlined = grown_not t.value.inlined; names = grown_not t.value.names }
   stays_same (lazy.Faulty e) = refl
 
   stays_on : (f g h : LazyFunctions R) → StayFunctions f g → StayFunctions g h → StayFunctions f h
   stays_on lazy.Unread g h a b = tt
-  stays_on (lazy.Read t) (lazy.Read u) (lazy.Read v) a b = table_over t u v a b
+  stays_on lazy.Absent g h a b = subst (λ x. StayFunctions x h) a b ∙ refl
+  stays_on (lazy.Read t) (lazy.Read u) (lazy.Read v) a b = table_over t.value u.value v.value a b
   stays_on (lazy.Read t) (lazy.Read u) lazy.Unread a b = absurd b
+  stays_on (lazy.Read t) (lazy.Read u) lazy.Absent a b = absurd b
   stays_on (lazy.Read t) (lazy.Read u) (lazy.Faulty e) a b = absurd b
   stays_on (lazy.Read t) lazy.Unread h a b = absurd a
+  stays_on (lazy.Read t) lazy.Absent h a b = absurd a
   stays_on (lazy.Read t) (lazy.Faulty e) h a b = absurd a
   stays_on (lazy.Faulty e) g h a b = subst (λ x. StayFunctions x h) a b ∙ refl
 
@@ -142,8 +146,10 @@ module _ {R : Type 0} where
   -- what is found by what is cached is found by it where more is cached
   function_more : (probe : ℕ) (f g : LazyFunctions R) → StayFunctions f g → cached_has_function probe f ≡ true → cached_has_function probe g ≡ true
   function_more probe lazy.Unread g a e = cc
-  function_more probe (lazy.Read t) (lazy.Read u) a e = ap (has_place u) (place_stays probe t u a) ∙ place_more t u a (function_place_at probe t) e
+  function_more probe lazy.Absent g a e = ap (cached_has_function probe) a ∙ e
+  function_more probe (lazy.Read t) (lazy.Read u) a e = ap (has_place u.value) (place_stays probe t.value u.value a) ∙ place_more t.value u.value a (function_place_at probe t.value) e
   function_more probe (lazy.Read t) lazy.Unread a e = absurd a
+  function_more probe (lazy.Read t) lazy.Absent a e = absurd a
   function_more probe (lazy.Read t) (lazy.Faulty x) a e = absurd a
   function_more probe (lazy.Faulty x) g a e = ap (cached_has_function probe) a ∙ e
 
@@ -178,8 +184,10 @@ module _ {R : Type 0} where
   -- what one step reads and what the next one reads is what both read
   place_after : (probe : ℕ) (f g : LazyFunctions R) → StayFunctions f g → (n : ℕ) → function_place_at probe (cached_functions g) ≢ Some n → function_place_at probe (cached_functions f) ≢ Some n
   place_after probe lazy.Unread g a n ne = none_at probe n
-  place_after probe (lazy.Read t) (lazy.Read u) a n ne = λ e. ne (place_stays probe t u a ∙ e)
+  place_after probe lazy.Absent g a n ne = none_at probe n
+  place_after probe (lazy.Read t) (lazy.Read u) a n ne = λ e. ne (place_stays probe t.value u.value a ∙ e)
   place_after probe (lazy.Read t) lazy.Unread a n ne = absurd a
+  place_after probe (lazy.Read t) lazy.Absent a n ne = absurd a
   place_after probe (lazy.Read t) (lazy.Faulty x) a n ne = absurd a
   place_after probe (lazy.Faulty x) g a n ne = none_at probe n
 

@@ -26,7 +26,8 @@ use Rattle.addr2line_units.specs.Views.{View, is_open, parts_of, verdict, view_s
 -- functions stay what they are
 pub functions_stay : {R : Type 0} (scope : Scope) (u : UnitRecord) (f : LazyFunctions R) → StayFunctions f f
 functions_stay scope u lazy.Unread = tt
-functions_stay scope u (lazy.Read t) = table_same t
+functions_stay scope u lazy.Absent = refl
+functions_stay scope u (lazy.Read t) = table_same t.value
 functions_stay scope u (lazy.Faulty e) = refl
 
 undecided : {R : Type 0} (s : ViewState R) → was_looked_at s ≡ false → is_decided s ≡ false

@@ -1,5 +1,5 @@
 -- Where memory is taken for the functions of a view (on specs/CachedFunctions.antt).
-use Rattle.std.proofs.Common.{◌≡◌, ℕ, ◌<◌, ◌==◌, ◌&&◌, is_ok, ◌⊎◌, inl, inr, Bool, true, false, cond, List, [], ◌∷◌, ◌++◌, map, length, Option, Some, None, Result, Ok, Err, option_and_then, refl, ap, sym, subst, ◌∙◌, arith, append-nil}
+use Rattle.std.proofs.Common.{◌≡◌, ℕ, ◌<◌, ◌==◌, ◌&&◌, is_ok, ◌⊎◌, inl, inr, Bool, true, false, cond, List, [], ◌∷◌, ◌++◌, map, length, slice_get, option_map, Option, Some, None, Result, Ok, Err, option_and_then, refl, ap, sym, subst, ◌∙◌, arith, append-nil}
 use Rattle.std.specs.Prelude.{position}
 use Rattle.gimli_read.specs.declared.error.Error.{Error}
 use Rattle.gimli_read.specs.declared.range.Range.{Range}
@@ -12,8 +12,8 @@ use Rattle.gimli.specs.Unit.{UnitRecord}
 use Rattle.addr2line_lines.specs.declared.function.RangeAttributes.{RangeAttributes}
 use Rattle.addr2line_lines.specs.RangeAttributes.{attribute_ranges, gives_a_range, range_attributes_of}
 use Rattle.addr2line_lines.specs.FunctionDetails.{details_take_memory}
-use Rattle.addr2line_lines.specs.Functions.{FunctionRange, entries_of, entry_gives_a_range, entry_ranges, function_offset_at, functions_of, functions_take_memory, has_function, have_function, is_subprogram, with_function}
-use Rattle.addr2line_lines.specs.FunctionTable.{CachedFunction, FunctionTable}
+use Rattle.addr2line_lines.specs.Functions.{FunctionRange, entries_of, entry_gives_a_range, once_before, entry_ranges, function_offset_at, functions_of, functions_take_memory, has_function, have_function, is_subprogram, with_function}
+use Rattle.addr2line_lines.specs.FunctionTable.{AreListed, CachedFunction, FunctionTable, cached_offset_at}
 use Rattle.addr2line_lines.specs.References.{Scope}
 use Rattle.addr2line_lines.proofs.FunctionLemmas.{or_first, or_second}
 use Rattle.addr2line_lines.proofs.FunctionMemory.{listed_well}
@@ -93,6 +93,23 @@ module _ (d : Sections) (u : UnitRecord) where
           elim (fold_has (items_of u).items (items_of u).end [] p.0 p.1 q (subst (λ (v : List FunctionRange). 0 < length v) (sym same) l)) [ inl none ↦ absurd (omega arith) | inr h ↦ h ]
       by_fold (Err g) q f = absurd cc
 
+-- without a first function there is no range
+pub no_ranges : (t : FunctionTable) → AreListed t → cached_offset_at t 0 ≡ None → t.ranges ≡ []
+no_ranges t listed none = by_functions t.functions t.ranges listed none
+  where
+    some_entry : (offset : ℕ) (offsets : List ℕ) → [] ≡ once_before offset offsets → ⊥
+    some_entry offset [] e = cc
+    some_entry offset (next ∷ offsets) e = by_test (offset == next) e
+      where
+        by_test : (b : Bool) → [] ≡ cond b (next ∷ offsets) (offset ∷ next ∷ offsets) → ⊥
+        by_test true e = cc
+        by_test false e = cc
+
+    by_functions : (fs : List CachedFunction) (rs : List FunctionRange) → map (λ (f : CachedFunction). f.offset) fs ≡ entries_of rs → option_map (λ (f : CachedFunction). f.offset) (slice_get fs 0) ≡ None → rs ≡ []
+    by_functions [] [] k m = refl
+    by_functions [] (r ∷ rs) k m = absurd (some_entry r.offset (entries_of rs) k)
+    by_functions (f ∷ fs) rs k m = absurd cc
+
 module _ (shares : Bool) (scope : Scope) (view : UnitRecord) (t : FunctionTable) (is : IsTableOf scope view t) where
   with_ranges : (r : FunctionRange) (rs : List FunctionRange) → t.ranges ≡ r ∷ rs → functions_take_memory shares scope.file.sections view ≡ true
   with_ranges r rs e =
@@ -107,6 +124,16 @@ module _ (shares : Bool) (scope : Scope) (view : UnitRecord) (t : FunctionTable)
           → functions_take_memory shares scope.file.sections view ≡ true
       by_ranges [] e k = absurd cc
       by_ranges (r ∷ rs) e k = with_ranges r rs e
+
+  -- functions that were read took memory where there is one
+  pub functions_took : (offset : ℕ) → Some offset ≡ cached_offset_at t 0 → functions_take_memory shares scope.file.sections view ≡ true
+  functions_took offset e = by_functions t.functions t.ranges refl is.listed e
+    where
+      by_functions : (fs : List CachedFunction) (rs : List FunctionRange) → t.ranges ≡ rs → map (λ (f : CachedFunction). f.offset) fs ≡ entries_of rs → Some offset ≡ option_map (λ (f : CachedFunction). f.offset) (slice_get fs 0)
+          → functions_take_memory shares scope.file.sections view ≡ true
+      by_functions [] rs q k m = absurd cc
+      by_functions (f ∷ fs) [] q k m = absurd cc
+      by_functions (f ∷ fs) (r ∷ rs) q k m = with_ranges r rs q
 
   pub details_take : details_take_memory shares scope view t.functions ≡ true → functions_take_memory shares scope.file.sections view ≡ true
   details_take h = by_functions t.functions t.ranges refl is.listed h

@@ -9,7 +9,7 @@ use Rattle.addr2line_units.specs.declared.unit_frames.UnitEntries.{UnitEntries}
 use Rattle.addr2line_units.specs.declared.view.ViewState.{ViewState}
 use Rattle.addr2line_units.specs.declared.view.ViewState.TheVariants as states
 use Rattle.addr2line_units.specs.CachedEntries.{has_answered, has_entries, has_entries_by}
-use Rattle.addr2line_units.specs.CachedFunctions.{cached_has_function, is_cached_fault}
+use Rattle.addr2line_units.specs.CachedFunctions.{cached_has_function, is_cached_fault, no_functions}
 use Rattle.addr2line_units.specs.CachedUnits.{AreFreshOf, has_entries_at}
 use Rattle.addr2line_units.specs.CachedViews.{was_looked_at}
 use Rattle.addr2line_units.proofs.KnownTableLemmas.{table_known}
@@ -26,7 +26,8 @@ fault_known probe e = by (is_cached_fault e)
 module _ {R : Type 0} (probe : ℕ) where
   functions_known : (f : LazyFunctions R) → is_known_at probe (known_functions f) ≡ cached_has_function probe f
   functions_known lazy.Unread = refl
-  functions_known (lazy.Read t) = table_known probe t
+  functions_known lazy.Absent = table_known probe no_functions
+  functions_known (lazy.Read t) = table_known probe t.value
   functions_known (lazy.Faulty e) = fault_known probe e
 
   answer_known : {X : Type 0} (r : Result X Error) (f : LazyFunctions R) → is_known_at probe (known_answer r f) ≡ has_answered probe r f

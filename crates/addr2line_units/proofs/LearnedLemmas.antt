@@ -1,6 +1,6 @@
 -- Of which functions details become known where a unit is asked (on specs/KnownEntries.antt and
 -- specs/CachedKnown.antt).
-use Rattle.std.proofs.Common.{◌≡◌, ◌≢◌, ◌⊎◌, inl, inr, ◌∙◌, ap, sym, refl, subst, ℕ, ◌<◌, ◌==◌, nat_lt, cond, lt-ltb, eqb-true, Bool, true, false, List, [], ◌∷◌, get_or, length, map, position, Option, Some, None, option_and_then, option_map, slice_get, Result, Ok, Err, if◌then◌else◌, find}
+use Rattle.std.proofs.Common.{Box, Global, ◌≡◌, ◌≢◌, ◌⊎◌, inl, inr, ◌∙◌, ap, sym, refl, subst, ℕ, ◌<◌, ◌==◌, nat_lt, cond, lt-ltb, eqb-true, Bool, true, false, List, [], ◌∷◌, get_or, length, map, position, Option, Some, None, option_and_then, option_map, slice_get, Result, Ok, Err, if◌then◌else◌, find}
 use Rattle.std.proofs.lemmas.Bool.{cases_eq}
 use Rattle.std.proofs.lemmas.List.Folds.{find_at}
 use Rattle.std.proofs.lemmas.List.Quantifiers.{position-Some}
@@ -107,16 +107,19 @@ module _ {R : Type 0} (offset : ℕ) where
   -- the functions of a view that were read
   are_read : (f : LazyFunctions R) → knows_detail offset (known_functions f) ≡ true → were_read f ≡ true
   are_read lazy.Unread e = never e
+  are_read lazy.Absent e = refl
   are_read (lazy.Read t) e = refl
   are_read (lazy.Faulty x) e = refl
 
   functions_learn : (probe : ℕ) (f g : LazyFunctions R) → StayFunctions f g → ReadsNoOther probe (cached_functions f) (cached_functions g) → knows_detail offset (known_functions g) ≡ true
-      → (knows_detail offset (known_functions f) ≡ true) ⊎ ((t : FunctionTable) × (g ≡ lazy.Read t) × (function_offset_at probe t.ranges ≡ Some offset))
+      → (knows_detail offset (known_functions f) ≡ true) ⊎ ((t : Box FunctionTable Global) × (g ≡ lazy.Read t) × (function_offset_at probe t.value.ranges ≡ Some offset))
   functions_learn probe f lazy.Unread stay alone e = never e
+  functions_learn probe f lazy.Absent stay alone e = never e
   functions_learn probe f (lazy.Faulty x) stay alone e = never (sym (fault_has_none offset x) ∙ e)
-  functions_learn probe lazy.Unread (lazy.Read u) stay alone e = elim (table_learns probe offset no_functions u alone e) [ inl h ↦ never h | inr h ↦ inr (u, refl, h) ]
-  functions_learn probe (lazy.Read t) (lazy.Read u) stay alone e = elim (table_learns probe offset t u alone e) [
-    | inl h ↦ inl (table_detail offset t ∙ ap (λ n. has_detail (cached_detail t n)) (sym (first_same offset t.functions u.functions stay.functions)) ∙ h)
+  functions_learn probe lazy.Unread (lazy.Read u) stay alone e = elim (table_learns probe offset no_functions u.value alone e) [ inl h ↦ never h | inr h ↦ inr (u, refl, h) ]
+  functions_learn probe lazy.Absent (lazy.Read u) stay alone e = absurd cc
+  functions_learn probe (lazy.Read t) (lazy.Read u) stay alone e = elim (table_learns probe offset t.value u.value alone e) [
+    | inl h ↦ inl (table_detail offset t.value ∙ ap (λ n. has_detail (cached_detail t.value n)) (sym (first_same offset t.value.functions u.value.functions stay.functions)) ∙ h)
     | inr h ↦ inr (u, refl, h)
   ]
   functions_learn probe (lazy.Faulty x) (lazy.Read u) stay alone e = absurd cc
@@ -162,7 +165,7 @@ decided_if_read false read h e = never (sym (h refl) ∙ e)
 -- a unit that was asked
 module _ {R : Type 0} (scope : Scope) (u : UnitRecord) (probe offset : ℕ) (v w : UnitEntries R) (before : AreEntriesOf scope u v) (after : AreEntriesOf scope u w) (stay : StayEntries v w) where
   -- the function at the probe by what is cached is that of the view
-  by_view : (x : View) → verdict scope.file.sections u (first_answer_of v) ≡ Some (Ok x) → (t : FunctionTable) → w.functions ≡ lazy.Read t → function_offset_at probe t.ranges ≡ Some offset → function_offset_in scope u (first_answer_of v) probe ≡ Some offset
+  by_view : (x : View) → verdict scope.file.sections u (first_answer_of v) ≡ Some (Ok x) → (t : Box FunctionTable Global) → w.functions ≡ lazy.Read t → function_offset_at probe t.value.ranges ≡ Some offset → function_offset_in scope u (first_answer_of v) probe ≡ Some offset
   unfolding function_offset_in
   by_view x is t read at =
       let there = subst (λ o. IfSome o (λ view. IfOk view (λ y. AreFunctionsOf (view_scope scope y) y.unit w.functions))) (ap (verdict scope.file.sections u) stay.answer ∙ is) after.functions in
@@ -191,6 +194,7 @@ module _ {R : Type 0} (scope : Scope) (u : UnitRecord) (probe offset : ℕ) (v w
 
 -- no functions are known that were not read
 unread_has_none : {R : Type 0} (s : ViewState R) (f : LazyFunctions R) → were_read f ≡ false → HasNoFunctions (known_by s f)
+unread_has_none s lazy.Absent e = absurd cc
 unread_has_none s (lazy.Read t) e = absurd cc
 unread_has_none s (lazy.Faulty x) e = absurd cc
 unread_has_none {R = R} s lazy.Unread e = by s
@@ -269,17 +273,20 @@ learns_none_twice old mid new a b n = elim (b n) [
 -- functions that were read, or were before, without a detail
 pub cache_reads_none : {R : Type 0} (f g : LazyFunctions R) → (were_read f ≡ true → g ≡ f) → (were_read f ≡ false → AreUnread (cached_functions g)) → ReadsNoDetail (cached_functions f) (cached_functions g)
 cache_reads_none lazy.Unread g same unread n = unread_at (cached_functions g).functions n (unread refl)
+cache_reads_none lazy.Absent g same unread n = ap (λ x. cached_detail (cached_functions x) n) (same refl)
 cache_reads_none (lazy.Read t) g same unread n = ap (λ x. cached_detail (cached_functions x) n) (same refl)
 cache_reads_none (lazy.Faulty e) g same unread n = ap (λ x. cached_detail (cached_functions x) n) (same refl)
 
 module _ {R : Type 0} (offset : ℕ) where
   functions_keep : (f g : LazyFunctions R) → StayFunctions f g → ReadsNoDetail (cached_functions f) (cached_functions g) → knows_detail offset (known_functions g) ≡ true → knows_detail offset (known_functions f) ≡ true
   functions_keep f lazy.Unread stay none e = never e
+  functions_keep f lazy.Absent stay none e = never e
   functions_keep f (lazy.Faulty x) stay none e = never (sym (fault_has_none offset x) ∙ e)
-  functions_keep lazy.Unread (lazy.Read u) stay none e = never (sym (ap has_detail (none (first_at offset u))) ∙ sym (table_detail offset u) ∙ e)
+  functions_keep lazy.Unread (lazy.Read u) stay none e = never (sym (ap has_detail (none (first_at offset u.value))) ∙ sym (table_detail offset u.value) ∙ e)
+  functions_keep lazy.Absent (lazy.Read u) stay none e = absurd cc
   functions_keep (lazy.Read t) (lazy.Read u) stay none e =
-      table_detail offset t ∙ ap (λ n. has_detail (cached_detail t n)) (sym (first_same offset t.functions u.functions stay.functions))
-      ∙ sym (ap has_detail (none (first_at offset u))) ∙ sym (table_detail offset u) ∙ e
+      table_detail offset t.value ∙ ap (λ n. has_detail (cached_detail t.value n)) (sym (first_same offset t.value.functions u.value.functions stay.functions))
+      ∙ sym (ap has_detail (none (first_at offset u.value))) ∙ sym (table_detail offset u.value) ∙ e
   functions_keep (lazy.Faulty x) (lazy.Read u) stay none e = absurd cc
 
 -- a unit that was answered, of which functions were read then without a detail

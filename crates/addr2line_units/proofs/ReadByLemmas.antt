@@ -37,8 +37,10 @@ module _ {R : Type 0} where
   read_functions : (reads : ReadingDepth) (f : LazyFunctions R) → HaveFunctions reads f → IsReadBy reads (known_functions f)
   read_functions reads lazy.Unread h = absurd h
   read_functions reads (lazy.Faulty e) h = absurd h
+  read_functions kinds.Functions lazy.Absent h = tt
+  read_functions kinds.Details lazy.Absent h = tt
   read_functions kinds.Functions (lazy.Read t) h = tt
-  read_functions kinds.Details (lazy.Read t) h = all_are_read t.functions h
+  read_functions kinds.Details (lazy.Read t) h = all_are_read t.value.functions h
 
   read_answer : {X : Type 0} (reads : ReadingDepth) (r : Result X Error) (f : LazyFunctions R) → is_ok r ≡ true → HaveFunctions reads f → IsReadBy reads (known_answer r f)
   read_answer reads (Ok x) f e h = read_functions reads f h
@@ -63,8 +65,9 @@ module _ {R : Type 0} where
   cached_functions : (reads : ReadingDepth) (f : LazyFunctions R) → IsReadBy reads (known_functions f) → HaveFunctions reads f
   cached_functions reads lazy.Unread h = absurd h
   cached_functions reads (lazy.Faulty e) h = absurd (never_fault reads (is_cached_fault e) h)
+  cached_functions reads lazy.Absent h = tt
   cached_functions kinds.Functions (lazy.Read t) h = tt
-  cached_functions kinds.Details (lazy.Read t) h = all_have_detail t.functions h
+  cached_functions kinds.Details (lazy.Read t) h = all_have_detail t.value.functions h
 
   cached_in_answer : {X : Type 0} (reads : ReadingDepth) (r : Result X Error) (f : LazyFunctions R) → IsReadBy reads (known_answer r f) → (is_ok r ≡ true) × HaveFunctions reads f
   cached_in_answer reads (Ok x) f h = (refl, cached_functions reads f h)

@@ -59,6 +59,7 @@ module _ {R : Type 0} (r : ReadingDepth) where
   -- functions that are known were read
   pub ready_were_read : (f : LazyFunctions R) → IsReadyFor r (known_functions f) → were_read f ≡ true
   ready_were_read lazy.Unread h = absurd h
+  ready_were_read lazy.Absent h = refl
   ready_were_read (lazy.Read t) h = refl
   ready_were_read (lazy.Faulty e) h = refl
 
@@ -66,8 +67,10 @@ module _ {R : Type 0} (r : ReadingDepth) where
   functions_ready : (q : ReadingDepth) (f : LazyFunctions R) → HaveFunctions q f → IsReadyFor q (known_functions f)
   functions_ready q lazy.Unread h = absurd h
   functions_ready q (lazy.Faulty e) h = absurd h
+  functions_ready reads.Functions lazy.Absent h = tt
+  functions_ready reads.Details lazy.Absent h = tt
   functions_ready reads.Functions (lazy.Read t) h = tt
-  functions_ready reads.Details (lazy.Read t) h = to_fault_known t.functions (all_to_fault t.functions h)
+  functions_ready reads.Details (lazy.Read t) h = to_fault_known t.value.functions (all_to_fault t.value.functions h)
 
   answer_ready : {X : Type 0} (a : Result X Error) (f : LazyFunctions R) → is_ok a ≡ true → IsReadyFor r (known_functions f) → IsReadyFor r (known_answer a f)
   answer_ready (Ok x) f e h = h

@@ -152,6 +152,7 @@ no_verdict d u (states.Answered a) e = absurd cc
 
 unread_are_of : {R : Type 0} (scope : Scope) (view : UnitRecord) (f : LazyFunctions R) → were_read f ≡ false → AreFunctionsOf scope view f
 unread_are_of scope view lazy.Unread e = tt
+unread_are_of scope view lazy.Absent e = absurd cc
 unread_are_of scope view (lazy.Read t) e = absurd cc
 unread_are_of scope view (lazy.Faulty f) e = absurd cc
 

@@ -14,6 +14,7 @@ use Rattle.gimli.specs.Unit.{UnitRecord}
 use Rattle.addr2line_lines.specs.Location.{Location, location_of_row}
 use Rattle.addr2line_lines.specs.References.{Scope}
 use Rattle.addr2line_lines.specs.UnitLines.{unit_lines}
+use Rattle.addr2line_units.specs.declared.frames_lookup.OnFault.{OnFault}
 use Rattle.addr2line_units.specs.declared.frames_lookup.FramePlace.{FramePlace}
 use Rattle.addr2line_units.specs.declared.frames_lookup.FramesStop.{FramesStop}
 use Rattle.addr2line_units.specs.declared.frames_lookup.FramesStop.TheVariants as stops
@@ -25,13 +26,13 @@ use Rattle.addr2line_units.specs.declared.unit.LazyLines.TheVariants.{Absent, Fa
 use Rattle.addr2line_units.specs.declared.unit.ResUnit.{ResUnit}
 use Rattle.addr2line_units.specs.declared.unit_frames.UnitEntries.{UnitEntries}
 use Rattle.addr2line_units.specs.declared.unit_row.UnitRow.{UnitRow}
-use Rattle.addr2line_units.specs.AfterUnits.{AfterAnswer, AfterCaching, AfterForget, AfterLineParse, AfterLines, AfterListing, AfterLoad, AfterReading, AfterRow}
+use Rattle.addr2line_units.specs.AfterUnits.{AfterAnswer, AfterCaching, AfterForget, AfterLineParse, AfterLines, AfterListing, AfterLoad, AfterReading, AfterRow, AfterWalk}
 use Rattle.addr2line_units.specs.CachedEntries.{has_entries}
-use Rattle.addr2line_units.specs.CachedFrames.{IsLendable, seen_stop}
+use Rattle.addr2line_units.specs.CachedFrames.{IsLendable, has_frames_at, seen_stop}
 use Rattle.addr2line_units.specs.CachedLines.{AreLinesOf, HaveLinesOf, StayUnits, cached_files, cached_spans, indexed_units, is_parsed, is_uncached, lines_at, location_of_unit_row, parsed_units}
 use Rattle.addr2line_units.specs.CachedParses.{AreReadyUnits, ChangesOnly, HaveRead, StayDecided}
-use Rattle.addr2line_units.specs.CachedUnits.{HaveEntriesOf, StayAllEntries, answers_in, decided_at, has_entries_at, waits_at}
-use Rattle.addr2line_units.specs.FramesLookup.{FindsNothing, Stop, Waits, answer_of, ends_lookup, holds_along, with_answer}
+use Rattle.addr2line_units.specs.CachedUnits.{HaveEntriesOf, ReadsOnly, StayAllEntries, answers_in, decided_at, has_entries_at, waits_at}
+use Rattle.addr2line_units.specs.FramesLookup.{FindsNothing, LookupAsks, Stop, Waits, answer_of, asks_lines_of, ends_lookup, has_many_of, holds_along, with_answer}
 use Rattle.addr2line_units.specs.FunctionParses.{AreFirstDecided, AreReadBefore, IsReadyFor, answers_after_parse, read_of_units}
 use Rattle.addr2line_units.specs.CachedKnown.{known_in}
 use Rattle.addr2line_units.specs.KnownEntries.{LearnsNoDetails, LearnsNoFunctions, knows_at}
@@ -43,7 +44,7 @@ use Rattle.addr2line_units.specs.RangeLookup.{cached_along}
 use Rattle.addr2line_units.specs.StaysKnown.{IsReadyAt, StaysKnown}
 use Rattle.addr2line_units.specs.StoredUnits.{seen_units}
 use Rattle.addr2line_units.specs.UnitFrames.{FramesResult}
-use Rattle.addr2line_units.specs.UnitsState.{UnitsState, files_in, files_of, row_location}
+use Rattle.addr2line_units.specs.UnitsState.{UnitsState, asked_by, files_in, files_of, has_all_at, has_few_at, row_location}
 use Rattle.addr2line_units.specs.Views.{SplitLoad, load_of_unit}
 use Rattle.addr2line_units.proofs.AnswerLemmas.{got_unit}
 use Rattle.addr2line_units.proofs.CachedParseLemmas.{found_if_ok}

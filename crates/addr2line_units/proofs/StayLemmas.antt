@@ -66,8 +66,10 @@ table_whole kinds.Details t u a h = to_fault_known u.functions (cached_more t.fu
 module _ {R : Type 0} where
   functions_whole : (r : ReadingDepth) (f g : LazyFunctions R) → StayFunctions f g → IsReadyFor r (known_functions f) → IsReadyFor r (known_functions g)
   functions_whole r lazy.Unread g a h = absurd h
+  functions_whole r lazy.Absent g a h = subst (λ f. IsReadyFor r (known_functions f)) (sym a) h
   functions_whole r (lazy.Read t) lazy.Unread a h = absurd a
-  functions_whole r (lazy.Read t) (lazy.Read u) a h = table_whole r t u a h
+  functions_whole r (lazy.Read t) lazy.Absent a h = absurd a
+  functions_whole r (lazy.Read t) (lazy.Read u) a h = table_whole r t.value u.value a h
   functions_whole r (lazy.Read t) (lazy.Faulty e) a h = absurd a
   functions_whole r (lazy.Faulty e) g a h = subst (λ f. IsReadyFor r (known_functions f)) (sym a) h
 

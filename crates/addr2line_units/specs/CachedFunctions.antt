@@ -1,7 +1,7 @@
 -- What is cached of the functions of a view, as the private functions see it.
 -- Own: functions are read when they are first asked for, and cached then, their fault too; so is
--- each detail. OutOfMemory is never cached.
-use Rattle.std.specs.Prelude.{◌≡◌, ◌≢◌, ◌<◌, ℕ, Bool, true, false, List, [], ◌∷◌, length, map, Option, Some, None, unwrap_or, Result, Ok, Err}
+-- each detail. OutOfMemory is never cached. Functions are absent where a view has none.
+use Rattle.std.specs.Prelude.{◌≡◌, ◌≢◌, ◌<◌, ℕ, Bool, true, false, List, [], ◌∷◌, length, map, Option, Some, None, unwrap_or, Result, Ok, Err, box_value}
 use Rattle.std.specs.List.{AllByRecursion}
 use Rattle.gimli_read.specs.declared.error.Error.{Error}
 use Rattle.gimli_read.specs.declared.error.Error.TheVariants.{OutOfMemory}
@@ -32,7 +32,8 @@ pub record IsTableOf (scope : Scope) (view : UnitRecord) (t : FunctionTable) : T
 -- what is cached is the functions of a view with their details, or their fault
 abbrev pub AreFunctionsOf : {R : Type 0} → Scope → UnitRecord → LazyFunctions R → Type 0
 AreFunctionsOf scope view lazy.Unread = Unit {0}
-AreFunctionsOf scope view (lazy.Read t) = IsTableOf scope view t
+AreFunctionsOf scope view lazy.Absent = functions_of scope.file.sections view ≡ Ok []
+AreFunctionsOf scope view (lazy.Read t) = IsTableOf scope view (box_value t)
 AreFunctionsOf scope view (lazy.Faulty e) = functions_of scope.file.sections view ≡ Err e
 
 -- whether the functions were read
@@ -46,13 +47,14 @@ no_functions = record { ranges = []; functions = []; inlined = []; names = [] }
 
 -- the functions that are cached, none before they are read and where they have a fault
 abbrev pub cached_functions : {R : Type 0} → LazyFunctions R → FunctionTable
-cached_functions (lazy.Read t) = t
+cached_functions (lazy.Read t) = box_value t
 cached_functions _ = no_functions
 
 -- what is cached stays, and more details may be
 abbrev pub StayFunctions : {R : Type 0} → LazyFunctions R → LazyFunctions R → Type 0
 StayFunctions lazy.Unread new = Unit {0}
-StayFunctions (lazy.Read t) (lazy.Read more) = IsTableMore t more
+StayFunctions lazy.Absent new = new ≡ lazy.Absent
+StayFunctions (lazy.Read t) (lazy.Read more) = IsTableMore (box_value t) (box_value more)
 StayFunctions (lazy.Read t) _ = ⊥
 StayFunctions (lazy.Faulty e) new = new ≡ lazy.Faulty e
 
@@ -106,7 +108,8 @@ abbrev pub find_takes_memory : {R : Type 0} → Bool → Scope → UnitRecord �
     → Bool
 find_takes_memory shares scope view probe lazy.Unread =
     functions_take_memory shares scope.file.sections view
-find_takes_memory shares scope view probe (lazy.Read t) = table_takes_memory probe t
+find_takes_memory shares scope view probe lazy.Absent = false
+find_takes_memory shares scope view probe (lazy.Read t) = table_takes_memory probe (box_value t)
 find_takes_memory shares scope view probe (lazy.Faulty e) = false
 
 -- whether a fault is one that is cached: any but OutOfMemory
@@ -132,7 +135,8 @@ has_table probe t = has_place t (function_place_at probe t)
 -- the same by what is cached of a view: the functions, or their fault
 abbrev pub cached_has_function : {R : Type 0} → ℕ → LazyFunctions R → Bool
 cached_has_function probe lazy.Unread = false
-cached_has_function probe (lazy.Read t) = has_table probe t
+cached_has_function probe lazy.Absent = true
+cached_has_function probe (lazy.Read t) = has_table probe (box_value t)
 cached_has_function probe (lazy.Faulty e) = is_cached_fault e
 
 -- the first fault among the details of functions, by where their entries begin
@@ -151,6 +155,7 @@ functions_fault scope view = functions_of scope.file.sections view >>= λ ranges
 abbrev pub reading_takes_memory : {R : Type 0} → Bool → Scope → UnitRecord → LazyFunctions R → Bool
 reading_takes_memory shares scope view lazy.Unread =
     functions_take_memory shares scope.file.sections view
+reading_takes_memory shares scope view lazy.Absent = false
 reading_takes_memory shares scope view (lazy.Read t) =
-    details_take_memory shares scope view t.functions
+    details_take_memory shares scope view (box_value t).functions
 reading_takes_memory shares scope view (lazy.Faulty e) = false

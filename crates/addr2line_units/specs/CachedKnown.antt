@@ -1,5 +1,5 @@
 -- What is known of the entries of units by what is cached of them, as the private functions see it.
-use Rattle.std.specs.Prelude.{List, map, Option, Some, None, Result, Ok, Err, if◌then◌else◌}
+use Rattle.std.specs.Prelude.{List, map, Option, Some, None, Result, Ok, Err, box_value, if◌then◌else◌}
 use Rattle.gimli_read.specs.declared.error.Error.{Error}
 use Rattle.addr2line_lines.specs.Details.{Detail}
 use Rattle.addr2line_lines.specs.FunctionTable.{CachedFunction, FunctionTable}
@@ -8,7 +8,7 @@ use Rattle.addr2line_units.specs.declared.functions.LazyFunctions.TheVariants as
 use Rattle.addr2line_units.specs.declared.unit_frames.UnitEntries.{UnitEntries}
 use Rattle.addr2line_units.specs.declared.view.ViewState.{ViewState}
 use Rattle.addr2line_units.specs.declared.view.ViewState.TheVariants as states
-use Rattle.addr2line_units.specs.CachedFunctions.{is_cached_fault}
+use Rattle.addr2line_units.specs.CachedFunctions.{is_cached_fault, no_functions}
 use Rattle.addr2line_units.specs.KnownEntries.{KnownDetail, NotRead, IsRead, HasFault, KnownFunction, KnownEntries, NothingKnown, AllKnown, FunctionsKnown}
 
 -- the detail of a function
@@ -32,7 +32,8 @@ known_fault e = if is_cached_fault e then AllKnown else NothingKnown
 -- the functions of a view
 abbrev pub known_functions : {R : Type 0} → LazyFunctions R → KnownEntries
 known_functions lazy.Unread = NothingKnown
-known_functions (lazy.Read t) = known_table t
+known_functions lazy.Absent = known_table no_functions
+known_functions (lazy.Read t) = known_table (box_value t)
 known_functions (lazy.Faulty e) = known_fault e
 
 -- those of the view of an answer, unless it has a fault

@@ -1,6 +1,6 @@
 -- What is cached of the entries of all units after a parse of their functions, as the private
 -- functions see it.
-use Rattle.std.specs.Prelude.{◌≡◌, ◌⊎◌, ℕ, Bool, true, false, is_ok, List, [], ◌∷◌, IfSome, slice_get}
+use Rattle.std.specs.Prelude.{◌≡◌, ◌⊎◌, ℕ, Bool, true, false, is_ok, List, [], ◌∷◌, IfSome, slice_get, box_value}
 use Rattle.std.specs.List.{AllByRecursion}
 use Rattle.gimli.specs.Unit.{UnitRecord}
 use Rattle.addr2line_lines.specs.FunctionDetails.{HasDetail}
@@ -27,9 +27,10 @@ has_view _ = false
 -- the functions are cached, with all details where these are read, and none has a fault
 abbrev pub HaveFunctions : {R : Type 0} → ReadingDepth → LazyFunctions R → Type 0
 HaveFunctions reads lazy.Unread = ⊥
+HaveFunctions reads lazy.Absent = Unit {0}
 HaveFunctions reads (lazy.Faulty e) = ⊥
 HaveFunctions reads.Functions (lazy.Read t) = Unit {0}
-HaveFunctions reads.Details (lazy.Read t) = AllByRecursion HasDetail t.functions
+HaveFunctions reads.Details (lazy.Read t) = AllByRecursion HasDetail (box_value t).functions
 
 -- all that is read of a unit is cached, and has no fault
 pub record HasRead {R : Type 0} (reads : ReadingDepth) (v : UnitEntries R) : Type 0 where

@@ -372,6 +372,8 @@ pub(crate) fn frames_of<'ctx, R: Reader>(
             location,
         ),
         // A place is one among functions that were read.
-        LazyFunctions::Faulty(_) | LazyFunctions::Unread => FrameIter::new_location(location),
+        LazyFunctions::Faulty(_) | LazyFunctions::Absent | LazyFunctions::Unread => {
+            FrameIter::new_location(location)
+        }
     }
 }

@@ -21,13 +21,16 @@ use gimli::read::{Error, Reader};
 use gimli::{Unit, UnitRef};
 use std::alloc::Global;
 
-// What is cached of the functions of a view.
+// What is cached of the functions of a view. They stand in a box, so that what is cached of a unit
+// is small before anybody asks for them.
 #[derive(Drop)]
 pub(crate) enum LazyFunctions<R: Reader> {
     // Nobody has asked for them yet.
     Unread,
+    // There are none.
+    Absent,
     // They were read, with the details that were asked for.
-    Read(Functions<R>),
+    Read(Box<Functions<R>>),
     // They can't be read, for this reason.
     Faulty(Error),
 }
@@ -55,7 +58,10 @@ fn read_functions<R: Reader>(
         view.now ≡ false → functions_of scope.entry.file.dwarf.now view.now ≡ Err e) }
 {
     match Functions::parse(alloc, UnitRef::new(scope.file.dwarf, view)) {
-        Ok(functions) => Ok(LazyFunctions::Read(functions)),
+        Ok(functions) => match functions.offset(0) {
+            Some(_) => Ok(LazyFunctions::Read(Box::new(alloc, functions)?)),
+            None => Ok(LazyFunctions::Absent),
+        },
         Err(error) => match error {
             Error::OutOfMemory => Err(error),
             _ => Ok(LazyFunctions::Faulty(error)),
@@ -166,8 +172,10 @@ impl<R: Reader> LazyFunctions<R> {
     {
         self.cache(alloc, scope, view)?;
         match self {
+            LazyFunctions::Absent => Ok(None),
             LazyFunctions::Read(functions) => find_place(alloc, functions, scope, view, probe),
             LazyFunctions::Faulty(error) => Err(*error),
+            // After `cache` they were read.
             LazyFunctions::Unread => Ok(None),
         }
     }
@@ -207,8 +215,10 @@ impl<R: Reader> LazyFunctions<R> {
     {
         self.cache(alloc, scope, view)?;
         match self {
+            LazyFunctions::Absent => Ok(()),
             LazyFunctions::Read(functions) => functions.read_all(scope, view),
             LazyFunctions::Faulty(error) => Err(*error),
+            // After `cache` they were read.
             LazyFunctions::Unread => Ok(()),
         }
     }

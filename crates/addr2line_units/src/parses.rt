@@ -71,7 +71,7 @@ impl<R: Reader> LazyFunctions<R> {
         self.cache(alloc, scope, view)?;
         match self {
             LazyFunctions::Faulty(error) => Err(*error),
-            LazyFunctions::Read(_) | LazyFunctions::Unread => Ok(()),
+            LazyFunctions::Read(_) | LazyFunctions::Absent | LazyFunctions::Unread => Ok(()),
         }
     }
 

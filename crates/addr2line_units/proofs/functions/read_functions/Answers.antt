@@ -1,15 +1,30 @@
-use Rattle.std.proofs.Common.{◌≡◌, ◌∙◌, Bool, ap, false, refl, sym, true}
+use Rattle.std.proofs.Common.{◌≡◌, ◌∙◌, Bool, Ok, ap, false, refl, subst, sym, true}
 use Rattle.std.proofs.lemmas.Bool.{false≢true}
+use Rattle.std.proofs.lemmas.Result.{err_from_is_err_and}
 use Rattle.gimli.specs.Sections.{Sections}
 use Rattle.gimli.specs.Unit.{UnitRecord}
 use Rattle.addr2line_lines.specs.Functions.{functions_take_memory}
 use Rattle.addr2line_lines.specs.SeenScope.{seen_scope}
+use Rattle.addr2line_units.specs.CachedFunctions.{IsTableOf}
 use Rattle.addr2line_units.proofs.CachedFunctionLemmas.{read_fault_of, read_table}
+use Rattle.addr2line_units.proofs.FunctionMemoryLemmas.{functions_took, no_ranges}
 use Rattle.addr2line_units.proofs.functions.read_functions.Goals as goal
 
-pub returns-in-Ok-clause-right : goal.returns-in-Ok-clause-right
-returns-in-Ok-clause-right g c =
-    read_table (seen_scope c.args.scope) c.args.view.now c.new.result.dwarf.now c.new.result.unit.now c.in-Ok.functions c.new.ensures.dwarf c.new.ensures.unit c.in-Ok.ensures.gives c.in-Ok.ensures.listed c.in-Ok.ensures.unread c.in-Ok.ensures.names
+pub returns-in_ok-new-in-Some-clause-right : goal.returns-in_ok-new-in-Some-clause-right
+returns-in_ok-new-in-Some-clause-right g c =
+    subst (IsTableOf (seen_scope c.args.scope) c.args.view.now) (sym c.in_ok-new-in-Some.ensures.ok)
+    (read_table (seen_scope c.args.scope) c.args.view.now c.new.result.dwarf.now c.new.result.unit.now c.in-Ok.functions c.new.ensures.dwarf c.new.ensures.unit c.in-Ok.ensures.gives c.in-Ok.ensures.listed c.in-Ok.ensures.unread c.in-Ok.ensures.names)
+
+pub returns-in-None-clause-right : goal.returns-in-None-clause-right
+returns-in-None-clause-right g c =
+    let table = read_table (seen_scope c.args.scope) c.args.view.now c.new.result.dwarf.now c.new.result.unit.now c.in-Ok.functions c.new.ensures.dwarf c.new.ensures.unit c.in-Ok.ensures.gives c.in-Ok.ensures.listed c.in-Ok.ensures.unread c.in-Ok.ensures.names in
+    table.ranges ∙ ap Ok (no_ranges c.in-Ok.functions c.in-Ok.ensures.listed (sym c.in-None.ensures.gives))
+
+pub returns-in_err-new-in-Some-clause-memory : goal.returns-in_err-new-in-Some-clause-memory
+returns-in_err-new-in-Some-clause-memory g c =
+    let p = err_from_is_err_and c.from_residual.result c.from_residual.ensures.1 in
+    let table = read_table (seen_scope c.args.scope) c.args.view.now c.new.result.dwarf.now c.new.result.unit.now c.in-Ok.functions c.new.ensures.dwarf c.new.ensures.unit c.in-Ok.ensures.gives c.in-Ok.ensures.listed c.in-Ok.ensures.unread c.in-Ok.ensures.names in
+    rw (p.1, p.2) (λ none. absurd (false≢true (sym none ∙ functions_took g.R.Reader.shares (seen_scope c.args.scope) c.args.view.now c.in-Ok.functions table _ c.in-Some.ensures.gives)))
 
 pub returns-in_default : goal.returns-in_default
 returns-in_default g c = record {

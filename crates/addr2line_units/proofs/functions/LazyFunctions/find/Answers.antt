@@ -1,4 +1,5 @@
-use Rattle.std.proofs.Common.{Bool, Err, Ok, Result, ap, false, refl, true, ℕ, ◌&&◌, ◌≡◌, ◌≢◌, ◌∙◌, option_map, subst, sym}
+use Rattle.std.proofs.Common.{[], Bool, Err, Ok, Result, ap, false, refl, true, ℕ, ◌&&◌, ◌≡◌, ◌≢◌, ◌∙◌, option_map, subst, sym}
+use Rattle.std.specs.Box.{with_value}
 use Rattle.std.proofs.lemmas.Bool.{false≢true}
 use Rattle.std.proofs.lemmas.Result.{err_from_is_err_and}
 use Rattle.gimli_read.specs.declared.error.Error.{Error}
@@ -11,8 +12,10 @@ use Rattle.addr2line_lines.specs.SeenScope.{seen_scope}
 use Rattle.addr2line_units.specs.declared.functions.LazyFunctions.{LazyFunctions}
 use Rattle.addr2line_units.specs.declared.functions.LazyFunctions.TheVariants as lazy
 use Rattle.addr2line_units.specs.Frames.{function_at}
-use Rattle.addr2line_units.specs.CachedFunctions.{AreFunctionsOf, StayFunctions, cached_functions, cached_has_function, find_takes_memory, function_of_place, table_takes_memory, were_read}
+use Rattle.addr2line_units.specs.CachedFunctions.{AreFunctionsOf, IsTableOf, StayFunctions, cached_functions, cached_has_function, find_takes_memory, function_of_place, table_has_many, table_takes_memory, were_read}
 use Rattle.addr2line_units.proofs.CachedFunctionLemmas.{and_weaker, details_before, exactly_weaker, function_is, memory_before, none_before, stay_faulty, stay_read}
+use Rattle.addr2line_units.proofs.CachedParseLemmas.{cached_stay}
+use Rattle.addr2line_units.proofs.LearnedLemmas.{cache_reads_none}
 use Rattle.addr2line_units.proofs.CachedPlaceLemmas.{cached_is_not_oom, cached_unless_oom, same_known, table_known}
 use Rattle.addr2line_units.proofs.functions.LazyFunctions.find.Goals as goal
 
@@ -26,16 +29,19 @@ not_read_takes {R} shares scope view lazy.Unread new probe x unread e oom fault 
     by_test : (b : Bool) → (b ≡ false → functions_of scope.file.sections view ≡ Err x) → ((b && b) ≡ true → x ≢ OutOfMemory) → functions_of scope.file.sections view ≡ Err x
     by_test true h k = absurd (k refl oom)
     by_test false h k = h refl
+not_read_takes shares scope view lazy.Absent new probe x unread e oom fault may = absurd (unread refl)
 not_read_takes shares scope view (lazy.Read t) new probe x unread e oom fault may = absurd (unread refl)
 not_read_takes shares scope view (lazy.Faulty y) new probe x unread e oom fault may = absurd (unread refl)
 
 not_read_stay : {R : Type 0} → (old new : LazyFunctions R) → (were_read old ≡ true → ⊥) → StayFunctions old new
 not_read_stay lazy.Unread new unread = tt
+not_read_stay lazy.Absent new unread = absurd (unread refl)
 not_read_stay (lazy.Read t) new unread = absurd (unread refl)
 not_read_stay (lazy.Faulty x) new unread = absurd (unread refl)
 
 not_read_unknown : {R : Type 0} → (old : LazyFunctions R) (probe : ℕ) → (were_read old ≡ true → ⊥) → cached_has_function probe old ≡ true → ⊥
 not_read_unknown lazy.Unread probe unread h = cc
+not_read_unknown lazy.Absent probe unread h = unread refl
 not_read_unknown (lazy.Read t) probe unread h = unread refl
 not_read_unknown (lazy.Faulty x) probe unread h = unread refl
 
@@ -51,12 +57,14 @@ returns-in-Read-clause-gives g c =
     let view = c.args.view.now in
     let before = find_takes_memory g.R.Reader.shares scope view probe c.args.self.now in
     let table = subst (AreFunctionsOf scope view) c.in-Read.is c.cache.ensures.right in
-    exactly_weaker (table_takes_memory probe t && table_takes_memory probe new) (before && table_takes_memory probe new) (option_map (function_of_place new)) c.find_place.result (function_at scope view probe)
-    (and_weaker (table_takes_memory probe t) before (table_takes_memory probe new) (memory_before c.args.self.now c.cache.new.self (λ read. (c.cache.ensures.kept read).0) g.R.Reader.shares scope view t probe c.in-Read.is table)) c.find_place.ensures.gives
+    let gives = rw c.deref_mut.ensures.value at c.find_place.ensures.gives in
+    exactly_weaker (table_takes_memory probe t.value && table_takes_memory probe new) (before && table_takes_memory probe new) (option_map (function_of_place new)) c.find_place.result (function_at scope view probe)
+    (and_weaker (table_takes_memory probe t.value) before (table_takes_memory probe new) (memory_before c.args.self.now c.cache.new.self (λ read. (c.cache.ensures.kept read).0) g.R.Reader.shares scope view t probe c.in-Read.is table)) gives
 
 pub returns-in-Read-clause-alone : goal.returns-in-Read-clause-alone
 returns-in-Read-clause-alone g c =
-    λ n ne. c.find_place.ensures.alone n ne ∙ details_before c.args.self.now c.cache.new.self (λ read. (c.cache.ensures.kept read).0) c.in-Read.functions c.cache.ensures.unread c.in-Read.is n
+    let alone = rw c.deref_mut.ensures.value at c.find_place.ensures.alone in
+    λ n ne. alone n ne ∙ details_before c.args.self.now c.cache.new.self (λ read. (c.cache.ensures.kept read).0) c.in-Read.functions c.cache.ensures.unread c.in-Read.is n
 
 pub returns-in-Faulty-clause-gives : goal.returns-in-Faulty-clause-gives
 returns-in-Faulty-clause-gives g c =
@@ -73,7 +81,8 @@ returns-in-Faulty-clause-alone g c =
 
 pub returns-in-Read-clause-kept : goal.returns-in-Read-clause-kept
 returns-in-Read-clause-kept g c =
-    λ has. table_known c.args.self.now c.cache.new.self (λ read. (c.cache.ensures.kept read).0) c.args.probe has c.in-Read.functions c.find_place.new.functions c.in-Read.is c.find_place.ensures.kept
+    let kept = rw c.deref_mut.ensures.value at c.find_place.ensures.kept in
+    λ has. table_known c.args.self.now c.cache.new.self (λ read. (c.cache.ensures.kept read).0) c.args.probe has c.in-Read.functions c.find_place.new.functions c.in-Read.is kept
 
 pub returns-in-Faulty-clause-kept : goal.returns-in-Faulty-clause-kept
 returns-in-Faulty-clause-kept g c =
@@ -128,12 +137,15 @@ pub returns-in-Read-clause-memory : goal.returns-in-Read-clause-memory
 returns-in-Read-clause-memory g c = c.find_place.ensures.memory
 
 pub returns-in-Read-clause-stay : goal.returns-in-Read-clause-stay
-returns-in-Read-clause-stay g c = stay_read c.args.self.now c.cache.new.self (λ read. (c.cache.ensures.kept read).0) c.in-Read.functions c.find_place.new.functions c.in-Read.is c.find_place.ensures.stay
+returns-in-Read-clause-stay g c =
+    let stay = rw c.deref_mut.ensures.value at c.find_place.ensures.stay in
+    stay_read c.args.self.now c.cache.new.self (λ read. (c.cache.ensures.kept read).0) c.in-Read.functions (with_value c.in-Read.functions c.find_place.new.functions) c.in-Read.is stay
 
 pub find_place-requires : goal.find_place-requires
 find_place-requires g c = record {
   in_order = c.requires.in_order;
-  right = subst (AreFunctionsOf (seen_scope c.args.scope) c.args.view.now) c.in-Read.is c.cache.ensures.right;
+  right = subst (IsTableOf (seen_scope c.args.scope) c.args.view.now) (sym c.deref_mut.ensures.value)
+      (subst (AreFunctionsOf (seen_scope c.args.scope) c.args.view.now) c.in-Read.is c.cache.ensures.right);
 }
 
 pub returns-in-Faulty-clause-there : goal.returns-in-Faulty-clause-there
@@ -150,6 +162,34 @@ returns-in-Faulty-clause-known g c = λ ne. cached_unless_oom c.in-Faulty.error 
 
 pub returns-in-Faulty-clause-memory : goal.returns-in-Faulty-clause-memory
 returns-in-Faulty-clause-memory g c = λ has. λ few. cached_is_not_oom c.in-Faulty.error has
+
+pub returns-in-Absent-clause-gives : goal.returns-in-Absent-clause-gives
+returns-in-Absent-clause-gives g c =
+    let scope = seen_scope c.args.scope in
+    let view = c.args.view.now in
+    function_is scope view c.args.probe (Ok []) (subst (AreFunctionsOf scope view) c.in-Absent.is c.cache.ensures.right)
+
+pub returns-in-Absent-clause-right : goal.returns-in-Absent-clause-right
+returns-in-Absent-clause-right g c = c.cache.ensures.right
+
+pub returns-in-Absent-clause-stay : goal.returns-in-Absent-clause-stay
+returns-in-Absent-clause-stay g c =
+    cached_stay (seen_scope c.args.scope) c.args.view.now c.args.self.now c.cache.new.self (λ read. (c.cache.ensures.kept read).0)
+
+pub returns-in-Absent-clause-alone : goal.returns-in-Absent-clause-alone
+returns-in-Absent-clause-alone g c =
+    λ n ne. cache_reads_none c.args.self.now c.cache.new.self (λ read. (c.cache.ensures.kept read).0) c.cache.ensures.unread n
+
+pub returns-in-Absent-clause-ready : goal.returns-in-Absent-clause-ready
+returns-in-Absent-clause-ready g c = λ ne.
+    subst (λ f. find_takes_memory g.R.Reader.shares (seen_scope c.args.scope) c.args.view.now c.args.probe f ≡ table_has_many c.args.probe (cached_functions f)) (sym c.in-Absent.is) refl
+
+pub returns-in-Absent-clause-kept : goal.returns-in-Absent-clause-kept
+returns-in-Absent-clause-kept g c =
+    λ has. same_known c.args.self.now c.cache.new.self (λ read. (c.cache.ensures.kept read).0) c.args.probe has
+
+pub returns-in-Absent-clause-known : goal.returns-in-Absent-clause-known
+returns-in-Absent-clause-known g c = λ ne. ap (cached_has_function c.args.probe) c.in-Absent.is
 
 pub returns-in-Unread : goal.returns-in-Unread
 returns-in-Unread g c = absurd (false≢true (sym (ap were_read c.in-Unread.is) ∙ c.in_ok-cache.ensures.read))

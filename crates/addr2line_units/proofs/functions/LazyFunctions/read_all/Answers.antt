@@ -1,18 +1,25 @@
 use Rattle.std.proofs.Common.{◌≡◌, ◌≢◌, Bool, Err, Result, false, refl, true, ◌∙◌, ap, subst, sym}
+use Rattle.std.specs.Box.{with_value}
+use Rattle.std.specs.List.{AllByRecursion}
 use Rattle.std.proofs.lemmas.Result.{err_from_is_err_and}
 use Rattle.gimli_read.specs.declared.error.Error.{Error}
 use Rattle.gimli_read.specs.Reading.{ExactlyUnlessOomIf}
 use Rattle.gimli_read.specs.declared.error.Error.TheVariants.{OutOfMemory}
 use Rattle.gimli.specs.Unit.{UnitRecord}
-use Rattle.addr2line_lines.specs.FunctionDetails.{details_take_memory}
+use Rattle.addr2line_lines.specs.CachedNames.{AreNamesOf}
+use Rattle.addr2line_lines.specs.FunctionDetails.{HasDetail, details_take_memory}
+use Rattle.addr2line_lines.specs.FunctionTable.{FunctionTable}
 use Rattle.addr2line_lines.specs.Functions.{functions_of, functions_take_memory}
 use Rattle.addr2line_lines.specs.References.{Scope}
 use Rattle.addr2line_lines.specs.SeenScope.{seen_scope}
 use Rattle.addr2line_units.specs.declared.functions.LazyFunctions.{LazyFunctions}
 use Rattle.addr2line_units.specs.declared.functions.LazyFunctions.TheVariants as lazy
 use Rattle.addr2line_units.specs.declared.parses.ReadingDepth.TheVariants as reads
-use Rattle.addr2line_units.specs.CachedFunctions.{AreFunctionsOf, functions_fault, reading_takes_memory, were_read}
-use Rattle.addr2line_units.proofs.CachedFunctionLemmas.{all_ready, exactly_weaker, fault_is, on_ok, reading_before, stay_faulty, stay_read, table_more}
+use Rattle.addr2line_units.specs.CachedFunctions.{AreFunctionsOf, cached_functions, find_takes_memory, functions_fault, reading_takes_memory, table_has_many, were_read}
+use Rattle.addr2line_units.specs.CachedKnown.{known_functions}
+use Rattle.addr2line_units.specs.FunctionParses.{IsReadyFor}
+use Rattle.addr2line_units.proofs.CachedFunctionLemmas.{all_ready, exactly_weaker, fault_is, no_fault_of, on_ok, reading_before, stay_faulty, stay_read, table_more}
+use Rattle.addr2line_units.proofs.CachedParseLemmas.{cached_stay}
 use Rattle.addr2line_units.proofs.ReadyLemmas.{fault_of_functions, had_not_oom, known_not_oom, not_oom, ready_fault, ready_same, ready_then, ready_were_read}
 use Rattle.addr2line_units.proofs.KnownTableLemmas.{to_fault_cached, to_fault_known}
 use Rattle.addr2line_units.proofs.functions.LazyFunctions.read_all.Goals as goal
@@ -22,22 +29,25 @@ returns-in-Read-clause-gives g c =
     let scope = seen_scope c.args.scope in
     let view = c.args.view.now in
     let t = c.in-Read.functions in
-    let may = details_take_memory g.R.Reader.shares scope view t.functions in
+    let may = details_take_memory g.R.Reader.shares scope view t.value.functions in
     let table = subst (λ x. AreFunctionsOf scope view x) c.in-Read.is c.cache.ensures.right in
     exactly_weaker may (reading_takes_memory g.R.Reader.shares scope view c.args.self.now) (λ x. x) c.read_all.result (functions_fault scope view)
     (reading_before c.args.self.now c.cache.new.self (λ read. (c.cache.ensures.kept read).0) g.R.Reader.shares scope view t c.in-Read.is table)
-    (subst (λ (r : Result (Unit {0}) Error). ExactlyUnlessOomIf may (λ x. x) c.read_all.result r) (sym (fault_is scope view t table)) (c.read_all.ensures.gives table.details))
+    (subst (λ (r : Result (Unit {0}) Error). ExactlyUnlessOomIf may (λ x. x) c.read_all.result r) (sym (fault_is scope view t.value table)) (rw c.deref_mut.ensures.value at c.read_all.ensures.gives table.details))
 
 pub returns-in-Read-clause-right : goal.returns-in-Read-clause-right
 returns-in-Read-clause-right g c =
     let scope = seen_scope c.args.scope in
     let view = c.args.view.now in
     let table = subst (λ x. AreFunctionsOf scope view x) c.in-Read.is c.cache.ensures.right in
-    table_more scope view c.in-Read.functions c.read_all.new.self table c.read_all.ensures.kept (c.read_all.ensures.right table.details) c.read_all.ensures.names
+    let kept = rw c.deref_mut.ensures.value at c.read_all.ensures.kept in
+    let details = rw c.deref_mut.ensures.value at c.read_all.ensures.right in
+    table_more scope view c.in-Read.functions.value c.read_all.new.self table kept (details table.details) c.read_all.ensures.names
 
 pub returns-in-Read-clause-stay : goal.returns-in-Read-clause-stay
 returns-in-Read-clause-stay g c =
-    stay_read c.args.self.now c.cache.new.self (λ read. (c.cache.ensures.kept read).0) c.in-Read.functions c.read_all.new.self c.in-Read.is c.read_all.ensures.kept
+    let kept = rw c.deref_mut.ensures.value at c.read_all.ensures.kept in
+    stay_read c.args.self.now c.cache.new.self (λ read. (c.cache.ensures.kept read).0) c.in-Read.functions (with_value c.in-Read.functions c.read_all.new.self) c.in-Read.is kept
 
 pub returns-in-Read-clause-ready : goal.returns-in-Read-clause-ready
 returns-in-Read-clause-ready g c = on_ok c.read_all.result (all_ready c.read_all.new.self) c.read_all.ensures.cached
@@ -45,6 +55,33 @@ returns-in-Read-clause-ready g c = on_ok c.read_all.result (all_ready c.read_all
 pub returns-in-Faulty-clause-stay : goal.returns-in-Faulty-clause-stay
 returns-in-Faulty-clause-stay g c =
     stay_faulty c.args.self.now c.cache.new.self (λ read. (c.cache.ensures.kept read).0) c.in-Faulty.error c.in-Faulty.is
+
+pub returns-in-Absent-clause-gives : goal.returns-in-Absent-clause-gives
+returns-in-Absent-clause-gives g c =
+    let scope = seen_scope c.args.scope in
+    let view = c.args.view.now in
+    no_fault_of scope view (subst (AreFunctionsOf scope view) c.in-Absent.is c.cache.ensures.right)
+
+pub returns-in-Absent-clause-stay : goal.returns-in-Absent-clause-stay
+returns-in-Absent-clause-stay g c =
+    cached_stay (seen_scope c.args.scope) c.args.view.now c.args.self.now c.cache.new.self (λ read. (c.cache.ensures.kept read).0)
+
+pub returns-in-Absent-clause-details : goal.returns-in-Absent-clause-details
+returns-in-Absent-clause-details g c = subst (λ f. AllByRecursion HasDetail (cached_functions f).functions) (sym c.in-Absent.is) tt
+
+pub returns-in-Absent-clause-ready : goal.returns-in-Absent-clause-ready
+returns-in-Absent-clause-ready g c = λ probe.
+    subst (λ f. find_takes_memory g.R.Reader.shares (seen_scope c.args.scope) c.args.view.now probe f ≡ table_has_many probe (cached_functions f)) (sym c.in-Absent.is) refl
+
+pub returns-in-Absent-clause-ready_for_all : goal.returns-in-Absent-clause-ready_for_all
+returns-in-Absent-clause-ready_for_all g c = λ ne. subst (λ f. IsReadyFor reads.Details (known_functions f)) (sym c.in-Absent.is) tt
+
+pub returns-in-Absent-clause-exact : goal.returns-in-Absent-clause-exact
+returns-in-Absent-clause-exact g c = λ ready. sym (returns-in-Absent-clause-gives g c)
+
+pub returns-in-Absent-clause-same : goal.returns-in-Absent-clause-same
+returns-in-Absent-clause-same g c = λ ready.
+    ready_same reads.Details c.args.self.now c.cache.new.self (λ read. (c.cache.ensures.kept read).0) ready
 
 pub returns-in_err-cache-clause-exact : goal.returns-in_err-cache-clause-exact
 returns-in_err-cache-clause-exact g c = λ ready.
@@ -59,12 +96,14 @@ returns-in-Read-clause-exact g c = λ ready.
     let view = c.args.view.now in
     let t = c.in-Read.functions in
     let table = subst (λ x. AreFunctionsOf scope view x) c.in-Read.is c.cache.ensures.right in
-    c.read_all.ensures.exact table.details (to_fault_cached t.functions (ready_then reads.Details c.args.self.now c.cache.new.self (λ read. (c.cache.ensures.kept read).0) ready (lazy.Read t) c.in-Read.is)) ∙ sym (fault_is scope view t table)
+    let exact = rw c.deref_mut.ensures.value at c.read_all.ensures.exact in
+    exact table.details (to_fault_cached t.value.functions (ready_then reads.Details c.args.self.now c.cache.new.self (λ read. (c.cache.ensures.kept read).0) ready (lazy.Read t) c.in-Read.is)) ∙ sym (fault_is scope view t.value table)
 
 pub returns-in-Read-clause-same : goal.returns-in-Read-clause-same
 returns-in-Read-clause-same g c = λ ready.
     let t = c.in-Read.functions in
-    ap lazy.Read (c.read_all.ensures.same (to_fault_cached t.functions (ready_then reads.Details c.args.self.now c.cache.new.self (λ read. (c.cache.ensures.kept read).0) ready (lazy.Read t) c.in-Read.is)))
+    let same = rw c.deref_mut.ensures.value at c.read_all.ensures.same in
+    ap (λ x. lazy.Read (with_value t x)) (same (to_fault_cached t.value.functions (ready_then reads.Details c.args.self.now c.cache.new.self (λ read. (c.cache.ensures.kept read).0) ready (lazy.Read t) c.in-Read.is)))
     ∙ sym c.in-Read.is ∙ ready_same reads.Details c.args.self.now c.cache.new.self (λ read. (c.cache.ensures.kept read).0) ready
 
 pub returns-in-Faulty-clause-ready_for_all : goal.returns-in-Faulty-clause-ready_for_all
@@ -89,6 +128,7 @@ unread_takes shares scope view lazy.Unread x unread oom fault may = by_test (fun
     by_test : (b : Bool) → (b ≡ false → functions_of scope.file.sections view ≡ Err x) → (b ≡ true → x ≢ OutOfMemory) → functions_of scope.file.sections view ≡ Err x
     by_test true h k = absurd (k refl oom)
     by_test false h k = h refl
+unread_takes shares scope view lazy.Absent x unread oom fault may = absurd (unread refl)
 unread_takes shares scope view (lazy.Read t) x unread oom fault may = absurd (unread refl)
 unread_takes shares scope view (lazy.Faulty y) x unread oom fault may = absurd (unread refl)
 
@@ -112,4 +152,6 @@ pub returns-in-Faulty-clause-had_memory : goal.returns-in-Faulty-clause-had_memo
 returns-in-Faulty-clause-had_memory g c = λ ready. known_not_oom reads.Details c.in-Faulty.error ready
 
 pub read_all-requires-clause-names : goal.read_all-requires-clause-names
-read_all-requires-clause-names g c = (subst (λ x. AreFunctionsOf (seen_scope c.args.scope) c.args.view.now x) c.in-Read.is c.cache.ensures.right).names
+read_all-requires-clause-names g c =
+    subst (λ (t : FunctionTable). AreNamesOf (seen_scope c.args.scope) c.args.view.now t.names) (sym c.deref_mut.ensures.value)
+    (subst (λ x. AreFunctionsOf (seen_scope c.args.scope) c.args.view.now x) c.in-Read.is c.cache.ensures.right).names

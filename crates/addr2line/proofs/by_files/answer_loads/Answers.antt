@@ -10,23 +10,23 @@ use Rattle.addr2line.proofs.UncoveredLemmas.{still_uncovered}
 use Rattle.addr2line.proofs.SkippedLemmas.{stored_waits, told_ended, told_waits}
 use Rattle.addr2line.proofs.by_files.answer_loads.Goals as goal
 
-pub loop-init : goal.loop-init
-loop-init g c = has_answered_none (as_read_if_known c.args.compressed (g.F.FileSource.files c.args.files.now)) c.args.probe c.args.ctx.now
+pub loop-ctx-init : goal.loop-ctx-init
+loop-ctx-init g c = has_answered_none (as_read_if_known c.args.compressed (g.F.FileSource.files c.args.files.now)) c.args.probe c.args.ctx.now
 
 pub returns-in_err-walk-clause-after : goal.returns-in_err-walk-clause-after
 returns-in_err-walk-clause-after g c =
     let files = as_read_if_known c.args.compressed (g.F.FileSource.files c.args.files.now) in
-    (has_looked files c.args.probe c.args.ctx.now c.loop.ctx c.loop.invariant _ c.walk.new.self c.in_err-walk.ensures.after).after
+    (has_looked files c.args.probe c.args.ctx.now c.loop-ctx.ctx c.loop-ctx.invariant _ c.walk.new.self c.in_err-walk.ensures.after).after
 
 pub returns-in_err-walk-clause-in_turn : goal.returns-in_err-walk-clause-in_turn
 returns-in_err-walk-clause-in_turn g c =
     let files = as_read_if_known c.args.compressed (g.F.FileSource.files c.args.files.now) in
-    in_turn files c.args.probe c.args.ctx.now c.walk.new.self (has_looked files c.args.probe c.args.ctx.now c.loop.ctx c.loop.invariant _ c.walk.new.self c.in_err-walk.ensures.after)
+    in_turn files c.args.probe c.args.ctx.now c.walk.new.self (has_looked files c.args.probe c.args.ctx.now c.loop-ctx.ctx c.loop-ctx.invariant _ c.walk.new.self c.in_err-walk.ensures.after)
 
 pub returns-in_err-walk-clause-only : goal.returns-in_err-walk-clause-only
 returns-in_err-walk-clause-only g c =
     let files = as_read_if_known c.args.compressed (g.F.FileSource.files c.args.files.now) in
-    (has_looked files c.args.probe c.args.ctx.now c.loop.ctx c.loop.invariant _ c.walk.new.self c.in_err-walk.ensures.after).only
+    (has_looked files c.args.probe c.args.ctx.now c.loop-ctx.ctx c.loop-ctx.invariant _ c.walk.new.self c.in_err-walk.ensures.after).only
 
 pub returns-in_err-walk-clause-ready : goal.returns-in_err-walk-clause-ready
 returns-in_err-walk-clause-ready g c =
@@ -47,13 +47,13 @@ returns-in_err-walk-clause-waits g c =
 pub returns-in_err-walk-clause-memory : goal.returns-in_err-walk-clause-memory
 returns-in_err-walk-clause-memory g c =
     let p = err_from_is_err_and c.from_residual.result c.from_residual.ensures.1 in
-    rw (p.1, p.2) (looked_memory c.args.probe c.in_err-walk.field-0.0 _ c.loop.ctx c.walk.new.self refl c.in_err-walk.ensures.after)
+    rw (p.1, p.2) (looked_memory c.args.probe c.in_err-walk.field-0.0 _ c.loop-ctx.ctx c.walk.new.self refl c.in_err-walk.ensures.after)
 
 pub returns-in_err-walk-clause-refused : goal.returns-in_err-walk-clause-refused
 returns-in_err-walk-clause-refused g c =
     let files = as_read_if_known c.args.compressed (g.F.FileSource.files c.args.files.now) in
     let p = err_from_is_err_and c.from_residual.result c.from_residual.ensures.1 in
-    rw (p.1, p.2) (fault_before files c.args.ctx.now c.walk.new.self c.args.probe _ (has_looked files c.args.probe c.args.ctx.now c.loop.ctx c.loop.invariant _ c.walk.new.self c.in_err-walk.ensures.after).after
+    rw (p.1, p.2) (fault_before files c.args.ctx.now c.walk.new.self c.args.probe _ (has_looked files c.args.probe c.args.ctx.now c.loop-ctx.ctx c.loop-ctx.invariant _ c.walk.new.self c.in_err-walk.ensures.after).after
     (stop_fault files c.walk.new.self c.args.probe c.in_err-walk.field-0.0 (λ ne. c.in_err-walk.ensures.gives (no_oom c.in_err-walk.field-0.0 ne))))
 
 pub returns-in_err-walk-clause-fault : goal.returns-in_err-walk-clause-fault
@@ -61,7 +61,7 @@ returns-in_err-walk-clause-fault g c =
     let files = as_read_if_known c.args.compressed (g.F.FileSource.files c.args.files.now) in
     let p = err_from_is_err_and c.from_residual.result c.from_residual.ensures.1 in
     let e = c.in_err-walk.field-0.0 in
-    rw (p.1, p.2) (λ w. stop_fault_is files c.args.probe c.args.ctx.now c.walk.new.self (has_looked files c.args.probe c.args.ctx.now c.loop.ctx c.loop.invariant _ c.walk.new.self c.in_err-walk.ensures.after).after w e (λ ne. c.in_err-walk.ensures.gives (no_oom e ne)))
+    rw (p.1, p.2) (λ w. stop_fault_is files c.args.probe c.args.ctx.now c.walk.new.self (has_looked files c.args.probe c.args.ctx.now c.loop-ctx.ctx c.loop-ctx.invariant _ c.walk.new.self c.in_err-walk.ensures.after).after w e (λ ne. c.in_err-walk.ensures.gives (no_oom e ne)))
 
 pub answer_load-requires : goal.answer_load-requires
 answer_load-requires g c =
@@ -71,29 +71,29 @@ answer_load-requires g c =
       stored = stored_waits n c.walk.new.self.stop (search rules);
     }
 
-pub loop-preserved : goal.loop-preserved
-loop-preserved g c =
+pub loop-ctx-preserved : goal.loop-ctx-preserved
+loop-ctx-preserved g c =
     let files = as_read_if_known c.args.compressed (g.F.FileSource.files c.args.files.now) in
     let e = c.answer_load.ensures in
-    has_answered_after files c.args.probe c.args.ctx.now c.loop.ctx c.loop.invariant _ c.walk.new.self c.in_ok-walk.ensures.after c.in-Some.number (told_waits c.in-Some.number c.walk.new.self.stop _ c.in_ok-walk.ensures.gives (search rules)) c.answer_load.new.ctx e.after e.only e.one
+    has_answered_after files c.args.probe c.args.ctx.now c.loop-ctx.ctx c.loop-ctx.invariant _ c.walk.new.self c.in_ok-walk.ensures.after c.in-Some.number (told_waits c.in-Some.number c.walk.new.self.stop _ c.in_ok-walk.ensures.gives (search rules)) c.answer_load.new.ctx e.after e.only e.one
 
 pub returns-in_err-answer_load-in-Some-clause-after : goal.returns-in_err-answer_load-in-Some-clause-after
 returns-in_err-answer_load-in-Some-clause-after g c =
     let files = as_read_if_known c.args.compressed (g.F.FileSource.files c.args.files.now) in
     let e = c.answer_load.ensures in
-    (has_answered_after files c.args.probe c.args.ctx.now c.loop.ctx c.loop.invariant _ c.walk.new.self c.in_ok-walk.ensures.after c.in-Some.number (told_waits c.in-Some.number c.walk.new.self.stop _ c.in_ok-walk.ensures.gives (search rules)) c.answer_load.new.ctx e.after e.only e.one).after
+    (has_answered_after files c.args.probe c.args.ctx.now c.loop-ctx.ctx c.loop-ctx.invariant _ c.walk.new.self c.in_ok-walk.ensures.after c.in-Some.number (told_waits c.in-Some.number c.walk.new.self.stop _ c.in_ok-walk.ensures.gives (search rules)) c.answer_load.new.ctx e.after e.only e.one).after
 
 pub returns-in_err-answer_load-in-Some-clause-in_turn : goal.returns-in_err-answer_load-in-Some-clause-in_turn
 returns-in_err-answer_load-in-Some-clause-in_turn g c =
     let files = as_read_if_known c.args.compressed (g.F.FileSource.files c.args.files.now) in
     let e = c.answer_load.ensures in
-    in_turn files c.args.probe c.args.ctx.now c.answer_load.new.ctx (has_answered_after files c.args.probe c.args.ctx.now c.loop.ctx c.loop.invariant _ c.walk.new.self c.in_ok-walk.ensures.after c.in-Some.number (told_waits c.in-Some.number c.walk.new.self.stop _ c.in_ok-walk.ensures.gives (search rules)) c.answer_load.new.ctx e.after e.only e.one)
+    in_turn files c.args.probe c.args.ctx.now c.answer_load.new.ctx (has_answered_after files c.args.probe c.args.ctx.now c.loop-ctx.ctx c.loop-ctx.invariant _ c.walk.new.self c.in_ok-walk.ensures.after c.in-Some.number (told_waits c.in-Some.number c.walk.new.self.stop _ c.in_ok-walk.ensures.gives (search rules)) c.answer_load.new.ctx e.after e.only e.one)
 
 pub returns-in_err-answer_load-in-Some-clause-only : goal.returns-in_err-answer_load-in-Some-clause-only
 returns-in_err-answer_load-in-Some-clause-only g c =
     let files = as_read_if_known c.args.compressed (g.F.FileSource.files c.args.files.now) in
     let e = c.answer_load.ensures in
-    (has_answered_after files c.args.probe c.args.ctx.now c.loop.ctx c.loop.invariant _ c.walk.new.self c.in_ok-walk.ensures.after c.in-Some.number (told_waits c.in-Some.number c.walk.new.self.stop _ c.in_ok-walk.ensures.gives (search rules)) c.answer_load.new.ctx e.after e.only e.one).only
+    (has_answered_after files c.args.probe c.args.ctx.now c.loop-ctx.ctx c.loop-ctx.invariant _ c.walk.new.self c.in_ok-walk.ensures.after c.in-Some.number (told_waits c.in-Some.number c.walk.new.self.stop _ c.in_ok-walk.ensures.gives (search rules)) c.answer_load.new.ctx e.after e.only e.one).only
 
 pub returns-in_err-answer_load-in-Some-clause-memory : goal.returns-in_err-answer_load-in-Some-clause-memory
 returns-in_err-answer_load-in-Some-clause-memory g c =
@@ -102,35 +102,35 @@ returns-in_err-answer_load-in-Some-clause-memory g c =
 pub returns-in_err-answer_load-in-Some-clause-fault : goal.returns-in_err-answer_load-in-Some-clause-fault
 returns-in_err-answer_load-in-Some-clause-fault g c =
     let files = as_read_if_known c.args.compressed (g.F.FileSource.files c.args.files.now) in
-    let looked = has_looked files c.args.probe c.args.ctx.now c.loop.ctx c.loop.invariant _ c.walk.new.self c.in_ok-walk.ensures.after in
+    let looked = has_looked files c.args.probe c.args.ctx.now c.loop-ctx.ctx c.loop-ctx.invariant _ c.walk.new.self c.in_ok-walk.ensures.after in
     λ w. absurd (waits_never files c.args.probe c.args.ctx.now c.walk.new.self looked.after w c.in-Some.number (told_waits c.in-Some.number c.walk.new.self.stop _ c.in_ok-walk.ensures.gives (search rules)))
 
 pub returns-in-None-clause-after : goal.returns-in-None-clause-after
 returns-in-None-clause-after g c =
     let files = as_read_if_known c.args.compressed (g.F.FileSource.files c.args.files.now) in
-    (has_looked files c.args.probe c.args.ctx.now c.loop.ctx c.loop.invariant _ c.walk.new.self c.in_ok-walk.ensures.after).after
+    (has_looked files c.args.probe c.args.ctx.now c.loop-ctx.ctx c.loop-ctx.invariant _ c.walk.new.self c.in_ok-walk.ensures.after).after
 
 pub returns-in-None-clause-in_turn : goal.returns-in-None-clause-in_turn
 returns-in-None-clause-in_turn g c =
     let files = as_read_if_known c.args.compressed (g.F.FileSource.files c.args.files.now) in
-    in_turn files c.args.probe c.args.ctx.now c.walk.new.self (has_looked files c.args.probe c.args.ctx.now c.loop.ctx c.loop.invariant _ c.walk.new.self c.in_ok-walk.ensures.after)
+    in_turn files c.args.probe c.args.ctx.now c.walk.new.self (has_looked files c.args.probe c.args.ctx.now c.loop-ctx.ctx c.loop-ctx.invariant _ c.walk.new.self c.in_ok-walk.ensures.after)
 
 pub returns-in-None-clause-only : goal.returns-in-None-clause-only
 returns-in-None-clause-only g c =
     let files = as_read_if_known c.args.compressed (g.F.FileSource.files c.args.files.now) in
-    (has_looked files c.args.probe c.args.ctx.now c.loop.ctx c.loop.invariant _ c.walk.new.self c.in_ok-walk.ensures.after).only
+    (has_looked files c.args.probe c.args.ctx.now c.loop-ctx.ctx c.loop-ctx.invariant _ c.walk.new.self c.in_ok-walk.ensures.after).only
 
 pub returns-in_err-walk-clause-last : goal.returns-in_err-walk-clause-last
 returns-in_err-walk-clause-last g c =
-    λ q. still_uncovered c.args.probe c.args.ctx.now c.loop.ctx c.loop.invariant.after.sections (c.walk.ensures.last q)
+    λ q. still_uncovered c.args.probe c.args.ctx.now c.loop-ctx.ctx c.loop-ctx.invariant.after.sections (c.walk.ensures.last q)
 
 pub returns-in_err-answer_load-in-Some-clause-last : goal.returns-in_err-answer_load-in-Some-clause-last
 returns-in_err-answer_load-in-Some-clause-last g c =
-    λ q. still_uncovered c.args.probe c.args.ctx.now c.loop.ctx c.loop.invariant.after.sections (c.walk.ensures.last q)
+    λ q. still_uncovered c.args.probe c.args.ctx.now c.loop-ctx.ctx c.loop-ctx.invariant.after.sections (c.walk.ensures.last q)
 
 pub returns-in-None-clause-last : goal.returns-in-None-clause-last
 returns-in-None-clause-last g c =
-    λ q. still_uncovered c.args.probe c.args.ctx.now c.loop.ctx c.loop.invariant.after.sections (c.walk.ensures.last q)
+    λ q. still_uncovered c.args.probe c.args.ctx.now c.loop-ctx.ctx c.loop-ctx.invariant.after.sections (c.walk.ensures.last q)
 
 pub returns-in_err-walk-clause-ended : goal.returns-in_err-walk-clause-ended
 returns-in_err-walk-clause-ended g c =

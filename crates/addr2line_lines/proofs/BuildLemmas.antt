@@ -1,5 +1,5 @@
 -- Rows taken one after another make the sequences of the rows (on specs/Building.antt).
-use Rattle.std.proofs.Common.{ℕ, ◌≡◌, ◌+◌, ◌-◌, ◌<◌, ◌≤◌, ◌==◌, ◌||◌, ◌⊎◌, Bool, true, false, cond, List, [], ◌∷◌, ◌++◌, Option, Some, None, map, length, take, drop, get_or, arith, inl, inr, ◌∙◌, ap, sym, subst, refl, append_assoc, append-nil, fold, Result, Ok, Err, IfOk}
+use Rattle.std.proofs.Common.{ℕ, ◌≡◌, ◌+◌, ◌-◌, ◌<◌, ◌≤◌, ◌==◌, ◌⊎◌, Bool, true, false, cond, List, [], ◌∷◌, ◌++◌, Option, Some, None, map, length, take, drop, get_or, arith, inl, inr, ◌∙◌, ap, sym, subst, refl, append_assoc, append-nil, fold, Result, Ok, Err, IfOk}
 use Rattle.std.specs.List.{AllByRecursion, cons_option}
 use Rattle.std.proofs.lemmas.List.Sums.{sum_by_push}
 use Rattle.std.specs.Option.{option_to_list}
@@ -17,9 +17,9 @@ use Rattle.gimli_read.specs.Reading.{result_map}
 use Rattle.addr2line_lines.specs.Rows.{read_all}
 use Rattle.addr2line_lines.specs.Sequences.{Sequence, stored_row, sequence_of, sequences_of}
 use Rattle.addr2line_lines.specs.declared.sequence.LineSequence.{LineSequence}
-use Rattle.addr2line_lines.specs.Building.{Built, IsBuilder, StoredBuilt, need_wide, row_needs_wide, stored_taken, all_taken, built, closed, built_ended, has_address, nothing_built, row_taken, with_row, without_last}
+use Rattle.addr2line_lines.specs.Building.{Built, IsBuilder, StoredBuilt, stored_rows, stored_taken, all_taken, built, closed, built_ended, has_address, nothing_built, row_taken, with_row, without_last}
 use Rattle.addr2line_lines.specs.Packed.{RowsEndBy, row_address_at, packed_rows_in, unpacked}
-use Rattle.addr2line_lines.proofs.PackedLemmas.{all_push, all_same, all_within}
+use Rattle.addr2line_lines.proofs.PackedLemmas.{all_push, all_same, all_within, rows_in_is}
 use Rattle.addr2line_lines.proofs.SeekLemmas.{last_is}
 use Rattle.addr2line_lines.proofs.RowGroupLemmas.{IsPending, append_none, ended_is, falls_back, falls_replaced, none_open, pending_more, pending_replaced, replaced}
 
@@ -244,20 +244,15 @@ read_whole [] h = refl
 read_whole (Ok x ∷ rest) h = ap (result_map (λ xs. x ∷ xs)) (read_whole rest h)
 read_whole (Err d ∷ rest) h = absurd (cc (h))
 
--- what is built of rows doesn't depend on how wide their file indexes are, and these are wide where
--- a row needs it
+-- what is built of rows doesn't depend on how they are stored
 pub stored_sequences : (b : StoredBuilt) (rows : List LineRow) → (fold stored_taken b rows).built.sequences ≡ (all_taken b.built rows).sequences
 stored_sequences b [] = refl
 stored_sequences b (r ∷ rows) = stored_sequences (stored_taken b r) rows
 
-pub stored_wide : (b : StoredBuilt) (rows : List LineRow) → (fold stored_taken b rows).wide ≡ (b.wide || need_wide rows)
-stored_wide b [] = sym (or_none b.wide)
-  where
-    or_none : (w : Bool) → (w || false) ≡ w
-    or_none true = refl
-    or_none false = refl
-stored_wide b (r ∷ rows) = stored_wide (stored_taken b r) rows ∙ or_again b.wide (row_needs_wide r) (need_wide rows)
-  where
-    or_again : (w x y : Bool) → ((w || x) || y) ≡ (w || (x || y))
-    or_again true x y = refl
-    or_again false x y = refl
+-- the rows that a builder has are those that are stored
+pub stored_rows_are : (rows : List Row) (ss : List LineSequence) (first : ℕ) → IsBuilder rows ss first → stored_rows (built rows ss first) ≡ length rows
+stored_rows_are rows ss first is =
+    let sum = rows_in_is rows ss (all_within first (length rows) ss is.upto is.each) in
+    let rest = length-drop first rows in
+    let upto = is.upto in let others = is.no_others in
+    omega arith

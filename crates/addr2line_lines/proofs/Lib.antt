@@ -5,7 +5,7 @@ pub mod RowGroupLemmas
 pub mod RiseLemmas
 pub mod SeekLemmas
 pub mod SpanLemmas
-pub mod ColumnLemmas
+pub mod StoredRowLemmas
 pub mod PackedLemmas
 pub mod BuildLemmas
 pub mod DigitLemmas

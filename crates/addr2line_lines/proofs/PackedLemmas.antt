@@ -145,12 +145,19 @@ pub in_order-length : (ss : List LineSequence) → length (in_order packed_soone
 in_order-length [] = refl
 in_order-length (s ∷ ss) = put-length s (in_order packed_sooner ss) ∙ ap suc (in_order-length ss)
 
-pub rows_in_is : (rows : List Row) (ss : List LineSequence) → AllByRecursion (IsAmong rows) ss → rows_in (map (unpacked rows) ss) ≡ packed_rows_in ss
+pub rows_in_is : (rows : List Row) (ss : List LineSequence) → AllByRecursion (RowsEndBy (length rows)) ss → rows_in (map (unpacked rows) ss) ≡ packed_rows_in ss
 rows_in_is rows [] all = refl
 rows_in_is rows (s ∷ ss) all =
     sum_by-cons (λ (t : Sequence). length t.rows) (unpacked rows s) (map (unpacked rows) ss)
-    ∙ sum_of (sequence_rows_of rows s all.0).len_is (rows_in_is rows ss all.1)
+    ∙ sum_of (long s all.0) (rows_in_is rows ss all.1)
     ∙ sym (sum_by-cons (λ (t : LineSequence). t.len) s ss)
   where
     sum_of : {a b c d : ℕ} → a ≡ b → c ≡ d → a + c ≡ b + d
     sum_of {a} {b} {c} {d} e f = omega arith
+
+    long : (t : LineSequence) → RowsEndBy (length rows) t → length (take t.len (drop t.first rows)) ≡ t.len
+    long t h = let d = length-drop t.first rows in length-take-le t.len (drop t.first rows) (omega arith)
+
+pub all_end : (rows : List Row) (ss : List LineSequence) → AllByRecursion (IsAmong rows) ss → AllByRecursion (RowsEndBy (length rows)) ss
+all_end rows [] all = tt
+all_end rows (s ∷ ss) all = (all.0.within, all_end rows ss all.1)

@@ -12,7 +12,7 @@ use Rattle.addr2line_lines.specs.Spans.{row_at, row_in}
 use Rattle.addr2line_lines.specs.Packed.{IsAmong, IsTable, packed_rows_in, packed_start, packed_end, packed_sooner, unpacked}
 use Rattle.addr2line_lines.proofs.OrderLemmas.{begins_order, in_order_all, in_order_ordered}
 use Rattle.addr2line_lines.proofs.OrderPick.{pick_in_order}
-use Rattle.addr2line_lines.proofs.PackedLemmas.{in_order-length, in_order-map, rows_in_is}
+use Rattle.addr2line_lines.proofs.PackedLemmas.{all_end, in_order-length, in_order-map, rows_in_is}
 
 module _ (rows : List Row) (listed sequences : List LineSequence) (sorted : sequences ≡ in_order packed_sooner listed) where
   pub table_of : length rows < 2 ^ 64 → AllByRecursion (IsAmong rows) listed → IsTable sequences rows
@@ -33,7 +33,7 @@ module _ (rows : List Row) (listed sequences : List LineSequence) (sorted : sequ
       → most_looks (length sequences) (length rows) ≡ most_looks (length (map (unpacked rows) listed)) (rows_in (map (unpacked rows) listed))
   looks_are all among =
       ap (λ n. most_looks n (length rows)) (ap length sorted ∙ in_order-length listed ∙ sym (length-map listed (unpacked rows)))
-      ∙ ap (most_looks (length (map (unpacked rows) listed))) (all ∙ sym (rows_in_is rows listed among))
+      ∙ ap (most_looks (length (map (unpacked rows) listed))) (all ∙ sym (rows_in_is rows listed (all_end rows listed among)))
 
   -- the row of the sequences as they are searched is that of the listed ones
   pub row_at_listed : (probe : ℕ) → row_at probe (map (unpacked rows) sequences) ≡ row_at probe (map (unpacked rows) listed)

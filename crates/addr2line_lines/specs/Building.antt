@@ -1,13 +1,14 @@
 -- What a line program's rows make one after another, as the private functions see them: the
 -- sequences so far, and the rows since the last end row, as they are stored.
-use Rattle.std.specs.Prelude.{ℕ, ◌≡◌, ◌-◌, ◌≤◌, ◌==◌, ◌&&◌, ◌||◌, Bool, false, not, nat_lt, List, [], ◌∷◌, ◌++◌, length, take, drop, map, fold, Option, Some, None, if◌then◌else◌}
-use Rattle.std.specs.List.{AllByRecursion, list_any}
+use Rattle.std.specs.Prelude.{ℕ, ◌≡◌, ◌+◌, ◌-◌, ◌≤◌, ◌==◌, ◌&&◌, Bool, false, not, nat_lt, List, [], ◌∷◌, ◌++◌, length, take, drop, map, fold, Option, Some, None, if◌then◌else◌}
+use Rattle.std.specs.List.{AllByRecursion}
 use Rattle.std.specs.Option.{option_to_list}
 use Rattle.gimli_read.specs.Topmost.{last}
 use Rattle.gimli_line.specs.declared.row.LineRow.{LineRow}
 use Rattle.addr2line_lines.specs.declared.row.Row.{Row}
 use Rattle.addr2line_lines.specs.declared.sequence.LineSequence.{LineSequence}
-use Rattle.addr2line_lines.specs.Columns.{needs_wide}
+use Rattle.addr2line_lines.specs.Counts.{rows_in}
+use Rattle.addr2line_lines.specs.StoredRows.{Width, Short, width_after}
 use Rattle.addr2line_lines.specs.Sequences.{Sequence, stored_row}
 use Rattle.addr2line_lines.specs.Packed.{RowsEndBy, packed_rows_in, unpacked}
 
@@ -62,27 +63,31 @@ row_taken b r =
 abbrev pub all_taken : Built → List LineRow → Built
 all_taken b rows = fold row_taken b rows
 
--- whether a row needs file indexes of 64 bits, which an end row doesn't
-abbrev pub row_needs_wide : LineRow → Bool
-row_needs_wide r = not r.end_sequence && needs_wide r.file_index
+-- how many rows are stored
+abbrev pub stored_rows : Built → ℕ
+stored_rows b = rows_in b.sequences + length b.pending
 
--- whether one of rows does
-abbrev pub need_wide : List LineRow → Bool
-need_wide rows = list_any row_needs_wide rows
-
--- what is built, and whether the rows have file indexes of 64 bits
+-- what is built, and how its rows are stored
 pub record StoredBuilt : Type 0 where
   pub built : Built
-  pub wide : Bool
+  pub width : Width
 
 -- before the first row
 abbrev pub nothing_stored : StoredBuilt
-nothing_stored = record { built = nothing_built; wide = false }
+nothing_stored = record { built = nothing_built; width = Short 0 }
 
--- one row more
+-- one row more; an end row isn't stored
 abbrev pub stored_taken : StoredBuilt → LineRow → StoredBuilt
-stored_taken b r =
-    record { built = row_taken b.built r; wide = b.wide || row_needs_wide r }
+stored_taken b r = record {
+  built = row_taken b.built r;
+  width =
+      if r.end_sequence then b.width
+      else width_after (stored_rows b.built) b.width (stored_row r);
+}
+
+-- how rows need to be stored, one after another
+abbrev pub need_width : List LineRow → Width
+need_width rows = (fold stored_taken nothing_stored rows).width
 
 -- what the fields of a builder stand for
 abbrev pub built : List Row → List LineSequence → ℕ → Built

@@ -4,7 +4,7 @@ pub mod Sequences
 pub mod Rises
 pub mod Count
 pub mod Digits
-pub mod Columns
+pub mod StoredRows
 pub mod Pick
 pub mod InOrder
 pub mod Grown

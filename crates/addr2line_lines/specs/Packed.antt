@@ -5,6 +5,7 @@ use Rattle.std.specs.List.{AllByRecursion}
 use Rattle.addr2line_lines.specs.declared.row.Row.{Row}
 use Rattle.addr2line_lines.specs.declared.sequence.LineSequence.{LineSequence}
 use Rattle.addr2line_lines.specs.Counts.{block_rows, blocks}
+use Rattle.addr2line_lines.specs.StoredRows.{Width}
 use Rattle.addr2line_lines.specs.InOrder.{begins_sooner, in_order, IsInOrder}
 use Rattle.addr2line_lines.specs.Sequences.{Sequence}
 use Rattle.addr2line_lines.specs.Rises.{IsRising}
@@ -58,11 +59,10 @@ abbrev pub ArePastFrom : ℕ → List Row → LineSequence → ℕ → Type 0
 ArePastFrom probe rows s from =
     (j : ℕ) → from ≤ j → j < s.first + s.len → probe < row_address_at rows j
 
--- the rows, whether their file indexes have 64 bits, and the sequences in the program's order and
--- as they are searched
+-- the rows, how they are stored, and the sequences in the program's order and as they are searched
 pub record Packed : Type 0 where
   pub rows : List Row
-  pub wide : Bool
+  pub width : Width
   pub listed : List LineSequence
   pub sequences : List LineSequence
 

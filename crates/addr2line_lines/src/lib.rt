@@ -1,7 +1,6 @@
 //! Lines of a unit: sequences of rows, the texts of files, and the locations of addresses.
 #![tactic(auto)]
 
-mod columns;
 mod count;
 mod detail;
 mod details;
@@ -23,6 +22,7 @@ mod picks;
 mod range;
 mod references;
 mod row;
+mod rows;
 mod search;
 mod segments;
 mod sequence;

@@ -15,8 +15,8 @@ const FEWEST_SLOTS: usize = 64;
 // How many slots are looked at for one entry.
 const MOST_STEPS: usize = 8;
 
-// A slot of no name: no place is so great.
-const NO_PLACE: usize = usize::MAX;
+// A slot of no name: a name at so great a place has none.
+const NO_PLACE: u32 = u32::MAX;
 
 // The name that an entry gives.
 #[derive(Drop)]
@@ -34,7 +34,7 @@ pub(crate) struct NameCache<R: Reader> {
     names: Vec<CachedName<R>>,
     // Where the name of an entry may stand among them, by its offset. A slot may say anything: the
     // offset that stands there decides.
-    slots: Vec<usize>,
+    slots: Vec<u32>,
 }
 
 // A name once more, none where it is shared as often as can be counted.
@@ -53,7 +53,10 @@ fn first_slot(offset: UnitOffset) -> usize {
 }
 
 // Sets a slot for a name: the first that is free, or the last that is looked at.
-fn set_slot(slots: &mut Vec<usize>, offset: UnitOffset, place: usize) {
+fn set_slot(slots: &mut Vec<u32>, offset: UnitOffset, place: usize) {
+    let Ok(place) = u32::try_from(place) else {
+        return;
+    };
     let last = slots.len().wrapping_sub(1);
     let first = first_slot(offset);
     for step in 0..MOST_STEPS {
@@ -68,7 +71,7 @@ fn set_slot(slots: &mut Vec<usize>, offset: UnitOffset, place: usize) {
 }
 
 // Makes room for more slots, if there are at most two for each name, and sets them anew.
-fn make_slots<R: Reader>(names: &[CachedName<R>], slots: &mut Vec<usize>) {
+fn make_slots<R: Reader>(names: &[CachedName<R>], slots: &mut Vec<u32>) {
     if slots.len() / 2 > names.len() {
         return;
     }
@@ -118,7 +121,7 @@ impl<R: Reader> NameCache<R> {
         let first = first_slot(offset);
         for step in 0..MOST_STEPS {
             let place = self.slots.get(first.wrapping_add(step) & last)?;
-            let cached = self.names.get(*place)?;
+            let cached = self.names.get(*place as usize)?;
             if cached.offset == offset {
                 return share_name(&cached.name);
             }

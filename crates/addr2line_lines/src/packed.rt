@@ -1,13 +1,14 @@
 //! The rows and the sequences of a unit, as they are searched.
 
-ghost use Rattle.std.specs.Prelude.{◌≡◌, [], false, ◌<◌, ◌^◌, length, slice_get, Some, IfOk, OnOk, OnErr};
+ghost use Rattle.std.specs.Prelude.{◌≡◌, [], ◌<◌, ◌^◌, length, slice_get, Some, IfOk, OnOk, OnErr};
 ghost use Rattle.std.specs.List.{AllByRecursion};
 ghost use Rattle.addr2line_lines.specs.InOrder.{in_order};
+ghost use Rattle.addr2line_lines.specs.StoredRows.{Short};
 ghost use Rattle.addr2line_lines.specs.Packed.{AreBlocks, IsAmong, row_address_at, IsTable, packed_rows_in, packed_sooner};
 
-use crate::columns::Columns;
 use crate::count::Count;
 use crate::row::Row;
+use crate::rows::Rows;
 use crate::search::{BLOCK_ROWS, Table};
 use crate::sequence::{LineSequence, UnitRows};
 use std::alloc::{AllocError, Global};
@@ -17,7 +18,7 @@ use std::snapshot::Snapshot;
 /// The rows of a unit, the first address of each block of them, and the sequences.
 #[derive(Drop)]
 pub(crate) struct PackedRows {
-    rows: Columns,
+    rows: Rows,
     coarse: Vec<u64>,
     // By start, then end, then place in the program.
     sequences: Vec<LineSequence>,
@@ -32,7 +33,7 @@ impl Model for PackedRows {
 
     ghost view = { λ p. record {
       rows = p.rows.rows;
-      wide = p.rows.wide;
+      width = p.rows.width;
       listed = p.listed.value.items;
       sequences = p.sequences.items;
     } };
@@ -42,7 +43,7 @@ impl Model for PackedRows {
 }
 
 // The first address of each block.
-fn first_addresses(alloc: Global, rows: &Columns) -> Result<Vec<u64>, AllocError>
+fn first_addresses(alloc: Global, rows: &Rows) -> Result<Vec<u64>, AllocError>
     ensures gives { IfOk result (λ coarse. AreBlocks rows.now.rows coarse.items) }
 {
     let count = rows.len() / BLOCK_ROWS + usize::from(rows.len() % BLOCK_ROWS > 0);
@@ -68,12 +69,12 @@ impl PackedRows {
     /// No rows and no sequences. Takes no memory.
     pub(crate) fn none(alloc: Global) -> PackedRows
         ensures rows { result.rows ≡ [] }
-        ensures wide { result.wide ≡ false }
+        ensures width { result.width ≡ Short 0 }
         ensures listed { result.listed ≡ [] }
     {
         let sequences = Vec::new(alloc);
         PackedRows {
-            rows: Columns::new(alloc),
+            rows: Rows::new(alloc),
             coarse: Vec::new(alloc),
             listed: Snapshot::of(&sequences),
             sequences,
@@ -85,7 +86,7 @@ impl PackedRows {
         requires among { AllByRecursion (IsAmong unit.rows.rows) unit.sequences.items }
         requires no_others { length unit.rows.rows ≡ packed_rows_in unit.sequences.items }
         ensures rows { IfOk result (λ p. p.rows ≡ unit.rows.rows) }
-        ensures wide { IfOk result (λ p. p.wide ≡ unit.rows.wide) }
+        ensures width { IfOk result (λ p. p.width ≡ unit.rows.width) }
         ensures listed { IfOk result (λ p. p.listed ≡ unit.sequences.items) }
     {
         let coarse = first_addresses(alloc, &unit.rows)?;

@@ -1,6 +1,6 @@
 //! Sequences, from the rows of a line program.
 
-ghost use Rattle.std.specs.Prelude.{◌≡◌, ◌+◌, [], ◌∷◌, ◌++◌, drop, map, length, option_map, true, IfOk, IfSome, Ok, OnErr, OnOk};
+ghost use Rattle.std.specs.Prelude.{◌≡◌, ◌+◌, [], ◌∷◌, ◌++◌, drop, map, length, option_map, true, false, IfOk, IfSome, Ok, OnErr, OnOk};
 ghost use Rattle.std.specs.List.{AllByRecursion};
 ghost use Rattle.gimli_read.specs.Topmost.{last};
 ghost use Rattle.gimli_read.specs.Reading.{ExactlyUnlessOom, result_map};
@@ -9,11 +9,11 @@ ghost use Rattle.addr2line_lines.specs.UnitLines.{IsFaultAtOnce};
 ghost use Rattle.addr2line_lines.specs.Sequences.{sequences_of};
 ghost use Rattle.gimli_line.specs.Rises.{NeverFalls};
 ghost use Rattle.addr2line_lines.specs.Packed.{IsAmong, RowsEndBy, packed_rows_in, unpacked};
-ghost use Rattle.addr2line_lines.specs.Building.{closed, built_ended, has_address, need_wide, nothing_stored, without_last};
-ghost use Rattle.addr2line_lines.specs.Columns.{is_beyond, wide_after};
+ghost use Rattle.addr2line_lines.specs.Building.{closed, built_ended, has_address, need_width, nothing_stored, stored_rows, without_last};
+ghost use Rattle.addr2line_lines.specs.StoredRows.{stores, width_after};
 
-use crate::columns::Columns;
 use crate::row::{Row, stored_row};
+use crate::rows::Rows;
 use gimli_line::{LineRow, LineRows, RowSink};
 use gimli_read::{Error, Reader};
 use std::alloc::{AllocError, Global};
@@ -33,7 +33,7 @@ pub struct LineSequence {
 }
 
 // Whether the last row, if one is at place `first` or after it, has the address.
-fn ends_at(rows: &Columns, first: usize, address: u64) -> bool
+fn ends_at(rows: &Rows, first: usize, address: u64) -> bool
     ensures gives { result ≡ has_address address (last (drop first rows.now.rows)) }
 {
     let len = rows.len();
@@ -41,7 +41,7 @@ fn ends_at(rows: &Columns, first: usize, address: u64) -> bool
 }
 
 // The sequence of the rows from place `first` on with their end row, if they are one.
-fn closed(rows: &Columns, first: usize, end: LineRow) -> Option<LineSequence>
+fn closed(rows: &Rows, first: usize, end: LineRow) -> Option<LineSequence>
     ensures gives { option_map (unpacked rows.now.rows) result ≡
         closed (drop first rows.now.rows) end }
     ensures first { IfSome result (λ s. s.first ≡ first) }
@@ -67,7 +67,7 @@ fn closed(rows: &Columns, first: usize, end: LineRow) -> Option<LineSequence>
 #[derive(Drop)]
 struct Builder {
     alloc: Global,
-    rows: Columns,
+    rows: Rows,
     sequences: Vec<LineSequence>,
     first: usize,
 }
@@ -79,7 +79,7 @@ impl Model for Builder {
 
     ghost view = { λ b. record {
       built = built b.rows.rows b.sequences.items b.first;
-      wide = b.rows.wide;
+      width = b.rows.width;
     } };
 
     ghost invariant = { λ b. IsBuilder b.rows.rows b.sequences.items b.first };
@@ -92,7 +92,7 @@ impl Builder {
     {
         Builder {
             alloc,
-            rows: Columns::new(alloc),
+            rows: Rows::new(alloc),
             sequences: Vec::new(alloc),
             first: 0,
         }
@@ -101,7 +101,7 @@ impl Builder {
     // Ends the sequence that goes on; where it is none, its rows are dropped.
     fn close(&mut self, end: LineRow) -> Result<(), AllocError>
         ensures gives { OnOk result (self.new.built ≡ built_ended self.old.built end) }
-        ensures wide { OnOk result (self.new.wide ≡ self.old.wide) }
+        ensures width { OnOk result (self.new.width ≡ self.old.width) }
     {
         match closed(&self.rows, self.first, end) {
             Some(sequence) => {
@@ -114,15 +114,16 @@ impl Builder {
     }
 
     // Takes a row of the sequence that goes on: it replaces the last one, or follows it. To replace
-    // one grows only where the indexes of files have 16 bits and this one doesn't fit.
+    // one grows only where it can't be stored as the others are.
     #[inline(always)]
     fn put(&mut self, row: Row) -> Result<(), AllocError>
         ensures gives { OnOk result (self.new.built ≡ record self.old.built {
           pending = without_last row.address self.old.built.pending ++ row ∷ [];
         }) }
-        ensures wide { OnOk result (self.new.wide ≡ wide_after self.old.wide row) }
+        ensures width { OnOk result (self.new.width
+            ≡ width_after (stored_rows self.old.built) self.old.width row) }
         ensures memory { OnErr result (has_address row.address (last self.old.built.pending) ≡ true
-            → is_beyond self.old.wide row.file_index ≡ true) }
+            → stores self.old.width row ≡ false) }
     {
         if ends_at(&self.rows, self.first, row.address) {
             return self.rows.set_last(self.alloc, row);
@@ -134,7 +135,7 @@ impl Builder {
     fn finish(self) -> UnitRows
         ensures gives { map (unpacked result.rows.rows) result.sequences.items ≡
             self.built.sequences }
-        ensures wide { result.rows.wide ≡ self.wide }
+        ensures width { result.rows.width ≡ self.width }
         ensures within { AllByRecursion (RowsEndBy (length result.rows.rows))
             result.sequences.items }
         ensures no_others { length result.rows.rows ≡ packed_rows_in result.sequences.items }
@@ -167,7 +168,7 @@ impl RowSink for Builder {
 #[derive(Drop)]
 pub(crate) struct UnitRows {
     /// The rows of the sequences, in the program's order.
-    pub rows: Columns,
+    pub rows: Rows,
     /// The sequences.
     pub sequences: Vec<LineSequence>,
 }
@@ -179,8 +180,9 @@ fn never_falls<R: Reader>(rows: &LineRows<R>)
     rows.rises();
 }
 
-/// The rows and sequences of a line program. File indexes have 64 bits where a row, which isn't an
-/// end row, has one past 65,535, else 16.
+/// The rows and sequences of a line program. Rows take twelve bytes each, unless one that isn't an
+/// end row has a file index or a column past 65,535, or an address whose upper half isn't that of the
+/// first one's.
 ///
 /// Refused with the program's fault; may fail with `OutOfMemory` instead, unless the fault comes
 /// before the first row and before a file is defined.
@@ -190,8 +192,8 @@ pub(crate) fn read_sequences<R: Reader>(
 ) -> Result<UnitRows, Error>
     ensures gives { ExactlyUnlessOom (λ u. map (unpacked u.rows.rows) u.sequences.items) result
         (result_map sequences_of (read_all rows.old.left)) }
-    ensures wide { IfOk result (λ u.
-        result_map need_wide (read_all rows.old.left) ≡ Ok u.rows.wide) }
+    ensures width { IfOk result (λ u.
+        result_map need_width (read_all rows.old.left) ≡ Ok u.rows.width) }
     ensures among { IfOk result (λ u. AllByRecursion (IsAmong u.rows.rows) u.sequences.items) }
     ensures no_others { IfOk result (λ u.
         length u.rows.rows ≡ packed_rows_in u.sequences.items) }

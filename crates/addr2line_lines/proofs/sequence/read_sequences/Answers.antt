@@ -2,10 +2,10 @@ use Rattle.std.proofs.Common.{Ok, ◌∙◌, ap, fold, sym}
 use Rattle.std.proofs.lemmas.Result.{err_from_is_err_and}
 use Rattle.gimli_line.specs.Rises.{rows_before}
 use Rattle.gimli_read.specs.Reading.{result_map}
-use Rattle.addr2line_lines.specs.Building.{StoredBuilt, all_taken, need_wide, nothing_built, nothing_stored, stored_taken}
+use Rattle.addr2line_lines.specs.Building.{StoredBuilt, all_taken, need_width, nothing_built, nothing_stored, stored_taken}
 use Rattle.addr2line_lines.specs.Rows.{read_all}
 use Rattle.addr2line_lines.specs.Sequences.{sequences_of}
-use Rattle.addr2line_lines.proofs.BuildLemmas.{taken_all, read_fault, read_whole, stored_sequences, stored_wide}
+use Rattle.addr2line_lines.proofs.BuildLemmas.{taken_all, read_fault, read_whole, stored_sequences}
 use Rattle.addr2line_lines.proofs.PackedLemmas.{all_among}
 use Rattle.addr2line_lines.proofs.RiseLemmas.{rising_of}
 use Rattle.addr2line_lines.proofs.sequence.read_sequences.Goals as goal
@@ -25,14 +25,13 @@ returns-clause-gives g c =
     ∙ ap (λ (b : StoredBuilt). Ok b.built.sequences) (sym c.in_ok-take_rows.ensures.taken)
     ∙ ap Ok (sym c.finish.ensures.gives)
 
-pub returns-clause-wide : goal.returns-clause-wide
-returns-clause-wide g c =
+pub returns-clause-width : goal.returns-clause-width
+returns-clause-width g c =
     let left = c.args.rows.now.left in
-    ap (result_map need_wide) (read_whole left c.in_ok-take_rows.ensures.gives)
-    ∙ ap Ok (sym (stored_wide nothing_stored (rows_before left)))
-    ∙ ap (λ (b : StoredBuilt). Ok (fold stored_taken b (rows_before left)).wide) (sym c.new-builder.ensures.gives)
-    ∙ ap (λ (b : StoredBuilt). Ok b.wide) (sym c.in_ok-take_rows.ensures.taken)
-    ∙ ap Ok (sym c.finish.ensures.wide)
+    ap (result_map need_width) (read_whole left c.in_ok-take_rows.ensures.gives)
+    ∙ ap (λ (b : StoredBuilt). Ok (fold stored_taken b (rows_before left)).width) (sym c.new-builder.ensures.gives)
+    ∙ ap (λ (b : StoredBuilt). Ok b.width) (sym c.in_ok-take_rows.ensures.taken)
+    ∙ ap Ok (sym c.finish.ensures.width)
 
 pub returns-clause-among : goal.returns-clause-among
 returns-clause-among g c = all_among _ _ c.finish.ensures.within (rising_of (read_all c.args.rows.now.left) _ c.never_falls.ensures.law (returns-clause-gives g c))

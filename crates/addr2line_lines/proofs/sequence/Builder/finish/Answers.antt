@@ -1,6 +1,6 @@
 use Rattle.std.proofs.Common.{ap, ◌∙◌}
 use Rattle.addr2line_lines.specs.Building.{StoredBuilt}
-use Rattle.addr2line_lines.specs.Columns.{StoredRows}
+use Rattle.addr2line_lines.specs.StoredRows.{StoredRows}
 use Rattle.addr2line_lines.proofs.BuildLemmas.{finished_is}
 use Rattle.addr2line_lines.proofs.sequence.Builder.finish.Goals as goal
 

@@ -1,11 +1,11 @@
 use Rattle.std.proofs.Common.{◌≡◌, true, List, [], ◌∷◌, ◌++◌, drop, map, ap, sym, ◌∙◌}
 use Rattle.std.proofs.lemmas.Result.{on_err_weaker, on_ok_weaker}
 use Rattle.gimli_read.specs.Topmost.{last}
-use Rattle.addr2line_lines.specs.Building.{Built, StoredBuilt, has_address, without_last}
+use Rattle.addr2line_lines.specs.Building.{Built, StoredBuilt, has_address, stored_rows, without_last}
 use Rattle.addr2line_lines.specs.declared.row.Row.{Row}
-use Rattle.addr2line_lines.specs.Columns.{is_beyond, wide_after}
+use Rattle.addr2line_lines.specs.StoredRows.{stores, width_after}
 use Rattle.addr2line_lines.specs.Packed.{unpacked}
-use Rattle.addr2line_lines.proofs.BuildLemmas.{built_push, built_replaced, ends_inside, without_is, without_none}
+use Rattle.addr2line_lines.proofs.BuildLemmas.{built_push, built_replaced, ends_inside, stored_rows_are, without_is, without_none}
 use Rattle.addr2line_lines.proofs.sequence.Builder.put.Goals as goal
 
 pub returns-then-ends_at : goal.returns-then-ends_at
@@ -20,8 +20,8 @@ returns-then-ends_at c =
           built_replaced rows _ first c.self.invariant _ r (ends_inside rows first a t) e
           ∙ ap (λ (p : List Row). record { sequences = map (unpacked rows) c.self.inside.sequences.items; pending = p ++ r ∷ [] }) (sym (without_is (drop first rows) a t))
           ∙ ap (λ (b : Built). record { sequences = b.sequences; pending = without_last a b.pending ++ r ∷ [] }) (ap (λ (v : StoredBuilt). v.built) c.self.view_is)) c.set_last.ensures.gives;
-      wide = on_ok_weaker c.set_last.result (λ e. e ∙ ap (λ (v : StoredBuilt). wide_after v.wide r) c.self.view_is) c.set_last.ensures.wide;
-      memory = on_err_weaker c.set_last.result (λ m h. sym (ap (λ (v : StoredBuilt). is_beyond v.wide r.file_index) c.self.view_is) ∙ m) c.set_last.ensures.memory;
+      width = on_ok_weaker c.set_last.result (λ e. e ∙ (let w = c.self.inside.rows.width in ap (λ n. width_after n w r) (sym (stored_rows_are rows c.self.inside.sequences.items first c.self.invariant)) ∙ ap (λ (v : StoredBuilt). width_after (stored_rows v.built) v.width r) c.self.view_is)) c.set_last.ensures.width;
+      memory = on_err_weaker c.set_last.result (λ m h. sym (ap (λ (v : StoredBuilt). stores v.width r) c.self.view_is) ∙ m) c.set_last.ensures.memory;
     }
 
 pub returns : goal.returns
@@ -36,6 +36,6 @@ returns c =
           built_push rows _ first c.self.invariant _ r e
           ∙ ap (λ (p : List Row). record { sequences = map (unpacked rows) c.self.inside.sequences.items; pending = p ++ r ∷ [] }) (sym (without_none (drop first rows) a t))
           ∙ ap (λ (b : Built). record { sequences = b.sequences; pending = without_last a b.pending ++ r ∷ [] }) (ap (λ (v : StoredBuilt). v.built) c.self.view_is)) c.push.ensures.gives;
-      wide = on_ok_weaker c.push.result (λ e. e ∙ ap (λ (v : StoredBuilt). wide_after v.wide r) c.self.view_is) c.push.ensures.wide;
+      width = on_ok_weaker c.push.result (λ e. e ∙ (let w = c.self.inside.rows.width in ap (λ n. width_after n w r) (sym (stored_rows_are rows c.self.inside.sequences.items first c.self.invariant)) ∙ ap (λ (v : StoredBuilt). width_after (stored_rows v.built) v.width r) c.self.view_is)) c.push.ensures.width;
       memory = on_err_weaker c.push.result (λ m h. let ends : has_address a (last (drop first rows)) ≡ true = ap (λ (v : StoredBuilt). has_address a (last v.built.pending)) c.self.view_is ∙ h in absurd cc) c.push.ensures.refused;
     }

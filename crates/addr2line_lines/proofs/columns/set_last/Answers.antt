@@ -1,6 +1,0 @@
-use Rattle.std.proofs.Common.{arith}
-use Rattle.addr2line_lines.proofs.ColumnLemmas.{set_last}
-use Rattle.addr2line_lines.proofs.columns.set_last.Goals as goal
-
-pub returns : goal.returns
-returns g c = let n = c.args.column.now.ok.0 in let l = c.requires.last in record { gives = set_last c.args.column.now.items c.args.last c.args.element (omega arith) }

@@ -10,6 +10,7 @@ use Rattle.gimli.specs.Unit.{UnitRecord}
 use Rattle.addr2line_lines.specs.References.{FileRecord, Scope}
 use Rattle.addr2line_units.specs.declared.functions.LazyFunctions.{LazyFunctions}
 use Rattle.addr2line_units.specs.declared.functions.LazyFunctions.TheVariants as lazy
+use Rattle.addr2line_units.specs.declared.unit_frames.UnitCache.{UnitCache}
 use Rattle.addr2line_units.specs.declared.unit_frames.UnitEntries.{UnitEntries}
 use Rattle.addr2line_units.specs.declared.view.UnitView.{UnitView}
 use Rattle.addr2line_units.specs.declared.view.ViewState.{ViewState}
@@ -100,21 +101,21 @@ never_waits v w b h same e t =
     let k : true ≡ false = sym t ∙ e ∙ f in cc
 
 -- the first answer of the unit of a number
-pub answer_at : {R : Type 0} (vs : List (UnitEntries R)) (n : ℕ) (v : UnitEntries R) → n < length vs → v ≡ get_or vs n v → answer_of (answers_in vs) n ≡ first_answer_of v
+pub answer_at : {R : Type 0} (vs : List (UnitCache R)) (n : ℕ) (v : UnitCache R) → n < length vs → v ≡ get_or vs n v → answer_of (answers_in vs) n ≡ first_answer_of v.entries
 answer_at [] n v h e = absurd (omega arith)
-answer_at (y ∷ vs) zero v h e = ap first_answer_of (sym e)
+answer_at (y ∷ vs) zero v h e = ap (λ (x : UnitCache _). first_answer_of x.entries) (sym e)
 answer_at (y ∷ vs) (suc n) v h e = answer_at vs n v (omega arith) e
 
-pub answers_set : {R : Type 0} (vs : List (UnitEntries R)) (n : ℕ) (w : UnitEntries R) → answers_in (set vs n w) ≡ set (answers_in vs) n (first_answer_of w)
+pub answers_set : {R : Type 0} (vs : List (UnitCache R)) (n : ℕ) (w : UnitCache R) → answers_in (set vs n w) ≡ set (answers_in vs) n (first_answer_of w.entries)
 answers_set [] n w = refl
 answers_set (y ∷ vs) zero w = refl
-answers_set (y ∷ vs) (suc n) w = ap (λ xs. first_answer_of y ∷ xs) (answers_set vs n w)
+answers_set (y ∷ vs) (suc n) w = ap (λ xs. first_answer_of y.entries ∷ xs) (answers_set vs n w)
 
 -- answers stay where that of one unit is set to what it was
-pub answers_stay : {R : Type 0} (vs : List (UnitEntries R)) (n : ℕ) (v w : UnitEntries R) → n < length vs → v ≡ get_or vs n v → first_answer_of w ≡ first_answer_of v → answers_in (set vs n w) ≡ answers_in vs
+pub answers_stay : {R : Type 0} (vs : List (UnitCache R)) (n : ℕ) (v w : UnitCache R) → n < length vs → v ≡ get_or vs n v → first_answer_of w.entries ≡ first_answer_of v.entries → answers_in (set vs n w) ≡ answers_in vs
 answers_stay [] n v w h e k = absurd (omega arith)
-answers_stay (y ∷ vs) zero v w h e k = ap (λ x. x ∷ answers_in vs) (k ∙ ap first_answer_of e)
-answers_stay (y ∷ vs) (suc n) v w h e k = ap (λ xs. first_answer_of y ∷ xs) (answers_stay vs n v w (omega arith) e k)
+answers_stay (y ∷ vs) zero v w h e k = ap (λ x. x ∷ answers_in vs) (k ∙ ap (λ (z : UnitCache _). first_answer_of z.entries) e)
+answers_stay (y ∷ vs) (suc n) v w h e k = ap (λ xs. first_answer_of y.entries ∷ xs) (answers_stay vs n v w (omega arith) e k)
 
 pub got_unit : (us : List UnitRecord) (n : ℕ) (u : UnitRecord) → n < length us → u ≡ get_or us n u → slice_get us n ≡ Some u
 got_unit [] n u h e = absurd (omega arith)
@@ -122,8 +123,8 @@ got_unit (x ∷ us) zero u h e = ap Some (sym e)
 got_unit (x ∷ us) (suc n) u h e = got_unit us n u (omega arith) e
 
 -- the answers of all units after one more of one unit
-pub answered_all : {R : Type 0} (d : Sections) (us : List UnitRecord) (vs : List (UnitEntries R)) (n : ℕ) (u : UnitRecord) (v w : UnitEntries R) (given : Option Sections) → n < length us → n < length vs
-    → u ≡ get_or us n u → v ≡ get_or vs n v → first_answer_of w ≡ decided_answer d u (first_answer_of v) given → answers_in (set vs n w) ≡ with_answer d us (answers_in vs) n given
+pub answered_all : {R : Type 0} (d : Sections) (us : List UnitRecord) (vs : List (UnitCache R)) (n : ℕ) (u : UnitRecord) (v w : UnitCache R) (given : Option Sections) → n < length us → n < length vs
+    → u ≡ get_or us n u → v ≡ get_or vs n v → first_answer_of w.entries ≡ decided_answer d u (first_answer_of v.entries) given → answers_in (set vs n w) ≡ with_answer d us (answers_in vs) n given
 answered_all d us vs n u v w given h k e f new =
     answers_set vs n w
     ∙ ap (λ a. set (answers_in vs) n a) (new ∙ ap (λ a. decided_answer d u a given) (sym (answer_at vs n v k f)))
@@ -140,13 +141,13 @@ in_same_scope {R} d us vs f h u v e k own =
     (subst (λ xs. AreEntriesOf {R = R} (record { file = record { sections = d; units = xs }; sup = f }) u v) e own)
 
 -- the same after a call that may be refused
-pub answered_if_ok : {R : Type 0} (d : Sections) (us : List UnitRecord) (vs : List (UnitEntries R)) (n : ℕ) (u : UnitRecord) (v w : UnitEntries R) (given : Option Sections) (r : Result (Unit {0}) Error)
-    → n < length us → n < length vs → u ≡ get_or us n u → v ≡ get_or vs n v → OnOk r (first_answer_of w ≡ decided_answer d u (first_answer_of v) given) → OnOk r (answers_in (set vs n w) ≡ with_answer d us (answers_in vs) n given)
+pub answered_if_ok : {R : Type 0} (d : Sections) (us : List UnitRecord) (vs : List (UnitCache R)) (n : ℕ) (u : UnitRecord) (v w : UnitCache R) (given : Option Sections) (r : Result (Unit {0}) Error)
+    → n < length us → n < length vs → u ≡ get_or us n u → v ≡ get_or vs n v → OnOk r (first_answer_of w.entries ≡ decided_answer d u (first_answer_of v.entries) given) → OnOk r (answers_in (set vs n w) ≡ with_answer d us (answers_in vs) n given)
 answered_if_ok d us vs n u v w given (Ok x) h k e f new = answered_all d us vs n u v w given h k e f new
 answered_if_ok d us vs n u v w given (Err x) h k e f new = tt
 
-pub answers_if_refused : {R : Type 0} (vs : List (UnitEntries R)) (n : ℕ) (v w : UnitEntries R) (r : Result (Unit {0}) Error) (P : Type 0) → n < length vs → v ≡ get_or vs n v
-    → IfErr r (λ e. (e ≡ OutOfMemory) × StayEntries v w × P) → IfErr r (λ e. (e ≡ OutOfMemory) × (answers_in (set vs n w) ≡ answers_in vs) × StayAllEntries vs (set vs n w) × P)
+pub answers_if_refused : {R : Type 0} (vs : List (UnitCache R)) (n : ℕ) (v w : UnitCache R) (r : Result (Unit {0}) Error) (P : Type 0) → n < length vs → v ≡ get_or vs n v
+    → IfErr r (λ e. (e ≡ OutOfMemory) × StayEntries v.entries w.entries × P) → IfErr r (λ e. (e ≡ OutOfMemory) × (answers_in (set vs n w) ≡ answers_in vs) × StayAllEntries vs (set vs n w) × P)
 answers_if_refused vs n v w (Ok x) P h e same = tt
 answers_if_refused vs n v w (Err x) P h e same = (same.0, answers_stay vs n v w h e same.1.answer, stay_entries_set vs n v w h e same.1, same.2)
 
@@ -163,12 +164,12 @@ pub same_set : {X : Type 0} (vs : List X) (n : ℕ) (v w : X) → v ≡ get_or v
 same_set vs n v w e same = ap (set vs n) (same ∙ e) ∙ set-get_or vs n v
 
 -- whether the unit of a number is decided, by what is cached of it
-pub decided_there : {R : Type 0} (vs : List (UnitEntries R)) (n : ℕ) (v : UnitEntries R) → v ≡ get_or vs n v → decided_at vs n ≡ true → is_decided v.view.state ≡ true
+pub decided_there : {R : Type 0} (vs : List (UnitCache R)) (n : ℕ) (v : UnitCache R) → v ≡ get_or vs n v → decided_at vs n ≡ true → is_decided v.entries.view.state ≡ true
 decided_there [] n v e h = absurd cc
-decided_there (y ∷ vs) zero v e h = ap (λ x. is_decided x.view.state) e ∙ h
+decided_there (y ∷ vs) zero v e h = ap (λ (x : UnitCache _). is_decided x.entries.view.state) e ∙ h
 decided_there (y ∷ vs) (suc n) v e h = decided_there vs n v e h
 
-pub decided_within : {R : Type 0} (vs : List (UnitEntries R)) (n : ℕ) → decided_at vs n ≡ true → n < length vs
+pub decided_within : {R : Type 0} (vs : List (UnitCache R)) (n : ℕ) → decided_at vs n ≡ true → n < length vs
 decided_within [] n h = absurd cc
 decided_within (v ∷ vs) zero h = omega arith
 decided_within (v ∷ vs) (suc n) h = let k = decided_within vs n h in omega (arith, k)
@@ -176,11 +177,11 @@ decided_within (v ∷ vs) (suc n) h = let k = decided_within vs n h in omega (ar
 pub unit_same : (u v : UnitRecord) → ◌≡◌ {A = Option UnitRecord} (Some u) (Some v) → u ≡ v
 unit_same u v e = cc
 
-decided_set : {R : Type 0} (vs : List (UnitEntries R)) (n : ℕ) (w : UnitEntries R) → n < length vs → is_decided w.view.state ≡ true → decided_at (set vs n w) n ≡ true
+decided_set : {R : Type 0} (vs : List (UnitCache R)) (n : ℕ) (w : UnitCache R) → n < length vs → is_decided w.entries.view.state ≡ true → decided_at (set vs n w) n ≡ true
 decided_set [] n w h d = absurd (omega arith)
 decided_set (y ∷ vs) zero w h d = d
 decided_set (y ∷ vs) (suc n) w h d = decided_set vs n w (omega arith) d
 
-pub decided_if_ok : {R : Type 0} (vs : List (UnitEntries R)) (n : ℕ) (w : UnitEntries R) (r : Result (Unit {0}) Error) → n < length vs → OnOk r (is_decided w.view.state ≡ true) → OnOk r (decided_at (set vs n w) n ≡ true)
+pub decided_if_ok : {R : Type 0} (vs : List (UnitCache R)) (n : ℕ) (w : UnitCache R) (r : Result (Unit {0}) Error) → n < length vs → OnOk r (is_decided w.entries.view.state ≡ true) → OnOk r (decided_at (set vs n w) n ≡ true)
 decided_if_ok vs n w (Ok x) h d = decided_set vs n w h d
 decided_if_ok vs n w (Err x) h d = tt

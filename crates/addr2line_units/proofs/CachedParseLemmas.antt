@@ -20,6 +20,7 @@ use Rattle.addr2line_units.specs.declared.functions.LazyFunctions.{LazyFunctions
 use Rattle.addr2line_units.specs.declared.functions.LazyFunctions.TheVariants as lazy
 use Rattle.addr2line_units.specs.declared.parses.ReadingDepth.{ReadingDepth}
 use Rattle.addr2line_units.specs.declared.parses.ReadingDepth.TheVariants as reads
+use Rattle.addr2line_units.specs.declared.unit_frames.UnitCache.{UnitCache}
 use Rattle.addr2line_units.specs.declared.unit_frames.UnitEntries.{UnitEntries}
 use Rattle.addr2line_units.specs.declared.view.UnitView.{UnitView}
 use Rattle.addr2line_units.specs.declared.view.ViewState.{ViewState}
@@ -179,112 +180,112 @@ module _ {R : Type 0} (probe : ℕ) where
       by_unit (Ok y) q = has_functions f k
       by_unit (Err y) q = cc
 
-  has_entries_if : (vs : List (UnitEntries R)) → HaveRead reads.Details vs → (n : ℕ) → has_entries_at probe vs n ≡ true
+  has_entries_if : (vs : List (UnitCache R)) → HaveRead reads.Details vs → (n : ℕ) → has_entries_at probe vs n ≡ true
   has_entries_if [] all n = refl
-  has_entries_if (v ∷ vs) all zero = has_by v.view.state v.functions all.0.view all.0.functions
+  has_entries_if (v ∷ vs) all zero = has_by v.entries.view.state v.entries.functions all.0.view all.0.functions
   has_entries_if (v ∷ vs) all (suc n) = has_entries_if vs all.1 n
 
 module _ {R : Type 0} where
-  pub found_if_ok : (r : ReadingDepth) (result : Result (Unit {0}) Error) (vs : List (UnitEntries R)) → r ≡ reads.Details → OnOk result (HaveRead r vs) → OnOk result ((probe n : ℕ) → has_entries_at probe vs n ≡ true)
+  pub found_if_ok : (r : ReadingDepth) (result : Result (Unit {0}) Error) (vs : List (UnitCache R)) → r ≡ reads.Details → OnOk result (HaveRead r vs) → OnOk result ((probe n : ℕ) → has_entries_at probe vs n ≡ true)
   found_if_ok r (Err e) vs is h = tt
   found_if_ok r (Ok x) vs is h = λ probe. has_entries_if probe vs (subst (λ (q : ReadingDepth). HaveRead q vs) is h)
 
-  all_decided : (r : ReadingDepth) (vs : List (UnitEntries R)) → HaveRead r vs → AreDecided vs
+  all_decided : (r : ReadingDepth) (vs : List (UnitCache R)) → HaveRead r vs → AreDecided vs
   all_decided r [] h = tt
-  all_decided r (v ∷ vs) h = (read_decided r v h.0, all_decided r vs h.1)
+  all_decided r (v ∷ vs) h = (read_decided r v.entries h.0, all_decided r vs h.1)
 
-  pub decided_if_ok : (r : ReadingDepth) (result : Result (Unit {0}) Error) (vs : List (UnitEntries R)) → OnOk result (HaveRead r vs) → OnOk result (AreDecided vs)
+  pub decided_if_ok : (r : ReadingDepth) (result : Result (Unit {0}) Error) (vs : List (UnitCache R)) → OnOk result (HaveRead r vs) → OnOk result (AreDecided vs)
   decided_if_ok r (Err e) vs h = tt
   decided_if_ok r (Ok x) vs h = all_decided r vs h
 
   -- what stays of units that were decided
-  pub decided_same : (vs : List (UnitEntries R)) → StayDecided vs vs
+  pub decided_same : (vs : List (UnitCache R)) → StayDecided vs vs
   decided_same [] = tt
-  decided_same (v ∷ vs) = (λ _. entries_same v, decided_same vs)
+  decided_same (v ∷ vs) = (λ _. entries_same v.entries, decided_same vs)
 
-  pub decided_over : (vs ws xs : List (UnitEntries R)) → StayDecided vs ws → StayDecided ws xs → StayDecided vs xs
+  pub decided_over : (vs ws xs : List (UnitCache R)) → StayDecided vs ws → StayDecided ws xs → StayDecided vs xs
   decided_over [] [] [] a b = tt
   decided_over [] [] (x ∷ xs) a b = absurd b
   decided_over [] (w ∷ ws) xs a b = absurd a
   decided_over (v ∷ vs) [] xs a b = absurd a
   decided_over (v ∷ vs) (w ∷ ws) [] a b = absurd b
   decided_over (v ∷ vs) (w ∷ ws) (x ∷ xs) a b = (
-    λ e. (let s = a.0 e in entries_on v w x s (b.0 (ap (λ (y : UnitView R). is_decided y.state) (s.view (decided_was_looked_at v.view.state e)) ∙ e))),
+    λ e. (let s = a.0 e in entries_on v.entries w.entries x.entries s (b.0 (ap (λ (y : UnitView R). is_decided y.state) (s.view (decided_was_looked_at v.entries.view.state e)) ∙ e))),
     decided_over vs ws xs a.1 b.1,
   )
 
-  pub decided_set : (vs : List (UnitEntries R)) (n : ℕ) (v w : UnitEntries R) → n < length vs → v ≡ get_or vs n v → (is_decided v.view.state ≡ true → StayEntries v w) → StayDecided vs (set vs n w)
+  pub decided_set : (vs : List (UnitCache R)) (n : ℕ) (v w : UnitCache R) → n < length vs → v ≡ get_or vs n v → (is_decided v.entries.view.state ≡ true → StayEntries v.entries w.entries) → StayDecided vs (set vs n w)
   decided_set [] n v w h e k = absurd (omega arith)
-  decided_set (x ∷ vs) zero v w h e k = (subst (λ (y : UnitEntries R). is_decided y.view.state ≡ true → StayEntries y w) e k, decided_same vs)
-  decided_set (x ∷ vs) (suc n) v w h e k = (λ _. entries_same x, decided_set vs n v w (omega arith) e k)
+  decided_set (x ∷ vs) zero v w h e k = (subst (λ (y : UnitCache R). is_decided y.entries.view.state ≡ true → StayEntries y.entries w.entries) e k, decided_same vs)
+  decided_set (x ∷ vs) (suc n) v w h e k = (λ _. entries_same x.entries, decided_set vs n v w (omega arith) e k)
 
-  pub all_stay : (r : ReadingDepth) (vs ws : List (UnitEntries R)) → HaveRead r vs → StayDecided vs ws → StayAllEntries vs ws
+  pub all_stay : (r : ReadingDepth) (vs ws : List (UnitCache R)) → HaveRead r vs → StayDecided vs ws → StayAllEntries vs ws
   all_stay r [] [] h a = tt
   all_stay r [] (w ∷ ws) h a = absurd a
   all_stay r (v ∷ vs) [] h a = absurd a
-  all_stay r (v ∷ vs) (w ∷ ws) h a = (a.0 (read_decided r v h.0), all_stay r vs ws h.1 a.1)
+  all_stay r (v ∷ vs) (w ∷ ws) h a = (a.0 (read_decided r v.entries h.0), all_stay r vs ws h.1 a.1)
 
   -- only the unit of a number changes
-  pub changes_set : (vs : List (UnitEntries R)) (k : ℕ) (w : UnitEntries R) → ChangesOnly (λ n. n ≡ k) vs (set vs k w)
+  pub changes_set : (vs : List (UnitCache R)) (k : ℕ) (w : UnitCache R) → ChangesOnly (λ n. n ≡ k) vs (set vs k w)
   changes_set [] k w n = inl refl
   changes_set (x ∷ vs) zero w zero = inr refl
   changes_set (x ∷ vs) zero w (suc n) = inl refl
   changes_set (x ∷ vs) (suc k) w zero = inl refl
   changes_set (x ∷ vs) (suc k) w (suc n) = elim (changes_set vs k w n) [ inl e ↦ inl e | inr e ↦ inr (ap suc e) ]
 
-  pub got_set : (vs : List (UnitEntries R)) (n : ℕ) (w : UnitEntries R) → n < length vs → slice_get (set vs n w) n ≡ Some w
+  pub got_set : (vs : List (UnitCache R)) (n : ℕ) (w : UnitCache R) → n < length vs → slice_get (set vs n w) n ≡ Some w
   got_set [] n w h = absurd (omega arith)
   got_set (x ∷ vs) zero w h = refl
   got_set (x ∷ vs) (suc n) w h = got_set vs n w (omega arith)
 
-  pub got_entry : (vs : List (UnitEntries R)) (n : ℕ) (v : UnitEntries R) → n < length vs → v ≡ get_or vs n v → slice_get vs n ≡ Some v
+  pub got_entry : (vs : List (UnitCache R)) (n : ℕ) (v : UnitCache R) → n < length vs → v ≡ get_or vs n v → slice_get vs n ≡ Some v
   got_entry [] n v h e = absurd (omega arith)
   got_entry (x ∷ vs) zero v h e = ap Some (sym e)
   got_entry (x ∷ vs) (suc n) v h e = got_entry vs n v (omega arith) e
 
   -- what was read of the unit of a number
-  pub read_set : (r : ReadingDepth) (result : Result (Unit {0}) Error) (vs : List (UnitEntries R)) (n : ℕ) (w : UnitEntries R) → n < length vs → OnOk result (HasRead r w) → OnOk result (IfSome (slice_get (set vs n w) n) (HasRead r))
+  pub read_set : (r : ReadingDepth) (result : Result (Unit {0}) Error) (vs : List (UnitCache R)) (n : ℕ) (w : UnitCache R) → n < length vs → OnOk result (HasRead r w.entries) → OnOk result (IfSome (slice_get (set vs n w) n) (λ c. HasRead r c.entries))
   read_set r (Err e) vs n w h k = tt
-  read_set r (Ok x) vs n w h k = subst (λ (o : Option (UnitEntries R)). IfSome o (HasRead r)) (sym (got_set vs n w h)) k
+  read_set r (Ok x) vs n w h k = subst (λ (o : Option (UnitCache R)). IfSome o (λ c. HasRead r c.entries)) (sym (got_set vs n w h)) k
 
-  pub read_entry : (r : ReadingDepth) (vs : List (UnitEntries R)) (n : ℕ) (v : UnitEntries R) → n < length vs → v ≡ get_or vs n v → IfSome (slice_get vs n) (HasRead r) → HasRead r v
-  read_entry r vs n v h e k = subst (λ (o : Option (UnitEntries R)). IfSome o (HasRead r)) (got_entry vs n v h e) k
+  pub read_entry : (r : ReadingDepth) (vs : List (UnitCache R)) (n : ℕ) (v : UnitCache R) → n < length vs → v ≡ get_or vs n v → IfSome (slice_get vs n) (λ c. HasRead r c.entries) → HasRead r v.entries
+  read_entry r vs n v h e k = subst (λ (o : Option (UnitCache R)). IfSome o (λ c. HasRead r c.entries)) (got_entry vs n v h e) k
 
-  pub read_number : (r : ReadingDepth) (vs : List (UnitEntries R)) → HaveRead r vs → (n : ℕ) → IfSome (slice_get vs n) (HasRead r)
+  pub read_number : (r : ReadingDepth) (vs : List (UnitCache R)) → HaveRead r vs → (n : ℕ) → IfSome (slice_get vs n) (λ c. HasRead r c.entries)
   read_number r [] all n = tt
   read_number r (v ∷ vs) all zero = all.0
   read_number r (v ∷ vs) all (suc n) = read_number r vs all.1 n
 
-  pub all_read : (r : ReadingDepth) (vs : List (UnitEntries R)) (k : ℕ) → length vs ≤ k → ((n : ℕ) → n < k → IfSome (slice_get vs n) (HasRead r)) → HaveRead r vs
+  pub all_read : (r : ReadingDepth) (vs : List (UnitCache R)) (k : ℕ) → length vs ≤ k → ((n : ℕ) → n < k → IfSome (slice_get vs n) (λ c. HasRead r c.entries)) → HaveRead r vs
   all_read r [] k past h = tt
   all_read r (v ∷ vs) zero past h = absurd (omega arith)
   all_read r (v ∷ vs) (suc k) past h = (h 0 (omega arith), all_read r vs k (omega arith) (λ n l. h (suc n) (omega arith)))
 
   -- one more unit was read: those before it stay so
-  pub read_more : (r : ReadingDepth) (vs ws : List (UnitEntries R)) (k : ℕ) → ((n : ℕ) → n < k → IfSome (slice_get vs n) (HasRead r)) → ChangesOnly (λ n. n ≡ k) vs ws → IfSome (slice_get ws k) (HasRead r)
-      → (n : ℕ) → n < suc k → IfSome (slice_get ws n) (HasRead r)
+  pub read_more : (r : ReadingDepth) (vs ws : List (UnitCache R)) (k : ℕ) → ((n : ℕ) → n < k → IfSome (slice_get vs n) (λ c. HasRead r c.entries)) → ChangesOnly (λ n. n ≡ k) vs ws → IfSome (slice_get ws k) (λ c. HasRead r c.entries)
+      → (n : ℕ) → n < suc k → IfSome (slice_get ws n) (λ c. HasRead r c.entries)
   read_more r vs ws k before only at n h = elim (below_next n k h) [
-    | inr e ↦ subst (λ (m : ℕ). IfSome (slice_get ws m) (HasRead r)) (sym e) at
+    | inr e ↦ subst (λ (m : ℕ). IfSome (slice_get ws m) (λ c. HasRead r c.entries)) (sym e) at
     | inl l ↦ elim (only n) [
-      | inl same ↦ subst (λ (o : Option (UnitEntries R)). IfSome o (HasRead r)) (sym same) (before n l)
+      | inl same ↦ subst (λ (o : Option (UnitCache R)). IfSome o (λ c. HasRead r c.entries)) (sym same) (before n l)
       | inr e ↦ absurd (omega (arith, e, l))
     ]
   ]
 
   -- the units behind are as they were
-  pub behind_more : (vs ws xs : List (UnitEntries R)) (k : ℕ) → ((n : ℕ) → k ≤ n → slice_get ws n ≡ slice_get vs n) → ChangesOnly (λ n. n ≡ k) ws xs → (n : ℕ) → suc k ≤ n → slice_get xs n ≡ slice_get vs n
+  pub behind_more : (vs ws xs : List (UnitCache R)) (k : ℕ) → ((n : ℕ) → k ≤ n → slice_get ws n ≡ slice_get vs n) → ChangesOnly (λ n. n ≡ k) ws xs → (n : ℕ) → suc k ≤ n → slice_get xs n ≡ slice_get vs n
   behind_more vs ws xs k behind only n h = elim (only n) [
     | inl same ↦ same ∙ behind n (omega arith)
     | inr e ↦ absurd (omega (arith, e, h))
   ]
 
-  pub changes_then : (IsAsked : ℕ → Type 0) (vs ws xs : List (UnitEntries R)) (k : ℕ) → ((n : ℕ) → k ≤ n → slice_get ws n ≡ slice_get vs n) → ChangesOnly (λ n. n ≡ k) ws xs → ((n : ℕ) → n ≤ k → IsAsked n) → ChangesOnly IsAsked vs xs
+  pub changes_then : (IsAsked : ℕ → Type 0) (vs ws xs : List (UnitCache R)) (k : ℕ) → ((n : ℕ) → k ≤ n → slice_get ws n ≡ slice_get vs n) → ChangesOnly (λ n. n ≡ k) ws xs → ((n : ℕ) → n ≤ k → IsAsked n) → ChangesOnly IsAsked vs xs
   changes_then IsAsked vs ws xs k behind only asked n = elim (at_or_behind n k) [
     | inl l ↦ inr (asked n l)
     | inr l ↦ inl (behind_more vs ws xs k behind only n (omega arith))
   ]
 
-  pub changes_all : (IsAsked : ℕ → Type 0) (vs ws : List (UnitEntries R)) (k : ℕ) → ((n : ℕ) → k ≤ n → slice_get ws n ≡ slice_get vs n) → ((n : ℕ) → n ≤ k → IsAsked n) → ChangesOnly IsAsked vs ws
+  pub changes_all : (IsAsked : ℕ → Type 0) (vs ws : List (UnitCache R)) (k : ℕ) → ((n : ℕ) → k ≤ n → slice_get ws n ≡ slice_get vs n) → ((n : ℕ) → n ≤ k → IsAsked n) → ChangesOnly IsAsked vs ws
   changes_all IsAsked vs ws k behind asked n = elim (at_or_behind n k) [
     | inl l ↦ inr (asked n l)
     | inr l ↦ inl (behind n (omega arith))
@@ -308,8 +309,8 @@ entries_then {R} v mid f same stay =
     subst (λ (x : UnitEntries R). StayEntries x (record { view = mid.view; functions = f })) same (record { answer = refl; view = λ e. refl; functions = stay })
 
 -- what is read of the unit of a number
-pub number_is : {R : Type 0} (r : ReadingDepth) (scope : Scope) (us : List UnitRecord) (vs : List (UnitEntries R)) (n : ℕ) (u : UnitRecord) (v : UnitEntries R) → n < length us → n < length vs → u ≡ get_or us n u → v ≡ get_or vs n v
-    → read_of_number r scope us (answers_in vs) n ≡ read_of_unit r scope u (first_answer_of v)
+pub number_is : {R : Type 0} (r : ReadingDepth) (scope : Scope) (us : List UnitRecord) (vs : List (UnitCache R)) (n : ℕ) (u : UnitRecord) (v : UnitCache R) → n < length us → n < length vs → u ≡ get_or us n u → v ≡ get_or vs n v
+    → read_of_number r scope us (answers_in vs) n ≡ read_of_unit r scope u (first_answer_of v.entries)
 number_is r scope us vs n u v h k e f =
     ap (λ (o : Option UnitRecord). by_unit o) (got_unit us n u h e) ∙ ap (read_of_unit r scope u) (answer_at vs n v k f)
   where
@@ -317,20 +318,20 @@ number_is r scope us vs n u v h k e f =
     by_unit o = elim o [ None ↦ Ok tt | Some x ↦ read_of_unit r scope x (answer_of (answers_in vs) n) ]
 
 -- whether memory may be taken for the functions of the unit of a number that was put back
-pub takes_of_set : {R : Type 0} (shares : Bool) (scope : Scope) (us : List UnitRecord) (vs : List (UnitEntries R)) (n : ℕ) (u : UnitRecord) (w : UnitEntries R) → n < length us → n < length vs → u ≡ get_or us n u
-    → parse_of_takes_memory shares scope us (answers_in (set vs n w)) n ≡ parse_takes_memory shares scope u (first_answer_of w)
+pub takes_of_set : {R : Type 0} (shares : Bool) (scope : Scope) (us : List UnitRecord) (vs : List (UnitCache R)) (n : ℕ) (u : UnitRecord) (w : UnitCache R) → n < length us → n < length vs → u ≡ get_or us n u
+    → parse_of_takes_memory shares scope us (answers_in (set vs n w)) n ≡ parse_takes_memory shares scope u (first_answer_of w.entries)
 takes_of_set {R} shares scope us vs n u w h k e =
     ap (λ (o : Option UnitRecord). by_unit o) (got_unit us n u h e) ∙ ap (parse_takes_memory shares scope u) (answer_set vs n k)
   where
     by_unit : Option UnitRecord → Bool
     by_unit o = elim o [ None ↦ false | Some x ↦ parse_takes_memory shares scope x (answer_of (answers_in (set vs n w)) n) ]
 
-    answer_set : (xs : List (UnitEntries R)) (m : ℕ) → m < length xs → answer_of (answers_in (set xs m w)) m ≡ first_answer_of w
+    answer_set : (xs : List (UnitCache R)) (m : ℕ) → m < length xs → answer_of (answers_in (set xs m w)) m ≡ first_answer_of w.entries
     answer_set [] m l = absurd (omega arith)
     answer_set (x ∷ xs) zero l = refl
     answer_set (x ∷ xs) (suc m) l = answer_set xs m (omega arith)
 
-pub many_answers : {R : Type 0} (scope : Scope) (us : List UnitRecord) (vs : List (UnitEntries R)) → HaveEntriesOf scope us vs → length us ≡ length (answers_in vs)
+pub many_answers : {R : Type 0} (scope : Scope) (us : List UnitRecord) (vs : List (UnitCache R)) → HaveEntriesOf scope us vs → length us ≡ length (answers_in vs)
 many_answers scope [] [] own = refl
 many_answers scope [] (v ∷ vs) own = absurd own
 many_answers scope (u ∷ us) [] own = absurd own

@@ -13,8 +13,7 @@ use Rattle.addr2line_units.specs.declared.frames_lookup.OnFault.TheVariants.{End
 use Rattle.addr2line_units.specs.declared.frames_lookup.FramesStop.{FramesStop}
 use Rattle.addr2line_units.specs.declared.frames_lookup.FramesStop.TheVariants as stops
 use Rattle.addr2line_units.specs.declared.index.UnitRange.{UnitRange}
-use Rattle.addr2line_units.specs.declared.unit.ResUnit.{ResUnit}
-use Rattle.addr2line_units.specs.declared.unit_frames.UnitEntries.{UnitEntries}
+use Rattle.addr2line_units.specs.declared.unit_frames.UnitCache.{UnitCache}
 use Rattle.addr2line_units.specs.declared.view.ViewState.{ViewState}
 use Rattle.addr2line_units.specs.declared.view.ViewState.TheVariants as states
 use Rattle.addr2line_units.specs.CachedLines.{indexed_units}
@@ -96,45 +95,44 @@ looked_is_decided (states.Answered a) e w = refl
 
 -- of a unit that was looked at and has frames the view is known
 module _ {R : Type 0} (scope : Scope) (probe : ℕ) where
-  decided_there : (us : List UnitRecord) (rs : List ResUnit) (vs : List (UnitEntries R)) (n : ℕ) → HaveEntriesOf scope us vs
-      → has_frames (frames_of_number scope (indexed_units us rs) (answers_in vs) probe n) ≡ true → has_entries_at probe vs n ≡ true → decided_at vs n ≡ true
+  decided_there : (us : List UnitRecord) (vs : List (UnitCache R)) (n : ℕ) → HaveEntriesOf scope us vs
+      → has_frames (frames_of_number scope (indexed_units us vs) (answers_in vs) probe n) ≡ true → has_entries_at probe vs n ≡ true → decided_at vs n ≡ true
   unfolding has_frames
-  decided_there [] rs vs n own e h = absurd cc
-  decided_there (u ∷ us) [] vs n own e h = absurd cc
-  decided_there (u ∷ us) (r ∷ rs) [] n own e h = absurd own
-  decided_there (u ∷ us) (r ∷ rs) (v ∷ vs) zero own e h =
-      let decided = decided_by_frames scope (record { unit = u; language = r.lang }) (first_answer_of v) probe e in
-      let looked = known_was_looked_at probe v h in
-      looked_is_decided v.view.state looked (looked_waits scope.file.sections u v.view own.0.view looked ∙ decided)
-  decided_there (u ∷ us) (r ∷ rs) (v ∷ vs) (suc n) own e h = decided_there us rs vs n own.1 e h
+  decided_there [] vs n own e h = absurd cc
+  decided_there (u ∷ us) [] n own e h = absurd cc
+  decided_there (u ∷ us) (v ∷ vs) zero own e h =
+      let decided = decided_by_frames scope (record { unit = u; language = v.lines.lang }) (first_answer_of v.entries) probe e in
+      let looked = known_was_looked_at probe v.entries h in
+      looked_is_decided v.entries.view.state looked (looked_waits scope.file.sections u v.entries.view own.0.view looked ∙ decided)
+  decided_there (u ∷ us) (v ∷ vs) (suc n) own e h = decided_there us vs n own.1 e h
 
   -- so it is where a lookup has found something
-  pub known_where_found : (faults : OnFault) (us : List UnitRecord) (rs : List ResUnit) (vs : List (UnitEntries R)) (asks_lines : ℕ → Bool) (parsed : List Bool) (ranges : List UnitRange) (n : ℕ) (fs : List FrameRecord) → HaveEntriesOf scope us vs
-      → holds_along (has_frames_at asks_lines probe parsed vs) (asked_frames faults scope (indexed_units us rs) (answers_in vs) probe) ranges ≡ true
-      → stop_along (asked_frames faults scope (indexed_units us rs) (answers_in vs) probe) ranges ≡ Ok (Finds n fs) → decided_at vs n ≡ true
-  known_where_found faults us rs vs asks_lines parsed ranges n fs own h w =
-      let t = found_along (has_frames_at asks_lines probe parsed vs) (asked_frames faults scope (indexed_units us rs) (answers_in vs) probe) n fs ranges h w in
-      decided_there us rs vs n own (found_by_unit faults (frames_of_number scope (indexed_units us rs) (answers_in vs) probe n) t.0)
+  pub known_where_found : (faults : OnFault) (us : List UnitRecord) (vs : List (UnitCache R)) (asks_lines : ℕ → Bool) (ranges : List UnitRange) (n : ℕ) (fs : List FrameRecord) → HaveEntriesOf scope us vs
+      → holds_along (has_frames_at asks_lines probe vs) (asked_frames faults scope (indexed_units us vs) (answers_in vs) probe) ranges ≡ true
+      → stop_along (asked_frames faults scope (indexed_units us vs) (answers_in vs) probe) ranges ≡ Ok (Finds n fs) → decided_at vs n ≡ true
+  known_where_found faults us vs asks_lines ranges n fs own h w =
+      let t = found_along (has_frames_at asks_lines probe vs) (asked_frames faults scope (indexed_units us vs) (answers_in vs) probe) n fs ranges h w in
+      decided_there us vs n own (found_by_unit faults (frames_of_number scope (indexed_units us vs) (answers_in vs) probe n) t.0)
       (and_first (has_entries_at probe vs n) _ t.1)
 
   -- so what a lookup has come to can be lent
-  pub lendable_if_told : (faults : OnFault) (us : List UnitRecord) (rs : List ResUnit) (vs : List (UnitEntries R)) (units : List IndexedUnit) (answers : FirstAnswers) (asks_lines : ℕ → Bool)
-      (parsed : List Bool) (ranges : List UnitRange) (r : Result FramesStop Error) → HaveEntriesOf scope us vs → units ≡ indexed_units us rs → answers ≡ answers_in vs → IfOk r (IsStopIn rs vs)
-      → ExactlyUnlessOom (seen_stop rs vs) r (stop_along (asked_frames faults scope units answers probe) ranges)
-      → (WasNotRefused r → holds_along (has_frames_at asks_lines probe parsed vs) (asked_frames faults scope units answers probe) ranges ≡ true) → IfOk r (IsLendable rs vs)
-  lendable_if_told faults us rs vs units answers asks_lines parsed ranges (Err x) own e f there gives ready = tt
-  lendable_if_told faults us rs vs units answers asks_lines parsed ranges (Ok stops.FindsNothing) own e f there gives ready = tt
-  lendable_if_told faults us rs vs units answers asks_lines parsed ranges (Ok (stops.Finds p)) own e f there gives ready = (
+  pub lendable_if_told : (faults : OnFault) (us : List UnitRecord) (vs : List (UnitCache R)) (units : List IndexedUnit) (answers : FirstAnswers) (asks_lines : ℕ → Bool)
+      (ranges : List UnitRange) (r : Result FramesStop Error) → HaveEntriesOf scope us vs → units ≡ indexed_units us vs → answers ≡ answers_in vs → IfOk r (IsStopIn vs)
+      → ExactlyUnlessOom (seen_stop vs) r (stop_along (asked_frames faults scope units answers probe) ranges)
+      → (WasNotRefused r → holds_along (has_frames_at asks_lines probe vs) (asked_frames faults scope units answers probe) ranges ≡ true) → IfOk r (IsLendable vs)
+  lendable_if_told faults us vs units answers asks_lines ranges (Err x) own e f there gives ready = tt
+  lendable_if_told faults us vs units answers asks_lines ranges (Ok stops.FindsNothing) own e f there gives ready = tt
+  lendable_if_told faults us vs units answers asks_lines ranges (Ok (stops.Finds p)) own e f there gives ready = (
     there,
-    known_where_found faults us rs vs asks_lines parsed ranges p.unit (frames_at_place rs vs p) own
-        (subst (λ a. holds_along (has_frames_at asks_lines probe parsed vs) (asked_frames faults scope (indexed_units us rs) a probe) ranges ≡ true) f
-        (subst (λ xs. holds_along (has_frames_at asks_lines probe parsed vs) (asked_frames faults scope xs answers probe) ranges ≡ true) e (ready tt)))
-        (subst (λ a. stop_along (asked_frames faults scope (indexed_units us rs) a probe) ranges ≡ Ok (Finds p.unit (frames_at_place rs vs p))) f
-        (subst (λ xs. stop_along (asked_frames faults scope xs answers probe) ranges ≡ Ok (Finds p.unit (frames_at_place rs vs p))) e gives)),
+    known_where_found faults us vs asks_lines ranges p.unit (frames_at_place vs p) own
+        (subst (λ a. holds_along (has_frames_at asks_lines probe vs) (asked_frames faults scope (indexed_units us vs) a probe) ranges ≡ true) f
+        (subst (λ xs. holds_along (has_frames_at asks_lines probe vs) (asked_frames faults scope xs answers probe) ranges ≡ true) e (ready tt)))
+        (subst (λ a. stop_along (asked_frames faults scope (indexed_units us vs) a probe) ranges ≡ Ok (Finds p.unit (frames_at_place vs p))) f
+        (subst (λ xs. stop_along (asked_frames faults scope xs answers probe) ranges ≡ Ok (Finds p.unit (frames_at_place vs p))) e gives)),
   )
-  lendable_if_told faults us rs vs units answers asks_lines parsed ranges (Ok (stops.Waits n)) own e f there gives ready =
-      waits_where_told scope probe faults us rs vs asks_lines parsed ranges n own
-      (subst (λ a. holds_along (has_frames_at asks_lines probe parsed vs) (asked_frames faults scope (indexed_units us rs) a probe) ranges ≡ true) f
-      (subst (λ xs. holds_along (has_frames_at asks_lines probe parsed vs) (asked_frames faults scope xs answers probe) ranges ≡ true) e (ready tt)))
-      (subst (λ a. stop_along (asked_frames faults scope (indexed_units us rs) a probe) ranges ≡ Ok (Waits n)) f
+  lendable_if_told faults us vs units answers asks_lines ranges (Ok (stops.Waits n)) own e f there gives ready =
+      waits_where_told scope probe faults us vs asks_lines ranges n own
+      (subst (λ a. holds_along (has_frames_at asks_lines probe vs) (asked_frames faults scope (indexed_units us vs) a probe) ranges ≡ true) f
+      (subst (λ xs. holds_along (has_frames_at asks_lines probe vs) (asked_frames faults scope xs answers probe) ranges ≡ true) e (ready tt)))
+      (subst (λ a. stop_along (asked_frames faults scope (indexed_units us vs) a probe) ranges ≡ Ok (Waits n)) f
       (subst (λ xs. stop_along (asked_frames faults scope xs answers probe) ranges ≡ Ok (Waits n)) e gives))

@@ -1,5 +1,5 @@
 -- Lookups of frames along ranges (on specs/FramesLookup.antt and specs/CachedFrames.antt).
-use Rattle.std.proofs.Common.{◌≡◌, ◌≢◌, ℕ, inl, inr, Bool, true, false, ◌&&◌, ◌||◌, not, List, [], ◌∷◌, Option, Some, None, Result, Ok, Err, refl, ap, sym, subst, ◌∙◌}
+use Rattle.std.proofs.Common.{◌≡◌, ◌≢◌, ℕ, inl, inr, Bool, true, false, ◌&&◌, ◌||◌, List, [], ◌∷◌, Option, Some, None, Result, Ok, Err, refl, ap, sym, subst, ◌∙◌}
 use Rattle.std.specs.Prelude.{IfOk}
 use Rattle.gimli_read.specs.declared.constants.DwLang.{DwLang}
 use Rattle.gimli_read.specs.declared.error.Error.{Error}
@@ -13,16 +13,14 @@ use Rattle.addr2line_units.specs.declared.frames_lookup.OnFault.TheVariants.{End
 use Rattle.addr2line_units.specs.declared.frames_lookup.FramesStop.{FramesStop}
 use Rattle.addr2line_units.specs.declared.frames_lookup.FramesStop.TheVariants as stops
 use Rattle.addr2line_units.specs.declared.index.UnitRange.{UnitRange}
-use Rattle.addr2line_units.specs.declared.unit.ResUnit.{ResUnit}
-use Rattle.addr2line_units.specs.declared.unit_frames.UnitEntries.{UnitEntries}
+use Rattle.addr2line_units.specs.declared.unit_frames.UnitCache.{UnitCache}
 use Rattle.addr2line_units.specs.declared.unit_frames.UnitFrames.{UnitFrames}
 use Rattle.addr2line_units.specs.declared.unit_frames.UnitFrames.TheVariants as found
 use Rattle.addr2line_units.specs.Frames.{FrameRecord, frames_from}
 use Rattle.addr2line_units.specs.FramesLookup.{Stop, Finds, after_fault, ends_lookup, holds_along, or_stop, stop_along}
-use Rattle.addr2line_units.specs.CachedFrames.{AreFoundAt, IsStopIn, found_after_fault, frames_found_at, has_frames_at, seen_stop, stop_of_found}
-use Rattle.addr2line_units.specs.CachedUnits.{has_entries_at}
+use Rattle.addr2line_units.specs.CachedFrames.{AreFoundAt, IsStopIn, found_after_fault, frames_found_at, seen_stop, stop_of_found}
 use Rattle.gimli_read.specs.Alike.{WasNotRefused}
-use Rattle.addr2line_units.specs.Parsed.{ParsesOnly, StaysParsed, has_parsed}
+use Rattle.addr2line_units.specs.Parsed.{ParsesOnly}
 use Rattle.addr2line_units.specs.UnitFrames.{FramesResult}
 
 -- a fault that a lookup passes over
@@ -81,14 +79,14 @@ module _ (faults : OnFault) where
       of_faults PassOver (Ok y) h = h
       of_faults PassOver (Err e) h = passed e h
 
-  pub there_after : {R : Type 0} (rs : List ResUnit) (vs : List (UnitEntries R)) (n : ℕ) (r : Result UnitFrames Error) → IfOk r (AreFoundAt rs vs n) → IfOk (found_after_fault faults r) (AreFoundAt rs vs n)
-  there_after rs vs n r h = of_faults faults r h
+  pub there_after : {R : Type 0} (cs : List (UnitCache R)) (n : ℕ) (r : Result UnitFrames Error) → IfOk r (AreFoundAt cs n) → IfOk (found_after_fault faults r) (AreFoundAt cs n)
+  there_after cs n r h = of_faults faults r h
     where
-      passed : (e : Error) → IfOk (found_after_fault PassOver (Err e)) (AreFoundAt rs vs n)
+      passed : (e : Error) → IfOk (found_after_fault PassOver (Err e)) (AreFoundAt cs n)
       passed OutOfMemory = tt
       passed _ = tt
 
-      of_faults : (f : OnFault) (r : Result UnitFrames Error) → IfOk r (AreFoundAt rs vs n) → IfOk (found_after_fault f r) (AreFoundAt rs vs n)
+      of_faults : (f : OnFault) (r : Result UnitFrames Error) → IfOk r (AreFoundAt cs n) → IfOk (found_after_fault f r) (AreFoundAt cs n)
       of_faults End (Ok x) h = h
       of_faults End (Err e) h = h
       of_faults PassOver (Ok x) h = h
@@ -145,49 +143,36 @@ frame_ends files language offset name [] location = refl
 frame_ends files language offset name (e ∷ es) location = refl
 
 -- what a lookup comes to in the unit of a number
-module _ {R : Type 0} (rs : List ResUnit) (vs : List (UnitEntries R)) (n : ℕ) where
-  pub stop_there : (f : UnitFrames) (stop : FramesStop) → stop_of_found n f ≡ Some stop → AreFoundAt rs vs n f → IsStopIn rs vs stop
-  stop_there found.Open stop e h = let same : stops.Waits n ≡ stop = cc in subst (IsStopIn rs vs) same tt
+module _ {R : Type 0} (cs : List (UnitCache R)) (n : ℕ) where
+  pub stop_there : (f : UnitFrames) (stop : FramesStop) → stop_of_found n f ≡ Some stop → AreFoundAt cs n f → IsStopIn cs stop
+  stop_there found.Open stop e h = let same : stops.Waits n ≡ stop = cc in subst (IsStopIn cs) same tt
   stop_there (found.Here None None) stop e h = cc
   stop_there (found.Here None (Some row)) stop e h =
-      let same : stops.Finds (record { unit = n; function = None; row = Some row }) ≡ stop = cc in subst (IsStopIn rs vs) same h
+      let same : stops.Finds (record { unit = n; function = None; row = Some row }) ≡ stop = cc in subst (IsStopIn cs) same h
   stop_there (found.Here (Some p) row) stop e h =
-      let same : stops.Finds (record { unit = n; function = Some p; row = row }) ≡ stop = cc in subst (IsStopIn rs vs) same h
+      let same : stops.Finds (record { unit = n; function = Some p; row = row }) ≡ stop = cc in subst (IsStopIn cs) same h
 
-  pub stop_is : (f : UnitFrames) (stop : FramesStop) (rest : Result Stop Error) → stop_of_found n f ≡ Some stop → or_stop n rest (frames_found_at rs vs n f) ≡ Ok (seen_stop rs vs stop)
-  stop_is found.Open stop rest e = let same : stops.Waits n ≡ stop = cc in ap (λ s. Ok (seen_stop rs vs s)) same
+  pub stop_is : (f : UnitFrames) (stop : FramesStop) (rest : Result Stop Error) → stop_of_found n f ≡ Some stop → or_stop n rest (frames_found_at cs n f) ≡ Ok (seen_stop cs stop)
+  stop_is found.Open stop rest e = let same : stops.Waits n ≡ stop = cc in ap (λ s. Ok (seen_stop cs s)) same
   stop_is (found.Here None None) stop rest e = cc
   stop_is (found.Here None (Some row)) stop rest e =
-      let same : stops.Finds (record { unit = n; function = None; row = Some row }) ≡ stop = cc in ap (λ s. Ok (seen_stop rs vs s)) same
+      let same : stops.Finds (record { unit = n; function = None; row = Some row }) ≡ stop = cc in ap (λ s. Ok (seen_stop cs s)) same
   stop_is (found.Here (Some p) row) stop rest e =
       let same : stops.Finds (record { unit = n; function = Some p; row = row }) ≡ stop = cc in
-      has_frame _ _ _ _ _ _ n rest ∙ ap (λ s. Ok (seen_stop rs vs s)) same
+      has_frame _ _ _ _ _ _ n rest ∙ ap (λ s. Ok (seen_stop cs s)) same
 
-  pub stop_ends : (f : UnitFrames) (stop : FramesStop) → stop_of_found n f ≡ Some stop → ends_lookup (Ok (frames_found_at rs vs n f)) ≡ true
+  pub stop_ends : (f : UnitFrames) (stop : FramesStop) → stop_of_found n f ≡ Some stop → ends_lookup (Ok (frames_found_at cs n f)) ≡ true
   stop_ends found.Open stop e = refl
   stop_ends (found.Here None None) stop e = cc
   stop_ends (found.Here None (Some row)) stop e = refl
   stop_ends (found.Here (Some p) row) stop e = frame_ends _ _ _ _ _ _
 
   -- where the lookup goes on there are no frames
-  pub no_stop : (f : UnitFrames) → stop_of_found n f ≡ None → frames_found_at rs vs n f ≡ Some []
+  pub no_stop : (f : UnitFrames) → stop_of_found n f ≡ None → frames_found_at cs n f ≡ Some []
   no_stop found.Open e = cc
   no_stop (found.Here None None) e = refl
   no_stop (found.Here None (Some row)) e = cc
   no_stop (found.Here (Some p) row) e = cc
-
--- where more is cached, what was known is known
-pub has_more : {R : Type 0} (asks : ℕ → Bool) (probe : ℕ) (p q : List Bool) (vs ws : List (UnitEntries R)) → StaysParsed p q → ((n : ℕ) → has_entries_at probe vs n ≡ true → has_entries_at probe ws n ≡ true)
-    → (n : ℕ) → has_frames_at asks probe p vs n ≡ true → has_frames_at asks probe q ws n ≡ true
-has_more asks probe p q vs ws lines entries n e = of_bools (has_entries_at probe vs n) (has_entries_at probe ws n) (asks n) (has_parsed p n) (has_parsed q n) (entries n) (lines n) e
-  where
-    of_bools : (a b c d e : Bool) → (a ≡ true → b ≡ true) → (d ≡ true → e ≡ true) → (a && (not c || d)) ≡ true → (b && (not c || e)) ≡ true
-    of_bools true true true true true h k q = refl
-    of_bools true true true true false h k q = k refl
-    of_bools true true true false e h k q = cc
-    of_bools true true false d e h k q = refl
-    of_bools true false c d e h k q = absurd (let no : false ≡ true = h refl in cc)
-    of_bools false b c d e h k q = cc
 
 -- what is parsed by one more step is parsed by all of them
 pub parses_more : (IsAsked IsStep : ℕ → Type 0) (first mid now : List Bool) → ParsesOnly IsAsked first mid → ParsesOnly IsStep mid now → ((n : ℕ) → IsStep n → IsAsked n) → ParsesOnly IsAsked first now

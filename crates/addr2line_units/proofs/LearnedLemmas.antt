@@ -1,6 +1,6 @@
 -- Of which functions details become known where a unit is asked (on specs/KnownEntries.antt and
 -- specs/CachedKnown.antt).
-use Rattle.std.proofs.Common.{Box, Global, ◌≡◌, ◌≢◌, ◌⊎◌, inl, inr, ◌∙◌, ap, sym, refl, subst, ℕ, ◌<◌, ◌==◌, nat_lt, cond, lt-ltb, eqb-true, Bool, true, false, List, [], ◌∷◌, get_or, length, map, position, Option, Some, None, option_and_then, option_map, slice_get, Result, Ok, Err, if◌then◌else◌, find}
+use Rattle.std.proofs.Common.{Box, Global, ◌≡◌, ◌≢◌, ◌⊎◌, inl, inr, ◌∙◌, ap, sym, refl, subst, ℕ, ◌<◌, ◌==◌, nat_lt, cond, lt-ltb, eqb-true, Bool, true, false, List, get_or, length, position, Option, Some, None, option_and_then, option_map, slice_get, Result, Ok, Err, if◌then◌else◌}
 use Rattle.std.proofs.lemmas.Bool.{cases_eq}
 use Rattle.std.proofs.lemmas.List.Folds.{find_at}
 use Rattle.std.proofs.lemmas.List.Quantifiers.{position-Some}
@@ -12,7 +12,6 @@ use Rattle.gimli_read.specs.declared.error.Error.{Error}
 use Rattle.gimli_read.specs.Reading.{◌>>=◌}
 use Rattle.gimli.specs.Sections.{Sections}
 use Rattle.gimli.specs.Unit.{UnitRecord}
-use Rattle.addr2line_lines.specs.Details.{Detail}
 use Rattle.addr2line_lines.specs.FunctionDetails.{AreUnread}
 use Rattle.addr2line_lines.specs.FunctionTable.{CachedFunction, FunctionTable, cached_detail, function_place_at}
 use Rattle.addr2line_lines.specs.Functions.{function_offset_at}
@@ -20,13 +19,14 @@ use Rattle.addr2line_lines.specs.References.{Scope}
 use Rattle.addr2line_lines.proofs.PlaceLemmas.{some_at}
 use Rattle.addr2line_units.specs.declared.functions.LazyFunctions.{LazyFunctions}
 use Rattle.addr2line_units.specs.declared.functions.LazyFunctions.TheVariants as lazy
+use Rattle.addr2line_units.specs.declared.unit_frames.UnitCache.{UnitCache}
 use Rattle.addr2line_units.specs.declared.unit_frames.UnitEntries.{UnitEntries}
 use Rattle.addr2line_units.specs.declared.view.ViewState.{ViewState}
 use Rattle.addr2line_units.specs.declared.view.ViewState.TheVariants as states
 use Rattle.addr2line_units.specs.CachedEntries.{AreEntriesOf, StayEntries, first_answer_of}
 use Rattle.addr2line_units.specs.CachedFunctions.{AreFunctionsOf, ReadsNoDetail, ReadsNoOther, StayFunctions, cached_functions, has_detail, is_cached_fault, no_functions, were_read}
 use Rattle.addr2line_units.specs.CachedKnown.{known_answer, known_by, known_fault, known_function, known_functions, known_in, known_table}
-use Rattle.addr2line_units.specs.CachedViews.{cached_verdict, is_decided, seen_sections, unboxed, verdict_in, view_by, view_in, was_looked_at}
+use Rattle.addr2line_units.specs.CachedViews.{is_decided, seen_sections, unboxed, verdict_in, view_by, was_looked_at}
 use Rattle.addr2line_units.specs.KnownEntries.{AllKnown, FunctionsKnown, HasNoFunctions, KnownEntries, KnownFunction, LearnsNoDetails, LearnsNoFunctions, NothingKnown, is_detail_known, knows_detail, knows_detail_at}
 use Rattle.addr2line_units.specs.UnitFrames.{function_offset_among, function_offset_by, function_offset_in}
 use Rattle.addr2line_units.specs.Views.{View, verdict, view_scope}
@@ -297,31 +297,31 @@ functions_learn_none scope u offset v w f before functions same stay none e =
     (same_known offset w.view.state w.functions f e ∙ functions_keep offset w.functions f stay none (sym (same_known offset w.view.state f f e) ∙ e))
 
 -- what is known of a unit of which nothing is changed
-pub detail_unchanged : {R : Type 0} (old new : List (UnitEntries R)) (offset n : ℕ) → slice_get new n ≡ slice_get old n → knows_detail_at (known_in new) offset n ≡ true → knows_detail_at (known_in old) offset n ≡ true
+pub detail_unchanged : {R : Type 0} (old new : List (UnitCache R)) (offset n : ℕ) → slice_get new n ≡ slice_get old n → knows_detail_at (known_in new) offset n ≡ true → knows_detail_at (known_in old) offset n ≡ true
 detail_unchanged old new offset n same e = ap (λ o. unwrap_or (option_map (knows_detail offset) o) false) (sym (known_unchanged old new n same)) ∙ e
 
 -- what is known of the unit of a number, of which another is put in its place
-module _ {R : Type 0} (vs : List (UnitEntries R)) (n : ℕ) (v w : UnitEntries R) (within : n < length vs) (at : v ≡ get_or vs n v) (offset : ℕ) where
-  pub detail_set : (k : ℕ) → k ≡ n → knows_detail_at (known_in (set vs n w)) offset k ≡ knows_detail offset (known_by w.view.state w.functions)
+module _ {R : Type 0} (vs : List (UnitCache R)) (n : ℕ) (v w : UnitCache R) (within : n < length vs) (at : v ≡ get_or vs n v) (offset : ℕ) where
+  pub detail_set : (k : ℕ) → k ≡ n → knows_detail_at (known_in (set vs n w)) offset k ≡ knows_detail offset (known_by w.entries.view.state w.entries.functions)
   detail_set k e =
       ap (λ j. unwrap_or (option_map (knows_detail offset) (slice_get (known_in (set vs n w)) j)) false) e
-      ∙ ap (λ o. unwrap_or (option_map (knows_detail offset) o) false) (slice_get-map (λ x. known_by x.view.state x.functions) (set vs n w) n ∙ ap (option_map (λ x. known_by x.view.state x.functions)) (got_set vs n w within))
+      ∙ ap (λ o. unwrap_or (option_map (knows_detail offset) o) false) (slice_get-map (λ (x : UnitCache R). known_by x.entries.view.state x.entries.functions) (set vs n w) n ∙ ap (option_map (λ (x : UnitCache R). known_by x.entries.view.state x.entries.functions)) (got_set vs n w within))
 
-  pub detail_at : (k : ℕ) → k ≡ n → knows_detail_at (known_in vs) offset k ≡ knows_detail offset (known_by v.view.state v.functions)
+  pub detail_at : (k : ℕ) → k ≡ n → knows_detail_at (known_in vs) offset k ≡ knows_detail offset (known_by v.entries.view.state v.entries.functions)
   detail_at k e =
       ap (λ j. unwrap_or (option_map (knows_detail offset) (slice_get (known_in vs) j)) false) e
-      ∙ ap (λ o. unwrap_or (option_map (knows_detail offset) o) false) (slice_get-map (λ x. known_by x.view.state x.functions) vs n ∙ ap (option_map (λ x. known_by x.view.state x.functions)) (slice_get_read vs (length vs) n v refl within at))
+      ∙ ap (λ o. unwrap_or (option_map (knows_detail offset) o) false) (slice_get-map (λ (x : UnitCache R). known_by x.entries.view.state x.entries.functions) vs n ∙ ap (option_map (λ (x : UnitCache R). known_by x.entries.view.state x.entries.functions)) (slice_get_read vs (length vs) n v refl within at))
 
   -- what becomes known of it alone becomes known
-  pub set_details : (knows_detail offset (known_by w.view.state w.functions) ≡ true → knows_detail offset (known_by v.view.state v.functions) ≡ true) → (k : ℕ) → knows_detail_at (known_in (set vs n w)) offset k ≡ true → knows_detail_at (known_in vs) offset k ≡ true
+  pub set_details : (knows_detail offset (known_by w.entries.view.state w.entries.functions) ≡ true → knows_detail offset (known_by v.entries.view.state v.entries.functions) ≡ true) → (k : ℕ) → knows_detail_at (known_in (set vs n w)) offset k ≡ true → knows_detail_at (known_in vs) offset k ≡ true
   set_details none k e = elim (cases_eq k n) [
     | inl is ↦ detail_at k is ∙ none (sym (detail_set k is) ∙ e)
     | inr ne ↦ detail_unchanged vs (set vs n w) offset k (others_stay vs n k w ne) e
   ]
 
 -- of the unit of a number alone no function becomes known
-pub set_learns : {R : Type 0} (vs : List (UnitEntries R)) (n : ℕ) (v w : UnitEntries R) → n < length vs → v ≡ get_or vs n v → UnitLearnsNone v w → LearnsNoFunctions (known_in vs) (known_in (set vs n w))
-set_learns vs n v w within at none k = elim (cases_eq k n) [
+pub set_learns : {R : Type 0} (vs : List (UnitCache R)) (n : ℕ) (v w : UnitCache R) → n < length vs → v ≡ get_or vs n v → UnitLearnsNone v.entries w.entries → LearnsNoFunctions (known_in vs) (known_in (set vs n w))
+set_learns {R} vs n v w within at none k = elim (cases_eq k n) [
   | inl is ↦ elim none [
     | inl same ↦ inl (now is ∙ ap Some same ∙ sym (was is))
     | inr h ↦ inr (subst (λ o. IfSome o HasNoFunctions) (sym (now is)) h)
@@ -329,8 +329,8 @@ set_learns vs n v w within at none k = elim (cases_eq k n) [
   | inr ne ↦ inl (known_unchanged vs (set vs n w) k (others_stay vs n k w ne))
 ]
   where
-    now : k ≡ n → slice_get (known_in (set vs n w)) k ≡ Some (known_by w.view.state w.functions)
-    now e = ap (slice_get (known_in (set vs n w))) e ∙ slice_get-map (λ x. known_by x.view.state x.functions) (set vs n w) n ∙ ap (option_map (λ x. known_by x.view.state x.functions)) (got_set vs n w within)
+    now : k ≡ n → slice_get (known_in (set vs n w)) k ≡ Some (known_by w.entries.view.state w.entries.functions)
+    now e = ap (slice_get (known_in (set vs n w))) e ∙ slice_get-map (λ (x : UnitCache R). known_by x.entries.view.state x.entries.functions) (set vs n w) n ∙ ap (option_map (λ (x : UnitCache R). known_by x.entries.view.state x.entries.functions)) (got_set vs n w within)
 
-    was : k ≡ n → slice_get (known_in vs) k ≡ Some (known_by v.view.state v.functions)
-    was e = ap (slice_get (known_in vs)) e ∙ slice_get-map (λ x. known_by x.view.state x.functions) vs n ∙ ap (option_map (λ x. known_by x.view.state x.functions)) (slice_get_read vs (length vs) n v refl within at)
+    was : k ≡ n → slice_get (known_in vs) k ≡ Some (known_by v.entries.view.state v.entries.functions)
+    was e = ap (slice_get (known_in vs)) e ∙ slice_get-map (λ (x : UnitCache R). known_by x.entries.view.state x.entries.functions) vs n ∙ ap (option_map (λ (x : UnitCache R). known_by x.entries.view.state x.entries.functions)) (slice_get_read vs (length vs) n v refl within at)

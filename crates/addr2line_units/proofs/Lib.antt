@@ -42,6 +42,8 @@ pub mod LoadLawLemmas
 pub mod StayLemmas
 pub mod ReadByLemmas
 pub mod StateLemmas
+pub mod LinesAtLemmas
+pub mod LineWalkLemmas
 pub mod NewUnitsLemmas
 pub mod AskLemmas
 pub mod WalkedLemmas

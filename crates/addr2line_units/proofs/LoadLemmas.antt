@@ -13,7 +13,7 @@ use Rattle.gimli.specs.declared.unit.DwoId.{DwoId}
 use Rattle.gimli.specs.Sections.{Sections}
 use Rattle.gimli.specs.Unit.{UnitRecord}
 use Rattle.addr2line_units.specs.declared.index.UnitRange.{UnitRange}
-use Rattle.addr2line_units.specs.declared.unit_frames.UnitEntries.{UnitEntries}
+use Rattle.addr2line_units.specs.declared.unit_frames.UnitCache.{UnitCache}
 use Rattle.addr2line_units.specs.FramesLookup.{answer_of, with_answer}
 use Rattle.addr2line_units.specs.CachedEntries.{first_answer_of}
 use Rattle.addr2line_units.specs.CachedUnits.{StayAllEntries, answers_in, decided_at}
@@ -98,12 +98,12 @@ load_gives d us answers after n given u e h same =
     ap (λ r. r >>= λ x. view_fault (verdict d x (decided_answer d x (answer_of answers n) given))) (this_unit us n u e)
     ∙ ap (λ a. view_fault (verdict d u a)) (sym (ap (λ xs. answer_of xs n) same ∙ answer_after d us answers n given u e h))
 
-pub as_many_answers : {R : Type 0} (vs : List (UnitEntries R)) → length (answers_in vs) ≡ length vs
+pub as_many_answers : {R : Type 0} (vs : List (UnitCache R)) → length (answers_in vs) ≡ length vs
 as_many_answers [] = refl
 as_many_answers (v ∷ vs) = ap suc (as_many_answers vs)
 
 -- the same by a call that gives the fault
-pub load_gives_within : {R : Type 0} (d : Sections) (us later : List UnitRecord) (vs ws : List (UnitEntries R)) (n : ℕ) (given : Option Sections) (r : Result (Unit {0}) Error) → n < length us → length us ≡ length vs → later ≡ us
+pub load_gives_within : {R : Type 0} (d : Sections) (us later : List UnitRecord) (vs ws : List (UnitCache R)) (n : ℕ) (given : Option Sections) (r : Result (Unit {0}) Error) → n < length us → length us ≡ length vs → later ≡ us
     → answers_in ws ≡ with_answer d us (answers_in vs) n given → ((u : UnitRecord) → slice_get later n ≡ Some u → r ≡ view_fault (verdict d u (answer_of (answers_in ws) n))) → r ≡ load_result d us (answers_in vs) n given
 load_gives_within d us later vs ws n given r h many e same gives = by (slice_get us n) refl
   where
@@ -208,11 +208,11 @@ module _ (listed : List SplitLoad) (o : Option SplitLoad) (old now : List Bool) 
       ∙ ap (λ z. listed ++ z) (ap (λ z. option_to_list z ++ filter (is_new now) loads) f ∙ sym (next_listed o old now loads m)) ∙ h
 
 -- the load of the unit of a number, by what is cached of it
-pub load_there : {R : Type 0} (d : Sections) (us : List UnitRecord) (vs : List (UnitEntries R)) (n : ℕ) (u : UnitRecord) (v : UnitEntries R) → slice_get us n ≡ Some u → n < length vs → v ≡ get_or vs n v
-    → load_of_number d us (answers_in vs) n ≡ awaited_load d n u (first_answer_of v)
+pub load_there : {R : Type 0} (d : Sections) (us : List UnitRecord) (vs : List (UnitCache R)) (n : ℕ) (u : UnitRecord) (v : UnitCache R) → slice_get us n ≡ Some u → n < length vs → v ≡ get_or vs n v
+    → load_of_number d us (answers_in vs) n ≡ awaited_load d n u (first_answer_of v.entries)
 load_there d us vs n u v e h at = by (slice_get us n) e
   where
-    by : (o : Option UnitRecord) → o ≡ Some u → elim o [ None ↦ None | Some x ↦ awaited_load d n x (answer_of (answers_in vs) n) ] ≡ awaited_load d n u (first_answer_of v)
+    by : (o : Option UnitRecord) → o ≡ Some u → elim o [ None ↦ None | Some x ↦ awaited_load d n x (answer_of (answers_in vs) n) ] ≡ awaited_load d n u (first_answer_of v.entries)
     by None k = absurd cc
     by (Some x) k = let same : x ≡ u = cc in ap (λ y. awaited_load d n y (answer_of (answers_in vs) n)) same ∙ ap (awaited_load d n u) (answer_at vs n v h at)
 
@@ -238,8 +238,8 @@ listed_step listed d us answers later r old now rest ranges all found e steps f 
     (subst (λ rs. listed ++ filter (is_new old) (loads_along (load_of_number d us answers) rs) ≡ all) steps h)
 
 -- what was decided is decided where more is cached
-pub decided_stays : {R : Type 0} (vs ws : List (UnitEntries R)) (n : ℕ) → StayAllEntries vs ws → decided_at vs n ≡ true → decided_at ws n ≡ true
+pub decided_stays : {R : Type 0} (vs ws : List (UnitCache R)) (n : ℕ) → StayAllEntries vs ws → decided_at vs n ≡ true → decided_at ws n ≡ true
 decided_stays [] ws n a h = absurd cc
 decided_stays (v ∷ vs) [] n a h = absurd a
-decided_stays (v ∷ vs) (w ∷ ws) zero a h = ap (λ x. is_decided x.state) (a.0.view (decided_was_looked_at v.view.state h)) ∙ h
+decided_stays (v ∷ vs) (w ∷ ws) zero a h = ap (λ x. is_decided x.state) (a.0.view (decided_was_looked_at v.entries.view.state h)) ∙ h
 decided_stays (v ∷ vs) (w ∷ ws) (suc n) a h = decided_stays vs ws n a.1 h

@@ -9,8 +9,7 @@ use Rattle.addr2line_lines.specs.References.{FileRecord, IsScope, Scope}
 use Rattle.addr2line_units.specs.declared.frames_lookup.FramesStop.TheVariants as stops
 use Rattle.addr2line_units.specs.declared.index.UnitRange.{UnitRange}
 use Rattle.addr2line_units.specs.declared.sup.SupUnits.{SupUnits}
-use Rattle.addr2line_units.specs.declared.unit.ResUnit.{ResUnit}
-use Rattle.addr2line_units.specs.declared.unit_frames.UnitEntries.{UnitEntries}
+use Rattle.addr2line_units.specs.declared.unit_frames.UnitCache.{UnitCache}
 use Rattle.addr2line_units.specs.CachedLines.{HaveLinesOf, indexed_units, parsed_units}
 use Rattle.addr2line_units.specs.CachedUnits.{AreFreshOf, answers_in}
 use Rattle.addr2line_units.specs.FramesLookup.{FindsNothing, main_scope}
@@ -23,6 +22,7 @@ use Rattle.addr2line_units.specs.StoredUnits.{AreUnits, seen_units}
 use Rattle.addr2line_units.specs.UnitIndex.{UnitIndex, index_units, sup_sections, sup_units}
 use Rattle.addr2line_units.specs.UnitsState.{UnitsState, first_state, new_units}
 use Rattle.addr2line_units.specs.Views.{FirstAnswers}
+use Rattle.addr2line_units.proofs.CachedUnitLemmas.{caches_right}
 use Rattle.addr2line_units.proofs.KnownLemmas.{nothing_known}
 use Rattle.addr2line_units.proofs.ScopeLemmas.{fresh_entries, main_scope_in_order, no_answers, records_beside}
 
@@ -46,19 +46,19 @@ no_more_known [] = refl
 no_more_known (u ∷ units) = ap (λ (xs : List KnownEntries). NothingKnown ∷ xs) (no_more_known units)
 
 -- units that are made
-module _ {R : Type 0} (d : Sections) (us : List UnitRecord) (rs : List ResUnit) (ranges : List UnitRange) (vs : List (UnitEntries R)) (sup : SupUnits R)
-    (e : (ranged_units d >>= λ units. Ok (index_of d units)) ≡ Ok (record { units = indexed_units us rs; ranges = ranges; parsed = parsed_units rs })) (f : sup_units d.sup ≡ Ok sup.units.items) (sup_is : sup.dwarf ≡ option_map sup_sections d.sup)
-    (own : HaveLinesOf d us rs) (fresh : AreFreshOf us vs) where
+module _ {R : Type 0} (d : Sections) (us : List UnitRecord) (cs : List (UnitCache R)) (ranges : List UnitRange) (sup : SupUnits R)
+    (e : (ranged_units d >>= λ units. Ok (index_of d units)) ≡ Ok (record { units = indexed_units us cs; ranges = ranges; parsed = parsed_units cs })) (f : sup_units d.sup ≡ Ok sup.units.items) (sup_is : sup.dwarf ≡ option_map sup_sections d.sup)
+    (own : HaveLinesOf d us cs) (fresh : AreFreshOf us cs) where
   abbrev index : IndexState
-  index = record { units = indexed_units us rs; ranges = ranges; parsed = parsed_units rs }
+  index = record { units = indexed_units us cs; ranges = ranges; parsed = parsed_units cs }
 
   abbrev made : UnitIndex
-  made = record { units = indexed_units us rs; ranges = ranges; sup_units = sup.units.items }
+  made = record { units = indexed_units us cs; ranges = ranges; sup_units = sup.units.items }
 
   -- where references lead
   scope_is : scope_in d us sup ≡ main_scope d made
   scope_is =
-      ap (λ (xs : List UnitRecord). scope_at xs (option_map (λ s. file_at s) sup.dwarf)) (sym (records_beside d us rs own))
+      ap (λ (xs : List UnitRecord). scope_at xs (option_map (λ s. file_at s) sup.dwarf)) (sym (records_beside d us cs own))
       ∙ ap (λ (o : Option FileRecord). scope_at (unit_records made.units) o) of_sup
     where
       file_at : Sections → FileRecord
@@ -90,11 +90,10 @@ module _ {R : Type 0} (d : Sections) (us : List UnitRecord) (rs : List ResUnit) 
           err_ok : ◌≡◌ {A = Result IndexState Error} (Err x) (Ok index) → ⊥
           err_ok k = cc
 
-  pub are_units : AreUnits (scope_in d us sup) rs vs stops.FindsNothing
+  pub are_units : AreUnits (scope_in d us sup) cs stops.FindsNothing
   are_units = record {
     in_order = subst IsScope (sym scope_is) (main_scope_in_order d made what_is_made);
-    lines = own;
-    entries = fresh_entries (scope_in d us sup) us vs fresh;
+    caches = caches_right (scope_in d us sup) us cs own (fresh_entries (scope_in d us sup) us cs fresh);
     stop = tt;
   }
 
@@ -107,18 +106,18 @@ module _ {R : Type 0} (d : Sections) (us : List UnitRecord) (rs : List ResUnit) 
   abbrev of_index : IndexState → Result State Error
   of_index x = state (main_scope d (record { units = x.units; ranges = x.ranges; sup_units = sup.units.items })) x (no_answers_of (unit_records x.units)) (nothing_known_of (unit_records x.units))
 
-  pub units_made : new_units d ≡ Ok (seen_units (scope_in d us sup) rs vs 0 FindsNothing, ranges)
+  pub units_made : new_units d ≡ Ok (seen_units (scope_in d us sup) cs 0 FindsNothing, ranges)
   units_made =
       of_units (ranged_units d) e
-      ∙ ap (λ xs. state (main_scope d made) index xs (nothing_known_of (unit_records (indexed_units us rs)))) (sym none)
-      ∙ ap (λ xs. state (main_scope d made) index (answers_in vs) xs) (sym not_known)
-      ∙ ap (λ s. state s index (answers_in vs) (known_in vs)) (sym scope_is)
+      ∙ ap (λ xs. state (main_scope d made) index xs (nothing_known_of (unit_records (indexed_units us cs)))) (sym none)
+      ∙ ap (λ xs. state (main_scope d made) index (answers_in cs) xs) (sym not_known)
+      ∙ ap (λ s. state s index (answers_in cs) (known_in cs)) (sym scope_is)
     where
-      none : answers_in vs ≡ no_answers_of (unit_records (indexed_units us rs))
-      none = no_answers us vs fresh ∙ ap (λ (xs : List UnitRecord). no_answers_of xs) (sym (records_beside d us rs own))
+      none : answers_in cs ≡ no_answers_of (unit_records (indexed_units us cs))
+      none = no_answers us cs fresh ∙ ap (λ (xs : List UnitRecord). no_answers_of xs) (sym (records_beside d us cs own))
 
-      not_known : known_in vs ≡ nothing_known_of (unit_records (indexed_units us rs))
-      not_known = nothing_known us vs fresh ∙ ap (λ (xs : List UnitRecord). nothing_known_of xs) (sym (records_beside d us rs own))
+      not_known : known_in cs ≡ nothing_known_of (unit_records (indexed_units us cs))
+      not_known = nothing_known us cs fresh ∙ ap (λ (xs : List UnitRecord). nothing_known_of xs) (sym (records_beside d us cs own))
 
       of_units : (r : Result (List RangedUnit) Error) → (r >>= λ units. Ok (index_of d units)) ≡ Ok index
           → (r >>= λ units. sup_units d.sup >>= λ s. Ok (first_state d units s, unit_ranges_from d 0 units)) ≡ of_index index

@@ -12,13 +12,14 @@ use Rattle.gimli.specs.Unit.{UnitRecord}
 use Rattle.addr2line_lines.specs.References.{Scope}
 use Rattle.addr2line_units.specs.declared.frames_lookup.FramesStop.{FramesStop}
 use Rattle.addr2line_units.specs.declared.frames_lookup.FramesStop.TheVariants as stops
-use Rattle.addr2line_units.specs.declared.unit.ResUnit.{ResUnit}
+use Rattle.addr2line_units.specs.declared.unit_frames.UnitCache.{UnitCache}
 use Rattle.addr2line_units.specs.declared.unit_frames.UnitEntries.{UnitEntries}
 use Rattle.addr2line_units.specs.AfterUnits.{AfterAnswer, AfterForget, AfterLoad}
 use Rattle.addr2line_units.specs.CachedEntries.{AreEntriesOf, StayEntries, first_answer_of}
 use Rattle.addr2line_units.specs.CachedFunctions.{were_read}
 use Rattle.addr2line_units.specs.CachedKnown.{known_in}
-use Rattle.addr2line_units.specs.CachedUnits.{answers_in, decided_at}
+use Rattle.addr2line_units.specs.CachedLines.{AreLinesOf}
+use Rattle.addr2line_units.specs.CachedUnits.{HaveEntriesOf, HaveSameLines, answers_in, decided_at}
 use Rattle.addr2line_units.specs.CachedViews.{is_decided}
 use Rattle.addr2line_units.specs.FramesLookup.{FindsNothing, Stop, answer_of}
 use Rattle.addr2line_units.specs.KnownEntries.{LearnsNoFunctions}
@@ -27,23 +28,27 @@ use Rattle.addr2line_units.specs.StoredUnits.{AreUnits, seen_units}
 use Rattle.addr2line_units.specs.UnitsState.{UnitsState}
 use Rattle.addr2line_units.specs.Views.{decided_answer, is_open, verdict}
 use Rattle.addr2line_units.proofs.AnswerLemmas.{answer_at, answered_if_ok, answers_if_refused, answers_set, decided_there, others_stay, same_set}
-use Rattle.addr2line_units.proofs.CachedUnitLemmas.{as_many_entries, entries_at, entries_set}
+use Rattle.addr2line_units.proofs.CachedUnitLemmas.{as_many_entries, cache_set, entries_at, entries_right, entries_set, lines_right, same_lines_set}
 use Rattle.addr2line_units.proofs.LearnedLemmas.{answered_learns, forgotten_learns, set_learns}
 use Rattle.addr2line_units.proofs.LoadLemmas.{as_many_answers, past_set, slice_get_none, this_unit, unknown_answer, unknown_load}
 use Rattle.addr2line_units.proofs.OpenLemmas.{not_open_there}
+use Rattle.addr2line_units.proofs.UnitsLemmas.{own_at}
 use Rattle.addr2line_units.proofs.StateLemmas.{after_answer, after_forget, after_load}
 
 -- the unit of a number
-module _ {R : Type 0} (scope : Scope) (units : List ResUnit) (held : List (UnitEntries R)) (last : FramesStop) (i : AreUnits scope units held last) (n : ℕ) where
+module _ {R : Type 0} (scope : Scope) (held : List (UnitCache R)) (last : FramesStop) (i : AreUnits scope held last) (n : ℕ) where
   abbrev d : Sections
   d = scope.file.sections
 
   abbrev us : List UnitRecord
   us = scope.file.units
 
+  own_all : HaveEntriesOf scope us held
+  own_all = entries_right scope us held i.caches
+
   -- there is none
   module _ (none : slice_get us n ≡ None) (given : Option Sections) (looks : ℕ) (was : Stop) where
-    pub none_answered : AfterAnswer n given (Ok tt) (seen_units scope units held looks was) (seen_units scope units held looks FindsNothing)
+    pub none_answered : AfterAnswer n given (Ok tt) (seen_units scope held looks was) (seen_units scope held looks FindsNothing)
     none_answered = record {
       stays = refl;
       answers = sym (unknown_answer d us (answers_in held) n given none);
@@ -53,10 +58,10 @@ module _ {R : Type 0} (scope : Scope) (units : List ResUnit) (held : List (UnitE
       known = λ shut k. record { at = λ probe q. q; whole = λ kind q. q };
       same = λ one e. refl;
       not_open = λ shut. refl;
-      beside = as_many_entries scope us held i.entries ∙ sym (as_many_answers held);
+      beside = as_many_entries scope us held own_all ∙ sym (as_many_answers held);
     }
 
-    pub none_loaded : AfterLoad n given (Err UnknownToken) (seen_units scope units held looks was) (seen_units scope units held looks FindsNothing)
+    pub none_loaded : AfterLoad n given (Err UnknownToken) (seen_units scope held looks was) (seen_units scope held looks FindsNothing)
     none_loaded = record {
       stays = refl;
       answers = λ told. sym (unknown_answer d us (answers_in held) n given none);
@@ -70,7 +75,7 @@ module _ {R : Type 0} (scope : Scope) (units : List ResUnit) (held : List (UnitE
       none = λ e. sym (unknown_load d us (answers_in held) n None none);
     }
 
-    pub none_forgotten : AfterForget n (seen_units scope units held looks was) (seen_units scope units held looks FindsNothing)
+    pub none_forgotten : AfterForget n (seen_units scope held looks was) (seen_units scope held looks FindsNothing)
     none_forgotten = record {
       stays = refl;
       answers = sym (past_set (answers_in held) n None past);
@@ -82,7 +87,7 @@ module _ {R : Type 0} (scope : Scope) (units : List ResUnit) (held : List (UnitE
         past : length (answers_in held) ≤ n
         past =
             let a = slice_get_none us n none in
-            let b = as_many_entries scope us held i.entries in
+            let b = as_many_entries scope us held own_all in
             let c = as_many_answers held in
             omega (arith, a, b, c)
 
@@ -94,14 +99,17 @@ module _ {R : Type 0} (scope : Scope) (units : List ResUnit) (held : List (UnitE
     within = slice_get_within us n u there
 
     pub in_entries : n < length held
-    in_entries = subst (λ m. n < m) (as_many_entries scope us held i.entries) within
+    in_entries = subst (λ m. n < m) (as_many_entries scope us held own_all) within
 
-    module _ (v : UnitEntries R) (at : v ≡ get_or held n v) where
-      pub right_there : AreEntriesOf scope u v
-      right_there = entries_at scope us held n u v in_entries unit at i.entries
+    module _ (c : UnitCache R) (at : c ≡ get_or held n c) where
+      abbrev v : UnitEntries R
+      v = c.entries
+
+      pub right_there : AreEntriesOf scope u c.entries
+      right_there = entries_at scope us held n u c in_entries unit at own_all
 
       answer_is : answer_of (answers_in held) n ≡ first_answer_of v
-      answer_is = answer_at held n v in_entries at
+      answer_is = answer_at held n c in_entries at
 
       load_is : (given : Option Sections) → load_result d us (answers_in held) n given ≡ view_fault (verdict d u (decided_answer d u (first_answer_of v) given))
       load_is given =
@@ -113,11 +121,20 @@ module _ {R : Type 0} (scope : Scope) (units : List ResUnit) (held : List (UnitE
       refused_told given (Err e) h = load_is given ∙ h
 
       module _ (w : UnitEntries R) where
-        abbrev now : List (UnitEntries R)
-        now = set held n w
+        abbrev with_entries : UnitCache R
+        with_entries = record c { entries = w }
 
-        pub still_units : AreEntriesOf scope u w → AreUnits scope units now stops.FindsNothing
-        still_units own = record { in_order = i.in_order; lines = i.lines; entries = entries_set scope us held n u w unit i.entries own; stop = tt }
+        abbrev now : List (UnitCache R)
+        now = set held n with_entries
+
+        lines : AreLinesOf d u c.lines.lines
+        lines = own_at d us held n u c in_entries unit at (lines_right scope us held i.caches)
+
+        same_lines_now : HaveSameLines held now
+        same_lines_now = same_lines_set held n c with_entries at refl
+
+        pub still_units : AreEntriesOf scope u w → AreUnits scope now stops.FindsNothing
+        still_units own = record { in_order = i.in_order; caches = cache_set scope us held n u with_entries unit i.caches (record { lines = lines; entries = own }); stop = tt }
 
         pub load_told : (given : Option Sections) (r : Result (Unit {0}) Error) → first_answer_of w ≡ decided_answer d u (first_answer_of v) given → r ≡ view_fault (verdict d u (first_answer_of w)) → r ≡ load_result d us (answers_in held) n given
         load_told given r same e = e ∙ ap (λ a. view_fault (verdict d u a)) same ∙ sym (load_is given)
@@ -127,45 +144,45 @@ module _ {R : Type 0} (scope : Scope) (units : List ResUnit) (held : List (UnitE
 
         module _ (given : Option Sections) (b : Bool) (some : is_some given ≡ b) (looks : ℕ) (was : Stop) where
           abbrev old : UnitsState
-          old = seen_units scope units held looks was
+          old = seen_units scope held looks was
 
           abbrev new : UnitsState
-          new = seen_units scope units now looks FindsNothing
+          new = seen_units scope now looks FindsNothing
 
           module _ (own : AreEntriesOf scope u w) (functions : w.functions ≡ v.functions) (same : is_decided v.view.state ≡ true → w ≡ v) where
             same_decided : decided_at held n ≡ true → now ≡ held
-            same_decided h = same_set held n v w at (same (decided_there held n v at h))
+            same_decided h = same_set held n c with_entries at (ap (λ e. record c { entries = e }) (same (decided_there held n c at h)))
 
             many : length us ≡ length now
-            many = as_many_entries scope us now (entries_set scope us held n u w unit i.entries own)
+            many = as_many_entries scope us now (entries_set scope us held n u with_entries unit own_all own)
 
             learns : LearnsNoFunctions (known_in held) (known_in now)
-            learns = set_learns held n v w in_entries at (answered_learns scope u v w right_there functions same)
+            learns = set_learns held n c with_entries in_entries at (answered_learns scope u v w right_there functions same)
 
             pub answered_there : (r : Result (Unit {0}) Error) → OnOk r (first_answer_of w ≡ decided_answer d u (first_answer_of v) given) → IfErr r (λ e. (e ≡ OutOfMemory) × StayEntries v w × (b ≡ true)) → (is_open d u (first_answer_of v) ≡ false → r ≡ Ok tt) → AfterAnswer n given r old new
-            answered_there r answer refused shut = after_answer scope units held i.entries now looks was n (λ k ne. others_stay held n k w ne) same_decided many given r (λ h. some ∙ h)
-                (answered_if_ok d us held n u v w given r within in_entries unit at answer)
-                (answers_if_refused held n v w r (b ≡ true) in_entries at refused) learns
-                (λ h. shut (not_open_there d us held n u v there in_entries at h))
+            answered_there r answer refused shut = after_answer scope held own_all now same_lines_now looks was n (λ k ne. others_stay held n k with_entries ne) same_decided many given r (λ h. some ∙ h)
+                (answered_if_ok d us held n u c with_entries given r within in_entries unit at answer)
+                (answers_if_refused held n c with_entries r (b ≡ true) in_entries at refused) learns
+                (λ h. shut (not_open_there d us held n u c there in_entries at h))
 
             -- the answer was given
             pub loaded_there : (r : Result (Unit {0}) Error) → first_answer_of w ≡ decided_answer d u (first_answer_of v) given → r ≡ view_fault (verdict d u (first_answer_of w)) → AfterLoad n given r old new
             loaded_there r answer fault =
                 let told = load_told given r answer fault in
-                let answers = answered_if_ok d us held n u v w given (Ok tt) within in_entries unit at answer in
-                after_load scope units held i.entries now looks was n (λ k ne. others_stay held n k w ne) same_decided many given r (λ h. answers) (inr answers) (λ ne. absurd (ne told)) (λ shut. told)
+                let answers = answered_if_ok d us held n u c with_entries given (Ok tt) within in_entries unit at answer in
+                after_load scope held own_all now same_lines_now looks was n (λ k ne. others_stay held n k with_entries ne) same_decided many given r (λ h. answers) (inr answers) (λ ne. absurd (ne told)) (λ shut. told)
                 (λ e. told ∙ ap (load_result d us (answers_in held) n) e) learns
 
             -- memory was refused
             pub refused_there : (e : Error) → (e ≡ OutOfMemory) × StayEntries v w × (b ≡ true) → (is_open d u (first_answer_of v) ≡ false → ◌≡◌ {A = Result (Unit {0}) Error} (Err e) (Ok tt)) → AfterLoad n given (Err e) old new
             refused_there e refused shut =
-                let r = answers_if_refused held n v w (Err e) (b ≡ true) in_entries at refused in
-                after_load scope units held i.entries now looks was n (λ k ne. others_stay held n k w ne) same_decided many given (Err e) (λ told. absurd (told refused.0)) (inl r.1) (λ ne. (r.1, r.2))
-                (λ h. absurd (let no = shut (not_open_there d us held n u v there in_entries at h) in cc))
+                let r = answers_if_refused held n c with_entries (Err e) (b ≡ true) in_entries at refused in
+                after_load scope held own_all now same_lines_now looks was n (λ k ne. others_stay held n k with_entries ne) same_decided many given (Err e) (λ told. absurd (told refused.0)) (inl r.1) (λ ne. (r.1, r.2))
+                (λ h. absurd (let no = shut (not_open_there d us held n u c there in_entries at h) in cc))
                 (λ none. absurd (let f : false ≡ true = ap is_some (sym none) ∙ some ∙ refused.2 in cc)) learns
 
-        pub forgotten_there : (looks : ℕ) (was : Stop) → first_answer_of w ≡ None → (first_answer_of v ≡ None → w ≡ v) → (is_some (first_answer_of v) ≡ true → were_read w.functions ≡ false) → AfterForget n (seen_units scope units held looks was) (seen_units scope units now looks FindsNothing)
-        forgotten_there looks was none same unread = after_forget scope units held i.entries now looks was n
-            (answers_set held n w ∙ ap (λ a. set (answers_in held) n a) none)
-            (λ h. same_set held n v w at (same (sym answer_is ∙ h))) (λ k ne. others_stay held n k w ne)
-            (set_learns held n v w in_entries at (forgotten_learns v w same unread))
+        pub forgotten_there : (looks : ℕ) (was : Stop) → first_answer_of w ≡ None → (first_answer_of v ≡ None → w ≡ v) → (is_some (first_answer_of v) ≡ true → were_read w.functions ≡ false) → AfterForget n (seen_units scope held looks was) (seen_units scope now looks FindsNothing)
+        forgotten_there looks was none same unread = after_forget scope held own_all now same_lines_now looks was n
+            (answers_set held n with_entries ∙ ap (λ a. set (answers_in held) n a) none)
+            (λ h. same_set held n c with_entries at (ap (λ e. record c { entries = e }) (same (sym answer_is ∙ h)))) (λ k ne. others_stay held n k with_entries ne)
+            (set_learns held n c with_entries in_entries at (forgotten_learns v w same unread))

@@ -4,7 +4,7 @@ use Rattle.std.specs.Prelude.{unwrap_or}
 use Rattle.gimli.specs.Sections.{Sections}
 use Rattle.gimli.specs.Unit.{UnitRecord}
 use Rattle.addr2line_units.specs.declared.index.UnitRange.{UnitRange}
-use Rattle.addr2line_units.specs.declared.unit_frames.UnitEntries.{UnitEntries}
+use Rattle.addr2line_units.specs.declared.unit_frames.UnitCache.{UnitCache}
 use Rattle.addr2line_units.specs.declared.view.UnitView.{UnitView}
 use Rattle.addr2line_units.specs.FramesLookup.{answer_of}
 use Rattle.addr2line_units.specs.CachedEntries.{first_answer_of}
@@ -16,7 +16,7 @@ use Rattle.addr2line_units.proofs.AnswerLemmas.{open_by_look}
 use Rattle.addr2line_units.proofs.CachedUnitLemmas.{answer_at, same_answers}
 
 -- the unit of a number among those of the context
-pub not_open_there : {R : Type 0} (d : Sections) (us : List UnitRecord) (vs : List (UnitEntries R)) (n : ℕ) (u : UnitRecord) (v : UnitEntries R) → slice_get us n ≡ Some u → n < length vs → v ≡ get_or vs n v → is_open_at d us (answers_in vs) n ≡ false → is_open d u (first_answer_of v) ≡ false
+pub not_open_there : {R : Type 0} (d : Sections) (us : List UnitRecord) (vs : List (UnitCache R)) (n : ℕ) (u : UnitRecord) (v : UnitCache R) → slice_get us n ≡ Some u → n < length vs → v ≡ get_or vs n v → is_open_at d us (answers_in vs) n ≡ false → is_open d u (first_answer_of v.entries) ≡ false
 not_open_there d us vs n u v there within e not_open =
     sym (ap (λ o. is_open d u (unwrap_or o None)) (answer_at vs n v within e)) ∙ sym (ap (λ o. at o) there) ∙ not_open
   where
@@ -30,7 +30,7 @@ waits_only_open d u v w own looked same waiting not_open =
     cc
 
 -- the first unit along ranges, by what is cached later
-pub first_not_open : {R : Type 0} (d : Sections) (us : List UnitRecord) (vs ws : List (UnitEntries R)) (ranges : List UnitRange) (r : UnitRange) (rest : List UnitRange) → ranges ≡ r ∷ rest → StayAllEntries vs ws → NoneOpen d us (answers_in vs) ranges
+pub first_not_open : {R : Type 0} (d : Sections) (us : List UnitRecord) (vs ws : List (UnitCache R)) (ranges : List UnitRange) (r : UnitRange) (rest : List UnitRange) → ranges ≡ r ∷ rest → StayAllEntries vs ws → NoneOpen d us (answers_in vs) ranges
     → is_open_at d us (answers_in ws) r.unit ≡ false
 first_not_open d us vs ws ranges r rest steps stay all =
     subst (λ a. is_open_at d us a r.unit ≡ false) (sym (same_answers vs ws stay)) (subst (NoneOpen d us (answers_in vs)) steps all).0

@@ -12,7 +12,7 @@ use Rattle.addr2line_units.specs.declared.functions.LazyFunctions.{LazyFunctions
 use Rattle.addr2line_units.specs.declared.functions.LazyFunctions.TheVariants as lazy
 use Rattle.addr2line_units.specs.declared.parses.ReadingDepth.{ReadingDepth}
 use Rattle.addr2line_units.specs.declared.parses.ReadingDepth.TheVariants as kinds
-use Rattle.addr2line_units.specs.declared.unit_frames.UnitEntries.{UnitEntries}
+use Rattle.addr2line_units.specs.declared.unit_frames.UnitCache.{UnitCache}
 use Rattle.addr2line_units.specs.declared.view.ViewState.{ViewState}
 use Rattle.addr2line_units.specs.declared.view.ViewState.TheVariants as states
 use Rattle.addr2line_units.specs.CachedFunctions.{is_cached_fault}
@@ -54,11 +54,11 @@ module _ {R : Type 0} where
   read_view reads (states.Answered a) f e h = read_answer reads a.unit f e h
 
   -- what is cached is known
-  all_read : (reads : ReadingDepth) (vs : List (UnitEntries R)) → HaveRead reads vs → AllByRecursion (IsReadBy reads) (known_in vs)
+  all_read : (reads : ReadingDepth) (vs : List (UnitCache R)) → HaveRead reads vs → AllByRecursion (IsReadBy reads) (known_in vs)
   all_read reads [] h = tt
-  all_read reads (v ∷ vs) h = (read_view reads v.view.state v.functions h.0.view h.0.functions, all_read reads vs h.1)
+  all_read reads (v ∷ vs) h = (read_view reads v.entries.view.state v.entries.functions h.0.view h.0.functions, all_read reads vs h.1)
 
-  pub read_after : (reads : ReadingDepth) (r : Result (Unit {0}) Error) (vs : List (UnitEntries R)) → OnOk r (HaveRead reads vs) → OnOk r (AllByRecursion (IsReadBy reads) (known_in vs))
+  pub read_after : (reads : ReadingDepth) (r : Result (Unit {0}) Error) (vs : List (UnitCache R)) → OnOk r (HaveRead reads vs) → OnOk r (AllByRecursion (IsReadBy reads) (known_in vs))
   read_after reads (Ok x) vs h = all_read reads vs h
   read_after reads (Err e) vs h = tt
 
@@ -81,14 +81,14 @@ module _ {R : Type 0} where
   cached_view reads (states.Answered a) f h = cached_in_answer reads a.unit f h
 
   -- what is known is cached
-  pub read_before : (reads : ReadingDepth) (vs : List (UnitEntries R)) → AllByRecursion (IsReadBy reads) (known_in vs) → HaveRead reads vs
+  pub read_before : (reads : ReadingDepth) (vs : List (UnitCache R)) → AllByRecursion (IsReadBy reads) (known_in vs) → HaveRead reads vs
   read_before reads [] h = tt
   read_before reads (v ∷ vs) h =
-      let k = cached_view reads v.view.state v.functions h.0 in
+      let k = cached_view reads v.entries.view.state v.entries.functions h.0 in
       (record { view = k.0; functions = k.1 }, read_before reads vs h.1)
 
   -- what is known of units that aren't open stays
-  pub decided_more : (scope : Scope) (probe : ℕ) (us : List UnitRecord) (vs ws : List (UnitEntries R)) (n : ℕ) → HaveEntriesOf scope us vs → StayDecided vs ws → is_open_at scope.file.sections us (answers_in vs) n ≡ false
+  pub decided_more : (scope : Scope) (probe : ℕ) (us : List UnitRecord) (vs ws : List (UnitCache R)) (n : ℕ) → HaveEntriesOf scope us vs → StayDecided vs ws → is_open_at scope.file.sections us (answers_in vs) n ≡ false
       → has_entries_at probe vs n ≡ true → has_entries_at probe ws n ≡ true
   decided_more scope probe [] [] [] n own stay shut e = e
   decided_more scope probe [] [] (w ∷ ws) n own stay shut e = absurd stay
@@ -96,23 +96,23 @@ module _ {R : Type 0} where
   decided_more scope probe (u ∷ us) [] ws n own stay shut e = absurd own
   decided_more scope probe (u ∷ us) (v ∷ vs) [] n own stay shut e = absurd stay
   decided_more scope probe (u ∷ us) (v ∷ vs) (w ∷ ws) zero own stay shut e =
-      let looked = known_was_looked_at probe v e in
-      entries_more probe v w (stay.0 (looked_is_decided v.view.state looked (looked_waits scope.file.sections u v.view own.0.view looked ∙ shut))) e
+      let looked = known_was_looked_at probe v.entries e in
+      entries_more probe v.entries w.entries (stay.0 (looked_is_decided v.entries.view.state looked (looked_waits scope.file.sections u v.entries.view own.0.view looked ∙ shut))) e
   decided_more scope probe (u ∷ us) (v ∷ vs) (w ∷ ws) (suc n) own stay shut e = decided_more scope probe us vs ws n own.1 stay.1 shut e
 
   -- the view of a unit that isn't open and of which something is known
-  pub known_is_decided : (scope : Scope) (probe : ℕ) (us : List UnitRecord) (vs : List (UnitEntries R)) (n : ℕ) → HaveEntriesOf scope us vs → is_open_at scope.file.sections us (answers_in vs) n ≡ false
+  pub known_is_decided : (scope : Scope) (probe : ℕ) (us : List UnitRecord) (vs : List (UnitCache R)) (n : ℕ) → HaveEntriesOf scope us vs → is_open_at scope.file.sections us (answers_in vs) n ≡ false
       → has_entries_at probe vs n ≡ true → (decided_at vs n ≡ true) ⊎ (length us ≤ n)
   known_is_decided scope probe [] [] n own shut e = inr (omega arith)
   known_is_decided scope probe [] (v ∷ vs) n own shut e = absurd own
   known_is_decided scope probe (u ∷ us) [] n own shut e = absurd own
   known_is_decided scope probe (u ∷ us) (v ∷ vs) zero own shut e =
-      let looked = known_was_looked_at probe v e in
-      inl (looked_is_decided v.view.state looked (looked_waits scope.file.sections u v.view own.0.view looked ∙ shut))
+      let looked = known_was_looked_at probe v.entries e in
+      inl (looked_is_decided v.entries.view.state looked (looked_waits scope.file.sections u v.entries.view own.0.view looked ∙ shut))
   known_is_decided scope probe (u ∷ us) (v ∷ vs) (suc n) own shut e = elim (known_is_decided scope probe us vs n own.1 shut e) [ inl d ↦ inl d | inr m ↦ inr (omega (arith, m)) ]
 
   -- nothing is asked of a unit that there isn't
-  pub none_asked : (probe : ℕ) (vs : List (UnitEntries R)) (n : ℕ) → length vs ≤ n → has_entries_at probe vs n ≡ true
+  pub none_asked : (probe : ℕ) (vs : List (UnitCache R)) (n : ℕ) → length vs ≤ n → has_entries_at probe vs n ≡ true
   none_asked probe [] n h = refl
   none_asked probe (v ∷ vs) zero h = absurd (omega (arith, h))
   none_asked probe (v ∷ vs) (suc n) h = none_asked probe vs n (omega (arith, h))
@@ -125,7 +125,7 @@ module _ {R : Type 0} where
   answered_state (states.Answered a) first e = refl
 
   -- a unit that has an answer is decided
-  pub answered_is_decided : (vs : List (UnitEntries R)) (n : ℕ) (first : Option Sections) → answer_of (answers_in vs) n ≡ Some first → decided_at vs n ≡ true
+  pub answered_is_decided : (vs : List (UnitCache R)) (n : ℕ) (first : Option Sections) → answer_of (answers_in vs) n ≡ Some first → decided_at vs n ≡ true
   answered_is_decided [] n first e = absurd cc
-  answered_is_decided (v ∷ vs) zero first e = answered_state v.view.state first e
+  answered_is_decided (v ∷ vs) zero first e = answered_state v.entries.view.state first e
   answered_is_decided (v ∷ vs) (suc n) first e = answered_is_decided vs n first e

@@ -16,6 +16,7 @@ use Rattle.addr2line_units.specs.declared.functions.LazyFunctions.{LazyFunctions
 use Rattle.addr2line_units.specs.declared.functions.LazyFunctions.TheVariants as lazy
 use Rattle.addr2line_units.specs.declared.parses.ReadingDepth.{ReadingDepth}
 use Rattle.addr2line_units.specs.declared.parses.ReadingDepth.TheVariants as reads
+use Rattle.addr2line_units.specs.declared.unit_frames.UnitCache.{UnitCache}
 use Rattle.addr2line_units.specs.declared.unit_frames.UnitEntries.{UnitEntries}
 use Rattle.addr2line_units.specs.declared.view.ViewState.{ViewState}
 use Rattle.addr2line_units.specs.declared.view.ViewState.TheVariants as states
@@ -86,9 +87,9 @@ module _ {R : Type 0} (r : ReadingDepth) where
   unit_ready : (v : UnitEntries R) → HasRead r v → IsReadyUnit r v
   unit_ready v h = record { decided = read_decided r v h; known = view_ready v.view.state v.functions h.view (functions_ready r v.functions h.functions) }
 
-  pub some_ready : (o : Option (UnitEntries R)) → IfSome o (HasRead r) → IfSome o (IsReadyUnit r)
+  pub some_ready : (o : Option (UnitCache R)) → IfSome o (λ c. HasRead r c.entries) → IfSome o (λ c. IsReadyUnit r c.entries)
   some_ready None h = tt
-  some_ready (Some v) h = unit_ready v h
+  some_ready (Some v) h = unit_ready v.entries h
 
 -- the fault of functions is that of a parse with details
 pub fault_of_functions : (scope : Scope) (view : UnitRecord) (e : Error) → functions_of scope.file.sections view ≡ Err e → functions_fault scope view ≡ Err e
@@ -159,59 +160,59 @@ module _ {R : Type 0} (r : ReadingDepth) where
   ready_looked (states.Answered a) f h = refl
 
   -- the units of which all is known that is read, by what is known and whether they are open
-  shut_units : (scope : Scope) (us : List UnitRecord) (vs : List (UnitEntries R)) → HaveEntriesOf scope us vs → (n : ℕ) → IfSome (slice_get vs n) (IsReadyUnit r)
+  shut_units : (scope : Scope) (us : List UnitRecord) (vs : List (UnitCache R)) → HaveEntriesOf scope us vs → (n : ℕ) → IfSome (slice_get vs n) (λ c. IsReadyUnit r c.entries)
       → (is_open_at scope.file.sections us (answers_in vs) n ≡ false) × IfSome (slice_get (known_in vs) n) (IsReadyFor r)
   shut_units scope [] [] own n h = (refl, tt)
   shut_units scope [] (v ∷ vs) own n h = absurd own
   shut_units scope (u ∷ us) [] own n h = absurd own
-  shut_units scope (u ∷ us) (v ∷ vs) own zero h = (not_open scope u 0 v own.0 h.decided, h.known)
+  shut_units scope (u ∷ us) (v ∷ vs) own zero h = (not_open scope u 0 v.entries own.0 h.decided, h.known)
   shut_units scope (u ∷ us) (v ∷ vs) own (suc n) h = shut_units scope us vs own.1 n h
 
-  pub ready_units : (scope : Scope) (us : List UnitRecord) (vs : List (UnitEntries R)) → HaveEntriesOf scope us vs → (n : ℕ) → is_open_at scope.file.sections us (answers_in vs) n ≡ false → IfSome (slice_get (known_in vs) n) (IsReadyFor r)
-      → IfSome (slice_get vs n) (IsReadyUnit r)
+  pub ready_units : (scope : Scope) (us : List UnitRecord) (vs : List (UnitCache R)) → HaveEntriesOf scope us vs → (n : ℕ) → is_open_at scope.file.sections us (answers_in vs) n ≡ false → IfSome (slice_get (known_in vs) n) (IsReadyFor r)
+      → IfSome (slice_get vs n) (λ c. IsReadyUnit r c.entries)
   ready_units scope [] [] own n shut h = tt
   ready_units scope [] (v ∷ vs) own n shut h = absurd own
   ready_units scope (u ∷ us) [] own n shut h = absurd own
   ready_units scope (u ∷ us) (v ∷ vs) own zero shut h =
-      let looked = ready_looked v.view.state v.functions h in
-      record { decided = looked_is_decided v.view.state looked (looked_waits scope.file.sections u v.view own.0.view looked ∙ shut); known = h }
+      let looked = ready_looked v.entries.view.state v.entries.functions h in
+      record { decided = looked_is_decided v.entries.view.state looked (looked_waits scope.file.sections u v.entries.view own.0.view looked ∙ shut); known = h }
   ready_units scope (u ∷ us) (v ∷ vs) own (suc n) shut h = ready_units scope us vs own.1 n shut h
 
   -- units of which all is known stay so by the first answers then
-  pub ready_after : (scope : Scope) (us : List UnitRecord) (answers : FirstAnswers) (vs : List (UnitEntries R)) → HaveEntriesOf scope us vs → answers_in vs ≡ answers_after_parse r scope us answers → AreReadyUnits r scope us answers vs
+  pub ready_after : (scope : Scope) (us : List UnitRecord) (answers : FirstAnswers) (vs : List (UnitCache R)) → HaveEntriesOf scope us vs → answers_in vs ≡ answers_after_parse r scope us answers → AreReadyUnits r scope us answers vs
       → AreReadyFor r scope us (answers_in vs) (known_in vs)
   ready_after scope us answers vs own same ready n before =
       shut_units scope us vs own n (ready n (λ m l. sym (number_again r scope us answers m) ∙ ap (λ (a : FirstAnswers). read_of_number r scope us a m) (sym same) ∙ before m l))
 
-  pub ready_before : (scope : Scope) (us : List UnitRecord) (vs : List (UnitEntries R)) → HaveEntriesOf scope us vs → AreReadyFor r scope us (answers_in vs) (known_in vs) → AreReadyUnits r scope us (answers_in vs) vs
+  pub ready_before : (scope : Scope) (us : List UnitRecord) (vs : List (UnitCache R)) → HaveEntriesOf scope us vs → AreReadyFor r scope us (answers_in vs) (known_in vs) → AreReadyUnits r scope us (answers_in vs) vs
   ready_before scope us vs own ready n before = let k = ready n before in ready_units scope us vs own n k.0 k.1
 
   -- after the unit with the first fault
-  pub ready_stop : (scope : Scope) (us : List UnitRecord) (answers : FirstAnswers) (mid new : List (UnitEntries R)) (k : ℕ) (e : Error) → ((n : ℕ) → n < k → IfSome (slice_get mid n) (HasRead r))
-      → ChangesOnly (λ n. n ≡ k) mid new → IfSome (slice_get new k) (IsReadyUnit r) → read_of_number r scope us answers k ≡ Err e → AreReadyUnits r scope us answers new
+  pub ready_stop : (scope : Scope) (us : List UnitRecord) (answers : FirstAnswers) (mid new : List (UnitCache R)) (k : ℕ) (e : Error) → ((n : ℕ) → n < k → IfSome (slice_get mid n) (λ c. HasRead r c.entries))
+      → ChangesOnly (λ n. n ≡ k) mid new → IfSome (slice_get new k) (λ c. IsReadyUnit r c.entries) → read_of_number r scope us answers k ≡ Err e → AreReadyUnits r scope us answers new
   ready_stop scope us answers mid new k e read only at fault n before = elim (at_or_behind n k) [
     | inl l ↦ below n l
     | inr l ↦ (let no = sym (before k l) ∙ fault in absurd cc)
   ]
     where
-      below : (n : ℕ) → n ≤ k → IfSome (slice_get new n) (IsReadyUnit r)
+      below : (n : ℕ) → n ≤ k → IfSome (slice_get new n) (λ c. IsReadyUnit r c.entries)
       below n l = elim (below_next n k (omega arith)) [
-        | inr q ↦ subst (λ (m : ℕ). IfSome (slice_get new m) (IsReadyUnit r)) (sym q) at
+        | inr q ↦ subst (λ (m : ℕ). IfSome (slice_get new m) (λ c. IsReadyUnit r c.entries)) (sym q) at
         | inl l ↦ elim (only n) [
-          | inl same ↦ subst (λ (o : Option (UnitEntries R)). IfSome o (IsReadyUnit r)) (sym same) (some_ready r (slice_get mid n) (read n l))
+          | inl same ↦ subst (λ (o : Option (UnitCache R)). IfSome o (λ c. IsReadyUnit r c.entries)) (sym same) (some_ready r (slice_get mid n) (read n l))
           | inr q ↦ absurd (omega (arith, q, l))
         ]
       ]
 
   -- what is known of the unit of a number
-  pub ready_set : (vs : List (UnitEntries R)) (n : ℕ) (w : UnitEntries R) → n < length vs → IsReadyUnit r w → IfSome (slice_get (set vs n w) n) (IsReadyUnit r)
-  ready_set vs n w h k = subst (λ (o : Option (UnitEntries R)). IfSome o (IsReadyUnit r)) (sym (got_set vs n w h)) k
+  pub ready_set : (vs : List (UnitCache R)) (n : ℕ) (w : UnitCache R) → n < length vs → IsReadyUnit r w.entries → IfSome (slice_get (set vs n w) n) (λ c. IsReadyUnit r c.entries)
+  ready_set vs n w h k = subst (λ (o : Option (UnitCache R)). IfSome o (λ c. IsReadyUnit r c.entries)) (sym (got_set vs n w h)) k
 
-  pub ready_was_set : (vs : List (UnitEntries R)) (n : ℕ) (w : UnitEntries R) → n < length vs → IfSome (slice_get (set vs n w) n) (IsReadyUnit r) → IsReadyUnit r w
-  ready_was_set vs n w h k = subst (λ (o : Option (UnitEntries R)). IfSome o (IsReadyUnit r)) (got_set vs n w h) k
+  pub ready_was_set : (vs : List (UnitCache R)) (n : ℕ) (w : UnitCache R) → n < length vs → IfSome (slice_get (set vs n w) n) (λ c. IsReadyUnit r c.entries) → IsReadyUnit r w.entries
+  ready_was_set vs n w h k = subst (λ (o : Option (UnitCache R)). IfSome o (λ c. IsReadyUnit r c.entries)) (got_set vs n w h) k
 
-  pub ready_entry : (vs : List (UnitEntries R)) (n : ℕ) (v : UnitEntries R) → n < length vs → v ≡ get_or vs n v → IfSome (slice_get vs n) (IsReadyUnit r) → IsReadyUnit r v
-  ready_entry vs n v h e k = subst (λ (o : Option (UnitEntries R)). IfSome o (IsReadyUnit r)) (got_entry vs n v h e) k
+  pub ready_entry : (vs : List (UnitCache R)) (n : ℕ) (v : UnitCache R) → n < length vs → v ≡ get_or vs n v → IfSome (slice_get vs n) (λ c. IsReadyUnit r c.entries) → IsReadyUnit r v.entries
+  ready_entry vs n v h e k = subst (λ (o : Option (UnitCache R)). IfSome o (λ c. IsReadyUnit r c.entries)) (got_entry vs n v h e) k
 
 -- a unit that is put back as it was
 pub same_set : {X : Type 0} (vs : List X) (n : ℕ) (v w : X) → n < length vs → v ≡ get_or vs n v → w ≡ v → set vs n w ≡ vs

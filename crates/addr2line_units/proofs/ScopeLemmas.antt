@@ -16,7 +16,7 @@ use Rattle.addr2line_lines.specs.References.{AreInOrder, IsFileInOrder, IsScope,
 use Rattle.addr2line_units.specs.declared.aranges.UnitArange.{UnitArange}
 use Rattle.addr2line_units.specs.declared.functions.LazyFunctions.{LazyFunctions}
 use Rattle.addr2line_units.specs.declared.functions.LazyFunctions.TheVariants as lazy
-use Rattle.addr2line_units.specs.declared.unit.ResUnit.{ResUnit}
+use Rattle.addr2line_units.specs.declared.unit_frames.UnitCache.{UnitCache}
 use Rattle.addr2line_units.specs.declared.unit_frames.UnitEntries.{UnitEntries}
 use Rattle.addr2line_units.specs.declared.view.ViewState.{ViewState}
 use Rattle.addr2line_units.specs.declared.view.ViewState.TheVariants as states
@@ -129,7 +129,7 @@ module _ (d : Sections) (m : UnitIndex) where
       of_file (Some s) = sup_units_in_order e
 
 -- the records of units that stand beside their lines
-pub records_beside : (d : Sections) (us : List UnitRecord) (rs : List ResUnit) → HaveLinesOf d us rs → unit_records (indexed_units us rs) ≡ us
+pub records_beside : {R : Type 0} (d : Sections) (us : List UnitRecord) (rs : List (UnitCache R)) → HaveLinesOf d us rs → unit_records (indexed_units us rs) ≡ us
 records_beside d [] [] own = refl
 records_beside d [] (r ∷ rs) own = absurd own
 records_beside d (u ∷ us) [] own = absurd own
@@ -175,23 +175,23 @@ fresh_are_of {R} scope u v fresh = record {
     of_verdict (Some (Err e)) = tt
     of_verdict (Some (Ok y)) = unread_are_of (view_scope scope y) y.unit v.functions fresh.functions
 
-pub fresh_entries : {R : Type 0} (scope : Scope) (us : List UnitRecord) (vs : List (UnitEntries R)) → AreFreshOf us vs → HaveEntriesOf scope us vs
+pub fresh_entries : {R : Type 0} (scope : Scope) (us : List UnitRecord) (vs : List (UnitCache R)) → AreFreshOf us vs → HaveEntriesOf scope us vs
 fresh_entries scope [] [] fresh = tt
 fresh_entries scope [] (v ∷ vs) fresh = absurd fresh
 fresh_entries scope (u ∷ us) [] fresh = absurd fresh
-fresh_entries scope (u ∷ us) (v ∷ vs) fresh = (fresh_are_of scope u v fresh.0, fresh_entries scope us vs fresh.1)
+fresh_entries scope (u ∷ us) (v ∷ vs) fresh = (fresh_are_of scope u v.entries fresh.0, fresh_entries scope us vs fresh.1)
 
 -- no unit has an answer then
-pub no_answers : {R : Type 0} (us : List UnitRecord) (vs : List (UnitEntries R)) → AreFreshOf us vs → answers_in vs ≡ map (λ _. None) us
+pub no_answers : {R : Type 0} (us : List UnitRecord) (vs : List (UnitCache R)) → AreFreshOf us vs → answers_in vs ≡ map (λ _. None) us
 no_answers [] [] fresh = refl
 no_answers [] (v ∷ vs) fresh = absurd fresh
 no_answers (u ∷ us) [] fresh = absurd fresh
 no_answers (u ∷ us) (v ∷ vs) fresh =
-    ap (λ (a : Option (Option Sections)). a ∷ answers_in vs) (no_answer v.view.state fresh.0.view)
+    ap (λ (a : Option (Option Sections)). a ∷ answers_in vs) (no_answer v.entries.view.state fresh.0.view)
     ∙ ap (λ (xs : FirstAnswers). None ∷ xs) (no_answers us vs fresh.1)
 
 -- one more unit of which nobody has asked for anything
-pub fresh_push : {R : Type 0} (us : List UnitRecord) (vs : List (UnitEntries R)) (u : UnitRecord) (v : UnitEntries R) → AreFreshOf us vs → AreFresh v → AreFreshOf (us ++ u ∷ []) (vs ++ v ∷ [])
+pub fresh_push : {R : Type 0} (us : List UnitRecord) (vs : List (UnitCache R)) (u : UnitRecord) (v : UnitCache R) → AreFreshOf us vs → AreFresh v.entries → AreFreshOf (us ++ u ∷ []) (vs ++ v ∷ [])
 fresh_push [] [] u v fresh one = (one, tt)
 fresh_push [] (w ∷ vs) u v fresh one = absurd fresh
 fresh_push (x ∷ us) [] u v fresh one = absurd fresh

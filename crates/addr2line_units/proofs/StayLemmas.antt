@@ -12,6 +12,7 @@ use Rattle.addr2line_units.specs.declared.functions.LazyFunctions.{LazyFunctions
 use Rattle.addr2line_units.specs.declared.functions.LazyFunctions.TheVariants as lazy
 use Rattle.addr2line_units.specs.declared.parses.ReadingDepth.{ReadingDepth}
 use Rattle.addr2line_units.specs.declared.parses.ReadingDepth.TheVariants as kinds
+use Rattle.addr2line_units.specs.declared.unit_frames.UnitCache.{UnitCache}
 use Rattle.addr2line_units.specs.declared.unit_frames.UnitEntries.{UnitEntries}
 use Rattle.addr2line_units.specs.declared.view.ViewState.{ViewState}
 use Rattle.addr2line_units.specs.declared.view.ViewState.TheVariants as states
@@ -96,22 +97,22 @@ module _ {R : Type 0} where
       subst (λ y. IsReadyFor r (known_by y.state w.functions)) (sym (a.view (whole_was_looked_at r v.view.state v.functions h)))
       (view_whole r v.view.state v.functions w.functions a.functions h)
 
-  all_whole : (r : ReadingDepth) (vs ws : List (UnitEntries R)) → StayAllEntries vs ws → (n : ℕ) → IsReadyAt r (known_in vs) n → IsReadyAt r (known_in ws) n
+  all_whole : (r : ReadingDepth) (vs ws : List (UnitCache R)) → StayAllEntries vs ws → (n : ℕ) → IsReadyAt r (known_in vs) n → IsReadyAt r (known_in ws) n
   all_whole r [] [] a n h = h
   all_whole r [] (w ∷ ws) a n h = absurd a
   all_whole r (v ∷ vs) [] a n h = absurd a
-  all_whole r (v ∷ vs) (w ∷ ws) a zero h = entries_whole r v w a.0 h
+  all_whole r (v ∷ vs) (w ∷ ws) a zero h = entries_whole r v.entries w.entries a.0 h
   all_whole r (v ∷ vs) (w ∷ ws) a (suc n) h = all_whole r vs ws a.1 n h
 
   -- where what is cached stays, so does what is known
-  pub stays_known : (vs ws : List (UnitEntries R)) → StayAllEntries vs ws → StaysKnown (known_in vs) (known_in ws)
+  pub stays_known : (vs ws : List (UnitCache R)) → StayAllEntries vs ws → StaysKnown (known_in vs) (known_in ws)
   stays_known vs ws a n = record {
     at = λ probe e. known_is probe ws n ∙ entries_more_at probe vs ws a n (sym (known_is probe vs n) ∙ e);
     whole = λ r h. all_whole r vs ws a n h;
   }
 
   -- the same of units that aren't open
-  pub whole_decided : (r : ReadingDepth) (scope : Scope) (us : List UnitRecord) (vs ws : List (UnitEntries R)) (n : ℕ) → HaveEntriesOf scope us vs → StayDecided vs ws → is_open_at scope.file.sections us (answers_in vs) n ≡ false
+  pub whole_decided : (r : ReadingDepth) (scope : Scope) (us : List UnitRecord) (vs ws : List (UnitCache R)) (n : ℕ) → HaveEntriesOf scope us vs → StayDecided vs ws → is_open_at scope.file.sections us (answers_in vs) n ≡ false
       → IsReadyAt r (known_in vs) n → IsReadyAt r (known_in ws) n
   whole_decided r scope [] [] [] n own stay shut h = h
   whole_decided r scope [] [] (w ∷ ws) n own stay shut h = absurd stay
@@ -119,22 +120,22 @@ module _ {R : Type 0} where
   whole_decided r scope (u ∷ us) [] ws n own stay shut h = absurd own
   whole_decided r scope (u ∷ us) (v ∷ vs) [] n own stay shut h = absurd stay
   whole_decided r scope (u ∷ us) (v ∷ vs) (w ∷ ws) zero own stay shut h =
-      let looked = whole_was_looked_at r v.view.state v.functions h in
-      entries_whole r v w (stay.0 (looked_is_decided v.view.state looked (looked_waits scope.file.sections u v.view own.0.view looked ∙ shut))) h
+      let looked = whole_was_looked_at r v.entries.view.state v.entries.functions h in
+      entries_whole r v.entries w.entries (stay.0 (looked_is_decided v.entries.view.state looked (looked_waits scope.file.sections u v.entries.view own.0.view looked ∙ shut))) h
   whole_decided r scope (u ∷ us) (v ∷ vs) (w ∷ ws) (suc n) own stay shut h = whole_decided r scope us vs ws n own.1 stay.1 shut h
 
-  pub whole_is_decided : (r : ReadingDepth) (scope : Scope) (us : List UnitRecord) (vs : List (UnitEntries R)) (n : ℕ) → HaveEntriesOf scope us vs → is_open_at scope.file.sections us (answers_in vs) n ≡ false
+  pub whole_is_decided : (r : ReadingDepth) (scope : Scope) (us : List UnitRecord) (vs : List (UnitCache R)) (n : ℕ) → HaveEntriesOf scope us vs → is_open_at scope.file.sections us (answers_in vs) n ≡ false
       → IsReadyAt r (known_in vs) n → (decided_at vs n ≡ true) ⊎ (length us ≤ n)
   whole_is_decided r scope [] [] n own shut h = inr (omega arith)
   whole_is_decided r scope [] (v ∷ vs) n own shut h = absurd own
   whole_is_decided r scope (u ∷ us) [] n own shut h = absurd own
   whole_is_decided r scope (u ∷ us) (v ∷ vs) zero own shut h =
-      let looked = whole_was_looked_at r v.view.state v.functions h in
-      inl (looked_is_decided v.view.state looked (looked_waits scope.file.sections u v.view own.0.view looked ∙ shut))
+      let looked = whole_was_looked_at r v.entries.view.state v.entries.functions h in
+      inl (looked_is_decided v.entries.view.state looked (looked_waits scope.file.sections u v.entries.view own.0.view looked ∙ shut))
   whole_is_decided r scope (u ∷ us) (v ∷ vs) (suc n) own shut h = elim (whole_is_decided r scope us vs n own.1 shut h) [ inl d ↦ inl d | inr m ↦ inr (omega (arith, m)) ]
 
   -- nothing is read of a unit that there isn't
-  pub none_whole : (r : ReadingDepth) (vs : List (UnitEntries R)) (n : ℕ) → length vs ≤ n → IsReadyAt r (known_in vs) n
+  pub none_whole : (r : ReadingDepth) (vs : List (UnitCache R)) (n : ℕ) → length vs ≤ n → IsReadyAt r (known_in vs) n
   none_whole r [] n h = tt
   none_whole r (v ∷ vs) zero h = absurd (omega (arith, h))
   none_whole r (v ∷ vs) (suc n) h = none_whole r vs n (omega (arith, h))

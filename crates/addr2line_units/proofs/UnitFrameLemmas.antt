@@ -13,7 +13,7 @@ use Rattle.addr2line_lines.specs.UnitLines.{unit_lines}
 use Rattle.addr2line_units.specs.declared.functions.LazyFunctions.{LazyFunctions}
 use Rattle.addr2line_units.specs.declared.unit.LazyLines.{LazyLines}
 use Rattle.addr2line_units.specs.declared.unit.LazyLines.TheVariants as lines
-use Rattle.addr2line_units.specs.declared.unit.ResUnit.{ResUnit}
+use Rattle.addr2line_units.specs.declared.unit.UnitLines.{UnitLines}
 use Rattle.addr2line_units.specs.declared.unit_frames.UnitEntries.{UnitEntries}
 use Rattle.addr2line_units.specs.declared.view.UnitView.{UnitView}
 use Rattle.addr2line_units.specs.declared.view.ViewState.{ViewState}
@@ -128,7 +128,7 @@ module _ (scope : Scope) (x : IndexedUnit) (answer : Option (Option Sections)) (
       lines_frames (lines.Read table) row right cached k = (tt, read_frames (box_value table) row right k)
 
 -- where a lookup takes no memory in a unit, its refusal is the fault of the function
-pub function_alone : {R : Type 0} (shares : Bool) (scope : Scope) (u : UnitRecord) (answer : Option (Option Sections)) (probe : ℕ) (r : ResUnit) (v : UnitEntries R) (e : Error) → AsksNoMemoryIn shares scope u answer probe r v
+pub function_alone : {R : Type 0} (shares : Bool) (scope : Scope) (u : UnitRecord) (answer : Option (Option Sections)) (probe : ℕ) (r : UnitLines) (v : UnitEntries R) (e : Error) → AsksNoMemoryIn shares scope u answer probe r v
     → (has_entries probe v ≡ true → has_many scope u answer probe ≡ false → e ≢ OutOfMemory) → (e ≢ OutOfMemory → function_in scope u answer probe ≡ Err e)
     → (functions_in_take_memory shares scope u answer ≡ false → function_in scope u answer probe ≡ Err e) → function_in scope u answer probe ≡ Err e
 function_alone shares scope u answer probe r v e h known gives alone = by_test (functions_in_take_memory shares scope u answer) refl
@@ -138,7 +138,7 @@ function_alone shares scope u answer probe r v e h known gives alone = by_test (
     by_test false t = alone t
 
 -- or that of the lines
-pub lines_alone : {R : Type 0} (shares : Bool) (scope : Scope) (u : UnitRecord) (answer : Option (Option Sections)) (probe : ℕ) (r : ResUnit) (v : UnitEntries R) (e : Error) (given : LocationResult) → AsksNoMemoryIn shares scope u answer probe r v
+pub lines_alone : {R : Type 0} (shares : Bool) (scope : Scope) (u : UnitRecord) (answer : Option (Option Sections)) (probe : ℕ) (r : UnitLines) (v : UnitEntries R) (e : Error) (given : LocationResult) → AsksNoMemoryIn shares scope u answer probe r v
     → asks_lines_in scope u answer probe ≡ true → (is_uncached r.lines ≡ false → e ≢ OutOfMemory) → (e ≢ OutOfMemory → given ≡ Err e) → (lines_take_memory shares u ≡ false → given ≡ Err e) → given ≡ Err e
 lines_alone shares scope u answer probe r v e given h asked known gives alone = by_test (lines_take_memory shares u) refl
   where

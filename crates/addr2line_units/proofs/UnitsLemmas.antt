@@ -1,21 +1,21 @@
 -- The units of a context whose lines are cached one after another (on specs/CachedLines.antt and
 -- specs/Parsed.antt).
-use Rattle.std.proofs.Common.{◌≡◌, ℕ, zero, suc, ◌+◌, ◌-◌, ◌≤◌, ◌<◌, Bool, true, false, not, ◌&&◌, ◌||◌, List, [], ◌∷◌, ◌++◌, length, map, drop, add-one, get_or, Option, Some, None, option_map, slice_get, Result, Ok, Err, is_ok, refl, sym, ap, subst, arith, ◌∙◌, ◌⊎◌, inl, inr}
+use Rattle.std.proofs.Common.{◌≡◌, ℕ, zero, suc, ◌+◌, ◌-◌, ◌≤◌, ◌<◌, Bool, true, false, not, ◌&&◌, ◌||◌, List, [], ◌∷◌, ◌++◌, length, map, drop, add-one, get_or, Option, Some, None, slice_get, Result, Ok, Err, is_ok, refl, sym, ap, subst, arith, ◌∙◌, ◌⊎◌, inl, inr}
 use Rattle.std.proofs.Math.ListN.{drop_of_length-le, set}
-use Rattle.std.specs.Prelude.{OnErr, OnOk}
-use Rattle.std.proofs.lemmas.List.{length-map}
+use Rattle.std.specs.Prelude.{IfErr, OnErr, OnOk}
 use Rattle.std.proofs.lemmas.List.Sums.{sum_by-cons}
 use Rattle.gimli_read.specs.declared.error.Error.{Error}
+use Rattle.gimli_read.specs.declared.error.Error.TheVariants.{OutOfMemory}
 use Rattle.gimli_read.specs.declared.range.Range.{Range}
-use Rattle.gimli_read.specs.Reading.{◌>>=◌, Exactly, ExactlyUnlessOom, fault_of, result_map}
+use Rattle.gimli_read.specs.Reading.{◌>>=◌, ExactlyUnlessOom, fault_of, result_map}
 use Rattle.gimli.specs.Sections.{Sections}
 use Rattle.gimli.specs.Unit.{UnitRecord}
-use Rattle.addr2line_lines.specs.declared.row.Row.{Row}
-use Rattle.addr2line_lines.specs.Location.{LineTable, Location, location_of_row}
+use Rattle.addr2line_lines.specs.Location.{LineTable, Location}
 use Rattle.addr2line_lines.specs.Rows.{read_all}
 use Rattle.addr2line_lines.specs.UnitLines.{unit_lines}
 use Rattle.addr2line_units.specs.declared.unit.LazyLines.{LazyLines}
-use Rattle.addr2line_units.specs.declared.unit.ResUnit.{ResUnit}
+use Rattle.addr2line_units.specs.declared.unit.UnitLines.{UnitLines}
+use Rattle.addr2line_units.specs.declared.unit_frames.UnitCache.{UnitCache}
 use Rattle.addr2line_units.specs.declared.index.UnitRange.{UnitRange}
 use Rattle.addr2line_units.specs.Indexed.{IndexState, ranged_seen, with_ranged}
 use Rattle.addr2line_units.specs.RangedUnits.{IndexedUnit, has_lines, range_of_unit, unit_ranges}
@@ -24,7 +24,7 @@ use Rattle.gimli_read.specs.Alike.{WasNotRefused}
 use Rattle.addr2line_units.specs.Cover.{holds_until}
 use Rattle.addr2line_units.specs.AskMemory.{lines_of_take_memory}
 use Rattle.addr2line_units.specs.Parsed.{AllAskFor, AreParsed, AreReadyForAll, ParsesOnly, StaysParsed, TakeNone, TakeNoneForAll, can_be_read, decides, has_parsed, parses_no_memory, ready_along, unit_decides}
-use Rattle.addr2line_units.specs.CachedLines.{AreLinesOf, CachesResult, HaveLinesOf, StayUnits, StaysUnit, cached_files, indexed_unit, indexed_units, is_parsed, is_uncached, lines_result, lines_result_at, lines_at, location_of_unit_row, parsed_units, unit_row}
+use Rattle.addr2line_units.specs.CachedLines.{AreLinesOf, CachesResult, HaveLinesOf, StayUnits, StaysUnit, indexed_unit, indexed_units, is_parsed, is_uncached, lines_result, lines_result_at, lines_at, parsed_units}
 
 -- what is cached is no longer uncached
 parsed_is : (l : LazyLines) → not (is_uncached l) ≡ true → is_uncached l ≡ false
@@ -34,98 +34,98 @@ parsed_is l e = of_bool (is_uncached l) e
     of_bool true e = cc
     of_bool false e = refl
 
-pub stay_all : (rs : List ResUnit) → StayUnits rs rs
+pub stay_all : {R : Type 0} (rs : List (UnitCache R)) → StayUnits rs rs
 stay_all [] = tt
 stay_all (r ∷ rs) = (record { language = refl; lines = λ e. refl }, stay_all rs)
 
 -- what stays from one state to the next stays over both
-stays_over : (r s t : ResUnit) → StaysUnit r s → StaysUnit s t → StaysUnit r t
+stays_over : (r s t : UnitLines) → StaysUnit r s → StaysUnit s t → StaysUnit r t
 stays_over r s t a b = record {
   language = b.language ∙ a.language;
   lines = λ e. b.lines (ap is_uncached (a.lines e) ∙ e) ∙ a.lines e;
 }
 
-pub stay_over : (rs ss ts : List ResUnit) → StayUnits rs ss → StayUnits ss ts → StayUnits rs ts
+pub stay_over : {R : Type 0} (rs ss ts : List (UnitCache R)) → StayUnits rs ss → StayUnits ss ts → StayUnits rs ts
 stay_over [] [] [] a b = tt
 stay_over [] [] (t ∷ ts) a b = absurd b
 stay_over [] (s ∷ ss) ts a b = absurd a
 stay_over (r ∷ rs) [] ts a b = absurd a
 stay_over (r ∷ rs) (s ∷ ss) [] a b = absurd b
-stay_over (r ∷ rs) (s ∷ ss) (t ∷ ts) a b = (stays_over r s t a.0 b.0, stay_over rs ss ts a.1 b.1)
+stay_over (r ∷ rs) (s ∷ ss) (t ∷ ts) a b = (stays_over r.lines s.lines t.lines a.0 b.0, stay_over rs ss ts a.1 b.1)
 
 -- one of them is another, which stays
-pub stay_set : (rs : List ResUnit) (n : ℕ) (r s : ResUnit) → n < length rs → r ≡ get_or rs n r → StaysUnit r s → StayUnits rs (set rs n s)
+pub stay_set : {R : Type 0} (rs : List (UnitCache R)) (n : ℕ) (r s : UnitCache R) → n < length rs → r ≡ get_or rs n r → StaysUnit r.lines s.lines → StayUnits rs (set rs n s)
 stay_set [] n r s h e k = absurd (omega arith)
-stay_set (x ∷ rs) zero r s h e k = (subst (λ y. StaysUnit y s) e k, stay_all rs)
+stay_set (x ∷ rs) zero r s h e k = (subst (λ (y : UnitCache _). StaysUnit y.lines s.lines) e k, stay_all rs)
 stay_set (x ∷ rs) (suc n) r s h e k = (record { language = refl; lines = λ e. refl }, stay_set rs n r s (omega arith) e k)
 
 -- the units and their languages are the same
-pub stay_indexed : (us : List UnitRecord) (rs ss : List ResUnit) → StayUnits rs ss → indexed_units us ss ≡ indexed_units us rs
+pub stay_indexed : {R : Type 0} (us : List UnitRecord) (rs ss : List (UnitCache R)) → StayUnits rs ss → indexed_units us ss ≡ indexed_units us rs
 stay_indexed [] rs ss a = refl
 stay_indexed (u ∷ us) [] [] a = refl
 stay_indexed (u ∷ us) [] (s ∷ ss) a = absurd a
 stay_indexed (u ∷ us) (r ∷ rs) [] a = absurd a
-stay_indexed (u ∷ us) (r ∷ rs) (s ∷ ss) a = ap (λ l. record { unit = u; language = l } ∷ indexed_units us ss) a.0.language ∙ ap (λ xs. indexed_unit u r ∷ xs) (stay_indexed us rs ss a.1)
+stay_indexed (u ∷ us) (r ∷ rs) (s ∷ ss) a = ap (λ l. record { unit = u; language = l } ∷ indexed_units us ss) a.0.language ∙ ap (λ xs. indexed_unit u r.lines ∷ xs) (stay_indexed us rs ss a.1)
 
 -- there are as many
-pub stay_length : (rs ss : List ResUnit) → StayUnits rs ss → length ss ≡ length rs
+pub stay_length : {R : Type 0} (rs ss : List (UnitCache R)) → StayUnits rs ss → length ss ≡ length rs
 stay_length [] [] a = refl
 stay_length [] (s ∷ ss) a = absurd a
 stay_length (r ∷ rs) [] a = absurd a
 stay_length (r ∷ rs) (s ∷ ss) a = ap suc (stay_length rs ss a.1)
 
 -- what was parsed stays parsed
-pub stay_parsed : (rs ss : List ResUnit) → StayUnits rs ss → StaysParsed (parsed_units rs) (parsed_units ss)
+pub stay_parsed : {R : Type 0} (rs ss : List (UnitCache R)) → StayUnits rs ss → StaysParsed (parsed_units rs) (parsed_units ss)
 stay_parsed [] [] a n e = e
 stay_parsed [] (s ∷ ss) a n e = absurd a
 stay_parsed (r ∷ rs) [] a n e = absurd a
-stay_parsed (r ∷ rs) (s ∷ ss) a zero e = ap (λ l. not (is_uncached l)) (a.0.lines (parsed_is r.lines e)) ∙ e
+stay_parsed (r ∷ rs) (s ∷ ss) a zero e = ap (λ l. not (is_uncached l)) (a.0.lines (parsed_is r.lines.lines e)) ∙ e
 stay_parsed (r ∷ rs) (s ∷ ss) a (suc n) e = stay_parsed rs ss a.1 n e
 
 -- beside each unit stand lines
-pub as_many : (d : Sections) (us : List UnitRecord) (rs : List ResUnit) → HaveLinesOf d us rs → length us ≡ length rs
+pub as_many : {R : Type 0} (d : Sections) (us : List UnitRecord) (rs : List (UnitCache R)) → HaveLinesOf d us rs → length us ≡ length rs
 as_many d [] [] own = refl
 as_many d [] (r ∷ rs) own = absurd own
 as_many d (u ∷ us) [] own = absurd own
 as_many d (u ∷ us) (r ∷ rs) own = ap suc (as_many d us rs own.1)
 
-pub as_many_indexed : (d : Sections) (us : List UnitRecord) (rs : List ResUnit) → HaveLinesOf d us rs → length (indexed_units us rs) ≡ length rs
+pub as_many_indexed : {R : Type 0} (d : Sections) (us : List UnitRecord) (rs : List (UnitCache R)) → HaveLinesOf d us rs → length (indexed_units us rs) ≡ length rs
 as_many_indexed d [] [] own = refl
 as_many_indexed d [] (r ∷ rs) own = absurd own
 as_many_indexed d (u ∷ us) [] own = absurd own
 as_many_indexed d (u ∷ us) (r ∷ rs) own = ap suc (as_many_indexed d us rs own.1)
 
 -- the unit of a number
-pub unit_at : (us : List UnitRecord) (rs : List ResUnit) (n : ℕ) (u : UnitRecord) (r : ResUnit) → n < length us → n < length rs → u ≡ get_or us n u → r ≡ get_or rs n r → slice_get (indexed_units us rs) n ≡ Some (indexed_unit u r)
+pub unit_at : {R : Type 0} (us : List UnitRecord) (rs : List (UnitCache R)) (n : ℕ) (u : UnitRecord) (r : UnitCache R) → n < length us → n < length rs → u ≡ get_or us n u → r ≡ get_or rs n r → slice_get (indexed_units us rs) n ≡ Some (indexed_unit u r.lines)
 unit_at [] rs n u r h k e f = absurd (omega arith)
 unit_at (x ∷ us) [] n u r h k e f = absurd (omega arith)
-unit_at (x ∷ us) (y ∷ rs) zero u r h k e f = ap (λ v. Some (indexed_unit v y)) (sym e) ∙ ap (λ s. Some (indexed_unit u s)) (sym f)
+unit_at (x ∷ us) (y ∷ rs) zero u r h k e f = ap (λ v. Some (indexed_unit v y.lines)) (sym e) ∙ ap (λ (s : UnitCache _). Some (indexed_unit u s.lines)) (sym f)
 unit_at (x ∷ us) (y ∷ rs) (suc n) u r h k e f = unit_at us rs n u r (omega arith) (omega arith) e f
 
-pub no_unit : (us : List UnitRecord) (rs : List ResUnit) (n : ℕ) → length rs ≤ n → slice_get (indexed_units us rs) n ≡ None
+pub no_unit : {R : Type 0} (us : List UnitRecord) (rs : List (UnitCache R)) (n : ℕ) → length rs ≤ n → slice_get (indexed_units us rs) n ≡ None
 no_unit [] rs n h = refl
 no_unit (x ∷ us) [] n h = refl
 no_unit (x ∷ us) (y ∷ rs) zero h = absurd (omega arith)
 no_unit (x ∷ us) (y ∷ rs) (suc n) h = no_unit us rs n (omega arith)
 
-pub no_parsed : (rs : List ResUnit) (n : ℕ) → length rs ≤ n → has_parsed (parsed_units rs) n ≡ true
+pub no_parsed : {R : Type 0} (rs : List (UnitCache R)) (n : ℕ) → length rs ≤ n → has_parsed (parsed_units rs) n ≡ true
 no_parsed [] n h = refl
 no_parsed (x ∷ rs) zero h = absurd (omega arith)
 no_parsed (x ∷ rs) (suc n) h = no_parsed rs n (omega arith)
 
-pub parsed_at : (rs : List ResUnit) (n : ℕ) (r : ResUnit) → n < length rs → r ≡ get_or rs n r → has_parsed (parsed_units rs) n ≡ true → is_uncached r.lines ≡ false
+pub parsed_at : {R : Type 0} (rs : List (UnitCache R)) (n : ℕ) (r : UnitCache R) → n < length rs → r ≡ get_or rs n r → has_parsed (parsed_units rs) n ≡ true → is_uncached r.lines.lines ≡ false
 parsed_at [] n r h e k = absurd (omega arith)
-parsed_at (x ∷ rs) zero r h e k = ap (λ (y : ResUnit). is_uncached y.lines) e ∙ parsed_is x.lines k
+parsed_at (x ∷ rs) zero r h e k = ap (λ (y : UnitCache _). is_uncached y.lines.lines) e ∙ parsed_is x.lines.lines k
 parsed_at (x ∷ rs) (suc n) r h e k = parsed_at rs n r (omega arith) e k
 
-pub parsed_set : (rs : List ResUnit) (n : ℕ) (s : ResUnit) → n < length rs → is_uncached s.lines ≡ false → has_parsed (parsed_units (set rs n s)) n ≡ true
+pub parsed_set : {R : Type 0} (rs : List (UnitCache R)) (n : ℕ) (s : UnitCache R) → n < length rs → is_uncached s.lines.lines ≡ false → has_parsed (parsed_units (set rs n s)) n ≡ true
 parsed_set [] n s h e = absurd (omega arith)
 parsed_set (x ∷ rs) zero s h e = ap not e
 parsed_set (x ∷ rs) (suc n) s h e = parsed_set rs n s (omega arith) e
 
-pub set_parsed : (rs : List ResUnit) (n : ℕ) (s : ResUnit) → n < length rs → has_parsed (parsed_units (set rs n s)) n ≡ true → is_uncached s.lines ≡ false
+pub set_parsed : {R : Type 0} (rs : List (UnitCache R)) (n : ℕ) (s : UnitCache R) → n < length rs → has_parsed (parsed_units (set rs n s)) n ≡ true → is_uncached s.lines.lines ≡ false
 set_parsed [] n s h e = absurd (omega arith)
-set_parsed (x ∷ rs) zero s h e = parsed_is s.lines e
+set_parsed (x ∷ rs) zero s h e = parsed_is s.lines.lines e
 set_parsed (x ∷ rs) (suc n) s h e = set_parsed rs n s (omega arith) e
 
 -- a call that left lines as they were, and takes no memory where they are cached, isn't refused
@@ -134,60 +134,61 @@ pub not_refused : (old new : LazyLines) (result : Result (Unit {0}) Error) → (
 not_refused old new (Ok x) exact same e = tt
 not_refused old new (Err x) exact same e = absurd (let ok = exact (sym (ap is_uncached same) ∙ e) in cc)
 
-pub parsed_if_ok : {X : Type 0} (rs : List ResUnit) (n : ℕ) (s : ResUnit) (result : Result X Error) → n < length rs → OnOk result (is_uncached s.lines ≡ false) → OnOk result (has_parsed (parsed_units (set rs n s)) n ≡ true)
-parsed_if_ok rs n s (Ok x) h e = parsed_set rs n s h e
-parsed_if_ok rs n s (Err x) h e = tt
+-- a call that is refused memory alone, by what is cached where it isn't refused
+pub cached_if_told : {X P : Type 0} (result : Result X Error) → IfErr result (λ e. e ≡ OutOfMemory) → OnOk result P → WasNotRefused result → P
+cached_if_told (Ok x) refused p told = p
+cached_if_told (Err e) refused p told = absurd (told refused)
 
 -- no lines are cached but those of the unit of a number
-pub only_set : (rs : List ResUnit) (k : ℕ) (s : ResUnit) → ParsesOnly (λ n. n ≡ k) (parsed_units rs) (parsed_units (set rs k s))
+pub only_set : {R : Type 0} (rs : List (UnitCache R)) (k : ℕ) (s : UnitCache R) → ParsesOnly (λ n. n ≡ k) (parsed_units rs) (parsed_units (set rs k s))
 only_set [] k s n e = inl e
 only_set (x ∷ rs) zero s zero e = inr refl
 only_set (x ∷ rs) zero s (suc n) e = inl e
 only_set (x ∷ rs) (suc k) s zero e = inl e
 only_set (x ∷ rs) (suc k) s (suc n) e = elim (only_set rs k s n e) [ inl p ↦ inl p | inr q ↦ inr (ap suc q) ]
 
-lines_set : (rs : List ResUnit) (n : ℕ) (s : ResUnit) → n < length rs → lines_at (set rs n s) n ≡ s.lines
+pub lines_set : {R : Type 0} (rs : List (UnitCache R)) (n : ℕ) (s : UnitCache R) → n < length rs → lines_at (set rs n s) n ≡ s.lines.lines
 lines_set [] n s h = absurd (omega arith)
 lines_set (x ∷ rs) zero s h = refl
 lines_set (x ∷ rs) (suc n) s h = lines_set rs n s (omega arith)
 
 -- the cached lines of each unit are its own
-pub own_at : (d : Sections) (us : List UnitRecord) (rs : List ResUnit) (n : ℕ) (u : UnitRecord) (r : ResUnit) → n < length rs → u ≡ get_or us n u → r ≡ get_or rs n r → HaveLinesOf d us rs → AreLinesOf d u r.lines
+pub own_at : {R : Type 0} (d : Sections) (us : List UnitRecord) (rs : List (UnitCache R)) (n : ℕ) (u : UnitRecord) (r : UnitCache R) → n < length rs → u ≡ get_or us n u → r ≡ get_or rs n r → HaveLinesOf d us rs → AreLinesOf d u r.lines.lines
 own_at d [] [] n u r h e f own = absurd (omega arith)
 own_at d [] (y ∷ rs) n u r h e f own = absurd own
 own_at d (x ∷ us) [] n u r h e f own = absurd own
-own_at d (x ∷ us) (y ∷ rs) zero u r h e f own = subst (λ (v : UnitRecord). AreLinesOf d v r.lines) (sym e) (subst (λ (s : ResUnit). AreLinesOf d x s.lines) (sym f) own.0)
+own_at d (x ∷ us) (y ∷ rs) zero u r h e f own = subst (λ (v : UnitRecord). AreLinesOf d v r.lines.lines) (sym e) (subst (λ (s : UnitCache _). AreLinesOf d x s.lines.lines) (sym f) own.0)
 own_at d (x ∷ us) (y ∷ rs) (suc n) u r h e f own = own_at d us rs n u r (omega arith) e f own.1
 
-pub own_set : (d : Sections) (us : List UnitRecord) (rs : List ResUnit) (n : ℕ) (u : UnitRecord) (s : ResUnit) → u ≡ get_or us n u → HaveLinesOf d us rs → AreLinesOf d u s.lines → HaveLinesOf d us (set rs n s)
+pub own_set : {R : Type 0} (d : Sections) (us : List UnitRecord) (rs : List (UnitCache R)) (n : ℕ) (u : UnitRecord) (s : UnitCache R) → u ≡ get_or us n u → HaveLinesOf d us rs → AreLinesOf d u s.lines.lines → HaveLinesOf d us (set rs n s)
 own_set d [] [] n u s e own h = tt
 own_set d [] (y ∷ rs) n u s e own h = absurd own
 own_set d (x ∷ us) [] n u s e own h = absurd own
-own_set d (x ∷ us) (y ∷ rs) zero u s e own h = (subst (λ (v : UnitRecord). AreLinesOf d v s.lines) e h, own.1)
+own_set d (x ∷ us) (y ∷ rs) zero u s e own h = (subst (λ (v : UnitRecord). AreLinesOf d v s.lines.lines) e h, own.1)
 own_set d (x ∷ us) (y ∷ rs) (suc n) u s e own h = (own.0, own_set d us rs n u s e own.1 h)
 
 -- the number of a unit is one of a record
-pub in_units : (d : Sections) (us : List UnitRecord) (rs : List ResUnit) (n : ℕ) → HaveLinesOf d us rs → n < length rs → n < length us
+pub in_units : {R : Type 0} (d : Sections) (us : List UnitRecord) (rs : List (UnitCache R)) (n : ℕ) → HaveLinesOf d us rs → n < length rs → n < length us
 in_units d us rs n own h = subst (λ k. n < k) (sym (as_many d us rs own)) h
 
 -- one more unit, with its lines
-pub own_push : (d : Sections) (us : List UnitRecord) (rs : List ResUnit) (u : UnitRecord) (r : ResUnit) → HaveLinesOf d us rs → AreLinesOf d u r.lines → HaveLinesOf d (us ++ u ∷ []) (rs ++ r ∷ [])
+pub own_push : {R : Type 0} (d : Sections) (us : List UnitRecord) (rs : List (UnitCache R)) (u : UnitRecord) (r : UnitCache R) → HaveLinesOf d us rs → AreLinesOf d u r.lines.lines → HaveLinesOf d (us ++ u ∷ []) (rs ++ r ∷ [])
 own_push d [] [] u r own h = (h, tt)
 own_push d [] (y ∷ rs) u r own h = absurd own
 own_push d (x ∷ us) [] u r own h = absurd own
 own_push d (x ∷ us) (y ∷ rs) u r own h = (own.0, own_push d us rs u r own.1 h)
 
-pub indexed_push : (d : Sections) (us : List UnitRecord) (rs : List ResUnit) (u : UnitRecord) (r : ResUnit) → HaveLinesOf d us rs → indexed_units (us ++ u ∷ []) (rs ++ r ∷ []) ≡ indexed_units us rs ++ indexed_unit u r ∷ []
+pub indexed_push : {R : Type 0} (d : Sections) (us : List UnitRecord) (rs : List (UnitCache R)) (u : UnitRecord) (r : UnitCache R) → HaveLinesOf d us rs → indexed_units (us ++ u ∷ []) (rs ++ r ∷ []) ≡ indexed_units us rs ++ indexed_unit u r.lines ∷ []
 indexed_push d [] [] u r own = refl
 indexed_push d [] (y ∷ rs) u r own = absurd own
 indexed_push d (x ∷ us) [] u r own = absurd own
-indexed_push d (x ∷ us) (y ∷ rs) u r own = ap (λ is. indexed_unit x y ∷ is) (indexed_push d us rs u r own.1)
+indexed_push d (x ∷ us) (y ∷ rs) u r own = ap (λ is. indexed_unit x y.lines ∷ is) (indexed_push d us rs u r own.1)
 
-parsed_push : (rs : List ResUnit) (r : ResUnit) → parsed_units (rs ++ r ∷ []) ≡ parsed_units rs ++ is_parsed r ∷ []
+parsed_push : {R : Type 0} (rs : List (UnitCache R)) (r : UnitCache R) → parsed_units (rs ++ r ∷ []) ≡ parsed_units rs ++ is_parsed r.lines ∷ []
 parsed_push [] r = refl
-parsed_push (y ∷ rs) r = ap (λ bs. is_parsed y ∷ bs) (parsed_push rs r)
+parsed_push (y ∷ rs) r = ap (λ bs. is_parsed y.lines ∷ bs) (parsed_push rs r)
 
-pub pushed : (d : Sections) (us : List UnitRecord) (rs : List ResUnit) (u : UnitRecord) (old new : ResUnit) (given : List Range) (ranges now : List UnitRange) → HaveLinesOf d us rs → new.lang ≡ old.lang → is_parsed new ≡ has_lines (ranged_seen u old given)
+pub pushed : {R : Type 0} (d : Sections) (us : List UnitRecord) (rs : List (UnitCache R)) (u : UnitRecord) (old : UnitLines) (new : UnitCache R) (given : List Range) (ranges now : List UnitRange) → HaveLinesOf d us rs → new.lines.lang ≡ old.lang → is_parsed new.lines ≡ has_lines (ranged_seen u old given)
     → now ≡ ranges ++ map (range_of_unit (length rs)) (unit_ranges d (ranged_seen u old given))
     → ◌≡◌ {A = IndexState} (record { units = indexed_units (us ++ u ∷ []) (rs ++ new ∷ []); ranges = now; parsed = parsed_units (rs ++ new ∷ []) })
     (with_ranged d (record { units = indexed_units us rs; ranges = ranges; parsed = parsed_units rs }) (ranged_seen u old given))
@@ -199,19 +200,6 @@ pushed d us rs u old new given ranges now own lang parsed more =
   where
     of_parts : {a b : List IndexedUnit} {p q : List UnitRange} {v w : List Bool} → a ≡ b → p ≡ q → v ≡ w → ◌≡◌ {A = IndexState} (record { units = a; ranges = p; parsed = v }) (record { units = b; ranges = q; parsed = w })
     of_parts e f g = cc
-
--- the row that is found in a unit
-module _ (d : Sections) (probe : ℕ) (us : List UnitRecord) (rs : List ResUnit) (n : ℕ) (u : UnitRecord) (r s : ResUnit) (result : Result (Option Row) Error) (own : HaveLinesOf d us rs) (h : n < length rs) (e : u ≡ get_or us n u) (f : r ≡ get_or rs n r) where
-  in_both : n < length us
-  in_both = subst (λ k. n < k) (sym (as_many d us rs own)) h
-
-  pub row_found : ExactlyUnlessOom (option_map (location_of_row (cached_files s.lines))) result (location_in d probe (Some (indexed_unit u r)))
-      → ExactlyUnlessOom (option_map (λ row. location_of_unit_row (set rs n s) (unit_row n row))) result (location_in d probe (slice_get (indexed_units us rs) n))
-  row_found k = rw (lines_set rs n s h, unit_at us rs n u r in_both h e f) k
-
-  pub row_found_exactly : Exactly (option_map (location_of_row (cached_files s.lines))) result (location_in d probe (Some (indexed_unit u r)))
-      → Exactly (option_map (λ row. location_of_unit_row (set rs n s) (unit_row n row))) result (location_in d probe (slice_get (indexed_units us rs) n))
-  row_found_exactly k = rw (lines_set rs n s h, unit_at us rs n u r in_both h e f) k
 
 -- an answer is cached, unless it is OutOfMemory
 pub answer_cached : {X : Type 0} (old : LazyLines) (result : Result X Error) (new : LazyLines) → CachesResult old result new → WasNotRefused result → is_uncached new ≡ false
@@ -275,7 +263,7 @@ module _ (d : Sections) (units : List IndexedUnit) (probe : ℕ) (r : UnitRange)
       of_bools false b c e k = e
 
 -- the lines of a unit, or their fault
-module _ (d : Sections) (us : List UnitRecord) (rs : List ResUnit) (n : ℕ) (u : UnitRecord) (r : ResUnit) (lines : Option LineTable) (result : Result (Unit {0}) Error) (own : HaveLinesOf d us rs) (h : n < length rs) (e : u ≡ get_or us n u) (f : r ≡ get_or rs n r) where
+module _ {R : Type 0} (d : Sections) (us : List UnitRecord) (rs : List (UnitCache R)) (n : ℕ) (u : UnitRecord) (r : UnitCache R) (lines : Option LineTable) (result : Result (Unit {0}) Error) (own : HaveLinesOf d us rs) (h : n < length rs) (e : u ≡ get_or us n u) (f : r ≡ get_or rs n r) where
   same_fault : (a : Result LineTable Error) → fault_of a ≡ fault_of (a >>= λ l. Ok (Some l))
   same_fault (Ok l) = refl
   same_fault (Err x) = refl
@@ -393,16 +381,10 @@ parsed_below p k before at n h = elim (le_cases n k (omega arith)) [ inl e ↦ a
     le_cases (suc m) zero h = absurd (omega arith)
     le_cases (suc m) (suc k) h = elim (le_cases m k (omega arith)) [ inl e ↦ inl (ap suc e) | inr l ↦ inr (omega arith) ]
 
-pub all_parsed : (rs ss : List ResUnit) (k : ℕ) → StayUnits rs ss → length rs ≤ k → ((n : ℕ) → n < k → has_parsed (parsed_units ss) n ≡ true) → (n : ℕ) → has_parsed (parsed_units ss) n ≡ true
-all_parsed rs ss k stay le below n = of_list (parsed_units ss) k (subst (λ m. m ≤ k) lengths le) below n
-  where
-    lengths : length rs ≡ length (parsed_units ss)
-    lengths = sym (stay_length rs ss stay) ∙ sym (length-map ss is_parsed)
-
-    of_list : (p : List Bool) (k : ℕ) → length p ≤ k → ((n : ℕ) → n < k → has_parsed p n ≡ true) → (n : ℕ) → has_parsed p n ≡ true
-    of_list [] k le f n = refl
-    of_list (b ∷ p) k le f zero = f zero (omega arith)
-    of_list (b ∷ p) k le f (suc n) = of_list p (k - 1) (omega arith) (λ m h. f (suc m) (omega arith)) n
+pub all_parsed : (p : List Bool) (k : ℕ) → length p ≤ k → ((n : ℕ) → n < k → has_parsed p n ≡ true) → (n : ℕ) → has_parsed p n ≡ true
+all_parsed [] k le f n = refl
+all_parsed (b ∷ p) k le f zero = f zero (omega arith)
+all_parsed (b ∷ p) k le f (suc n) = all_parsed p (k - 1) (omega arith) (λ m h. f (suc m) (omega arith)) n
 
 pub looks_raised : (a b c : ℕ) → a ≤ b → b ≤ c → a ≤ c
 looks_raised a b c h k = omega arith

@@ -10,7 +10,7 @@ use Rattle.addr2line_lines.specs.References.{Scope}
 use Rattle.addr2line_units.specs.declared.frames_lookup.OnFault.{OnFault}
 use Rattle.addr2line_units.specs.declared.frames_lookup.OnFault.TheVariants.{End, PassOver}
 use Rattle.addr2line_units.specs.declared.index.UnitRange.{UnitRange}
-use Rattle.addr2line_units.specs.declared.unit.ResUnit.{ResUnit}
+use Rattle.addr2line_units.specs.declared.unit_frames.UnitCache.{UnitCache}
 use Rattle.addr2line_units.specs.declared.unit_frames.UnitEntries.{UnitEntries}
 use Rattle.addr2line_units.specs.declared.view.ViewState.{ViewState}
 use Rattle.addr2line_units.specs.declared.view.ViewState.TheVariants as states
@@ -86,51 +86,50 @@ known_was_looked_at probe v e = by v.view.state e
 
 -- of a unit that is open and was looked at the view waits
 module _ {R : Type 0} (scope : Scope) (probe : ℕ) where
-  pub waits_there : (us : List UnitRecord) (rs : List ResUnit) (vs : List (UnitEntries R)) (n : ℕ) → HaveEntriesOf scope us vs
-      → frames_of_number scope (indexed_units us rs) (answers_in vs) probe n ≡ Ok None → has_entries_at probe vs n ≡ true → waits_at vs n ≡ true
-  waits_there [] rs vs n own e h = absurd cc
-  waits_there (u ∷ us) [] vs n own e h = absurd cc
-  waits_there (u ∷ us) (r ∷ rs) [] n own e h = absurd own
-  waits_there (u ∷ us) (r ∷ rs) (v ∷ vs) zero own e h =
-      let open_is = open_of_none scope (record { unit = u; language = r.lang }) (first_answer_of v) probe e in
-      looked_waits scope.file.sections u v.view own.0.view (known_was_looked_at probe v h) ∙ open_is
-  waits_there (u ∷ us) (r ∷ rs) (v ∷ vs) (suc n) own e h = waits_there us rs vs n own.1 e h
+  pub waits_there : (us : List UnitRecord) (vs : List (UnitCache R)) (n : ℕ) → HaveEntriesOf scope us vs
+      → frames_of_number scope (indexed_units us vs) (answers_in vs) probe n ≡ Ok None → has_entries_at probe vs n ≡ true → waits_at vs n ≡ true
+  waits_there [] vs n own e h = absurd cc
+  waits_there (u ∷ us) [] n own e h = absurd cc
+  waits_there (u ∷ us) (v ∷ vs) zero own e h =
+      let open_is = open_of_none scope (record { unit = u; language = v.lines.lang }) (first_answer_of v.entries) probe e in
+      looked_waits scope.file.sections u v.entries.view own.0.view (known_was_looked_at probe v.entries h) ∙ open_is
+  waits_there (u ∷ us) (v ∷ vs) (suc n) own e h = waits_there us vs n own.1 e h
 
   -- so it is where a lookup waits
-  pub waits_where_told : (faults : OnFault) (us : List UnitRecord) (rs : List ResUnit) (vs : List (UnitEntries R)) (asks_lines : ℕ → Bool) (parsed : List Bool) (ranges : List UnitRange) (n : ℕ) → HaveEntriesOf scope us vs
-      → holds_along (has_frames_at asks_lines probe parsed vs) (asked_frames faults scope (indexed_units us rs) (answers_in vs) probe) ranges ≡ true
-      → stop_along (asked_frames faults scope (indexed_units us rs) (answers_in vs) probe) ranges ≡ Ok (Waits n) → waits_at vs n ≡ true
-  waits_where_told faults us rs vs asks_lines parsed ranges n own h w =
-      let t = told_along (has_frames_at asks_lines probe parsed vs) (asked_frames faults scope (indexed_units us rs) (answers_in vs) probe) n ranges h w in
-      waits_there us rs vs n own (told_by_unit faults (frames_of_number scope (indexed_units us rs) (answers_in vs) probe n) t.0)
+  pub waits_where_told : (faults : OnFault) (us : List UnitRecord) (vs : List (UnitCache R)) (asks_lines : ℕ → Bool) (ranges : List UnitRange) (n : ℕ) → HaveEntriesOf scope us vs
+      → holds_along (has_frames_at asks_lines probe vs) (asked_frames faults scope (indexed_units us vs) (answers_in vs) probe) ranges ≡ true
+      → stop_along (asked_frames faults scope (indexed_units us vs) (answers_in vs) probe) ranges ≡ Ok (Waits n) → waits_at vs n ≡ true
+  waits_where_told faults us vs asks_lines ranges n own h w =
+      let t = told_along (has_frames_at asks_lines probe vs) (asked_frames faults scope (indexed_units us vs) (answers_in vs) probe) n ranges h w in
+      waits_there us vs n own (told_by_unit faults (frames_of_number scope (indexed_units us vs) (answers_in vs) probe n) t.0)
       (and_first (has_entries_at probe vs n) _ t.1)
 
 -- beside each unit stands its view
-pub views_of_entries : {R : Type 0} (scope : Scope) (us : List UnitRecord) (vs : List (UnitEntries R)) → HaveEntriesOf scope us vs → HaveViewsOf scope.file.sections us vs
+pub views_of_entries : {R : Type 0} (scope : Scope) (us : List UnitRecord) (vs : List (UnitCache R)) → HaveEntriesOf scope us vs → HaveViewsOf scope.file.sections us vs
 views_of_entries scope [] [] h = tt
 views_of_entries scope [] (v ∷ vs) h = absurd h
 views_of_entries scope (u ∷ us) [] h = absurd h
 views_of_entries scope (u ∷ us) (v ∷ vs) h = (h.0.view, views_of_entries scope us vs h.1)
 
 -- the number of a unit that waits is one of a unit
-pub waits_within : {R : Type 0} (vs : List (UnitEntries R)) (n : ℕ) → waits_at vs n ≡ true → n < length vs
+pub waits_within : {R : Type 0} (vs : List (UnitCache R)) (n : ℕ) → waits_at vs n ≡ true → n < length vs
 waits_within [] n h = absurd cc
 waits_within (v ∷ vs) zero h = omega arith
 waits_within (v ∷ vs) (suc n) h = let k = waits_within vs n h in omega (arith, k)
 
-pub as_many_views : {R : Type 0} (d : Sections) (us : List UnitRecord) (vs : List (UnitEntries R)) → HaveViewsOf d us vs → length us ≡ length vs
+pub as_many_views : {R : Type 0} (d : Sections) (us : List UnitRecord) (vs : List (UnitCache R)) → HaveViewsOf d us vs → length us ≡ length vs
 as_many_views d [] [] h = refl
 as_many_views d [] (v ∷ vs) h = absurd h
 as_many_views d (u ∷ us) [] h = absurd h
 as_many_views d (u ∷ us) (v ∷ vs) h = ap suc (as_many_views d us vs h.1)
 
 -- the view of a unit that waits
-pub waiting_view : {R : Type 0} (d : Sections) (us : List UnitRecord) (vs : List (UnitEntries R)) (n : ℕ) (u : UnitRecord) (v : UnitEntries R) → HaveViewsOf d us vs → waits_at vs n ≡ true
-    → u ≡ get_or us n u → v ≡ get_or vs n v → IsViewOf d u v.view × (waits v.view.state ≡ true)
+pub waiting_view : {R : Type 0} (d : Sections) (us : List UnitRecord) (vs : List (UnitCache R)) (n : ℕ) (u : UnitRecord) (v : UnitCache R) → HaveViewsOf d us vs → waits_at vs n ≡ true
+    → u ≡ get_or us n u → v ≡ get_or vs n v → IsViewOf d u v.entries.view × (waits v.entries.view.state ≡ true)
 waiting_view d us [] n u v own w e f = absurd cc
 waiting_view d [] (y ∷ vs) n u v own w e f = absurd own
 waiting_view {R} d (x ∷ us) (y ∷ vs) zero u v own w e f =
-    (subst (λ z. IsViewOf d u z.view) (sym f) (subst (λ z. IsViewOf {R = R} d z y.view) (sym e) own.0), ap (λ z. waits z.view.state) f ∙ w)
+    (subst (λ (z : UnitCache R). IsViewOf d u z.entries.view) (sym f) (subst (λ z. IsViewOf {R = R} d z y.entries.view) (sym e) own.0), ap (λ (z : UnitCache R). waits z.entries.view.state) f ∙ w)
 waiting_view d (x ∷ us) (y ∷ vs) (suc n) u v own w e f = waiting_view d us vs n u v own.1 w e f
 
 -- what holds of the unit of a number, where a call answers

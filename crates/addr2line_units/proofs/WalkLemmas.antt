@@ -5,23 +5,8 @@ use Rattle.gimli.specs.Sections.{Sections}
 use Rattle.gimli.specs.Unit.{UnitRecord}
 use Rattle.addr2line_lines.specs.References.{FileRecord, Scope}
 use Rattle.addr2line_units.specs.declared.index.UnitRange.{UnitRange}
-use Rattle.addr2line_units.specs.declared.unit.ResUnit.{ResUnit}
-use Rattle.addr2line_units.specs.declared.unit_frames.UnitEntries.{UnitEntries}
-use Rattle.addr2line_units.specs.CachedLines.{StayUnits, indexed_units}
 use Rattle.addr2line_units.specs.FramesLookup.{LookupAsks}
-use Rattle.addr2line_units.specs.CachedUnits.{StayAllEntries, answers_in}
-use Rattle.addr2line_units.specs.RangedUnits.{IndexedUnit}
 use Rattle.addr2line_units.specs.UnitFrames.{FramesResult}
-use Rattle.addr2line_units.proofs.CachedUnitLemmas.{same_answers}
-use Rattle.addr2line_units.proofs.UnitsLemmas.{stay_indexed}
-use Rattle.addr2line_units.specs.Views.{FirstAnswers}
-
--- what is said of units and answers that stayed is so of those at the start
-pub at_first : {R : Type 0} (us : List UnitRecord) (rs ss : List ResUnit) (vs ws : List (UnitEntries R)) (P : List IndexedUnit → FirstAnswers → Type 0) → StayUnits rs ss → StayAllEntries vs ws
-    → P (indexed_units us ss) (answers_in ws) → P (indexed_units us rs) (answers_in vs)
-at_first us rs ss vs ws P a b h =
-    subst (λ xs. P (indexed_units us rs) xs) (same_answers vs ws b)
-    (subst (λ xs. P xs (answers_in ws)) (stay_indexed us rs ss a) h)
 
 -- the unit of the first range is asked
 pub asked_first : (frames : ℕ → FramesResult) (r : UnitRange) (rest ranges all : List UnitRange) → ranges ≡ r ∷ rest → ((n : ℕ) → LookupAsks frames ranges n → LookupAsks frames all n)

@@ -1,14 +1,17 @@
 -- What a lookup comes to in one unit after another, as the private functions see it.
-use Rattle.std.specs.Prelude.{◌≡◌, ℕ, Bool, true, false, unwrap_or, Result, Ok}
+use Rattle.std.specs.Prelude.{◌≡◌, ◌+◌, ◌<◌, ◌≤◌, ℕ, Bool, true, false, slice_get, Option, unwrap_or, Result, Ok}
 use Rattle.gimli_read.specs.declared.error.Error.{Error}
+use Rattle.gimli_read.specs.Alike.{WasNotRefused}
 use Rattle.gimli_read.specs.Reading.{◌>>=◌}
 use Rattle.addr2line_units.specs.declared.frames_lookup.OnFault.{OnFault}
 use Rattle.addr2line_units.specs.declared.frames_lookup.FramesStop.{FramesStop}
 use Rattle.addr2line_units.specs.declared.frames_lookup.FramesStop.TheVariants as stops
 use Rattle.addr2line_units.specs.declared.unit_frames.UnitFrames.{UnitFrames}
-use Rattle.addr2line_units.specs.AfterUnits.{AfterAsking}
+use Rattle.addr2line_units.specs.AfterUnits.{AfterAsking, AfterLines}
 use Rattle.addr2line_units.specs.CachedFrames.{stop_of_found}
 use Rattle.addr2line_units.specs.FramesLookup.{Finds, FindsNothing, Stop, Waits, or_stop}
+use Rattle.addr2line_units.specs.Located.{is_found, looks_in}
+use Rattle.addr2line_units.specs.Parsed.{has_parsed, parses_no_memory}
 use Rattle.addr2line_units.specs.UnitsState.{UnitsState, asked_by, has_all_at, has_few_at}
 
 -- what a lookup comes to in the unit of a number alone
@@ -24,6 +27,26 @@ has_stopped FindsNothing = false
 -- the same by what was found
 abbrev pub found_stop : ℕ → UnitFrames → FramesStop
 found_stop n found = unwrap_or (stop_of_found n found) stops.FindsNothing
+
+-- after the row of an address was asked for in the lines of the unit of a number
+pub record AfterRowAt {X : Type 0} (number : ℕ) (result : Result (Option X) Error)
+    (old new : UnitsState) : Type 0 where
+  pub lines : AfterLines (λ n. n ≡ number) old new
+  pub ready : WasNotRefused result → has_parsed new.parsed number ≡ true
+  pub memory : has_parsed new.parsed number ≡ true → WasNotRefused result
+  pub raised : old.looks ≤ new.looks
+  pub counted : is_found result ≡ true → old.looks < new.looks
+  pub cost : new.looks ≤ old.looks
+      + looks_in old.scope.file.sections (slice_get old.units number)
+
+-- after the lines of the unit of a number were parsed, or after OutOfMemory, where they aren't, and
+-- take memory, over readers that share their bytes or don't
+pub record AfterCachingAt {X : Type 0} (shares : Bool) (number : ℕ) (result : Result X Error)
+    (old new : UnitsState) : Type 0 where
+  pub lines : AfterLines (λ n. n ≡ number) old new
+  pub looks : new.looks ≡ old.looks
+  pub ready : WasNotRefused result → has_parsed new.parsed number ≡ true
+  pub memory : parses_no_memory shares old.units new.parsed number ≡ true → WasNotRefused result
 
 -- after the unit of a number was asked
 abbrev pub AfterAsk : {X : Type 0} → ℕ → ℕ → Result X Error → UnitsState → UnitsState → Type 0

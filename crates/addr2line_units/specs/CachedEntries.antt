@@ -12,7 +12,7 @@ use Rattle.addr2line_lines.specs.References.{Scope}
 use Rattle.addr2line_units.specs.declared.functions.LazyFunctions.{LazyFunctions}
 use Rattle.addr2line_units.specs.declared.unit.LazyLines.{LazyLines}
 use Rattle.addr2line_units.specs.declared.unit.LazyLines.TheVariants as lines
-use Rattle.addr2line_units.specs.declared.unit.ResUnit.{ResUnit}
+use Rattle.addr2line_units.specs.declared.unit.UnitLines.{UnitLines}
 use Rattle.addr2line_units.specs.declared.unit_frames.UnitEntries.{UnitEntries}
 use Rattle.addr2line_units.specs.declared.unit_frames.UnitFrames.{UnitFrames}
 use Rattle.addr2line_units.specs.declared.unit_frames.UnitFrames.TheVariants as found
@@ -76,7 +76,7 @@ pub record ReadsEntriesOf {R : Type 0} (probe : ℕ) (old new : UnitEntries R) :
   pub kept : has_entries probe old ≡ true → new ≡ old
 
 -- the frames of the function of a place and the row of an address, by what is cached
-abbrev pub frames_of_place : {R : Type 0} → ResUnit → UnitEntries R → UnitFrames
+abbrev pub frames_of_place : {R : Type 0} → UnitLines → UnitEntries R → UnitFrames
     → Option (List FrameRecord)
 frames_of_place u v found.Open = None
 frames_of_place u v (found.Here function row) =
@@ -92,7 +92,7 @@ AreRead _ = ⊥
 
 -- the places of a function and its inlined ones are among those that are cached, and the lines are
 -- read
-abbrev pub AreFramesIn : {R : Type 0} → ResUnit → UnitEntries R → UnitFrames → Type 0
+abbrev pub AreFramesIn : {R : Type 0} → UnitLines → UnitEntries R → UnitFrames → Type 0
 AreFramesIn u v found.Open = Unit {0}
 AreFramesIn u v (found.Here function row) =
     IfSome function (ArePlacesIn (cached_functions v.functions)) × AreRead u.lines
@@ -100,7 +100,7 @@ AreFramesIn u v (found.Here function row) =
 -- a lookup of the probe takes no memory in a unit with this first answer: what it asks for is known
 -- by what is cached, or reading it takes none, and at most 16 inlined functions stand there
 pub record AsksNoMemoryIn {R : Type 0} (shares : Bool) (scope : Scope) (dw_unit : UnitRecord)
-    (answer : Option (Option Sections)) (probe : ℕ) (u : ResUnit) (v : UnitEntries R)
+    (answer : Option (Option Sections)) (probe : ℕ) (u : UnitLines) (v : UnitEntries R)
     : Type 0 where
   pub functions : functions_in_take_memory shares scope dw_unit answer ≡ true
       → has_entries probe v ≡ true

@@ -10,11 +10,10 @@ use Rattle.addr2line_units.specs.declared.frames_lookup.OnFault.TheVariants.{Pas
 use Rattle.addr2line_units.specs.declared.frames_lookup.FramePlace.{FramePlace}
 use Rattle.addr2line_units.specs.declared.frames_lookup.FramesStop.{FramesStop}
 use Rattle.addr2line_units.specs.declared.frames_lookup.FramesStop.TheVariants as stops
-use Rattle.addr2line_units.specs.declared.unit.ResUnit.{ResUnit}
-use Rattle.addr2line_units.specs.declared.unit_frames.UnitEntries.{UnitEntries}
+use Rattle.addr2line_units.specs.declared.unit_frames.UnitCache.{UnitCache}
 use Rattle.addr2line_units.specs.declared.unit_frames.UnitFrames.{UnitFrames}
 use Rattle.addr2line_units.specs.declared.unit_frames.UnitFrames.TheVariants as found
-use Rattle.addr2line_units.specs.CachedLines.{cached_files, lines_at}
+use Rattle.addr2line_units.specs.CachedLines.{cached_files, lines_at, parsed_units}
 use Rattle.addr2line_units.specs.Frames.{FrameRecord, found_frames}
 use Rattle.addr2line_units.specs.FramesLookup.{Stop, Waits, Finds, FindsNothing}
 use Rattle.addr2line_units.specs.CachedFunctions.{ArePlacesIn, function_of_place, cached_functions, no_functions}
@@ -23,75 +22,72 @@ use Rattle.addr2line_units.specs.CachedEntries.{AreRead}
 use Rattle.addr2line_units.specs.CachedUnits.{decided_at, has_entries_at, waits_at}
 
 -- the functions that are cached of the unit of a number, none where there is no such unit
-abbrev pub functions_at : {R : Type 0} → List (UnitEntries R) → ℕ → FunctionTable
-functions_at views n = elim (slice_get views n)
-    [ None ↦ no_functions | Some v ↦ cached_functions v.functions ]
+abbrev pub functions_at : {R : Type 0} → List (UnitCache R) → ℕ → FunctionTable
+functions_at caches n = elim (slice_get caches n)
+    [ None ↦ no_functions | Some c ↦ cached_functions c.entries.functions ]
 
 -- the language of the unit of a number
-abbrev pub language_at : List ResUnit → ℕ → Option DwLang
-language_at units n = elim (slice_get units n) [ None ↦ None | Some u ↦ u.lang ]
+abbrev pub language_at : {R : Type 0} → List (UnitCache R) → ℕ → Option DwLang
+language_at caches n = elim (slice_get caches n) [ None ↦ None | Some c ↦ c.lines.lang ]
 
 -- the frames of a place, by what is cached
-abbrev pub frames_at_place : {R : Type 0} → List ResUnit → List (UnitEntries R) → FramePlace
-    → List FrameRecord
-frames_at_place units views p =
-    found_frames (cached_files (lines_at units p.unit)) (language_at units p.unit)
-    (option_map (function_of_place (functions_at views p.unit)) p.function)
-    (option_map (location_of_row (cached_files (lines_at units p.unit))) p.row)
+abbrev pub frames_at_place : {R : Type 0} → List (UnitCache R) → FramePlace → List FrameRecord
+frames_at_place caches p =
+    found_frames (cached_files (lines_at caches p.unit)) (language_at caches p.unit)
+    (option_map (function_of_place (functions_at caches p.unit)) p.function)
+    (option_map (location_of_row (cached_files (lines_at caches p.unit))) p.row)
 
 -- the number of the unit of a place
 abbrev pub unit_of_place : FramePlace → ℕ
 unit_of_place p = p.unit
 
 -- what a lookup comes to, by what is cached
-abbrev pub seen_stop : {R : Type 0} → List ResUnit → List (UnitEntries R) → FramesStop → Stop
-seen_stop units views (stops.Waits n) = Waits n
-seen_stop units views (stops.Finds p) = Finds p.unit (frames_at_place units views p)
-seen_stop units views stops.FindsNothing = FindsNothing
+abbrev pub seen_stop : {R : Type 0} → List (UnitCache R) → FramesStop → Stop
+seen_stop caches (stops.Waits n) = Waits n
+seen_stop caches (stops.Finds p) = Finds p.unit (frames_at_place caches p)
+seen_stop caches stops.FindsNothing = FindsNothing
 
 -- the places of a function and its inlined ones are among those that are cached of the unit, whose
 -- lines are read
-pub record IsFramePlaceIn {R : Type 0} (units : List ResUnit) (views : List (UnitEntries R))
-    (p : FramePlace) : Type 0 where
-  pub unit : p.unit < length units
-  pub function : IfSome p.function (ArePlacesIn (functions_at views p.unit))
-  pub lines : AreRead (lines_at units p.unit)
+pub record IsFramePlaceIn {R : Type 0} (caches : List (UnitCache R)) (p : FramePlace)
+    : Type 0 where
+  pub unit : p.unit < length caches
+  pub function : IfSome p.function (ArePlacesIn (functions_at caches p.unit))
+  pub lines : AreRead (lines_at caches p.unit)
 
 -- the same of what a lookup comes to
-abbrev pub IsStopIn : {R : Type 0} → List ResUnit → List (UnitEntries R) → FramesStop → Type 0
-IsStopIn units views (stops.Finds p) = IsFramePlaceIn units views p
-IsStopIn units views _ = Unit {0}
+abbrev pub IsStopIn : {R : Type 0} → List (UnitCache R) → FramesStop → Type 0
+IsStopIn caches (stops.Finds p) = IsFramePlaceIn caches p
+IsStopIn caches _ = Unit {0}
 
 -- what a lookup comes to can be lent: the unit waits that it waits for, or the places of what it
 -- has found are among what is cached, and the view of their unit is known
-abbrev pub IsLendable : {R : Type 0} → List ResUnit → List (UnitEntries R) → FramesStop → Type 0
-IsLendable units views (stops.Waits n) = waits_at views n ≡ true
-IsLendable units views (stops.Finds p) =
-    IsFramePlaceIn units views p × (decided_at views p.unit ≡ true)
-IsLendable units views stops.FindsNothing = Unit {0}
+abbrev pub IsLendable : {R : Type 0} → List (UnitCache R) → FramesStop → Type 0
+IsLendable caches (stops.Waits n) = waits_at caches n ≡ true
+IsLendable caches (stops.Finds p) =
+    IsFramePlaceIn caches p × (decided_at caches p.unit ≡ true)
+IsLendable caches stops.FindsNothing = Unit {0}
 
 -- whether what the unit of a number has at the probe is known by what is cached of its entries, and
 -- its lines too if they are asked for
-abbrev pub has_frames_at : {R : Type 0} → (ℕ → Bool) → ℕ → List Bool → List (UnitEntries R) → ℕ
-    → Bool
-has_frames_at asks_lines probe parsed views n =
-    has_entries_at probe views n && (not (asks_lines n) || has_parsed parsed n)
+abbrev pub has_frames_at : {R : Type 0} → (ℕ → Bool) → ℕ → List (UnitCache R) → ℕ → Bool
+has_frames_at asks_lines probe caches n =
+    has_entries_at probe caches n && (not (asks_lines n) || has_parsed (parsed_units caches) n)
 
 -- what the unit of a number has at an address, by what is cached
-abbrev pub frames_found_at : {R : Type 0} → List ResUnit → List (UnitEntries R) → ℕ → UnitFrames
+abbrev pub frames_found_at : {R : Type 0} → List (UnitCache R) → ℕ → UnitFrames
     → Option (List FrameRecord)
-frames_found_at units views n found.Open = None
-frames_found_at units views n (found.Here function row) = Some (frames_at_place units views
+frames_found_at caches n found.Open = None
+frames_found_at caches n (found.Here function row) = Some (frames_at_place caches
     (record { unit = n; function = function; row = row }))
 
 -- the places that were found are among what is cached of the unit, as far as something was found
-abbrev pub AreFoundAt : {R : Type 0} → List ResUnit → List (UnitEntries R) → ℕ → UnitFrames
-    → Type 0
-AreFoundAt units views n (found.Here (Some function) row) = IsFramePlaceIn units views
+abbrev pub AreFoundAt : {R : Type 0} → List (UnitCache R) → ℕ → UnitFrames → Type 0
+AreFoundAt caches n (found.Here (Some function) row) = IsFramePlaceIn caches
     (record { unit = n; function = Some function; row = row })
-AreFoundAt units views n (found.Here None (Some row)) = IsFramePlaceIn units views
+AreFoundAt caches n (found.Here None (Some row)) = IsFramePlaceIn caches
     (record { unit = n; function = None; row = Some row })
-AreFoundAt units views n _ = Unit {0}
+AreFoundAt caches n _ = Unit {0}
 
 -- a fault as it is, or nothing in its place where a lookup passes over it
 abbrev pub found_after_fault : OnFault → Result UnitFrames Error → Result UnitFrames Error

@@ -5,7 +5,7 @@ use Rattle.addr2line_lines.specs.Details.{Detail}
 use Rattle.addr2line_lines.specs.FunctionTable.{CachedFunction, FunctionTable}
 use Rattle.addr2line_units.specs.declared.functions.LazyFunctions.{LazyFunctions}
 use Rattle.addr2line_units.specs.declared.functions.LazyFunctions.TheVariants as lazy
-use Rattle.addr2line_units.specs.declared.unit_frames.UnitEntries.{UnitEntries}
+use Rattle.addr2line_units.specs.declared.unit_frames.UnitCache.{UnitCache}
 use Rattle.addr2line_units.specs.declared.view.ViewState.{ViewState}
 use Rattle.addr2line_units.specs.declared.view.ViewState.TheVariants as states
 use Rattle.addr2line_units.specs.CachedFunctions.{is_cached_fault, no_functions}
@@ -50,5 +50,5 @@ known_by (states.Unnamed e) functions = known_fault e
 known_by (states.Answered a) functions = known_answer a.unit functions
 
 -- the entries of each unit
-abbrev pub known_in : {R : Type 0} → List (UnitEntries R) → List KnownEntries
-known_in views = map (λ v. known_by v.view.state v.functions) views
+abbrev pub known_in : {R : Type 0} → List (UnitCache R) → List KnownEntries
+known_in caches = map (λ c. known_by c.entries.view.state c.entries.functions) caches

@@ -18,7 +18,8 @@ use Rattle.addr2line_lines.specs.UnitLines.{unit_lines}
 use Rattle.addr2line_units.specs.declared.unit_row.UnitRow.{UnitRow}
 use Rattle.addr2line_units.specs.declared.unit.LazyLines.{LazyLines}
 use Rattle.addr2line_units.specs.declared.unit.LazyLines.TheVariants.{Unread, Absent, Read, Faulty}
-use Rattle.addr2line_units.specs.declared.unit.ResUnit.{ResUnit}
+use Rattle.addr2line_units.specs.declared.unit.UnitLines.{UnitLines}
+use Rattle.addr2line_units.specs.declared.unit_frames.UnitCache.{UnitCache}
 use Rattle.addr2line_units.specs.RangedUnits.{IndexedUnit}
 use Rattle.addr2line_units.specs.Located.{all_read}
 
@@ -95,49 +96,54 @@ cached_spans range low high (Read lines) =
 cached_spans range low high (Faulty e) = Err e ∷ []
 
 -- a unit and its language
-abbrev pub indexed_unit : UnitRecord → ResUnit → IndexedUnit
+abbrev pub indexed_unit : UnitRecord → UnitLines → IndexedUnit
 indexed_unit dw_unit u = record { unit = dw_unit; language = u.lang }
 
 -- whether the lines of a unit are parsed
-abbrev pub is_parsed : ResUnit → Bool
+abbrev pub is_parsed : UnitLines → Bool
 is_parsed u = not (is_uncached u.lines)
 
 -- the lines of a unit that was just read are not parsed, unless it has no line program
-pub record IsUnparsed (d : Sections) (dw_unit : UnitRecord) (u : ResUnit) : Type 0 where
+pub record IsUnparsed (d : Sections) (dw_unit : UnitRecord) (u : UnitLines) : Type 0 where
   pub uncached : is_uncached u.lines ≡ is_some dw_unit.line_program
   pub lines : AreLinesOf d dw_unit u.lines
 
--- the units and their languages, which stand side by side in two lists
-abbrev pub indexed_units : List UnitRecord → List ResUnit → List IndexedUnit
-indexed_units [] units = []
+-- the units and their languages, which are cached beside them
+abbrev pub indexed_units : {R : Type 0} → List UnitRecord → List (UnitCache R) → List IndexedUnit
+indexed_units [] caches = []
 indexed_units (d ∷ dw_units) [] = []
-indexed_units (d ∷ dw_units) (u ∷ units) = indexed_unit d u ∷ indexed_units dw_units units
+indexed_units (d ∷ dw_units) (c ∷ caches) =
+    indexed_unit d c.lines ∷ indexed_units dw_units caches
 
 -- of which units the lines are parsed
-abbrev pub parsed_units : List ResUnit → List Bool
-parsed_units units = map is_parsed units
+abbrev pub parsed_units : {R : Type 0} → List (UnitCache R) → List Bool
+parsed_units caches = map (λ c. is_parsed c.lines) caches
 
 -- beside each unit stand cached lines, which are its own
-abbrev pub HaveLinesOf : Sections → List UnitRecord → List ResUnit → Type 0
-HaveLinesOf d dw_units units = AllZip (λ x u. AreLinesOf d x u.lines) dw_units units
+abbrev pub HaveLinesOf : {R : Type 0} → Sections → List UnitRecord → List (UnitCache R) → Type 0
+HaveLinesOf d dw_units caches = AllZip (λ x c. AreLinesOf d x c.lines.lines) dw_units caches
 
 -- the lines of a unit, as they are cached
-abbrev pub lines_in_cache : Option ResUnit → LazyLines
+abbrev pub lines_in_cache : {R : Type 0} → Option (UnitCache R) → LazyLines
 lines_in_cache None = Unread
-lines_in_cache (Some u) = u.lines
+lines_in_cache (Some c) = c.lines.lines
 
 -- the lines of a unit by its number, as they are cached
-abbrev pub lines_at : List ResUnit → ℕ → LazyLines
-lines_at units n = lines_in_cache (slice_get units n)
+abbrev pub lines_at : {R : Type 0} → List (UnitCache R) → ℕ → LazyLines
+lines_at caches n = lines_in_cache (slice_get caches n)
 
 -- the language of a unit stays, and so do its cached lines or their fault
-pub record StaysUnit (old new : ResUnit) : Type 0 where
+pub record StaysUnit (old new : UnitLines) : Type 0 where
   pub language : new.lang ≡ old.lang
   pub lines : LinesStayCached old.lines new.lines
 
 -- the same of each unit
-abbrev pub StayUnits : List ResUnit → List ResUnit → Type 0
-StayUnits old new = AllZip StaysUnit old new
+abbrev pub StayUnits : {R : Type 0} → List (UnitCache R) → List (UnitCache R) → Type 0
+StayUnits old new = AllZip (λ a b. StaysUnit a.lines b.lines) old new
+
+-- what is cached of the entries of each unit is the same
+abbrev pub HaveSameEntries : {R : Type 0} → List (UnitCache R) → List (UnitCache R) → Type 0
+HaveSameEntries old new = AllZip (λ a b. b.entries ≡ a.entries) old new
 
 -- the fault of the lines of a unit, if there is such a unit and they have one
 abbrev pub lines_result_at : Sections → Option IndexedUnit → Result (Unit {0}) Error
@@ -149,6 +155,6 @@ abbrev pub unit_row : ℕ → Row → UnitRow
 unit_row n row = record { unit = n; row = row }
 
 -- the location of a row in the lines of a unit
-abbrev pub location_of_unit_row : List ResUnit → UnitRow → Location
-location_of_unit_row units found =
-    location_of_row (cached_files (lines_at units found.unit)) found.row
+abbrev pub location_of_unit_row : {R : Type 0} → List (UnitCache R) → UnitRow → Location
+location_of_unit_row caches found =
+    location_of_row (cached_files (lines_at caches found.unit)) found.row

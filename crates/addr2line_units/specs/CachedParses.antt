@@ -9,6 +9,7 @@ use Rattle.addr2line_units.specs.declared.functions.LazyFunctions.{LazyFunctions
 use Rattle.addr2line_units.specs.declared.functions.LazyFunctions.TheVariants as lazy
 use Rattle.addr2line_units.specs.declared.parses.ReadingDepth.{ReadingDepth}
 use Rattle.addr2line_units.specs.declared.parses.ReadingDepth.TheVariants as reads
+use Rattle.addr2line_units.specs.declared.unit_frames.UnitCache.{UnitCache}
 use Rattle.addr2line_units.specs.declared.unit_frames.UnitEntries.{UnitEntries}
 use Rattle.addr2line_units.specs.declared.view.ViewState.{ViewState}
 use Rattle.addr2line_units.specs.declared.view.ViewState.TheVariants as states
@@ -38,8 +39,8 @@ pub record HasRead {R : Type 0} (reads : ReadingDepth) (v : UnitEntries R) : Typ
   pub functions : HaveFunctions reads v.functions
 
 -- the same of each unit
-abbrev pub HaveRead : {R : Type 0} → ReadingDepth → List (UnitEntries R) → Type 0
-HaveRead reads views = AllByRecursion (HasRead reads) views
+abbrev pub HaveRead : {R : Type 0} → ReadingDepth → List (UnitCache R) → Type 0
+HaveRead reads caches = AllByRecursion (λ c. HasRead reads c.entries) caches
 
 -- the view of a unit is known, or its fault, and what is read of it, up to the first fault
 pub record IsReadyUnit {R : Type 0} (reads : ReadingDepth) (v : UnitEntries R) : Type 0 where
@@ -48,22 +49,23 @@ pub record IsReadyUnit {R : Type 0} (reads : ReadingDepth) (v : UnitEntries R) :
 
 -- the same of each unit before which all can be read
 abbrev pub AreReadyUnits : {R : Type 0} → ReadingDepth → Scope → List UnitRecord
-    → FirstAnswers → List (UnitEntries R) → Type 0
-AreReadyUnits reads scope us answers views = (n : ℕ) → AreReadBefore reads scope us answers n
-    → IfSome (slice_get views n) (IsReadyUnit reads)
+    → FirstAnswers → List (UnitCache R) → Type 0
+AreReadyUnits reads scope us answers caches = (n : ℕ) → AreReadBefore reads scope us answers n
+    → IfSome (slice_get caches n) (λ c. IsReadyUnit reads c.entries)
 
 -- the view of each unit is known, or its fault
-abbrev pub AreDecided : {R : Type 0} → List (UnitEntries R) → Type 0
-AreDecided views = AllByRecursion (λ v. is_decided v.view.state ≡ true) views
+abbrev pub AreDecided : {R : Type 0} → List (UnitCache R) → Type 0
+AreDecided caches = AllByRecursion (λ c. is_decided c.entries.view.state ≡ true) caches
 
 -- what is cached of each unit that was decided stays
-abbrev pub StayDecided : {R : Type 0} → List (UnitEntries R) → List (UnitEntries R) → Type 0
+abbrev pub StayDecided : {R : Type 0} → List (UnitCache R) → List (UnitCache R) → Type 0
 StayDecided [] [] = Unit {0}
-StayDecided (v ∷ vs) (w ∷ ws) =
-    (is_decided v.view.state ≡ true → StayEntries v w) × StayDecided vs ws
+StayDecided (a ∷ old) (b ∷ new) =
+    (is_decided a.entries.view.state ≡ true → StayEntries a.entries b.entries)
+    × StayDecided old new
 StayDecided _ _ = ⊥
 
 -- what is cached of a unit stays as it is, but of those that are asked for
-abbrev pub ChangesOnly : {R : Type 0} → (ℕ → Type 0) → List (UnitEntries R)
-    → List (UnitEntries R) → Type 0
+abbrev pub ChangesOnly : {R : Type 0} → (ℕ → Type 0) → List (UnitCache R)
+    → List (UnitCache R) → Type 0
 ChangesOnly IsAsked old new = (n : ℕ) → (slice_get new n ≡ slice_get old n) ⊎ IsAsked n

@@ -11,7 +11,7 @@ use Rattle.gimli.specs.Unit.{UnitRecord}
 use Rattle.gimli.specs.UnitsLeft.{all_headers}
 use Rattle.addr2line_units.specs.declared.aranges.UnitArange.{UnitArange}
 use Rattle.addr2line_units.specs.declared.index.UnitRange.{UnitRange}
-use Rattle.addr2line_units.specs.declared.unit.ResUnit.{ResUnit}
+use Rattle.addr2line_units.specs.declared.unit.UnitLines.{UnitLines}
 use Rattle.addr2line_units.specs.declared.units.Index.{Index}
 use Rattle.addr2line_units.specs.declared.units.IndexedUnits.{IndexedUnits}
 use Rattle.addr2line_units.specs.CachedLines.{indexed_unit, indexed_units, parsed_units}
@@ -103,21 +103,21 @@ index_takes_memory shares d =
 -- what was read so far
 abbrev pub index_seen : {R : Type 0} → Index R → IndexState
 index_seen i = record {
-  units = indexed_units i.dw_units.items i.units.items;
+  units = indexed_units i.dw_units.items i.caches.items;
   ranges = i.ranges.items;
-  parsed = parsed_units i.units.items;
+  parsed = parsed_units i.caches.items;
 }
 
 -- the units of a file and their ranges
 abbrev pub units_seen : {R : Type 0} → IndexedUnits R → IndexState
 units_seen u = record {
-  units = indexed_units u.dw_units.items u.units.items;
+  units = indexed_units u.dw_units.items u.caches.items;
   ranges = u.ranges;
-  parsed = parsed_units u.units.items;
+  parsed = parsed_units u.caches.items;
 }
 
 -- a unit and the ranges that are given for it
-abbrev pub ranged_seen : UnitRecord → ResUnit → List Range → RangedUnit
+abbrev pub ranged_seen : UnitRecord → UnitLines → List Range → RangedUnit
 ranged_seen dw_unit u given = record { indexed = indexed_unit dw_unit u; given = given }
 
 -- whether memory may be taken for units of a supplementary file, type units too

@@ -11,4 +11,4 @@ use Rattle.addr2line_units.specs.UnitRangesLeft.{ranges_left}
 abbrev pub locations_left : {R : Type 0} → LocationRangeIter R → List (Result LocatedSpan Error)
 locations_left i =
     unit_rows_left (option_map located_rows_left i.rows)
-    ++ cached_along i.units.now.items i.low i.high (ranges_left i.ranges)
+    ++ cached_along i.caches.now.items i.low i.high (ranges_left i.ranges)

@@ -5,7 +5,7 @@ use Rattle.std.specs.Prelude.{◌≡◌, ℕ, List, [], ◌∷◌, flat_map, Opt
 use Rattle.gimli_read.specs.declared.error.Error.{Error}
 use Rattle.addr2line_lines.specs.RangeLocations.{LocatedSpan}
 use Rattle.addr2line_units.specs.declared.index.UnitRange.{UnitRange}
-use Rattle.addr2line_units.specs.declared.unit.ResUnit.{ResUnit}
+use Rattle.addr2line_units.specs.declared.unit_frames.UnitCache.{UnitCache}
 use Rattle.addr2line_units.specs.CachedLines.{cached_spans, lines_at}
 use Rattle.addr2line_units.specs.Located.{all_read}
 
@@ -35,7 +35,7 @@ rows_or_fault (Ok rows) = unit_rows_left rows
 rows_or_fault (Err e) = Err e ∷ []
 
 -- what cached lines have in the ranges that are left
-abbrev pub cached_along : List ResUnit → ℕ → ℕ → List UnitRange
+abbrev pub cached_along : {R : Type 0} → List (UnitCache R) → ℕ → ℕ → List UnitRange
     → List (Result LocatedSpan Error)
-cached_along units low high ranges =
-    flat_map (λ (r : UnitRange). cached_spans r.range low high (lines_at units r.unit)) ranges
+cached_along caches low high ranges =
+    flat_map (λ (r : UnitRange). cached_spans r.range low high (lines_at caches r.unit)) ranges

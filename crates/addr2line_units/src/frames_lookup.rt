@@ -11,7 +11,7 @@ ghost use Rattle.addr2line_units.specs.UnitsState.{IsFaultAt, asked_by, asks_no_
 
 use crate::functions::FunctionPlace;
 use crate::range_iter::UnitRangeIter;
-use crate::unit_frames::{UnitFrames, find_frames_in};
+use crate::unit_frames::{UnitCache, UnitFrames, find_frames_in};
 use crate::units::Units;
 use addr2line_lines::Row;
 use gimli::read::{Error, Reader};
@@ -75,7 +75,7 @@ fn stop_at(number: usize, found: UnitFrames) -> FramesStop
 
 impl<R: Reader> Units<R> {
     // Forgets what the last lookup has come to.
-    fn reset(&mut self)
+    pub(crate) fn reset(&mut self)
         ensures gives { self.new ≡ record self.old { stop = FindsNothing } }
     {
         self.stop = FramesStop::FindsNothing;
@@ -102,10 +102,10 @@ impl<R: Reader> Units<R> {
         let Some(dw_unit) = scope.file.units.get(number) else {
             return Ok(());
         };
-        let unit = &mut self.units[number];
-        let entries = &mut self.entries[number];
+        let cache = &mut self.caches[number];
+        let UnitCache { lines, entries } = cache;
         let looks = &mut self.looks;
-        let found = find_frames_in(self.alloc, scope, dw_unit, unit, entries, looks, probe);
+        let found = find_frames_in(self.alloc, scope, dw_unit, lines, entries, looks, probe);
         let found = after_fault(found, faults)?;
         self.stop = stop_at(number, found);
         Ok(())

@@ -9,7 +9,7 @@ ghost use Rattle.addr2line_lines.specs.SeenScope.{seen_scope};
 ghost use Rattle.addr2line_units.specs.AnswerMemory.{answer_takes_memory};
 ghost use Rattle.addr2line_units.specs.AfterUnits.{AfterForget, AfterListing, AfterLoad};
 ghost use Rattle.addr2line_units.specs.CachedEntries.{AreEntriesOf, StayEntries, first_answer_of};
-ghost use Rattle.addr2line_units.specs.CachedUnits.{HaveEntriesOf, StayAllEntries, answers_in, decided_at};
+ghost use Rattle.addr2line_units.specs.CachedUnits.{HaveEntriesOf, HaveSameLines, StayAllEntries, answers_in, decided_at};
 ghost use Rattle.addr2line_units.specs.CachedKnown.{known_by, known_in};
 ghost use Rattle.addr2line_units.specs.CachedViews.{is_decided};
 ghost use Rattle.addr2line_units.specs.KnownEntries.{HasNoFunctions, LearnsNoFunctions};
@@ -22,7 +22,7 @@ ghost use Rattle.addr2line_units.specs.SeenUnit.{scope_in};
 use crate::frames_lookup::FramesStop;
 use crate::range_iter::UnitRangeIter;
 use crate::sup::SupUnits;
-use crate::unit_frames::UnitEntries;
+use crate::unit_frames::{UnitCache, UnitEntries};
 use crate::units::Units;
 use crate::view::{SplitDwarfLoad, UnitToken};
 use addr2line_lines::{FileUnits, Scope};
@@ -70,9 +70,9 @@ impl<R: Reader> Units<R> {
         let Some(dw_unit) = scope.file.units.get(token.number) else {
             return Err(Error::UnknownToken);
         };
-        let entries = &mut self.entries[token.number];
-        entries.answer(self.alloc, scope, dw_unit, sections)?;
-        entries.check_view(scope, dw_unit)
+        let cache = &mut self.caches[token.number];
+        cache.entries.answer(self.alloc, scope, dw_unit, sections)?;
+        cache.entries.check_view(scope, dw_unit)
     }
 
     /// Takes the answer to the load of a unit back, if there is one, with what was read of its
@@ -88,8 +88,8 @@ impl<R: Reader> Units<R> {
         let Some(dw_unit) = scope.file.units.get(token.number) else {
             return Err(Error::UnknownToken);
         };
-        let entries = &mut self.entries[token.number];
-        entries.forget(scope, dw_unit);
+        let cache = &mut self.caches[token.number];
+        cache.entries.forget(scope, dw_unit);
         Ok(())
     }
 }
@@ -159,25 +159,26 @@ fn new_load_at<R: Reader>(
     dwarf: &Rc<Dwarf<R>>,
     dw_units: &[Unit<R>],
     sup: &SupUnits<R>,
-    entries: &mut Vec<UnitEntries<R>>,
+    caches: &mut Vec<UnitCache<R>>,
     marks: &mut Vec<bool>,
     number: usize,
 ) -> Result<Option<SplitDwarfLoad<R>>, Error>
     requires right { HaveEntriesOf (scope_in dwarf.now.value dw_units.now sup.now) dw_units.now
-        entries.old.items }
+        caches.old.items }
     ensures gives { IfOk result (λ load. load ≡ if_new marks.old.items
-        (load_of_number dwarf.now.value dw_units.now (answers_in entries.old.items) number)) }
+        (load_of_number dwarf.now.value dw_units.now (answers_in caches.old.items) number)) }
     ensures marked { OnOk result (MarksLoad
-        (load_of_number dwarf.now.value dw_units.now (answers_in entries.old.items) number)
+        (load_of_number dwarf.now.value dw_units.now (answers_in caches.old.items) number)
         marks.old.items marks.new.items) }
-    ensures decided { decided_at entries.old.items number ≡ true → result ≡ Ok None }
-    ensures not_open { is_open_at dwarf.now.value dw_units.now (answers_in entries.old.items) number
+    ensures decided { decided_at caches.old.items number ≡ true → result ≡ Ok None }
+    ensures not_open { is_open_at dwarf.now.value dw_units.now (answers_in caches.old.items) number
         ≡ false → result ≡ Ok None }
     ensures refused { IfErr result (λ e. e ≡ OutOfMemory) }
     ensures right { HaveEntriesOf (scope_in dwarf.now.value dw_units.now sup.now) dw_units.now
-        entries.new.items }
-    ensures stay { StayAllEntries entries.old.items entries.new.items }
-    ensures functions { LearnsNoFunctions (known_in entries.old.items) (known_in entries.new.items) }
+        caches.new.items }
+    ensures lines { HaveSameLines caches.old.items caches.new.items }
+    ensures stay { StayAllEntries caches.old.items caches.new.items }
+    ensures functions { LearnsNoFunctions (known_in caches.old.items) (known_in caches.new.items) }
 {
     let Some(dw_unit) = dw_units.get(number) else {
         return Ok(None);
@@ -189,8 +190,8 @@ fn new_load_at<R: Reader>(
         },
         sup: sup.file(),
     };
-    let entries = &mut entries[number];
-    entries.new_load(dwarf, scope, dw_unit, marks, number)
+    let cache = &mut caches[number];
+    cache.entries.new_load(dwarf, scope, dw_unit, marks, number)
 }
 
 // Adds a load, if there is one. Refused `OutOfMemory` alone, and only where there is one.
@@ -217,28 +218,29 @@ fn read_loads<R: Reader>(
     dwarf: &Rc<Dwarf<R>>,
     dw_units: &[Unit<R>],
     sup: &SupUnits<R>,
-    entries: &mut Vec<UnitEntries<R>>,
+    caches: &mut Vec<UnitCache<R>>,
     mut ranges: UnitRangeIter<'_>,
 ) -> Result<Vec<SplitDwarfLoad<R>>, Error>
     requires right { HaveEntriesOf (scope_in dwarf.now.value dw_units.now sup.now) dw_units.now
-        entries.old.items }
+        caches.old.items }
     ensures gives { IfOk result (λ loads. loads.items ≡ loads_along
-        (load_of_number dwarf.now.value dw_units.now (answers_in entries.old.items))
+        (load_of_number dwarf.now.value dw_units.now (answers_in caches.old.items))
         (ranges_left ranges.entry)) }
     ensures refused { IfErr result (λ e. e ≡ OutOfMemory) }
-    ensures memory { AllByRecursion (λ r. decided_at entries.old.items r.unit ≡ true)
+    ensures memory { AllByRecursion (λ r. decided_at caches.old.items r.unit ≡ true)
         (ranges_left ranges.entry) → IsOk result }
-    ensures none_open { NoneOpen dwarf.now.value dw_units.now (answers_in entries.old.items)
+    ensures none_open { NoneOpen dwarf.now.value dw_units.now (answers_in caches.old.items)
         (ranges_left ranges.entry) → IsOk result }
     ensures right { HaveEntriesOf (scope_in dwarf.now.value dw_units.now sup.now) dw_units.now
-        entries.new.items }
-    ensures stay { StayAllEntries entries.old.items entries.new.items }
-    ensures functions { LearnsNoFunctions (known_in entries.old.items) (known_in entries.new.items) }
+        caches.new.items }
+    ensures lines { HaveSameLines caches.old.items caches.new.items }
+    ensures stay { StayAllEntries caches.old.items caches.new.items }
+    ensures functions { LearnsNoFunctions (known_in caches.old.items) (known_in caches.new.items) }
 {
     let mut loads = Vec::new(alloc);
     let mut marks = Vec::new(alloc);
     while let Some(range) = ranges.next() {
-        let load = new_load_at(dwarf, dw_units, sup, entries, &mut marks, range.unit)?;
+        let load = new_load_at(dwarf, dw_units, sup, caches, &mut marks, range.unit)?;
         push_if(&mut loads, load)?;
     }
     Ok(loads)
@@ -264,7 +266,7 @@ impl<R: Reader> Units<R> {
             &self.sources.dwarf,
             &self.sources.units,
             &self.sources.sup,
-            &mut self.entries,
+            &mut self.caches,
             ranges,
         )
     }

@@ -1,235 +1,28 @@
 //! Lookups of addresses among units, by their lines.
 
-ghost use Rattle.std.specs.Prelude.{◌≡◌, ◌+◌, ◌<◌, ◌≤◌, false, true, Err, IfErr, IfOk, IfSome, OnOk, Ok, option_map, slice_get};
+ghost use Rattle.std.specs.Prelude.{◌≡◌, false, true, Err, IfErr, IfOk, IfSome, Ok, length, option_map, slice_get};
 ghost use Rattle.gimli_read.specs.declared.error.Error.TheVariants.{OutOfMemory};
-ghost use Rattle.gimli_read.specs.Alike.{WasNotRefused};
-ghost use Rattle.gimli_read.specs.Reading.{Exactly, ExactlyUnlessOom, IsUnlessOom, fault_of};
+ghost use Rattle.gimli_read.specs.Reading.{ExactlyUnlessOom, IsUnlessOom, fault_of};
 ghost use Rattle.addr2line_lines.specs.Location.{location_of_row};
 ghost use Rattle.addr2line_lines.specs.SeenLocation.{seen_location};
 ghost use Rattle.addr2line_units.specs.AskMemory.{lines_of_take_memory};
+ghost use Rattle.addr2line_units.specs.AskedUnits.{AfterCachingAt, AfterRowAt};
 ghost use Rattle.addr2line_units.specs.AfterUnits.{AfterCaching, AfterLineParse, AfterRow};
-ghost use Rattle.addr2line_units.specs.CachedLines.{HaveLinesOf, StayUnits, cached_files, indexed_units, lines_result_at, location_of_unit_row, parsed_units, unit_row};
-ghost use Rattle.addr2line_units.specs.Located.{all_lines, along, is_found, location_in, looks_along, looks_in, spans_along};
+ghost use Rattle.addr2line_units.specs.CachedLines.{cached_files, lines_result_at, unit_row};
+ghost use Rattle.addr2line_units.specs.Located.{all_lines, along, location_in, spans_along};
 ghost use Rattle.addr2line_units.specs.LocationsLeft.{locations_left};
-ghost use Rattle.addr2line_units.specs.Parsed.{AllAskFor, AreAllParsed, AreParsed, AreReadyForAll, AsksFor, LeadTo, ParsesOnly, TakeNone, TakeNoneForAll, has_parsed, parses_no_memory, ready_along, takes_none_along};
+ghost use Rattle.addr2line_units.specs.Parsed.{AreParsed, has_parsed, takes_none_along};
 ghost use Rattle.addr2line_units.specs.UnitRangesLeft.{ranges_left};
 ghost use Rattle.addr2line_units.specs.UnitsState.{row_location};
 
 use crate::frames_lookup::FramesStop;
 use crate::range::LocationRangeIter;
 use crate::range_iter::UnitRangeIter;
-use crate::unit::{LazyLines, ResUnit};
+use crate::unit::LazyLines;
 use crate::unit_row::UnitRow;
 use crate::units::Units;
-use addr2line_lines::{Count, Location, Row};
+use addr2line_lines::{Location, Row};
 use gimli::read::{Error, Reader};
-use gimli::{Dwarf, Unit};
-use std::alloc::Global;
-
-// The row of an address in the lines of a unit, which are cached then, or their fault; none where
-// there is no unit of that number.
-fn find_row_in<R: Reader>(
-    alloc: Global,
-    dwarf: &Dwarf<R>,
-    dw_units: &[Unit<R>],
-    units: &mut Vec<ResUnit>,
-    number: usize,
-    looks: &mut Count,
-    probe: u64,
-) -> Result<Option<Row>, Error>
-    requires read { HaveLinesOf dwarf.now dw_units.now units.old.items }
-    ensures gives { ExactlyUnlessOom (option_map (λ row. location_of_unit_row units.new.items
-        (unit_row number row))) result (location_in dwarf.now probe
-        (slice_get (indexed_units dw_units.now units.old.items) number)) }
-    ensures exact { has_parsed (parsed_units units.old.items) number ≡ true → Exactly
-        (option_map (λ row. location_of_unit_row units.new.items (unit_row number row))) result
-        (location_in dwarf.now probe
-        (slice_get (indexed_units dw_units.now units.old.items) number)) }
-    ensures parsed { WasNotRefused result
-        → has_parsed (parsed_units units.new.items) number ≡ true }
-    ensures memory { has_parsed (parsed_units units.new.items) number ≡ true
-        → WasNotRefused result }
-    ensures no_memory { lines_of_take_memory R.shares
-        (indexed_units dw_units.now units.old.items) number ≡ false → IfErr result (λ e.
-        location_in dwarf.now probe (slice_get (indexed_units dw_units.now units.old.items) number)
-        ≡ Err e) }
-    ensures only { ParsesOnly (λ n. n ≡ number)
-        (parsed_units units.old.items) (parsed_units units.new.items) }
-    ensures stay { StayUnits units.old.items units.new.items }
-    ensures read { HaveLinesOf dwarf.now dw_units.now units.new.items }
-    ensures cost { looks.new ≤ looks.old + looks_in dwarf.now
-        (slice_get (indexed_units dw_units.now units.old.items) number) }
-    ensures raised { looks.old ≤ looks.new }
-    ensures counted { is_found result ≡ true → looks.old < looks.new }
-{
-    if number >= units.len() {
-        return Ok(None);
-    }
-    let unit = &mut units[number];
-    unit.find_row(alloc, dwarf, &dw_units[number], looks, probe)
-}
-
-// The place of an address in the first unit along ranges that has one. The lines of each unit up
-// to it are cached then, or their fault, which ends the search, and no others.
-pub(crate) fn find_place_along<R: Reader>(
-    alloc: Global,
-    dwarf: &Dwarf<R>,
-    dw_units: &[Unit<R>],
-    units: &mut Vec<ResUnit>,
-    mut ranges: UnitRangeIter<'_>,
-    looks: &mut Count,
-    probe: u64,
-) -> Result<Option<UnitRow>, Error>
-    requires read { HaveLinesOf dwarf.now dw_units.now units.old.items }
-    ensures gives { ExactlyUnlessOom (option_map (location_of_unit_row units.new.items)) result
-        (along dwarf.now (indexed_units dw_units.now units.old.items) probe
-        (ranges_left ranges.entry)) }
-    ensures exact { ready_along dwarf.now (indexed_units dw_units.now units.old.items)
-        (parsed_units units.old.items) probe (ranges_left ranges.entry) ≡ true → Exactly
-        (option_map (location_of_unit_row units.new.items)) result
-        (along dwarf.now (indexed_units dw_units.now units.old.items) probe
-        (ranges_left ranges.entry)) }
-    ensures ready { WasNotRefused result → ready_along dwarf.now
-        (indexed_units dw_units.now units.old.items) (parsed_units units.new.items) probe
-        (ranges_left ranges.entry) ≡ true }
-    ensures memory { ready_along dwarf.now (indexed_units dw_units.now units.old.items)
-        (parsed_units units.new.items) probe (ranges_left ranges.entry) ≡ true
-        → WasNotRefused result }
-    ensures no_memory { takes_none_along R.shares dwarf.now
-        (indexed_units dw_units.now units.old.items) (parsed_units units.new.items) probe
-        (ranges_left ranges.entry) ≡ true → IfErr result (λ e. along dwarf.now
-        (indexed_units dw_units.now units.old.items) probe (ranges_left ranges.entry) ≡ Err e) }
-    ensures only { ParsesOnly (AsksFor dwarf.now (indexed_units dw_units.now units.old.items) probe
-        (ranges_left ranges.entry))
-        (parsed_units units.old.items) (parsed_units units.new.items) }
-    ensures stay { StayUnits units.old.items units.new.items }
-    ensures read { HaveLinesOf dwarf.now dw_units.now units.new.items }
-    ensures cost { looks.new ≤ looks.old + looks_along dwarf.now
-        (indexed_units dw_units.now units.old.items) (ranges_left ranges.entry) }
-    ensures raised { looks.old ≤ looks.new }
-    ensures counted { is_found result ≡ true → looks.old < looks.new }
-    ensures found { IfOk result (λ place. IfSome place (λ p.
-        has_parsed (parsed_units units.new.items) p.unit ≡ true)) }
-{
-    while let Some(range) = ranges.next() {
-        if let Some(row) = find_row_in(alloc, dwarf, dw_units, units, range.unit, looks, probe)? {
-            return Ok(Some(UnitRow {
-                unit: range.unit,
-                row,
-            }));
-        }
-    }
-    Ok(None)
-}
-
-// Caches the lines of a unit, or their fault; there may be no unit of that number. Refused
-// `OutOfMemory` alone.
-fn cache_lines_in<R: Reader>(
-    alloc: Global,
-    dwarf: &Dwarf<R>,
-    dw_units: &[Unit<R>],
-    units: &mut Vec<ResUnit>,
-    number: usize,
-) -> Result<(), Error>
-    requires read { HaveLinesOf dwarf.now dw_units.now units.old.items }
-    ensures parsed { OnOk result (has_parsed (parsed_units units.new.items) number ≡ true) }
-    ensures memory { parses_no_memory R.shares (indexed_units dw_units.now units.old.items)
-        (parsed_units units.new.items) number ≡ true → WasNotRefused result }
-    ensures only { ParsesOnly (λ n. n ≡ number)
-        (parsed_units units.old.items) (parsed_units units.new.items) }
-    ensures refused { IfErr result (λ e. e ≡ OutOfMemory) }
-    ensures stay { StayUnits units.old.items units.new.items }
-    ensures read { HaveLinesOf dwarf.now dw_units.now units.new.items }
-{
-    if number >= units.len() {
-        return Ok(());
-    }
-    let unit = &mut units[number];
-    unit.cache_lines(alloc, dwarf, &dw_units[number])
-}
-
-// Caches the lines of the units that ranges lead to, or their faults, and no others. Refused
-// `OutOfMemory` alone.
-pub(crate) fn cache_lines_along<R: Reader>(
-    alloc: Global,
-    dwarf: &Dwarf<R>,
-    dw_units: &[Unit<R>],
-    units: &mut Vec<ResUnit>,
-    mut ranges: UnitRangeIter<'_>,
-) -> Result<(), Error>
-    requires read { HaveLinesOf dwarf.now dw_units.now units.old.items }
-    ensures parsed { OnOk result
-        (AreParsed (parsed_units units.new.items) (ranges_left ranges.entry)) }
-    ensures memory { TakeNone R.shares (indexed_units dw_units.now units.old.items)
-        (parsed_units units.new.items) (ranges_left ranges.entry) → WasNotRefused result }
-    ensures only { ParsesOnly (LeadTo (ranges_left ranges.entry))
-        (parsed_units units.old.items) (parsed_units units.new.items) }
-    ensures refused { IfErr result (λ e. e ≡ OutOfMemory) }
-    ensures stay { StayUnits units.old.items units.new.items }
-    ensures read { HaveLinesOf dwarf.now dw_units.now units.new.items }
-{
-    while let Some(range) = ranges.next() {
-        cache_lines_in(alloc, dwarf, dw_units, units, range.unit)?;
-    }
-    Ok(())
-}
-
-// Reads the lines of a unit, unless they are cached, and caches them, or their fault.
-fn read_lines_in<R: Reader>(
-    alloc: Global,
-    dwarf: &Dwarf<R>,
-    dw_units: &[Unit<R>],
-    units: &mut Vec<ResUnit>,
-    number: usize,
-) -> Result<(), Error>
-    requires read { HaveLinesOf dwarf.now dw_units.now units.old.items }
-    ensures gives { IsUnlessOom result
-        (lines_result_at dwarf.now
-        (slice_get (indexed_units dw_units.now units.old.items) number)) }
-    ensures parsed { WasNotRefused result
-        → has_parsed (parsed_units units.new.items) number ≡ true }
-    ensures memory { parses_no_memory R.shares (indexed_units dw_units.now units.old.items)
-        (parsed_units units.new.items) number ≡ true → WasNotRefused result }
-    ensures only { ParsesOnly (λ n. n ≡ number)
-        (parsed_units units.old.items) (parsed_units units.new.items) }
-    ensures stay { StayUnits units.old.items units.new.items }
-    ensures read { HaveLinesOf dwarf.now dw_units.now units.new.items }
-{
-    if number >= units.len() {
-        return Ok(());
-    }
-    let unit = &mut units[number];
-    unit.read_lines(alloc, dwarf, &dw_units[number])
-}
-
-// Reads the lines of all units in their order, unless they are cached, and caches them; the first
-// fault is cached too, and ends it.
-pub(crate) fn read_all_lines<R: Reader>(
-    alloc: Global,
-    dwarf: &Dwarf<R>,
-    dw_units: &[Unit<R>],
-    units: &mut Vec<ResUnit>,
-) -> Result<(), Error>
-    requires read { HaveLinesOf dwarf.now dw_units.now units.old.items }
-    ensures gives { IsUnlessOom result
-        (fault_of (all_lines dwarf.now (indexed_units dw_units.now units.old.items))) }
-    ensures ready { WasNotRefused result → AreReadyForAll dwarf.now
-        (indexed_units dw_units.now units.old.items) (parsed_units units.new.items) }
-    ensures memory { TakeNoneForAll R.shares dwarf.now
-        (indexed_units dw_units.now units.old.items) (parsed_units units.new.items)
-        → WasNotRefused result }
-    ensures parsed { OnOk result (AreAllParsed (parsed_units units.new.items)) }
-    ensures only { ParsesOnly (AllAskFor dwarf.now (indexed_units dw_units.now units.old.items))
-        (parsed_units units.old.items) (parsed_units units.new.items) }
-    ensures stay { StayUnits units.old.items units.new.items }
-    ensures read { HaveLinesOf dwarf.now dw_units.now units.new.items }
-{
-    let count = units.len();
-    for number in 0..count {
-        read_lines_in(alloc, dwarf, dw_units, units, number)?;
-    }
-    Ok(())
-}
 
 // The location of a row in cached lines.
 pub(crate) fn location_of(lines: &LazyLines, row: Row) -> Location<'_>
@@ -244,6 +37,75 @@ pub(crate) fn location_of(lines: &LazyLines, row: Row) -> Location<'_>
 }
 
 impl<R: Reader> Units<R> {
+    // How many units there are.
+    fn len(&self) -> usize
+        ensures units { result ≡ length self.now.units }
+        ensures parsed { result ≡ length self.now.parsed }
+    {
+        self.caches.len()
+    }
+
+    // The row of an address in the lines of the unit of a number, which are cached then, or their
+    // fault; none where there is no such unit.
+    fn find_row_in(&mut self, number: usize, probe: u64) -> Result<Option<Row>, Error>
+        ensures gives { ExactlyUnlessOom
+            (option_map (λ row. row_location self.old (unit_row number row))) result
+            (location_in self.old.scope.file.sections probe (slice_get self.old.units number)) }
+        ensures after { AfterRowAt number result self.old self.new }
+        ensures no_memory { lines_of_take_memory R.shares self.old.units number ≡ false
+            → IfErr result (λ e. location_in self.old.scope.file.sections probe
+            (slice_get self.old.units number) ≡ Err e) }
+    {
+        self.stop = FramesStop::FindsNothing;
+        let scope = self.sources.scope();
+        let Some(dw_unit) = scope.file.units.get(number) else {
+            return Ok(None);
+        };
+        let cache = &mut self.caches[number];
+        cache.lines.find_row(
+            self.alloc,
+            scope.file.dwarf,
+            dw_unit,
+            &mut self.looks,
+            probe,
+        )
+    }
+
+    // Caches the lines of the unit of a number, or their fault, if there is such a unit. Refused
+    // `OutOfMemory` alone.
+    fn cache_lines_in(&mut self, number: usize) -> Result<(), Error>
+        ensures after { AfterCachingAt R.shares number result self.old self.new }
+        ensures refused { IfErr result (λ e. e ≡ OutOfMemory) }
+    {
+        self.stop = FramesStop::FindsNothing;
+        let scope = self.sources.scope();
+        let Some(dw_unit) = scope.file.units.get(number) else {
+            return Ok(());
+        };
+        let cache = &mut self.caches[number];
+        cache
+            .lines
+            .cache_lines(self.alloc, scope.file.dwarf, dw_unit)
+    }
+
+    // Reads the lines of the unit of a number, unless they are cached, and caches them, or their
+    // fault.
+    fn read_lines_in(&mut self, number: usize) -> Result<(), Error>
+        ensures gives { IsUnlessOom result (lines_result_at self.old.scope.file.sections
+            (slice_get self.old.units number)) }
+        ensures after { AfterCachingAt R.shares number result self.old self.new }
+    {
+        self.stop = FramesStop::FindsNothing;
+        let scope = self.sources.scope();
+        let Some(dw_unit) = scope.file.units.get(number) else {
+            return Ok(());
+        };
+        let cache = &mut self.caches[number];
+        cache
+            .lines
+            .read_lines(self.alloc, scope.file.dwarf, dw_unit)
+    }
+
     /// The row of an address in the first unit along ranges which has one. The lines of each unit
     /// up to it are parsed then, unless they are, and stay parsed, their fault too; no other lines
     /// are parsed.
@@ -253,7 +115,7 @@ impl<R: Reader> Units<R> {
     /// `Lines::parse` has it.
     pub fn find_row(
         &mut self,
-        ranges: UnitRangeIter<'_>,
+        mut ranges: UnitRangeIter<'_>,
         probe: u64,
     ) -> Result<Option<UnitRow>, Error>
         ensures gives { ExactlyUnlessOom (option_map (row_location self.old)) result
@@ -266,16 +128,16 @@ impl<R: Reader> Units<R> {
             along self.old.scope.file.sections self.old.units probe (ranges_left ranges.entry)
             ≡ Err e) }
     {
-        self.stop = FramesStop::FindsNothing;
-        find_place_along(
-            self.alloc,
-            &self.sources.dwarf,
-            &self.sources.units,
-            &mut self.units,
-            ranges,
-            &mut self.looks,
-            probe,
-        )
+        self.reset();
+        while let Some(range) = ranges.next() {
+            if let Some(row) = self.find_row_in(range.unit, probe)? {
+                return Ok(Some(UnitRow {
+                    unit: range.unit,
+                    row,
+                }));
+            }
+        }
+        Ok(None)
     }
 
     /// The location of a row of a unit whose lines are parsed. Takes no memory.
@@ -283,8 +145,8 @@ impl<R: Reader> Units<R> {
         requires parsed { has_parsed self.now.parsed place.unit ≡ true }
         ensures gives { seen_location result ≡ row_location self.now place }
     {
-        match self.units.get(place.unit) {
-            Some(unit) => location_of(&unit.lines, place.row),
+        match self.caches.get(place.unit) {
+            Some(cache) => location_of(&cache.lines.lines, place.row),
             None => Location::without_file(place.row),
         }
     }
@@ -294,17 +156,14 @@ impl<R: Reader> Units<R> {
     ///
     /// Refused `OutOfMemory` alone, which is never cached; takes no memory where the lines are
     /// parsed, or take none to read, as `Lines::parse` has it.
-    pub fn cache_lines(&mut self, ranges: UnitRangeIter<'_>) -> Result<(), Error>
+    pub fn cache_lines(&mut self, mut ranges: UnitRangeIter<'_>) -> Result<(), Error>
         ensures after { AfterCaching R.shares (ranges_left ranges.entry) result self.old self.new }
     {
-        self.stop = FramesStop::FindsNothing;
-        cache_lines_along(
-            self.alloc,
-            &self.sources.dwarf,
-            &self.sources.units,
-            &mut self.units,
-            ranges,
-        )
+        self.reset();
+        while let Some(range) = ranges.next() {
+            self.cache_lines_in(range.unit)?;
+        }
+        Ok(())
     }
 
     /// The rows that the addresses from `low` up to `high` meet in ranges of units whose lines are
@@ -319,7 +178,7 @@ impl<R: Reader> Units<R> {
         ensures gives { locations_left result ≡ spans_along self.now.scope.file.sections
             self.now.units low high (ranges_left ranges.entry) }
     {
-        LocationRangeIter::new(&self.units, ranges, low, high)
+        LocationRangeIter::new(&self.caches, ranges, low, high)
     }
 
     /// Parses the lines of all units in their order, unless they are parsed, up to the first fault;
@@ -334,12 +193,11 @@ impl<R: Reader> Units<R> {
             (fault_of (all_lines self.old.scope.file.sections self.old.units)) }
         ensures after { AfterLineParse R.shares result self.old self.new }
     {
-        self.stop = FramesStop::FindsNothing;
-        read_all_lines(
-            self.alloc,
-            &self.sources.dwarf,
-            &self.sources.units,
-            &mut self.units,
-        )
+        self.reset();
+        let count = self.len();
+        for number in 0..count {
+            self.read_lines_in(number)?;
+        }
+        Ok(())
     }
 }

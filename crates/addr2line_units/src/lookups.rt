@@ -22,8 +22,8 @@ use crate::frames_lookup::FramesStop;
 use crate::functions::FunctionPlace;
 use crate::lookup::location_of;
 use crate::sup::SupUnits;
-use crate::unit::{LazyLines, ResUnit};
-use crate::unit_frames::UnitEntries;
+use crate::unit::LazyLines;
+use crate::unit_frames::UnitCache;
 use crate::units::Units;
 use crate::view::SplitDwarfLoad;
 use addr2line_lines::{FileUnits, Row, Scope};
@@ -50,27 +50,34 @@ impl<R: Reader> SupUnits<R> {
 // The frames of the function and the row at an address in a unit, by what is cached. Takes no
 // memory.
 fn frames_in_unit<'ctx, R: Reader>(
-    unit: &'ctx ResUnit,
-    entries: &'ctx UnitEntries<R>,
+    cache: &'ctx UnitCache<R>,
     function: &'ctx Option<FunctionPlace>,
     row: Option<Row>,
 ) -> FrameIter<'ctx, R>
-    requires function { IfSome function.now (ArePlacesIn (cached_functions entries.now.functions)) }
-    requires read { AreRead unit.now.lines }
-    ensures gives { frames_left result ≡ found_frames (cached_files unit.now.lines) unit.now.lang
-        (option_map (function_of_place (cached_functions entries.now.functions)) function.now)
-        (option_map (location_of_row (cached_files unit.now.lines)) row) }
+    requires function { IfSome function.now
+        (ArePlacesIn (cached_functions cache.now.entries.functions)) }
+    requires read { AreRead cache.now.lines.lines }
+    ensures gives { frames_left result
+        ≡ found_frames (cached_files cache.now.lines.lines) cache.now.lines.lang
+        (option_map (function_of_place (cached_functions cache.now.entries.functions)) function.now)
+        (option_map (location_of_row (cached_files cache.now.lines.lines)) row) }
 {
-    let lines = match &unit.lines {
+    let lines = match &cache.lines.lines {
         LazyLines::Read(lines) => Some(&**lines),
         LazyLines::Absent => None,
         LazyLines::Faulty(_) | LazyLines::Unread => return FrameIter::new_empty(),
     };
     let location = match row {
-        Some(row) => Some(location_of(&unit.lines, row)),
+        Some(row) => Some(location_of(&cache.lines.lines, row)),
         None => None,
     };
-    frames_of(&entries.functions, function, lines, unit.lang, location)
+    frames_of(
+        &cache.entries.functions,
+        function,
+        lines,
+        cache.lines.lang,
+        location,
+    )
 }
 
 impl<R: Reader> Units<R> {
@@ -93,7 +100,8 @@ impl<R: Reader> Units<R> {
         ensures refused { IfErr result (λ e. e ≡ OutOfMemory) }
     {
         let dw_unit = &self.sources.units[number];
-        self.entries[number].load(&self.sources.dwarf, dw_unit, number)
+        let cache = &self.caches[number];
+        cache.entries.load(&self.sources.dwarf, dw_unit, number)
     }
 
     /// The frames that the last lookup has found, none where it waits or has found nothing. Takes
@@ -104,8 +112,7 @@ impl<R: Reader> Units<R> {
         let FramesStop::Finds(place) = &self.stop else {
             return FrameIter::new_empty();
         };
-        let unit = &self.units[place.unit];
-        frames_in_unit(unit, &self.entries[place.unit], &place.function, place.row)
+        frames_in_unit(&self.caches[place.unit], &place.function, place.row)
     }
 
     /// The sections and the unit of the view of the unit in which the last lookup has found
@@ -119,8 +126,12 @@ impl<R: Reader> Units<R> {
             return None;
         };
         let dw_unit = &self.sources.units[place.unit];
-        let entries = &self.entries[place.unit];
-        entries.view.unit_ref(&self.sources.dwarf, dw_unit).ok()
+        let cache = &self.caches[place.unit];
+        cache
+            .entries
+            .view
+            .unit_ref(&self.sources.dwarf, dw_unit)
+            .ok()
     }
 
     /// Decides the unit of a number by an answer to its load if it is open, and else leaves it as
@@ -141,7 +152,7 @@ impl<R: Reader> Units<R> {
         let Some(dw_unit) = scope.file.units.get(number) else {
             return Ok(());
         };
-        let entries = &mut self.entries[number];
-        entries.answer(self.alloc, scope, dw_unit, sections)
+        let cache = &mut self.caches[number];
+        cache.entries.answer(self.alloc, scope, dw_unit, sections)
     }
 }

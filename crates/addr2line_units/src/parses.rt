@@ -11,7 +11,7 @@ ghost use Rattle.addr2line_units.specs.FramesLookup.{with_answer};
 ghost use Rattle.addr2line_units.specs.FunctionParses.{AreFirstDecided, AreReadBefore, IsReadyFor, ReadsNoMemory, answers_after_parse, parse_of_takes_memory, parse_takes_memory, read_of_functions, read_of_number, read_of_unit, read_of_units, read_of_view};
 ghost use Rattle.addr2line_units.specs.CachedEntries.{AreEntriesOf, StayEntries, first_answer_of};
 ghost use Rattle.addr2line_units.specs.CachedFunctions.{AreFunctionsOf, ReadsNoDetail, StayFunctions, cached_functions};
-ghost use Rattle.addr2line_units.specs.CachedUnits.{HaveEntriesOf, answers_in};
+ghost use Rattle.addr2line_units.specs.CachedUnits.{HaveEntriesOf, HaveSameLines, answers_in};
 ghost use Rattle.addr2line_units.specs.CachedParses.{AreReadyUnits, ChangesOnly, HasRead, HaveFunctions, HaveRead, IsReadyUnit, StayDecided};
 ghost use Rattle.addr2line_units.specs.CachedViews.{is_decided, seen_first_answer};
 ghost use Rattle.addr2line_units.specs.CachedKnown.{known_by, known_functions, known_in};
@@ -22,7 +22,7 @@ ghost use Rattle.addr2line_units.specs.Views.{decided_answer, verdict};
 
 use crate::frames_lookup::FramesStop;
 use crate::functions::LazyFunctions;
-use crate::unit_frames::UnitEntries;
+use crate::unit_frames::{UnitCache, UnitEntries};
 use crate::units::Units;
 use crate::view::UnitView;
 use addr2line_lines::Scope;
@@ -203,50 +203,52 @@ impl<R: Reader> UnitEntries<R> {
 fn read_functions_in<R: Reader>(
     alloc: Global,
     scope: Scope<'_, R>,
-    entries: &mut Vec<UnitEntries<R>>,
+    caches: &mut Vec<UnitCache<R>>,
     number: usize,
     reads: ReadingDepth,
 ) -> Result<(), Error>
     requires in_order { IsScope (seen_scope scope) }
-    requires right { HaveEntriesOf (seen_scope scope) scope.file.units.now entries.old.items }
-    requires there { number < length entries.old.items }
+    requires right { HaveEntriesOf (seen_scope scope) scope.file.units.now caches.old.items }
+    requires there { number < length caches.old.items }
     ensures gives { IsUnlessOom result (read_of_number reads
-        (seen_scope scope.entry) scope.entry.file.units.now (answers_in entries.old.items)
+        (seen_scope scope.entry) scope.entry.file.units.now (answers_in caches.old.items)
         number) }
     ensures right { HaveEntriesOf (seen_scope scope.entry) scope.entry.file.units.now
-        entries.new.items }
-    ensures answers { WasNotRefused result → answers_in entries.new.items
+        caches.new.items }
+    ensures answers { WasNotRefused result → answers_in caches.new.items
         ≡ with_answer scope.entry.file.dwarf.now scope.entry.file.units.now
-        (answers_in entries.old.items) number None }
-    ensures memory_answers { (answers_in entries.new.items ≡ answers_in entries.old.items)
-        ⊎ (answers_in entries.new.items ≡ with_answer scope.entry.file.dwarf.now
-        scope.entry.file.units.now (answers_in entries.old.items) number None) }
-    ensures stay { StayDecided entries.old.items entries.new.items }
-    ensures only { ChangesOnly (λ n. n ≡ number) entries.old.items entries.new.items }
-    ensures read { OnOk result (IfSome (slice_get entries.new.items number) (HasRead reads)) }
-    ensures memory { IfSome (slice_get entries.old.items number) (HasRead reads)
+        (answers_in caches.old.items) number None }
+    ensures memory_answers { (answers_in caches.new.items ≡ answers_in caches.old.items)
+        ⊎ (answers_in caches.new.items ≡ with_answer scope.entry.file.dwarf.now
+        scope.entry.file.units.now (answers_in caches.old.items) number None) }
+    ensures lines { HaveSameLines caches.old.items caches.new.items }
+    ensures stay { StayDecided caches.old.items caches.new.items }
+    ensures only { ChangesOnly (λ n. n ≡ number) caches.old.items caches.new.items }
+    ensures read { OnOk result (IfSome (slice_get caches.new.items number)
+        (λ c. HasRead reads c.entries)) }
+    ensures memory { IfSome (slice_get caches.old.items number) (λ c. HasRead reads c.entries)
         → result ≡ Ok tt }
     ensures ready_for_all { WasNotRefused result
-        → IfSome (slice_get entries.new.items number) (IsReadyUnit reads) }
-    ensures had_memory { IfSome (slice_get entries.new.items number) (IsReadyUnit reads)
+        → IfSome (slice_get caches.new.items number) (λ c. IsReadyUnit reads c.entries) }
+    ensures had_memory { IfSome (slice_get caches.new.items number) (λ c. IsReadyUnit reads c.entries)
         → WasNotRefused result }
     ensures no_memory { parse_of_takes_memory R.shares (seen_scope scope.entry)
-        scope.entry.file.units.now (answers_in entries.new.items) number ≡ false
+        scope.entry.file.units.now (answers_in caches.new.items) number ≡ false
         → IfErr result (λ e. read_of_number reads (seen_scope scope.entry)
-        scope.entry.file.units.now (answers_in entries.old.items) number ≡ Err e) }
-    ensures exact { IfSome (slice_get entries.old.items number) (IsReadyUnit reads)
+        scope.entry.file.units.now (answers_in caches.old.items) number ≡ Err e) }
+    ensures exact { IfSome (slice_get caches.old.items number) (λ c. IsReadyUnit reads c.entries)
         → result ≡ read_of_number reads (seen_scope scope.entry) scope.entry.file.units.now
-        (answers_in entries.old.items) number }
-    ensures same { IfSome (slice_get entries.old.items number) (IsReadyUnit reads)
-        → entries.new.items ≡ entries.old.items }
+        (answers_in caches.old.items) number }
+    ensures same { IfSome (slice_get caches.old.items number) (λ c. IsReadyUnit reads c.entries)
+        → caches.new.items ≡ caches.old.items }
     ensures details { reads ≡ Functions
-        → LearnsNoDetails (known_in entries.old.items) (known_in entries.new.items) }
+        → LearnsNoDetails (known_in caches.old.items) (known_in caches.new.items) }
 {
     let Some(dw_unit) = scope.file.units.get(number) else {
         return Ok(());
     };
-    let entries = &mut entries[number];
-    entries.read(alloc, scope, dw_unit, reads)
+    let cache = &mut caches[number];
+    cache.entries.read(alloc, scope, dw_unit, reads)
 }
 
 // Reads the functions of all units in their order, up to the first that has a fault, as
@@ -254,49 +256,50 @@ fn read_functions_in<R: Reader>(
 fn read_all_functions<R: Reader>(
     alloc: Global,
     scope: Scope<'_, R>,
-    entries: &mut Vec<UnitEntries<R>>,
+    caches: &mut Vec<UnitCache<R>>,
     reads: ReadingDepth,
 ) -> Result<(), Error>
     requires in_order { IsScope (seen_scope scope) }
-    requires right { HaveEntriesOf (seen_scope scope) scope.file.units.now entries.old.items }
+    requires right { HaveEntriesOf (seen_scope scope) scope.file.units.now caches.old.items }
     ensures gives { IsUnlessOom result (read_of_units reads
-        (seen_scope scope.entry) scope.entry.file.units.now (answers_in entries.old.items)) }
+        (seen_scope scope.entry) scope.entry.file.units.now (answers_in caches.old.items)) }
     ensures right { HaveEntriesOf (seen_scope scope.entry) scope.entry.file.units.now
-        entries.new.items }
-    ensures answers { WasNotRefused result → answers_in entries.new.items
+        caches.new.items }
+    ensures answers { WasNotRefused result → answers_in caches.new.items
         ≡ answers_after_parse reads (seen_scope scope.entry) scope.entry.file.units.now
-        (answers_in entries.old.items) }
+        (answers_in caches.old.items) }
     ensures begun { AreFirstDecided reads (seen_scope scope.entry)
-        scope.entry.file.units.now (answers_in entries.old.items)
-        (answers_in entries.new.items) }
-    ensures stay { StayDecided entries.old.items entries.new.items }
+        scope.entry.file.units.now (answers_in caches.old.items)
+        (answers_in caches.new.items) }
+    ensures lines { HaveSameLines caches.old.items caches.new.items }
+    ensures stay { StayDecided caches.old.items caches.new.items }
     ensures only { ChangesOnly (AreReadBefore reads (seen_scope scope.entry)
-        scope.entry.file.units.now (answers_in entries.old.items))
-        entries.old.items entries.new.items }
-    ensures read { OnOk result (HaveRead reads entries.new.items) }
-    ensures memory { HaveRead reads entries.old.items → result ≡ Ok tt }
+        scope.entry.file.units.now (answers_in caches.old.items))
+        caches.old.items caches.new.items }
+    ensures read { OnOk result (HaveRead reads caches.new.items) }
+    ensures memory { HaveRead reads caches.old.items → result ≡ Ok tt }
     ensures ready_for_all { WasNotRefused result → AreReadyUnits reads (seen_scope scope.entry)
-        scope.entry.file.units.now (answers_in entries.old.items) entries.new.items }
+        scope.entry.file.units.now (answers_in caches.old.items) caches.new.items }
     ensures had_memory { AreReadyUnits reads (seen_scope scope.entry)
-        scope.entry.file.units.now (answers_in entries.new.items) entries.new.items
+        scope.entry.file.units.now (answers_in caches.new.items) caches.new.items
         → WasNotRefused result }
     ensures no_memory { ReadsNoMemory R.shares reads (seen_scope scope.entry)
-        scope.entry.file.units.now (answers_in entries.new.items) (known_in entries.new.items)
+        scope.entry.file.units.now (answers_in caches.new.items) (known_in caches.new.items)
         → IfErr result (λ e. read_of_units reads (seen_scope scope.entry)
-        scope.entry.file.units.now (answers_in entries.old.items) ≡ Err e) }
+        scope.entry.file.units.now (answers_in caches.old.items) ≡ Err e) }
     ensures exact { AreReadyUnits reads (seen_scope scope.entry) scope.entry.file.units.now
-        (answers_in entries.old.items) entries.old.items
+        (answers_in caches.old.items) caches.old.items
         → result ≡ read_of_units reads (seen_scope scope.entry) scope.entry.file.units.now
-        (answers_in entries.old.items) }
+        (answers_in caches.old.items) }
     ensures same { AreReadyUnits reads (seen_scope scope.entry) scope.entry.file.units.now
-        (answers_in entries.old.items) entries.old.items
-        → entries.new.items ≡ entries.old.items }
+        (answers_in caches.old.items) caches.old.items
+        → caches.new.items ≡ caches.old.items }
     ensures details { reads ≡ Functions
-        → LearnsNoDetails (known_in entries.old.items) (known_in entries.new.items) }
+        → LearnsNoDetails (known_in caches.old.items) (known_in caches.new.items) }
 {
-    let count = entries.len();
+    let count = caches.len();
     for number in 0..count {
-        read_functions_in(alloc, scope, entries, number, reads)?;
+        read_functions_in(alloc, scope, caches, number, reads)?;
     }
     Ok(())
 }
@@ -322,6 +325,6 @@ impl<R: Reader> Units<R> {
     {
         self.stop = FramesStop::FindsNothing;
         let scope = self.sources.scope();
-        read_all_functions(self.alloc, scope, &mut self.entries, reads)
+        read_all_functions(self.alloc, scope, &mut self.caches, reads)
     }
 }

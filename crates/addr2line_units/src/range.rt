@@ -10,24 +10,22 @@ ghost use Rattle.addr2line_units.specs.UnitRangesLeft.{ranges_left};
 
 use crate::index::UnitRange;
 use crate::range_iter::UnitRangeIter;
-use crate::unit::{LazyLines, ResUnit};
+use crate::unit::LazyLines;
+use crate::unit_frames::UnitCache;
 use addr2line_lines::{LineLocationRangeIter, Location};
 use gimli::read::{Error, Range, Reader};
-use std::marker::PhantomData;
 
 /// The rows that a range of addresses meets, unit range after unit range.
 // It has no `Model`, so that what a lookup lends is seen to hold nothing but references.
 #[derive(Drop)]
 pub struct LocationRangeIter<'ctx, R: Reader> {
-    units: &'ctx Vec<ResUnit>,
+    caches: &'ctx Vec<UnitCache<R>>,
     // The unit ranges that are left.
     ranges: UnitRangeIter<'ctx>,
     low: u64,
     high: u64,
     // What is left of the unit range before them.
     rows: Option<LineLocationRangeIter<'ctx>>,
-    // It walks over cached lines alone, and has no reader.
-    reader: PhantomData<R>,
 }
 
 // What cached lines have in a unit range.
@@ -48,17 +46,17 @@ fn rows_of<'ctx>(
 }
 
 // What the cached lines of the unit of a number have in a range of it.
-fn rows_in<'ctx>(
-    units: &'ctx Vec<ResUnit>,
+fn rows_in<'ctx, R: Reader>(
+    caches: &'ctx Vec<UnitCache<R>>,
     range: UnitRange,
     low: u64,
     high: u64,
 ) -> Result<Option<LineLocationRangeIter<'ctx>>, Error>
     ensures gives { rows_or_fault (result_map (option_map located_rows_left) result)
-        ≡ cached_spans range.range low high (lines_at units.now.items range.unit) }
+        ≡ cached_spans range.range low high (lines_at caches.now.items range.unit) }
 {
-    match units.get(range.unit) {
-        Some(unit) => rows_of(&unit.lines, range.range, low, high),
+    match caches.get(range.unit) {
+        Some(cache) => rows_of(&cache.lines.lines, range.range, low, high),
         None => Ok(None),
     }
 }
@@ -66,21 +64,20 @@ fn rows_in<'ctx>(
 impl<'ctx, R: Reader> LocationRangeIter<'ctx, R> {
     // What the cached lines of units have in unit ranges. Takes no memory.
     pub(crate) fn new(
-        units: &'ctx Vec<ResUnit>,
+        caches: &'ctx Vec<UnitCache<R>>,
         ranges: UnitRangeIter<'ctx>,
         low: u64,
         high: u64,
     ) -> LocationRangeIter<'ctx, R>
-        ensures gives { locations_left result ≡ cached_along units.now.items low high
+        ensures gives { locations_left result ≡ cached_along caches.now.items low high
             (ranges_left ranges.entry) }
     {
         LocationRangeIter {
-            units,
+            caches,
             ranges,
             low,
             high,
             rows: None,
-            reader: PhantomData,
         }
     }
 
@@ -102,7 +99,7 @@ impl<'ctx, R: Reader> LocationRangeIter<'ctx, R> {
             let Some(range) = self.ranges.next() else {
                 return Ok(None);
             };
-            self.rows = rows_in(self.units, range, self.low, self.high)?;
+            self.rows = rows_in(self.caches, range, self.low, self.high)?;
         }
     }
 }

@@ -1,4 +1,4 @@
-//! A unit of a context, and its lines.
+//! The lines of a unit.
 
 ghost use Rattle.std.specs.Prelude.{◌≡◌, ◌≢◌, ◌+◌, ◌++◌, ◌<◌, ◌≤◌, true, false, not, map, Ok, Err, OnOk, OnErr, IfOk, IfErr, IfSome, IsOk, is_some, length, nat_lt, option_map};
 ghost use Rattle.gimli_read.specs.Reading.{Exactly, ExactlyUnlessOom, ExactlyUnlessOomIf};
@@ -34,10 +34,9 @@ pub enum LazyLines {
     Faulty(Error),
 }
 
-/// What a context has of a unit, beside the unit itself: its language, and its lines, which are
-/// cached when they are first asked for.
+/// The lines of a unit, which are cached when they are first asked for, and its language.
 #[derive(Drop)]
-pub struct ResUnit {
+pub struct UnitLines {
     /// Its language.
     pub lang: Option<DwLang>,
     /// Its lines.
@@ -129,14 +128,14 @@ pub(crate) fn read_ranged_unit<R: Reader>(
     dwarf: &Dwarf<R>,
     aranges: &UnitAranges,
     dw_unit: &Unit<R>,
-) -> Result<(ResUnit, Vec<Range>), Error>
+) -> Result<(UnitLines, Vec<Range>), Error>
     ensures gives { ExactlyUnlessOom (λ x. ranged_seen dw_unit.now x.0 x.1.items) result
         (ranged_unit dwarf.now aranges.now dw_unit.now) }
     ensures unparsed { IfOk result (λ x. IsUnparsed dwarf.now dw_unit.now x.0) }
 {
     let (lang, ranges) = read_given(alloc, UnitRef::new(dwarf, dw_unit), aranges)?;
     let lines = lines_at_first(dw_unit);
-    Ok((ResUnit { lang, lines }, ranges))
+    Ok((UnitLines { lang, lines }, ranges))
 }
 
 // The lines of a unit, or their fault, as they are cached. Refused `OutOfMemory` alone, and only
@@ -213,7 +212,7 @@ fn find_cached_row(lines: &LazyLines, looks: &mut Count, probe: u64) -> Option<R
     }
 }
 
-impl ResUnit {
+impl UnitLines {
     // Caches the lines of the unit, or their fault, unless they are cached. Refused `OutOfMemory`
     // alone, and only where the lines take memory.
     #[tactic(auto, using(crate::proofs::UnitLemmas::cached_before))]

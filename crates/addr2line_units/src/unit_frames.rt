@@ -14,7 +14,7 @@ ghost use Rattle.addr2line_units.specs.UnitFrames.{asks_lines_in, frames_in, fun
 ghost use Rattle.addr2line_units.specs.Views.{is_open};
 
 use crate::functions::{FunctionPlace, LazyFunctions};
-use crate::unit::ResUnit;
+use crate::unit::UnitLines;
 use crate::view::UnitView;
 use addr2line_lines::{Count, Row, Scope};
 use gimli::Unit;
@@ -26,6 +26,13 @@ use std::alloc::Global;
 pub(crate) struct UnitEntries<R: Reader> {
     pub(crate) view: UnitView<R>,
     pub(crate) functions: LazyFunctions<R>,
+}
+
+/// What is cached of a unit: its lines with its language, and its entries.
+#[derive(Drop)]
+pub(crate) struct UnitCache<R: Reader> {
+    pub(crate) lines: UnitLines,
+    pub(crate) entries: UnitEntries<R>,
 }
 
 // What a unit has at an address.
@@ -151,7 +158,7 @@ pub(crate) fn find_frames_in<'x, R: Reader>(
     alloc: Global,
     scope: Scope<'x, R>,
     dw_unit: &'x Unit<R>,
-    unit: &mut ResUnit,
+    unit: &mut UnitLines,
     entries: &mut UnitEntries<R>,
     looks: &mut Count,
     probe: u64,

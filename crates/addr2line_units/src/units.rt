@@ -15,8 +15,8 @@ use crate::aranges::UnitAranges;
 use crate::frames_lookup::FramesStop;
 use crate::index::{UnitRange, UnitRanges};
 use crate::sup::SupUnits;
-use crate::unit::{ResUnit, is_type_unit, read_ranged_unit};
-use crate::unit_frames::UnitEntries;
+use crate::unit::{UnitLines, is_type_unit, read_ranged_unit};
+use crate::unit_frames::{UnitCache, UnitEntries};
 use addr2line_lines::{Count, FileUnits, Scope};
 use gimli::read::{Error, Range, Reader};
 use gimli::{AbbreviationsCache, Dwarf, Unit, UnitHeader};
@@ -38,10 +38,8 @@ pub(crate) struct Sources<R: Reader> {
 pub struct Units<R: Reader> {
     pub(crate) alloc: Global,
     pub(crate) sources: Sources<R>,
-    // The language and the cached lines of each unit, in the order of the units.
-    pub(crate) units: Vec<ResUnit>,
-    // What is cached of the entries of each, in the same order.
-    pub(crate) entries: Vec<UnitEntries<R>>,
+    // What is cached of each unit, in the order of the units.
+    pub(crate) caches: Vec<UnitCache<R>>,
     // What the last lookup of frames or of a unit has come to, from which it is lent.
     pub(crate) stop: FramesStop,
     // How often the lines of units were looked at, for contracts alone: it has no bytes.
@@ -55,18 +53,17 @@ impl<R: Reader> Model for Units<R> {
 
     ghost Value = { UnitsState };
 
-    ghost view = { λ u. seen_units (scope_of u.sources) u.units.items u.entries.items u.looks
-        (seen_stop u.units.items u.entries.items u.stop) };
+    ghost view = { λ u. seen_units (scope_of u.sources) u.caches.items u.looks
+        (seen_stop u.caches.items u.stop) };
 
-    ghost invariant = { λ u. AreUnits (scope_of u.sources) u.units.items u.entries.items u.stop };
+    ghost invariant = { λ u. AreUnits (scope_of u.sources) u.caches.items u.stop };
 }
 
 // The units of a file as they are read, and the ranges that lead to them.
 #[derive(Drop)]
 struct IndexedUnits<R: Reader> {
     dw_units: Vec<Unit<R>>,
-    units: Vec<ResUnit>,
-    entries: Vec<UnitEntries<R>>,
+    caches: Vec<UnitCache<R>>,
     ranges: UnitRanges,
 }
 
@@ -74,8 +71,7 @@ struct IndexedUnits<R: Reader> {
 #[derive(Drop)]
 struct Index<R: Reader> {
     dw_units: Vec<Unit<R>>,
-    units: Vec<ResUnit>,
-    entries: Vec<UnitEntries<R>>,
+    caches: Vec<UnitCache<R>>,
     ranges: Vec<UnitRange>,
 }
 
@@ -87,7 +83,7 @@ fn read_unit<R: Reader>(
     abbreviations: &mut AbbreviationsCache<'_, R>,
     aranges: &UnitAranges,
     header: UnitHeader<R>,
-) -> Result<Option<(Unit<R>, ResUnit, Vec<Range>)>, Error>
+) -> Result<Option<(Unit<R>, UnitLines, Vec<Range>)>, Error>
     requires same { abbreviations.old.dwarf ≡ dwarf.now }
     ensures same { abbreviations.new.dwarf ≡ dwarf.now }
     ensures gives { ExactlyUnlessOomIf (indexed_unit_takes_memory dwarf.now header)
@@ -100,8 +96,8 @@ fn read_unit<R: Reader>(
     }
     match abbreviations.unit(alloc, header) {
         Ok(dw_unit) => {
-            let (unit, given) = read_ranged_unit(alloc, dwarf, aranges, &dw_unit)?;
-            Ok(Some((dw_unit, unit, given)))
+            let (lines, given) = read_ranged_unit(alloc, dwarf, aranges, &dw_unit)?;
+            Ok(Some((dw_unit, lines, given)))
         }
         Err(Error::OutOfMemory) => Err(Error::OutOfMemory),
         Err(_) => Ok(None),
@@ -129,13 +125,11 @@ impl<R: Reader> Index<R> {
     fn new(alloc: Global) -> Index<R>
         ensures none { index_seen result ≡ no_index }
         ensures dw_units { result.dw_units.items ≡ [] }
-        ensures units { result.units.items ≡ [] }
-        ensures fresh { AreFreshOf result.dw_units.items result.entries.items }
+        ensures caches { result.caches.items ≡ [] }
     {
         Index {
             dw_units: Vec::new(alloc),
-            units: Vec::new(alloc),
-            entries: Vec::new(alloc),
+            caches: Vec::new(alloc),
             ranges: Vec::new(alloc),
         }
     }
@@ -146,25 +140,27 @@ impl<R: Reader> Index<R> {
         alloc: Global,
         dwarf: &Dwarf<R>,
         dw_unit: Unit<R>,
-        mut unit: ResUnit,
+        mut lines: UnitLines,
         given: Vec<Range>,
     ) -> Result<(), Error>
-        requires unparsed { IsUnparsed dwarf.now dw_unit unit }
-        requires read { HaveLinesOf dwarf.now self.old.dw_units.items self.old.units.items }
-        requires fresh { AreFreshOf self.old.dw_units.items self.old.entries.items }
+        requires unparsed { IsUnparsed dwarf.now dw_unit lines }
+        requires read { HaveLinesOf dwarf.now self.old.dw_units.items self.old.caches.items }
+        requires fresh { AreFreshOf self.old.dw_units.items self.old.caches.items }
         ensures gives { OnOk result (index_seen self.new ≡ with_ranged dwarf.now
-            (index_seen self.old) (ranged_seen dw_unit unit given.items)) }
+            (index_seen self.old) (ranged_seen dw_unit lines given.items)) }
         ensures read { OnOk result
-            (HaveLinesOf dwarf.now self.new.dw_units.items self.new.units.items) }
+            (HaveLinesOf dwarf.now self.new.dw_units.items self.new.caches.items) }
         ensures fresh { OnOk result
-            (AreFreshOf self.new.dw_units.items self.new.entries.items) }
+            (AreFreshOf self.new.dw_units.items self.new.caches.items) }
         ensures refused { IfErr result (λ e. e ≡ OutOfMemory) }
     {
-        let ranges = unit.or_line_ranges(alloc, dwarf, &dw_unit, given)?;
-        push_ranges(&mut self.ranges, self.units.len(), &ranges)?;
+        let ranges = lines.or_line_ranges(alloc, dwarf, &dw_unit, given)?;
+        push_ranges(&mut self.ranges, self.caches.len(), &ranges)?;
         self.dw_units.push(dw_unit)?;
-        self.units.push(unit)?;
-        self.entries.push(UnitEntries::new())?;
+        self.caches.push(UnitCache {
+            lines,
+            entries: UnitEntries::new(),
+        })?;
         Ok(())
     }
 
@@ -178,20 +174,20 @@ impl<R: Reader> Index<R> {
         header: UnitHeader<R>,
     ) -> Result<(), Error>
         requires same { abbreviations.old.dwarf ≡ dwarf.now }
-        requires read { HaveLinesOf dwarf.now self.old.dw_units.items self.old.units.items }
-        requires fresh { AreFreshOf self.old.dw_units.items self.old.entries.items }
+        requires read { HaveLinesOf dwarf.now self.old.dw_units.items self.old.caches.items }
+        requires fresh { AreFreshOf self.old.dw_units.items self.old.caches.items }
         ensures gives { ExactlyUnlessOomIf (indexed_unit_takes_memory dwarf.now header)
             (λ _. index_seen self.new) result
             (with_header dwarf.now aranges.now (index_seen self.old) header) }
         ensures same { abbreviations.new.dwarf ≡ dwarf.now }
         ensures read { OnOk result
-            (HaveLinesOf dwarf.now self.new.dw_units.items self.new.units.items) }
+            (HaveLinesOf dwarf.now self.new.dw_units.items self.new.caches.items) }
         ensures fresh { OnOk result
-            (AreFreshOf self.new.dw_units.items self.new.entries.items) }
+            (AreFreshOf self.new.dw_units.items self.new.caches.items) }
     {
         let read = read_unit(alloc, dwarf, abbreviations, aranges, header)?;
-        if let Some((dw_unit, unit, given)) = read {
-            self.push(alloc, dwarf, dw_unit, unit, given)?;
+        if let Some((dw_unit, lines, given)) = read {
+            self.push(alloc, dwarf, dw_unit, lines, given)?;
         }
         Ok(())
     }
@@ -205,8 +201,8 @@ fn read_units<R: Reader>(
 ) -> Result<Index<R>, Error>
     ensures gives { ExactlyUnlessOomIf (units_take_memory R.shares dwarf.now) index_seen result
         (indexed_with dwarf.now aranges.now) }
-    ensures read { IfOk result (λ i. HaveLinesOf dwarf.now i.dw_units.items i.units.items) }
-    ensures fresh { IfOk result (λ i. AreFreshOf i.dw_units.items i.entries.items) }
+    ensures read { IfOk result (λ i. HaveLinesOf dwarf.now i.dw_units.items i.caches.items) }
+    ensures fresh { IfOk result (λ i. AreFreshOf i.dw_units.items i.caches.items) }
 {
     let mut headers = dwarf.units()?;
     let mut abbreviations = AbbreviationsCache::new(alloc, dwarf);
@@ -223,21 +219,19 @@ impl<R: Reader> IndexedUnits<R> {
     fn parse(alloc: Global, dwarf: &Dwarf<R>) -> Result<IndexedUnits<R>, Error>
         ensures gives { ExactlyUnlessOomIf (index_takes_memory R.shares dwarf.now) units_seen result
             (indexed dwarf.now) }
-        ensures read { IfOk result (λ u. HaveLinesOf dwarf.now u.dw_units.items u.units.items) }
-        ensures fresh { IfOk result (λ u. AreFreshOf u.dw_units.items u.entries.items) }
+        ensures read { IfOk result (λ u. HaveLinesOf dwarf.now u.dw_units.items u.caches.items) }
+        ensures fresh { IfOk result (λ u. AreFreshOf u.dw_units.items u.caches.items) }
     {
         let aranges = UnitAranges::parse(alloc, &dwarf.debug_aranges)?;
         let Index {
             dw_units,
-            units,
-            entries,
+            caches,
             ranges,
         } = read_units(alloc, dwarf, &aranges)?;
         let ranges = UnitRanges::new(alloc, ranges)?;
         Ok(IndexedUnits {
             dw_units,
-            units,
-            entries,
+            caches,
             ranges,
         })
     }
@@ -281,8 +275,7 @@ impl<R: Reader> Units<R> {
         let sup = SupUnits::parse(alloc, &dwarf)?;
         let IndexedUnits {
             dw_units,
-            units,
-            entries,
+            caches,
             ranges,
         } = indexed;
         let sources = Sources {
@@ -293,8 +286,7 @@ impl<R: Reader> Units<R> {
         let units = Units {
             alloc,
             sources,
-            units,
-            entries,
+            caches,
             stop: FramesStop::FindsNothing,
             looks: Count::new(),
         };

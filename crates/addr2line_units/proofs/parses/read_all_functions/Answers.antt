@@ -6,7 +6,7 @@ use Rattle.addr2line_units.specs.FramesLookup.{with_answer}
 use Rattle.addr2line_units.specs.FunctionParses.{AreReadBefore, first_decided, read_of_number}
 use Rattle.addr2line_units.specs.CachedUnits.{answers_in}
 use Rattle.addr2line_units.specs.CachedParses.{HasRead, IsReadyUnit}
-use Rattle.addr2line_units.proofs.CachedUnitLemmas.{as_many_entries}
+use Rattle.addr2line_units.proofs.CachedUnitLemmas.{as_many_entries, same_lines, same_lines_over}
 use Rattle.addr2line_units.proofs.CachedParseLemmas.{all_read, before_less, behind_more, changes_all, changes_then, decided_over, decided_same, many_answers, read_more, read_number}
 use Rattle.addr2line_units.proofs.ParseLemmas.{after_end, after_stop, before_more, decided_more, number_behind, read_end, read_stop}
 use Rattle.addr2line_units.proofs.ReadyLemmas.{before_decided, ready_stop, ready_units, some_ready}
@@ -14,13 +14,14 @@ use Rattle.addr2line_units.proofs.parses.read_all_functions.Goals as goal
 
 pub loop-number-init : goal.loop-number-init
 loop-number-init g c =
-    let count : c.len-count.result ≡ length c.args.entries.now.items = search rules in
+    let count : c.len-count.result ≡ length c.args.caches.now.items = search rules in
     record {
       count = count;
       kept = c.requires.right;
+      lines = same_lines c.args.caches.now.items;
       answers = refl;
       before = λ m h. absurd (omega arith);
-      stay = decided_same c.args.entries.now.items;
+      stay = decided_same c.args.caches.now.items;
       read = λ n h. absurd (omega arith);
       same = λ _. refl;
       details = λ _ n offset e. e;
@@ -32,8 +33,8 @@ read_functions_in-requires-clause-there g c =
     let i = c.loop-number.invariant in
     let scope = seen_scope c.args.scope in
     let us = c.args.scope.file.units.now in
-    let first = as_many_entries scope us c.args.entries.now.items c.requires.right in
-    let now = as_many_entries scope us c.loop-number.entries.items i.kept in
+    let first = as_many_entries scope us c.args.caches.now.items c.requires.right in
+    let now = as_many_entries scope us c.loop-number.caches.items i.kept in
     let below = c.loop-number-test.true in
     let count = i.count in
     omega (arith, first, now, below, count)
@@ -44,7 +45,7 @@ returns-in_err-read_functions_in-clause-gives g c =
     let i = c.loop-number.invariant in
     let scope = seen_scope c.args.scope in
     let us = c.args.scope.file.units.now in
-    let vs = c.args.entries.now.items in
+    let vs = c.args.caches.now.items in
     let k = c.loop-number.number in
     let many = many_answers scope us vs c.requires.right in
     rw (p.1, p.2) (λ ne.
@@ -58,7 +59,7 @@ returns-in_err-read_functions_in-clause-answers g c =
     let d = c.args.scope.file.dwarf.now in
     let scope = seen_scope c.args.scope in
     let us = c.args.scope.file.units.now in
-    let vs = c.args.entries.now.items in
+    let vs = c.args.caches.now.items in
     let k = c.loop-number.number in
     let first = as_many_entries scope us vs c.requires.right in
     let below = c.loop-number-test.true in
@@ -76,7 +77,7 @@ returns-in_err-read_functions_in-clause-begun g c =
     let d = c.args.scope.file.dwarf.now in
     let scope = seen_scope c.args.scope in
     let us = c.args.scope.file.units.now in
-    let vs = c.args.entries.now.items in
+    let vs = c.args.caches.now.items in
     let k = c.loop-number.number in
     let first = as_many_entries scope us vs c.requires.right in
     let below = c.loop-number-test.true in
@@ -90,23 +91,23 @@ returns-in_err-read_functions_in-clause-begun g c =
 
 pub returns-in_err-read_functions_in-clause-stay : goal.returns-in_err-read_functions_in-clause-stay
 returns-in_err-read_functions_in-clause-stay g c =
-    decided_over c.args.entries.now.items c.loop-number.entries.items c.read_functions_in.new.entries.items c.loop-number.invariant.stay c.in_err-read_functions_in.ensures.stay
+    decided_over c.args.caches.now.items c.loop-number.caches.items c.read_functions_in.new.caches.items c.loop-number.invariant.stay c.in_err-read_functions_in.ensures.stay
 
 pub returns-in_err-read_functions_in-clause-only : goal.returns-in_err-read_functions_in-clause-only
 returns-in_err-read_functions_in-clause-only g c =
     let i = c.loop-number.invariant in
     let scope = seen_scope c.args.scope in
     let us = c.args.scope.file.units.now in
-    let vs = c.args.entries.now.items in
-    changes_then (AreReadBefore c.args.reads scope us (answers_in vs)) vs c.loop-number.entries.items c.read_functions_in.new.entries.items c.loop-number.number i.behind c.in_err-read_functions_in.ensures.only
+    let vs = c.args.caches.now.items in
+    changes_then (AreReadBefore c.args.reads scope us (answers_in vs)) vs c.loop-number.caches.items c.read_functions_in.new.caches.items c.loop-number.number i.behind c.in_err-read_functions_in.ensures.only
     (before_less c.args.reads scope us (answers_in vs) c.loop-number.number i.before)
 
 pub returns-in_err-read_functions_in-clause-memory : goal.returns-in_err-read_functions_in-clause-memory
 returns-in_err-read_functions_in-clause-memory g c = λ have.
     let i = c.loop-number.invariant in
-    let vs = c.args.entries.now.items in
+    let vs = c.args.caches.now.items in
     let k = c.loop-number.number in
-    let at = subst (λ o. IfSome o (HasRead c.args.reads)) (sym (i.behind k (omega arith))) (read_number c.args.reads vs have k) in
+    let at = subst (λ o. IfSome o (λ x. HasRead c.args.reads x.entries)) (sym (i.behind k (omega arith))) (read_number c.args.reads vs have k) in
     absurd (let no = c.in_err-read_functions_in.ensures.memory at in cc)
 
 pub loop-number-preserved : goal.loop-number-preserved
@@ -115,9 +116,9 @@ loop-number-preserved g c =
     let d = c.args.scope.file.dwarf.now in
     let scope = seen_scope c.args.scope in
     let us = c.args.scope.file.units.now in
-    let vs = c.args.entries.now.items in
-    let mid = c.loop-number.entries.items in
-    let new = c.read_functions_in.new.entries.items in
+    let vs = c.args.caches.now.items in
+    let mid = c.loop-number.caches.items in
+    let new = c.read_functions_in.new.caches.items in
     let k = c.loop-number.number in
     let first = as_many_entries scope us vs c.requires.right in
     let below = c.loop-number-test.true in
@@ -130,11 +131,12 @@ loop-number-preserved g c =
     record {
       count = i.count;
       kept = step.right;
+      lines = same_lines_over vs mid new i.lines step.lines;
       answers = step.answers tt ∙ ap (λ a. with_answer d us a k None) i.answers ∙ decided_more d us (answers_in vs) k h many ∙ ap (λ m. first_decided d m us (answers_in vs)) one;
       before = subst (AreReadBefore c.args.reads scope us (answers_in vs)) one (before_more c.args.reads scope us (answers_in vs) k i.before at);
       stay = decided_over vs mid new i.stay step.stay;
-      read = subst (λ m. (n : ℕ) → n < m → IfSome (slice_get new n) (HasRead c.args.reads)) one (read_more c.args.reads mid new k i.read step.only step.read);
-      same = λ ready. step.same (subst (λ o. IfSome o (IsReadyUnit c.args.reads)) (sym (i.behind k (omega arith))) (ready k i.before)) ∙ i.same ready;
+      read = subst (λ m. (n : ℕ) → n < m → IfSome (slice_get new n) (λ x. HasRead c.args.reads x.entries)) one (read_more c.args.reads mid new k i.read step.only step.read);
+      same = λ ready. step.same (subst (λ o. IfSome o (λ x. IsReadyUnit c.args.reads x.entries)) (sym (i.behind k (omega arith))) (ready k i.before)) ∙ i.same ready;
       details = λ is n offset e. i.details is n offset (step.details is n offset e);
       behind = subst (λ m. (n : ℕ) → m ≤ n → slice_get new n ≡ slice_get vs n) one (behind_more vs mid new k i.behind step.only);
     }
@@ -144,7 +146,7 @@ returns-clause-gives g c =
     let i = c.loop-number.invariant in
     let scope = seen_scope c.args.scope in
     let us = c.args.scope.file.units.now in
-    let vs = c.args.entries.now.items in
+    let vs = c.args.caches.now.items in
     let first = as_many_entries scope us vs c.requires.right in
     let end = c.loop-number-test.false in
     let count = i.count in
@@ -156,7 +158,7 @@ returns-clause-answers g c = λ ne.
     let i = c.loop-number.invariant in
     let scope = seen_scope c.args.scope in
     let us = c.args.scope.file.units.now in
-    let vs = c.args.entries.now.items in
+    let vs = c.args.caches.now.items in
     let first = as_many_entries scope us vs c.requires.right in
     let end = c.loop-number-test.false in
     let count = i.count in
@@ -171,16 +173,16 @@ returns-clause-only g c =
     let i = c.loop-number.invariant in
     let scope = seen_scope c.args.scope in
     let us = c.args.scope.file.units.now in
-    let vs = c.args.entries.now.items in
-    changes_all (AreReadBefore c.args.reads scope us (answers_in vs)) vs c.loop-number.entries.items c.loop-number.number i.behind (before_less c.args.reads scope us (answers_in vs) c.loop-number.number i.before)
+    let vs = c.args.caches.now.items in
+    changes_all (AreReadBefore c.args.reads scope us (answers_in vs)) vs c.loop-number.caches.items c.loop-number.number i.behind (before_less c.args.reads scope us (answers_in vs) c.loop-number.number i.before)
 
 pub returns-clause-read : goal.returns-clause-read
 returns-clause-read g c =
     let i = c.loop-number.invariant in
     let scope = seen_scope c.args.scope in
     let us = c.args.scope.file.units.now in
-    let mid = c.loop-number.entries.items in
-    let first = as_many_entries scope us c.args.entries.now.items c.requires.right in
+    let mid = c.loop-number.caches.items in
+    let first = as_many_entries scope us c.args.caches.now.items c.requires.right in
     let now = as_many_entries scope us mid i.kept in
     let end = c.loop-number-test.false in
     let count = i.count in
@@ -193,11 +195,11 @@ returns-in_err-read_functions_in-clause-ready_for_all g c =
     let i = c.loop-number.invariant in
     let scope = seen_scope c.args.scope in
     let us = c.args.scope.file.units.now in
-    let vs = c.args.entries.now.items in
+    let vs = c.args.caches.now.items in
     let k = c.loop-number.number in
     rw (p.1, p.2) (λ ne.
     let at = sym (number_behind c.args.reads scope us (answers_in vs) k) ∙ ap (λ a. read_of_number c.args.reads scope us a k) (sym i.answers) ∙ c.in_err-read_functions_in.ensures.gives ne in
-    ready_stop c.args.reads scope us (answers_in vs) c.loop-number.entries.items c.read_functions_in.new.entries.items k _ i.read c.in_err-read_functions_in.ensures.only (c.in_err-read_functions_in.ensures.ready_for_all ne) at)
+    ready_stop c.args.reads scope us (answers_in vs) c.loop-number.caches.items c.read_functions_in.new.caches.items k _ i.read c.in_err-read_functions_in.ensures.only (c.in_err-read_functions_in.ensures.ready_for_all ne) at)
 
 pub returns-in_err-read_functions_in-clause-exact : goal.returns-in_err-read_functions_in-clause-exact
 returns-in_err-read_functions_in-clause-exact g c =
@@ -205,11 +207,11 @@ returns-in_err-read_functions_in-clause-exact g c =
     let i = c.loop-number.invariant in
     let scope = seen_scope c.args.scope in
     let us = c.args.scope.file.units.now in
-    let vs = c.args.entries.now.items in
+    let vs = c.args.caches.now.items in
     let k = c.loop-number.number in
     let many = many_answers scope us vs c.requires.right in
     rw (p.1, p.2) (λ ready.
-    let known = subst (λ o. IfSome o (IsReadyUnit c.args.reads)) (sym (i.behind k (omega arith))) (ready k i.before) in
+    let known = subst (λ o. IfSome o (λ x. IsReadyUnit c.args.reads x.entries)) (sym (i.behind k (omega arith))) (ready k i.before) in
     let at = sym (number_behind c.args.reads scope us (answers_in vs) k) ∙ ap (λ a. read_of_number c.args.reads scope us a k) (sym i.answers) ∙ sym (c.in_err-read_functions_in.ensures.exact known) in
     sym (read_stop c.args.reads scope us (answers_in vs) k _ many i.before at))
 
@@ -217,15 +219,15 @@ pub returns-in_err-read_functions_in-clause-same : goal.returns-in_err-read_func
 returns-in_err-read_functions_in-clause-same g c = λ ready.
     let i = c.loop-number.invariant in
     let k = c.loop-number.number in
-    c.in_err-read_functions_in.ensures.same (subst (λ o. IfSome o (IsReadyUnit c.args.reads)) (sym (i.behind k (omega arith))) (ready k i.before)) ∙ i.same ready
+    c.in_err-read_functions_in.ensures.same (subst (λ o. IfSome o (λ x. IsReadyUnit c.args.reads x.entries)) (sym (i.behind k (omega arith))) (ready k i.before)) ∙ i.same ready
 
 pub returns-clause-ready_for_all : goal.returns-clause-ready_for_all
 returns-clause-ready_for_all g c = λ _. λ n. λ _.
     let i = c.loop-number.invariant in
     let scope = seen_scope c.args.scope in
     let us = c.args.scope.file.units.now in
-    let mid = c.loop-number.entries.items in
-    let first = as_many_entries scope us c.args.entries.now.items c.requires.right in
+    let mid = c.loop-number.caches.items in
+    let first = as_many_entries scope us c.args.caches.now.items c.requires.right in
     let now = as_many_entries scope us mid i.kept in
     let end = c.loop-number-test.false in
     let count = i.count in
@@ -237,7 +239,7 @@ returns-clause-exact g c = λ _.
     let i = c.loop-number.invariant in
     let scope = seen_scope c.args.scope in
     let us = c.args.scope.file.units.now in
-    let vs = c.args.entries.now.items in
+    let vs = c.args.caches.now.items in
     let first = as_many_entries scope us vs c.requires.right in
     let end = c.loop-number-test.false in
     let count = i.count in
@@ -254,8 +256,8 @@ returns-in_err-read_functions_in-clause-had_memory g c =
     let d = c.args.scope.file.dwarf.now in
     let scope = seen_scope c.args.scope in
     let us = c.args.scope.file.units.now in
-    let vs = c.args.entries.now.items in
-    let new = c.read_functions_in.new.entries.items in
+    let vs = c.args.caches.now.items in
+    let new = c.read_functions_in.new.caches.items in
     let k = c.loop-number.number in
     let first = as_many_entries scope us vs c.requires.right in
     let below = c.loop-number-test.true in
@@ -275,8 +277,8 @@ returns-in_err-read_functions_in-clause-no_memory g c =
     let d = c.args.scope.file.dwarf.now in
     let scope = seen_scope c.args.scope in
     let us = c.args.scope.file.units.now in
-    let vs = c.args.entries.now.items in
-    let new = c.read_functions_in.new.entries.items in
+    let vs = c.args.caches.now.items in
+    let new = c.read_functions_in.new.caches.items in
     let k = c.loop-number.number in
     let first = as_many_entries scope us vs c.requires.right in
     let below = c.loop-number-test.true in
@@ -289,7 +291,7 @@ returns-in_err-read_functions_in-clause-no_memory g c =
       | inr e ↦ before_decided c.args.reads scope us (answers_in vs) (answers_in new) (suc k) k (e ∙ ap (λ a. with_answer d us a k None) i.answers ∙ decided_more d us (answers_in vs) k h many) i.before
     ] in
     rw (p.1, p.2) (λ none.
-    let fault : read_of_number c.args.reads scope us (answers_in c.loop-number.entries.items) k ≡ Err c.in_err-read_functions_in.field-0.0 = elim (none k before) [
+    let fault : read_of_number c.args.reads scope us (answers_in c.loop-number.caches.items) k ≡ Err c.in_err-read_functions_in.field-0.0 = elim (none k before) [
       | inl ready ↦ so.gives (so.had_memory (ready_units c.args.reads scope us new so.right k ready.0 ready.1))
       | inr takes ↦ so.no_memory takes
     ] in
@@ -301,3 +303,10 @@ returns-in_err-read_functions_in-clause-details g c = λ is. λ n offset e. c.lo
 
 pub returns-clause-details : goal.returns-clause-details
 returns-clause-details g c = c.loop-number.invariant.details
+
+pub returns-in_err-read_functions_in-clause-lines : goal.returns-in_err-read_functions_in-clause-lines
+returns-in_err-read_functions_in-clause-lines g c =
+    same_lines_over c.args.caches.now.items c.loop-number.caches.items c.read_functions_in.new.caches.items c.loop-number.invariant.lines c.in_err-read_functions_in.ensures.lines
+
+pub returns-clause-lines : goal.returns-clause-lines
+returns-clause-lines g c = c.loop-number.invariant.lines

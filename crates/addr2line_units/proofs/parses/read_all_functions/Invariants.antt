@@ -5,7 +5,7 @@ use Rattle.addr2line_units.specs.declared.parses.ReadingDepth.TheVariants.{Funct
 use Rattle.addr2line_units.specs.CachedKnown.{known_in}
 use Rattle.addr2line_units.specs.KnownEntries.{LearnsNoDetails}
 use Rattle.addr2line_units.specs.FunctionParses.{AreReadBefore, first_decided}
-use Rattle.addr2line_units.specs.CachedUnits.{HaveEntriesOf, answers_in}
+use Rattle.addr2line_units.specs.CachedUnits.{HaveEntriesOf, HaveSameLines, answers_in}
 use Rattle.addr2line_units.specs.CachedParses.{AreReadyUnits, HasRead, StayDecided}
 use Rattle.addr2line_units.proofs.parses.read_all_functions.Given as goal
 
@@ -14,15 +14,16 @@ abbrev pub invariant-loop-number : goal.invariant-loop-number
 invariant-loop-number g l =
     let scope = seen_scope l.scope in
     let us = l.scope.file.units.now in
-    let given = answers_in l.fn.entries.items in
+    let given = answers_in l.fn.caches.items in
     record {
-      count : l.count ≡ length l.fn.entries.items;
-      kept : HaveEntriesOf scope us l.entries.items;
-      answers : answers_in l.entries.items ≡ first_decided l.scope.file.dwarf.now l.number us given;
+      count : l.count ≡ length l.fn.caches.items;
+      kept : HaveEntriesOf scope us l.caches.items;
+      lines : HaveSameLines l.fn.caches.items l.caches.items;
+      answers : answers_in l.caches.items ≡ first_decided l.scope.file.dwarf.now l.number us given;
       before : AreReadBefore l.reads scope us given l.number;
-      stay : StayDecided l.fn.entries.items l.entries.items;
-      read : (n : ℕ) → n < l.number → IfSome (slice_get l.entries.items n) (HasRead l.reads);
-      same : AreReadyUnits l.reads scope us given l.fn.entries.items → l.entries.items ≡ l.fn.entries.items;
-      details : l.reads ≡ Functions → LearnsNoDetails (known_in l.fn.entries.items) (known_in l.entries.items);
-      behind : (n : ℕ) → l.number ≤ n → slice_get l.entries.items n ≡ slice_get l.fn.entries.items n;
+      stay : StayDecided l.fn.caches.items l.caches.items;
+      read : (n : ℕ) → n < l.number → IfSome (slice_get l.caches.items n) (λ c. HasRead l.reads c.entries);
+      same : AreReadyUnits l.reads scope us given l.fn.caches.items → l.caches.items ≡ l.fn.caches.items;
+      details : l.reads ≡ Functions → LearnsNoDetails (known_in l.fn.caches.items) (known_in l.caches.items);
+      behind : (n : ℕ) → l.number ≤ n → slice_get l.caches.items n ≡ slice_get l.fn.caches.items n;
     }

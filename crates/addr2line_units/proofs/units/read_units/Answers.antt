@@ -16,8 +16,8 @@ loop-index-init g c =
       gives = ap (λ m. units_of (unit_of_header d aranges) c.in_ok-headers.headers >>= λ units. Ok (appended d m units)) c.new-index.ensures.none ∙ ap (λ headers. units_of (unit_of_header d aranges) headers >>= λ units. Ok (index_of d units)) all;
       some = λ e. some_headers g.R.Reader.shares (indexed_unit_takes_memory d) d (ap (some_take_memory (indexed_unit_takes_memory d)) (sym all) ∙ e);
       same = search rules;
-      read = rw (c.new-index.ensures.dw_units, c.new-index.ensures.units) tt;
-      fresh = c.new-index.ensures.fresh;
+      read = rw (c.new-index.ensures.dw_units, c.new-index.ensures.caches) tt;
+      fresh = rw (c.new-index.ensures.dw_units, c.new-index.ensures.caches) tt;
     }
 
 pub loop-index-smaller : goal.loop-index-smaller

@@ -13,8 +13,8 @@ invariant-loop-index g l =
       gives : (units_of (unit_of_header d l.aranges) l.headers >>= λ units. Ok (appended d (index_seen l.index) units)) ≡ indexed_with d l.aranges;
       some : some_take_memory (indexed_unit_takes_memory d) l.headers ≡ true → units_take_memory g.R.Reader.shares d ≡ true;
       same : l.abbreviations.dwarf ≡ d;
-      read : HaveLinesOf d l.index.dw_units.items l.index.units.items;
-      fresh : AreFreshOf l.index.dw_units.items l.index.entries.items;
+      read : HaveLinesOf d l.index.dw_units.items l.index.caches.items;
+      fresh : AreFreshOf l.index.dw_units.items l.index.caches.items;
     }
 
 abbrev pub decreases-loop-index : goal.decreases-loop-index

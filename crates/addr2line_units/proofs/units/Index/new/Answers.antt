@@ -2,7 +2,4 @@ use Rattle.std.proofs.Common.{refl}
 use Rattle.addr2line_units.proofs.units.Index.new.Goals as goal
 
 pub returns-clause-none : goal.returns-clause-none
-returns-clause-none g c = rw (c.new.ensures.items, c.new-2.ensures.items, c.new-4.ensures.items) refl
-
-pub returns-clause-fresh : goal.returns-clause-fresh
-returns-clause-fresh g c = rw (c.new.ensures.items, c.new-3.ensures.items) tt
+returns-clause-none g c = rw (c.new.ensures.items, c.new-2.ensures.items, c.new-3.ensures.items) refl

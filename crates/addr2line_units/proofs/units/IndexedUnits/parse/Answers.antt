@@ -39,4 +39,4 @@ returns-clause-gives g c =
     let index = c.in_ok-dw_units.field-0 in
     let ranges = ok_is _ _ c.in_ok-ranges.ensures.gives in
     let aranges = ap aranges_in (sym (ap (λ (s : Sections). s.debug_aranges) c.dwarf.view_is)) ∙ c.in_ok-aranges.ensures.gives in
-    indexed_by d _ aranges ∙ c.in_ok-dw_units.ensures.gives ∙ ap (λ rs. state (record { units = indexed_units index.dw_units.items index.units.items; ranges = rs; parsed = parsed_units index.units.items })) ranges
+    indexed_by d _ aranges ∙ c.in_ok-dw_units.ensures.gives ∙ ap (λ rs. state (record { units = indexed_units index.dw_units.items index.caches.items; ranges = rs; parsed = parsed_units index.caches.items })) ranges

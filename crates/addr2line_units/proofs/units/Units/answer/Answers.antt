@@ -15,17 +15,17 @@ returns-in_default g c =
     let scope = c.scope-scope.result in
     let units_is : scope.file.units.now ≡ s.sources.units.items = ap (λ (x : Scope). x.file.units) c.scope-scope.ensures.gives in
     let none : slice_get s.sources.units.items n ≡ None = subst (λ xs. slice_get xs n ≡ None) units_is (slice_get_past scope.file.units.now n (ltb-false _ _ (sym c.in_default.ensures.lookup.0))) in
-    rw (sym c.self.view_is) (record { after = none_answered (scope_of s.sources) s.units.items s.entries.items s.stop c.self.invariant n none (option_map (λ x. x.value) c.args.sections) s.looks (seen_stop s.units.items s.entries.items s.stop); no_memory = λ none. tt })
+    rw (sym c.self.view_is) (record { after = none_answered (scope_of s.sources) s.caches.items s.stop c.self.invariant n none (option_map (λ x. x.value) c.args.sections) s.looks (seen_stop s.caches.items s.stop); no_memory = λ none. tt })
 
-pub index_mut-entries-requires : goal.index_mut-entries-requires
-index_mut-entries-requires g c =
+pub index_mut-cache-requires : goal.index_mut-cache-requires
+index_mut-cache-requires g c =
     let s = c.self.inside in
     let n = c.args.number in
     let scope = c.scope-scope.result in
     let units_is : scope.file.units.now ≡ s.sources.units.items = ap (λ (x : Scope). x.file.units) c.scope-scope.ensures.gives in
     let u = c.in-Some.dw_unit.now in
     let there : slice_get s.sources.units.items n ≡ Some u = subst (λ xs. slice_get xs n ≡ Some u) units_is (slice_get_read scope.file.units.now _ n u refl (ltb-true _ _ (sym c.in-Some.ensures.lookup.0)) c.in-Some.ensures.lookup.1) in
-    let h = in_entries (scope_of s.sources) s.units.items s.entries.items s.stop c.self.invariant n u there in omega (arith, h)
+    let h = in_entries (scope_of s.sources) s.caches.items s.stop c.self.invariant n u there in omega (arith, h)
 
 pub answer-requires : goal.answer-requires
 answer-requires g c =
@@ -35,9 +35,9 @@ answer-requires g c =
     let units_is : scope.file.units.now ≡ s.sources.units.items = ap (λ (x : Scope). x.file.units) c.scope-scope.ensures.gives in
     let u = c.in-Some.dw_unit.now in
     let there : slice_get s.sources.units.items n ≡ Some u = subst (λ xs. slice_get xs n ≡ Some u) units_is (slice_get_read scope.file.units.now _ n u refl (ltb-true _ _ (sym c.in-Some.ensures.lookup.0)) c.in-Some.ensures.lookup.1) in
-    let v = c.index_mut-entries.result.now in
-    let at = c.index_mut-entries.ensures.value in
-    record { right = subst (λ S. AreEntriesOf S u v) (sym c.scope-scope.ensures.gives) (right_there (scope_of s.sources) s.units.items s.entries.items s.stop c.self.invariant n u there v at) }
+    let v = c.index_mut-cache.result.now in
+    let at = c.index_mut-cache.ensures.value in
+    record { right = subst (λ S. AreEntriesOf S u v.entries) (sym c.scope-scope.ensures.gives) (right_there (scope_of s.sources) s.caches.items s.stop c.self.invariant n u there v at) }
 
 pub invariant_of-self-2 : goal.invariant_of-self-2
 invariant_of-self-2 g c =
@@ -47,10 +47,10 @@ invariant_of-self-2 g c =
     let units_is : scope.file.units.now ≡ s.sources.units.items = ap (λ (x : Scope). x.file.units) c.scope-scope.ensures.gives in
     let u = c.in-Some.dw_unit.now in
     let there : slice_get s.sources.units.items n ≡ Some u = subst (λ xs. slice_get xs n ≡ Some u) units_is (slice_get_read scope.file.units.now _ n u refl (ltb-true _ _ (sym c.in-Some.ensures.lookup.0)) c.in-Some.ensures.lookup.1) in
-    let v = c.index_mut-entries.result.now in
-    let at = c.index_mut-entries.ensures.value in
+    let v = c.index_mut-cache.result.now in
+    let at = c.index_mut-cache.ensures.value in
     let w = c.answer.new.self in
-    still_units (scope_of s.sources) s.units.items s.entries.items s.stop c.self.invariant n u there v at w (subst (λ S. AreEntriesOf S u w) c.scope-scope.ensures.gives c.answer.ensures.right)
+    still_units (scope_of s.sources) s.caches.items s.stop c.self.invariant n u there v at w (subst (λ S. AreEntriesOf S u w) c.scope-scope.ensures.gives c.answer.ensures.right)
 
 pub returns : goal.returns
 returns g c =
@@ -61,10 +61,10 @@ returns g c =
     let sections_is : scope.file.dwarf.now ≡ s.sources.dwarf.value = ap (λ (x : Scope). x.file.sections) c.scope-scope.ensures.gives in
     let u = c.in-Some.dw_unit.now in
     let there : slice_get s.sources.units.items n ≡ Some u = subst (λ xs. slice_get xs n ≡ Some u) units_is (slice_get_read scope.file.units.now _ n u refl (ltb-true _ _ (sym c.in-Some.ensures.lookup.0)) c.in-Some.ensures.lookup.1) in
-    let v = c.index_mut-entries.result.now in
-    let at = c.index_mut-entries.ensures.value in
+    let v = c.index_mut-cache.result.now in
+    let at = c.index_mut-cache.ensures.value in
     let e = rw (c.scope-scope.ensures.gives, sections_is) at c.answer.ensures in
     rw (sym c.self.view_is) (record {
-      after = answered_there (scope_of s.sources) s.units.items s.entries.items s.stop c.self.invariant n u there v at c.answer.new.self (option_map (λ x. x.value) c.args.sections) _ (some_given _ c.args.sections) s.looks (seen_stop s.units.items s.entries.items s.stop) e.right e.functions (λ h. (e.same h).0) c.answer.result e.answer e.refused e.not_open;
-      no_memory = λ none. refused_told (scope_of s.sources) s.units.items s.entries.items s.stop c.self.invariant n u there v at (option_map (λ x. x.value) c.args.sections) c.answer.result (e.exact none);
+      after = answered_there (scope_of s.sources) s.caches.items s.stop c.self.invariant n u there v at c.answer.new.self (option_map (λ x. x.value) c.args.sections) _ (some_given _ c.args.sections) s.looks (seen_stop s.caches.items s.stop) e.right e.functions (λ h. (e.same h).0) c.answer.result e.answer e.refused e.not_open;
+      no_memory = λ none. refused_told (scope_of s.sources) s.caches.items s.stop c.self.invariant n u there v at (option_map (λ x. x.value) c.args.sections) c.answer.result (e.exact none);
     })

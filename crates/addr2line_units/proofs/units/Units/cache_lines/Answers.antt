@@ -1,23 +1,23 @@
-use Rattle.std.proofs.Common.{sym}
-use Rattle.addr2line_units.specs.CachedFrames.{seen_stop}
-use Rattle.addr2line_units.specs.StoredUnits.{scope_of}
+use Rattle.std.proofs.lemmas.Result.{err_from_is_err_and}
 use Rattle.addr2line_units.specs.UnitRangesLeft.{ranges_left}
-use Rattle.addr2line_units.proofs.StateLemmas.{after_caching}
+use Rattle.addr2line_units.proofs.LineWalkLemmas.{cached_end, cached_fault, cached_first, cached_on}
+use Rattle.addr2line_units.proofs.UnitsLemmas.{rest_shorter}
 use Rattle.addr2line_units.proofs.units.Units.cache_lines.Goals as goal
 
-pub cache_lines_along-requires : goal.cache_lines_along-requires
-cache_lines_along-requires g c = record { read = rw (c.deref.ensures, c.deref-2.ensures.value) c.self.invariant.lines }
+pub loop-range-init : goal.loop-range-init
+loop-range-init g c = rw c.reset.ensures.gives (cached_first (ranges_left c.args.ranges) c.args.self.now)
 
-pub invariant_of-self : goal.invariant_of-self
-invariant_of-self g c =
-    let i = c.self.invariant in
-    let e = rw (c.deref.ensures, c.deref-2.ensures.value) at c.cache_lines_along.ensures in
-    record { in_order = i.in_order; lines = e.read; entries = i.entries; stop = tt }
+pub returns-in_err-cache_lines_in : goal.returns-in_err-cache_lines_in
+returns-in_err-cache_lines_in g c =
+    let p = err_from_is_err_and c.from_residual.result c.from_residual.ensures.1 in
+    let e = c.in_err-cache_lines_in.ensures in
+    record { after = rw (p.1, p.2) (cached_fault g.R.Reader.shares (ranges_left c.args.ranges) c.in-Some.range (ranges_left c.next.new.self) (ranges_left c.loop-range.ranges) c.in-Some.ensures.steps c.args.self.now c.loop-range.self c.cache_lines_in.new.self c.loop-range.invariant c.in_err-cache_lines_in.field-0.0 e.after e.refused) }
+
+pub loop-range-preserved : goal.loop-range-preserved
+loop-range-preserved g c = cached_on g.R.Reader.shares (ranges_left c.args.ranges) c.in-Some.range (ranges_left c.next.new.self) (ranges_left c.loop-range.ranges) c.in-Some.ensures.steps c.args.self.now c.loop-range.self c.cache_lines_in.new.self c.loop-range.invariant c.in_ok-cache_lines_in.ensures.after
+
+pub loop-range-smaller : goal.loop-range-smaller
+loop-range-smaller g c = rest_shorter _ _ _ c.in-Some.ensures.steps
 
 pub returns : goal.returns
-returns g c =
-    let s = c.self.inside in
-    let e = rw (c.deref.ensures, c.deref-2.ensures.value) at c.cache_lines_along.ensures in
-    rw (sym c.self.view_is) (record {
-      after = after_caching (scope_of s.sources) s.units.items s.entries.items c.cache_lines_along.new.units.items e.stay s.looks (seen_stop s.units.items s.entries.items s.stop) g.R.Reader.shares (ranges_left c.args.ranges) c.cache_lines_along.result e.parsed e.memory e.only e.refused;
-    })
+returns g c = record { after = cached_end g.R.Reader.shares (ranges_left c.args.ranges) (ranges_left c.loop-range.ranges) c.in_default.ensures.steps.0 c.args.self.now c.loop-range.self c.loop-range.invariant }

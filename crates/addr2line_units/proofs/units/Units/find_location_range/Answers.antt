@@ -1,5 +1,7 @@
 use Rattle.std.proofs.Common.{sym, ◌∙◌}
 use Rattle.addr2line_units.specs.UnitRangesLeft.{ranges_left}
+use Rattle.addr2line_units.specs.StoredUnits.{scope_of}
+use Rattle.addr2line_units.proofs.CachedUnitLemmas.{lines_right}
 use Rattle.addr2line_units.proofs.StateLemmas.{spans_cached}
 use Rattle.addr2line_units.proofs.units.Units.find_location_range.Goals as goal
 
@@ -8,5 +10,5 @@ returns g c =
     let s = c.self.inside in
     let parsed = rw (sym c.self.view_is) at c.requires.parsed in
     rw (sym c.self.view_is) (record {
-      gives = c.new.ensures.gives ∙ sym (spans_cached s.sources.dwarf.value c.args.low c.args.high s.sources.units.items s.units.items (ranges_left c.args.ranges) c.self.invariant.lines parsed);
+      gives = c.new.ensures.gives ∙ sym (spans_cached s.sources.dwarf.value c.args.low c.args.high s.sources.units.items s.caches.items (ranges_left c.args.ranges) (lines_right (scope_of s.sources) s.sources.units.items s.caches.items c.self.invariant.caches) parsed);
     })

@@ -1,37 +1,59 @@
-use Rattle.std.proofs.Common.{sym}
-use Rattle.addr2line_units.specs.CachedFrames.{seen_stop}
-use Rattle.addr2line_units.specs.StoredUnits.{scope_of}
+use Rattle.std.proofs.lemmas.Result.{err_from_is_err_and}
 use Rattle.addr2line_units.specs.UnitRangesLeft.{ranges_left}
-use Rattle.addr2line_units.proofs.StateLemmas.{after_row, row_given}
+use Rattle.addr2line_units.proofs.LineWalkLemmas.{row_after, row_fault, row_fault_after, row_fault_alone, row_gives, rows_end, rows_end_after, rows_first, rows_on}
+use Rattle.addr2line_units.proofs.UnitsLemmas.{rest_shorter}
 use Rattle.addr2line_units.proofs.units.Units.find_row.Goals as goal
 
-pub find_place_along-requires : goal.find_place_along-requires
-find_place_along-requires g c = record { read = rw (c.deref.ensures, c.deref-2.ensures.value) c.self.invariant.lines }
+pub loop-range-init : goal.loop-range-init
+loop-range-init g c = rw c.reset.ensures.gives (rows_first c.args.probe (ranges_left c.args.ranges) c.args.self.now)
 
-pub invariant_of-self : goal.invariant_of-self
-invariant_of-self g c =
-    let i = c.self.invariant in
-    let e = rw (c.deref.ensures, c.deref-2.ensures.value) at c.find_place_along.ensures in
-    record { in_order = i.in_order; lines = e.read; entries = i.entries; stop = tt }
+pub returns-in_err-row-clause-gives : goal.returns-in_err-row-clause-gives
+returns-in_err-row-clause-gives g c =
+    let p = err_from_is_err_and c.from_residual.result c.from_residual.ensures.1 in
+    let e = c.in_err-row.ensures in
+    rw (p.1, p.2) (row_fault c.args.probe (ranges_left c.args.ranges) c.in-Some.range (ranges_left c.next.new.self) (ranges_left c.loop-range.ranges) c.in-Some.ensures.steps c.args.self.now c.loop-range.self c.find_row_in.new.self c.loop-range.invariant c.in_err-row.field-0.0 e.after e.gives)
+
+pub returns-in_err-row-clause-after : goal.returns-in_err-row-clause-after
+returns-in_err-row-clause-after g c =
+    let p = err_from_is_err_and c.from_residual.result c.from_residual.ensures.1 in
+    let e = c.in_err-row.ensures in
+    rw (p.1, p.2) (row_fault_after c.args.probe (ranges_left c.args.ranges) c.in-Some.range (ranges_left c.next.new.self) (ranges_left c.loop-range.ranges) c.in-Some.ensures.steps c.args.self.now c.loop-range.self c.find_row_in.new.self c.loop-range.invariant c.in_err-row.field-0.0 e.after e.gives)
+
+pub returns-in_err-row-clause-no_memory : goal.returns-in_err-row-clause-no_memory
+returns-in_err-row-clause-no_memory g c =
+    let p = err_from_is_err_and c.from_residual.result c.from_residual.ensures.1 in
+    let e = c.in_err-row.ensures in
+    rw (p.1, p.2) (row_fault_alone c.args.probe (ranges_left c.args.ranges) c.in-Some.range (ranges_left c.next.new.self) (ranges_left c.loop-range.ranges) c.in-Some.ensures.steps c.args.self.now c.loop-range.self c.find_row_in.new.self c.loop-range.invariant c.in_err-row.field-0.0 e.after e.gives g.R.Reader.shares e.no_memory)
+
+pub returns-in-Some-2-clause-gives : goal.returns-in-Some-2-clause-gives
+returns-in-Some-2-clause-gives g c =
+    let e = rw c.in-Some-2.is at c.in_ok-row.ensures in
+    row_gives c.args.probe (ranges_left c.args.ranges) c.in-Some.range (ranges_left c.next.new.self) (ranges_left c.loop-range.ranges) c.in-Some.ensures.steps c.args.self.now c.loop-range.self c.find_row_in.new.self c.loop-range.invariant c.in-Some-2.row e.after e.gives
+
+pub returns-in-Some-2-clause-after : goal.returns-in-Some-2-clause-after
+returns-in-Some-2-clause-after g c =
+    let e = rw c.in-Some-2.is at c.in_ok-row.ensures in
+    row_after c.args.probe (ranges_left c.args.ranges) c.in-Some.range (ranges_left c.next.new.self) (ranges_left c.loop-range.ranges) c.in-Some.ensures.steps c.args.self.now c.loop-range.self c.find_row_in.new.self c.loop-range.invariant c.in-Some-2.row e.after e.gives
+
+pub returns-in-Some-2-clause-parsed : goal.returns-in-Some-2-clause-parsed
+returns-in-Some-2-clause-parsed g c = c.in_ok-row.ensures.after.ready tt
+
+pub returns-in-Some-2-clause-no_memory : goal.returns-in-Some-2-clause-no_memory
+returns-in-Some-2-clause-no_memory g c = λ none. tt
+
+pub loop-range-preserved : goal.loop-range-preserved
+loop-range-preserved g c =
+    let e = rw c.in_default-2.is at c.in_ok-row.ensures in
+    rows_on c.args.probe (ranges_left c.args.ranges) c.in-Some.range (ranges_left c.next.new.self) (ranges_left c.loop-range.ranges) c.in-Some.ensures.steps c.args.self.now c.loop-range.self c.find_row_in.new.self c.loop-range.invariant e.after e.gives
+
+pub loop-range-smaller : goal.loop-range-smaller
+loop-range-smaller g c = rest_shorter _ _ _ c.in-Some.ensures.steps
 
 pub returns-clause-gives : goal.returns-clause-gives
-returns-clause-gives g c =
-    let s = c.self.inside in
-    let now = c.find_place_along.new in
-    let e = rw (c.deref.ensures, c.deref-2.ensures.value) at c.find_place_along.ensures in
-    rw (sym c.self.view_is) (row_given (scope_of s.sources) s.units.items s.entries.items now.units.items e.stay s.looks now.looks (seen_stop s.units.items s.entries.items s.stop) c.find_place_along.result _ e.read e.found e.gives)
-
-pub returns-clause-parsed : goal.returns-clause-parsed
-returns-clause-parsed g c = c.find_place_along.ensures.found
+returns-clause-gives g c = rows_end c.args.probe (ranges_left c.args.ranges) (ranges_left c.loop-range.ranges) c.in_default.ensures.steps.0 c.args.self.now c.loop-range.self c.loop-range.invariant
 
 pub returns-clause-after : goal.returns-clause-after
-returns-clause-after g c =
-    let s = c.self.inside in
-    let now = c.find_place_along.new in
-    let e = rw (c.deref.ensures, c.deref-2.ensures.value) at c.find_place_along.ensures in
-    rw (sym c.self.view_is) (after_row (scope_of s.sources) s.units.items s.entries.items now.units.items e.stay s.looks now.looks (seen_stop s.units.items s.entries.items s.stop) c.args.probe (ranges_left c.args.ranges) c.find_place_along.result e.ready e.memory e.only e.raised e.counted e.cost)
+returns-clause-after g c = rows_end_after c.args.probe (ranges_left c.args.ranges) (ranges_left c.loop-range.ranges) c.in_default.ensures.steps.0 c.args.self.now c.loop-range.self c.loop-range.invariant
 
 pub returns-clause-no_memory : goal.returns-clause-no_memory
-returns-clause-no_memory g c =
-    let e = rw (c.deref.ensures, c.deref-2.ensures.value) at c.find_place_along.ensures in
-    rw (sym c.self.view_is) e.no_memory
+returns-clause-no_memory g c = λ none. tt

@@ -2,6 +2,8 @@ use Rattle.std.proofs.Common.{ap, ltb-false, ltb-true, refl, sym, ◌∙◌}
 use Rattle.std.proofs.lemmas.Option.{slice_get_past, slice_get_read}
 use Rattle.addr2line_lines.specs.Location.{location_of_row}
 use Rattle.addr2line_units.specs.CachedLines.{cached_files, lines_in_cache, location_of_unit_row}
+use Rattle.addr2line_units.specs.StoredUnits.{scope_of}
+use Rattle.addr2line_units.proofs.CachedUnitLemmas.{lines_right}
 use Rattle.addr2line_units.proofs.StateLemmas.{files_are}
 use Rattle.addr2line_units.proofs.units.Units.location.Goals as goal
 
@@ -11,11 +13,11 @@ returns-in-Some g c =
     let place = c.args.place in
     let parsed = rw (sym c.self.view_is) at c.requires.parsed in
     let found = c.in-Some.ensures.lookup in
-    let at = slice_get_read c.deref.result.now _ place.unit c.in-Some.unit.now refl (ltb-true _ _ (sym found.0)) found.1 in
+    let at = slice_get_read c.deref.result.now _ place.unit c.in-Some.cache.now refl (ltb-true _ _ (sym found.0)) found.1 in
     rw (sym c.self.view_is) (record {
       gives =
-          c.location_of.ensures.gives ∙ ap (λ u. location_of_row (cached_files (lines_in_cache u)) place.row) (sym at) ∙ ap (λ units. location_of_unit_row units place) c.deref.ensures.value
-          ∙ ap (λ files. location_of_row files place.row) (sym (files_are s.sources.dwarf.value s.sources.units.items s.units.items place.unit c.self.invariant.lines parsed));
+          c.location_of.ensures.gives ∙ ap (λ u. location_of_row (cached_files (lines_in_cache u)) place.row) (sym at) ∙ ap (λ caches. location_of_unit_row caches place) c.deref.ensures.value
+          ∙ ap (λ files. location_of_row files place.row) (sym (files_are s.sources.dwarf.value s.sources.units.items s.caches.items place.unit (lines_right (scope_of s.sources) s.sources.units.items s.caches.items c.self.invariant.caches) parsed));
     })
 
 pub returns-in-None : goal.returns-in-None
@@ -27,6 +29,6 @@ returns-in-None g c =
     let at = slice_get_past c.deref.result.now place.unit (ltb-false _ _ (sym found.0)) in
     rw (sym c.self.view_is) (record {
       gives =
-          c.without_file.ensures.gives ∙ ap (λ u. location_of_row (cached_files (lines_in_cache u)) place.row) (sym at) ∙ ap (λ units. location_of_unit_row units place) c.deref.ensures.value
-          ∙ ap (λ files. location_of_row files place.row) (sym (files_are s.sources.dwarf.value s.sources.units.items s.units.items place.unit c.self.invariant.lines parsed));
+          c.without_file.ensures.gives ∙ ap (λ u. location_of_row (cached_files (lines_in_cache u)) place.row) (sym at) ∙ ap (λ caches. location_of_unit_row caches place) c.deref.ensures.value
+          ∙ ap (λ files. location_of_row files place.row) (sym (files_are s.sources.dwarf.value s.sources.units.items s.caches.items place.unit (lines_right (scope_of s.sources) s.sources.units.items s.caches.items c.self.invariant.caches) parsed));
     })

@@ -24,17 +24,17 @@ invariant_of-units g c =
     let d = c.args.dwarf.value in
     let made = c.in_ok-indexed.indexed in
     let units = rw c.deref.ensures at c.in_ok-indexed.ensures.gives in
-    let lines = subst (λ d. HaveLinesOf d made.dw_units.items made.units.items) c.deref.ensures c.in_ok-indexed.ensures.read in
+    let lines = subst (λ d. HaveLinesOf d made.dw_units.items made.caches.items) c.deref.ensures c.in_ok-indexed.ensures.read in
     let sup = rw c.deref-2.ensures at c.in_ok-sup.ensures.gives in
     let sup_is = rw c.deref-2.ensures at c.in_ok-sup.ensures.dwarf in
-    are_units d made.dw_units.items made.units.items made.ranges made.entries.items c.in_ok-sup.sup units sup sup_is lines c.in_ok-indexed.ensures.fresh
+    are_units d made.dw_units.items made.caches.items made.ranges c.in_ok-sup.sup units sup sup_is lines c.in_ok-indexed.ensures.fresh
 
 pub returns : goal.returns
 returns g c =
     let d = c.args.dwarf.value in
     let made = c.in_ok-indexed.indexed in
     let units = rw c.deref.ensures at c.in_ok-indexed.ensures.gives in
-    let lines = subst (λ d. HaveLinesOf d made.dw_units.items made.units.items) c.deref.ensures c.in_ok-indexed.ensures.read in
+    let lines = subst (λ d. HaveLinesOf d made.dw_units.items made.caches.items) c.deref.ensures c.in_ok-indexed.ensures.read in
     let sup = rw c.deref-2.ensures at c.in_ok-sup.ensures.gives in
     let sup_is = rw c.deref-2.ensures at c.in_ok-sup.ensures.dwarf in
-    record { gives = rw c.new.ensures.gives (units_made d made.dw_units.items made.units.items made.ranges made.entries.items c.in_ok-sup.sup units sup sup_is lines c.in_ok-indexed.ensures.fresh) }
+    record { gives = rw c.new.ensures.gives (units_made d made.dw_units.items made.caches.items made.ranges c.in_ok-sup.sup units sup sup_is lines c.in_ok-indexed.ensures.fresh) }

@@ -1,0 +1,10 @@
+use Rattle.std.proofs.Common.{length}
+use Rattle.addr2line_units.specs.UnitRangesLeft.{ranges_left}
+use Rattle.addr2line_units.proofs.LineWalkLemmas.{RowsSoFar}
+use Rattle.addr2line_units.proofs.units.Units.find_row.Given as goal
+
+abbrev pub invariant-loop-range : goal.invariant-loop-range
+invariant-loop-range g l = RowsSoFar l.probe (ranges_left l.fn.ranges) (ranges_left l.ranges) l.fn.self l.self
+
+abbrev pub decreases-loop-range : goal.decreases-loop-range
+decreases-loop-range g l = length (ranges_left l.ranges)

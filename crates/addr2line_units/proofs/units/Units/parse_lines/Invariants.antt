@@ -1,0 +1,10 @@
+use Rattle.std.proofs.Common.{length, ◌≡◌}
+use Rattle.addr2line_units.proofs.LineWalkLemmas.{ParsedSoFar}
+use Rattle.addr2line_units.proofs.units.Units.parse_lines.Given as goal
+
+abbrev pub invariant-loop-number : goal.invariant-loop-number
+invariant-loop-number g l = record {
+  so_far : ParsedSoFar l.number l.fn.self l.self;
+  units : l.count ≡ length l.fn.self.units;
+  parsed : l.count ≡ length l.fn.self.parsed;
+}

@@ -19,7 +19,7 @@ use Rattle.addr2line_units.specs.declared.unit_frames.UnitCache.{UnitCache}
 use Rattle.addr2line_units.specs.AfterUnits.{AfterLines}
 use Rattle.addr2line_units.specs.AskedUnits.{AfterCachingAt, AfterRowAt}
 use Rattle.addr2line_units.specs.AskMemory.{any_lines_take_memory, lines_of_take_memory, lines_take_memory}
-use Rattle.addr2line_units.specs.CachedLines.{AreLinesOf, CachesResult, HaveLinesOf, StaysUnit, StayUnits, cached_files, indexed_unit, indexed_units, is_uncached, lines_result, lines_result_at, parsed_units, unit_row}
+use Rattle.addr2line_units.specs.CachedLines.{AreLinesOf, CachesResult, HaveLinesOf, StaysUnit, StayUnits, cached_files, indexed_unit, is_uncached, lines_result, lines_result_at, parsed_units, unit_row}
 use Rattle.addr2line_units.specs.FramesLookup.{FindsNothing, Stop}
 use Rattle.addr2line_units.specs.Located.{is_found, location_in, looks_in}
 use Rattle.addr2line_units.specs.Parsed.{has_parsed}
@@ -29,7 +29,7 @@ use Rattle.addr2line_units.proofs.AskMemoryLemmas.{either_none, none_refused}
 use Rattle.addr2line_units.proofs.CachedUnitLemmas.{caches_with_lines, lines_right, same_entries_set}
 use Rattle.addr2line_units.proofs.NumberedFrames.{none_past}
 use Rattle.addr2line_units.proofs.StateLemmas.{after_lines, files_are}
-use Rattle.addr2line_units.proofs.UnitsLemmas.{answer_cached, as_many, as_many_indexed, lines_read, lines_set, no_parsed, no_unit, only_set, own_at, own_set, parsed_set, set_parsed, stay_indexed, stay_set, unit_at}
+use Rattle.addr2line_units.proofs.UnitsLemmas.{answer_cached, as_many, lines_read, lines_set, no_parsed, no_unit, only_set, own_at, own_set, parsed_set, set_parsed, stay_indexed, stay_set, unit_at}
 
 module _ {R : Type 0} (scope : Scope) (cs : List (UnitCache R)) (last : FramesStop) (i : AreUnits scope cs last) (n looks : ℕ) (was : Stop) where
   abbrev d : Sections
@@ -43,10 +43,6 @@ module _ {R : Type 0} (scope : Scope) (cs : List (UnitCache R)) (last : FramesSt
 
   own : HaveLinesOf d us cs
   own = lines_right scope us cs i.caches
-
-  -- how many units there are
-  pub count_units : length cs ≡ length (indexed_units us cs)
-  count_units = sym (as_many_indexed d us cs own)
 
   -- there is no unit of that number
   module _ (none : slice_get us n ≡ None) where

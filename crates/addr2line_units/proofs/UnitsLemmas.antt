@@ -38,21 +38,6 @@ pub stay_all : {R : Type 0} (rs : List (UnitCache R)) → StayUnits rs rs
 stay_all [] = tt
 stay_all (r ∷ rs) = (record { language = refl; lines = λ e. refl }, stay_all rs)
 
--- what stays from one state to the next stays over both
-stays_over : (r s t : UnitLines) → StaysUnit r s → StaysUnit s t → StaysUnit r t
-stays_over r s t a b = record {
-  language = b.language ∙ a.language;
-  lines = λ e. b.lines (ap is_uncached (a.lines e) ∙ e) ∙ a.lines e;
-}
-
-pub stay_over : {R : Type 0} (rs ss ts : List (UnitCache R)) → StayUnits rs ss → StayUnits ss ts → StayUnits rs ts
-stay_over [] [] [] a b = tt
-stay_over [] [] (t ∷ ts) a b = absurd b
-stay_over [] (s ∷ ss) ts a b = absurd a
-stay_over (r ∷ rs) [] ts a b = absurd a
-stay_over (r ∷ rs) (s ∷ ss) [] a b = absurd b
-stay_over (r ∷ rs) (s ∷ ss) (t ∷ ts) a b = (stays_over r.lines s.lines t.lines a.0 b.0, stay_over rs ss ts a.1 b.1)
-
 -- one of them is another, which stays
 pub stay_set : {R : Type 0} (rs : List (UnitCache R)) (n : ℕ) (r s : UnitCache R) → n < length rs → r ≡ get_or rs n r → StaysUnit r.lines s.lines → StayUnits rs (set rs n s)
 stay_set [] n r s h e k = absurd (omega arith)
@@ -113,11 +98,6 @@ no_parsed [] n h = refl
 no_parsed (x ∷ rs) zero h = absurd (omega arith)
 no_parsed (x ∷ rs) (suc n) h = no_parsed rs n (omega arith)
 
-pub parsed_at : {R : Type 0} (rs : List (UnitCache R)) (n : ℕ) (r : UnitCache R) → n < length rs → r ≡ get_or rs n r → has_parsed (parsed_units rs) n ≡ true → is_uncached r.lines.lines ≡ false
-parsed_at [] n r h e k = absurd (omega arith)
-parsed_at (x ∷ rs) zero r h e k = ap (λ (y : UnitCache _). is_uncached y.lines.lines) e ∙ parsed_is x.lines.lines k
-parsed_at (x ∷ rs) (suc n) r h e k = parsed_at rs n r (omega arith) e k
-
 pub parsed_set : {R : Type 0} (rs : List (UnitCache R)) (n : ℕ) (s : UnitCache R) → n < length rs → is_uncached s.lines.lines ≡ false → has_parsed (parsed_units (set rs n s)) n ≡ true
 parsed_set [] n s h e = absurd (omega arith)
 parsed_set (x ∷ rs) zero s h e = ap not e
@@ -166,10 +146,6 @@ own_set d [] (y ∷ rs) n u s e own h = absurd own
 own_set d (x ∷ us) [] n u s e own h = absurd own
 own_set d (x ∷ us) (y ∷ rs) zero u s e own h = (subst (λ (v : UnitRecord). AreLinesOf d v s.lines.lines) e h, own.1)
 own_set d (x ∷ us) (y ∷ rs) (suc n) u s e own h = (own.0, own_set d us rs n u s e own.1 h)
-
--- the number of a unit is one of a record
-pub in_units : {R : Type 0} (d : Sections) (us : List UnitRecord) (rs : List (UnitCache R)) (n : ℕ) → HaveLinesOf d us rs → n < length rs → n < length us
-in_units d us rs n own h = subst (λ k. n < k) (sym (as_many d us rs own)) h
 
 -- one more unit, with its lines
 pub own_push : {R : Type 0} (d : Sections) (us : List UnitRecord) (rs : List (UnitCache R)) (u : UnitRecord) (r : UnitCache R) → HaveLinesOf d us rs → AreLinesOf d u r.lines.lines → HaveLinesOf d (us ++ u ∷ []) (rs ++ r ∷ [])

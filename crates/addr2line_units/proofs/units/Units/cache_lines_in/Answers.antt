@@ -11,8 +11,8 @@ use Rattle.addr2line_units.proofs.LinesAtLemmas.{caching_after, in_lines, lines_
 use Rattle.addr2line_units.proofs.UnitsLemmas.{cached_if_told, not_refused}
 use Rattle.addr2line_units.proofs.units.Units.cache_lines_in.Goals as goal
 
-pub returns-in_default-clause-after : goal.returns-in_default-clause-after
-returns-in_default-clause-after g c =
+pub returns-in_default : goal.returns-in_default
+returns-in_default g c =
     let s = c.self.inside in
     let n = c.args.number in
     let i = c.self.invariant in
@@ -22,7 +22,10 @@ returns-in_default-clause-after g c =
     let scope = c.scope-scope.result in
     let units_is : scope.file.units.now ≡ s.sources.units.items = ap (λ (x : Scope). x.file.units) c.scope-scope.ensures.gives in
     let none : slice_get s.sources.units.items n ≡ None = subst (λ xs. slice_get xs n ≡ None) units_is (slice_get_past scope.file.units.now n (ltb-false _ _ (sym c.in_default.ensures.lookup.0))) in
-    rw (sym c.self.view_is) (none_after_caching S cs s.stop i n s.looks was none g.R.Reader.shares)
+    record {
+      refused = tt;
+      after = rw (sym c.self.view_is) (none_after_caching S cs s.stop i n s.looks was none g.R.Reader.shares);
+    }
 
 pub index_mut-cache-requires : goal.index_mut-cache-requires
 index_mut-cache-requires g c =
@@ -74,8 +77,8 @@ invariant_of-self-2 g c =
     let read = subst (λ (d : Sections). AreLinesOf d u l.lines) sections_is e.read in
     still_lines S cs s.stop i n s.looks was u there v at l read
 
-pub returns-clause-after : goal.returns-clause-after
-returns-clause-after g c =
+pub returns : goal.returns
+returns g c =
     let s = c.self.inside in
     let n = c.args.number in
     let i = c.self.invariant in
@@ -92,5 +95,8 @@ returns-clause-after g c =
     let sections_is : scope.file.dwarf.now ≡ s.sources.dwarf.value = ap (λ (x : Scope). x.file.sections) c.scope-scope.ensures.gives in
     let e = c.cache_lines.ensures in
     let read = subst (λ (d : Sections). AreLinesOf d u l.lines) sections_is e.read in
-    rw (sym c.self.view_is) (caching_after S cs s.stop i n s.looks was u there v at l (record { language = e.lang; lines = e.stays }) g.R.Reader.shares c.cache_lines.result
-    (cached_if_told c.cache_lines.result e.refused e.cached) (not_refused v.lines.lines l.lines c.cache_lines.result e.exact e.memory) (subst (λ (d : Sections). lines_take_memory g.R.Reader.shares u ≡ false → IfErr c.cache_lines.result (λ e. lines_result d u ≡ Err e)) sections_is e.no_memory))
+    record {
+      refused = e.refused;
+      after = rw (sym c.self.view_is) (caching_after S cs s.stop i n s.looks was u there v at l (record { language = e.lang; lines = e.stays }) g.R.Reader.shares c.cache_lines.result
+          (cached_if_told c.cache_lines.result e.refused e.cached) (not_refused v.lines.lines l.lines c.cache_lines.result e.exact e.memory) (subst (λ (d : Sections). lines_take_memory g.R.Reader.shares u ≡ false → IfErr c.cache_lines.result (λ e. lines_result d u ≡ Err e)) sections_is e.no_memory));
+    }

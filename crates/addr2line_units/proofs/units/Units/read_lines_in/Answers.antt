@@ -13,8 +13,8 @@ use Rattle.addr2line_units.proofs.LinesAtLemmas.{caching_after, in_lines, lines_
 use Rattle.addr2line_units.proofs.UnitsLemmas.{answer_cached}
 use Rattle.addr2line_units.proofs.units.Units.read_lines_in.Goals as goal
 
-pub returns-in_default-clause-gives : goal.returns-in_default-clause-gives
-returns-in_default-clause-gives g c =
+pub returns-in_default : goal.returns-in_default
+returns-in_default g c =
     let s = c.self.inside in
     let n = c.args.number in
     let i = c.self.invariant in
@@ -24,20 +24,10 @@ returns-in_default-clause-gives g c =
     let scope = c.scope-scope.result in
     let units_is : scope.file.units.now ≡ s.sources.units.items = ap (λ (x : Scope). x.file.units) c.scope-scope.ensures.gives in
     let none : slice_get s.sources.units.items n ≡ None = subst (λ xs. slice_get xs n ≡ None) units_is (slice_get_past scope.file.units.now n (ltb-false _ _ (sym c.in_default.ensures.lookup.0))) in
-    subst (λ (y : UnitsState). lines_result_at y.scope.file.sections (slice_get y.units n) ≡ Ok tt) c.self.view_is (none_read S cs s.stop i n s.looks was none)
-
-pub returns-in_default-clause-after : goal.returns-in_default-clause-after
-returns-in_default-clause-after g c =
-    let s = c.self.inside in
-    let n = c.args.number in
-    let i = c.self.invariant in
-    let S = scope_of s.sources in
-    let cs = s.caches.items in
-    let was = seen_stop cs s.stop in
-    let scope = c.scope-scope.result in
-    let units_is : scope.file.units.now ≡ s.sources.units.items = ap (λ (x : Scope). x.file.units) c.scope-scope.ensures.gives in
-    let none : slice_get s.sources.units.items n ≡ None = subst (λ xs. slice_get xs n ≡ None) units_is (slice_get_past scope.file.units.now n (ltb-false _ _ (sym c.in_default.ensures.lookup.0))) in
-    rw (sym c.self.view_is) (none_after_caching S cs s.stop i n s.looks was none g.R.Reader.shares)
+    record {
+      gives = subst (λ (y : UnitsState). lines_result_at y.scope.file.sections (slice_get y.units n) ≡ Ok tt) c.self.view_is (none_read S cs s.stop i n s.looks was none);
+      after = rw (sym c.self.view_is) (none_after_caching S cs s.stop i n s.looks was none g.R.Reader.shares);
+    }
 
 pub index_mut-cache-requires : goal.index_mut-cache-requires
 index_mut-cache-requires g c =
@@ -89,8 +79,8 @@ invariant_of-self-2 g c =
     let read = subst (λ (d : Sections). AreLinesOf d u l.lines) sections_is e.read in
     still_lines S cs s.stop i n s.looks was u there v at l read
 
-pub returns-clause-gives : goal.returns-clause-gives
-returns-clause-gives g c =
+pub returns : goal.returns
+returns g c =
     let s = c.self.inside in
     let n = c.args.number in
     let i = c.self.invariant in
@@ -107,25 +97,8 @@ returns-clause-gives g c =
     let sections_is : scope.file.dwarf.now ≡ s.sources.dwarf.value = ap (λ (x : Scope). x.file.sections) c.scope-scope.ensures.gives in
     let e = c.read_lines.ensures in
     let read = subst (λ (d : Sections). AreLinesOf d u l.lines) sections_is e.read in
-    subst (λ (y : UnitsState). ExactlyUnlessOom (λ x. x) c.read_lines.result (lines_result_at y.scope.file.sections (slice_get y.units n))) c.self.view_is (read_there S cs s.stop i n s.looks was u there v at l (record { language = e.lang; lines = e.stays }) (cached_lines l.lines) c.read_lines.result (subst (λ (d : Sections). ExactlyUnlessOom (λ _. cached_lines l.lines) c.read_lines.result (lines_result d u)) sections_is e.gives))
-
-pub returns-clause-after : goal.returns-clause-after
-returns-clause-after g c =
-    let s = c.self.inside in
-    let n = c.args.number in
-    let i = c.self.invariant in
-    let S = scope_of s.sources in
-    let cs = s.caches.items in
-    let was = seen_stop cs s.stop in
-    let scope = c.scope-scope.result in
-    let units_is : scope.file.units.now ≡ s.sources.units.items = ap (λ (x : Scope). x.file.units) c.scope-scope.ensures.gives in
-    let u = c.in-Some.dw_unit.now in
-    let there : slice_get s.sources.units.items n ≡ Some u = subst (λ xs. slice_get xs n ≡ Some u) units_is (slice_get_read scope.file.units.now _ n u refl (ltb-true _ _ (sym c.in-Some.ensures.lookup.0)) c.in-Some.ensures.lookup.1) in
-    let v = c.index_mut-cache.result.now in
-    let at = c.index_mut-cache.ensures.value in
-    let l = c.read_lines.new.self in
-    let sections_is : scope.file.dwarf.now ≡ s.sources.dwarf.value = ap (λ (x : Scope). x.file.sections) c.scope-scope.ensures.gives in
-    let e = c.read_lines.ensures in
-    let read = subst (λ (d : Sections). AreLinesOf d u l.lines) sections_is e.read in
-    rw (sym c.self.view_is) (caching_after S cs s.stop i n s.looks was u there v at l (record { language = e.lang; lines = e.stays }) g.R.Reader.shares c.read_lines.result
-    (answer_cached v.lines.lines c.read_lines.result l.lines e.caches) e.memory (subst (λ (d : Sections). lines_take_memory g.R.Reader.shares u ≡ false → IfErr c.read_lines.result (λ e. lines_result d u ≡ Err e)) sections_is e.no_memory))
+    record {
+      gives = subst (λ (y : UnitsState). ExactlyUnlessOom (λ x. x) c.read_lines.result (lines_result_at y.scope.file.sections (slice_get y.units n))) c.self.view_is (read_there S cs s.stop i n s.looks was u there v at l (record { language = e.lang; lines = e.stays }) (cached_lines l.lines) c.read_lines.result (subst (λ (d : Sections). ExactlyUnlessOom (λ _. cached_lines l.lines) c.read_lines.result (lines_result d u)) sections_is e.gives));
+      after = rw (sym c.self.view_is) (caching_after S cs s.stop i n s.looks was u there v at l (record { language = e.lang; lines = e.stays }) g.R.Reader.shares c.read_lines.result
+          (answer_cached v.lines.lines c.read_lines.result l.lines e.caches) e.memory (subst (λ (d : Sections). lines_take_memory g.R.Reader.shares u ≡ false → IfErr c.read_lines.result (λ e. lines_result d u ≡ Err e)) sections_is e.no_memory));
+    }

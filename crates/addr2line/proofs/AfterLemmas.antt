@@ -1,27 +1,25 @@
 -- What holds of a context once a lookup was lent from it that it had stored (on
 -- specs/AfterLookups.antt and specs/Skips.antt).
-use Rattle.std.proofs.Common.{◌≡◌, ℕ, Bool, true, false, List, Option, Some, None, Result, Ok, Err, refl, sym, ap, subst, ◌∙◌}
+use Rattle.std.proofs.Common.{◌≡◌, ℕ, Bool, true, false, List, Option, Some, None, option_map, Result, Ok, Err, refl, sym, ap, subst, ◌∙◌}
 use Rattle.std.specs.Prelude.{IfErr, OnOk}
 use Rattle.gimli_read.specs.Alike.{WasNotRefused}
 use Rattle.gimli_read.specs.declared.error.Error.{Error}
 use Rattle.gimli_read.specs.Reading.{◌>>=◌, ExactlyUnlessOom}
 use Rattle.gimli.specs.Sections.{Sections}
-use Rattle.gimli.specs.Unit.{UnitRecord}
 use Rattle.addr2line_units.specs.declared.continuation.LookupResult.{LookupResult}
 use Rattle.addr2line_units.specs.declared.continuation.LookupResult.TheVariants.{Load, Output}
 use Rattle.addr2line_units.specs.declared.frames_lookup.OnFault.{OnFault}
-use Rattle.addr2line_units.specs.declared.frames_lookup.OnFault.TheVariants.{PassOver}
-use Rattle.addr2line_units.specs.Frames.{FrameRecord}
-use Rattle.addr2line_units.specs.FramesLookup.{Stop, Waits, Finds, FindsNothing, frames_found, is_waiting, unit_found}
-use Rattle.addr2line_units.specs.RangedUnits.{unit_records}
+use Rattle.addr2line_units.specs.FramesLookup.{Stop, Waits, Finds, FindsNothing, is_waiting, readable_view, unit_found, view_of_number}
 use Rattle.addr2line_units.specs.Suspended.{IfLoad, IfOutput}
+use Rattle.addr2line_units.specs.RangedUnits.{unit_records}
 use Rattle.addr2line_units.specs.UnitIndex.{UnitIndex, index_units}
-use Rattle.addr2line_units.specs.Views.{FirstAnswers, SplitLoad}
-use Rattle.addr2line.specs.AfterLookups.{AfterFrames, AfterFramesOver, IsFoundUnit, IsLent, IsStored, NeedsNoMemory, Suspends}
+use Rattle.addr2line_units.specs.Views.{FirstAnswers, SplitLoad, View, parts_of}
+use Rattle.addr2line.specs.AfterLookups.{AfterFrames, AfterFramesOver, IsLent, IsStored, NeedsNoMemory, Suspends}
 use Rattle.addr2line.specs.Context.{ContextState}
-use Rattle.addr2line.specs.Lookups.{IsFaultOfAsked, IsLoadOf, frames_told, lookup_stop, stop_in, unit_of, unit_told}
+use Rattle.addr2line.specs.Lookups.{IsFaultOfAsked, IsLoadOf, ended_with, lookup_stop, unit_value, view_found}
 use Rattle.addr2line_units.specs.UnitsState.{waiting_unit}
 use Rattle.addr2line.specs.Skips.{AfterSkip, skipped_answers}
+use Rattle.addr2line.specs.WaitingLookups.{found_of_context}
 
 -- what holds of a lookup that waits
 pub if_load : {L O D S : Type 0} (P Q : L → Type 0) (result : LookupResult L O D S) → ((c : L) → P c → Q c) → IfLoad result P → IfLoad result Q
@@ -139,24 +137,20 @@ lent_no_load stop n e waits = record {
   refused = λ ended. let f : true ≡ false = sym (ap (λ s. is_waiting (Ok s)) waits) ∙ ended in absurd cc;
 }
 
--- the frames of a lookup that has ended
-pub frames_lent : (stop : Stop) (r : Result Stop Error) (frames : List FrameRecord) → r ≡ Ok stop → waiting_unit stop ≡ None → frames ≡ frames_found stop → (r >>= λ s. Ok (frames_told s)) ≡ Ok (Some frames)
-frames_lent stop r frames h w f = ap (λ r. r >>= λ s. Ok (frames_told s)) h ∙ ap (λ o. Ok o) (told stop w ∙ ap (λ fs. Some fs) (sym f))
+-- what is found by a lookup that has ended
+pub found_lent : {V : Type 0} (faults : OnFault) (value_of : Stop → Option View → V) (c : ContextState) (probe : ℕ) (found : V) → lookup_stop faults c.sections c.answers probe ≡ Ok c.stop → waiting_unit c.stop ≡ None → found ≡ value_of c.stop (view_found c.sections c.answers c.stop)
+    → found_of_context faults value_of c probe ≡ Ok (Some found)
+found_lent {V = V} faults value_of c probe found h w f =
+    ap (λ r. r >>= λ s. Ok (ended_with (value_of s (view_found c.sections c.answers s)) s)) h ∙ ap (λ o. Ok o) (ended (value_of c.stop (view_found c.sections c.answers c.stop)) c.stop w ∙ ap (λ v. Some v) (sym f))
   where
-    told : (s : Stop) → waiting_unit s ≡ None → frames_told s ≡ Some (frames_found s)
-    told (Waits n) e = absurd cc
-    told (Finds n fs) e = refl
-    told FindsNothing e = refl
+    ended : (v : V) (s : Stop) → waiting_unit s ≡ None → ended_with v s ≡ Some v
+    ended v (Waits n) e = absurd cc
+    ended v (Finds n fs) e = refl
+    ended v FindsNothing e = refl
 
--- the sections and the unit of one
-pub unit_lent : (c : ContextState) (probe : ℕ) (found : Option (Sections × UnitRecord)) → lookup_stop PassOver c.sections c.answers probe ≡ Ok c.stop → waiting_unit c.stop ≡ None → IsFoundUnit c found → unit_of c.sections c.answers probe ≡ Ok (Some found)
-unit_lent c probe found h w f = by (index_units c.sections) refl h
-  where
-    told : (m : UnitIndex) (s : Stop) → waiting_unit s ≡ None → unit_told c.sections c.answers m s ≡ Some (unit_found c.sections (unit_records m.units) c.answers s)
-    told m (Waits n) e = absurd cc
-    told m (Finds n fs) e = refl
-    told m FindsNothing e = refl
-
-    by : (r : Result UnitIndex Error) → index_units c.sections ≡ r → (r >>= stop_in PassOver c.sections c.answers probe) ≡ Ok c.stop → (r >>= λ m. stop_in PassOver c.sections c.answers probe m >>= λ s. Ok (unit_told c.sections c.answers m s)) ≡ Ok (Some found)
-    by (Err e) k q = absurd cc
-    by (Ok m) k q = ap (λ r. r >>= λ s. Ok (unit_told c.sections c.answers m s)) q ∙ ap (λ o. Ok o) (told m c.stop w ∙ ap (λ o. Some o) (sym (f m k)))
+-- the unit of the view that a lookup has found
+pub unit_found_is : (d : Sections) (answers : FirstAnswers) (stop : Stop) (m : UnitIndex) → index_units d ≡ Ok m → unit_found d (unit_records m.units) answers stop ≡ unit_value stop (view_found d answers stop)
+unit_found_is d answers (Waits n) m e = refl
+unit_found_is d answers FindsNothing m e = refl
+unit_found_is d answers (Finds n frames) m e =
+    sym (ap (λ (r : Result UnitIndex Error). option_map parts_of (elim r [ Err f ↦ None | Ok i ↦ readable_view (view_of_number d (unit_records i.units) answers n) ])) e)

@@ -14,13 +14,13 @@ use Rattle.addr2line_units.specs.FramesLookup.{Stop, Waits, Finds, FindsNothing,
 use Rattle.addr2line_units.specs.Located.{spans_of}
 use Rattle.addr2line_units.specs.RangedUnits.{unit_records}
 use Rattle.addr2line_units.specs.UnitIndex.{UnitIndex}
-use Rattle.addr2line_units.specs.Views.{FirstAnswers}
+use Rattle.addr2line_units.specs.Views.{FirstAnswers, View}
 use Rattle.addr2line_units.proofs.FaultLemmas.{all_lines_are, asked_frames_are, forget_result_is, index_units_is, load_result_is, location_of_is, ranged_units_are, read_of_units_is, spans_unrefused, stop_along_is, sup_units_are}
 use Rattle.addr2line.specs.Context.{lines_of_all, new_context}
 use Rattle.addr2line.specs.FaultLaws.{ReplyIsNotRefused}
 use Rattle.addr2line.specs.History.{HistoryCall, AsksLocation, AsksRange, AsksFrames, AsksUnit, AsksLoads, AnswersLoad, Forgets, ParsesLines, ParsesFunctions, answers_given, answers_left, replies_to, reply_to}
 use Rattle.addr2line.specs.Loads.{forget_reply, load_reply, parse_reply}
-use Rattle.addr2line.specs.Lookups.{UnitResult, asked_of, frames_of, lookup_stop, stop_in, unit_of}
+use Rattle.addr2line.specs.Lookups.{UnitResult, asked_of, found_at, lookup_stop, stop_in, unit_of}
 use Rattle.addr2line.specs.Replies.{reply_of_frames, reply_of_range, reply_of_unit}
 
 -- ---- contexts
@@ -41,11 +41,8 @@ stop_in_is faults d answers probe m =
 pub lookup_stop_is : (faults : OnFault) (d : Sections) (answers : FirstAnswers) (probe : ℕ) → IsByBytes (lookup_stop faults d answers probe)
 lookup_stop_is faults d answers probe = step (index_units_is d) (stop_in_is faults d answers probe)
 
-pub frames_of_are : (d : Sections) (answers : FirstAnswers) (probe : ℕ) → IsByBytes (frames_of d answers probe)
-frames_of_are d answers probe = step (lookup_stop_is End d answers probe) (λ s. value)
-
-pub unit_of_is : (d : Sections) (answers : FirstAnswers) (probe : ℕ) → IsByBytes (unit_of d answers probe)
-unit_of_is d answers probe = step (index_units_is d) (λ m. step (stop_in_is PassOver d answers probe m) (λ s. value))
+pub found_are : {V : Type 0} (faults : OnFault) (value_of : Stop → Option View → V) (d : Sections) (answers : FirstAnswers) (probe : ℕ) → IsByBytes (found_at faults value_of d answers probe)
+found_are faults value_of d answers probe = step (lookup_stop_is faults d answers probe) (λ s. value)
 
 -- ---- loads
 pub load_reply_is : (d : Sections) (answers : FirstAnswers) (n : ℕ) (given : Option Sections) → IsByBytes (load_reply d answers n given)

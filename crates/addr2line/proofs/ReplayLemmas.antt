@@ -13,20 +13,19 @@ use Rattle.gimli.specs.Unit.{UnitRecord}
 use Rattle.addr2line_units.specs.declared.continuation.LookupResult.{LookupResult}
 use Rattle.addr2line_units.specs.declared.continuation.LookupResult.TheVariants.{Output}
 use Rattle.addr2line_units.specs.declared.frames_lookup.OnFault.{OnFault}
-use Rattle.addr2line_units.specs.declared.frames_lookup.OnFault.TheVariants.{PassOver}
 use Rattle.addr2line_units.specs.FramesLookup.{Stop, Waits, Finds, FindsNothing, is_waiting}
 use Rattle.gimli_read.specs.Alike.{WasNotRefused}
 use Rattle.addr2line_units.specs.Parsed.{StaysParsed, has_parsed}
 use Rattle.addr2line_units.specs.Suspended.{IfOutput}
 use Rattle.addr2line_units.specs.UnitIndex.{UnitIndex, index_units}
 use Rattle.addr2line_units.specs.RangedUnits.{unit_records}
-use Rattle.addr2line_units.specs.Views.{FirstAnswers, SplitLoad, load_by, load_of_unit, split_name_of}
+use Rattle.addr2line_units.specs.Views.{FirstAnswers, SplitLoad, View, load_by, load_of_unit, split_name_of}
 use Rattle.addr2line.proofs.HistoryLemmas.{HasGiven, given_all, given_ended, given_last, given_more, given_up, resumed_answers, resumed_begun, resumed_parsed, resumed_sections, take_drop_one, take_then}
 use Rattle.addr2line.specs.Answers.{AfterResume, SuspendsAgain, answered}
 use Rattle.addr2line.specs.Context.{ContextState}
 use Rattle.addr2line.specs.History.{Given, Answered, Abandoned, Leaves, answers_given}
 use Rattle.addr2line.specs.AfterLookups.{AfterFramesOver, Suspends}
-use Rattle.addr2line.specs.Lookups.{IsLoadOf, lookup_stop, stop_in, unit_of, unit_told}
+use Rattle.addr2line.specs.Lookups.{IsLoadOf, ended_with, found_at, lookup_stop, stop_in, view_found}
 use Rattle.addr2line.specs.Replies.{CopiedReply, SuspendedAt}
 use Rattle.addr2line.specs.SeenReplies.{seen_reply}
 use Rattle.addr2line.specs.declared.reply.Reply.{Reply}
@@ -195,16 +194,12 @@ module _ (faults : OnFault) (probe : ℕ) (first : ContextState) (all : List Giv
           after : AfterResume shares faults probe number x o now new
           after = subst (λ q. AfterResume shares faults q number x o now new) same (subst (λ s. AfterResume shares faults asked number x o now s) (sym ends) (of_output result o (λ p. AfterResume shares faults asked number x p now lender) is rests))
 
--- a lookup of a unit that waits has found none
-pub unit_waiting : (d : Sections) (answers : FirstAnswers) (probe : ℕ) → is_waiting (lookup_stop PassOver d answers probe) ≡ true → unit_of d answers probe ≡ Ok None
-unit_waiting d answers probe w = of_index (index_units d) w
+-- a lookup that waits has found nothing
+pub found_waiting : {V : Type 0} (faults : OnFault) (value_of : Stop → Option View → V) (d : Sections) (answers : FirstAnswers) (probe : ℕ) → is_waiting (lookup_stop faults d answers probe) ≡ true → found_at faults value_of d answers probe ≡ Ok None
+found_waiting faults value_of d answers probe w = of_stop (lookup_stop faults d answers probe) w
   where
-    of_stop : (m : UnitIndex) (r : Result Stop Error) → is_waiting r ≡ true → (r >>= λ s. Ok (unit_told d answers m s)) ≡ Ok None
-    of_stop m (Ok (Waits n)) h = refl
-    of_stop m (Ok (Finds n frames)) h = absurd cc
-    of_stop m (Ok FindsNothing) h = absurd cc
-    of_stop m (Err e) h = absurd cc
-
-    of_index : (r : Result UnitIndex Error) → is_waiting (r >>= stop_in PassOver d answers probe) ≡ true → (r >>= λ m. stop_in PassOver d answers probe m >>= λ s. Ok (unit_told d answers m s)) ≡ Ok None
-    of_index (Err e) h = absurd cc
-    of_index (Ok m) h = of_stop m (stop_in PassOver d answers probe m) h
+    of_stop : (r : Result Stop Error) → is_waiting r ≡ true → (r >>= λ s. Ok (ended_with (value_of s (view_found d answers s)) s)) ≡ Ok None
+    of_stop (Ok (Waits n)) h = refl
+    of_stop (Ok (Finds n frames)) h = absurd cc
+    of_stop (Ok FindsNothing) h = absurd cc
+    of_stop (Err e) h = absurd cc

@@ -1,5 +1,5 @@
 -- Lookups of which none is answered to each load (on specs/SkipLaws.antt).
-use Rattle.std.proofs.Common.{◌≡◌, ◌≢◌, ℕ, zero, suc, ◌<◌, ◌≤◌, arith, false, List, length, None, Result, Ok, Err, refl, sym, ap, subst, ◌∙◌}
+use Rattle.std.proofs.Common.{◌≡◌, ◌≢◌, ℕ, zero, suc, ◌<◌, ◌≤◌, arith, false, List, length, Option, None, Result, Ok, Err, refl, sym, ap, subst, ◌∙◌}
 use Rattle.std.proofs.lemmas.List.{length-map}
 use Rattle.gimli_read.specs.declared.error.Error.{Error}
 use Rattle.gimli_read.specs.Reading.{◌>>=◌}
@@ -12,13 +12,13 @@ use Rattle.addr2line_units.specs.FramesLookup.{Stop, Waits, Finds, FindsNothing,
 use Rattle.addr2line_units.specs.LoadLaws as laws
 use Rattle.addr2line_units.specs.UnitIndex.{UnitIndex, index_units}
 use Rattle.addr2line_units.specs.RangedUnits.{IndexedUnit, unit_records}
-use Rattle.addr2line_units.specs.Views.{FirstAnswers, SplitLoad}
+use Rattle.addr2line_units.specs.Views.{FirstAnswers, SplitLoad, View}
 use Rattle.addr2line_units.proofs.LoadLawLemmas.{fewer_left}
 use Rattle.addr2line.proofs.HistoryLawLemmas.{answers_are, as_many, loads_are, waits_for_listed}
-use Rattle.addr2line.proofs.SkipLemmas.{decided_frames, decided_unit_of, none_after}
+use Rattle.addr2line.proofs.SkipLemmas.{decided_found, none_after}
 use Rattle.addr2line.specs.Answers.{answered}
 use Rattle.addr2line.specs.History.{answers_given, where_waiting}
-use Rattle.addr2line.specs.Lookups.{frames_of, frames_told, loads_at, lookup_stop, stop_in, unit_of, unit_told, with_none}
+use Rattle.addr2line.specs.Lookups.{ended_with, found_at, frames_value, loads_at, lookup_stop, unit_value, view_found, with_none}
 use Rattle.addr2line.specs.SkipLaws.{SkippedGivesSame, SkippedWaitsForNone}
 use Rattle.addr2line.specs.Skips.{nones, skipped_answers}
 
@@ -85,40 +85,19 @@ skipped_waits_for_none faults d m probe answers e many =
     ends faults d m probe e (length (loads_at d answers probe)) answers (length-map m.units (λ (u : IndexedUnit). u.unit) ∙ many) all
 
 -- what doesn't wait gives something, or a fault
-some_frames : (s : Result Stop Error) → is_waiting s ≡ false → (s >>= λ x. Ok (frames_told x)) ≢ Ok None
-some_frames (Err x) w h = absurd cc
-some_frames (Ok (Waits k)) w h = absurd cc
-some_frames (Ok (Finds k frames)) w h = absurd cc
-some_frames (Ok FindsNothing) w h = absurd cc
-
-some_unit : (d : Sections) (answers : FirstAnswers) (m : UnitIndex) (s : Result Stop Error) → is_waiting s ≡ false → (s >>= λ x. Ok (unit_told d answers m x)) ≢ Ok None
-some_unit d answers m (Err x) w h = absurd cc
-some_unit d answers m (Ok (Waits k)) w h = absurd cc
-some_unit d answers m (Ok (Finds k frames)) w h = absurd cc
-some_unit d answers m (Ok FindsNothing) w h = absurd cc
+some_found : {V : Type 0} (value_at : Stop → V) (s : Result Stop Error) → is_waiting s ≡ false → (s >>= λ x. Ok (ended_with (value_at x) x)) ≢ Ok None
+some_found value_at (Err x) w h = absurd cc
+some_found value_at (Ok (Waits k)) w h = absurd cc
+some_found value_at (Ok (Finds k frames)) w h = absurd cc
+some_found value_at (Ok FindsNothing) w h = absurd cc
 
 pub skipped_gives_same : SkippedGivesSame
-skipped_gives_same d m probe answers e many = (frames, unit)
+skipped_gives_same d m probe answers e many = (same_found End frames_value, same_found PassOver unit_value)
   where
     left : OnFault → FirstAnswers
     left faults = skipped_answers faults d probe answers
 
-    same : (faults : OnFault) → with_none (left faults) ≡ with_none answers
-    same faults = none_given faults d probe (length (loads_at d answers probe)) answers
-
-    ended : (faults : OnFault) → is_waiting (lookup_stop faults d (left faults) probe) ≡ false
-    ended faults = skipped_waits_for_none faults d m probe answers e many
-
-    frames : frames_of d (left End) probe ≡ frames_of d (with_none answers) probe
-    frames = sym (decided_frames d (left End) probe (some_frames (lookup_stop End d (left End) probe) (ended End)))
-        ∙ ap (λ a. frames_of d a probe) (same End)
-
-    by_index : unit_of d (left PassOver) probe ≡ (stop_in PassOver d (left PassOver) probe m >>= λ x. Ok (unit_told d (left PassOver) m x))
-    by_index = ap (λ r. r >>= λ i. stop_in PassOver d (left PassOver) probe i >>= λ x. Ok (unit_told d (left PassOver) i x)) e
-
-    ended_in : is_waiting (stop_in PassOver d (left PassOver) probe m) ≡ false
-    ended_in = sym (ap (λ r. is_waiting (r >>= stop_in PassOver d (left PassOver) probe)) e) ∙ ended PassOver
-
-    unit : unit_of d (left PassOver) probe ≡ unit_of d (with_none answers) probe
-    unit = sym (decided_unit_of d (left PassOver) probe (λ h. some_unit d (left PassOver) m (stop_in PassOver d (left PassOver) probe m) ended_in (sym by_index ∙ h)))
-        ∙ ap (λ a. unit_of d a probe) (same PassOver)
+    same_found : {V : Type 0} (faults : OnFault) (value_of : Stop → Option View → V) → found_at faults value_of d (left faults) probe ≡ found_at faults value_of d (with_none answers) probe
+    same_found faults value_of =
+        sym (decided_found faults value_of d (left faults) probe (some_found (λ s. value_of s (view_found d (left faults) s)) (lookup_stop faults d (left faults) probe) (skipped_waits_for_none faults d m probe answers e many)))
+        ∙ ap (λ a. found_at faults value_of d a probe) (none_given faults d probe (length (loads_at d answers probe)) answers)

@@ -13,18 +13,18 @@ use Rattle.addr2line_lines.specs.References.{Scope}
 use Rattle.addr2line_units.specs.declared.continuation.LookupResult.{LookupResult}
 use Rattle.addr2line_units.specs.declared.continuation.LookupResult.TheVariants.{Load, Output}
 use Rattle.addr2line_units.specs.declared.frames_lookup.OnFault.{OnFault}
-use Rattle.addr2line_units.specs.declared.frames_lookup.OnFault.TheVariants.{End, PassOver}
 use Rattle.addr2line_units.specs.declared.index.UnitRange.{UnitRange}
 use Rattle.addr2line_units.specs.Cover.{cover}
+use Rattle.addr2line_units.specs.Frames.{FrameRecord}
 use Rattle.addr2line_units.specs.FramesLookup.{Stop, Waits, Finds, FindsNothing, after_fault, answer_of, asked_frames, frames_of_number, is_waiting, main_scope, or_stop, readable_view, stop_along, view_of_number, with_answer}
 use Rattle.addr2line_units.specs.Suspended.{IfLoad, IfOutput, SkipsTo}
 use Rattle.addr2line_units.specs.UnitFrames.{FramesResult, frames_by, frames_in, function_by}
 use Rattle.addr2line_units.specs.UnitIndex.{UnitIndex, index_units}
 use Rattle.addr2line_units.specs.RangedUnits.{IndexedUnit, unit_records}
-use Rattle.addr2line_units.specs.Views.{FirstAnswers, SplitLoad, View, decided_answer, is_open, load_of_unit, parts_of, verdict, verdict_by}
+use Rattle.addr2line_units.specs.Views.{FirstAnswers, SplitLoad, View, decided_answer, is_open, load_of_unit, verdict, verdict_by}
 use Rattle.addr2line_units.proofs.FoundLemmas.{always_along, decided_by_frames, found_along, found_by_unit, has_frames}
 use Rattle.addr2line.specs.Answers.{answered}
-use Rattle.addr2line.specs.Lookups.{frames_of, frames_told, lookup_stop, stop_in, unit_of, unit_told, with_none}
+use Rattle.addr2line.specs.Lookups.{ended_with, found_at, lookup_stop, stop_in, view_found, with_none}
 
 -- a unit that is decided has its verdict where none is answered to the others
 decided_by : (d : Sections) (u : UnitRecord) (l : Result (Option SplitLoad) Error) (a : Option (Option Sections)) (v : Result View Error) → verdict_by d u l a ≡ Some v → verdict_by d u l (Some (unwrap_or a None)) ≡ Some v
@@ -85,16 +85,6 @@ decided_stop faults d answers probe w = of_index (index_units d) w
     of_index (Err e) h = refl
     of_index (Ok m) h = decided_stop_along _ _ (decided_asked faults (main_scope d m) m.units answers probe) (cover probe m.ranges) h
 
--- the frames of a lookup that ended
-pub decided_frames : (d : Sections) (answers : FirstAnswers) (probe : ℕ) → frames_of d answers probe ≢ Ok None → frames_of d (with_none answers) probe ≡ frames_of d answers probe
-decided_frames d answers probe ne = ap (λ r. r >>= λ s. Ok (frames_told s)) (decided_stop End d answers probe (ended (lookup_stop End d answers probe) ne))
-  where
-    ended : (r : Result Stop Error) → (r >>= λ s. Ok (frames_told s)) ≢ Ok None → is_waiting r ≡ false
-    ended (Err e) h = refl
-    ended (Ok (Waits n)) h = absurd (h refl)
-    ended (Ok (Finds n frames)) h = refl
-    ended (Ok FindsNothing) h = refl
-
 -- the view of a unit in which a lookup has found something
 found_view : (d : Sections) (m : UnitIndex) (answers : FirstAnswers) (probe n : ℕ) (o : Option IndexedUnit) → has_frames (elim o [ None ↦ Ok (Some []) | Some u ↦ frames_in (main_scope d m) u (answer_of answers n) probe ]) ≡ true
     → option_and_then (λ u. verdict d u (answer_of answers n)) (option_map (λ (u : IndexedUnit). u.unit) o) ≢ None
@@ -122,34 +112,42 @@ decided_view d us answers n ne = by (slice_get us n) ne
         ap (λ o. verdict d u (unwrap_or o None)) (slice_get-map (λ (a : Option (Option Sections)). Some (unwrap_or a None)) answers n)
         ∙ decided_verdict d u (slice_get answers n) h
 
--- the unit of a lookup that ended
-pub decided_unit_of : (d : Sections) (answers : FirstAnswers) (probe : ℕ) → unit_of d answers probe ≢ Ok None → unit_of d (with_none answers) probe ≡ unit_of d answers probe
-decided_unit_of d answers probe ne = of_index (index_units d) ne
+-- the view in which a lookup has found something
+decided_seen : (faults : OnFault) (d : Sections) (answers : FirstAnswers) (probe n : ℕ) (frames : List FrameRecord) → lookup_stop faults d answers probe ≡ Ok (Finds n frames) → view_found d (with_none answers) (Finds n frames) ≡ view_found d answers (Finds n frames)
+decided_seen faults d answers probe n frames is = of_index (index_units d) is
   where
-    of_stop : (m : UnitIndex) (r : Result Stop Error) → stop_in PassOver d answers probe m ≡ r → (r >>= λ s. Ok (unit_told d answers m s)) ≢ Ok None
-        → (r >>= λ s. Ok (unit_told d (with_none answers) m s)) ≡ (r >>= λ s. Ok (unit_told d answers m s))
-    of_stop m (Err e) is h = refl
-    of_stop m (Ok (Waits n)) is h = absurd (h refl)
-    of_stop m (Ok FindsNothing) is h = refl
-    of_stop m (Ok (Finds n frames)) is h =
-        let asked = asked_frames PassOver (main_scope d m) m.units answers probe in
-        let told = found_along (λ _. true) asked n frames (cover probe m.ranges) (always_along asked (cover probe m.ranges)) is in
-        let there = found_by_unit PassOver (frames_of_number (main_scope d m) m.units answers probe n) told.0 in
-        let known = subst (λ o. option_and_then (λ u. verdict d u (answer_of answers n)) o ≢ None) (sym (slice_get-map (λ (u : IndexedUnit). u.unit) m.units n)) (found_view d m answers probe n (slice_get m.units n) there) in
-        ap (λ (w : Option (Result View Error)). Ok (Some (option_map parts_of (readable_view w)))) (decided_view d (unit_records m.units) answers n known)
+    view_in : FirstAnswers → Result UnitIndex Error → Option View
+    view_in a r = elim r [ Err e ↦ None | Ok m ↦ readable_view (view_of_number d (unit_records m.units) a n) ]
 
-    ended : (m : UnitIndex) (r : Result Stop Error) → (r >>= λ s. Ok (unit_told d answers m s)) ≢ Ok None → is_waiting r ≡ false
-    ended m (Err e) h = refl
-    ended m (Ok (Waits n)) h = absurd (h refl)
-    ended m (Ok (Finds n frames)) h = refl
-    ended m (Ok FindsNothing) h = refl
-
-    of_index : (r : Result UnitIndex Error) → (r >>= λ m. stop_in PassOver d answers probe m >>= λ s. Ok (unit_told d answers m s)) ≢ Ok None
-        → (r >>= λ m. stop_in PassOver d (with_none answers) probe m >>= λ s. Ok (unit_told d (with_none answers) m s)) ≡ (r >>= λ m. stop_in PassOver d answers probe m >>= λ s. Ok (unit_told d answers m s))
+    of_index : (r : Result UnitIndex Error) → (r >>= stop_in faults d answers probe) ≡ Ok (Finds n frames) → view_in (with_none answers) r ≡ view_in answers r
     of_index (Err e) h = refl
     of_index (Ok m) h =
-        ap (λ r. r >>= λ s. Ok (unit_told d (with_none answers) m s)) (decided_stop_along _ _ (decided_asked PassOver (main_scope d m) m.units answers probe) (cover probe m.ranges) (ended m (stop_in PassOver d answers probe m) h))
-        ∙ of_stop m (stop_in PassOver d answers probe m) refl h
+        let asked = asked_frames faults (main_scope d m) m.units answers probe in
+        let along = found_along (λ _. true) asked n frames (cover probe m.ranges) (always_along asked (cover probe m.ranges)) h in
+        let there = found_by_unit faults (frames_of_number (main_scope d m) m.units answers probe n) along.0 in
+        let known = subst (λ o. option_and_then (λ u. verdict d u (answer_of answers n)) o ≢ None) (sym (slice_get-map (λ (u : IndexedUnit). u.unit) m.units n)) (found_view d m answers probe n (slice_get m.units n) there) in
+        ap readable_view (decided_view d (unit_records m.units) answers n known)
+
+-- what a lookup that ended has found
+module _ {V : Type 0} (faults : OnFault) (value_of : Stop → Option View → V) (d : Sections) where
+  abbrev value_at : FirstAnswers → Stop → Result (Option V) Error
+  value_at answers s = Ok (ended_with (value_of s (view_found d answers s)) s)
+
+  pub decided_found : (answers : FirstAnswers) (probe : ℕ) → found_at faults value_of d answers probe ≢ Ok None → found_at faults value_of d (with_none answers) probe ≡ found_at faults value_of d answers probe
+  decided_found answers probe ne =
+      ap (λ r. r >>= value_at (with_none answers)) (decided_stop faults d answers probe (ended (lookup_stop faults d answers probe) ne)) ∙ of_stop (lookup_stop faults d answers probe) refl
+    where
+      ended : (r : Result Stop Error) → (r >>= value_at answers) ≢ Ok None → is_waiting r ≡ false
+      ended (Err e) h = refl
+      ended (Ok (Waits n)) h = absurd (h refl)
+      ended (Ok (Finds n frames)) h = refl
+      ended (Ok FindsNothing) h = refl
+
+      of_stop : (r : Result Stop Error) → lookup_stop faults d answers probe ≡ r → (r >>= value_at (with_none answers)) ≡ (r >>= value_at answers)
+      of_stop (Err e) is = refl
+      of_stop (Ok (Waits n)) is = refl
+      of_stop (Ok FindsNothing) is = refl
+      of_stop (Ok (Finds n frames)) is = ap (λ (view : Option View). Ok (Some (value_of (Finds n frames) view))) (decided_seen faults d answers probe n frames is)
 
 -- none as the answer of one more unit
 none_closed : (d : Sections) (u : UnitRecord) (a : Option (Option Sections)) → ◌≡◌ {A = Option (Option Sections)} (Some (unwrap_or (decided_answer d u a None) None)) (Some (unwrap_or a None))
@@ -186,24 +184,24 @@ none_after d answers n = of_index (index_units d)
     of_index (Ok m) = of_unit (slice_get (unit_records m.units) n)
 
 -- what a lookup may give after none as an answer it may give before it
-module _ {V X : Type 0} (reading : Sections → FirstAnswers → ℕ → Result (Option V) Error) (decided : (d : Sections) (answers : FirstAnswers) (probe : ℕ) → reading d answers probe ≢ Ok None → reading d (with_none answers) probe ≡ reading d answers probe) (see : X → V) where
+module _ {V X : Type 0} (faults : OnFault) (value_of : Stop → Option View → V) (see : X → V) where
   pub skip_told : {L D S : Type 0} (d : Sections) (answers : FirstAnswers) (probe n : ℕ) (sections_of : L → Sections) (answers_of : L → FirstAnswers) (probe_of : L → ℕ) (r : LookupResult L (Result X Error) D S)
       → IfLoad r (λ c. (sections_of c ≡ d) × (answers_of c ≡ answered d answers n None) × (probe_of c ≡ probe))
-      → IfOutput r (λ o. ExactlyUnlessOom (λ x. Some (see x)) o (reading d (answered d answers n None) probe))
-      → (o : Result X Error) → SkipsTo (λ c p. ExactlyUnlessOom (λ x. Some (see x)) p (reading (sections_of c) (with_none (answers_of c)) (probe_of c))) r o
-      → ExactlyUnlessOom (λ x. Some (see x)) o (reading d (with_none answers) probe)
+      → IfOutput r (λ o. ExactlyUnlessOom (λ x. Some (see x)) o (found_at faults value_of d (answered d answers n None) probe))
+      → (o : Result X Error) → SkipsTo (λ c p. ExactlyUnlessOom (λ x. Some (see x)) p (found_at faults value_of (sections_of c) (with_none (answers_of c)) (probe_of c))) r o
+      → ExactlyUnlessOom (λ x. Some (see x)) o (found_at faults value_of d (with_none answers) probe)
   skip_told d answers probe n sections_of answers_of probe_of (Load c) load output o skips =
-      subst (λ a. ExactlyUnlessOom (λ x. Some (see x)) o (reading d a probe)) (none_after d answers n)
-      (subst (λ p. ExactlyUnlessOom (λ x. Some (see x)) o (reading d (with_none (answered d answers n None)) p)) load.2
-      (subst (λ a. ExactlyUnlessOom (λ x. Some (see x)) o (reading d (with_none a) (probe_of c))) load.1
-      (subst (λ s. ExactlyUnlessOom (λ x. Some (see x)) o (reading s (with_none (answers_of c)) (probe_of c))) load.0 skips)))
+      subst (λ a. ExactlyUnlessOom (λ x. Some (see x)) o (found_at faults value_of d a probe)) (none_after d answers n)
+      (subst (λ p. ExactlyUnlessOom (λ x. Some (see x)) o (found_at faults value_of d (with_none (answered d answers n None)) p)) load.2
+      (subst (λ a. ExactlyUnlessOom (λ x. Some (see x)) o (found_at faults value_of d (with_none a) (probe_of c))) load.1
+      (subst (λ s. ExactlyUnlessOom (λ x. Some (see x)) o (found_at faults value_of s (with_none (answers_of c)) (probe_of c))) load.0 skips)))
   skip_told d answers probe n sections_of answers_of probe_of (Output p) load output o skips =
-      subst (λ q. ExactlyUnlessOom (λ x. Some (see x)) q (reading d (with_none answers) probe)) skips (of_output p output)
+      subst (λ q. ExactlyUnlessOom (λ x. Some (see x)) q (found_at faults value_of d (with_none answers) probe)) skips (of_output p output)
     where
-      then_none : reading d (answered d answers n None) probe ≢ Ok None → reading d (with_none answers) probe ≡ reading d (answered d answers n None) probe
-      then_none ne = ap (λ a. reading d a probe) (sym (none_after d answers n)) ∙ decided d (answered d answers n None) probe ne
+      then_none : found_at faults value_of d (answered d answers n None) probe ≢ Ok None → found_at faults value_of d (with_none answers) probe ≡ found_at faults value_of d (answered d answers n None) probe
+      then_none ne = ap (λ a. found_at faults value_of d a probe) (sym (none_after d answers n)) ∙ decided_found faults value_of d (answered d answers n None) probe ne
 
-      of_output : (q : Result X Error) → ExactlyUnlessOom (λ x. Some (see x)) q (reading d (answered d answers n None) probe) → ExactlyUnlessOom (λ x. Some (see x)) q (reading d (with_none answers) probe)
+      of_output : (q : Result X Error) → ExactlyUnlessOom (λ x. Some (see x)) q (found_at faults value_of d (answered d answers n None) probe) → ExactlyUnlessOom (λ x. Some (see x)) q (found_at faults value_of d (with_none answers) probe)
       of_output (Ok x) h = then_none (λ e. ok_none (sym h ∙ e)) ∙ h
         where
           ok_none : ◌≡◌ {A = Result (Option V) Error} (Ok (Some (see x))) (Ok None) → ⊥

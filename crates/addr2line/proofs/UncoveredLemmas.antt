@@ -1,20 +1,21 @@
 -- Lookups of an address that no unit covers (on specs/Context.antt and specs/AfterLookups.antt).
-use Rattle.std.proofs.Common.{◌≡◌, ℕ, Bool, true, false, [], Result, Ok, Err, is_ok, ap, refl, subst, sym, ◌∙◌}
+use Rattle.std.proofs.Common.{◌≡◌, ℕ, Bool, true, false, [], Option, Result, Ok, Err, is_ok, ap, refl, subst, sym, ◌∙◌}
 use Rattle.gimli_read.specs.declared.error.Error.{Error}
 use Rattle.gimli_read.specs.Alike.{WasNotRefused}
 use Rattle.gimli_read.specs.Reading.{◌>>=◌, ExactlyUnlessOom}
 use Rattle.addr2line_units.specs.declared.continuation.LookupResult.{LookupResult}
 use Rattle.addr2line_units.specs.declared.continuation.LookupResult.TheVariants.{Load, Output}
 use Rattle.addr2line_units.specs.declared.frames_lookup.OnFault.{OnFault}
-use Rattle.addr2line_units.specs.declared.frames_lookup.OnFault.TheVariants.{End, PassOver}
 use Rattle.addr2line_units.specs.Cover.{cover}
-use Rattle.addr2line_units.specs.FramesLookup.{FindsNothing, Waits, holds_along, is_waiting, stop_along}
+use Rattle.addr2line_units.specs.FramesLookup.{FindsNothing, Stop, Waits, holds_along, is_waiting, stop_along}
 use Rattle.addr2line_units.specs.Suspended.{IfLoad, IfOutput, IsOkOutput}
 use Rattle.addr2line_units.specs.UnitIndex.{UnitIndex, index_units}
+use Rattle.addr2line_units.specs.Views.{View}
 use Rattle.addr2line_units.proofs.NewUnitsLemmas.{ok_is}
 use Rattle.addr2line.specs.AfterLookups.{AfterFrames, AfterFramesOver, IsKnownFew, has_few_of}
 use Rattle.addr2line.specs.Context.{ContextState, IsUncovered}
-use Rattle.addr2line.specs.Lookups.{asked_of, frames_of, frames_of_stop, lookup_stop, stop_in, unit_of, unit_told}
+use Rattle.addr2line.specs.Lookups.{asked_of, ended_with, lookup_stop, stop_in, view_found}
+use Rattle.addr2line.specs.WaitingLookups.{found_of_context}
 
 -- which units cover an address is told by the sections alone
 pub still_uncovered : (probe : ℕ) (old new : ContextState) → new.sections ≡ old.sections → IsUncovered new probe → IsUncovered old probe
@@ -49,11 +50,6 @@ module _ (faults : OnFault) (probe : ℕ) (c : ContextState) (u : IsUncovered c 
       absurd cc
 
 -- what it gives there
-module _ (probe : ℕ) (c : ContextState) (u : IsUncovered c probe) where
-  pub uncovered_frames_ok : is_ok (frames_of c.sections c.answers probe) ≡ true
-  uncovered_frames_ok = ap (λ s. is_ok (frames_of_stop s)) (uncovered_stop End probe c u)
-
-  pub uncovered_unit_ok : is_ok (unit_of c.sections c.answers probe) ≡ true
-  uncovered_unit_ok =
-      ap (λ (r : Result UnitIndex Error). is_ok (r >>= λ m. stop_in PassOver c.sections c.answers probe m >>= λ s. Ok (unit_told c.sections c.answers m s))) u.1
-      ∙ ap (λ ranges. is_ok (stop_along (asked_of PassOver c.sections c.answers probe u.0) ranges >>= λ s. Ok (unit_told c.sections c.answers u.0 s))) u.2
+pub uncovered_ok : {V : Type 0} (faults : OnFault) (value_of : Stop → Option View → V) (probe : ℕ) (c : ContextState) → IsUncovered c probe → is_ok (found_of_context faults value_of c probe) ≡ true
+uncovered_ok faults value_of probe c u =
+    ap (λ r. is_ok (r >>= λ s. Ok (ended_with (value_of s (view_found c.sections c.answers s)) s))) (uncovered_stop faults probe c u)

@@ -2,18 +2,16 @@
 -- parsed for them (DWARF 5, sections 3.1.2, 3.3 and 7.3.2).
 -- Own: a lookup parses only lines that it asks for, and reads nothing of a unit that it doesn't
 -- ask; nothing that is known is parsed again.
-use Rattle.std.specs.Prelude.{◌≡◌, ◌⊎◌, ℕ, ◌≤◌, Bool, true, false, slice_get, Option, IfErr, Result, Ok, Err}
+use Rattle.std.specs.Prelude.{◌≡◌, ◌⊎◌, ℕ, ◌≤◌, Bool, true, false, slice_get, IfErr, Result, Ok, Err}
 use Rattle.gimli_read.specs.declared.error.Error.{Error}
 use Rattle.gimli_read.specs.Reading.{◌>>=◌, ExactlyUnlessOom}
 use Rattle.gimli.specs.Sections.{Sections}
-use Rattle.gimli.specs.Unit.{UnitRecord}
 use Rattle.addr2line_units.specs.declared.frames_lookup.OnFault.{OnFault}
 use Rattle.addr2line_units.specs.Cover.{cover}
-use Rattle.addr2line_units.specs.FramesLookup.{Stop, Waits, LookupAsks, asks_lines_of, function_offset_of, holds_along, is_waiting, main_scope, unit_found}
+use Rattle.addr2line_units.specs.FramesLookup.{Stop, Waits, LookupAsks, asks_lines_of, function_offset_of, holds_along, is_waiting, main_scope}
 use Rattle.gimli_read.specs.Alike.{WasNotRefused}
 use Rattle.addr2line_units.specs.KnownEntries.{LearnsDetailsAt}
 use Rattle.addr2line_units.specs.Parsed.{ParsesOnly, StaysParsed}
-use Rattle.addr2line_units.specs.RangedUnits.{unit_records}
 use Rattle.addr2line_units.specs.StaysKnown.{StaysKnown}
 use Rattle.addr2line_units.specs.UnitIndex.{UnitIndex, index_units}
 use Rattle.addr2line_units.specs.UnitsState.{UnitsState, asks_no_memory_at, has_all_at, has_few_at}
@@ -128,11 +126,6 @@ pub record AfterFramesOver {X : Type 0} (shares : Bool) (faults : OnFault) (prob
 abbrev pub IsStored : OnFault → ℕ → Result (Unit {0}) Error → ContextState → Type 0
 IsStored faults probe walked c =
     ExactlyUnlessOom (λ _. c.stop) walked (lookup_stop faults c.sections c.answers probe)
-
--- these are the sections and the unit of the view of what a lookup has found, if it has found one
-abbrev pub IsFoundUnit : ContextState → Option (Sections × UnitRecord) → Type 0
-IsFoundUnit c found = (m : UnitIndex) → index_units c.sections ≡ Ok m
-    → found ≡ unit_found c.sections (unit_records m.units) c.answers c.stop
 
 -- what is lent after a lookup: where it doesn't wait, a refusal is that of the lookup, and memory
 -- is refused only where it was for the lookup

@@ -11,11 +11,11 @@ use Rattle.addr2line_units.specs.declared.frames_lookup.OnFault.{OnFault}
 use Rattle.addr2line_units.specs.declared.frames_lookup.OnFault.TheVariants.{End, PassOver}
 use Rattle.addr2line_units.specs.Cover.{cover}
 use Rattle.addr2line_units.specs.Frames.{FrameRecord}
-use Rattle.addr2line_units.specs.FramesLookup.{LookupAsks, Stop, Waits, Finds, FindsNothing, asked_frames, frames_of_number, main_scope, stop_along, unit_found}
+use Rattle.addr2line_units.specs.FramesLookup.{LookupAsks, Stop, Waits, Finds, FindsNothing, asked_frames, frames_found, frames_of_number, main_scope, readable_view, stop_along, view_of_number}
 use Rattle.addr2line_units.specs.LoadLaws.{loads_of}
 use Rattle.addr2line_units.specs.UnitIndex.{UnitIndex, index_units}
 use Rattle.addr2line_units.specs.RangedUnits.{unit_records}
-use Rattle.addr2line_units.specs.Views.{FirstAnswers, SplitLoad, load_of_unit}
+use Rattle.addr2line_units.specs.Views.{FirstAnswers, SplitLoad, View, load_of_unit, parts_of}
 use Rattle.addr2line_units.specs.UnitFrames.{FramesResult}
 
 -- what a lookup asks the unit of a number for
@@ -37,36 +37,51 @@ IsFaultOfAsked faults d answers probe e = (m : UnitIndex) × (index_units d ≡ 
     × ((n : ℕ) × LookupAsks (asked_of faults d answers probe m) (cover probe m.ranges) n
     × (frames_of_number (main_scope d m) m.units answers probe n ≡ Err e))
 
--- the frames of a lookup that has ended, none where it waits
-abbrev pub frames_told : Stop → Option (List FrameRecord)
-frames_told (Waits n) = None
-frames_told (Finds n frames) = Some frames
-frames_told FindsNothing = Some []
+-- what a lookup has found, none of it where it waits
+abbrev pub ended_with : {V : Type 0} → V → Stop → Option V
+ended_with found (Waits n) = None
+ended_with found stop = Some found
+
+-- the view of the unit in which a lookup has found something, if it has found something
+abbrev pub view_found : Sections → FirstAnswers → Stop → Option View
+view_found d answers (Finds n frames) = elim (index_units d) [
+  | Err e ↦ None
+  | Ok m ↦ readable_view (view_of_number d (unit_records m.units) answers n)
+]
+view_found d answers stop = None
+
+-- what a lookup of a kind gives at the probe: a value of what it comes to and of the view in which
+-- it finds something; none where it waits for an answer; or its fault
+abbrev pub found_at : {V : Type 0} → OnFault → (Stop → Option View → V) → Sections → FirstAnswers → ℕ
+    → Result (Option V) Error
+found_at faults value_of d answers probe = lookup_stop faults d answers probe >>= λ s.
+    Ok (ended_with (value_of s (view_found d answers s)) s)
 
 -- the frames of a lookup that has come to this, none where it waits, or its fault
 abbrev pub frames_of_stop : Result Stop Error → FramesResult
-frames_of_stop stop = stop >>= λ s. Ok (frames_told s)
+frames_of_stop stop = stop >>= λ s. Ok (ended_with (frames_found s) s)
+
+-- what a lookup of frames gives: those that it found
+abbrev pub frames_value : Stop → Option View → List FrameRecord
+frames_value stop view = frames_found stop
 
 -- the frames at the probe, none where the lookup waits for an answer, or its first fault
 abbrev pub frames_of : Sections → FirstAnswers → ℕ → FramesResult
-frames_of d answers probe = frames_of_stop (lookup_stop End d answers probe)
+frames_of d answers probe = found_at End frames_value d answers probe
 
 -- what a lookup of a unit gives: the sections and the unit of the view that it found, if it found
--- one, and none of it where it waits
+-- one
+abbrev pub unit_value : Stop → Option View → Option (Sections × UnitRecord)
+unit_value stop view = option_map parts_of view
+
+-- the same, none of it where the lookup waits, or its fault
 abbrev pub UnitResult : Type 0
 UnitResult = Result (Option (Option (Sections × UnitRecord))) Error
-
--- the sections and the unit of the view of a lookup that has ended, none where it waits
-abbrev pub unit_told : Sections → FirstAnswers → UnitIndex → Stop
-    → Option (Option (Sections × UnitRecord))
-unit_told d answers m (Waits n) = None
-unit_told d answers m stop = Some (unit_found d (unit_records m.units) answers stop)
 
 -- the sections and the unit of the view at the probe, none where the lookup waits for an answer;
 -- faults of units are passed over
 abbrev pub unit_of : Sections → FirstAnswers → ℕ → UnitResult
-unit_of d answers probe = index_units d >>= λ m.
-    stop_in PassOver d answers probe m >>= λ s. Ok (unit_told d answers m s)
+unit_of d answers probe = found_at PassOver unit_value d answers probe
 
 -- whether a lookup waits for the unit of this number
 abbrev pub waits_for : ℕ → Result Stop Error → Bool

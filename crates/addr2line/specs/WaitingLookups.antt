@@ -1,17 +1,20 @@
 -- Lookups that may wait, by the context that they are made in (on Lookups, Answers and Skips).
-use Rattle.std.specs.Prelude.{◌≡◌, ℕ, length, Option, Result, Ok}
+use Rattle.std.specs.Prelude.{◌≡◌, ℕ, length, Option, IfErr, Result, Ok}
 use Rattle.std.specs.Borrow.{MutBor}
 use Rattle.gimli_read.specs.declared.error.Error.{Error}
+use Rattle.gimli_read.specs.declared.error.Error.TheVariants.{OutOfMemory}
 use Rattle.gimli.specs.Sections.{Sections}
+use Rattle.addr2line_units.specs.declared.continuation.LookupResult.{LookupResult}
 use Rattle.addr2line_units.specs.declared.frames_lookup.OnFault.{OnFault}
 use Rattle.addr2line_units.specs.declared.frames_lookup.OnFault.TheVariants.{End, PassOver}
-use Rattle.addr2line_units.specs.FramesLookup.{Waits}
-use Rattle.addr2line_units.specs.Views.{SplitLoad}
+use Rattle.addr2line_units.specs.FramesLookup.{Stop, Waits}
+use Rattle.addr2line_units.specs.Suspended.{IfOutput}
+use Rattle.addr2line_units.specs.Views.{SplitLoad, View}
 use Rattle.addr2line_units.specs.UnitFrames.{FramesResult}
 use Rattle.addr2line.specs.Answers.{SuspendsAgain, answered}
 use Rattle.addr2line.specs.Context.{ContextState}
 use Rattle.addr2line.specs.AfterLookups.{Suspends}
-use Rattle.addr2line.specs.Lookups.{IsLoadOf, UnitResult, frames_of, loads_at, unit_of, with_none}
+use Rattle.addr2line.specs.Lookups.{IsLoadOf, UnitResult, found_at, frames_value, loads_at, unit_value, with_none}
 use Rattle.addr2line.specs.Skips.{skipped_answers}
 
 -- a lookup of this context at this probe waits for the unit of a number, with this load
@@ -41,37 +44,34 @@ HoldsIn context probe walked held at number load =
 abbrev pub count_loads : ContextState → ℕ → ℕ
 count_loads c probe = length (loads_at c.sections c.answers probe)
 
+-- what a lookup of a kind gives, by what becomes of faults and what it makes of what it finds
+module _ {V : Type 0} (faults : OnFault) (value_of : Stop → Option View → V) where
+  -- at the probe in a context
+  abbrev pub found_of_context : ContextState → ℕ → Result (Option V) Error
+  found_of_context c probe = found_at faults value_of c.sections c.answers probe
+
+  -- the same once the unit of a number was answered
+  abbrev pub found_answered : ContextState → ℕ → Option Sections → ℕ → Result (Option V) Error
+  found_answered c n given probe =
+      found_at faults value_of c.sections (answered c.sections c.answers n given) probe
+
+  -- the same where each load of the lookup is answered None
+  abbrev pub found_skipped : ContextState → ℕ → Result (Option V) Error
+  found_skipped c probe = found_at faults value_of c.sections
+      (skipped_answers faults c.sections probe c.answers) probe
+
+  -- the same where each unit that has no answer is answered None
+  abbrev pub found_with_none : ContextState → ℕ → Result (Option V) Error
+  found_with_none c probe = found_at faults value_of c.sections (with_none c.answers) probe
+
+-- an output of a lookup that passes over faults is refused OutOfMemory alone
+abbrev pub IsRefusedAs : {L X D S : Type 0} → OnFault → LookupResult L (Result X Error) D S → Type 0
+IsRefusedAs faults result = faults ≡ PassOver → IfOutput result (λ o. IfErr o (λ e. e ≡ OutOfMemory))
+
 -- the frames at the probe in a context
 abbrev pub frames_of_context : ContextState → ℕ → FramesResult
-frames_of_context c probe = frames_of c.sections c.answers probe
-
--- the same once the unit of a number was answered
-abbrev pub frames_answered : ContextState → ℕ → Option Sections → ℕ → FramesResult
-frames_answered c n given probe =
-    frames_of c.sections (answered c.sections c.answers n given) probe
-
--- the same where each load of the lookup is answered None
-abbrev pub frames_skipped : ContextState → ℕ → FramesResult
-frames_skipped c probe =
-    frames_of c.sections (skipped_answers End c.sections probe c.answers) probe
-
--- the same where each unit that has no answer is answered None
-abbrev pub frames_with_none : ContextState → ℕ → FramesResult
-frames_with_none c probe = frames_of c.sections (with_none c.answers) probe
+frames_of_context c probe = found_of_context End frames_value c probe
 
 -- the sections and the unit at the probe in a context
 abbrev pub unit_of_context : ContextState → ℕ → UnitResult
-unit_of_context c probe = unit_of c.sections c.answers probe
-
--- the same once the unit of a number was answered
-abbrev pub unit_answered : ContextState → ℕ → Option Sections → ℕ → UnitResult
-unit_answered c n given probe = unit_of c.sections (answered c.sections c.answers n given) probe
-
--- the same where each load of the lookup is answered None
-abbrev pub unit_skipped : ContextState → ℕ → UnitResult
-unit_skipped c probe =
-    unit_of c.sections (skipped_answers PassOver c.sections probe c.answers) probe
-
--- the same where each unit that has no answer is answered None
-abbrev pub unit_with_none : ContextState → ℕ → UnitResult
-unit_with_none c probe = unit_of c.sections (with_none c.answers) probe
+unit_of_context c probe = found_of_context PassOver unit_value c probe

@@ -10,6 +10,7 @@ mod file_sections;
 mod files;
 mod frames;
 mod kept_files;
+mod kinds;
 pub mod laws;
 mod loader;
 mod loads;

@@ -17,8 +17,9 @@ use crate::context::Context;
 use crate::copies::{
     done_reply, frames_reply, loads_reply, location_reply, rows_reply, unit_reply,
 };
+use crate::kinds::LookupKind;
 use crate::reply::Reply;
-use crate::suspended::{LookupKind, Suspended};
+use crate::suspended::Suspended;
 use addr2line_units::continuation::{LookupContinuation, LookupResult};
 use addr2line_units::view::{SplitDwarfLoad, UnitToken};
 use gimli::Dwarf;

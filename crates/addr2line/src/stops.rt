@@ -9,8 +9,8 @@ ghost use Rattle.addr2line_units.specs.FramesLeft.{frames_left};
 ghost use Rattle.addr2line_units.specs.FramesLookup.{Waits, frames_found};
 ghost use Rattle.addr2line_units.specs.SeenUnit.{seen_unit};
 ghost use Rattle.addr2line.specs.Context.{IsUncovered};
-ghost use Rattle.addr2line.specs.AfterLookups.{AfterFrames, IsFoundUnit, IsKnownFew, IsStored, NeedsNoMemory};
-ghost use Rattle.addr2line.specs.Lookups.{IsFaultOfAsked, IsLoadOf};
+ghost use Rattle.addr2line.specs.AfterLookups.{AfterFrames, IsKnownFew, IsStored, NeedsNoMemory};
+ghost use Rattle.addr2line.specs.Lookups.{IsFaultOfAsked, IsLoadOf, unit_value, view_found};
 ghost use Rattle.addr2line_units.specs.UnitsState.{waiting_unit};
 ghost use Rattle.std.specs.Prelude.{option_map};
 
@@ -61,7 +61,8 @@ impl<R: Reader> Context<R> {
     // The sections and the unit of the view of the unit in which the last lookup has found
     // something, none where it waits or has found nothing.
     pub(crate) fn found_unit(&self) -> Option<UnitRef<'_, R>>
-        ensures gives { IsFoundUnit self.now (option_map seen_unit result) }
+        ensures gives { option_map seen_unit result ≡ unit_value self.now.stop
+            (view_found self.now.sections self.now.answers self.now.stop) }
     {
         self.units.unit()
     }

@@ -4,39 +4,25 @@ ghost use Rattle.std.specs.Prelude.{◌≡◌, ◌<◌, None, Some, IfErr, optio
 ghost use Rattle.std.specs.Borrow.{sem};
 ghost use Rattle.gimli_read.specs.declared.error.Error.TheVariants.{OutOfMemory};
 ghost use Rattle.gimli_read.specs.Reading.{ExactlyUnlessOom};
-ghost use Rattle.addr2line_units.specs.declared.frames_lookup.OnFault.TheVariants.{End, PassOver};
-ghost use Rattle.addr2line_units.specs.FramesLeft.{frames_left};
-ghost use Rattle.addr2line_units.specs.SeenUnit.{seen_found};
+ghost use Rattle.addr2line_units.specs.declared.frames_lookup.OnFault.TheVariants.{PassOver};
+ghost use Rattle.addr2line_lines.specs.LastAddress.{last_address};
 ghost use Rattle.addr2line_units.specs.Suspended.{IfLoad, IfOutput, SkipsTo};
 ghost use Rattle.addr2line.specs.Answers.{AfterResume};
 ghost use Rattle.addr2line.specs.Borrowed.{RestsAs};
+ghost use Rattle.addr2line.specs.Context.{IsUncovered};
+ghost use Rattle.addr2line.specs.AfterLookups.{AfterFramesOver, IsLent, IsStored};
 ghost use Rattle.addr2line.specs.Lookups.{lookup_stop, waits_for};
 ghost use Rattle.addr2line.specs.Skips.{AfterSkip};
-ghost use Rattle.addr2line.specs.WaitingLookups.{SuspendsAgainIn, count_loads, frames_answered, frames_skipped, frames_with_none, unit_answered, unit_skipped, unit_with_none};
+ghost use Rattle.addr2line.specs.WaitingLookups.{HoldsIn, IsRefusedAs, SuspendsAgainIn, SuspendsIn, count_loads, found_answered, found_of_context, found_skipped, found_with_none};
 
 use crate::context::Context;
-use crate::frames::{self, FramesLookup};
-use crate::units::{self, UnitLookup};
-use addr2line_units::FrameIter;
+use crate::kinds::{Lent, LookupKind};
 use addr2line_units::continuation::{LookupContinuation, LookupResult};
-use addr2line_units::frames_lookup::OnFault;
 use addr2line_units::view::SplitDwarfLoad;
+use gimli::Dwarf;
 use gimli::read::{Error, Reader};
-use gimli::{Dwarf, UnitRef};
 use std::marker::PhantomData;
 use std::rc::Rc;
-
-/// What a lookup asks for, whose answer may wait for split files.
-pub trait LookupKind: Drop {
-    ghost use Rattle.addr2line_units.specs.declared.frames_lookup.OnFault.{OnFault};
-
-    // What becomes of the fault of a unit that is asked.
-    ghost faults: { OnFault };
-
-    /// Whether the fault of a unit that is asked ends the lookup or is passed over.
-    fn on_fault() -> OnFault
-        ensures gives { result ≡ faults };
-}
 
 /// The rest of a lookup of the kind `K` that waits for the load `B`.
 ///
@@ -96,8 +82,9 @@ impl<'ctx, R: Reader, K: LookupKind, B: Drop> Suspended<'ctx, R, K, B> {
     }
 }
 
-impl<'ctx, R: Reader> LookupContinuation for FramesLookup<'ctx, R> {
-    type Output = Result<FrameIter<'ctx, R>, Error>;
+impl<'ctx, R: Reader, K: Lent<'ctx, Context<R>>> LookupContinuation
+    for Suspended<'ctx, R, K, SplitDwarfLoad<R>> {
+    type Output = Result<K::Found, Error>;
 
     type Load = SplitDwarfLoad<R>;
 
@@ -105,8 +92,8 @@ impl<'ctx, R: Reader> LookupContinuation for FramesLookup<'ctx, R> {
 
     ghost left = { λ c. count_loads c.ctx.now c.probe };
 
-    ghost skips_to = { λ c o. ExactlyUnlessOom (λ i. Some (frames_left i)) o
-        (frames_with_none c.ctx.now c.probe) };
+    ghost skips_to = { λ c o. ExactlyUnlessOom (λ f. Some (K.see f)) o
+        (found_with_none K.faults K.value_of c.ctx.now c.probe) };
 
     fn load(&self) -> &SplitDwarfLoad<R>
         ensures gives { result.now ≡ self.now.load }
@@ -116,20 +103,21 @@ impl<'ctx, R: Reader> LookupContinuation for FramesLookup<'ctx, R> {
 
     fn resume(self, input: Option<Rc<Dwarf<R>>>) -> LookupResult<Self>
         ensures* ends { sem 𝓛 (RestsAs (λ c. c.ctx.ghost_name) R.row R.Reader
-            self.entry.ctx result (λ o n. AfterResume R.shares End self.entry.probe
+            self.entry.ctx result (λ o n. AfterResume R.shares K.faults self.entry.probe
             self.entry.number (option_map (λ d. d.value) input) o self.entry.ctx.now n)) }
-        ensures load { IfLoad result (λ c. SuspendsAgainIn End self.entry.ctx self.entry.probe
+        ensures load { IfLoad result (λ c. SuspendsAgainIn K.faults self.entry.ctx self.entry.probe
             self.entry.number (option_map (λ d. d.value) input)
             c.ctx c.probe c.number c.load) }
         ensures fewer { IfLoad result (λ c. count_loads c.ctx.now c.probe < count_loads
             self.entry.ctx.now self.entry.probe) }
-        ensures output { IfOutput result (λ o. ExactlyUnlessOom (λ i. Some (frames_left i)) o
-            (frames_answered self.entry.ctx.now self.entry.number (option_map (λ d. d.value) input)
-            self.entry.probe)) }
+        ensures output { IfOutput result (λ o. ExactlyUnlessOom (λ f. Some (K.see f)) o
+            (found_answered K.faults K.value_of self.entry.ctx.now self.entry.number
+            (option_map (λ d. d.value) input) self.entry.probe)) }
+        ensures refused { IsRefusedAs K.faults result }
         ensures skips { input ≡ None → (o : _) → SkipsTo (λ c p. ExactlyUnlessOom
-            (λ i. Some (frames_left i)) p (frames_with_none c.ctx.now c.probe)) result o
-            → ExactlyUnlessOom (λ i. Some (frames_left i)) o
-            (frames_with_none self.entry.ctx.now self.entry.probe) }
+            (λ f. Some (K.see f)) p (found_with_none K.faults K.value_of c.ctx.now c.probe))
+            result o → ExactlyUnlessOom (λ f. Some (K.see f)) o
+            (found_with_none K.faults K.value_of self.entry.ctx.now self.entry.probe) }
     {
         let Suspended {
             ctx,
@@ -138,23 +126,24 @@ impl<'ctx, R: Reader> LookupContinuation for FramesLookup<'ctx, R> {
             load: _,
             kind: _,
         } = self;
-        frames::resume_with(ctx, probe, number, input)
+        resume_with(ctx, probe, number, input)
     }
 }
 
-impl<'ctx, R: Reader> FramesLookup<'ctx, R> {
+impl<'ctx, R: Reader, K: Lent<'ctx, Context<R>>, B: Drop> Suspended<'ctx, R, K, B> {
     /// Answers none to this load and to each later one, and gives the output. The units that waited
     /// are decided by none, and stay so until they are forgotten.
     ///
-    /// Refused as `find_frames` is. It is what `skip_all_loads` gives; here it is said too which
-    /// context is left.
-    pub fn skip(self) -> LookupResult<FramesLookup<'ctx, R>>
+    /// Refused as the call that began the lookup. It is what `skip_all_loads` gives; here it is said
+    /// too which context is left.
+    pub fn skip(self) -> LookupResult<Suspended<'ctx, R, K, SplitDwarfLoad<R>>>
         ensures* ends { sem 𝓛 (RestsAs (λ c. c.ctx.ghost_name) R.row R.Reader
-            self.entry.ctx result (λ o n. AfterSkip R.shares End self.entry.probe o
+            self.entry.ctx result (λ o n. AfterSkip R.shares K.faults self.entry.probe o
             self.entry.ctx.now n)) }
         ensures load { IfLoad result (λ c. ⊥) }
-        ensures output { IfOutput result (λ o. ExactlyUnlessOom (λ i. Some (frames_left i)) o
-            (frames_skipped self.entry.ctx.now self.entry.probe)) }
+        ensures output { IfOutput result (λ o. ExactlyUnlessOom (λ f. Some (K.see f)) o
+            (found_skipped K.faults K.value_of self.entry.ctx.now self.entry.probe)) }
+        ensures refused { IsRefusedAs K.faults result }
     {
         let Suspended {
             ctx,
@@ -163,77 +152,87 @@ impl<'ctx, R: Reader> FramesLookup<'ctx, R> {
             load: _,
             kind: _,
         } = self;
-        frames::skip(ctx, probe)
+        let walked = ctx.skip_loads(probe, K::on_fault());
+        lend(ctx, probe, walked)
     }
 }
 
-impl<'ctx, R: Reader> LookupContinuation for UnitLookup<'ctx, R> {
-    type Output = Result<Option<UnitRef<'ctx, R>>, Error>;
-
-    type Load = SplitDwarfLoad<R>;
-
-    type Sections = Rc<Dwarf<R>>;
-
-    ghost left = { λ c. count_loads c.ctx.now c.probe };
-
-    ghost skips_to = { λ c o. ExactlyUnlessOom seen_found o (unit_with_none c.ctx.now c.probe) };
-
-    fn load(&self) -> &SplitDwarfLoad<R>
-        ensures gives { result.now ≡ self.now.load }
-    {
-        &self.load
-    }
-
-    fn resume(self, input: Option<Rc<Dwarf<R>>>) -> LookupResult<Self>
-        ensures* ends { sem 𝓛 (RestsAs (λ c. c.ctx.ghost_name) R.row R.Reader
-            self.entry.ctx result (λ o n. AfterResume R.shares PassOver self.entry.probe
-            self.entry.number (option_map (λ d. d.value) input) o self.entry.ctx.now n)) }
-        ensures load { IfLoad result (λ c. SuspendsAgainIn PassOver self.entry.ctx self.entry.probe
-            self.entry.number (option_map (λ d. d.value) input)
-            c.ctx c.probe c.number c.load) }
-        ensures fewer { IfLoad result (λ c. count_loads c.ctx.now c.probe < count_loads
-            self.entry.ctx.now self.entry.probe) }
-        ensures output { IfOutput result (λ o. ExactlyUnlessOom seen_found o (unit_answered
-            self.entry.ctx.now self.entry.number (option_map (λ d. d.value) input)
-            self.entry.probe)) }
-        ensures refused { IfOutput result (λ o. IfErr o (λ e. e ≡ OutOfMemory)) }
-        ensures skips { input ≡ None → (o : _) → SkipsTo (λ c p. ExactlyUnlessOom seen_found p
-            (unit_with_none c.ctx.now c.probe)) result o → ExactlyUnlessOom seen_found o
-            (unit_with_none self.entry.ctx.now self.entry.probe) }
-    {
-        let Suspended {
-            ctx,
-            probe,
-            number,
-            load: _,
-            kind: _,
-        } = self;
-        units::resume_with(ctx, probe, number, input)
+// What a lookup gives that the context has stored.
+fn lend<'ctx, R: Reader, K: Lent<'ctx, Context<R>>>(
+    ctx: &'ctx mut Context<R>,
+    probe: u64,
+    walked: Result<(), Error>,
+) -> LookupResult<Suspended<'ctx, R, K, SplitDwarfLoad<R>>>
+    requires stored { IsStored K.faults probe walked ctx.old }
+    requires refused { K.faults ≡ PassOver → IfErr walked (λ e. e ≡ OutOfMemory) }
+    ensures* ends { sem 𝓛 (RestsAs (λ c. c.ctx.ghost_name) R.row R.Reader ctx.entry result
+        (λ o n. (n ≡ ctx.old) × IsLent walked ctx.old.stop o)) }
+    ensures load { IfLoad result (λ c.
+        HoldsIn ctx.entry probe walked c.ctx c.probe c.number c.load) }
+    ensures output { IfOutput result (λ o. ExactlyUnlessOom (λ f. Some (K.see f)) o
+        (found_of_context K.faults K.value_of ctx.old probe)) }
+    ensures refused { IsRefusedAs K.faults result }
+{
+    match walked {
+        Ok(()) => match ctx.waits_for() {
+            Some(number) => match ctx.load_of(number) {
+                Ok(load) => LookupResult::Load {
+                    continuation: Suspended {
+                        ctx,
+                        probe,
+                        number,
+                        load,
+                        kind: PhantomData,
+                    },
+                },
+                Err(error) => LookupResult::Output(Err(error)),
+            },
+            None => LookupResult::Output(Ok(K::found(ctx))),
+        },
+        Err(error) => LookupResult::Output(Err(error)),
     }
 }
 
-impl<'ctx, R: Reader> UnitLookup<'ctx, R> {
-    /// Answers none to this load and to each later one, and gives the output. The units that waited
-    /// are decided by none, and stay so until they are forgotten.
-    ///
-    /// Refused `OutOfMemory` alone. It is what `skip_all_loads` gives; here it is said too which
-    /// context is left.
-    pub fn skip(self) -> LookupResult<UnitLookup<'ctx, R>>
-        ensures* ends { sem 𝓛 (RestsAs (λ c. c.ctx.ghost_name) R.row R.Reader
-            self.entry.ctx result (λ o n. AfterSkip R.shares PassOver self.entry.probe o
-            self.entry.ctx.now n)) }
-        ensures load { IfLoad result (λ c. ⊥) }
-        ensures output { IfOutput result (λ o. ExactlyUnlessOom seen_found o
-            (unit_skipped self.entry.ctx.now self.entry.probe)) }
-        ensures refused { IfOutput result (λ o. IfErr o (λ e. e ≡ OutOfMemory)) }
-    {
-        let Suspended {
-            ctx,
-            probe,
-            number: _,
-            load: _,
-            kind: _,
-        } = self;
-        units::skip(ctx, probe)
+// A lookup from its beginning, by what is cached.
+pub(crate) fn begin<'ctx, R: Reader, K: Lent<'ctx, Context<R>>>(
+    ctx: &'ctx mut Context<R>,
+    probe: u64,
+) -> LookupResult<Suspended<'ctx, R, K, SplitDwarfLoad<R>>>
+    ensures* ends { sem 𝓛 (RestsAs (λ c. c.ctx.ghost_name) R.row R.Reader ctx.entry result
+        (λ o n. AfterFramesOver R.shares K.faults probe o ctx.old n)) }
+    ensures load { IfLoad result (λ c.
+        SuspendsIn K.faults ctx.entry probe c.ctx c.probe c.number c.load) }
+    ensures output { IfOutput result (λ o. ExactlyUnlessOom (λ f. Some (K.see f)) o
+        (found_of_context K.faults K.value_of ctx.old probe)) }
+    ensures refused { IsRefusedAs K.faults result }
+    ensures last { probe ≡ last_address → IsUncovered ctx.old probe }
+{
+    let walked = ctx.walk(probe, K::on_fault());
+    lend(ctx, probe, walked)
+}
+
+// The rest of a lookup after an answer to the load that it waited for.
+fn resume_with<'ctx, R: Reader, K: Lent<'ctx, Context<R>>>(
+    ctx: &'ctx mut Context<R>,
+    probe: u64,
+    number: usize,
+    input: Option<Rc<Dwarf<R>>>,
+) -> LookupResult<Suspended<'ctx, R, K, SplitDwarfLoad<R>>>
+    requires stands { waits_for number
+        (lookup_stop K.faults ctx.old.sections ctx.old.answers probe) ≡ true }
+    ensures* ends { sem 𝓛 (RestsAs (λ c. c.ctx.ghost_name) R.row R.Reader ctx.entry result
+        (λ o n. AfterResume R.shares K.faults probe number (option_map (λ d. d.value) input) o
+        ctx.old n)) }
+    ensures load { IfLoad result (λ c. SuspendsAgainIn K.faults ctx.entry probe number
+        (option_map (λ d. d.value) input) c.ctx c.probe c.number c.load) }
+    ensures fewer { IfLoad result (λ c. count_loads c.ctx.now c.probe < count_loads ctx.old probe) }
+    ensures output { IfOutput result (λ o. ExactlyUnlessOom (λ f. Some (K.see f)) o
+        (found_answered K.faults K.value_of ctx.old number (option_map (λ d. d.value) input)
+        probe)) }
+    ensures refused { IsRefusedAs K.faults result }
+{
+    match ctx.answer(number, input) {
+        Ok(()) => begin(ctx, probe),
+        Err(error) => LookupResult::Output(Err(error)),
     }
 }

@@ -3,10 +3,10 @@ use Rattle.std.proofs.lemmas.List.{length-map}
 use Rattle.gimli_read.specs.Reading.{ExactlyUnlessOom}
 use Rattle.addr2line_units.specs.declared.frames_lookup.OnFault.TheVariants.{PassOver}
 use Rattle.addr2line_units.specs.SeenUnit.{seen_found}
-use Rattle.addr2line.proofs.ReplayLemmas.{begun_at, ends_at_once, ends_resumed, goes_on, is_left, is_refused, left_at_end, left_by, load_token, next_of, unit_waiting}
+use Rattle.addr2line.proofs.ReplayLemmas.{begun_at, ends_at_once, ends_resumed, goes_on, is_left, is_refused, left_at_end, left_by, load_token, next_of, found_waiting}
 use Rattle.addr2line.specs.Answers.{SuspendsAgain, answered}
 use Rattle.addr2line.specs.History.{unit_replied}
-use Rattle.addr2line.specs.Lookups.{lookup_stop, unit_of}
+use Rattle.addr2line.specs.Lookups.{lookup_stop, unit_of, unit_value}
 use Rattle.addr2line.specs.Replies.{reply_of_unit}
 use Rattle.addr2line.specs.SeenCalls.{given_by, seen_given}
 use Rattle.addr2line.proofs.session.replay_unit.Goals as goal
@@ -17,7 +17,7 @@ returns-in-Output g c =
     let p = c.args.probe in
     let e = c.unit_reply.ensures in
     let all = map seen_given c.args.answers.now in
-    record { made = ends_at_once PassOver p first all g.R.Reader.shares (unit_replied first.sections p) c.in-Output.unit _ (search rules) c.unit_reply.result (e.gives (lookup_stop PassOver first.sections first.answers p) (unit_of first.sections first.answers p) c.in-Output.ensures.output (unit_waiting first.sections first.answers p)) e.told e.refused }
+    record { made = ends_at_once PassOver p first all g.R.Reader.shares (unit_replied first.sections p) c.in-Output.unit _ (search rules) c.unit_reply.result (e.gives (lookup_stop PassOver first.sections first.answers p) (unit_of first.sections first.answers p) c.in-Output.ensures.output (found_waiting PassOver unit_value first.sections first.answers p)) e.told e.refused }
 
 pub loop-answer-init : goal.loop-answer-init
 loop-answer-init g c =
@@ -47,7 +47,7 @@ returns-in-Output-resume g c =
     let out = subst (λ s. ExactlyUnlessOom seen_found o (unit_of s left p)) inv.so.sections (subst (λ q. ExactlyUnlessOom seen_found o (unit_of l.ctx.now.sections left q)) inv.probe c.in-Output-resume.ensures.output) in
     record {
       made = ends_resumed PassOver p first (map seen_given c.args.answers.now) i l.number l.ctx.now inv.so x one g.R.Reader.shares (unit_replied first.sections p) c.resume.result o c.in-Output-resume.is l.probe inv.probe _ c.resume.follows.lender-at-none (search rules) c.resume.follows.holds-at-none
-          c.unit_reply-in-Output-resume.result (e.gives (lookup_stop PassOver first.sections left p) (unit_of first.sections left p) out (unit_waiting first.sections left p)) e.told e.refused;
+          c.unit_reply-in-Output-resume.result (e.gives (lookup_stop PassOver first.sections left p) (unit_of first.sections left p) out (found_waiting PassOver unit_value first.sections left p)) e.told e.refused;
     }
 
 pub returns-in-Ok-None : goal.returns-in-Ok-None

@@ -2,8 +2,9 @@ use Rattle.std.proofs.Common.{refl}
 use Rattle.addr2line_units.specs.declared.frames_lookup.OnFault.TheVariants.{PassOver}
 use Rattle.addr2line_units.specs.SeenUnit.{seen_found}
 use Rattle.addr2line.proofs.AfterLemmas.{if_load}
-use Rattle.addr2line.proofs.UncoveredLemmas.{uncovered_unit_ok, uncovered_ends}
+use Rattle.addr2line.proofs.UncoveredLemmas.{uncovered_ends, uncovered_ok}
 use Rattle.addr2line.specs.Context.{IsUncovered}
+use Rattle.addr2line.specs.Lookups.{unit_value}
 use Rattle.addr2line.specs.WaitingLookups.{unit_of_context}
 use Rattle.addr2line.proofs.context.Context.find_dwarf_and_unit.Goals as goal
 
@@ -13,8 +14,8 @@ returns g c =
     let probe = c.args.probe in
     let e = c.begin.ensures in
     let f = c.begin.follows in
-    let ends = λ (u : IsUncovered old probe). uncovered_ends PassOver probe old u g.R.Reader.shares seen_found (unit_of_context old probe) (uncovered_unit_ok probe old u) _ c.begin.result
+    let ends = λ (u : IsUncovered old probe). uncovered_ends PassOver probe old u g.R.Reader.shares seen_found (unit_of_context old probe) (uncovered_ok PassOver unit_value probe old u) _ c.begin.result
     (if_load _ _ c.begin.result (λ x h. (x.number, h.2.waits)) e.load) f.holds-at-none e.output in (
       (refl, f.holds, f.holds-at-none),
-      record { ends = tt; load = e.load; output = e.output; refused = e.refused; last = λ q. ends (e.last q); uncovered = ends },
+      record { ends = tt; load = e.load; output = e.output; refused = e.refused refl; last = λ q. ends (e.last q); uncovered = ends },
     )

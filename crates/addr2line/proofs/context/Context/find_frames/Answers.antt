@@ -2,8 +2,9 @@ use Rattle.std.proofs.Common.{Some, refl}
 use Rattle.addr2line_units.specs.declared.frames_lookup.OnFault.TheVariants.{End}
 use Rattle.addr2line_units.specs.FramesLeft.{frames_left}
 use Rattle.addr2line.proofs.AfterLemmas.{if_load}
-use Rattle.addr2line.proofs.UncoveredLemmas.{uncovered_frames_ok, uncovered_ends}
+use Rattle.addr2line.proofs.UncoveredLemmas.{uncovered_ends, uncovered_ok}
 use Rattle.addr2line.specs.Context.{IsUncovered}
+use Rattle.addr2line.specs.Lookups.{frames_value}
 use Rattle.addr2line.specs.WaitingLookups.{frames_of_context}
 use Rattle.addr2line.proofs.context.Context.find_frames.Goals as goal
 
@@ -13,7 +14,7 @@ returns g c =
     let probe = c.args.probe in
     let e = c.begin.ensures in
     let f = c.begin.follows in
-    let ends = λ (u : IsUncovered old probe). uncovered_ends End probe old u g.R.Reader.shares (λ i. Some (frames_left i)) (frames_of_context old probe) (uncovered_frames_ok probe old u) _ c.begin.result
+    let ends = λ (u : IsUncovered old probe). uncovered_ends End probe old u g.R.Reader.shares (λ i. Some (frames_left i)) (frames_of_context old probe) (uncovered_ok End frames_value probe old u) _ c.begin.result
     (if_load _ _ c.begin.result (λ x h. (x.number, h.2.waits)) e.load) f.holds-at-none e.output in (
       (refl, f.holds, f.holds-at-none),
       record { ends = tt; load = e.load; output = e.output; last = λ q. ends (e.last q); uncovered = ends },

@@ -1,6 +1,6 @@
 -- Split files that are kept by their paths.
--- Own: a file is kept with the stamp that it had before it was read, at most one for each path, and
--- only where it has answered a load.
+-- Own: a file is kept with a stamp that was asked for before it was read, at most one for each path,
+-- and only where it has answered a load.
 use Rattle.std.specs.Prelude.{◌≡◌, ◌≢◌, ◌⊎◌, ℕ, List, Option, None, Some, Ok, if◌then◌else◌}
 use Rattle.std.specs.BTreeMap.{get_by_text}
 use Rattle.std.specs.Str.{bytes_eq}
@@ -27,15 +27,15 @@ abbrev pub HasAnswered : CompressedSections → SplitLoad → Loading (Option Se
 HasAnswered compressed load answer file = (sections : Sections) × (answer ≡ Ok (Some sections))
     × Answers compressed load file.object sections
 
--- a load was answered by the file at a path: for other paths the same is kept as before, and a file
--- that is kept for this one was kept before, or gave the answer
+-- after a load by the file at a path: for other paths the same is kept as before, and a file that is
+-- kept for this one was kept before, or gave the answer
 pub record KeepsAnswering (compressed : CompressedSections) (load : SplitLoad) (path : List ℕ)
     (answer : Loading (Option Sections)) (old new : KeptFiles) : Type 0 where
   pub others : (other : List ℕ) → other ≢ path → kept_at new other ≡ kept_at old other
   pub own : (file : KeptFile) → kept_at new path ≡ Some file
       → (kept_at old path ≡ Some file) ⊎ HasAnswered compressed load answer file
 
--- the same of a load, by its own path; without one nothing is kept that wasn't
+-- the same of a load, by its own path; without one nothing changes
 abbrev pub KeepsAnswer : CompressedSections → SplitLoad → Loading (Option Sections) → KeptFiles
     → KeptFiles → Type 0
 KeepsAnswer compressed load answer old new = elim (split_path load)

@@ -84,6 +84,11 @@ abbrev pub Answers : CompressedSections → SplitLoad → ObjectFile → Section
 Answers compressed load file sections =
     split_by (split_section compressed file) load ≡ Ok (Some sections)
 
+-- some file answers a load with these sections
+abbrev pub AreOfSomeFile : CompressedSections → SplitLoad → Sections → Type 0
+AreOfSomeFile compressed load sections =
+    (file : ObjectFile) × Answers compressed load file sections
+
 -- what is loaded, or none in place of a fault
 abbrev pub or_none : Loading (Option Sections) → Option Sections
 or_none (Ok found) = found

@@ -1,4 +1,4 @@
--- Lookups that may wait, by the context that they are made in (on Lookups, Answers and Skips).
+-- Lookups that may wait, by the context that they are made in.
 use Rattle.std.specs.Prelude.{◌≡◌, ℕ, length, Option, IfErr, Result, Ok}
 use Rattle.std.specs.Borrow.{MutBor}
 use Rattle.gimli_read.specs.declared.error.Error.{Error}

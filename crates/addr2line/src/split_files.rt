@@ -6,12 +6,13 @@ ghost use Rattle.gimli.specs.Sections.{Sections};
 ghost use Rattle.elf.specs.declared.error.LoaderError.TheVariants.{NotElf, OutOfMemory, PathNotUtf8};
 ghost use Rattle.elf.specs.FileImage.{image_bytes};
 ghost use Rattle.elf.specs.Loading.{Loading, LoadsUnlessOom};
-ghost use Rattle.elf.specs.ObjectFile.{object_file_of};
+ghost use Rattle.elf.specs.ObjectFile.{ObjectFile, object_file_of};
 ghost use Rattle.addr2line.specs.declared.compressed.CompressedSections.TheVariants.{Refused};
 ghost use Rattle.addr2line.specs.FileSections.{split_section};
 ghost use Rattle.addr2line.specs.Files.{as_read};
-ghost use Rattle.addr2line.specs.KeptFiles.{KeepsAnswer, KeepsAnswering};
-ghost use Rattle.addr2line.specs.SplitFiles.{Answers, LeavesOpen, bytes_or_none, given_by_files, has_wanted_id, is_absolute, is_same_id, or_none, path_in, separated, split_at_path, split_by, split_of, split_path, utf8_path};
+ghost use Rattle.addr2line.specs.declared.kept_files.KeptFile.{KeptFile};
+ghost use Rattle.addr2line.specs.KeptFiles.{KeepsAnswer, KeepsAnswering, kept_at};
+ghost use Rattle.addr2line.specs.SplitFiles.{Answers, AreOfSomeFile, LeavesOpen, bytes_or_none, given_by_files, has_wanted_id, is_absolute, is_same_id, or_none, path_in, separated, split_at_path, split_by, split_of, split_path, utf8_path};
 
 use crate::compressed::CompressedSections;
 use crate::file_sections::{OpenFile, SectionSource, SplitFile, as_dwarf, read_sections};
@@ -253,9 +254,9 @@ fn read_answering<F: FileSource>(
     }
 }
 
-// The sections of the file at a path with a stamp for a load. The file is read where none is kept
-// with this stamp, and it is kept if it has them: what answers nothing isn't held, since a file may
-// name many.
+// The sections of the file at a path with a stamp for a load. Where a file is kept with this stamp
+// they are its sections. Else the file is read, and kept if it has them: what answers nothing isn't
+// held, since a file may name many.
 fn answer_stamped<F: FileSource>(
     alloc: Global,
     files: &F,
@@ -265,8 +266,16 @@ fn answer_stamped<F: FileSource>(
     path: &str,
     stamp: FileStamp,
 ) -> Result<Option<Rc<Dwarf<EndianBytes>>>, LoaderError>
+    ensures found { (object : ObjectFile)
+        → kept_at kept.old path.now ≡ Some (record { stamp = stamp; object = object })
+        → LoadsUnlessOom (option_map (λ d. d.value)) result
+        (Ok (or_none (split_by (split_section compressed object) load.now))) }
+    ensures answers { IfOk result (λ found. IfSome found (λ d.
+        AreOfSomeFile compressed load.now d.value)) }
     ensures kept { KeepsAnswering compressed load.now path.now
         (result_map (option_map (λ d. d.value)) result) kept.old kept.new }
+    ensures stamped { (file : KeptFile) → kept_at kept.new path.now ≡ Some file
+        → file.stamp ≡ stamp }
     ensures refused { IfErr result (λ e. e ≡ OutOfMemory) }
 {
     if let Some(object) = kept.find(path, stamp) {
@@ -296,6 +305,8 @@ fn answer_at<F: FileSource>(
     ensures gives { IfSome (F.files files.now) (λ held.
         LoadsUnlessOom (option_map (λ d. d.value)) result
         (Ok (split_at_path (as_read compressed held) load.now path.now))) }
+    ensures answers { IfOk result (λ found. IfSome found (λ d.
+        AreOfSomeFile compressed load.now d.value)) }
     ensures known { IfSome (F.files files.now) (λ _. kept.new ≡ kept.old) }
     ensures kept { KeepsAnswering compressed load.now path.now
         (result_map (option_map (λ d. d.value)) result) kept.old kept.new }
@@ -325,6 +336,8 @@ pub(crate) fn answer_to<F: FileSource>(
     ensures gives { IfSome (F.files files.now) (λ held.
         LoadsUnlessOom (option_map (λ d. d.value)) result
         (given_by_files (as_read compressed held) load.now)) }
+    ensures answers { IfOk result (λ found. IfSome found (λ d.
+        AreOfSomeFile compressed load.now d.value)) }
     ensures stays_open { IfErr result LeavesOpen }
     ensures unnamed { split_path load.now ≡ None → result ≡ Ok None }
     ensures known { IfSome (F.files files.now) (λ _. kept.new ≡ kept.old) }

@@ -33,10 +33,10 @@ const H: u64 = 0x6868;
 
 const I: u64 = 0x6969;
 
-// What stands at the path of the split file by then, and the stamp of all files.
+// What stands at the path of the split file by then, and the stamp that is told of it.
 type Step = (Split, Option<FileStamp>);
 
-// Files in memory that have one stamp, or none.
+// Files in memory, of which the split file has a stamp, or none has.
 #[derive(Drop)]
 struct StampedFiles {
     files: MemoryFiles,
@@ -48,7 +48,10 @@ impl FileSource for StampedFiles {
         self.files.read(alloc, path)
     }
 
-    fn stamp(&self, _path: &str) -> Option<FileStamp> {
+    fn stamp(&self, path: &str) -> Option<FileStamp> {
+        if path != SPLIT {
+            return None;
+        }
         self.stamp
     }
 }

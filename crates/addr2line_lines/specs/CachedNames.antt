@@ -44,7 +44,7 @@ pub record AreNamesMore (scope : Scope) (u : UnitRecord) (old new : List CachedN
 abbrev pub IsOneMoreAtMost : CachedName → List CachedName → List CachedName → Type 0
 IsOneMoreAtMost n old new = (new ≡ old) ⊎ (new ≡ old ++ n ∷ [])
 
--- what is cached of an entry is the name, wherever all names are right
+-- wherever all cached names are right, a reference to the entry gives the name
 abbrev pub IsKnownAs : UnitOffset → Option Section → List CachedName → Type 0
 IsKnownAs offset name names = (scope : Scope) (u : UnitRecord) → AreNamesOf scope u names
     → referred_name scope u (values.UnitRef offset) ≡ Ok name

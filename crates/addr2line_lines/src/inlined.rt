@@ -42,8 +42,8 @@ pub struct CallSite {
 pub struct InlinedFunction<R: Reader> {
     /// Where the entry begins, in bytes from the start of the unit's length.
     pub dw_die_offset: UnitOffset,
-    // The name, where there is one that can be read: a reader has several times its bytes, and most
-    // entries have a name that others have as well.
+    // The name, where there is one that can be read. A reader takes more bytes than a pointer to one,
+    // and most entries have a name that others have as well.
     pub(crate) name: Rc<Option<R>>,
     /// The index of the file of the call, if there is one that counts.
     pub call_file: Option<u64>,

@@ -260,7 +260,8 @@ fn referred_name_anew<R: Reader>(
     Ok(FoundName::Own(name))
 }
 
-// The name by the entry at an offset of the unit: the cached one, or it is cached then.
+// The name by the entry at an offset of the unit: the cached one, or it is cached then unless memory
+// is refused for it.
 fn name_in_unit<R: Reader>(
     scope: Scope<'_, R>,
     unit: &Unit<R>,

@@ -52,7 +52,8 @@ fn first_slot(offset: UnitOffset) -> usize {
     (offset.0.wrapping_mul(0x9e37_79b9_7f4a_7c15) >> 32) as usize
 }
 
-// Sets a slot for a name: the first that is free, or the last that is looked at.
+// Sets a slot for a name: the first that is free, or the last that is looked at. One that says this
+// place or a later one is free, since the name that it said was dropped.
 fn set_slot(slots: &mut Vec<u32>, offset: UnitOffset, place: usize) {
     let Ok(place) = u32::try_from(place) else {
         return;
@@ -70,7 +71,8 @@ fn set_slot(slots: &mut Vec<u32>, offset: UnitOffset, place: usize) {
     }
 }
 
-// Makes room for more slots, if there are at most two for each name, and sets them anew.
+// Makes room for more slots, if there are at most two for each name, and sets them anew. Where memory
+// is refused there are none up to the next name: each name is looked up again until then.
 fn make_slots<R: Reader>(names: &[CachedName<R>], slots: &mut Vec<u32>) {
     if slots.len() / 2 > names.len() {
         return;

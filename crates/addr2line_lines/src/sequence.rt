@@ -181,8 +181,8 @@ fn never_falls<R: Reader>(rows: &LineRows<R>)
 }
 
 /// The rows and sequences of a line program. Rows take twelve bytes each, unless one that isn't an
-/// end row has a file index or a column past 65,535, or an address whose upper half isn't that of the
-/// first one's.
+/// end row has a file index or a column past 65,535, or another upper half of its address than the
+/// first row that is stored; where none is stored any more, the next one takes its place.
 ///
 /// Refused with the program's fault; may fail with `OutOfMemory` instead, unless the fault comes
 /// before the first row and before a file is defined.

@@ -19,7 +19,7 @@ pub trait LookupKind: Drop {
         ensures gives { result ≡ faults };
 }
 
-/// What stores what its last lookup has come to.
+/// A value that stores what its last lookup has come to.
 pub trait LastLookup {
     ghost use Rattle.std.specs.Prelude.{Option};
     ghost use Rattle.addr2line_units.specs.FramesLookup.{Stop};

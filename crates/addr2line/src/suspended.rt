@@ -134,7 +134,7 @@ impl<'ctx, R: Reader, K: Lent<'ctx, Context<R>>, B: Drop> Suspended<'ctx, R, K, 
     /// Answers none to this load and to each later one, and gives the output. The units that waited
     /// are decided by none, and stay so until they are forgotten.
     ///
-    /// Refused as the call that began the lookup. It is what `skip_all_loads` gives; here it is said
+    /// Refused as the call that began the lookup is. It is what `skip_all_loads` gives; here it is said
     /// too which context is left.
     pub fn skip(self) -> LookupResult<Suspended<'ctx, R, K, SplitDwarfLoad<R>>>
         ensures* ends { sem 𝓛 (RestsAs (λ c. c.ctx.ghost_name) R.row R.Reader

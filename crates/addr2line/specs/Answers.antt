@@ -1,4 +1,4 @@
--- What an answer to the load of a unit, and to forget one, makes of a context.
+-- What an answer to the load of a unit makes of a context, and of a lookup that goes on with it.
 -- Own: the first answer to a unit's load counts until the unit is forgotten.
 use Rattle.std.specs.Prelude.{◌≡◌, ◌≢◌, ◌⊎◌, ℕ, Bool, true, false, slice_get, Option, is_some, IfErr, OnOk, Result, Ok, Err}
 use Rattle.gimli_read.specs.declared.error.Error.{Error}

@@ -78,7 +78,7 @@ pub record WereAsked (asks : ℕ → Type 0) (probe : ℕ) (old new : UnitsState
       new.known
   pub raised : old.looks ≤ new.looks
 
--- and the same asks nothing more to be read, but after OutOfMemory
+-- after units were asked; the same lookup reads nothing more, but after OutOfMemory
 pub record AfterAsking {X : Type 0} (asks : ℕ → Type 0) (probe : ℕ) (all few : UnitsState → Bool)
     (result : Result X Error) (old new : UnitsState) : Type 0 where
   pub asked : WereAsked asks probe old new
@@ -157,7 +157,8 @@ pub record AfterForget (n : ℕ) (old new : UnitsState) : Type 0 where
   pub others : (k : ℕ) → k ≢ n → slice_get new.known k ≡ slice_get old.known k
   pub functions : LearnsNoFunctions old.known new.known
 
--- after loads were listed nothing is changed but that more may be known, and no function of it
+-- after loads were listed nothing is changed but that more may be known, and no function of it, and
+-- that what the last lookup came to is forgotten
 pub record AfterListing (old new : UnitsState) : Type 0 where
   pub stays : StayRead old new
   pub answers : new.answers ≡ old.answers

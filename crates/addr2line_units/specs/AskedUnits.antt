@@ -24,7 +24,7 @@ has_stopped (Waits n) = true
 has_stopped (Finds n frames) = true
 has_stopped FindsNothing = false
 
--- the same by what was found
+-- what a lookup comes to in the unit of a number, by what was found there
 abbrev pub found_stop : ℕ → UnitFrames → FramesStop
 found_stop n found = unwrap_or (stop_of_found n found) stops.FindsNothing
 

@@ -37,10 +37,6 @@ frames_at_place caches p =
     (option_map (function_of_place (functions_at caches p.unit)) p.function)
     (option_map (location_of_row (cached_files (lines_at caches p.unit))) p.row)
 
--- the number of the unit of a place
-abbrev pub unit_of_place : FramePlace → ℕ
-unit_of_place p = p.unit
-
 -- what a lookup comes to, by what is cached
 abbrev pub seen_stop : {R : Type 0} → List (UnitCache R) → FramesStop → Stop
 seen_stop caches (stops.Waits n) = Waits n

@@ -64,7 +64,7 @@ can_be_read d (Some u) = is_ok (lines_of_unit d u)
 abbrev pub AllAskFor : Sections → List IndexedUnit → ℕ → Type 0
 AllAskFor d units n = (m : ℕ) → m < n → can_be_read d (slice_get units m) ≡ true
 
--- the lines of all units are parsed, up to the first that has a fault
+-- the lines of all units are parsed, up to and with the first that has a fault
 abbrev pub AreReadyForAll : Sections → List IndexedUnit → List Bool → Type 0
 AreReadyForAll d units parsed = (n : ℕ) → AllAskFor d units n → has_parsed parsed n ≡ true
 

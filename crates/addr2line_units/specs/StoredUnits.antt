@@ -1,4 +1,4 @@
--- What is cached of the units of a context is their own, as the private functions see it.
+-- That what is cached of the units of a context is their own, as the private functions see it.
 use Rattle.std.specs.Prelude.{ℕ, List}
 use Rattle.addr2line_lines.specs.References.{IsScope, Scope}
 use Rattle.addr2line_units.specs.declared.frames_lookup.FramesStop.{FramesStop}

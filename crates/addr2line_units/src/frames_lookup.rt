@@ -1,4 +1,4 @@
-//! Lookups of frames among units.
+//! Lookups of frames and of a unit among units.
 
 ghost use Rattle.std.specs.Prelude.{◌≡◌, IfErr, true};
 ghost use Rattle.gimli_read.specs.Reading.{ExactlyUnlessOom};
@@ -16,10 +16,12 @@ use crate::units::Units;
 use addr2line_lines::Row;
 use gimli::read::{Error, Reader};
 
-// Whether a fault of a unit ends a lookup.
+/// What becomes of a fault of a unit that a lookup asks.
 #[derive(Clone, Copy)]
 pub enum OnFault {
+    /// It ends the lookup.
     End,
+    /// The lookup goes on with the next unit.
     PassOver,
 }
 

@@ -1,4 +1,5 @@
-//! Lookups of frames and of units, and what they lend.
+//! What the last lookup of frames or of a unit has come to, what is lent of it, and an answer to its
+//! load.
 
 ghost use Rattle.std.specs.Prelude.{◌≡◌, Err, IfErr, IfOk, IfSome, Ok, Some, false, option_map, slice_get};
 ghost use Rattle.gimli_read.specs.declared.error.Error.TheVariants.{OutOfMemory};

@@ -26,7 +26,7 @@ use std::alloc::Global;
 pub enum LazyLines {
     /// Nobody has asked for them yet.
     Unread,
-    /// There are none, as the unit has no line program.
+    /// There are none, as where the unit has no line program.
     Absent,
     /// They were read.
     Read(Box<Lines>),

@@ -1,14 +1,15 @@
 -- Segments of ranges, one by one (on specs/Segments.antt and specs/Sweep.antt).
-use Rattle.std.proofs.Common.{ℕ, ◌≡◌, ◌-◌, ◌<◌, ◌≤◌, ◌⊎◌, ◌&&◌, Bool, true, false, nat_le, nat_lt, nat_cmp, List, [], ◌∷◌, ◌++◌, length, slice_index_or, arith, inl, inr, ◌∙◌, ap, sym, refl, zero, suc}
+use Rattle.std.proofs.Common.{ℕ, ◌≡◌, ◌-◌, ◌<◌, ◌≤◌, ◌⊎◌, ◌&&◌, Bool, true, false, nat_le, nat_lt, nat_cmp, List, [], ◌∷◌, ◌++◌, length, slice_index_or, arith, inl, inr, ◌∙◌, ap, sym, subst, refl, zero, suc}
 use Rattle.std.specs.BinaryHeap.{IsHeap, IsUpperBound}
 use Rattle.std.specs.List.{All, Contains}
 use Rattle.std.specs.Ordering.{is_lt, ordering_then}
 use Rattle.std.proofs.lemmas.Bool.Decides.{nat_tests}
 use Rattle.std.proofs.lemmas.Grind.{common_steps}
-use Rattle.std.proofs.lemmas.List.Elements.{All-contains, All-cons, All-from_recursion, All-push, All-tail, All-weaker}
+use Rattle.std.proofs.lemmas.List.{get_or_default}
+use Rattle.std.proofs.lemmas.List.Elements.{Contains-get_or, All-contains, All-cons, All-from_recursion, All-push, All-tail, All-weaker}
 use Rattle.addr2line_lines.specs.declared.segments.FunctionAddress.{FunctionAddress}
 use Rattle.addr2line_lines.specs.Shortest.{IsNoLonger}
-use Rattle.addr2line_lines.specs.Segments.{RunningRange, address_begin, address_end, address_function, address_holds, running_end, as_running, AreApart, AreSegmentsBelow, IsSegment}
+use Rattle.addr2line_lines.specs.Segments.{RunningRange, address_begin, address_end, address_function, address_holds, running_end, as_running, AreApart, AreDisjoint, AreSegments, AreSegmentsBelow, IsSegment}
 use Rattle.addr2line_lines.specs.Sweep.{running_cmp, IsBegunFrom, IsSwept}
 
 module _ {X : Type 0} where
@@ -125,3 +126,41 @@ module _ (addresses : List FunctionAddress) (next at : ℕ) (segments : List Fun
         where
           above : (x y : ℕ) → nat_lt x y ≡ false → y ≤ x
           above x y e = grind (arith, nat_tests)
+
+-- disjoint ranges are segments of themselves
+pub disjoint_segments : (addresses : List FunctionAddress) → AreDisjoint addresses → AreSegments addresses addresses
+disjoint_segments addresses h = record {
+  apart = h.apart;
+  few = omega arith;
+  each = λ k d l. record {
+    proper = h.proper k d l;
+    shortest_is = λ p inner. record {
+      address = slice_index_or addresses k d;
+      listed = Contains-get_or addresses k d l;
+      holds_it = inner;
+      is = refl;
+      shorter = λ j e m held. by_order k j d e p l m (from_inside _ _ p inner) (from_inside _ _ p held) (nat_lt k j) (nat_lt j k) refl refl;
+    };
+  };
+  others = λ p out. out;
+}
+  where
+    by_order : (k j : ℕ) (d e : FunctionAddress) (p : ℕ) → k < length addresses → j < length addresses
+        → ((slice_index_or addresses k d).range.begin ≤ p) × (p < (slice_index_or addresses k d).range.end) → ((slice_index_or addresses j e).range.begin ≤ p) × (p < (slice_index_or addresses j e).range.end)
+        → (b c : Bool) → nat_lt k j ≡ b → nat_lt j k ≡ c → IsNoLonger address_begin address_end address_function (slice_index_or addresses k d) (slice_index_or addresses j e)
+    by_order k j d e p l m inner held true c s t =
+        let after = h.apart k j e (grind (arith, nat_tests)) m in
+        let same = ap address_end (get_or_default addresses k d e l) in
+        let high = inner.1 in
+        let low = held.0 in
+        absurd (omega arith)
+    by_order k j d e p l m inner held false true s t =
+        let after = h.apart j k d (grind (arith, nat_tests)) l in
+        let same = ap address_end (get_or_default addresses j e d m) in
+        let high = held.1 in
+        let low = inner.0 in
+        absurd (omega arith)
+    by_order k j d e p l m inner held false false s t =
+        let here : k ≡ j = (let u : j ≤ k = grind (arith, nat_tests) in let v : k ≤ j = grind (arith, nat_tests) in omega arith) in
+        let same : slice_index_or addresses k d ≡ slice_index_or addresses j e = ap (λ i. slice_index_or addresses i d) here ∙ get_or_default addresses j d e m in
+        subst (λ a. IsNoLonger address_begin address_end address_function (slice_index_or addresses k d) a) same (inr (refl, omega arith))

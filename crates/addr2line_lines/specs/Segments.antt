@@ -68,6 +68,11 @@ abbrev pub AreApart : List FunctionAddress → Type 0
 AreApart segments = (i j : ℕ) (d : FunctionAddress) → i < j → j < length segments
     → (slice_index_or segments i d).range.end ≤ (slice_index_or segments j d).range.begin
 
+-- each range has addresses, and ends before the next one begins
+pub record AreDisjoint (addresses : List FunctionAddress) : Type 0 where
+  pub proper : All (λ a. a.range.begin < a.range.end) addresses
+  pub apart : AreApart addresses
+
 -- a segment has addresses, and for each of them its function is that of the shortest range
 pub record IsSegment (addresses : List FunctionAddress) (segment : FunctionAddress) : Type 0 where
   pub proper : segment.range.begin < segment.range.end

@@ -1,12 +1,12 @@
 //! Of the functions at an address the one with the shortest range.
 
-ghost use Rattle.std.specs.Prelude.{◌≡◌, ◌+◌, ◌*◌, ◌≤◌, ◌^◌, ◌-◌, ◌++◌, ℕ, List, [], Ok, None, IfOk, IfErr, IsOk, OnOk, ◌<◌, length, max, nat_lt, slice_index_or};
+ghost use Rattle.std.specs.Prelude.{◌≡◌, ◌+◌, ◌*◌, ◌≤◌, ◌^◌, ◌-◌, ◌++◌, ℕ, List, [], Ok, None, IfOk, IfErr, IsOk, OnOk, ◌<◌, ◌↔◌, length, max, nat_lt, slice_index_or, true};
 ghost use Rattle.std.specs.BinaryHeap.{heap_items};
 ghost use Rattle.std.specs.List.Sorted.{IsNonDecreasingBy, IsPermutation};
 ghost use Rattle.gimli_read.specs.declared.error.Error.TheVariants.{OutOfMemory};
 ghost use Rattle.gimli_read.specs.Reading.{ExactlyUnlessOomIf};
 ghost use Rattle.addr2line_lines.specs.LastAddress.{last_address};
-ghost use Rattle.addr2line_lines.specs.Segments.{AreSegments, address_begin, first_end, shortest_function_at, as_running, segment_to};
+ghost use Rattle.addr2line_lines.specs.Segments.{AreDisjoint, AreSegments, address_begin, first_end, shortest_function_at, as_running, segment_to};
 ghost use Rattle.addr2line_lines.specs.Sweep.{IsBegunFrom, IsGreatestFirst, IsSweptBy};
 
 use gimli::read::{Error, Range};
@@ -152,6 +152,21 @@ fn cut(alloc: Global, addresses: &[FunctionAddress]) -> Result<Vec<FunctionAddre
     Ok(sweep.segments)
 }
 
+// Whether each range has addresses, and ends before the next one begins.
+fn are_disjoint(addresses: &[FunctionAddress]) -> bool
+    ensures gives { (result ≡ true) ↔ AreDisjoint addresses.now }
+{
+    let mut past = 0;
+    for address in addresses {
+        let Range { begin, end } = address.range;
+        if begin < past || end <= begin {
+            return false;
+        }
+        past = end;
+    }
+    true
+}
+
 // Puts ranges in order of begin.
 fn sort_addresses(addresses: &mut Vec<FunctionAddress>)
     ensures sorted { IsNonDecreasingBy address_begin addresses.new.items }
@@ -191,7 +206,11 @@ impl Segments {
     {
         let listed = Snapshot::of(&addresses);
         sort_addresses(&mut addresses);
-        let segments = cut(alloc, &addresses)?;
+        let segments = if are_disjoint(&addresses) {
+            addresses
+        } else {
+            cut(alloc, &addresses)?
+        };
         Ok(Segments { segments, listed })
     }
 

@@ -1,17 +1,23 @@
-use Rattle.std.proofs.Common.{ℕ, ◌≡◌, ◌<◌, true, nat_lt, length, ap, sym, subst, arith}
+use Rattle.std.proofs.Common.{ℕ, ◌≡◌, ◌<◌, true, nat_lt, length, ap, sym, subst, refl, arith}
 use Rattle.std.proofs.lemmas.Bool.Decides.{nat_tests}
 use Rattle.std.proofs.lemmas.List.Sorted.{length_permutation}
 use Rattle.std.proofs.lemmas.Result.{err_from_is_err_and}
-use Rattle.addr2line_lines.specs.Segments.{AreSegments}
+use Rattle.addr2line_lines.specs.Segments.{AreDisjoint, AreSegments}
+use Rattle.addr2line_lines.proofs.SegmentLemmas.{disjoint_segments}
 use Rattle.addr2line_lines.proofs.SegmentSearch.{permuted_segments}
 use Rattle.addr2line_lines.proofs.segments.Segments.new.Goals as goal
+use Rattle.addr2line_lines.proofs.segments.Segments.new.Goals.{then-are_disjoint, else-are_disjoint+in_ok-segments}
 
 pub invariant_of-result : goal.invariant_of-result
 invariant_of-result c =
     let sorted = c.sort_addresses.new.addresses.items in
-    subst (λ v. AreSegments v.items c.in_ok-segments.segments.items) (sym c.of-listed.ensures)
-    (permuted_segments c.args.addresses.items sorted c.in_ok-segments.segments.items c.sort_addresses.ensures.same
-    (subst (λ xs. AreSegments xs c.in_ok-segments.segments.items) c.deref.ensures.value c.in_ok-segments.ensures.gives))
+    let segments = c.if-are_disjoint.segments in
+    subst (λ v. AreSegments v.items segments.items) (sym c.of-listed.ensures)
+    (permuted_segments c.args.addresses.items sorted segments.items c.sort_addresses.ensures.same
+    (elim c.if-are_disjoint.branch [
+      | then-are_disjoint w ↦ subst (λ v. AreSegments sorted v.items) (sym w.segments-is) (disjoint_segments sorted (subst AreDisjoint c.deref.ensures.value (w.if-are_disjoint.ensures.gives.0 refl)))
+      | else-are_disjoint+in_ok-segments w ↦ subst (λ v. AreSegments sorted v.items) (sym w.segments-is) (subst (λ xs. AreSegments xs w.in_ok-segments.segments.items) w.deref-else-are_disjoint.ensures.value w.in_ok-segments.ensures.gives)
+    ]))
 
 pub returns-in_err-segments : goal.returns-in_err-segments
 returns-in_err-segments c =

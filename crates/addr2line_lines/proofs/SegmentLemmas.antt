@@ -86,6 +86,10 @@ cut_more addresses segments at s h e new =
 pub no_longer : (a b c d e f : ℕ) → is_lt (ordering_then (ordering_then (nat_cmp d a) (nat_cmp e b)) (nat_cmp f c)) ≡ false → (a < d) ⊎ ((a ≡ d) × (b ≤ e))
 no_longer a b c d e f h = grind (arith, nat_tests)
 
+-- the first of three is no longer than the last
+pub no_longer_trans : (a b c d e f : ℕ) → (a < c) ⊎ ((a ≡ c) × (b ≤ d)) → (c < e) ⊎ ((c ≡ e) × (d ≤ f)) → (a < e) ⊎ ((a ≡ e) × (b ≤ f))
+no_longer_trans a b c d e f g h = grind (arith, nat_tests)
+
 module _ (addresses : List FunctionAddress) (next at : ℕ) (segments : List FunctionAddress) where
   pub segment_of : (o : RunningRange) (running : List RunningRange) (until : ℕ) → IsSwept addresses next at (o ∷ running) segments → IsBegunFrom addresses next until → at < until → until ≤ running_end o → IsUpperBound running_cmp o (o ∷ running)
       → IsSegment addresses (record { range = record { begin = at; end = until }; function = o.0.1 })
@@ -113,8 +117,12 @@ module _ (addresses : List FunctionAddress) (next at : ℕ) (segments : List Fun
       by_cases : (p : ℕ) → (at ≤ p) × (p < until) → (j : ℕ) (d : FunctionAddress) → j < length addresses → address_holds p (slice_index_or addresses j d) ≡ true → (b : Bool) → nat_lt j next ≡ b
           → IsNoLonger address_begin address_end address_function (h.only 0 o (omega arith)).address (slice_index_or addresses j d)
       by_cases p between j d k held true e =
-          let is = h.still j d (below j next e) k p between.0 held in
-          running_ones (h.only 0 o (omega arith)).address o (slice_index_or addresses j d) (h.only 0 o (omega arith)).is (All-contains (λ y. is_lt (running_cmp o y) ≡ false) (o ∷ running) (as_running (slice_index_or addresses j d)) (All-from_recursion (λ y. is_lt (running_cmp o y) ≡ false) (o ∷ running) top) is)
+          let some = h.still j d (below j next e) k p between.0 held in
+          let a = (h.only 0 o (omega arith)).address in
+          let x = some.other in
+          let y = slice_index_or addresses j d in
+          let top_is = All-contains (λ y. is_lt (running_cmp o y) ≡ false) (o ∷ running) (as_running x) (All-from_recursion (λ y. is_lt (running_cmp o y) ≡ false) (o ∷ running) top) some.runs in
+          no_longer_trans (a.range.end - a.range.begin) a.function (x.range.end - x.range.begin) x.function (y.range.end - y.range.begin) y.function (running_ones a o x (h.only 0 o (omega arith)).is top_is) some.no_longer
         where
           below : (x y : ℕ) → nat_lt x y ≡ true → x < y
           below x y e = grind (arith, nat_tests)

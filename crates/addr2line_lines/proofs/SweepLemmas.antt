@@ -9,8 +9,9 @@ use Rattle.std.proofs.lemmas.List.{append-nil, get_or_default, length-append}
 use Rattle.std.proofs.lemmas.List.Elements.{All-cons, All-tail, All-weaker, Contains-get_or}
 use Rattle.std.proofs.lemmas.List.Sorted.{All-permutation, Contains-permutation, length_permutation}
 use Rattle.addr2line_lines.specs.declared.segments.FunctionAddress.{FunctionAddress}
-use Rattle.addr2line_lines.specs.Segments.{RunningRange, address_begin, address_holds, first_end, running_end, as_running, segment_to, AreApart, AreSegments, AreSegmentsBelow, IsSegment}
-use Rattle.addr2line_lines.specs.Sweep.{running_cmp, IsBegunFrom, IsGreatestFirst, IsRunningRange, IsSwept}
+use Rattle.addr2line_lines.specs.Segments.{RunningRange, address_begin, address_end, address_function, address_holds, first_end, running_end, as_running, segment_to, AreApart, AreSegments, AreSegmentsBelow, IsSegment}
+use Rattle.addr2line_lines.specs.Sweep.{running_cmp, is_outdone, IsBegunFrom, IsGreatestFirst, IsRunningRange, IsSwept, SomeIsNoLonger}
+use Rattle.addr2line_lines.specs.Shortest.{IsNoLonger}
 use Rattle.addr2line_lines.proofs.SegmentLemmas.{has_first, has_later, first_or_later, from_inside, cut_more, segment_of}
 
 -- the walk goes on to an address
@@ -20,7 +21,7 @@ module _ (addresses : List FunctionAddress) (next at until : ℕ) (segments : Li
   none_runs h begun p low high j d k = by_cases (address_holds p (slice_index_or addresses j d)) refl
     where
       by_place : (b : Bool) → nat_lt j next ≡ b → address_holds p (slice_index_or addresses j d) ≡ true → address_holds p (slice_index_or addresses j d) ≡ false
-      by_place true e held = let c = h.still j d (grind (arith, nat_tests)) k p low held in absurd (let l = c.1 in omega arith)
+      by_place true e held = let c = (h.still j d (grind (arith, nat_tests)) k p low held).runs in absurd (let l = c.1 in omega arith)
       by_place false e held =
           let late = begun j d (grind (arith, nat_tests)) k in
           let between = (from_inside (slice_index_or addresses j d).range.begin (slice_index_or addresses j d).range.end p held).0 in
@@ -145,6 +146,10 @@ no_more_than_one until at running segments more e =
     let n : length more ≡ length segments + length (segment_to until at running) = ap length e ∙ length-append segments (segment_to until at running) in
     omega arith
 
+-- where the range that is no longer runs still
+still_runs : (running more : List RunningRange) (p : ℕ) (a : FunctionAddress) (some : SomeIsNoLonger running p a) → Contains more (as_running some.other) → SomeIsNoLonger more p a
+still_runs running more p a some runs = record { other = some.other; runs = runs; ends_past = some.ends_past; no_longer = some.no_longer }
+
 -- a range that ended runs no more
 pub ended : (addresses : List FunctionAddress) (next at : ℕ) (running rest : List RunningRange) (segments : List FunctionAddress) (o : RunningRange) → IsSwept addresses next at running segments → running_end o ≤ at → IsPermutation running (o ∷ rest) → IsHeap running_cmp rest
     → IsSwept addresses next at rest segments
@@ -152,14 +157,26 @@ ended addresses next at running rest segments o h past moved heap = record {
   heap = heap;
   cut = h.cut;
   only = All-tail (IsRunningRange addresses at) o rest (All-permutation (IsRunningRange addresses at) running (o ∷ rest) moved h.only);
-  still = λ j d k m p low held. other (slice_index_or addresses j d) p low held (first_or_later rest o (as_running (slice_index_or addresses j d)) (Contains-permutation running (o ∷ rest) (as_running (slice_index_or addresses j d)) moved (h.still j d k m p low held)));
+  still = λ j d k m p low held. (
+      let some = h.still j d k m p low held in
+      still_runs running rest p (slice_index_or addresses j d) some (others some.other p low some.ends_past (first_or_later rest o (as_running some.other) (Contains-permutation running (o ∷ rest) (as_running some.other) moved some.runs))));
 }
   where
-    other : (a : FunctionAddress) (p : ℕ) → at ≤ p → address_holds p a ≡ true → (o ≡ as_running a) ⊎ Contains rest (as_running a) → Contains rest (as_running a)
-    other a p low held c = elim c [
-      | inl e ↦ (let same : running_end o ≡ a.range.end = ap running_end e in let high = (from_inside a.range.begin a.range.end p held).1 in absurd (omega arith))
+    others : (x : FunctionAddress) (p : ℕ) → at ≤ p → p < x.range.end → (o ≡ as_running x) ⊎ Contains rest (as_running x) → Contains rest (as_running x)
+    others x p low high c = elim c [
+      | inl e ↦ (let same : running_end o ≡ x.range.end = ap running_end e in absurd (omega arith))
       | inr k ↦ k
     ]
+
+-- a range at the place or before it, and not before it
+last_one : (addresses : List FunctionAddress) (next j : ℕ) (a d e : FunctionAddress) → next < length addresses → slice_index_or addresses next d ≡ a → j < next + 1 → nat_lt j next ≡ false → slice_index_or addresses j e ≡ a
+last_one addresses next j a d e inside_it is k t =
+    let same : j ≡ next = (let u : next ≤ j = grind (arith, nat_tests) in omega arith) in
+    ap (λ i. slice_index_or addresses i e) same ∙ get_or_default addresses next e d inside_it ∙ is
+
+-- the first running range outdoes another
+outdone_is : (x y : RunningRange) → is_outdone y (x ∷ []) ≡ true → ((x.0.0 < y.0.0) ⊎ ((x.0.0 ≡ y.0.0) × (x.0.1 ≤ y.0.1))) × (running_end y ≤ running_end x)
+outdone_is x y h = (grind (arith, nat_tests), grind (arith, nat_tests))
 
 -- the next range runs
 pub entered : (addresses : List FunctionAddress) (next at : ℕ) (running more : List RunningRange) (segments : List FunctionAddress) (a d : FunctionAddress) → next < length addresses → slice_index_or addresses next d ≡ a → IsSwept addresses next at running segments → a.range.begin ≤ at
@@ -169,15 +186,50 @@ entered addresses next at running more segments a d inside_it is h begun moved h
   cut = h.cut;
   only = All-permutation (IsRunningRange addresses at) (as_running a ∷ running) more moved (All-cons (IsRunningRange addresses at) (as_running a) running
       (record { address = a; listed = subst (Contains addresses) is (Contains-get_or addresses next d inside_it); begun = begun; is = refl }) h.only);
-  still = λ j e k m p low held. Contains-permutation (as_running a ∷ running) more (as_running (slice_index_or addresses j e)) moved (by_place j e k m p low held (nat_lt j next) refl);
+  still = λ j e k m p low held. by_place j e k m p low held (nat_lt j next) refl;
 }
   where
-    by_place : (j : ℕ) (e : FunctionAddress) → j < next + 1 → j < length addresses → (p : ℕ) → at ≤ p → address_holds p (slice_index_or addresses j e) ≡ true → (b : Bool) → nat_lt j next ≡ b → Contains (as_running a ∷ running) (as_running (slice_index_or addresses j e))
-    by_place j e k m p low held true t = has_later running (as_running a) (as_running (slice_index_or addresses j e)) (h.still j e (grind (arith, nat_tests)) m p low held)
+    by_place : (j : ℕ) (e : FunctionAddress) → j < next + 1 → j < length addresses → (p : ℕ) → at ≤ p → address_holds p (slice_index_or addresses j e) ≡ true → (b : Bool) → nat_lt j next ≡ b → SomeIsNoLonger more p (slice_index_or addresses j e)
+    by_place j e k m p low held true t =
+        let some = h.still j e (grind (arith, nat_tests)) m p low held in
+        still_runs running more p (slice_index_or addresses j e) some (Contains-permutation (as_running a ∷ running) more (as_running some.other) moved (has_later running (as_running a) (as_running some.other) some.runs))
     by_place j e k m p low held false t =
-        let same : j ≡ next = (let u : next ≤ j = grind (arith, nat_tests) in omega arith) in
-        let here : slice_index_or addresses j e ≡ a = ap (λ i. slice_index_or addresses i e) same ∙ get_or_default addresses next e d inside_it ∙ is in
-        subst (λ x. Contains (as_running a ∷ running) (as_running x)) (sym here) (has_first running (as_running a))
+        let here : a ≡ slice_index_or addresses j e = sym (last_one addresses next j a d e inside_it is k t) in
+        record {
+          other = a;
+          runs = Contains-permutation (as_running a ∷ running) more (as_running a) moved (has_first running (as_running a));
+          ends_past = subst (λ x. p < x.range.end) (sym here) (from_inside _ _ p held).1;
+          no_longer = subst (IsNoLonger address_begin address_end address_function a) here (inr (refl, omega arith));
+        }
+
+-- a range that is outdone is passed over
+pub passed_over : (addresses : List FunctionAddress) (next at : ℕ) (running : List RunningRange) (segments : List FunctionAddress) (a d : FunctionAddress) → next < length addresses → slice_index_or addresses next d ≡ a → is_outdone (as_running a) running ≡ true
+    → IsSwept addresses next at running segments → IsSwept addresses (next + 1) at running segments
+passed_over addresses next at running segments a d inside_it is outdone h = record {
+  heap = h.heap;
+  cut = h.cut;
+  only = h.only;
+  still = λ j e k m p low held. by_place j e k m p low held (nat_lt j next) refl;
+}
+  where
+    by_first : (running : List RunningRange) (p : ℕ) → All (IsRunningRange addresses at) running → is_outdone (as_running a) running ≡ true → p < a.range.end → SomeIsNoLonger running p a
+    by_first [] p only outdone high = absurd cc
+    by_first (o ∷ rest) p only outdone high =
+        let first = only 0 o (omega arith) in
+        let x = first.address in
+        let tests = outdone_is (as_running x) (as_running a) (ap (λ r. is_outdone (as_running a) (r ∷ rest)) (sym first.is) ∙ outdone) in
+        record {
+          other = x;
+          runs = subst (Contains (o ∷ rest)) first.is (has_first rest o);
+          ends_past = (let l = tests.1 in omega arith);
+          no_longer = tests.0;
+        }
+
+    by_place : (j : ℕ) (e : FunctionAddress) → j < next + 1 → j < length addresses → (p : ℕ) → at ≤ p → address_holds p (slice_index_or addresses j e) ≡ true → (b : Bool) → nat_lt j next ≡ b → SomeIsNoLonger running p (slice_index_or addresses j e)
+    by_place j e k m p low held true t = h.still j e (grind (arith, nat_tests)) m p low held
+    by_place j e k m p low held false t =
+        let here : a ≡ slice_index_or addresses j e = sym (last_one addresses next j a d e inside_it is k t) in
+        subst (SomeIsNoLonger running p) here (by_first running p h.only outdone (subst (λ x. p < x.range.end) (sym here) (from_inside _ _ p held).1))
 
 -- once no range runs, all are cut
 pub all_cut : (addresses : List FunctionAddress) (next at : ℕ) (running : List RunningRange) (segments : List FunctionAddress) → length addresses ≤ next → running ≡ [] → IsSwept addresses next at running segments → length segments ≤ 2 * length addresses → AreSegments addresses segments
@@ -189,7 +241,7 @@ all_cut addresses next at running segments all none h few = record {
 }
   where
     by_cases : (j : ℕ) (d : FunctionAddress) → j < length addresses → (p : ℕ) → at ≤ p → (b : Bool) → address_holds p (slice_index_or addresses j d) ≡ b → address_holds p (slice_index_or addresses j d) ≡ false
-    by_cases j d k p low true e = let c = subst (λ xs. Contains xs (as_running (slice_index_or addresses j d))) none (h.still j d (omega arith) k p low e) in absurd (let l = c.1 in omega arith)
+    by_cases j d k p low true e = let some = h.still j d (omega arith) k p low e in let c = subst (λ xs. Contains xs (as_running some.other)) none some.runs in absurd (let l = c.1 in omega arith)
     by_cases j d k p low false e = e
 
     by_place : (p : ℕ) → All (λ s. address_holds p s ≡ false) segments → (b : Bool) → nat_lt p at ≡ b → All (λ a. address_holds p a ≡ false) addresses

@@ -1,18 +1,25 @@
 -- A walk over addresses that cuts ranges into segments, as the private functions see it.
-use Rattle.std.specs.Prelude.{ℕ, ◌≡◌, ◌<◌, ◌≤◌, true, List, [], ◌∷◌, length, slice_index_or}
+use Rattle.std.specs.Prelude.{ℕ, ◌≡◌, ◌<◌, ◌≤◌, ◌&&◌, Bool, true, false, nat_le, List, [], ◌∷◌, length, slice_index_or}
 use Rattle.std.specs.BinaryHeap.{IsHeap, IsUpperBound, heap_items}
 use Rattle.std.specs.List.{All, Contains}
-use Rattle.std.specs.Ordering.{nat_cmp, ordering_then}
+use Rattle.std.specs.Ordering.{is_ge, nat_cmp, ordering_then}
 use Rattle.std.specs.declared.cmp.Ordering.{Ordering}
 use Rattle.addr2line_lines.specs.declared.segments.FunctionAddress.{FunctionAddress}
 use Rattle.addr2line_lines.specs.declared.segments.Sweep.{Sweep}
-use Rattle.addr2line_lines.specs.Segments.{RunningRange, address_holds, as_running, AreSegmentsBelow}
+use Rattle.addr2line_lines.specs.Segments.{RunningRange, address_begin, address_end, address_function, address_holds, as_running, running_end, AreSegmentsBelow}
+use Rattle.addr2line_lines.specs.Shortest.{IsNoLonger}
 
 -- a running range before a longer one
 abbrev pub running_cmp : RunningRange → RunningRange → Ordering
 running_cmp x y =
     ordering_then (ordering_then (nat_cmp y.0.0 x.0.0) (nat_cmp y.0.1 x.0.1))
     (nat_cmp y.0.2 x.0.2)
+
+-- whether the first running range is no longer than another range, and ends no sooner
+abbrev pub is_outdone : RunningRange → List RunningRange → Bool
+is_outdone range [] = false
+is_outdone range (o ∷ running) =
+    is_ge (running_cmp o range) && nat_le (running_end range) (running_end o)
 
 -- where the running ranges are a heap, the first is the greatest
 abbrev pub IsGreatestFirst : List RunningRange → Type 0
@@ -33,8 +40,16 @@ pub record IsRunningRange (addresses : List FunctionAddress) (at : ℕ) (running
   pub begun : address.range.begin ≤ at
   pub is : running ≡ as_running address
 
--- all below an address is cut into segments; the ranges before a place that hold an address from
--- there on run
+-- a running range that ends past the probe is no longer than a range
+pub record SomeIsNoLonger (running : List RunningRange) (probe : ℕ) (address : FunctionAddress)
+    : Type 0 where
+  pub other : FunctionAddress
+  pub runs : Contains running (as_running other)
+  pub ends_past : probe < other.range.end
+  pub no_longer : IsNoLonger address_begin address_end address_function other address
+
+-- all below an address is cut into segments; where a range before a place holds an address from
+-- there on, one runs that ends past it and is no longer
 pub record IsSwept (addresses : List FunctionAddress) (next at : ℕ) (running : List RunningRange)
     (segments : List FunctionAddress) : Type 0 where
   pub heap : IsHeap running_cmp running
@@ -42,7 +57,7 @@ pub record IsSwept (addresses : List FunctionAddress) (next at : ℕ) (running :
   pub only : All (IsRunningRange addresses at) running
   pub still : (j : ℕ) (d : FunctionAddress) → j < next → j < length addresses
       → (probe : ℕ) → at ≤ probe → address_holds probe (slice_index_or addresses j d) ≡ true
-      → Contains running (as_running (slice_index_or addresses j d))
+      → SomeIsNoLonger running probe (slice_index_or addresses j d)
 
 -- the walk stands so
 abbrev pub IsSweptBy : List FunctionAddress → ℕ → Sweep → Type 0

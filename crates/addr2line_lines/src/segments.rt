@@ -7,7 +7,7 @@ ghost use Rattle.gimli_read.specs.declared.error.Error.TheVariants.{OutOfMemory}
 ghost use Rattle.gimli_read.specs.Reading.{ExactlyUnlessOomIf};
 ghost use Rattle.addr2line_lines.specs.LastAddress.{last_address};
 ghost use Rattle.addr2line_lines.specs.Segments.{AreDisjoint, AreSegments, address_begin, first_end, shortest_function_at, as_running, segment_to};
-ghost use Rattle.addr2line_lines.specs.Sweep.{IsBegunFrom, IsGreatestFirst, IsSweptBy};
+ghost use Rattle.addr2line_lines.specs.Sweep.{IsBegunFrom, IsGreatestFirst, IsSweptBy, is_outdone};
 
 use gimli::read::{Error, Range};
 use std::alloc::Global;
@@ -67,6 +67,16 @@ impl Sweep {
         }
     }
 
+    // Whether the shortest running range is no longer than another range, and ends no sooner.
+    fn is_outdone(&self, range: &Reverse<(u64, usize, u64)>) -> bool
+        ensures gives { result ≡ is_outdone range.now (heap_items self.now.running) }
+    {
+        match self.running.peek() {
+            Some(first) => first >= range && first.0.2 >= range.0.2,
+            None => false,
+        }
+    }
+
     // Goes on to an address, through which no running range begins or ends.
     //
     // Refused `OutOfMemory` alone.
@@ -114,7 +124,8 @@ impl Sweep {
         Ok(())
     }
 
-    // Goes on to where a range begins, which then runs.
+    // Goes on to where a range begins, which then runs. One that is outdone is never the shortest,
+    // and is passed over.
     //
     // Refused `OutOfMemory` alone.
     fn enter(&mut self, address: FunctionAddress) -> Result<(), Error>
@@ -128,8 +139,12 @@ impl Sweep {
             ≤ length self.old.segments.items + length (heap_items self.old.running) + 2) }
         ensures refused { IfErr result (λ e. e ≡ OutOfMemory) }
     {
+        let range = as_running(address);
+        if self.is_outdone(&range) {
+            return Ok(());
+        }
         self.advance(address.range.begin)?;
-        self.running.push(as_running(address))?;
+        self.running.push(range)?;
         Ok(())
     }
 }

@@ -70,7 +70,7 @@ module _ {R : Type 0} (scope : Scope) (probe : ℕ) (us : List UnitRecord) (cs :
     asks_are = rw (unit_is, asks_lines_of, answer_is) refl
 
     pub many_are : exceeds_inline_room (inlined_at_number scope (indexed_units us cs) (answers_in cs) probe n) ≡ exceeds_inline_room (inlined_at scope u (first_answer_of c.entries) probe)
-    many_are = rw (unit_is, answer_is) refl
+    many_are = rw (unit_is, inlined_at_number, answer_is) refl
 
     pub offset_is : function_offset_of scope (indexed_units us cs) (answers_in cs) probe n ≡ function_offset_in scope u (first_answer_of c.entries) probe
     offset_is = rw (unit_is, function_offset_of, answer_is) refl

@@ -9,7 +9,7 @@ use Rattle.gimli.specs.Sections.{Sections}
 use Rattle.addr2line_units.specs.declared.continuation.LookupResult.{LookupResult}
 use Rattle.addr2line_units.specs.declared.continuation.LookupResult.TheVariants.{Load, Output}
 use Rattle.addr2line_units.specs.declared.frames_lookup.OnFault.{OnFault}
-use Rattle.addr2line_units.specs.FramesLookup.{Stop, Waits, Finds, FindsNothing, is_waiting, readable_view, unit_found, view_of_number}
+use Rattle.addr2line_units.specs.FramesLookup.{LookupStop, Waits, Finds, FindsNothing, is_waiting, readable_view, unit_found, view_of_number}
 use Rattle.addr2line_units.specs.Suspended.{IfLoad, IfOutput}
 use Rattle.addr2line_units.specs.RangedUnits.{unit_records}
 use Rattle.addr2line_units.specs.UnitIndex.{UnitIndex, index_units}
@@ -33,11 +33,11 @@ outputs_same reading see probe old mid result s a h =
     subst (λ x. IfOutput result (λ o. ExactlyUnlessOom see o (reading x old.answers probe))) s
     (subst (λ x. IfOutput result (λ o. ExactlyUnlessOom see o (reading mid.sections x probe))) a h)
 
-stop_ended : (walked : Result (Unit {0}) Error) (stop : Stop) (r : Result Stop Error) → ExactlyUnlessOom (λ _. stop) walked r → is_waiting r ≡ false → is_waiting (walked >>= λ _. Ok stop) ≡ false
+stop_ended : (walked : Result (Unit {0}) Error) (stop : LookupStop) (r : Result LookupStop Error) → ExactlyUnlessOom (λ _. stop) walked r → is_waiting r ≡ false → is_waiting (walked >>= λ _. Ok stop) ≡ false
 stop_ended (Ok x) stop r h w = sym (ap is_waiting h) ∙ w
 stop_ended (Err e) stop r h w = refl
 
-none_waits : (walked : Result (Unit {0}) Error) (stop : Stop) → OnOk walked (waiting_unit stop ≡ None) → is_waiting (walked >>= λ _. Ok stop) ≡ false
+none_waits : (walked : Result (Unit {0}) Error) (stop : LookupStop) → OnOk walked (waiting_unit stop ≡ None) → is_waiting (walked >>= λ _. Ok stop) ≡ false
 none_waits (Ok x) (Waits n) h = absurd cc
 none_waits (Ok x) (Finds n frames) h = refl
 none_waits (Ok x) FindsNothing h = refl
@@ -49,7 +49,7 @@ lent_alone walked P (Ok x) h k = tt
 lent_alone walked P (Err e) h k = subst (λ w. IfErr w P) k h
 
 -- a lookup that was stored and has ended waits for no unit
-pub never_waits : (walked : Result (Unit {0}) Error) (stop : Stop) (n : ℕ) → OnOk walked (waiting_unit stop ≡ None) → walked ≡ Ok tt → stop ≡ Waits n → ⊥
+pub never_waits : (walked : Result (Unit {0}) Error) (stop : LookupStop) (n : ℕ) → OnOk walked (waiting_unit stop ≡ None) → walked ≡ Ok tt → stop ≡ Waits n → ⊥
 never_waits walked stop n ended is waits =
     let none : waiting_unit stop ≡ None = subst (λ r. OnOk r (waiting_unit stop ≡ None)) is ended in
     let f : ◌≡◌ {A = Option ℕ} (Some n) None = sym (ap waiting_unit waits) ∙ none in
@@ -124,13 +124,13 @@ module _ (faults : OnFault) (probe : ℕ) (old mid : ContextState) (walked : Res
         by (Output (Err e)) l h = λ ne. sym (same (l.1.ready ne)) ∙ h ne
 
 -- what is lent of a lookup that has ended, of one that was refused, and of one whose load is refused
-pub lent_ok : {X : Type 0} (stop : Stop) (x : X) → IsLent (Ok tt) stop (Ok x)
+pub lent_ok : {X : Type 0} (stop : LookupStop) (x : X) → IsLent (Ok tt) stop (Ok x)
 lent_ok stop x = record { ready = λ told. tt; memory = λ ended told. tt; refused = λ ended. tt }
 
-pub lent_fault : {X : Type 0} (stop : Stop) (e : Error) → IsLent {X = X} (Err e) stop (Err e)
+pub lent_fault : {X : Type 0} (stop : LookupStop) (e : Error) → IsLent {X = X} (Err e) stop (Err e)
 lent_fault stop e = record { ready = λ told. told; memory = λ ended told. told; refused = λ ended. refl }
 
-pub lent_no_load : {X : Type 0} (stop : Stop) (n : ℕ) (e : Error) → stop ≡ Waits n → IsLent {X = X} (Ok tt) stop (Err e)
+pub lent_no_load : {X : Type 0} (stop : LookupStop) (n : ℕ) (e : Error) → stop ≡ Waits n → IsLent {X = X} (Ok tt) stop (Err e)
 lent_no_load stop n e waits = record {
   ready = λ told. tt;
   memory = λ ended told. let f : true ≡ false = sym (ap (λ s. is_waiting (Ok s)) waits) ∙ ended in absurd cc;
@@ -138,18 +138,18 @@ lent_no_load stop n e waits = record {
 }
 
 -- what is found by a lookup that has ended
-pub found_lent : {V : Type 0} (faults : OnFault) (value_of : Stop → Option View → V) (c : ContextState) (probe : ℕ) (found : V) → lookup_stop faults c.sections c.answers probe ≡ Ok c.stop → waiting_unit c.stop ≡ None → found ≡ value_of c.stop (view_found c.sections c.answers c.stop)
+pub found_lent : {V : Type 0} (faults : OnFault) (value_of : LookupStop → Option View → V) (c : ContextState) (probe : ℕ) (found : V) → lookup_stop faults c.sections c.answers probe ≡ Ok c.stop → waiting_unit c.stop ≡ None → found ≡ value_of c.stop (view_found c.sections c.answers c.stop)
     → found_of_context faults value_of c probe ≡ Ok (Some found)
 found_lent {V = V} faults value_of c probe found h w f =
     ap (λ r. r >>= λ s. Ok (ended_with (value_of s (view_found c.sections c.answers s)) s)) h ∙ ap (λ o. Ok o) (ended (value_of c.stop (view_found c.sections c.answers c.stop)) c.stop w ∙ ap (λ v. Some v) (sym f))
   where
-    ended : (v : V) (s : Stop) → waiting_unit s ≡ None → ended_with v s ≡ Some v
+    ended : (v : V) (s : LookupStop) → waiting_unit s ≡ None → ended_with v s ≡ Some v
     ended v (Waits n) e = absurd cc
     ended v (Finds n fs) e = refl
     ended v FindsNothing e = refl
 
 -- the unit of the view that a lookup has found
-pub unit_found_is : (d : Sections) (answers : FirstAnswers) (stop : Stop) (m : UnitIndex) → index_units d ≡ Ok m → unit_found d (unit_records m.units) answers stop ≡ unit_value stop (view_found d answers stop)
+pub unit_found_is : (d : Sections) (answers : FirstAnswers) (stop : LookupStop) (m : UnitIndex) → index_units d ≡ Ok m → unit_found d (unit_records m.units) answers stop ≡ unit_value stop (view_found d answers stop)
 unit_found_is d answers (Waits n) m e = refl
 unit_found_is d answers FindsNothing m e = refl
 unit_found_is d answers (Finds n frames) m e =

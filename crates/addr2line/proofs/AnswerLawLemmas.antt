@@ -11,11 +11,11 @@ use Rattle.gimli.specs.Sections.{Sections}
 use Rattle.gimli.specs.Unit.{UnitRecord}
 use Rattle.addr2line_lines.specs.References.{Scope}
 use Rattle.addr2line_units.specs.declared.frames_lookup.OnFault.{OnFault}
-use Rattle.addr2line_units.specs.declared.frames_lookup.OnFault.TheVariants.{End, PassOver}
+use Rattle.addr2line_units.specs.declared.frames_lookup.OnFault.TheVariants.{Stop, Skip}
 use Rattle.addr2line_units.specs.declared.index.UnitRange.{UnitRange}
 use Rattle.addr2line_units.specs.declared.parses.ReadingDepth.{ReadingDepth}
 use Rattle.addr2line_units.specs.Cover.{cover}
-use Rattle.addr2line_units.specs.FramesLookup.{Stop, Waits, Finds, FindsNothing, answer_of, is_waiting, main_scope, with_answer}
+use Rattle.addr2line_units.specs.FramesLookup.{LookupStop, Waits, Finds, FindsNothing, answer_of, is_waiting, main_scope, with_answer}
 use Rattle.addr2line_units.specs.FunctionParses.{answers_after_parse, read_of_unit, unless_fault}
 use Rattle.addr2line_units.specs.LoadLaws.{IsListed}
 use Rattle.addr2line_units.specs.LoadLaws as laws
@@ -49,31 +49,31 @@ of_listed P n (l ∷ loads) (inl e) all = subst P e all.0
 of_listed P n (l ∷ loads) (inr h) all = of_listed P n loads h all.1
 
 -- the first answer of a unit after a parse of all functions: as it was, or none where it was open
-at_parse : (reads : ReadingDepth) (scope : Scope) (us : List UnitRecord) (answers : FirstAnswers) (k : ℕ)
-    → (answer_of (answers_after_parse reads scope us answers) k ≡ answer_of answers k)
-    ⊎ ((u : UnitRecord) × (slice_get us k ≡ Some u) × (answer_of (answers_after_parse reads scope us answers) k ≡ decided_answer scope.file.sections u (answer_of answers k) None))
-at_parse reads scope [] answers k = inl refl
-at_parse reads scope (u ∷ us) [] k = inl refl
-at_parse reads scope (u ∷ us) (a ∷ answers) zero = inr (u, refl, refl)
-at_parse reads scope (u ∷ us) (a ∷ answers) (suc k) = by (read_of_unit reads scope u a) (at_parse reads scope us answers k)
+at_parse : (depth : ReadingDepth) (scope : Scope) (us : List UnitRecord) (answers : FirstAnswers) (k : ℕ)
+    → (answer_of (answers_after_parse depth scope us answers) k ≡ answer_of answers k)
+    ⊎ ((u : UnitRecord) × (slice_get us k ≡ Some u) × (answer_of (answers_after_parse depth scope us answers) k ≡ decided_answer scope.file.sections u (answer_of answers k) None))
+at_parse depth scope [] answers k = inl refl
+at_parse depth scope (u ∷ us) [] k = inl refl
+at_parse depth scope (u ∷ us) (a ∷ answers) zero = inr (u, refl, refl)
+at_parse depth scope (u ∷ us) (a ∷ answers) (suc k) = by (read_of_unit depth scope u a) (at_parse depth scope us answers k)
   where
     after : Result (Unit {0}) Error → Option (Option Sections)
-    after r = answer_of (decided_answer scope.file.sections u a None ∷ unless_fault r (answers_after_parse reads scope us answers) answers) (suc k)
+    after r = answer_of (decided_answer scope.file.sections u a None ∷ unless_fault r (answers_after_parse depth scope us answers) answers) (suc k)
 
     by : (r : Result (Unit {0}) Error)
-        → (answer_of (answers_after_parse reads scope us answers) k ≡ answer_of answers k)
-        ⊎ ((v : UnitRecord) × (slice_get us k ≡ Some v) × (answer_of (answers_after_parse reads scope us answers) k ≡ decided_answer scope.file.sections v (answer_of answers k) None))
+        → (answer_of (answers_after_parse depth scope us answers) k ≡ answer_of answers k)
+        ⊎ ((v : UnitRecord) × (slice_get us k ≡ Some v) × (answer_of (answers_after_parse depth scope us answers) k ≡ decided_answer scope.file.sections v (answer_of answers k) None))
         → (after r ≡ answer_of answers k)
         ⊎ ((v : UnitRecord) × (slice_get us k ≡ Some v) × (after r ≡ decided_answer scope.file.sections v (answer_of answers k) None))
     by (Ok x) h = h
     by (Err x) h = inl refl
 
-parse_length : (reads : ReadingDepth) (scope : Scope) (us : List UnitRecord) (answers : FirstAnswers) → length (answers_after_parse reads scope us answers) ≡ length answers
-parse_length reads scope [] answers = refl
-parse_length reads scope (u ∷ us) [] = refl
-parse_length reads scope (u ∷ us) (a ∷ answers) = ap suc (by (read_of_unit reads scope u a) (parse_length reads scope us answers))
+parse_length : (depth : ReadingDepth) (scope : Scope) (us : List UnitRecord) (answers : FirstAnswers) → length (answers_after_parse depth scope us answers) ≡ length answers
+parse_length depth scope [] answers = refl
+parse_length depth scope (u ∷ us) [] = refl
+parse_length depth scope (u ∷ us) (a ∷ answers) = ap suc (by (read_of_unit depth scope u a) (parse_length depth scope us answers))
   where
-    by : (r : Result (Unit {0}) Error) → length (answers_after_parse reads scope us answers) ≡ length answers → length (unless_fault r (answers_after_parse reads scope us answers) answers) ≡ length answers
+    by : (r : Result (Unit {0}) Error) → length (answers_after_parse depth scope us answers) ≡ length answers → length (unless_fault r (answers_after_parse depth scope us answers) answers) ≡ length answers
     by (Ok x) h = h
     by (Err x) h = refl
 
@@ -98,9 +98,9 @@ module _ (d : Sections) (m : UnitIndex) (probe : ℕ) (e : index_units d ≡ Ok 
   -- after one more answer
   one_answered : (given more : List (ℕ × Option Sections)) (answers : FirstAnswers) (n : ℕ) (x : Option Sections)
       → ((k : ℕ) → k ≢ n → IsAnsweredBy given k → IsAnsweredBy more k) → WaitFor given answers → WaitFor more (answered d answers n x)
-  one_answered given more answers n x further w = subst (WaitFor more) (sym (answers_are End d m probe e answers n x)) (
+  one_answered given more answers n x further w = subst (WaitFor more) (sym (answers_are Stop d m probe e answers n x)) (
     λ k lead there. by k lead there (eqb_tells k n),
-    w.1 ∙ sym (as_many End d m probe e answers n x),
+    w.1 ∙ sym (as_many Stop d m probe e answers n x),
   )
     where
       by : (k : ℕ) → LeadTo (cover probe m.ranges) k → is_some (load (with_answer d us answers n x) k) ≡ true → ((k == n) ≡ true) × (k ≡ n) ⊎ ((k == n) ≡ false) × (k ≢ n) → IsAnsweredBy more k
@@ -113,7 +113,7 @@ module _ (d : Sections) (m : UnitIndex) (probe : ℕ) (e : index_units d ≡ Ok 
   all_given faults asked answers (Abandoned ∷ given) w = w
   all_given faults asked answers (Answered x ∷ given) w = by (λ n. all_given faults asked (answered d answers n x) given (one_answered [] [] answers n x (λ k ne h. h) w)) (lookup_stop faults d answers asked)
     where
-      by : ((n : ℕ) → WaitFor [] (answers_given faults d asked (answered d answers n x) given)) → (s : Result Stop Error) → WaitFor [] (where_waiting (λ n. answers_given faults d asked (answered d answers n x) given) answers s)
+      by : ((n : ℕ) → WaitFor [] (answers_given faults d asked (answered d answers n x) given)) → (s : Result LookupStop Error) → WaitFor [] (where_waiting (λ n. answers_given faults d asked (answered d answers n x) given) answers s)
       by further (Ok (Waits n)) = further n
       by further (Ok (Finds n frames)) = w
       by further (Ok FindsNothing) = w
@@ -127,14 +127,14 @@ module _ (d : Sections) (m : UnitIndex) (probe : ℕ) (e : index_units d ≡ Ok 
       same k ne = ap (λ o. is_some (load_by k (unwrap_or o None))) (others_stay answers n k None ne)
 
   -- after a parse of all functions
-  all_parsed : (reads : ReadingDepth) (answers : FirstAnswers) → WaitFor [] answers → WaitFor [] (parsed_answers reads d answers)
-  all_parsed reads answers w = subst (WaitFor []) (sym (ap (λ (r : Result UnitIndex Error). elim r [ Err x ↦ answers | Ok i ↦ answers_after_parse reads (main_scope d i) (unit_records i.units) answers ]) e)) (
-    λ k lead there. by k lead there (at_parse reads (main_scope d m) us answers k),
-    w.1 ∙ sym (parse_length reads (main_scope d m) us answers),
+  all_parsed : (depth : ReadingDepth) (answers : FirstAnswers) → WaitFor [] answers → WaitFor [] (parsed_answers depth d answers)
+  all_parsed depth answers w = subst (WaitFor []) (sym (ap (λ (r : Result UnitIndex Error). elim r [ Err x ↦ answers | Ok i ↦ answers_after_parse depth (main_scope d i) (unit_records i.units) answers ]) e)) (
+    λ k lead there. by k lead there (at_parse depth (main_scope d m) us answers k),
+    w.1 ∙ sym (parse_length depth (main_scope d m) us answers),
   )
     where
       after : FirstAnswers
-      after = answers_after_parse reads (main_scope d m) us answers
+      after = answers_after_parse depth (main_scope d m) us answers
 
       by : (k : ℕ) → LeadTo (cover probe m.ranges) k → is_some (load after k) ≡ true
           → (answer_of after k ≡ answer_of answers k) ⊎ ((u : UnitRecord) × (slice_get us k ≡ Some u) × (answer_of after k ≡ decided_answer d u (answer_of answers k) None)) → IsAnsweredBy [] k
@@ -147,13 +147,13 @@ module _ (d : Sections) (m : UnitIndex) (probe : ℕ) (e : index_units d ≡ Ok 
   after_call : (answers : FirstAnswers) (call : HistoryCall) → ForgetsNone (LeadTo (cover probe m.ranges)) call → WaitFor [] answers → WaitFor [] (answers_left d answers call)
   after_call answers (AsksLocation p) f w = w
   after_call answers (AsksRange low high) f w = w
-  after_call answers (AsksFrames p given) f w = all_given End p answers given w
-  after_call answers (AsksUnit p given) f w = all_given PassOver p answers given w
+  after_call answers (AsksFrames p given) f w = all_given Stop p answers given w
+  after_call answers (AsksUnit p given) f w = all_given Skip p answers given w
   after_call answers (AsksLoads p) f w = w
   after_call answers (AnswersLoad n x) f w = one_answered [] [] answers n x (λ k ne h. h) w
   after_call answers (Forgets n) f w = all_forgotten answers n f w
   after_call answers ParsesLines f w = w
-  after_call answers (ParsesFunctions reads) f w = all_parsed reads answers w
+  after_call answers (ParsesFunctions depth) f w = all_parsed depth answers w
 
   after_calls : (answers : FirstAnswers) (calls : List HistoryCall) → AllByRecursion (ForgetsNone (LeadTo (cover probe m.ranges))) calls → WaitFor [] answers → WaitFor [] (answers_after d answers calls)
   after_calls answers [] f w = w
@@ -172,7 +172,7 @@ module _ (d : Sections) (m : UnitIndex) (probe : ℕ) (e : index_units d ≡ Ok 
   waits_not : (faults : OnFault) (answers : FirstAnswers) → WaitFor [] answers → is_waiting (lookup_stop faults d answers probe) ≡ false
   waits_not faults answers w = by (lookup_stop faults d answers probe) refl
     where
-      by : (s : Result Stop Error) → lookup_stop faults d answers probe ≡ s → is_waiting s ≡ false
+      by : (s : Result LookupStop Error) → lookup_stop faults d answers probe ≡ s → is_waiting s ≡ false
       by (Ok (Waits n)) is = absurd (never_waits_alone faults (main_scope d m) m.units answers probe n (cover probe m.ranges) (none_along (load answers) (cover probe m.ranges) w.0) (sym (ap (λ r. r >>= stop_in faults d answers probe) e) ∙ is))
       by (Ok (Finds n frames)) is = refl
       by (Ok FindsNothing) is = refl
@@ -208,7 +208,7 @@ module _ (d : Sections) (m : UnitIndex) (e : index_units d ≡ Ok m) (n : ℕ) (
       by (Ok (Some load)) = refl
 
   stays_one : (answers : FirstAnswers) (k : ℕ) (x : Option Sections) → answer_of answers n ≡ Some first → answer_of (answered d answers k x) n ≡ Some first
-  stays_one answers k x is = subst (λ xs. answer_of xs n ≡ Some first) (sym (answers_are End d m 0 e answers k x)) (by (slice_get records k) (eqb_tells n k))
+  stays_one answers k x is = subst (λ xs. answer_of xs n ≡ Some first) (sym (answers_are Stop d m 0 e answers k x)) (by (slice_get records k) (eqb_tells n k))
     where
       by : (o : Option UnitRecord) → ((n == k) ≡ true) × (n ≡ k) ⊎ ((n == k) ≡ false) × (n ≢ k)
           → answer_of (elim o [ None ↦ answers | Some u ↦ set answers k (decided_answer d u (answer_of answers k) x) ]) n ≡ Some first
@@ -223,18 +223,18 @@ module _ (d : Sections) (m : UnitIndex) (e : index_units d ≡ Ok m) (n : ℕ) (
   stays_given faults asked answers (Abandoned ∷ given) is = is
   stays_given faults asked answers (Answered x ∷ given) is = by (λ k. stays_given faults asked (answered d answers k x) given (stays_one answers k x is)) (lookup_stop faults d answers asked)
     where
-      by : ((k : ℕ) → answer_of (answers_given faults d asked (answered d answers k x) given) n ≡ Some first) → (s : Result Stop Error) → answer_of (where_waiting (λ k. answers_given faults d asked (answered d answers k x) given) answers s) n ≡ Some first
+      by : ((k : ℕ) → answer_of (answers_given faults d asked (answered d answers k x) given) n ≡ Some first) → (s : Result LookupStop Error) → answer_of (where_waiting (λ k. answers_given faults d asked (answered d answers k x) given) answers s) n ≡ Some first
       by further (Ok (Waits k)) = further k
       by further (Ok (Finds k frames)) = is
       by further (Ok FindsNothing) = is
       by further (Err f) = is
 
-  stays_parsed : (reads : ReadingDepth) (answers : FirstAnswers) → answer_of answers n ≡ Some first → answer_of (parsed_answers reads d answers) n ≡ Some first
-  stays_parsed reads answers is = ap (λ (r : Result UnitIndex Error). answer_of (elim r [ Err x ↦ answers | Ok i ↦ answers_after_parse reads (main_scope d i) (unit_records i.units) answers ]) n) e
-      ∙ by (at_parse reads (main_scope d m) records answers n)
+  stays_parsed : (depth : ReadingDepth) (answers : FirstAnswers) → answer_of answers n ≡ Some first → answer_of (parsed_answers depth d answers) n ≡ Some first
+  stays_parsed depth answers is = ap (λ (r : Result UnitIndex Error). answer_of (elim r [ Err x ↦ answers | Ok i ↦ answers_after_parse depth (main_scope d i) (unit_records i.units) answers ]) n) e
+      ∙ by (at_parse depth (main_scope d m) records answers n)
     where
       after : FirstAnswers
-      after = answers_after_parse reads (main_scope d m) records answers
+      after = answers_after_parse depth (main_scope d m) records answers
 
       by : (answer_of after n ≡ answer_of answers n) ⊎ ((u : UnitRecord) × (slice_get records n ≡ Some u) × (answer_of after n ≡ decided_answer d u (answer_of answers n) None)) → answer_of after n ≡ Some first
       by (inl same) = same ∙ is
@@ -243,13 +243,13 @@ module _ (d : Sections) (m : UnitIndex) (e : index_units d ≡ Ok m) (n : ℕ) (
   stays_after : (answers : FirstAnswers) (call : HistoryCall) → ForgetsNone (λ k. k ≡ n) call → answer_of answers n ≡ Some first → answer_of (answers_left d answers call) n ≡ Some first
   stays_after answers (AsksLocation p) f is = is
   stays_after answers (AsksRange low high) f is = is
-  stays_after answers (AsksFrames p given) f is = stays_given End p answers given is
-  stays_after answers (AsksUnit p given) f is = stays_given PassOver p answers given is
+  stays_after answers (AsksFrames p given) f is = stays_given Stop p answers given is
+  stays_after answers (AsksUnit p given) f is = stays_given Skip p answers given is
   stays_after answers (AsksLoads p) f is = is
   stays_after answers (AnswersLoad k x) f is = stays_one answers k x is
   stays_after answers (Forgets k) f is = ap (λ o. unwrap_or o None) (others_stay answers k n None (λ same. f (sym same))) ∙ is
   stays_after answers ParsesLines f is = is
-  stays_after answers (ParsesFunctions reads) f is = stays_parsed reads answers is
+  stays_after answers (ParsesFunctions depth) f is = stays_parsed depth answers is
 
 pub first_answers_stay : FirstAnswersStay
 first_answers_stay d m answers n first [] e is f = is

@@ -11,7 +11,7 @@ use Rattle.addr2line_units.specs.declared.frames_lookup.OnFault.{OnFault}
 use Rattle.addr2line_units.specs.declared.index.UnitRange.{UnitRange}
 use Rattle.addr2line_units.specs.AfterUnits as left
 use Rattle.addr2line_units.specs.Cover.{cover}
-use Rattle.addr2line_units.specs.FramesLookup.{Stop, Waits, Finds, FindsNothing, main_scope, with_answer}
+use Rattle.addr2line_units.specs.FramesLookup.{LookupStop, Waits, Finds, FindsNothing, main_scope, with_answer}
 use Rattle.addr2line_units.specs.LoadLaws.{IsListed}
 use Rattle.addr2line_units.specs.Loads.{load_result}
 use Rattle.addr2line_units.specs.LoadLaws as laws
@@ -25,7 +25,7 @@ use Rattle.addr2line.specs.Lookups.{loads_at, lookup_stop, stop_in, waits_for}
 use Rattle.addr2line.proofs.ContextLemmas.{at_made, by_made, or_made, still_context}
 
 -- a lookup that waits for the unit of a number
-waits_is : (n : ℕ) (r : Result Stop Error) → waits_for n r ≡ true → r ≡ Ok (Waits n)
+waits_is : (n : ℕ) (r : Result LookupStop Error) → waits_for n r ≡ true → r ≡ Ok (Waits n)
 waits_is n (Ok (Waits k)) e = ap (λ j. Ok (Waits j)) (eqb-true k n e)
 waits_is n (Ok (Finds k frames)) e = absurd cc
 waits_is n (Ok FindsNothing) e = absurd cc

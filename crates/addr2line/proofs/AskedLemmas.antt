@@ -13,7 +13,7 @@ use Rattle.addr2line_lines.specs.References.{Scope}
 use Rattle.addr2line_units.specs.declared.frames_lookup.OnFault.{OnFault}
 use Rattle.addr2line_units.specs.declared.index.UnitRange.{UnitRange}
 use Rattle.addr2line_units.specs.Cover.{cover}
-use Rattle.addr2line_units.specs.FramesLookup.{LookupAsks, Stop, Waits, after_fault, answer_of, asked_frames, asks_lines_of, ends_lookup, function_offset_of, main_scope, or_stop, stop_along, with_answer}
+use Rattle.addr2line_units.specs.FramesLookup.{LookupAsks, LookupStop, Waits, after_fault, answer_of, asked_frames, asks_lines_of, ends_lookup, function_offset_of, main_scope, or_stop, stop_along, with_answer}
 use Rattle.addr2line_units.specs.KnownEntries.{KnownEntries, LearnsDetailsAt, LearnsNoDetails}
 use Rattle.addr2line_units.specs.Parsed.{ParsesOnly, has_parsed}
 use Rattle.addr2line_units.specs.Loads.{is_open_at}
@@ -55,7 +55,7 @@ asks_waiting : (f : ℕ → FramesResult) (n : ℕ) (ranges : List UnitRange) �
 asks_waiting f n [] e = absurd cc
 asks_waiting f n (r ∷ ranges) e = step (f r.unit) (stop_along f ranges) e (asks_waiting f n ranges)
   where
-    step : (x : FramesResult) (rest : Result Stop Error) → (x >>= or_stop r.unit rest) ≡ Ok (Waits n) → (rest ≡ Ok (Waits n) → LookupAsks f ranges n) → (n ≡ r.unit) ⊎ ((ends_lookup x ≡ false) × LookupAsks f ranges n)
+    step : (x : FramesResult) (rest : Result LookupStop Error) → (x >>= or_stop r.unit rest) ≡ Ok (Waits n) → (rest ≡ Ok (Waits n) → LookupAsks f ranges n) → (n ≡ r.unit) ⊎ ((ends_lookup x ≡ false) × LookupAsks f ranges n)
     step (Ok None) rest w later = inl (sym (same_number r.unit n w))
     step (Ok (Some [])) rest w later = inr (refl, later w)
     step (Ok (Some (x ∷ xs))) rest w later = absurd cc

@@ -9,7 +9,7 @@ use Rattle.gimli.specs.Sections.{Sections}
 use Rattle.elf.specs.declared.error.LoaderError.{LoaderError}
 use Rattle.elf.specs.declared.error.LoaderError.TheVariants.{OutOfMemory}
 use Rattle.elf.specs.Text.{loader_error_of}
-use Rattle.addr2line_units.specs.declared.frames_lookup.OnFault.TheVariants.{End}
+use Rattle.addr2line_units.specs.declared.frames_lookup.OnFault.TheVariants.{Stop}
 use Rattle.addr2line_units.specs.Frames.{FrameRecord}
 use Rattle.addr2line_units.specs.FramesLookup.{Waits, answer_of, is_waiting}
 use Rattle.gimli_read.specs.Alike.{WasNotRefused}
@@ -50,12 +50,12 @@ same_between old mid new a b n same = by (answer_of old n) (answer_of mid n) ref
 
 module _ (files : Option ReadFiles) where
   -- a lookup changes neither sections nor first answers
-  pub after_look : {X : Type 0} (probe : ℕ) (r : Result X Error) (old new : ContextState) → AfterFrames End probe r old new → AfterAnswers files old new
+  pub after_look : {X : Type 0} (probe : ℕ) (r : Result X Error) (old new : ContextState) → AfterFrames Stop probe r old new → AfterAnswers files old new
   after_look probe r old new a = record {
     sections = a.sections;
     answers = subst (λ x. StayAnswered old.answers x) (sym a.answers) (λ n given e. e);
     frames = always files (λ held q. ap (λ d. frames_by_files held d new.answers q) a.sections ∙ ap (λ x. frames_by_files held old.sections x q) a.answers);
-    ended = λ q w. ap (λ d. lookup_stop End d new.answers q) a.sections ∙ ap (λ x. lookup_stop End old.sections x q) a.answers;
+    ended = λ q w. ap (λ d. lookup_stop Stop d new.answers q) a.sections ∙ ap (λ x. lookup_stop Stop old.sections x q) a.answers;
     parsed = a.parsed;
     known = λ n same. a.known n;
     raised = a.raised;
@@ -93,7 +93,7 @@ module _ (files : Option ReadFiles) where
   pub memory_refused : (c : ContextState) (probe : ℕ) (e : LoaderError) → e ≡ OutOfMemory → IsFaultByFiles files c probe e
   memory_refused c probe e q = always files (λ held ne. absurd (ne q))
 
-  module _ (probe n : ℕ) (load : SplitLoad) (old : ContextState) (waits : lookup_stop End old.sections old.answers probe ≡ Ok (Waits n)) (is : IsLoadOf old.sections n load) where
+  module _ (probe n : ℕ) (load : SplitLoad) (old : ContextState) (waits : lookup_stop Stop old.sections old.answers probe ≡ Ok (Waits n)) (is : IsLoadOf old.sections n load) where
     -- the load was answered by a file, or memory was refused for it
     pub answered_by_file : (given : Option Sections) → IfSome files (λ held. given_by_files held load ≡ Ok given) → (r : Result (Unit {0}) Error) (new : ContextState) → AfterAnswer n given r old new
         → OnOk r (length (loads_at new.sections new.answers probe) < length (loads_at old.sections old.answers probe)) → AfterAnswers files old new
@@ -102,7 +102,7 @@ module _ (files : Option ReadFiles) where
       answers = subst (λ x. StayAnswered old.answers x) (sym a.answers) (first_answers_stay old.sections old.answers probe n load waits is given);
       frames = if_some_map files h (λ held e q. ap (λ d. frames_by_files held d new.answers q) a.sections ∙ ap (λ x. frames_by_files held old.sections x q) a.answers
           ∙ frames_stay old.sections old.answers probe n load waits is (given_by_files held) given e q);
-      ended = λ q w. ap (λ d. lookup_stop End d new.answers q) a.sections ∙ ap (λ x. lookup_stop End old.sections x q) a.answers ∙ stop_stays old.sections old.answers probe n load waits is given q w;
+      ended = λ q w. ap (λ d. lookup_stop Stop d new.answers q) a.sections ∙ ap (λ x. lookup_stop Stop old.sections x q) a.answers ∙ stop_stays old.sections old.answers probe n load waits is given q w;
       parsed = λ k e. subst (λ p. has_parsed p k ≡ true) (sym a.parsed) e;
       known = λ k same. elim (eqb_tells k n) [ inl p ↦ absurd (changed k p.1 same) | inr q ↦ same_stays_known k old.known new.known (a.others k q.1) ];
       raised = subst (λ l. old.looks ≤ l) (sym a.looks) (omega arith);
@@ -118,7 +118,7 @@ module _ (files : Option ReadFiles) where
       sections = a.sections;
       answers = subst (λ x. StayAnswered old.answers x) (sym a.refused.1) (λ n given e. e);
       frames = always files (λ held q. ap (λ d. frames_by_files held d new.answers q) a.sections ∙ ap (λ x. frames_by_files held old.sections x q) a.refused.1);
-      ended = λ q w. ap (λ d. lookup_stop End d new.answers q) a.sections ∙ ap (λ x. lookup_stop End old.sections x q) a.refused.1;
+      ended = λ q w. ap (λ d. lookup_stop Stop d new.answers q) a.sections ∙ ap (λ x. lookup_stop Stop old.sections x q) a.refused.1;
       parsed = λ k e. subst (λ p. has_parsed p k ≡ true) (sym a.parsed) e;
       known = λ k same. a.refused.2 k;
       raised = subst (λ l. old.looks ≤ l) (sym a.looks) (omega arith);
@@ -134,66 +134,66 @@ one_answered n given (Ok x) old new a = inr (given, a.answers)
 one_answered n given (Err e) old new a = inl a.refused.1
 
 -- a lookup that was refused an answer still waits
-pub waits_still : (probe n : ℕ) (given : Option Sections) (r : Result (Unit {0}) Error) (old new : ContextState) → lookup_stop End old.sections old.answers probe ≡ Ok (Waits n) → AfterAnswer n given r old new → OnErr r (lookup_stop End new.sections new.answers probe ≡ Ok (Waits n))
+pub waits_still : (probe n : ℕ) (given : Option Sections) (r : Result (Unit {0}) Error) (old new : ContextState) → lookup_stop Stop old.sections old.answers probe ≡ Ok (Waits n) → AfterAnswer n given r old new → OnErr r (lookup_stop Stop new.sections new.answers probe ≡ Ok (Waits n))
 waits_still probe n given (Ok x) old new waits a = tt
-waits_still probe n given (Err e) old new waits a = ap (λ d. lookup_stop End d new.answers probe) a.sections ∙ ap (λ x. lookup_stop End old.sections x probe) a.refused.1 ∙ waits
+waits_still probe n given (Err e) old new waits a = ap (λ d. lookup_stop Stop d new.answers probe) a.sections ∙ ap (λ x. lookup_stop Stop old.sections x probe) a.refused.1 ∙ waits
 
-pub waits_no_more : (probe n : ℕ) (c : ContextState) → WaitsForNone c probe → lookup_stop End c.sections c.answers probe ≡ Ok (Waits n) → ⊥
+pub waits_no_more : (probe n : ℕ) (c : ContextState) → WaitsForNone c probe → lookup_stop Stop c.sections c.answers probe ≡ Ok (Waits n) → ⊥
 waits_no_more probe n c w waits = let no = sym (ap is_waiting waits) ∙ w in absurd cc
 
 -- loads of a lookup were answered by files, in turn
 pub record HasAnswered (files : Option ReadFiles) (probe : ℕ) (first now : ContextState) : Type 0 where
   pub after : AfterAnswers files first now
-  pub only : ReadsAsked End probe first now
+  pub only : ReadsAsked Stop probe first now
   pub given : List Given
-  pub so : HasGiven End first.sections probe first.answers given now.answers
+  pub so : HasGiven Stop first.sections probe first.answers given now.answers
 
 module _ (files : Option ReadFiles) (probe : ℕ) (first : ContextState) where
   pub has_answered_none : HasAnswered files probe first first
-  has_answered_none = record { after = unanswered files first; only = reads_nothing End probe first; given = []; so = λ rest. refl }
+  has_answered_none = record { after = unanswered files first; only = reads_nothing Stop probe first; given = []; so = λ rest. refl }
 
   module _ (now : ContextState) (h : HasAnswered files probe first now) where
-    pub has_looked : {X : Type 0} (r : Result X Error) (new : ContextState) → AfterFrames End probe r now new → HasAnswered files probe first new
+    pub has_looked : {X : Type 0} (r : Result X Error) (new : ContextState) → AfterFrames Stop probe r now new → HasAnswered files probe first new
     has_looked r new a = record {
       after = then_answered files first now new h.after (after_look files probe r now new a);
-      only = reads_more End probe r first now new a h.only;
+      only = reads_more Stop probe r first now new a h.only;
       given = h.given;
-      so = subst (λ x. HasGiven End first.sections probe first.answers h.given x) (sym a.answers) h.so;
+      so = subst (λ x. HasGiven Stop first.sections probe first.answers h.given x) (sym a.answers) h.so;
     }
 
-    pub has_answered_one : (n : ℕ) (new : ContextState) → lookup_stop End now.sections now.answers probe ≡ Ok (Waits n) → AfterAnswers files now new → ((c : ContextState) → ReadsAsked End probe c now → ReadsAsked End probe c new) → AnswersOne n now new → HasAnswered files probe first new
+    pub has_answered_one : (n : ℕ) (new : ContextState) → lookup_stop Stop now.sections now.answers probe ≡ Ok (Waits n) → AfterAnswers files now new → ((c : ContextState) → ReadsAsked Stop probe c now → ReadsAsked Stop probe c new) → AnswersOne n now new → HasAnswered files probe first new
     has_answered_one n new waits b only (inl same) = record {
       after = then_answered files first now new h.after b;
       only = only first h.only;
       given = h.given;
-      so = subst (λ x. HasGiven End first.sections probe first.answers h.given x) (sym same) h.so;
+      so = subst (λ x. HasGiven Stop first.sections probe first.answers h.given x) (sym same) h.so;
     }
     has_answered_one n new waits b only (inr p) = record {
       after = then_answered files first now new h.after b;
       only = only first h.only;
       given = h.given ++ (Answered p.0 ∷ []);
-      so = subst (λ x. HasGiven End first.sections probe first.answers (h.given ++ (Answered p.0 ∷ [])) x) (sym (p.1 ∙ ap (λ d. answered d now.answers n p.0) h.after.sections))
-          (given_more End first.sections probe first.answers now.answers h.given h.so n p.0 (ap (λ d. lookup_stop End d now.answers probe) (sym h.after.sections) ∙ waits) (h.given ++ (Answered p.0 ∷ [])) (append_assoc h.given (Answered p.0 ∷ [])));
+      so = subst (λ x. HasGiven Stop first.sections probe first.answers (h.given ++ (Answered p.0 ∷ [])) x) (sym (p.1 ∙ ap (λ d. answered d now.answers n p.0) h.after.sections))
+          (given_more Stop first.sections probe first.answers now.answers h.given h.so n p.0 (ap (λ d. lookup_stop Stop d now.answers probe) (sym h.after.sections) ∙ waits) (h.given ++ (Answered p.0 ∷ [])) (append_assoc h.given (Answered p.0 ∷ [])));
     }
 
     pub in_turn : AnswersInTurn probe first now
-    in_turn = (h.given, sym (given_all End first.sections probe first.answers now.answers h.given h.so))
+    in_turn = (h.given, sym (given_all Stop first.sections probe first.answers now.answers h.given h.so))
 
   -- the unit that a lookup waits for by then was answered
-  pub has_answered_after : {X : Type 0} (now : ContextState) → HasAnswered files probe first now → (r : Result X Error) (mid : ContextState) → AfterFrames End probe r now mid → (n : ℕ) → lookup_stop End mid.sections mid.answers probe ≡ Ok (Waits n)
-      → (new : ContextState) → AfterAnswers files mid new → ((c : ContextState) → ReadsAsked End probe c mid → ReadsAsked End probe c new) → AnswersOne n mid new → HasAnswered files probe first new
+  pub has_answered_after : {X : Type 0} (now : ContextState) → HasAnswered files probe first now → (r : Result X Error) (mid : ContextState) → AfterFrames Stop probe r now mid → (n : ℕ) → lookup_stop Stop mid.sections mid.answers probe ≡ Ok (Waits n)
+      → (new : ContextState) → AfterAnswers files mid new → ((c : ContextState) → ReadsAsked Stop probe c mid → ReadsAsked Stop probe c new) → AnswersOne n mid new → HasAnswered files probe first new
   has_answered_after now h r mid a n stop new b only one =
       has_answered_one mid (has_looked now h r mid a) n new stop b only one
 
 -- what it reads takes memory only where something is left to read, or more than 16 inlined functions
 -- stand there
-pub looked_memory : {X : Type 0} (probe : ℕ) (e : Error) (r : Result X Error) (old new : ContextState) → r ≡ Err e → AfterFrames End probe r old new → WaitsForNone new probe → IsKnownFew End new probe → loader_error_of e ≢ OutOfMemory
+pub looked_memory : {X : Type 0} (probe : ℕ) (e : Error) (r : Result X Error) (old new : ContextState) → r ≡ Err e → AfterFrames Stop probe r old new → WaitsForNone new probe → IsKnownFew Stop new probe → loader_error_of e ≢ OutOfMemory
 looked_memory {X = X} probe e r old new is a w few =
-    let ended = sym (ap (λ d. is_waiting (lookup_stop End d new.answers probe)) a.sections ∙ ap (λ x. is_waiting (lookup_stop End old.sections x probe)) a.answers) ∙ w in
+    let ended = sym (ap (λ d. is_waiting (lookup_stop Stop d new.answers probe)) a.sections ∙ ap (λ x. is_waiting (lookup_stop Stop old.sections x probe)) a.answers) ∙ w in
     not_told e (subst (λ (x : Result X Error). WasNotRefused x) is (a.memory few ended))
 
 -- a fault that ends a lookup is one by the files
-pub stop_fault : (files : Option ReadFiles) (c : ContextState) (probe : ℕ) (e : Error) → (loader_error_of e ≢ OutOfMemory → lookup_stop End c.sections c.answers probe ≡ Err e) → IsFaultByFiles files c probe (loader_error_of e)
+pub stop_fault : (files : Option ReadFiles) (c : ContextState) (probe : ℕ) (e : Error) → (loader_error_of e ≢ OutOfMemory → lookup_stop Stop c.sections c.answers probe ≡ Err e) → IsFaultByFiles files c probe (loader_error_of e)
 stop_fault files c probe e h = always files by
   where
     by : (held : ReadFiles) → loader_error_of e ≢ OutOfMemory → frames_by_files held c.sections c.answers probe ≡ Err (loader_error_of e)

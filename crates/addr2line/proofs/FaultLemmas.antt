@@ -7,10 +7,10 @@ use Rattle.gimli_read.specs.FaultLaws.{NoneWasRefused}
 use Rattle.gimli_read.proofs.FaultLemmas.{IsByBytes, step, value, fault_of_is, not_refused}
 use Rattle.gimli.specs.Sections.{Sections}
 use Rattle.addr2line_units.specs.declared.frames_lookup.OnFault.{OnFault}
-use Rattle.addr2line_units.specs.declared.frames_lookup.OnFault.TheVariants.{End, PassOver}
+use Rattle.addr2line_units.specs.declared.frames_lookup.OnFault.TheVariants.{Stop, Skip}
 use Rattle.addr2line_units.specs.declared.parses.ReadingDepth.{ReadingDepth}
 use Rattle.addr2line_units.specs.Cover.{cover}
-use Rattle.addr2line_units.specs.FramesLookup.{Stop, Waits, Finds, FindsNothing, main_scope}
+use Rattle.addr2line_units.specs.FramesLookup.{LookupStop, Waits, Finds, FindsNothing, main_scope}
 use Rattle.addr2line_units.specs.Located.{spans_of}
 use Rattle.addr2line_units.specs.RangedUnits.{unit_records}
 use Rattle.addr2line_units.specs.UnitIndex.{UnitIndex}
@@ -30,8 +30,8 @@ new_context_is d = step (ranged_units_are d) (λ units. step (sup_units_are d.su
 pub lines_of_all_are : (d : Sections) → IsByBytes (lines_of_all d)
 lines_of_all_are d = step (index_units_is d) (λ m. fault_of_is (all_lines_are d m.units))
 
-pub parse_reply_is : (reads : ReadingDepth) (d : Sections) (answers : FirstAnswers) → IsByBytes (parse_reply reads d answers)
-parse_reply_is reads d answers = step (index_units_is d) (λ m. read_of_units_is reads (main_scope d m) (unit_records m.units) answers)
+pub parse_reply_is : (depth : ReadingDepth) (d : Sections) (answers : FirstAnswers) → IsByBytes (parse_reply depth d answers)
+parse_reply_is depth d answers = step (index_units_is d) (λ m. read_of_units_is depth (main_scope d m) (unit_records m.units) answers)
 
 -- ---- lookups
 stop_in_is : (faults : OnFault) (d : Sections) (answers : FirstAnswers) (probe : ℕ) (m : UnitIndex) → IsByBytes (stop_in faults d answers probe m)
@@ -41,7 +41,7 @@ stop_in_is faults d answers probe m =
 pub lookup_stop_is : (faults : OnFault) (d : Sections) (answers : FirstAnswers) (probe : ℕ) → IsByBytes (lookup_stop faults d answers probe)
 lookup_stop_is faults d answers probe = step (index_units_is d) (stop_in_is faults d answers probe)
 
-pub found_are : {V : Type 0} (faults : OnFault) (value_of : Stop → Option View → V) (d : Sections) (answers : FirstAnswers) (probe : ℕ) → IsByBytes (found_at faults value_of d answers probe)
+pub found_are : {V : Type 0} (faults : OnFault) (value_of : LookupStop → Option View → V) (d : Sections) (answers : FirstAnswers) (probe : ℕ) → IsByBytes (found_at faults value_of d answers probe)
 found_are faults value_of d answers probe = step (lookup_stop_is faults d answers probe) (λ s. value)
 
 -- ---- loads
@@ -59,13 +59,13 @@ range_replied d low high = by_result (spans_of d low high) (spans_unrefused d lo
     by_result (Ok rows) h = h
     by_result (Err e) h = tt
 
-frames_replied_are : (stop : Result Stop Error) → IsByBytes stop → ReplyIsNotRefused (reply_of_frames stop)
+frames_replied_are : (stop : Result LookupStop Error) → IsByBytes stop → ReplyIsNotRefused (reply_of_frames stop)
 frames_replied_are (Ok (Waits n)) h = tt
 frames_replied_are (Ok (Finds n frames)) h = tt
 frames_replied_are (Ok FindsNothing) h = tt
 frames_replied_are (Err e) h = not_refused h
 
-unit_replied_is : (stop : Result Stop Error) (found : UnitResult) → ReplyIsNotRefused (reply_of_unit stop found)
+unit_replied_is : (stop : Result LookupStop Error) (found : UnitResult) → ReplyIsNotRefused (reply_of_unit stop found)
 unit_replied_is (Ok (Waits n)) found = tt
 unit_replied_is (Ok (Finds n frames)) found = tt
 unit_replied_is (Ok FindsNothing) found = tt
@@ -74,14 +74,14 @@ unit_replied_is (Err e) found = tt
 reply_is : (d : Sections) (answers : FirstAnswers) (call : HistoryCall) → ReplyIsNotRefused (reply_to d answers call)
 reply_is d answers (AsksLocation probe) = not_refused (location_of_is d probe)
 reply_is d answers (AsksRange low high) = range_replied d low high
-reply_is d answers (AsksFrames probe given) = frames_replied_are _ (lookup_stop_is End d (answers_given End d probe answers given) probe)
+reply_is d answers (AsksFrames probe given) = frames_replied_are _ (lookup_stop_is Stop d (answers_given Stop d probe answers given) probe)
 reply_is d answers (AsksUnit probe given) =
-    unit_replied_is (lookup_stop PassOver d (answers_given PassOver d probe answers given) probe) (unit_of d (answers_given PassOver d probe answers given) probe)
+    unit_replied_is (lookup_stop Skip d (answers_given Skip d probe answers given) probe) (unit_of d (answers_given Skip d probe answers given) probe)
 reply_is d answers (AsksLoads probe) = tt
 reply_is d answers (AnswersLoad n x) = not_refused (load_reply_is d answers n x)
 reply_is d answers (Forgets n) = not_refused (forget_reply_is d n)
 reply_is d answers ParsesLines = not_refused (lines_of_all_are d)
-reply_is d answers (ParsesFunctions reads) = not_refused (parse_reply_is reads d answers)
+reply_is d answers (ParsesFunctions depth) = not_refused (parse_reply_is depth d answers)
 
 pub replies_are : (d : Sections) (answers : FirstAnswers) (calls : List HistoryCall) → AllByRecursion ReplyIsNotRefused (replies_to d answers calls)
 replies_are d answers [] = tt

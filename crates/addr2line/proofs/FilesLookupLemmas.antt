@@ -13,11 +13,11 @@ use Rattle.elf.specs.declared.error.LoaderError.{LoaderError}
 use Rattle.elf.specs.Loading.{Loading}
 use Rattle.addr2line_lines.specs.References.{Scope}
 use Rattle.addr2line_units.specs.Loads.{before_others, is_open_at, load_of_number, loads_along}
-use Rattle.addr2line_units.specs.declared.frames_lookup.OnFault.TheVariants.{End}
+use Rattle.addr2line_units.specs.declared.frames_lookup.OnFault.TheVariants.{Stop}
 use Rattle.addr2line_units.specs.declared.index.UnitRange.{UnitRange}
 use Rattle.addr2line_units.specs.Cover.{cover}
 use Rattle.addr2line_units.specs.Frames.{FrameRecord}
-use Rattle.addr2line_units.specs.FramesLookup.{Stop, Waits, after_fault, answer_of, asked_frames, frames_of_number, is_waiting, main_scope, or_stop, stop_along, with_answer}
+use Rattle.addr2line_units.specs.FramesLookup.{LookupStop, Waits, after_fault, answer_of, asked_frames, frames_of_number, is_waiting, main_scope, or_stop, stop_along, with_answer}
 use Rattle.addr2line_units.specs.UnitFrames.{FramesResult, frames_in}
 use Rattle.addr2line_units.specs.UnitIndex.{UnitIndex, index_units}
 use Rattle.addr2line_units.specs.RangedUnits.{IndexedUnit, unit_records}
@@ -72,7 +72,7 @@ set_at (a ∷ answers) (suc n) v = set_at answers n v
 
 module _ (give : GivesAnswers) (scope : Scope) (units : List IndexedUnit) (answers : FirstAnswers) (probe : ℕ) where
   abbrev asked : ℕ → FramesResult
-  asked n = asked_frames End scope units answers probe n
+  asked n = asked_frames Stop scope units answers probe n
 
   abbrev given_frames : ℕ → Loading (List FrameRecord)
   given_frames n = frames_of_unit give scope units answers probe n
@@ -93,8 +93,8 @@ module _ (give : GivesAnswers) (scope : Scope) (units : List IndexedUnit) (answe
       by None h = refl
       by (Some u) h = closed u (is_open scope.file.sections u.unit (answer_of answers n)) refl h
 
-  ended_step : (n : ℕ) (x : FramesResult) (y : Loading (List FrameRecord)) (stop : Result Stop Error) (rest : Loading (List FrameRecord)) → (x ≢ Ok None → y ≡ frames_or_fault x) → (is_waiting stop ≡ false → rest ≡ stop_frames stop)
-      → is_waiting (after_fault End x >>= or_stop n stop) ≡ false → (y >>= or_rest rest) ≡ stop_frames (after_fault End x >>= or_stop n stop)
+  ended_step : (n : ℕ) (x : FramesResult) (y : Loading (List FrameRecord)) (stop : Result LookupStop Error) (rest : Loading (List FrameRecord)) → (x ≢ Ok None → y ≡ frames_or_fault x) → (is_waiting stop ≡ false → rest ≡ stop_frames stop)
+      → is_waiting (after_fault Stop x >>= or_stop n stop) ≡ false → (y >>= or_rest rest) ≡ stop_frames (after_fault Stop x >>= or_stop n stop)
   ended_step n (Ok None) y stop rest same later w = absurd cc
   ended_step n (Ok (Some [])) y stop rest same later w = ap (λ v. v >>= or_rest rest) (same (λ q. cc)) ∙ later w
   ended_step n (Ok (Some (f ∷ fs))) y stop rest same later w = ap (λ v. v >>= or_rest rest) (same (λ q. cc))
@@ -106,8 +106,8 @@ module _ (give : GivesAnswers) (scope : Scope) (units : List IndexedUnit) (answe
   ended_along (r ∷ ranges) w =
       ended_step r.unit (frames_of_number scope units answers probe r.unit) (given_frames r.unit) (stop_along asked ranges) (first_frames given_frames ranges) (at_unit r.unit) (ended_along ranges) w
 
-  refused_step : (n k : ℕ) (fault : LoaderError) (x : FramesResult) (y : Loading (List FrameRecord)) (stop : Result Stop Error) (rest : Loading (List FrameRecord)) → (x ≢ Ok None → y ≡ frames_or_fault x) → (k ≡ n → y ≡ Err fault)
-      → (stop ≡ Ok (Waits n) → rest ≡ Err fault) → (after_fault End x >>= or_stop k stop) ≡ Ok (Waits n) → (y >>= or_rest rest) ≡ Err fault
+  refused_step : (n k : ℕ) (fault : LoaderError) (x : FramesResult) (y : Loading (List FrameRecord)) (stop : Result LookupStop Error) (rest : Loading (List FrameRecord)) → (x ≢ Ok None → y ≡ frames_or_fault x) → (k ≡ n → y ≡ Err fault)
+      → (stop ≡ Ok (Waits n) → rest ≡ Err fault) → (after_fault Stop x >>= or_stop k stop) ≡ Ok (Waits n) → (y >>= or_rest rest) ≡ Err fault
   refused_step n k fault (Ok None) y stop rest same here later w = ap (λ v. v >>= or_rest rest) (here (same_number k n w))
   refused_step n k fault (Ok (Some [])) y stop rest same here later w = ap (λ v. v >>= or_rest rest) (same (λ q. cc)) ∙ later w
   refused_step n k fault (Ok (Some (f ∷ fs))) y stop rest same here later w = absurd cc
@@ -197,10 +197,10 @@ module _ (give : GivesAnswers) (scope : Scope) (units : List IndexedUnit) (answe
       never j q h = let f : ◌≡◌ {A = Option (Option Sections)} None (Some a) = sym no_answer_yet ∙ ap (answer_of answers) (sym q) ∙ h in cc
 
   -- a unit that doesn't wait is asked for the same
-  pub same_asked : (given : Option Sections) (probe k : ℕ) → asked_frames End scope units answers probe k ≢ Ok None → asked_frames End scope units (now given) probe k ≡ asked_frames End scope units answers probe k
+  pub same_asked : (given : Option Sections) (probe k : ℕ) → asked_frames Stop scope units answers probe k ≢ Ok None → asked_frames Stop scope units (now given) probe k ≡ asked_frames Stop scope units answers probe k
   same_asked given probe k ne = elim (eqb_tells k n) [
     | inl p ↦ absurd (ne (waits_at k p.1))
-    | inr q ↦ ap (λ a. after_fault End (asked_by a (slice_get units k))) (other_now given k q.1)
+    | inr q ↦ ap (λ a. after_fault Stop (asked_by a (slice_get units k))) (other_now given k q.1)
   ]
     where
       asked_by : Option (Option Sections) → Option IndexedUnit → FramesResult
@@ -209,8 +209,8 @@ module _ (give : GivesAnswers) (scope : Scope) (units : List IndexedUnit) (answe
       waits_here : frames_of_number scope units answers probe n ≡ Ok None
       waits_here = ap (asked_by (answer_of answers n)) w.there ∙ none_if_open scope w.unit (answer_of answers n) probe w.open_is
 
-      waits_at : (j : ℕ) → j ≡ n → asked_frames End scope units answers probe j ≡ Ok None
-      waits_at j q = subst (λ i. asked_frames End scope units answers probe i ≡ Ok None) (sym q) (ap (after_fault End) waits_here)
+      waits_at : (j : ℕ) → j ≡ n → asked_frames Stop scope units answers probe j ≡ Ok None
+      waits_at j q = subst (λ i. asked_frames Stop scope units answers probe i ≡ Ok None) (sym q) (ap (after_fault Stop) waits_here)
 
 -- loads that are the same of each unit are the same along ranges
 same_loads : (f g : ℕ → Option SplitLoad) → ((n : ℕ) → f n ≡ g n) → (ranges : List UnitRange) → loads_along f ranges ≡ loads_along g ranges
@@ -218,12 +218,12 @@ same_loads f g same [] = refl
 same_loads f g same (r ∷ ranges) = ap (λ o. before_others o (loads_along f ranges)) (same r.unit) ∙ ap (before_others (g r.unit)) (same_loads f g same ranges)
 
 -- a lookup that waits for a unit, by the load of which the files are asked
-module _ (d : Sections) (answers : FirstAnswers) (probe n : ℕ) (load : SplitLoad) (waits : lookup_stop End d answers probe ≡ Ok (Waits n)) (is : IsLoadOf d n load) where
-  stop_is : (m : UnitIndex) → index_units d ≡ Ok m → stop_in End d answers probe m ≡ Ok (Waits n)
-  stop_is m e = sym (ap (λ r. r >>= stop_in End d answers probe) e) ∙ waits
+module _ (d : Sections) (answers : FirstAnswers) (probe n : ℕ) (load : SplitLoad) (waits : lookup_stop Stop d answers probe ≡ Ok (Waits n)) (is : IsLoadOf d n load) where
+  stop_is : (m : UnitIndex) → index_units d ≡ Ok m → stop_in Stop d answers probe m ≡ Ok (Waits n)
+  stop_is m e = sym (ap (λ r. r >>= stop_in Stop d answers probe) e) ∙ waits
 
   pub awaits_in : (m : UnitIndex) → index_units d ≡ Ok m → Awaits d m.units answers n load
-  awaits_in m e = awaiting d m.units answers n load (waits_listed End (main_scope d m) m.units answers probe n (cover probe m.ranges) (stop_is m e)).0 (is m e)
+  awaits_in m e = awaiting d m.units answers n load (waits_listed Stop (main_scope d m) m.units answers probe n (cover probe m.ranges) (stop_is m e)).0 (is m e)
 
   abbrev answers_by : Result UnitIndex Error → Option Sections → FirstAnswers
   answers_by r given = elim r [ Err e ↦ answers | Ok m ↦ with_answer d (unit_records m.units) answers n given ]
@@ -244,10 +244,10 @@ module _ (d : Sections) (answers : FirstAnswers) (probe n : ℕ) (load : SplitLo
       by (Ok m) k = stays_answered (λ l. Ok None) (main_scope d m) m.units answers n load (awaits_in m k) given
 
   -- nor what one comes to that waits for none
-  pub stop_stays : (given : Option Sections) (q : ℕ) → is_waiting (lookup_stop End d answers q) ≡ false → lookup_stop End d (answered d answers n given) q ≡ lookup_stop End d answers q
+  pub stop_stays : (given : Option Sections) (q : ℕ) → is_waiting (lookup_stop Stop d answers q) ≡ false → lookup_stop Stop d (answered d answers n given) q ≡ lookup_stop Stop d answers q
   stop_stays given q ended = by (index_units d) refl ended
     where
-      by : (r : Result UnitIndex Error) → index_units d ≡ r → is_waiting (r >>= stop_in End d answers q) ≡ false → (r >>= stop_in End d (answers_by r given) q) ≡ (r >>= stop_in End d answers q)
+      by : (r : Result UnitIndex Error) → index_units d ≡ r → is_waiting (r >>= stop_in Stop d answers q) ≡ false → (r >>= stop_in Stop d (answers_by r given) q) ≡ (r >>= stop_in Stop d answers q)
       by (Err e) k h = refl
       by (Ok m) k h = decided_stop_along _ _ (same_asked (λ l. Ok None) (main_scope d m) m.units answers n load (awaits_in m k) given q) (cover q m.ranges) h
 
@@ -283,13 +283,13 @@ module _ (d : Sections) (answers : FirstAnswers) (probe n : ℕ) (load : SplitLo
   refused_frames give fault h = by (index_units d) refl
     where
       by : (r : Result UnitIndex Error) → index_units d ≡ r → (of_file r >>= frames_in_units give d answers probe) ≡ Err fault
-      by (Err e) k = let f : ◌≡◌ {A = Result Stop Error} (Err e) (Ok (Waits n)) = sym (ap (λ r. r >>= stop_in End d answers probe) k) ∙ waits in absurd cc
+      by (Err e) k = let f : ◌≡◌ {A = Result LookupStop Error} (Err e) (Ok (Waits n)) = sym (ap (λ r. r >>= stop_in Stop d answers probe) k) ∙ waits in absurd cc
       by (Ok m) k = refused_along give (main_scope d m) m.units answers probe n fault (refused_unit give (main_scope d m) m.units answers n load (awaits_in m k) probe fault h) (cover probe m.ranges) (stop_is m k)
 
 -- a lookup that doesn't wait has its frames, whatever is given
-pub frames_ended : (give : GivesAnswers) (d : Sections) (answers : FirstAnswers) (probe : ℕ) → is_waiting (lookup_stop End d answers probe) ≡ false → frames_by_answers give d answers probe ≡ stop_frames (lookup_stop End d answers probe)
+pub frames_ended : (give : GivesAnswers) (d : Sections) (answers : FirstAnswers) (probe : ℕ) → is_waiting (lookup_stop Stop d answers probe) ≡ false → frames_by_answers give d answers probe ≡ stop_frames (lookup_stop Stop d answers probe)
 frames_ended give d answers probe w = by (index_units d) w
   where
-    by : (r : Result UnitIndex Error) → is_waiting (r >>= stop_in End d answers probe) ≡ false → (of_file r >>= frames_in_units give d answers probe) ≡ stop_frames (r >>= stop_in End d answers probe)
+    by : (r : Result UnitIndex Error) → is_waiting (r >>= stop_in Stop d answers probe) ≡ false → (of_file r >>= frames_in_units give d answers probe) ≡ stop_frames (r >>= stop_in Stop d answers probe)
     by (Err e) h = refl
     by (Ok m) h = ended_along give (main_scope d m) m.units answers probe (cover probe m.ranges) h

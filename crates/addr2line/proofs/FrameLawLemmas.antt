@@ -11,12 +11,12 @@ use Rattle.addr2line_lines.specs.Location.{Location, location_at}
 use Rattle.addr2line_lines.specs.References.{Scope}
 use Rattle.addr2line_lines.specs.UnitLines.{unit_lines}
 use Rattle.addr2line_units.specs.declared.frames_lookup.OnFault.{OnFault}
-use Rattle.addr2line_units.specs.declared.frames_lookup.OnFault.TheVariants.{End, PassOver}
+use Rattle.addr2line_units.specs.declared.frames_lookup.OnFault.TheVariants.{Stop, Skip}
 use Rattle.addr2line_units.specs.declared.index.UnitRange.{UnitRange}
 use Rattle.gimli.specs.Sections.{Sections}
 use Rattle.addr2line_units.specs.Cover.{cover}
 use Rattle.addr2line_units.specs.Frames.{FoundFunction, FrameRecord, found_frames, frames_from}
-use Rattle.addr2line_units.specs.FramesLookup.{Stop, Waits, Finds, FindsNothing, after_fault, answer_of, frames_of_number, main_scope, or_stop, stop_along}
+use Rattle.addr2line_units.specs.FramesLookup.{LookupStop, Waits, Finds, FindsNothing, after_fault, answer_of, frames_of_number, main_scope, or_stop, stop_along}
 use Rattle.addr2line_units.specs.RangedUnits.{IndexedUnit}
 use Rattle.addr2line_units.specs.UnitFrames.{FramesResult, frames_by, frames_in, function_in}
 use Rattle.addr2line_units.specs.UnitIndex.{UnitIndex}
@@ -74,23 +74,23 @@ module _ (faults : OnFault) (asked : ℕ → FramesResult) (n : ℕ) (frames : L
   abbrev Told : Type 0
   Told = (f : FrameRecord) × (fs : List FrameRecord) × (frames ≡ f ∷ fs) × (after_fault faults (asked n) ≡ Ok (Some (f ∷ fs)))
 
-  found_number : Stop → ℕ
+  found_number : LookupStop → ℕ
   found_number (Waits k) = k
   found_number (Finds k fs) = k
   found_number FindsNothing = 0
 
-  found_list : Stop → List FrameRecord
+  found_list : LookupStop → List FrameRecord
   found_list (Waits k) = []
   found_list (Finds k fs) = fs
   found_list FindsNothing = []
 
-  told_by : (k : ℕ) (rest : Result Stop Error) (r : FramesResult) → after_fault faults (asked k) ≡ r → (rest ≡ Ok (Finds n frames) → Told) → (r >>= or_stop k rest) ≡ Ok (Finds n frames) → Told
+  told_by : (k : ℕ) (rest : Result LookupStop Error) (r : FramesResult) → after_fault faults (asked k) ≡ r → (rest ≡ Ok (Finds n frames) → Told) → (r >>= or_stop k rest) ≡ Ok (Finds n frames) → Told
   unfolding found_list found_number
   told_by k rest (Err x) e further is = absurd cc
   told_by k rest (Ok None) e further is = absurd cc
   told_by k rest (Ok (Some [])) e further is = further is
   told_by k rest (Ok (Some (f ∷ fs))) e further is =
-      let stop : ◌≡◌ {A = Stop} (Finds k (f ∷ fs)) (Finds n frames) = cc in
+      let stop : ◌≡◌ {A = LookupStop} (Finds k (f ∷ fs)) (Finds n frames) = cc in
       (f, fs, sym (ap found_list stop), subst (λ j. after_fault faults (asked j) ≡ Ok (Some (f ∷ fs))) (ap found_number stop) e)
 
   told_along : (ranges : List UnitRange) → stop_along (λ k. after_fault faults (asked k)) ranges ≡ Ok (Finds n frames) → Told
@@ -100,8 +100,8 @@ module _ (faults : OnFault) (asked : ℕ → FramesResult) (n : ℕ) (frames : L
 -- a fault that is passed over leaves no frames
 no_fault : (faults : OnFault) (r : FramesResult) (f : FrameRecord) (fs : List FrameRecord) → after_fault faults r ≡ Ok (Some (f ∷ fs)) → r ≡ Ok (Some (f ∷ fs))
 no_fault faults (Ok x) f fs is = is
-no_fault End (Err x) f fs is = is
-no_fault PassOver (Err x) f fs is = absurd cc
+no_fault Stop (Err x) f fs is = is
+no_fault Skip (Err x) f fs is = absurd cc
 
 pub frame_of_each : HasFrameOfEach
 frame_of_each faults d m answers probe n frames e is =

@@ -10,7 +10,7 @@ use Rattle.gimli.specs.Sections.{Sections}
 use Rattle.gimli.specs.Unit.{UnitRecord}
 use Rattle.addr2line_units.specs.declared.frames_lookup.OnFault.{OnFault}
 use Rattle.addr2line_units.specs.Cover.{cover}
-use Rattle.addr2line_units.specs.FramesLookup.{Stop, Waits, Finds, FindsNothing, answer_of, main_scope, with_answer}
+use Rattle.addr2line_units.specs.FramesLookup.{LookupStop, Waits, Finds, FindsNothing, answer_of, main_scope, with_answer}
 use Rattle.addr2line_units.specs.LoadLaws.{IsListed}
 use Rattle.addr2line_units.specs.LoadLaws as laws
 use Rattle.addr2line_units.specs.Loads.{is_of_other, load_of_number, loads_along}
@@ -80,7 +80,7 @@ module _ (faults : OnFault) (d : Sections) (m : UnitIndex) (probe : ℕ) (e : in
       let others = all_other n (listed answers) ns (subst (λ ls. AllByRecursion (λ k. IsListed k ls) ns) left rest.1) in
       ((others.0, rest.0), (there, others.1))
 
-  by_stop : (answers : FirstAnswers) (f : ℕ → List ℕ) → ((n : ℕ) → lookup_stop faults d answers probe ≡ Ok (Waits n) → Once answers (f n)) → (s : Result Stop Error) → lookup_stop faults d answers probe ≡ s → Once answers (where_waiting f [] s)
+  by_stop : (answers : FirstAnswers) (f : ℕ → List ℕ) → ((n : ℕ) → lookup_stop faults d answers probe ≡ Ok (Waits n) → Once answers (f n)) → (s : Result LookupStop Error) → lookup_stop faults d answers probe ≡ s → Once answers (where_waiting f [] s)
   by_stop answers f h (Ok (Waits n)) is = h n is
   by_stop answers f h (Ok (Finds n frames)) is = (tt, tt)
   by_stop answers f h (Ok FindsNothing) is = (tt, tt)

@@ -5,7 +5,7 @@ use Rattle.std.proofs.lemmas.List.{append-nil, get_or-map, length-map, take-appe
 use Rattle.gimli_read.specs.declared.error.Error.{Error}
 use Rattle.gimli.specs.Sections.{Sections}
 use Rattle.addr2line_units.specs.declared.frames_lookup.OnFault.{OnFault}
-use Rattle.addr2line_units.specs.FramesLookup.{Stop, Waits, Finds, FindsNothing, is_waiting}
+use Rattle.addr2line_units.specs.FramesLookup.{LookupStop, Waits, Finds, FindsNothing, is_waiting}
 use Rattle.gimli_read.specs.Alike.{WasNotRefused}
 use Rattle.addr2line_units.specs.Parsed.{StaysParsed, has_parsed}
 use Rattle.addr2line.specs.Answers.{AfterResume, answered}
@@ -15,11 +15,11 @@ use Rattle.addr2line.specs.Lookups.{lookup_stop}
 use Rattle.addr2line_units.specs.Views.{FirstAnswers}
 
 -- where a lookup waits it goes on
-where_waits : {X : Type 0} (f : ℕ → X) (x : X) (s : Result Stop Error) (n : ℕ) → s ≡ Ok (Waits n) → where_waiting f x s ≡ f n
+where_waits : {X : Type 0} (f : ℕ → X) (x : X) (s : Result LookupStop Error) (n : ℕ) → s ≡ Ok (Waits n) → where_waiting f x s ≡ f n
 where_waits f x s n e = ap (where_waiting f x) e
 
 -- where it has ended it doesn't
-where_ended : {X : Type 0} (f : ℕ → X) (x : X) (s : Result Stop Error) → is_waiting s ≡ false → where_waiting f x s ≡ x
+where_ended : {X : Type 0} (f : ℕ → X) (x : X) (s : Result LookupStop Error) → is_waiting s ≡ false → where_waiting f x s ≡ x
 where_ended f x (Ok (Waits n)) e = absurd cc
 where_ended f x (Ok (Finds n frames)) e = refl
 where_ended f x (Ok FindsNothing) e = refl

@@ -10,7 +10,7 @@ use Rattle.addr2line_lines.specs.References.{Scope}
 use Rattle.addr2line_units.specs.declared.frames_lookup.OnFault.{OnFault}
 use Rattle.addr2line_units.specs.declared.index.UnitRange.{UnitRange}
 use Rattle.addr2line_units.specs.declared.parses.ReadingDepth.{ReadingDepth}
-use Rattle.addr2line_units.specs.declared.parses.ReadingDepth.TheVariants as kinds
+use Rattle.addr2line_units.specs.declared.parses.ReadingDepth.TheVariants as depths
 use Rattle.addr2line_units.specs.AfterUnits as left
 use Rattle.addr2line_units.specs.Cover.{cover}
 use Rattle.addr2line_units.specs.FramesLookup.{asked_frames, main_scope, stop_along}
@@ -49,11 +49,11 @@ module _ (ranges : List UnitRange) (u : UnitsState) (i : IsContext ranges u) whe
   pub forget_is : (n : ℕ) → forget_reply d n ≡ forget_result us n
   forget_is n = by_made ranges u i (λ s xs rs. forget_result s.file.units n)
 
-  pub parse_is : (reads : ReadingDepth) → parse_reply reads d u.answers ≡ read_of_units reads u.scope us u.answers
-  parse_is reads = by_made ranges u i (λ s xs rs. read_of_units reads s s.file.units u.answers)
+  pub parse_is : (depth : ReadingDepth) → parse_reply depth d u.answers ≡ read_of_units depth u.scope us u.answers
+  parse_is depth = by_made ranges u i (λ s xs rs. read_of_units depth s s.file.units u.answers)
 
-  parsed_is : (reads : ReadingDepth) → parsed_answers reads d u.answers ≡ answers_after_parse reads u.scope us u.answers
-  parsed_is reads = or_made ranges u i u.answers (λ s xs rs. answers_after_parse reads s s.file.units u.answers)
+  parsed_is : (depth : ReadingDepth) → parsed_answers depth d u.answers ≡ answers_after_parse depth u.scope us u.answers
+  parsed_is depth = or_made ranges u i u.answers (λ s xs rs. answers_after_parse depth s s.file.units u.answers)
 
   pub not_open_is : (n : ℕ) → IsNotOpen (seen_context u) n → is_open_at d us u.answers n ≡ false
   not_open_is n h = at_made ranges u i (λ s xs rs. is_open_at s.file.sections s.file.units u.answers n ≡ false) h
@@ -86,37 +86,37 @@ module _ (ranges : List UnitRange) (u : UnitsState) (i : IsContext ranges u) whe
   pub after_preload : (now : UnitsState) → left.AfterListing u now → AfterPreload (seen_context u) (seen_context now)
   after_preload now a = record { stays = stays_read now a.stays; answers = a.answers; known = a.known; functions = a.functions }
 
-  module _ (reads : ReadingDepth) (r : Result (Unit {0}) Error) (now : UnitsState) (a : left.AfterReading reads r u now) where
-    pub after_parse : AfterParse reads r (seen_context u) (seen_context now)
+  module _ (depth : ReadingDepth) (r : Result (Unit {0}) Error) (now : UnitsState) (a : left.AfterReading depth r u now) where
+    pub after_parse : AfterParse depth r (seen_context u) (seen_context now)
     after_parse = record {
       stays = stays_read now a.stays;
-      answers = λ told. a.answers told ∙ sym (parsed_is reads);
-      begun = of_made ranges u i (λ s xs rs. AreFirstDecided reads s s.file.units u.answers now.answers) a.begun;
+      answers = λ told. a.answers told ∙ sym (parsed_is depth);
+      begun = of_made ranges u i (λ s xs rs. AreFirstDecided depth s s.file.units u.answers now.answers) a.begun;
       known = of_made ranges u i (λ s xs rs. (probe n : ℕ) → is_open_at s.file.sections s.file.units u.answers n ≡ false → knows_at u.known probe n ≡ true → knows_at now.known probe n ≡ true) a.known;
       whole = of_made ranges u i (λ s xs rs. (kind : ReadingDepth) (n : ℕ) → is_open_at s.file.sections s.file.units u.answers n ≡ false → IsReadyAt kind u.known n → IsReadyAt kind now.known n) a.whole;
-      only = of_made ranges u i (λ s xs rs. (n : ℕ) → (slice_get now.known n ≡ slice_get u.known n) ⊎ AreReadBefore reads s s.file.units u.answers n) a.only;
+      only = of_made ranges u i (λ s xs rs. (n : ℕ) → (slice_get now.known n ≡ slice_get u.known n) ⊎ AreReadBefore depth s s.file.units u.answers n) a.only;
       details = a.details;
       read = a.read;
       whole_known = a.whole_known;
-      memory = λ known. a.memory (at_now ranges u i now (scope_same ranges u i now a.stays) (units_same ranges u i now a.stays) (λ s xs rs. AreReadyFor reads s s.file.units now.answers now.known) known);
-      ready = λ told. of_now ranges u i now (scope_same ranges u i now a.stays) (units_same ranges u i now a.stays) (λ s xs rs. AreReadyFor reads s s.file.units now.answers now.known) (a.ready told);
-      exact = λ known. a.exact (at_made ranges u i (λ s xs rs. AreReadyFor reads s s.file.units u.answers u.known) known) ∙ sym (parse_is reads);
-      same = λ known. a.same (at_made ranges u i (λ s xs rs. AreReadyFor reads s s.file.units u.answers u.known) known);
+      memory = λ known. a.memory (at_now ranges u i now (scope_same ranges u i now a.stays) (units_same ranges u i now a.stays) (λ s xs rs. AreReadyFor depth s s.file.units now.answers now.known) known);
+      ready = λ told. of_now ranges u i now (scope_same ranges u i now a.stays) (units_same ranges u i now a.stays) (λ s xs rs. AreReadyFor depth s s.file.units now.answers now.known) (a.ready told);
+      exact = λ known. a.exact (at_made ranges u i (λ s xs rs. AreReadyFor depth s s.file.units u.answers u.known) known) ∙ sym (parse_is depth);
+      same = λ known. a.same (at_made ranges u i (λ s xs rs. AreReadyFor depth s s.file.units u.answers u.known) known);
     }
 
     -- where the parse takes no memory, a refusal is the fault of functions
-    pub parsed_alone : (shares : Bool) → (ReadsNoMemory shares reads u.scope us now.answers now.known → IfErr r (λ e. read_of_units reads u.scope us u.answers ≡ Err e))
-        → ReadsFunctionsNoMemory shares reads (seen_context now) → IfErr r (λ e. parse_reply reads d u.answers ≡ Err e)
-    parsed_alone shares alone none = subst (λ given. IfErr r (λ e. given ≡ Err e)) (sym (parse_is reads))
-        (alone (at_now ranges u i now (scope_same ranges u i now a.stays) (units_same ranges u i now a.stays) (λ s xs rs. ReadsNoMemory shares reads s s.file.units now.answers now.known) none))
+    pub parsed_alone : (shares : Bool) → (ReadsNoMemory shares depth u.scope us now.answers now.known → IfErr r (λ e. read_of_units depth u.scope us u.answers ≡ Err e))
+        → ReadsFunctionsNoMemory shares depth (seen_context now) → IfErr r (λ e. parse_reply depth d u.answers ≡ Err e)
+    parsed_alone shares alone none = subst (λ given. IfErr r (λ e. given ≡ Err e)) (sym (parse_is depth))
+        (alone (at_now ranges u i now (scope_same ranges u i now a.stays) (units_same ranges u i now a.stays) (λ s xs rs. ReadsNoMemory shares depth s s.file.units now.answers now.known) none))
 
     -- no lookup waits or has a fault after a parse of all details
-    module _ (e : reads ≡ kinds.Details) (gives : read_of_units reads u.scope us u.answers ≡ Ok tt) (told : now.answers ≡ answers_after_parse reads u.scope us u.answers) (lines : lines_of_all d ≡ Ok tt) (faults : OnFault) (probe : ℕ) where
+    module _ (e : depth ≡ depths.Details) (gives : read_of_units depth u.scope us u.answers ≡ Ok tt) (told : now.answers ≡ answers_after_parse depth u.scope us u.answers) (lines : lines_of_all d ≡ Ok tt) (faults : OnFault) (probe : ℕ) where
       abbrev reached_by : Scope → List IndexedUnit → List UnitRange → Type 0
-      reached_by s xs rs = IsReached (stop_along (asked_frames faults s xs (answers_after_parse kinds.Details s s.file.units u.answers) probe) (cover probe rs))
+      reached_by s xs rs = IsReached (stop_along (asked_frames faults s xs (answers_after_parse depths.Details s s.file.units u.answers) probe) (cover probe rs))
 
-      read_by : (m : UnitIndex) → index_units d ≡ Ok m → read_of_units kinds.Details (main_scope d m) (main_scope d m).file.units u.answers ≡ Ok tt
-      read_by = of_made ranges u i (λ s xs rs. read_of_units kinds.Details s s.file.units u.answers ≡ Ok tt) (ap (λ k. read_of_units k u.scope us u.answers) (sym e) ∙ gives)
+      read_by : (m : UnitIndex) → index_units d ≡ Ok m → read_of_units depths.Details (main_scope d m) (main_scope d m).file.units u.answers ≡ Ok tt
+      read_by = of_made ranges u i (λ s xs rs. read_of_units depths.Details s s.file.units u.answers ≡ Ok tt) (ap (λ k. read_of_units k u.scope us u.answers) (sym e) ∙ gives)
 
       many_by : (m : UnitIndex) → index_units d ≡ Ok m → length m.units ≡ length u.answers
       many_by m q = sym (length-map m.units (λ (x : IndexedUnit). x.unit)) ∙ of_made ranges u i (λ s xs rs. length s.file.units ≡ length u.answers) a.beside m q
@@ -127,7 +127,7 @@ module _ (ranges : List UnitRange) (u : UnitsState) (i : IsContext ranges u) whe
       reached_first : reached_by u.scope u.units ranges
       reached_first = at_made ranges u i reached_by (λ m q. reached_all faults (main_scope d m) m.units u.answers probe (cover probe m.ranges) (many_by m q) (read_by m q) (lines_by m q))
 
-      answers_now : now.answers ≡ answers_after_parse kinds.Details u.scope us u.answers
+      answers_now : now.answers ≡ answers_after_parse depths.Details u.scope us u.answers
       answers_now = told ∙ ap (λ k. answers_after_parse k u.scope us u.answers) e
 
       pub reached_now : IsReached (lookup_stop faults now.scope.file.sections now.answers probe)
@@ -136,10 +136,10 @@ module _ (ranges : List UnitRange) (u : UnitsState) (i : IsContext ranges u) whe
           (subst IsReached (sym (by_made ranges u i (λ s xs rs. stop_along (asked_frames faults s xs now.answers probe) (cover probe rs))))
           (subst (λ xs. IsReached (stop_along (asked_frames faults u.scope u.units xs probe) (cover probe ranges))) (sym answers_now) reached_first))
 
-    pub all_known : reads ≡ kinds.Details → OnOk r (IsAllKnown (seen_context now))
+    pub all_known : depth ≡ depths.Details → OnOk r (IsAllKnown (seen_context now))
     all_known = a.all
 
-  pub all_reached : (reads : ReadingDepth) (r : Result (Unit {0}) Error) (now : UnitsState) → left.AfterReading reads r u now → ExactlyUnlessOom (λ x. x) r (read_of_units reads u.scope us u.answers) → reads ≡ kinds.Details → OnOk r (ReachesAllOf (seen_context now))
-  all_reached reads (Err f) now a gives e = tt
-  all_reached reads (Ok x) now a gives e = λ lines faults probe.
-      reached_now reads (Ok x) now a e gives (a.answers tt) (subst (λ (s : Scope). lines_of_all s.file.sections ≡ Ok tt) (scope_same ranges u i now a.stays) lines) faults probe
+  pub all_reached : (depth : ReadingDepth) (r : Result (Unit {0}) Error) (now : UnitsState) → left.AfterReading depth r u now → ExactlyUnlessOom (λ x. x) r (read_of_units depth u.scope us u.answers) → depth ≡ depths.Details → OnOk r (ReachesAllOf (seen_context now))
+  all_reached depth (Err f) now a gives e = tt
+  all_reached depth (Ok x) now a gives e = λ lines faults probe.
+      reached_now depth (Ok x) now a e gives (a.answers tt) (subst (λ (s : Scope). lines_of_all s.file.sections ≡ Ok tt) (scope_same ranges u i now a.stays) lines) faults probe

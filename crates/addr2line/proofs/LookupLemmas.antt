@@ -5,13 +5,14 @@ use Rattle.gimli_read.specs.declared.error.Error.{Error}
 use Rattle.gimli_read.specs.declared.error.Error.TheVariants.{OutOfMemory}
 use Rattle.gimli_read.specs.Alike.{WasNotRefused}
 use Rattle.gimli_read.specs.Reading.{◌>>=◌, ExactlyUnlessOom}
+use Rattle.addr2line_lines.specs.InlineRoom.{exceeds_inline_room}
 use Rattle.addr2line_lines.specs.References.{Scope}
 use Rattle.addr2line_units.specs.declared.frames_lookup.OnFault.{OnFault}
-use Rattle.addr2line_units.specs.declared.frames_lookup.OnFault.TheVariants.{PassOver}
+use Rattle.addr2line_units.specs.declared.frames_lookup.OnFault.TheVariants.{Skip}
 use Rattle.addr2line_units.specs.declared.index.UnitRange.{UnitRange}
 use Rattle.addr2line_units.specs.AfterUnits as left
 use Rattle.addr2line_units.specs.Cover.{cover}
-use Rattle.addr2line_units.specs.FramesLookup.{LookupAsks, Stop, after_fault, asked_frames, asks_lines_of, frames_of_number, function_offset_of, has_many_of, holds_along, or_stop, stop_along}
+use Rattle.addr2line_units.specs.FramesLookup.{LookupAsks, LookupStop, after_fault, asked_frames, asks_lines_of, frames_of_number, function_offset_of, inlined_at_number, holds_along, or_stop, stop_along}
 use Rattle.addr2line_units.specs.KnownEntries.{LearnsDetailsAt, knows_at}
 use Rattle.addr2line_units.specs.Parsed.{ParsesOnly, has_parsed}
 use Rattle.addr2line_units.specs.RangedUnits.{IndexedUnit}
@@ -24,23 +25,23 @@ use Rattle.addr2line.specs.Lookups.{IsFaultOfAsked, IsLoadOf, lookup_stop}
 use Rattle.addr2line.proofs.ContextLemmas.{at_made, by_made, of_made, still_context}
 
 -- a lookup that passes over faults has none
-passes_step : (n : ℕ) (rest : Result Stop Error) (e : Error) (x : FramesResult) → rest ≢ Err e → (after_fault PassOver x >>= or_stop n rest) ≢ Err e
+passes_step : (n : ℕ) (rest : Result LookupStop Error) (e : Error) (x : FramesResult) → rest ≢ Err e → (after_fault Skip x >>= or_stop n rest) ≢ Err e
 passes_step n rest e (Err f) never h = never h
 passes_step n rest e (Ok None) never h = cc
 passes_step n rest e (Ok (Some [])) never h = never h
 passes_step n rest e (Ok (Some (f ∷ fs))) never h = cc
 
-passes_over : (scope : Scope) (units : List IndexedUnit) (answers : FirstAnswers) (probe : ℕ) (ranges : List UnitRange) (e : Error) → stop_along (asked_frames PassOver scope units answers probe) ranges ≢ Err e
+passes_over : (scope : Scope) (units : List IndexedUnit) (answers : FirstAnswers) (probe : ℕ) (ranges : List UnitRange) (e : Error) → stop_along (asked_frames Skip scope units answers probe) ranges ≢ Err e
 passes_over scope units answers probe [] e h = cc
 passes_over scope units answers probe (r ∷ ranges) e h =
-    passes_step r.unit (stop_along (asked_frames PassOver scope units answers probe) ranges) e (frames_of_number scope units answers probe r.unit) (passes_over scope units answers probe ranges e) h
+    passes_step r.unit (stop_along (asked_frames Skip scope units answers probe) ranges) e (frames_of_number scope units answers probe r.unit) (passes_over scope units answers probe ranges e) h
 
 -- so a lookup of a unit is refused memory alone
-only_oom : (e : Error) {given : Result Stop Error} → given ≢ Err e → (e ≢ OutOfMemory → given ≡ Err e) → e ≡ OutOfMemory
+only_oom : (e : Error) {given : Result LookupStop Error} → given ≢ Err e → (e ≢ OutOfMemory → given ≡ Err e) → e ≡ OutOfMemory
 only_oom OutOfMemory never h = refl
 only_oom e never h = absurd (never (h (λ q. absurd cc)))
 
-pub refused_for_memory : {X : Type 0} (see : X → Stop) (u : UnitsState) (ranges : List UnitRange) (faults : OnFault) (probe : ℕ) (r : Result X Error) → faults ≡ PassOver → ExactlyUnlessOom see r (stop_of faults probe u ranges) → IfErr r (λ e. e ≡ OutOfMemory)
+pub refused_for_memory : {X : Type 0} (see : X → LookupStop) (u : UnitsState) (ranges : List UnitRange) (faults : OnFault) (probe : ℕ) (r : Result X Error) → faults ≡ Skip → ExactlyUnlessOom see r (stop_of faults probe u ranges) → IfErr r (λ e. e ≡ OutOfMemory)
 refused_for_memory see u ranges faults probe (Ok x) p h = tt
 refused_for_memory see u ranges faults probe (Err e) p h =
     only_oom e (λ k. passes_over u.scope u.units u.answers probe ranges e (ap (λ f. stop_of f probe u ranges) (sym p) ∙ k)) h
@@ -73,7 +74,7 @@ module _ (ranges : List UnitRange) (u : UnitsState) (i : IsContext ranges u) (fa
     all_by s xs n = knows_at now.known probe n && (not (asks_lines_of s xs now.answers probe n) || has_parsed now.parsed n)
 
     abbrev few_by : Scope → List IndexedUnit → ℕ → Bool
-    few_by s xs n = all_by s xs n && not (has_many_of s xs now.answers probe n)
+    few_by s xs n = all_by s xs n && not (exceeds_inline_room (inlined_at_number s xs now.answers probe n))
 
     -- where all is known that a lookup asks for it is refused no memory
     pub walk_memory : IsKnownFew faults (seen_context now) probe → WasNotRefused r

@@ -6,11 +6,12 @@ use Rattle.elf.specs.declared.error.LoaderError.{LoaderError}
 use Rattle.elf.specs.declared.error.LoaderError.TheVariants.{OutOfMemory}
 use Rattle.elf.specs.Loading.{Loading}
 use Rattle.elf.specs.Text.{loader_error_of}
-use Rattle.addr2line_units.specs.declared.frames_lookup.OnFault.TheVariants.{End}
+use Rattle.addr2line_lines.specs.InlineRoom.{exceeds_inline_room}
+use Rattle.addr2line_units.specs.declared.frames_lookup.OnFault.TheVariants.{Stop}
 use Rattle.addr2line_units.specs.declared.index.UnitRange.{UnitRange}
 use Rattle.addr2line_units.specs.Cover.{cover}
 use Rattle.addr2line_units.specs.Frames.{FrameRecord}
-use Rattle.addr2line_units.specs.FramesLookup.{LookupAsks, Waits, answer_of, asks_lines_of, ends_lookup, has_many_of, holds_along, is_waiting, main_scope}
+use Rattle.addr2line_units.specs.FramesLookup.{LookupAsks, Waits, answer_of, asks_lines_of, ends_lookup, inlined_at_number, holds_along, is_waiting, main_scope}
 use Rattle.addr2line_units.specs.KnownEntries.{knows_at}
 use Rattle.addr2line_units.specs.Parsed.{StaysParsed, has_parsed}
 use Rattle.addr2line_units.specs.UnitIndex.{UnitIndex, index_units}
@@ -51,25 +52,25 @@ lacks_along h frames (r ∷ ranges) e = by (h r.unit) (ends_lookup (frames r.uni
 
 -- whether all is known that a lookup asks for, and at most 16 inlined functions stand there
 abbrev few_along : ContextState → ℕ → UnitIndex → Bool
-few_along c probe m = holds_along (has_few_of c probe m) (asked_of End c.sections c.answers probe m) (cover probe m.ranges)
+few_along c probe m = holds_along (has_few_of c probe m) (asked_of Stop c.sections c.answers probe m) (cover probe m.ranges)
 
 -- where it isn't so, a lookup takes memory
-takes_if_not : (c : ContextState) (probe : ℕ) → (IsKnownFew End c probe → ⊥) → TakesMemory End c probe
+takes_if_not : (c : ContextState) (probe : ℕ) → (IsKnownFew Stop c probe → ⊥) → TakesMemory Stop c probe
 takes_if_not c probe never = by_index (index_units c.sections) refl
   where
-    by_held : (m : UnitIndex) → index_units c.sections ≡ Ok m → (b : Bool) → few_along c probe m ≡ b → TakesMemory End c probe
+    by_held : (m : UnitIndex) → index_units c.sections ≡ Ok m → (b : Bool) → few_along c probe m ≡ b → TakesMemory Stop c probe
     by_held m is true k = absurd (never (λ x e. subst (λ y. few_along c probe y ≡ true) (ok_is m x (sym is ∙ e)) k))
-    by_held m is false k = (m, is, lacks_along (has_few_of c probe m) (asked_of End c.sections c.answers probe m) (cover probe m.ranges) k)
+    by_held m is false k = (m, is, lacks_along (has_few_of c probe m) (asked_of Stop c.sections c.answers probe m) (cover probe m.ranges) k)
 
-    by_index : (r : Result UnitIndex Error) → index_units c.sections ≡ r → TakesMemory End c probe
+    by_index : (r : Result UnitIndex Error) → index_units c.sections ≡ r → TakesMemory Stop c probe
     by_index (Ok m) is = by_held m is (few_along c probe m) refl
     by_index (Err e) is = absurd (never (λ x q. absurd (let f : ◌≡◌ {A = Result UnitIndex Error} (Err e) (Ok x) = sym is ∙ q in cc)))
 
 -- where memory was refused
-pub lacks_memory : (e : LoaderError) (c : ContextState) (probe : ℕ) → (WaitsForNone c probe → IsKnownFew End c probe → e ≢ OutOfMemory) → e ≡ OutOfMemory → MayLackMemory c probe
-lacks_memory e c probe h oom = by_stop (is_waiting (lookup_stop End c.sections c.answers probe)) refl
+pub lacks_memory : (e : LoaderError) (c : ContextState) (probe : ℕ) → (WaitsForNone c probe → IsKnownFew Stop c probe → e ≢ OutOfMemory) → e ≡ OutOfMemory → MayLackMemory c probe
+lacks_memory e c probe h oom = by_stop (is_waiting (lookup_stop Stop c.sections c.answers probe)) refl
   where
-    by_stop : (b : Bool) → is_waiting (lookup_stop End c.sections c.answers probe) ≡ b → MayLackMemory c probe
+    by_stop : (b : Bool) → is_waiting (lookup_stop Stop c.sections c.answers probe) ≡ b → MayLackMemory c probe
     by_stop true w = inl w
     by_stop false w = inr (w, takes_if_not c probe (λ few. h w few oom))
 
@@ -77,42 +78,42 @@ lacks_memory e c probe h oom = by_stop (is_waiting (lookup_stop End c.sections c
 module _ (probe : ℕ) (old new : ContextState) where
   abbrev few_at : Sections → FirstAnswers → UnitIndex → ℕ → Bool
   few_at d answers m n = (knows_at new.known probe n && (not (asks_lines_of (main_scope d m) m.units answers probe n) || has_parsed new.parsed n))
-      && not (has_many_of (main_scope d m) m.units answers probe n)
+      && not (exceeds_inline_room (inlined_at_number (main_scope d m) m.units answers probe n))
 
   abbrev FewBy : Sections → FirstAnswers → Type 0
-  FewBy d answers = (m : UnitIndex) → index_units d ≡ Ok m → holds_along (few_at d answers m) (asked_of End d answers probe m) (cover probe m.ranges) ≡ true
+  FewBy d answers = (m : UnitIndex) → index_units d ≡ Ok m → holds_along (few_at d answers m) (asked_of Stop d answers probe m) (cover probe m.ranges) ≡ true
 
-  pub few_stays : new.sections ≡ old.sections → new.answers ≡ old.answers → StaysKnown old.known new.known → StaysParsed old.parsed new.parsed → IsKnownFew End old probe → IsKnownFew End new probe
+  pub few_stays : new.sections ≡ old.sections → new.answers ≡ old.answers → StaysKnown old.known new.known → StaysParsed old.parsed new.parsed → IsKnownFew Stop old probe → IsKnownFew Stop new probe
   few_stays s a known parsed few = subst (λ d. FewBy d new.answers) (sym s) (subst (λ x. FewBy old.sections x) (sym a) (λ m e. holds_more (has_few_of old probe m) (few_at old.sections old.answers m) _ (cover probe m.ranges) (stays m) (few m e)))
     where
       stays : (m : UnitIndex) (n : ℕ) → has_few_of old probe m n ≡ true → few_at old.sections old.answers m n ≡ true
       stays m n e =
           let scope = main_scope old.sections m in
           let asks = not (asks_lines_of scope m.units old.answers probe n) in
-          let few_there = not (has_many_of scope m.units old.answers probe n) in
+          let few_there = not (exceeds_inline_room (inlined_at_number scope m.units old.answers probe n)) in
           let before = knows_at old.known probe n && (asks || has_parsed old.parsed n) in
           let after = knows_at new.known probe n && (asks || has_parsed new.parsed n) in
           more before false few_there after few_there (more _ asks (has_parsed old.parsed n) _ (has_parsed new.parsed n) ((known n).at probe) (parsed n)) (λ q. q) e
 
 -- a lookup that waits for no answer, after loads were answered
 module _ (files : Option ReadFiles) (probe : ℕ) (first now : ContextState) (a : AfterAnswers files first now) (w : WaitsForNone first probe) where
-  pub waits_never : (n : ℕ) → lookup_stop End now.sections now.answers probe ≡ Ok (Waits n) → ⊥
+  pub waits_never : (n : ℕ) → lookup_stop Stop now.sections now.answers probe ≡ Ok (Waits n) → ⊥
   waits_never n waits =
       let no = sym (ap is_waiting waits) ∙ ap is_waiting (a.ended probe w) ∙ w in
       absurd cc
 
   -- its fault is that of what it comes to
-  pub stop_fault_is : (e : Error) → (loader_error_of e ≢ OutOfMemory → lookup_stop End now.sections now.answers probe ≡ Err e) → loader_error_of e ≢ OutOfMemory → ended_frames_of first probe ≡ Err (loader_error_of e)
+  pub stop_fault_is : (e : Error) → (loader_error_of e ≢ OutOfMemory → lookup_stop Stop now.sections now.answers probe ≡ Err e) → loader_error_of e ≢ OutOfMemory → ended_frames_of first probe ≡ Err (loader_error_of e)
   stop_fault_is e h ne = ap stop_frames (sym (a.ended probe w) ∙ h ne)
 
   -- none was given to it, and all that was known that it asks for still is
-  few_later : AnswersInTurn probe first now → IsKnownFew End first probe → IsKnownFew End now probe
+  few_later : AnswersInTurn probe first now → IsKnownFew Stop first probe → IsKnownFew Stop now probe
   few_later t few =
-      let same = t.1 ∙ given_ended End first.sections probe first.answers t.0 w in
+      let same = t.1 ∙ given_ended Stop first.sections probe first.answers t.0 w in
       few_stays probe first now a.sections same (λ n. a.known n (ap (λ x. answer_of x n) same)) a.parsed few
 
   -- its refusal
-  pub refused_exactly : AnswersInTurn probe first now → (e : LoaderError) → (e ≢ OutOfMemory → ended_frames_of first probe ≡ Err e) → (WaitsForNone now probe → IsKnownFew End now probe → e ≢ OutOfMemory) → IsKnownFew End first probe
+  pub refused_exactly : AnswersInTurn probe first now → (e : LoaderError) → (e ≢ OutOfMemory → ended_frames_of first probe ≡ Err e) → (WaitsForNone now probe → IsKnownFew Stop now probe → e ≢ OutOfMemory) → IsKnownFew Stop first probe
       → ended_frames_of first probe ≡ Err e
   refused_exactly t e fault memory few = fault (memory (ap is_waiting (a.ended probe w) ∙ w) (few_later t few))
 
@@ -121,7 +122,7 @@ module _ (files : Option ReadFiles) (probe : ℕ) (first now : ContextState) (a 
   found_ended frames h = ap stop_frames (sym (a.ended probe w)) ∙ h
 
 -- what it comes to where no unit covers the probe, and no memory is refused
-pub last_frames : (probe : ℕ) (c : ContextState) → IsUncovered c probe → (given : Loading (List FrameRecord)) → (WaitsForNone c probe → IsKnownFew End c probe → ended_frames_of c probe ≡ given) → ◌≡◌ {A = Loading (List FrameRecord)} (Ok []) given
+pub last_frames : (probe : ℕ) (c : ContextState) → IsUncovered c probe → (given : Loading (List FrameRecord)) → (WaitsForNone c probe → IsKnownFew Stop c probe → ended_frames_of c probe ≡ given) → ◌≡◌ {A = Loading (List FrameRecord)} (Ok []) given
 last_frames probe c u given h =
-    let stop = uncovered_stop End probe c u in
-    sym (ap stop_frames stop) ∙ h (ap is_waiting stop) (uncovered_few End probe c u)
+    let stop = uncovered_stop Stop probe c u in
+    sym (ap stop_frames stop) ∙ h (ap is_waiting stop) (uncovered_few Stop probe c u)

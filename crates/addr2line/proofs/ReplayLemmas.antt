@@ -13,7 +13,7 @@ use Rattle.gimli.specs.Unit.{UnitRecord}
 use Rattle.addr2line_units.specs.declared.continuation.LookupResult.{LookupResult}
 use Rattle.addr2line_units.specs.declared.continuation.LookupResult.TheVariants.{Output}
 use Rattle.addr2line_units.specs.declared.frames_lookup.OnFault.{OnFault}
-use Rattle.addr2line_units.specs.FramesLookup.{Stop, Waits, Finds, FindsNothing, is_waiting}
+use Rattle.addr2line_units.specs.FramesLookup.{LookupStop, Waits, Finds, FindsNothing, is_waiting}
 use Rattle.gimli_read.specs.Alike.{WasNotRefused}
 use Rattle.addr2line_units.specs.Parsed.{StaysParsed, has_parsed}
 use Rattle.addr2line_units.specs.Suspended.{IfOutput}
@@ -55,7 +55,7 @@ load_token faults d answers probe n l w own = by (index_units d) refl
         some_is q = cc
 
     by : (r : Result UnitIndex Error) → index_units d ≡ r → l.unit ≡ n
-    by (Err f) e = absurd (let q : ◌≡◌ {A = Result Stop Error} (Err f) (Ok (Waits n)) = sym (ap (λ x. x >>= stop_in faults d answers probe) e) ∙ w in cc)
+    by (Err f) e = absurd (let q : ◌≡◌ {A = Result LookupStop Error} (Err f) (Ok (Waits n)) = sym (ap (λ x. x >>= stop_in faults d answers probe) e) ∙ w in cc)
     by (Ok m) e = of_unit (slice_get (unit_records m.units) n) (own m e)
 
 -- what holds of an output
@@ -195,10 +195,10 @@ module _ (faults : OnFault) (probe : ℕ) (first : ContextState) (all : List Giv
           after = subst (λ q. AfterResume shares faults q number x o now new) same (subst (λ s. AfterResume shares faults asked number x o now s) (sym ends) (of_output result o (λ p. AfterResume shares faults asked number x p now lender) is rests))
 
 -- a lookup that waits has found nothing
-pub found_waiting : {V : Type 0} (faults : OnFault) (value_of : Stop → Option View → V) (d : Sections) (answers : FirstAnswers) (probe : ℕ) → is_waiting (lookup_stop faults d answers probe) ≡ true → found_at faults value_of d answers probe ≡ Ok None
+pub found_waiting : {V : Type 0} (faults : OnFault) (value_of : LookupStop → Option View → V) (d : Sections) (answers : FirstAnswers) (probe : ℕ) → is_waiting (lookup_stop faults d answers probe) ≡ true → found_at faults value_of d answers probe ≡ Ok None
 found_waiting faults value_of d answers probe w = of_stop (lookup_stop faults d answers probe) w
   where
-    of_stop : (r : Result Stop Error) → is_waiting r ≡ true → (r >>= λ s. Ok (ended_with (value_of s (view_found d answers s)) s)) ≡ Ok None
+    of_stop : (r : Result LookupStop Error) → is_waiting r ≡ true → (r >>= λ s. Ok (ended_with (value_of s (view_found d answers s)) s)) ≡ Ok None
     of_stop (Ok (Waits n)) h = refl
     of_stop (Ok (Finds n frames)) h = absurd cc
     of_stop (Ok FindsNothing) h = absurd cc

@@ -6,9 +6,9 @@ use Rattle.gimli_read.specs.Reading.{◌>>=◌}
 use Rattle.gimli.specs.Sections.{Sections}
 use Rattle.gimli.specs.Unit.{UnitRecord}
 use Rattle.addr2line_units.specs.declared.frames_lookup.OnFault.{OnFault}
-use Rattle.addr2line_units.specs.declared.frames_lookup.OnFault.TheVariants.{End, PassOver}
+use Rattle.addr2line_units.specs.declared.frames_lookup.OnFault.TheVariants.{Stop, Skip}
 use Rattle.addr2line_units.specs.Cover.{cover}
-use Rattle.addr2line_units.specs.FramesLookup.{Stop, Waits, Finds, FindsNothing, is_waiting, with_answer}
+use Rattle.addr2line_units.specs.FramesLookup.{LookupStop, Waits, Finds, FindsNothing, is_waiting, with_answer}
 use Rattle.addr2line_units.specs.LoadLaws as laws
 use Rattle.addr2line_units.specs.UnitIndex.{UnitIndex, index_units}
 use Rattle.addr2line_units.specs.RangedUnits.{IndexedUnit, unit_records}
@@ -48,7 +48,7 @@ module _ (faults : OnFault) (d : Sections) (m : UnitIndex) (probe : ℕ) (e : in
       → is_waiting (lookup_stop faults d (answers_given faults d probe answers (nones n)) probe) ≡ false
   ends zero answers many few = by (lookup_stop faults d answers probe) refl
     where
-      by : (s : Result Stop Error) → lookup_stop faults d answers probe ≡ s → is_waiting s ≡ false
+      by : (s : Result LookupStop Error) → lookup_stop faults d answers probe ≡ s → is_waiting s ≡ false
       by (Ok (Waits k)) q = let less = fewer answers k many q in absurd (omega (arith, few, less))
       by (Ok (Finds k frames)) q = refl
       by (Ok FindsNothing) q = refl
@@ -57,7 +57,7 @@ module _ (faults : OnFault) (d : Sections) (m : UnitIndex) (probe : ℕ) (e : in
     where
       by : ((k : ℕ) → length us ≡ length (answered d answers k None) → length (loads_at d (answered d answers k None) probe) ≤ n
           → is_waiting (lookup_stop faults d (answers_given faults d probe (answered d answers k None) (nones n)) probe) ≡ false)
-          → (s : Result Stop Error) → lookup_stop faults d answers probe ≡ s
+          → (s : Result LookupStop Error) → lookup_stop faults d answers probe ≡ s
           → is_waiting (lookup_stop faults d (where_waiting (λ k. answers_given faults d probe (answered d answers k None) (nones n)) answers s) probe) ≡ false
       by further (Ok (Waits k)) q =
           let less = fewer answers k many q in
@@ -73,7 +73,7 @@ none_given faults d probe zero answers = refl
 none_given faults d probe (suc n) answers = by (λ k. none_given faults d probe n (answered d answers k None)) (lookup_stop faults d answers probe)
   where
     by : ((k : ℕ) → with_none (answers_given faults d probe (answered d answers k None) (nones n)) ≡ with_none (answered d answers k None))
-        → (s : Result Stop Error) → with_none (where_waiting (λ k. answers_given faults d probe (answered d answers k None) (nones n)) answers s) ≡ with_none answers
+        → (s : Result LookupStop Error) → with_none (where_waiting (λ k. answers_given faults d probe (answered d answers k None) (nones n)) answers s) ≡ with_none answers
     by further (Ok (Waits k)) = further k ∙ none_after d answers k
     by further (Ok (Finds k frames)) = refl
     by further (Ok FindsNothing) = refl
@@ -85,19 +85,19 @@ skipped_waits_for_none faults d m probe answers e many =
     ends faults d m probe e (length (loads_at d answers probe)) answers (length-map m.units (λ (u : IndexedUnit). u.unit) ∙ many) all
 
 -- what doesn't wait gives something, or a fault
-some_found : {V : Type 0} (value_at : Stop → V) (s : Result Stop Error) → is_waiting s ≡ false → (s >>= λ x. Ok (ended_with (value_at x) x)) ≢ Ok None
+some_found : {V : Type 0} (value_at : LookupStop → V) (s : Result LookupStop Error) → is_waiting s ≡ false → (s >>= λ x. Ok (ended_with (value_at x) x)) ≢ Ok None
 some_found value_at (Err x) w h = absurd cc
 some_found value_at (Ok (Waits k)) w h = absurd cc
 some_found value_at (Ok (Finds k frames)) w h = absurd cc
 some_found value_at (Ok FindsNothing) w h = absurd cc
 
 pub skipped_gives_same : SkippedGivesSame
-skipped_gives_same d m probe answers e many = (same_found End frames_value, same_found PassOver unit_value)
+skipped_gives_same d m probe answers e many = (same_found Stop frames_value, same_found Skip unit_value)
   where
     left : OnFault → FirstAnswers
     left faults = skipped_answers faults d probe answers
 
-    same_found : {V : Type 0} (faults : OnFault) (value_of : Stop → Option View → V) → found_at faults value_of d (left faults) probe ≡ found_at faults value_of d (with_none answers) probe
+    same_found : {V : Type 0} (faults : OnFault) (value_of : LookupStop → Option View → V) → found_at faults value_of d (left faults) probe ≡ found_at faults value_of d (with_none answers) probe
     same_found faults value_of =
         sym (decided_found faults value_of d (left faults) probe (some_found (λ s. value_of s (view_found d (left faults) s)) (lookup_stop faults d (left faults) probe) (skipped_waits_for_none faults d m probe answers e many)))
         ∙ ap (λ a. found_at faults value_of d a probe) (none_given faults d probe (length (loads_at d answers probe)) answers)

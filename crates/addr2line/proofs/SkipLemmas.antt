@@ -16,7 +16,7 @@ use Rattle.addr2line_units.specs.declared.frames_lookup.OnFault.{OnFault}
 use Rattle.addr2line_units.specs.declared.index.UnitRange.{UnitRange}
 use Rattle.addr2line_units.specs.Cover.{cover}
 use Rattle.addr2line_units.specs.Frames.{FrameRecord}
-use Rattle.addr2line_units.specs.FramesLookup.{Stop, Waits, Finds, FindsNothing, after_fault, answer_of, asked_frames, frames_of_number, is_waiting, main_scope, or_stop, readable_view, stop_along, view_of_number, with_answer}
+use Rattle.addr2line_units.specs.FramesLookup.{LookupStop, Waits, Finds, FindsNothing, after_fault, answer_of, asked_frames, frames_of_number, is_waiting, main_scope, or_stop, readable_view, stop_along, view_of_number, with_answer}
 use Rattle.addr2line_units.specs.Suspended.{IfLoad, IfOutput, SkipsTo}
 use Rattle.addr2line_units.specs.UnitFrames.{FramesResult, frames_by, frames_in, function_by}
 use Rattle.addr2line_units.specs.UnitIndex.{UnitIndex, index_units}
@@ -68,7 +68,7 @@ decided_asked faults scope units answers probe n ne =
     ap (after_fault faults) (decided_number scope units answers probe n (λ e. ne (ap (after_fault faults) e)))
 
 -- along ranges
-decided_step : (n : ℕ) (a b : Result Stop Error) (r s : FramesResult) → (r ≢ Ok None → s ≡ r) → is_waiting (r >>= or_stop n a) ≡ false → (is_waiting a ≡ false → b ≡ a) → (s >>= or_stop n b) ≡ (r >>= or_stop n a)
+decided_step : (n : ℕ) (a b : Result LookupStop Error) (r s : FramesResult) → (r ≢ Ok None → s ≡ r) → is_waiting (r >>= or_stop n a) ≡ false → (is_waiting a ≡ false → b ≡ a) → (s >>= or_stop n b) ≡ (r >>= or_stop n a)
 decided_step n a b (Err e) s same w rest = ap (λ x. x >>= or_stop n b) (same (λ q. absurd cc))
 decided_step n a b (Ok None) s same w rest = absurd cc
 decided_step n a b (Ok (Some [])) s same w rest = ap (λ x. x >>= or_stop n b) (same (λ q. absurd cc)) ∙ rest w
@@ -129,21 +129,21 @@ decided_seen faults d answers probe n frames is = of_index (index_units d) is
         ap readable_view (decided_view d (unit_records m.units) answers n known)
 
 -- what a lookup that ended has found
-module _ {V : Type 0} (faults : OnFault) (value_of : Stop → Option View → V) (d : Sections) where
-  abbrev value_at : FirstAnswers → Stop → Result (Option V) Error
+module _ {V : Type 0} (faults : OnFault) (value_of : LookupStop → Option View → V) (d : Sections) where
+  abbrev value_at : FirstAnswers → LookupStop → Result (Option V) Error
   value_at answers s = Ok (ended_with (value_of s (view_found d answers s)) s)
 
   pub decided_found : (answers : FirstAnswers) (probe : ℕ) → found_at faults value_of d answers probe ≢ Ok None → found_at faults value_of d (with_none answers) probe ≡ found_at faults value_of d answers probe
   decided_found answers probe ne =
       ap (λ r. r >>= value_at (with_none answers)) (decided_stop faults d answers probe (ended (lookup_stop faults d answers probe) ne)) ∙ of_stop (lookup_stop faults d answers probe) refl
     where
-      ended : (r : Result Stop Error) → (r >>= value_at answers) ≢ Ok None → is_waiting r ≡ false
+      ended : (r : Result LookupStop Error) → (r >>= value_at answers) ≢ Ok None → is_waiting r ≡ false
       ended (Err e) h = refl
       ended (Ok (Waits n)) h = absurd (h refl)
       ended (Ok (Finds n frames)) h = refl
       ended (Ok FindsNothing) h = refl
 
-      of_stop : (r : Result Stop Error) → lookup_stop faults d answers probe ≡ r → (r >>= value_at (with_none answers)) ≡ (r >>= value_at answers)
+      of_stop : (r : Result LookupStop Error) → lookup_stop faults d answers probe ≡ r → (r >>= value_at (with_none answers)) ≡ (r >>= value_at answers)
       of_stop (Err e) is = refl
       of_stop (Ok (Waits n)) is = refl
       of_stop (Ok FindsNothing) is = refl
@@ -184,7 +184,7 @@ none_after d answers n = of_index (index_units d)
     of_index (Ok m) = of_unit (slice_get (unit_records m.units) n)
 
 -- what a lookup may give after none as an answer it may give before it
-module _ {V X : Type 0} (faults : OnFault) (value_of : Stop → Option View → V) (see : X → V) where
+module _ {V X : Type 0} (faults : OnFault) (value_of : LookupStop → Option View → V) (see : X → V) where
   pub skip_told : {L D S : Type 0} (d : Sections) (answers : FirstAnswers) (probe n : ℕ) (sections_of : L → Sections) (answers_of : L → FirstAnswers) (probe_of : L → ℕ) (r : LookupResult L (Result X Error) D S)
       → IfLoad r (λ c. (sections_of c ≡ d) × (answers_of c ≡ answered d answers n None) × (probe_of c ≡ probe))
       → IfOutput r (λ o. ExactlyUnlessOom (λ x. Some (see x)) o (found_at faults value_of d (answered d answers n None) probe))

@@ -8,7 +8,7 @@ use Rattle.gimli.specs.Sections.{Sections}
 use Rattle.gimli.specs.Unit.{UnitRecord}
 use Rattle.addr2line_units.specs.Cover.{cover}
 use Rattle.addr2line_units.specs.declared.frames_lookup.OnFault.{OnFault}
-use Rattle.addr2line_units.specs.FramesLookup.{Stop, Waits, Finds, FindsNothing, answer_of, is_waiting, main_scope, with_answer}
+use Rattle.addr2line_units.specs.FramesLookup.{LookupStop, Waits, Finds, FindsNothing, answer_of, is_waiting, main_scope, with_answer}
 use Rattle.gimli_read.specs.Alike.{WasNotRefused}
 use Rattle.addr2line_units.specs.Loads.{is_open_at}
 use Rattle.addr2line_units.specs.Parsed.{StaysParsed, has_parsed}
@@ -39,7 +39,7 @@ nones_both zero r = ap nones (let e : r ≡ 0 + r = omega arith in e)
 nones_both (suc k) r = ap (λ ys. Answered None ∷ ys) (nones_both k r) ∙ ap nones (let e : suc (k + r) ≡ suc k + r = omega arith in e)
 
 -- what a lookup has come to, by what was stored of it
-pub stored_waits : (n : ℕ) (stop : Stop) → waiting_unit stop ≡ Some n → stop ≡ Waits n
+pub stored_waits : (n : ℕ) (stop : LookupStop) → waiting_unit stop ≡ Some n → stop ≡ Waits n
 stored_waits n (Waits k) e = ap Waits (same e)
   where
     same : ◌≡◌ {A = Option ℕ} (Some k) (Some n) → k ≡ n
@@ -47,13 +47,13 @@ stored_waits n (Waits k) e = ap Waits (same e)
 stored_waits n (Finds k frames) e = absurd cc
 stored_waits n FindsNothing e = absurd cc
 
-pub told_waits : (n : ℕ) (stop : Stop) (r : Result Stop Error) → r ≡ Ok stop → waiting_unit stop ≡ Some n → r ≡ Ok (Waits n)
+pub told_waits : (n : ℕ) (stop : LookupStop) (r : Result LookupStop Error) → r ≡ Ok stop → waiting_unit stop ≡ Some n → r ≡ Ok (Waits n)
 told_waits n stop r e w = e ∙ ap (λ s. Ok s) (stored_waits n stop w)
 
-pub told_ended : (stop : Stop) (r : Result Stop Error) → r ≡ Ok stop → waiting_unit stop ≡ None → is_waiting r ≡ false
+pub told_ended : (stop : LookupStop) (r : Result LookupStop Error) → r ≡ Ok stop → waiting_unit stop ≡ None → is_waiting r ≡ false
 told_ended stop r e w = ap is_waiting e ∙ by stop w
   where
-    by : (s : Stop) → waiting_unit s ≡ None → is_waiting (Ok s) ≡ false
+    by : (s : LookupStop) → waiting_unit s ≡ None → is_waiting (Ok s) ≡ false
     by (Waits k) q = absurd cc
     by (Finds k frames) q = refl
     by FindsNothing q = refl
@@ -197,5 +197,5 @@ module _ (faults : OnFault) (probe : ℕ) (first : ContextState) where
       no_memory = alone;
     }
 
-pub waits_true : (n : ℕ) (r : Result Stop Error) → r ≡ Ok (Waits n) → waits_for n r ≡ true
+pub waits_true : (n : ℕ) (r : Result LookupStop Error) → r ≡ Ok (Waits n) → waits_for n r ≡ true
 waits_true n r e = ap (waits_for n) e ∙ eq-eqb n n refl

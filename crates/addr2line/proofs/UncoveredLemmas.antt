@@ -7,7 +7,7 @@ use Rattle.addr2line_units.specs.declared.continuation.LookupResult.{LookupResul
 use Rattle.addr2line_units.specs.declared.continuation.LookupResult.TheVariants.{Load, Output}
 use Rattle.addr2line_units.specs.declared.frames_lookup.OnFault.{OnFault}
 use Rattle.addr2line_units.specs.Cover.{cover}
-use Rattle.addr2line_units.specs.FramesLookup.{FindsNothing, Stop, Waits, holds_along, is_waiting, stop_along}
+use Rattle.addr2line_units.specs.FramesLookup.{FindsNothing, LookupStop, Waits, holds_along, is_waiting, stop_along}
 use Rattle.addr2line_units.specs.Suspended.{IfLoad, IfOutput, IsOkOutput}
 use Rattle.addr2line_units.specs.UnitIndex.{UnitIndex, index_units}
 use Rattle.addr2line_units.specs.Views.{View}
@@ -50,6 +50,6 @@ module _ (faults : OnFault) (probe : ℕ) (c : ContextState) (u : IsUncovered c 
       absurd cc
 
 -- what it gives there
-pub uncovered_ok : {V : Type 0} (faults : OnFault) (value_of : Stop → Option View → V) (probe : ℕ) (c : ContextState) → IsUncovered c probe → is_ok (found_of_context faults value_of c probe) ≡ true
+pub uncovered_ok : {V : Type 0} (faults : OnFault) (value_of : LookupStop → Option View → V) (probe : ℕ) (c : ContextState) → IsUncovered c probe → is_ok (found_of_context faults value_of c probe) ≡ true
 uncovered_ok faults value_of probe c u =
     ap (λ r. is_ok (r >>= λ s. Ok (ended_with (value_of s (view_found c.sections c.answers s)) s))) (uncovered_stop faults probe c u)

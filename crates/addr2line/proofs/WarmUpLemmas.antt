@@ -2,10 +2,11 @@
 use Rattle.std.proofs.Common.{◌≡◌, ℕ, ◌&&◌, ◌||◌, Bool, true, false, not, List, [], ◌∷◌, Result, Ok, Err, refl, sym, ap, subst, ◌∙◌}
 use Rattle.gimli_read.specs.declared.error.Error.{Error}
 use Rattle.gimli.specs.Sections.{Sections}
+use Rattle.addr2line_lines.specs.InlineRoom.{exceeds_inline_room}
 use Rattle.addr2line_units.specs.declared.frames_lookup.OnFault.{OnFault}
 use Rattle.addr2line_units.specs.declared.index.UnitRange.{UnitRange}
 use Rattle.addr2line_units.specs.Cover.{cover, holds_until}
-use Rattle.addr2line_units.specs.FramesLookup.{Stop, Waits, Finds, FindsNothing, asks_lines_of, has_many_of, holds_along, is_waiting, main_scope}
+use Rattle.addr2line_units.specs.FramesLookup.{LookupStop, Waits, Finds, FindsNothing, asks_lines_of, inlined_at_number, holds_along, is_waiting, main_scope}
 use Rattle.addr2line_units.specs.FunctionParseLaws.{IsReached}
 use Rattle.addr2line_units.specs.KnownEntries.{knows_at}
 use Rattle.addr2line_units.specs.Parsed.{StaysParsed, has_parsed, unit_decides}
@@ -28,7 +29,7 @@ warm_stays old new w s a parsed known = record {
 }
 
 -- what is reached doesn't wait
-reached_ends : (s : Result Stop Error) → IsReached s → is_waiting s ≡ false
+reached_ends : (s : Result LookupStop Error) → IsReached s → is_waiting s ≡ false
 reached_ends (Ok (Waits n)) h = absurd h
 reached_ends (Ok (Finds n frames)) h = refl
 reached_ends (Ok FindsNothing) h = refl
@@ -43,16 +44,16 @@ both_known false true a true e f g = absurd cc
 
 -- all is known of a few
 known_few : (faults : OnFault) (c : ContextState) (probe : ℕ) → IsWarm c → IsFewInlined faults c probe → IsKnownFew faults c probe
-known_few faults c probe w few m e = holds_more (λ n. not (has_many_of (main_scope c.sections m) m.units c.answers probe n)) (has_few_of c probe m) (asked_of faults c.sections c.answers probe m) (cover probe m.ranges) each (few m e)
+known_few faults c probe w few m e = holds_more (λ n. not (exceeds_inline_room (inlined_at_number (main_scope c.sections m) m.units c.answers probe n))) (has_few_of c probe m) (asked_of faults c.sections c.answers probe m) (cover probe m.ranges) each (few m e)
   where
-    each : (n : ℕ) → not (has_many_of (main_scope c.sections m) m.units c.answers probe n) ≡ true → has_few_of c probe m n ≡ true
+    each : (n : ℕ) → not (exceeds_inline_room (inlined_at_number (main_scope c.sections m) m.units c.answers probe n)) ≡ true → has_few_of c probe m n ≡ true
     each n h = both_known (knows_at c.known probe n) (has_parsed c.parsed n) (not (asks_lines_of (main_scope c.sections m) m.units c.answers probe n)) _ (w.known probe n) (w.parsed n) h
 
 -- the functions that are inlined at an address depend on the sections and first answers alone
 module _ (faults : OnFault) (probe : ℕ) (old new : ContextState) where
   abbrev FewBy : Sections → FirstAnswers → Type 0
   FewBy d answers = (m : UnitIndex) → index_units d ≡ Ok m
-      → holds_along (λ n. not (has_many_of (main_scope d m) m.units answers probe n)) (asked_of faults d answers probe m) (cover probe m.ranges) ≡ true
+      → holds_along (λ n. not (exceeds_inline_room (inlined_at_number (main_scope d m) m.units answers probe n))) (asked_of faults d answers probe m) (cover probe m.ranges) ≡ true
 
   few_stays : new.sections ≡ old.sections → new.answers ≡ old.answers → IsFewInlined faults old probe → IsFewInlined faults new probe
   few_stays s a few = subst (λ d. FewBy d new.answers) (sym s) (subst (λ x. FewBy old.sections x) (sym a) few)

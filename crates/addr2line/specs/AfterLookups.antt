@@ -8,7 +8,7 @@ use Rattle.gimli_read.specs.Reading.{◌>>=◌, ExactlyUnlessOom}
 use Rattle.gimli.specs.Sections.{Sections}
 use Rattle.addr2line_units.specs.declared.frames_lookup.OnFault.{OnFault}
 use Rattle.addr2line_units.specs.Cover.{cover}
-use Rattle.addr2line_units.specs.FramesLookup.{Stop, Waits, LookupAsks, asks_lines_of, function_offset_of, holds_along, is_waiting, main_scope}
+use Rattle.addr2line_units.specs.FramesLookup.{LookupStop, Waits, LookupAsks, asks_lines_of, function_offset_of, holds_along, is_waiting, main_scope}
 use Rattle.gimli_read.specs.Alike.{WasNotRefused}
 use Rattle.addr2line_units.specs.KnownEntries.{LearnsDetailsAt}
 use Rattle.addr2line_units.specs.Parsed.{ParsesOnly, StaysParsed}
@@ -129,7 +129,7 @@ IsStored faults probe walked c =
 
 -- what is lent after a lookup: where it doesn't wait, a refusal is that of the lookup, and memory
 -- is refused only where it was for the lookup
-pub record IsLent {X : Type 0} (walked : Result (Unit {0}) Error) (stop : Stop)
+pub record IsLent {X : Type 0} (walked : Result (Unit {0}) Error) (stop : LookupStop)
     (result : Result X Error) : Type 0 where
   pub ready : WasNotRefused result → WasNotRefused walked
   pub memory : is_waiting (walked >>= λ _. Ok stop) ≡ false → WasNotRefused walked

@@ -21,7 +21,7 @@ ForgetsNone These (AsksUnit probe given) = Unit {0}
 ForgetsNone These (AsksLoads probe) = Unit {0}
 ForgetsNone These (AnswersLoad n x) = Unit {0}
 ForgetsNone These ParsesLines = Unit {0}
-ForgetsNone These (ParsesFunctions reads) = Unit {0}
+ForgetsNone These (ParsesFunctions depth) = Unit {0}
 
 -- the first answer to the load of a unit counts, whatever calls come after it, until the unit is
 -- forgotten

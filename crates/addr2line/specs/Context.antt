@@ -11,7 +11,7 @@ use Rattle.gimli_read.specs.declared.error.Error.{Error}
 use Rattle.gimli_read.specs.Reading.{◌>>=◌, fault_of}
 use Rattle.gimli.specs.Sections.{Sections}
 use Rattle.addr2line_units.specs.declared.index.UnitRange.{UnitRange}
-use Rattle.addr2line_units.specs.FramesLookup.{FindsNothing, Stop, main_scope}
+use Rattle.addr2line_units.specs.FramesLookup.{FindsNothing, LookupStop, main_scope}
 use Rattle.addr2line_units.specs.KnownEntries.{KnownEntries, NothingKnown}
 use Rattle.addr2line_units.specs.Located.{all_lines, is_found, location_of, looks_along}
 use Rattle.addr2line_units.specs.UnitIndex.{UnitIndex, index_units, sup_units}
@@ -31,7 +31,7 @@ pub record ContextState : Type 0 where
   pub parsed : List Bool
   pub known : List KnownEntries
   pub looks : ℕ
-  pub stop : Stop
+  pub stop : LookupStop
 
 -- a context of sections as it is made, or the fault that refuses it
 abbrev pub new_context : Sections → Result ContextState Error

@@ -23,8 +23,8 @@ use Rattle.addr2line.specs.Replies.{CopiedReply, Located, Ranged, Framed, Ended}
 pub record ContextsAreNotRefused : Type 0 where
   pub made : (d : Sections) → WasNotRefused (new_context d)
   pub lines : (d : Sections) → WasNotRefused (lines_of_all d)
-  pub functions : (reads : ReadingDepth) (d : Sections) (answers : FirstAnswers)
-      → WasNotRefused (parse_reply reads d answers)
+  pub functions : (depth : ReadingDepth) (d : Sections) (answers : FirstAnswers)
+      → WasNotRefused (parse_reply depth d answers)
 
 -- no location is, nor the rows of a range, or one of them
 pub record LocationsAreNotRefused : Type 0 where

@@ -8,11 +8,11 @@ use Rattle.gimli_read.specs.Reading.{◌>>=◌}
 use Rattle.gimli.specs.Sections.{Sections}
 use Rattle.elf.specs.Loading.{Loading}
 use Rattle.addr2line_lines.specs.References.{Scope}
-use Rattle.addr2line_units.specs.declared.frames_lookup.OnFault.TheVariants.{End}
+use Rattle.addr2line_units.specs.declared.frames_lookup.OnFault.TheVariants.{Stop}
 use Rattle.addr2line_units.specs.declared.index.UnitRange.{UnitRange}
 use Rattle.addr2line_units.specs.Cover.{cover}
 use Rattle.addr2line_units.specs.Frames.{FrameRecord}
-use Rattle.addr2line_units.specs.FramesLookup.{Stop, answer_of, frames_found, main_scope}
+use Rattle.addr2line_units.specs.FramesLookup.{LookupStop, answer_of, frames_found, main_scope}
 use Rattle.addr2line_units.specs.UnitFrames.{FramesResult, frames_in}
 use Rattle.addr2line_units.specs.UnitIndex.{UnitIndex, index_units}
 use Rattle.addr2line_units.specs.RangedUnits.{IndexedUnit}
@@ -23,12 +23,12 @@ use Rattle.addr2line.specs.Lookups.{lookup_stop}
 use Rattle.addr2line.specs.SplitFiles.{given_by_files, of_file}
 
 -- the frames of a lookup that has ended, or its fault
-abbrev pub stop_frames : Result Stop Error → Loading (List FrameRecord)
+abbrev pub stop_frames : Result LookupStop Error → Loading (List FrameRecord)
 stop_frames stop = of_file stop >>= λ s. Ok (frames_found s)
 
 -- the frames of a lookup that waits for no answer, whatever the files are, or its fault
 abbrev pub ended_frames_of : ContextState → ℕ → Loading (List FrameRecord)
-ended_frames_of c probe = stop_frames (lookup_stop End c.sections c.answers probe)
+ended_frames_of c probe = stop_frames (lookup_stop Stop c.sections c.answers probe)
 
 -- what answers the load of a unit
 abbrev pub GivesAnswers : Type 0

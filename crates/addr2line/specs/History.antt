@@ -8,9 +8,9 @@ use Rattle.gimli_read.specs.declared.error.Error.{Error}
 use Rattle.gimli_read.specs.declared.error.Error.TheVariants.{OutOfMemory}
 use Rattle.gimli.specs.Sections.{Sections}
 use Rattle.addr2line_units.specs.declared.frames_lookup.OnFault.{OnFault}
-use Rattle.addr2line_units.specs.declared.frames_lookup.OnFault.TheVariants.{End, PassOver}
+use Rattle.addr2line_units.specs.declared.frames_lookup.OnFault.TheVariants.{Stop, Skip}
 use Rattle.addr2line_units.specs.declared.parses.ReadingDepth.{ReadingDepth}
-use Rattle.addr2line_units.specs.FramesLookup.{Stop, Waits, Finds, FindsNothing, main_scope}
+use Rattle.addr2line_units.specs.FramesLookup.{LookupStop, Waits, Finds, FindsNothing, main_scope}
 use Rattle.addr2line_units.specs.FunctionParses.{AreFirstDecided}
 use Rattle.addr2line_units.specs.Loads.{forgotten}
 use Rattle.addr2line_units.specs.Located.{location_of, spans_of}
@@ -42,7 +42,7 @@ pub data HistoryCall : Type 0 where
   ParsesFunctions : ReadingDepth → HistoryCall
 
 -- what goes on where a lookup waits for the unit of a number, else what there is already
-abbrev pub where_waiting : {X : Type 0} → (ℕ → X) → X → Result Stop Error → X
+abbrev pub where_waiting : {X : Type 0} → (ℕ → X) → X → Result LookupStop Error → X
 where_waiting goes_on x (Ok (Waits n)) = goes_on n
 where_waiting goes_on x (Ok (Finds n frames)) = x
 where_waiting goes_on x (Ok FindsNothing) = x
@@ -60,36 +60,36 @@ answers_given faults d probe answers (Answered x ∷ given) = where_waiting
 abbrev pub answers_left : Sections → FirstAnswers → HistoryCall → FirstAnswers
 answers_left d answers (AsksLocation probe) = answers
 answers_left d answers (AsksRange low high) = answers
-answers_left d answers (AsksFrames probe given) = answers_given End d probe answers given
-answers_left d answers (AsksUnit probe given) = answers_given PassOver d probe answers given
+answers_left d answers (AsksFrames probe given) = answers_given Stop d probe answers given
+answers_left d answers (AsksUnit probe given) = answers_given Skip d probe answers given
 answers_left d answers (AsksLoads probe) = answers
 answers_left d answers (AnswersLoad n x) = answered d answers n x
 answers_left d answers (Forgets n) = forgotten answers n
 answers_left d answers ParsesLines = answers
-answers_left d answers (ParsesFunctions reads) = parsed_answers reads d answers
+answers_left d answers (ParsesFunctions depth) = parsed_answers depth d answers
 
 -- what a lookup of frames replies by these first answers
 abbrev pub frames_replied : Sections → ℕ → FirstAnswers → CopiedReply
-frames_replied d probe answers = reply_of_frames (lookup_stop End d answers probe)
+frames_replied d probe answers = reply_of_frames (lookup_stop Stop d answers probe)
 
 -- what a lookup of a unit replies by these first answers
 abbrev pub unit_replied : Sections → ℕ → FirstAnswers → CopiedReply
 unit_replied d probe answers =
-    reply_of_unit (lookup_stop PassOver d answers probe) (unit_of d answers probe)
+    reply_of_unit (lookup_stop Skip d answers probe) (unit_of d answers probe)
 
 -- the reply to a call; a lookup's is by the first answers that it leaves
 abbrev pub reply_to : Sections → FirstAnswers → HistoryCall → CopiedReply
 reply_to d answers (AsksLocation probe) = Located (location_of d probe)
 reply_to d answers (AsksRange low high) = reply_of_range (spans_of d low high)
 reply_to d answers (AsksFrames probe given) =
-    frames_replied d probe (answers_given End d probe answers given)
+    frames_replied d probe (answers_given Stop d probe answers given)
 reply_to d answers (AsksUnit probe given) =
-    unit_replied d probe (answers_given PassOver d probe answers given)
+    unit_replied d probe (answers_given Skip d probe answers given)
 reply_to d answers (AsksLoads probe) = Listed (map copied_load (loads_at d answers probe))
 reply_to d answers (AnswersLoad n x) = Ended (load_reply d answers n x)
 reply_to d answers (Forgets n) = Ended (forget_reply d n)
 reply_to d answers ParsesLines = Ended (lines_of_all d)
-reply_to d answers (ParsesFunctions reads) = Ended (parse_reply reads d answers)
+reply_to d answers (ParsesFunctions depth) = Ended (parse_reply depth d answers)
 
 -- the replies to calls, one for each
 abbrev pub replies_to : Sections → FirstAnswers → List HistoryCall → List CopiedReply
@@ -105,11 +105,11 @@ answers_after d answers (call ∷ calls) = answers_after d (answers_left d answe
 -- the first answers where a call has begun: none of its decisions were made, or the first of them
 abbrev pub HasBegun : Sections → FirstAnswers → HistoryCall → FirstAnswers → Type 0
 HasBegun d old (AsksFrames probe given) new =
-    (n : ℕ) × (new ≡ answers_given End d probe old (take n given))
+    (n : ℕ) × (new ≡ answers_given Stop d probe old (take n given))
 HasBegun d old (AsksUnit probe given) new =
-    (n : ℕ) × (new ≡ answers_given PassOver d probe old (take n given))
-HasBegun d old (ParsesFunctions reads) new = (m : UnitIndex) → index_units d ≡ Ok m
-    → AreFirstDecided reads (main_scope d m) (unit_records m.units) old new
+    (n : ℕ) × (new ≡ answers_given Skip d probe old (take n given))
+HasBegun d old (ParsesFunctions depth) new = (m : UnitIndex) → index_units d ≡ Ok m
+    → AreFirstDecided depth (main_scope d m) (unit_records m.units) old new
 HasBegun d old (AsksLocation probe) new = new ≡ old
 HasBegun d old (AsksRange low high) new = new ≡ old
 HasBegun d old (AsksLoads probe) new = new ≡ old

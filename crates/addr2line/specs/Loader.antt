@@ -8,7 +8,7 @@ use Rattle.gimli_read.specs.Reading.{Exactly}
 use Rattle.elf.specs.declared.error.LoaderError.TheVariants.{OutOfMemory, PathNotUtf8}
 use Rattle.elf.specs.Loading.{Loading}
 use Rattle.elf.specs.ObjectFile.{ObjectFile}
-use Rattle.addr2line_units.specs.declared.frames_lookup.OnFault.TheVariants.{End}
+use Rattle.addr2line_units.specs.declared.frames_lookup.OnFault.TheVariants.{Stop}
 use Rattle.addr2line_units.specs.Frames.{FrameRecord}
 use Rattle.addr2line.specs.declared.loader.LoaderOver.{LoaderOver}
 use Rattle.addr2line.specs.Context.{AfterLookup, AfterRangeLookup, ContextState}
@@ -44,12 +44,12 @@ pub record AfterLoads {X : Type 0} (see : X → List FrameRecord) (probe : ℕ) 
   pub object : new.object ≡ old.object
   pub context : AfterAnswers old.files old.context new.context
   pub in_turn : AnswersInTurn probe old.context new.context
-  pub only : ReadsAsked End probe old.context new.context
+  pub only : ReadsAsked Stop probe old.context new.context
   pub ended : HasEnded result → WaitsForNone new.context probe
-  pub ready : HasEnded result → IsKnown End new.context probe
+  pub ready : HasEnded result → IsKnown Stop new.context probe
   pub told : HasEnded result → Exactly see result (ended_frames_of new.context probe)
   pub waits : IfErr result (λ e. e ≡ PathNotUtf8 → WaitsForOne new.context probe)
-  pub memory : WaitsForNone new.context probe → IsKnownFew End new.context probe
+  pub memory : WaitsForNone new.context probe → IsKnownFew Stop new.context probe
       → IfErr result (λ e. e ≢ OutOfMemory)
   pub refused : IfErr result (λ e. e ≡ OutOfMemory → MayLackMemory new.context probe)
 

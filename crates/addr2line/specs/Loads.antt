@@ -9,7 +9,7 @@ use Rattle.gimli_read.specs.Reading.{◌>>=◌}
 use Rattle.gimli.specs.Sections.{Sections}
 use Rattle.addr2line_units.specs.declared.frames_lookup.OnFault.{OnFault}
 use Rattle.addr2line_units.specs.declared.parses.ReadingDepth.{ReadingDepth}
-use Rattle.addr2line_units.specs.declared.parses.ReadingDepth.TheVariants as kinds
+use Rattle.addr2line_units.specs.declared.parses.ReadingDepth.TheVariants as depths
 use Rattle.addr2line_units.specs.Cover.{cover}
 use Rattle.addr2line_units.specs.FramesLookup.{answer_of, main_scope}
 use Rattle.addr2line_units.specs.FunctionParseLaws.{IsReached}
@@ -32,14 +32,14 @@ forget_reply d n = index_units d >>= λ m. forget_result (unit_records m.units) 
 
 -- what a parse of all functions gives
 abbrev pub parse_reply : ReadingDepth → Sections → FirstAnswers → Result (Unit {0}) Error
-parse_reply reads d answers =
-    index_units d >>= λ m. read_of_units reads (main_scope d m) (unit_records m.units) answers
+parse_reply depth d answers =
+    index_units d >>= λ m. read_of_units depth (main_scope d m) (unit_records m.units) answers
 
 -- the first answers after a parse of all functions
 abbrev pub parsed_answers : ReadingDepth → Sections → FirstAnswers → FirstAnswers
-parsed_answers reads d answers = elim (index_units d) [
+parsed_answers depth d answers = elim (index_units d) [
   | Err e ↦ answers
-  | Ok m ↦ answers_after_parse reads (main_scope d m) (unit_records m.units) answers
+  | Ok m ↦ answers_after_parse depth (main_scope d m) (unit_records m.units) answers
 ]
 
 -- the unit of a number isn't open, or there is none
@@ -96,25 +96,25 @@ pub record AfterPreload (old new : ContextState) : Type 0 where
 
 -- all is known that a parse of functions reads of all units
 abbrev pub AreReadBy : ReadingDepth → ContextState → Type 0
-AreReadBy reads c = AllByRecursion (IsReadBy reads) c.known
+AreReadBy depth c = AllByRecursion (IsReadBy depth) c.known
 
 -- all is known that a parse of functions reads of the units, up to the first fault, and that fault
 -- too, and no unit up to there is open
 abbrev pub IsReadyToRead : ReadingDepth → ContextState → Type 0
-IsReadyToRead reads c = (m : UnitIndex) → index_units c.sections ≡ Ok m
-    → AreReadyFor reads (main_scope c.sections m) (unit_records m.units) c.answers c.known
+IsReadyToRead depth c = (m : UnitIndex) → index_units c.sections ≡ Ok m
+    → AreReadyFor depth (main_scope c.sections m) (unit_records m.units) c.answers c.known
 
 -- after a parse of all functions open units are decided by none, up to the first fault; where
 -- memory was refused, some of the first ones. What was known of the others stays, and where
 -- functions alone are read no detail becomes known. Unless memory was refused all is known that the
 -- parse reads, and where it is, none was refused; where it was before, nothing is changed of what
 -- is known and answered
-pub record AfterParse (reads : ReadingDepth) (result : Result (Unit {0}) Error)
+pub record AfterParse (depth : ReadingDepth) (result : Result (Unit {0}) Error)
     (old new : ContextState) : Type 0 where
   pub stays : StaysRead old new
-  pub answers : WasNotRefused result → new.answers ≡ parsed_answers reads old.sections old.answers
+  pub answers : WasNotRefused result → new.answers ≡ parsed_answers depth old.sections old.answers
   pub begun : (m : UnitIndex) → index_units old.sections ≡ Ok m
-      → AreFirstDecided reads (main_scope old.sections m) (unit_records m.units) old.answers
+      → AreFirstDecided depth (main_scope old.sections m) (unit_records m.units) old.answers
       new.answers
   pub known : (m : UnitIndex) → index_units old.sections ≡ Ok m → (probe n : ℕ)
       → is_open_at old.sections (unit_records m.units) old.answers n ≡ false
@@ -124,20 +124,20 @@ pub record AfterParse (reads : ReadingDepth) (result : Result (Unit {0}) Error)
       → IsReadyAt kind old.known n → IsReadyAt kind new.known n
   pub only : (m : UnitIndex) → index_units old.sections ≡ Ok m → (n : ℕ)
       → (slice_get new.known n ≡ slice_get old.known n)
-      ⊎ AreReadBefore reads (main_scope old.sections m) (unit_records m.units) old.answers n
-  pub details : reads ≡ kinds.Functions → LearnsNoDetails old.known new.known
-  pub read : OnOk result (AreReadBy reads new)
-  pub whole_known : AreReadBy reads old → result ≡ Ok tt
-  pub ready : WasNotRefused result → IsReadyToRead reads new
-  pub memory : IsReadyToRead reads new → WasNotRefused result
-  pub exact : IsReadyToRead reads old → result ≡ parse_reply reads old.sections old.answers
-  pub same : IsReadyToRead reads old → (new.answers ≡ old.answers) × (new.known ≡ old.known)
+      ⊎ AreReadBefore depth (main_scope old.sections m) (unit_records m.units) old.answers n
+  pub details : depth ≡ depths.Functions → LearnsNoDetails old.known new.known
+  pub read : OnOk result (AreReadBy depth new)
+  pub whole_known : AreReadBy depth old → result ≡ Ok tt
+  pub ready : WasNotRefused result → IsReadyToRead depth new
+  pub memory : IsReadyToRead depth new → WasNotRefused result
+  pub exact : IsReadyToRead depth old → result ≡ parse_reply depth old.sections old.answers
+  pub same : IsReadyToRead depth old → (new.answers ≡ old.answers) × (new.known ≡ old.known)
 
 -- a parse of functions takes no memory: of each unit up to the first fault what it reads is known,
 -- or the functions take none
 abbrev pub ReadsFunctionsNoMemory : Bool → ReadingDepth → ContextState → Type 0
-ReadsFunctionsNoMemory shares reads c = (m : UnitIndex) → index_units c.sections ≡ Ok m
-    → ReadsNoMemory shares reads (main_scope c.sections m) (unit_records m.units) c.answers c.known
+ReadsFunctionsNoMemory shares depth c = (m : UnitIndex) → index_units c.sections ≡ Ok m
+    → ReadsNoMemory shares depth (main_scope c.sections m) (unit_records m.units) c.answers c.known
 
 -- what every lookup asks of units' entries is known
 abbrev pub IsAllKnown : ContextState → Type 0

@@ -7,7 +7,7 @@ use Rattle.gimli.specs.Sections.{Sections}
 use Rattle.elf.specs.declared.error.LoaderError.{LoaderError}
 use Rattle.elf.specs.declared.error.LoaderError.TheVariants.{OutOfMemory, PathNotUtf8}
 use Rattle.elf.specs.Loading.{Loading}
-use Rattle.addr2line_units.specs.declared.frames_lookup.OnFault.TheVariants.{End}
+use Rattle.addr2line_units.specs.declared.frames_lookup.OnFault.TheVariants.{Stop}
 use Rattle.addr2line_units.specs.FramesLookup.{answer_of, is_waiting}
 use Rattle.addr2line_units.specs.Parsed.{StaysParsed}
 use Rattle.addr2line_units.specs.Views.{FirstAnswers, SplitLoad}
@@ -33,22 +33,22 @@ GivesSameFrames files old new = (probe : ℕ) → frames_by_files files new.sect
 
 -- a lookup of the probe waits for no answer
 abbrev pub WaitsForNone : ContextState → ℕ → Type 0
-WaitsForNone c probe = is_waiting (lookup_stop End c.sections c.answers probe) ≡ false
+WaitsForNone c probe = is_waiting (lookup_stop Stop c.sections c.answers probe) ≡ false
 
 -- a lookup of the probe waits for an answer
 abbrev pub WaitsForOne : ContextState → ℕ → Type 0
-WaitsForOne c probe = is_waiting (lookup_stop End c.sections c.answers probe) ≡ true
+WaitsForOne c probe = is_waiting (lookup_stop Stop c.sections c.answers probe) ≡ true
 
 -- a lookup of the probe waits for an answer, whose load may take memory, or for none, and may take
 -- memory itself
 abbrev pub MayLackMemory : ContextState → ℕ → Type 0
-MayLackMemory c probe = WaitsForOne c probe ⊎ (WaitsForNone c probe × TakesMemory End c probe)
+MayLackMemory c probe = WaitsForOne c probe ⊎ (WaitsForNone c probe × TakesMemory Stop c probe)
 
 -- a lookup that waits for no answer comes to the same later
 abbrev pub StayEnded : ContextState → ContextState → Type 0
 StayEnded old new = (probe : ℕ) → WaitsForNone old probe
-    → lookup_stop End new.sections new.answers probe
-    ≡ lookup_stop End old.sections old.answers probe
+    → lookup_stop Stop new.sections new.answers probe
+    ≡ lookup_stop Stop old.sections old.answers probe
 
 -- what was known of each unit whose first answer is the same stays known
 abbrev pub StayKnownUnanswered : ContextState → ContextState → Type 0
@@ -76,7 +76,7 @@ AnswersOne n old new = (new.answers ≡ old.answers) ⊎ ((given : Option Sectio
 -- other unit was answered
 abbrev pub AnswersInTurn : ℕ → ContextState → ContextState → Type 0
 AnswersInTurn probe old new = (given : List Given)
-    × (new.answers ≡ answers_given End old.sections probe old.answers given)
+    × (new.answers ≡ answers_given Stop old.sections probe old.answers given)
 
 -- a refusal that ends a lookup: the fault of a unit, and none of these
 abbrev pub IsUnitFault : LoaderError → Type 0

@@ -8,10 +8,10 @@ use Rattle.gimli_read.specs.Reading.{◌>>=◌}
 use Rattle.gimli.specs.Sections.{Sections}
 use Rattle.gimli.specs.Unit.{UnitRecord}
 use Rattle.addr2line_units.specs.declared.frames_lookup.OnFault.{OnFault}
-use Rattle.addr2line_units.specs.declared.frames_lookup.OnFault.TheVariants.{End, PassOver}
+use Rattle.addr2line_units.specs.declared.frames_lookup.OnFault.TheVariants.{Stop, Skip}
 use Rattle.addr2line_units.specs.Cover.{cover}
 use Rattle.addr2line_units.specs.Frames.{FrameRecord}
-use Rattle.addr2line_units.specs.FramesLookup.{LookupAsks, Stop, Waits, Finds, FindsNothing, asked_frames, frames_found, frames_of_number, main_scope, readable_view, stop_along, view_of_number}
+use Rattle.addr2line_units.specs.FramesLookup.{LookupAsks, LookupStop, Waits, Finds, FindsNothing, asked_frames, frames_found, frames_of_number, main_scope, readable_view, stop_along, view_of_number}
 use Rattle.addr2line_units.specs.LoadLaws.{loads_of}
 use Rattle.addr2line_units.specs.UnitIndex.{UnitIndex, index_units}
 use Rattle.addr2line_units.specs.RangedUnits.{unit_records}
@@ -23,12 +23,12 @@ abbrev pub asked_of : OnFault → Sections → FirstAnswers → ℕ → UnitInde
 asked_of faults d answers probe m = asked_frames faults (main_scope d m) m.units answers probe
 
 -- what a lookup comes to among units
-abbrev pub stop_in : OnFault → Sections → FirstAnswers → ℕ → UnitIndex → Result Stop Error
+abbrev pub stop_in : OnFault → Sections → FirstAnswers → ℕ → UnitIndex → Result LookupStop Error
 stop_in faults d answers probe m =
     stop_along (asked_of faults d answers probe m) (cover probe m.ranges)
 
 -- what a lookup comes to
-abbrev pub lookup_stop : OnFault → Sections → FirstAnswers → ℕ → Result Stop Error
+abbrev pub lookup_stop : OnFault → Sections → FirstAnswers → ℕ → Result LookupStop Error
 lookup_stop faults d answers probe = index_units d >>= stop_in faults d answers probe
 
 -- a unit that a lookup asks has this fault
@@ -38,12 +38,12 @@ IsFaultOfAsked faults d answers probe e = (m : UnitIndex) × (index_units d ≡ 
     × (frames_of_number (main_scope d m) m.units answers probe n ≡ Err e))
 
 -- what a lookup has found, none of it where it waits
-abbrev pub ended_with : {V : Type 0} → V → Stop → Option V
+abbrev pub ended_with : {V : Type 0} → V → LookupStop → Option V
 ended_with found (Waits n) = None
 ended_with found stop = Some found
 
 -- the view of the unit in which a lookup has found something, if it has found something
-abbrev pub view_found : Sections → FirstAnswers → Stop → Option View
+abbrev pub view_found : Sections → FirstAnswers → LookupStop → Option View
 view_found d answers (Finds n frames) = elim (index_units d) [
   | Err e ↦ None
   | Ok m ↦ readable_view (view_of_number d (unit_records m.units) answers n)
@@ -52,26 +52,26 @@ view_found d answers stop = None
 
 -- what a lookup of a kind gives at the probe: a value of what it comes to and of the view in which
 -- it finds something; none where it waits for an answer; or its fault
-abbrev pub found_at : {V : Type 0} → OnFault → (Stop → Option View → V) → Sections → FirstAnswers → ℕ
+abbrev pub found_at : {V : Type 0} → OnFault → (LookupStop → Option View → V) → Sections → FirstAnswers → ℕ
     → Result (Option V) Error
 found_at faults value_of d answers probe = lookup_stop faults d answers probe >>= λ s.
     Ok (ended_with (value_of s (view_found d answers s)) s)
 
 -- the frames of a lookup that has come to this, none where it waits, or its fault
-abbrev pub frames_of_stop : Result Stop Error → FramesResult
+abbrev pub frames_of_stop : Result LookupStop Error → FramesResult
 frames_of_stop stop = stop >>= λ s. Ok (ended_with (frames_found s) s)
 
 -- what a lookup of frames gives: those that it found
-abbrev pub frames_value : Stop → Option View → List FrameRecord
+abbrev pub frames_value : LookupStop → Option View → List FrameRecord
 frames_value stop view = frames_found stop
 
 -- the frames at the probe, none where the lookup waits for an answer, or its first fault
 abbrev pub frames_of : Sections → FirstAnswers → ℕ → FramesResult
-frames_of d answers probe = found_at End frames_value d answers probe
+frames_of d answers probe = found_at Stop frames_value d answers probe
 
 -- what a lookup of a unit gives: the sections and the unit of the view that it found, if it found
 -- one
-abbrev pub unit_value : Stop → Option View → Option (Sections × UnitRecord)
+abbrev pub unit_value : LookupStop → Option View → Option (Sections × UnitRecord)
 unit_value stop view = option_map parts_of view
 
 -- the same, none of it where the lookup waits, or its fault
@@ -81,10 +81,10 @@ UnitResult = Result (Option (Option (Sections × UnitRecord))) Error
 -- the sections and the unit of the view at the probe, none where the lookup waits for an answer;
 -- faults of units are passed over
 abbrev pub unit_of : Sections → FirstAnswers → ℕ → UnitResult
-unit_of d answers probe = found_at PassOver unit_value d answers probe
+unit_of d answers probe = found_at Skip unit_value d answers probe
 
 -- whether a lookup waits for the unit of this number
-abbrev pub waits_for : ℕ → Result Stop Error → Bool
+abbrev pub waits_for : ℕ → Result LookupStop Error → Bool
 waits_for k (Ok (Waits n)) = n == k
 waits_for k stop = false
 

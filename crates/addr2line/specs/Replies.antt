@@ -11,7 +11,7 @@ use Rattle.gimli.specs.Unit.{UnitRecord}
 use Rattle.addr2line_lines.specs.Location.{Location}
 use Rattle.addr2line_lines.specs.RangeLocations.{LocatedSpan}
 use Rattle.addr2line_units.specs.Frames.{FrameRecord, NameRecord}
-use Rattle.addr2line_units.specs.FramesLookup.{Stop, Waits, Finds, FindsNothing}
+use Rattle.addr2line_units.specs.FramesLookup.{LookupStop, Waits, Finds, FindsNothing}
 use Rattle.addr2line_units.specs.Located.{LocationResult}
 use Rattle.addr2line_units.specs.Views.{SplitLoad}
 use Rattle.addr2line.specs.Lookups.{UnitResult}
@@ -79,7 +79,7 @@ copied_load l = record {
 }
 
 -- the reply of a lookup of frames that has come to this
-abbrev pub reply_of_frames : Result Stop Error → CopiedReply
+abbrev pub reply_of_frames : Result LookupStop Error → CopiedReply
 reply_of_frames (Ok (Waits n)) = SuspendedAt n
 reply_of_frames (Ok (Finds n frames)) = Framed (Ok (map copied_frame frames))
 reply_of_frames (Ok FindsNothing) = Framed (Ok [])
@@ -91,7 +91,7 @@ unit_found_in (Ok (Some found)) = option_map copied_unit found
 unit_found_in found = None
 
 -- the reply of a lookup of a unit that has come to this, with what it has found
-abbrev pub reply_of_unit : Result Stop Error → UnitResult → CopiedReply
+abbrev pub reply_of_unit : Result LookupStop Error → UnitResult → CopiedReply
 reply_of_unit (Ok (Waits n)) found = SuspendedAt n
 reply_of_unit stop found = Viewed (unit_found_in found)
 

@@ -2,7 +2,7 @@
 use Rattle.std.specs.Prelude.{◌≡◌, ℕ, false, length, Ok}
 use Rattle.gimli.specs.Sections.{Sections}
 use Rattle.addr2line_units.specs.declared.frames_lookup.OnFault.{OnFault}
-use Rattle.addr2line_units.specs.declared.frames_lookup.OnFault.TheVariants.{End, PassOver}
+use Rattle.addr2line_units.specs.declared.frames_lookup.OnFault.TheVariants.{Stop, Skip}
 use Rattle.addr2line_units.specs.FramesLookup.{is_waiting}
 use Rattle.addr2line_units.specs.UnitIndex.{UnitIndex, index_units}
 use Rattle.addr2line_units.specs.Views.{FirstAnswers}
@@ -19,7 +19,7 @@ SkippedWaitsForNone = (faults : OnFault) (d : Sections) (m : UnitIndex) (probe :
 abbrev pub SkippedGivesSame : Type 0
 SkippedGivesSame = (d : Sections) (m : UnitIndex) (probe : ℕ) (answers : FirstAnswers)
     → index_units d ≡ Ok m → length m.units ≡ length answers
-    → (frames_of d (skipped_answers End d probe answers) probe
+    → (frames_of d (skipped_answers Stop d probe answers) probe
     ≡ frames_of d (with_none answers) probe)
-    × (unit_of d (skipped_answers PassOver d probe answers) probe
+    × (unit_of d (skipped_answers Skip d probe answers) probe
     ≡ unit_of d (with_none answers) probe)

@@ -6,8 +6,8 @@ use Rattle.gimli_read.specs.declared.error.Error.TheVariants.{OutOfMemory}
 use Rattle.gimli.specs.Sections.{Sections}
 use Rattle.addr2line_units.specs.declared.continuation.LookupResult.{LookupResult}
 use Rattle.addr2line_units.specs.declared.frames_lookup.OnFault.{OnFault}
-use Rattle.addr2line_units.specs.declared.frames_lookup.OnFault.TheVariants.{End, PassOver}
-use Rattle.addr2line_units.specs.FramesLookup.{Stop, Waits}
+use Rattle.addr2line_units.specs.declared.frames_lookup.OnFault.TheVariants.{Stop, Skip}
+use Rattle.addr2line_units.specs.FramesLookup.{LookupStop, Waits}
 use Rattle.addr2line_units.specs.Suspended.{IfOutput}
 use Rattle.addr2line_units.specs.Views.{SplitLoad, View}
 use Rattle.addr2line_units.specs.UnitFrames.{FramesResult}
@@ -45,7 +45,7 @@ abbrev pub count_loads : ContextState → ℕ → ℕ
 count_loads c probe = length (loads_at c.sections c.answers probe)
 
 -- what a lookup of a kind gives, by what becomes of faults and what it makes of what it finds
-module _ {V : Type 0} (faults : OnFault) (value_of : Stop → Option View → V) where
+module _ {V : Type 0} (faults : OnFault) (value_of : LookupStop → Option View → V) where
   -- at the probe in a context
   abbrev pub found_of_context : ContextState → ℕ → Result (Option V) Error
   found_of_context c probe = found_at faults value_of c.sections c.answers probe
@@ -66,12 +66,12 @@ module _ {V : Type 0} (faults : OnFault) (value_of : Stop → Option View → V)
 
 -- an output of a lookup that passes over faults is refused OutOfMemory alone
 abbrev pub IsRefusedAs : {L X D S : Type 0} → OnFault → LookupResult L (Result X Error) D S → Type 0
-IsRefusedAs faults result = faults ≡ PassOver → IfOutput result (λ o. IfErr o (λ e. e ≡ OutOfMemory))
+IsRefusedAs faults result = faults ≡ Skip → IfOutput result (λ o. IfErr o (λ e. e ≡ OutOfMemory))
 
 -- the frames at the probe in a context
 abbrev pub frames_of_context : ContextState → ℕ → FramesResult
-frames_of_context c probe = found_of_context End frames_value c probe
+frames_of_context c probe = found_of_context Stop frames_value c probe
 
 -- the sections and the unit at the probe in a context
 abbrev pub unit_of_context : ContextState → ℕ → UnitResult
-unit_of_context c probe = found_of_context PassOver unit_value c probe
+unit_of_context c probe = found_of_context Skip unit_value c probe

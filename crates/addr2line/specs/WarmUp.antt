@@ -3,9 +3,10 @@
 use Rattle.std.specs.Prelude.{◌≡◌, ℕ, true, not, Option, Result, Ok}
 use Rattle.gimli_read.specs.declared.error.Error.{Error}
 use Rattle.gimli_read.specs.Alike.{WasNotRefused}
+use Rattle.addr2line_lines.specs.InlineRoom.{exceeds_inline_room}
 use Rattle.addr2line_units.specs.declared.frames_lookup.OnFault.{OnFault}
 use Rattle.addr2line_units.specs.Cover.{cover}
-use Rattle.addr2line_units.specs.FramesLookup.{has_many_of, holds_along, main_scope}
+use Rattle.addr2line_units.specs.FramesLookup.{inlined_at_number, holds_along, main_scope}
 use Rattle.addr2line_units.specs.FunctionParseLaws.{IsReached}
 use Rattle.addr2line_units.specs.Parsed.{AreAllParsed}
 use Rattle.addr2line_units.specs.UnitIndex.{UnitIndex, index_units}
@@ -24,7 +25,7 @@ pub record IsWarm (c : ContextState) : Type 0 where
 -- at most 16 functions are inlined at the probe in each unit that a lookup asks
 abbrev pub IsFewInlined : OnFault → ContextState → ℕ → Type 0
 IsFewInlined faults c probe = (m : UnitIndex) → index_units c.sections ≡ Ok m
-    → holds_along (λ n. not (has_many_of (main_scope c.sections m) m.units c.answers probe n))
+    → holds_along (λ n. not (exceeds_inline_room (inlined_at_number (main_scope c.sections m) m.units c.answers probe n)))
     (asked_of faults c.sections c.answers probe m) (cover probe m.ranges) ≡ true
 
 -- in a warm context a lookup of frames or of a unit waits for nothing and has no fault; it leaves

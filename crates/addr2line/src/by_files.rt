@@ -3,7 +3,7 @@
 ghost use Rattle.std.specs.Prelude.{◌≡◌, ◌≢◌, ◌<◌, Err, IfErr, IfOk, Ok, OnErr, OnOk, option_map};
 ghost use Rattle.elf.specs.declared.error.LoaderError.TheVariants.{OutOfMemory, PathNotUtf8};
 ghost use Rattle.addr2line_lines.specs.LastAddress.{last_address};
-ghost use Rattle.addr2line_units.specs.declared.frames_lookup.OnFault.TheVariants.{End};
+ghost use Rattle.addr2line_units.specs.declared.frames_lookup.OnFault.TheVariants.{Stop};
 ghost use Rattle.addr2line_units.specs.FramesLookup.{Waits};
 ghost use Rattle.addr2line.specs.Context.{ContextState, IsUncovered};
 ghost use Rattle.addr2line.specs.Files.{as_read_if_known};
@@ -36,7 +36,7 @@ fn read_answer<F: FileSource>(
     probe: u64,
     number: usize,
 ) -> Result<Option<Rc<Dwarf<EndianBytes>>>, LoaderError>
-    requires waits { lookup_stop End ctx.now.sections ctx.now.answers probe ≡ Ok (Waits number) }
+    requires waits { lookup_stop Stop ctx.now.sections ctx.now.answers probe ≡ Ok (Waits number) }
     requires stored { ctx.now.stop ≡ Waits number }
     ensures gives { IfOk result (λ given.
         IsAnswerByFiles (as_read_if_known compressed (F.files files.now)) ctx.now.sections
@@ -59,18 +59,18 @@ fn answer_load<F: FileSource>(
     probe: u64,
     number: usize,
 ) -> Result<(), LoaderError>
-    requires waits { lookup_stop End ctx.old.sections ctx.old.answers probe ≡ Ok (Waits number) }
+    requires waits { lookup_stop Stop ctx.old.sections ctx.old.answers probe ≡ Ok (Waits number) }
     requires stored { ctx.old.stop ≡ Waits number }
     ensures after { AfterAnswers (as_read_if_known compressed (F.files files.now)) ctx.old ctx.new }
     ensures one { AnswersOne number ctx.old ctx.new }
-    ensures only { (first : ContextState) → ReadsAsked End probe first ctx.old
-        → ReadsAsked End probe first ctx.new }
+    ensures only { (first : ContextState) → ReadsAsked Stop probe first ctx.old
+        → ReadsAsked Stop probe first ctx.new }
     ensures fewer { OnOk result (count_loads ctx.new probe < count_loads ctx.old probe) }
     ensures refused { IfErr result
         (IsFaultByFiles (as_read_if_known compressed (F.files files.now)) ctx.old probe) }
     ensures stays_open { IfErr result LeavesOpen }
     ensures still_waits { OnErr result
-        (lookup_stop End ctx.new.sections ctx.new.answers probe ≡ Ok (Waits number)) }
+        (lookup_stop Stop ctx.new.sections ctx.new.answers probe ≡ Ok (Waits number)) }
 {
     let sections = read_answer(alloc, files, compressed, kept, ctx, probe, number)?;
     Ok(ctx.answer(number, sections)?)
@@ -88,14 +88,14 @@ pub(crate) fn answer_loads<F: FileSource>(
 ) -> Result<(), LoaderError>
     ensures after { AfterAnswers (as_read_if_known compressed (F.files files.now)) ctx.old ctx.new }
     ensures in_turn { AnswersInTurn probe ctx.old ctx.new }
-    ensures only { ReadsAsked End probe ctx.old ctx.new }
+    ensures only { ReadsAsked Stop probe ctx.old ctx.new }
     ensures stored { OnOk result
-        (lookup_stop End ctx.new.sections ctx.new.answers probe ≡ Ok ctx.new.stop) }
+        (lookup_stop Stop ctx.new.sections ctx.new.answers probe ≡ Ok ctx.new.stop) }
     ensures ended { HasEnded result → WaitsForNone ctx.new probe }
-    ensures ready { HasEnded result → IsKnown End ctx.new probe }
+    ensures ready { HasEnded result → IsKnown Stop ctx.new probe }
     ensures told { IfErr result (λ e. IsUnitFault e → ended_frames_of ctx.new probe ≡ Err e) }
     ensures waits { IfErr result (λ e. e ≡ PathNotUtf8 → WaitsForOne ctx.new probe) }
-    ensures memory { WaitsForNone ctx.new probe → IsKnownFew End ctx.new probe
+    ensures memory { WaitsForNone ctx.new probe → IsKnownFew Stop ctx.new probe
         → IfErr result (λ e. e ≢ OutOfMemory) }
     ensures refused { IfErr result
         (IsFaultByFiles (as_read_if_known compressed (F.files files.now)) ctx.old probe) }
@@ -104,7 +104,7 @@ pub(crate) fn answer_loads<F: FileSource>(
     ensures last { probe ≡ last_address → IsUncovered ctx.old probe }
 {
     loop {
-        ctx.walk(probe, OnFault::End)?;
+        ctx.walk(probe, OnFault::Stop)?;
         match ctx.waits_for() {
             Some(number) => answer_load(alloc, files, compressed, kept, ctx, probe, number)?,
             None => return Ok(()),

@@ -6,7 +6,7 @@ ghost use Rattle.gimli_read.specs.declared.error.Error.TheVariants.{OutOfMemory}
 ghost use Rattle.gimli_read.specs.Reading.{ExactlyUnlessOom, result_map};
 ghost use Rattle.addr2line_lines.specs.SeenLocation.{seen_location};
 ghost use Rattle.addr2line_units.specs.FramesLeft.{frames_left};
-ghost use Rattle.addr2line_units.specs.FramesLookup.{Stop, is_waiting};
+ghost use Rattle.addr2line_units.specs.FramesLookup.{LookupStop, is_waiting};
 ghost use Rattle.addr2line_units.specs.LocationsLeft.{locations_left};
 ghost use Rattle.gimli_read.specs.Alike.{WasNotRefused};
 ghost use Rattle.addr2line_lines.specs.RangesLeft.{seen_located};
@@ -184,7 +184,7 @@ pub(crate) fn frames_reply<R: Reader>(
     alloc: Global,
     frames: Result<FrameIter<'_, R>, Error>,
 ) -> Result<Reply, Error>
-    ensures gives { (stop : Result Stop Error)
+    ensures gives { (stop : Result LookupStop Error)
         → ExactlyUnlessOom (λ i. Some (frames_left i)) frames.entry (frames_of_stop stop)
         → IfOk result (λ r. (seen_reply r ≡ reply_of_frames stop) × (is_waiting stop ≡ false)) }
     ensures told { OnOk result (WasNotRefused frames.entry) }
@@ -214,7 +214,7 @@ fn found_unit<R: Reader>(found: UnitRef<'_, R>) -> FoundUnit
 pub(crate) fn unit_reply<R: Reader>(
     unit: Result<Option<UnitRef<'_, R>>, Error>,
 ) -> Result<Reply, Error>
-    ensures gives { (stop : Result Stop Error) (given : UnitResult)
+    ensures gives { (stop : Result LookupStop Error) (given : UnitResult)
         → ExactlyUnlessOom seen_found unit.entry given
         → (is_waiting stop ≡ true → given ≡ Ok None)
         → IfOk result (λ r. (seen_reply r ≡ reply_of_unit stop given)

@@ -186,6 +186,10 @@ impl HostFiles {
     }
 }
 
+// How many bytes are read at once. Room that is read into has to be cleared first: a piece of this
+// size stays in the processor's cache, where clearing all of a part goes through memory once more.
+const PIECE_LEN: usize = 64 * 1024;
+
 // A regular file of the host that is open, and how many bytes it says it has.
 #[derive(Drop)]
 struct HostFile {
@@ -199,12 +203,23 @@ impl PartSource for HostFile {
     }
 
     fn part(&self, alloc: Global, start: u64, len: usize) -> Result<Option<Vec<u8>>, AllocError> {
-        let mut bytes = Vec::from_elem(alloc, 0u8, len)?;
-        match self.file.read_exact_at(bytes.as_mut_slice(), start) {
-            Ok(()) => Ok(Some(bytes)),
-            Err(error) if error.kind() == ErrorKind::OutOfMemory => Err(AllocError),
-            Err(_) => Ok(None),
+        let mut bytes = Vec::with_capacity(alloc, len)?;
+        let mut room = Vec::from_elem(alloc, 0u8, len.min(PIECE_LEN))?;
+        let mut left = len;
+        let mut at = start;
+        while left > 0 {
+            let count = left.min(PIECE_LEN);
+            let piece = &mut room.as_mut_slice()[..count];
+            match self.file.read_exact_at(piece, at) {
+                Ok(()) => {}
+                Err(error) if error.kind() == ErrorKind::OutOfMemory => return Err(AllocError),
+                Err(_) => return Ok(None),
+            }
+            bytes.extend_from_slice(piece)?;
+            at = at.saturating_add(count as u64);
+            left -= count;
         }
+        Ok(Some(bytes))
     }
 }
 

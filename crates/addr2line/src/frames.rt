@@ -3,7 +3,7 @@
 ghost use Rattle.std.specs.Prelude.{◌≡◌, Some};
 ghost use Rattle.std.specs.Borrow.{sem};
 ghost use Rattle.gimli_read.specs.Reading.{ExactlyUnlessOom};
-ghost use Rattle.addr2line_units.specs.declared.frames_lookup.OnFault.TheVariants.{End};
+ghost use Rattle.addr2line_units.specs.declared.frames_lookup.OnFault.TheVariants.{Stop};
 ghost use Rattle.addr2line_units.specs.FramesLeft.{frames_left};
 ghost use Rattle.addr2line_lines.specs.LastAddress.{last_address};
 ghost use Rattle.addr2line_units.specs.Suspended.{IfLoad, IfOutput, IsOkOutput};
@@ -27,10 +27,10 @@ use gimli::read::Reader;
 pub struct Frames;
 
 impl LookupKind for Frames {
-    ghost faults = { End };
+    ghost faults = { Stop };
 
     fn on_fault() -> OnFault {
-        OnFault::End
+        OnFault::Stop
     }
 }
 
@@ -75,9 +75,9 @@ impl<R: Reader> Context<R> {
     /// lookup waits for.
     pub fn find_frames(&mut self, probe: u64) -> LookupResult<FramesLookup<'_, R>>
         ensures* ends { sem 𝓛 (RestsAs (λ c. c.ctx.ghost_name) R.row R.Reader self.entry
-            result (λ o n. AfterFramesOver R.shares End probe o self.old n)) }
+            result (λ o n. AfterFramesOver R.shares Stop probe o self.old n)) }
         ensures load { IfLoad result (λ c.
-            SuspendsIn End self.entry probe c.ctx c.probe c.number c.load) }
+            SuspendsIn Stop self.entry probe c.ctx c.probe c.number c.load) }
         ensures output { IfOutput result (λ o. ExactlyUnlessOom (λ i. Some (frames_left i)) o
             (frames_of_context self.old probe)) }
         ensures last { probe ≡ last_address → IsOkOutput result }

@@ -22,11 +22,11 @@ pub trait LookupKind: Drop {
 /// A value that stores what its last lookup has come to.
 pub trait LastLookup {
     ghost use Rattle.std.specs.Prelude.{Option};
-    ghost use Rattle.addr2line_units.specs.FramesLookup.{Stop};
+    ghost use Rattle.addr2line_units.specs.FramesLookup.{LookupStop};
     ghost use Rattle.addr2line_units.specs.Views.{View};
 
     // What it has come to.
-    ghost last_stop: { Self → Stop };
+    ghost last_stop: { Self → LookupStop };
 
     // The view of the unit in which it has found something, if it has found something.
     ghost last_view: { Self → Option View };
@@ -41,7 +41,7 @@ impl<R: Reader> LastLookup for Context<R> {
 /// What a kind of lookup lends of a context `C`.
 pub trait Lent<'ctx, C: LastLookup>: LookupKind {
     ghost use Rattle.std.specs.Prelude.{Option};
-    ghost use Rattle.addr2line_units.specs.FramesLookup.{Stop};
+    ghost use Rattle.addr2line_units.specs.FramesLookup.{LookupStop};
     ghost use Rattle.addr2line_units.specs.Views.{View};
 
     /// What a lookup has found.
@@ -54,7 +54,7 @@ pub trait Lent<'ctx, C: LastLookup>: LookupKind {
     ghost see: { Self.Found → Value };
 
     // What is found, by what a lookup has come to and the view in which it has found something.
-    ghost value_of: { Stop → Option View → Value };
+    ghost value_of: { LookupStop → Option View → Value };
 
     /// What the last lookup has found, nothing where it waits. Takes no memory.
     fn found(ctx: &'ctx C) -> Self::Found

@@ -10,7 +10,7 @@ ghost use Rattle.elf.specs.Symbols.{NamedAddress, named_address, symbol_at};
 ghost use Rattle.gimli.specs.Sections.{Sections, SupSections};
 ghost use Rattle.addr2line_lines.specs.LastAddress.{last_address};
 ghost use Rattle.addr2line_lines.specs.SeenLocation.{seen_location};
-ghost use Rattle.addr2line_units.specs.declared.frames_lookup.OnFault.TheVariants.{End};
+ghost use Rattle.addr2line_units.specs.declared.frames_lookup.OnFault.TheVariants.{Stop};
 ghost use Rattle.addr2line_units.specs.FramesLeft.{frames_left};
 ghost use Rattle.addr2line_units.specs.Located.{location_of, spans_of};
 ghost use Rattle.addr2line_units.specs.LocationsLeft.{locations_left};
@@ -340,7 +340,7 @@ impl<F: FileSource> LoaderOver<F> {
         ensures ended { WaitsForNone self.old.context probe → LoadsUnlessOom frames_left result
             (ended_frames_of self.old.context probe) }
         ensures exact { WaitsForNone self.old.context probe
-            → IsKnownFew End self.old.context probe
+            → IsKnownFew Stop self.old.context probe
             → Exactly frames_left result (ended_frames_of self.old.context probe) }
         ensures last { probe ≡ last_address → Exactly frames_left result (Ok []) }
         ensures* kept { sem 𝓛 (LoaderEndsAs F.row F.files self.entry

@@ -2,7 +2,7 @@
 
 ghost use Rattle.std.specs.Prelude.{◌≡◌, Err, IfErr, OnOk};
 ghost use Rattle.gimli_read.specs.Reading.{IsUnlessOom};
-ghost use Rattle.addr2line_units.specs.declared.parses.ReadingDepth.TheVariants as kinds;
+ghost use Rattle.addr2line_units.specs.declared.parses.ReadingDepth.TheVariants as depths;
 ghost use Rattle.addr2line.specs.Loads.{AfterParse, IsAllKnown, ReachesAllOf, ReadsFunctionsNoMemory, parse_reply};
 
 use crate::context::Context;
@@ -11,16 +11,16 @@ use gimli::read::{Error, Reader};
 
 impl<R: Reader> Context<R> {
     // Reads the functions of all units, with or without their details.
-    fn read_functions(&mut self, reads: ReadingDepth) -> Result<(), Error>
+    fn read_functions(&mut self, depth: ReadingDepth) -> Result<(), Error>
         ensures gives { IsUnlessOom result
-            (parse_reply reads self.old.sections self.old.answers) }
-        ensures after { AfterParse reads result self.old self.new }
-        ensures no_memory { ReadsFunctionsNoMemory R.shares reads self.new → IfErr result
-            (λ e. parse_reply reads self.old.sections self.old.answers ≡ Err e) }
-        ensures known { reads ≡ kinds.Details → OnOk result (IsAllKnown self.new) }
-        ensures reaches { reads ≡ kinds.Details → OnOk result (ReachesAllOf self.new) }
+            (parse_reply depth self.old.sections self.old.answers) }
+        ensures after { AfterParse depth result self.old self.new }
+        ensures no_memory { ReadsFunctionsNoMemory R.shares depth self.new → IfErr result
+            (λ e. parse_reply depth self.old.sections self.old.answers ≡ Err e) }
+        ensures known { depth ≡ depths.Details → OnOk result (IsAllKnown self.new) }
+        ensures reaches { depth ≡ depths.Details → OnOk result (ReachesAllOf self.new) }
     {
-        self.units.read_functions(reads)
+        self.units.read_functions(depth)
     }
 
     /// Parses the functions of all units in their order, up to the first fault, and caches them,
@@ -36,10 +36,10 @@ impl<R: Reader> Context<R> {
     /// Source: DWARF 5, section 3.3.
     pub fn parse_functions(&mut self) -> Result<(), Error>
         ensures gives { IsUnlessOom result
-            (parse_reply kinds.Functions self.old.sections self.old.answers) }
-        ensures after { AfterParse kinds.Functions result self.old self.new }
-        ensures no_memory { ReadsFunctionsNoMemory R.shares kinds.Functions self.new → IfErr result
-            (λ e. parse_reply kinds.Functions self.old.sections self.old.answers ≡ Err e) }
+            (parse_reply depths.Functions self.old.sections self.old.answers) }
+        ensures after { AfterParse depths.Functions result self.old self.new }
+        ensures no_memory { ReadsFunctionsNoMemory R.shares depths.Functions self.new → IfErr result
+            (λ e. parse_reply depths.Functions self.old.sections self.old.answers ≡ Err e) }
     {
         self.read_functions(ReadingDepth::Functions)
     }
@@ -57,10 +57,10 @@ impl<R: Reader> Context<R> {
     /// Source: DWARF 5, sections 3.3 and 3.3.8.
     pub fn parse_inlined_functions(&mut self) -> Result<(), Error>
         ensures gives { IsUnlessOom result
-            (parse_reply kinds.Details self.old.sections self.old.answers) }
-        ensures after { AfterParse kinds.Details result self.old self.new }
-        ensures no_memory { ReadsFunctionsNoMemory R.shares kinds.Details self.new → IfErr result
-            (λ e. parse_reply kinds.Details self.old.sections self.old.answers ≡ Err e) }
+            (parse_reply depths.Details self.old.sections self.old.answers) }
+        ensures after { AfterParse depths.Details result self.old self.new }
+        ensures no_memory { ReadsFunctionsNoMemory R.shares depths.Details self.new → IfErr result
+            (λ e. parse_reply depths.Details self.old.sections self.old.answers ≡ Err e) }
         ensures known { OnOk result (IsAllKnown self.new) }
         ensures reaches { OnOk result (ReachesAllOf self.new) }
     {

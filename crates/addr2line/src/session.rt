@@ -2,7 +2,7 @@
 
 ghost use Rattle.std.specs.Prelude.{◌≡◌, IfErr, IfOk, map, option_map};
 ghost use Rattle.gimli_read.specs.declared.error.Error.TheVariants.{OutOfMemory};
-ghost use Rattle.addr2line_units.specs.declared.parses.ReadingDepth.TheVariants as kinds;
+ghost use Rattle.addr2line_units.specs.declared.parses.ReadingDepth.TheVariants as depths;
 ghost use Rattle.addr2line_units.specs.Loads.{token_number};
 ghost use Rattle.addr2line_units.specs.Located.{location_of, spans_of};
 ghost use Rattle.addr2line.specs.Context.{lines_of_all};
@@ -226,18 +226,18 @@ fn replay_lines<R: Reader>(context: &mut Context<R>) -> Result<Reply, Error>
 
 // `parse_functions`.
 fn replay_functions<R: Reader>(context: &mut Context<R>) -> Result<Reply, Error>
-    ensures gives { IfOk result (λ r. seen_reply r ≡ Ended (parse_reply kinds.Functions
+    ensures gives { IfOk result (λ r. seen_reply r ≡ Ended (parse_reply depths.Functions
         context.old.sections context.old.answers)) }
-    ensures after { AfterCall (ParsesFunctions kinds.Functions) result context.old context.new }
+    ensures after { AfterCall (ParsesFunctions depths.Functions) result context.old context.new }
 {
     done_reply(context.parse_functions())
 }
 
 // `parse_inlined_functions`.
 fn replay_details<R: Reader>(context: &mut Context<R>) -> Result<Reply, Error>
-    ensures gives { IfOk result (λ r. seen_reply r ≡ Ended (parse_reply kinds.Details
+    ensures gives { IfOk result (λ r. seen_reply r ≡ Ended (parse_reply depths.Details
         context.old.sections context.old.answers)) }
-    ensures after { AfterCall (ParsesFunctions kinds.Details) result context.old context.new }
+    ensures after { AfterCall (ParsesFunctions depths.Details) result context.old context.new }
 {
     done_reply(context.parse_inlined_functions())
 }

@@ -2,7 +2,7 @@
 
 ghost use Rattle.std.specs.Prelude.{◌≡◌, IfErr, None, OnOk};
 ghost use Rattle.gimli_read.specs.declared.error.Error.TheVariants.{OutOfMemory};
-ghost use Rattle.addr2line_units.specs.declared.frames_lookup.OnFault.TheVariants.{PassOver};
+ghost use Rattle.addr2line_units.specs.declared.frames_lookup.OnFault.TheVariants.{Skip};
 ghost use Rattle.addr2line.specs.AfterLookups.{IsStored};
 ghost use Rattle.addr2line_units.specs.UnitsState.{waiting_unit};
 ghost use Rattle.addr2line.specs.Skips.{AfterSkip};
@@ -16,7 +16,7 @@ impl<R: Reader> Context<R> {
     // asks for is read and cached.
     pub(crate) fn skip_loads(&mut self, probe: u64, faults: OnFault) -> Result<(), Error>
         ensures gives { IsStored faults probe result self.new }
-        ensures refused { faults ≡ PassOver → IfErr result (λ e. e ≡ OutOfMemory) }
+        ensures refused { faults ≡ Skip → IfErr result (λ e. e ≡ OutOfMemory) }
         ensures ended { OnOk result (waiting_unit self.new.stop ≡ None) }
         ensures after { AfterSkip R.shares faults probe result self.old self.new }
     {

@@ -4,7 +4,7 @@ ghost use Rattle.std.specs.Prelude.{◌≡◌, IfErr, IfOk};
 ghost use Rattle.gimli_read.specs.declared.error.Error.TheVariants.{OutOfMemory};
 ghost use Rattle.gimli_read.specs.Alike.{WasNotRefused};
 ghost use Rattle.addr2line_lines.specs.LastAddress.{last_address};
-ghost use Rattle.addr2line_units.specs.declared.frames_lookup.OnFault.TheVariants.{PassOver};
+ghost use Rattle.addr2line_units.specs.declared.frames_lookup.OnFault.TheVariants.{Skip};
 ghost use Rattle.addr2line_units.specs.FramesLeft.{frames_left};
 ghost use Rattle.addr2line_units.specs.FramesLookup.{Waits, frames_found};
 ghost use Rattle.addr2line_units.specs.SeenUnit.{seen_unit};
@@ -25,7 +25,7 @@ impl<R: Reader> Context<R> {
     // Stores what a lookup comes to. What it asks for is read and cached.
     pub(crate) fn walk(&mut self, probe: u64, faults: OnFault) -> Result<(), Error>
         ensures gives { IsStored faults probe result self.new }
-        ensures refused { faults ≡ PassOver → IfErr result (λ e. e ≡ OutOfMemory) }
+        ensures refused { faults ≡ Skip → IfErr result (λ e. e ≡ OutOfMemory) }
         ensures last { probe ≡ last_address → IsUncovered self.old probe }
         ensures after { AfterFrames faults probe result self.old self.new }
         ensures memory { IsKnownFew faults self.new probe → WasNotRefused result }

@@ -4,7 +4,7 @@ ghost use Rattle.std.specs.Prelude.{◌≡◌, ◌<◌, None, Some, IfErr, optio
 ghost use Rattle.std.specs.Borrow.{sem};
 ghost use Rattle.gimli_read.specs.declared.error.Error.TheVariants.{OutOfMemory};
 ghost use Rattle.gimli_read.specs.Reading.{ExactlyUnlessOom};
-ghost use Rattle.addr2line_units.specs.declared.frames_lookup.OnFault.TheVariants.{PassOver};
+ghost use Rattle.addr2line_units.specs.declared.frames_lookup.OnFault.TheVariants.{Skip};
 ghost use Rattle.addr2line_lines.specs.LastAddress.{last_address};
 ghost use Rattle.addr2line_units.specs.Suspended.{IfLoad, IfOutput, SkipsTo};
 ghost use Rattle.addr2line.specs.Answers.{AfterResume};
@@ -164,7 +164,7 @@ fn lend<'ctx, R: Reader, K: Lent<'ctx, Context<R>>>(
     walked: Result<(), Error>,
 ) -> LookupResult<Suspended<'ctx, R, K, SplitDwarfLoad<R>>>
     requires stored { IsStored K.faults probe walked ctx.old }
-    requires refused { K.faults ≡ PassOver → IfErr walked (λ e. e ≡ OutOfMemory) }
+    requires refused { K.faults ≡ Skip → IfErr walked (λ e. e ≡ OutOfMemory) }
     ensures* ends { sem 𝓛 (RestsAs (λ c. c.ctx.ghost_name) R.row R.Reader ctx.entry result
         (λ o n. (n ≡ ctx.old) × IsLent walked ctx.old.stop o)) }
     ensures load { IfLoad result (λ c.

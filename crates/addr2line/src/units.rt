@@ -4,7 +4,7 @@ ghost use Rattle.std.specs.Prelude.{◌≡◌, IfErr, option_map};
 ghost use Rattle.std.specs.Borrow.{sem};
 ghost use Rattle.gimli_read.specs.declared.error.Error.TheVariants.{OutOfMemory};
 ghost use Rattle.gimli_read.specs.Reading.{ExactlyUnlessOom};
-ghost use Rattle.addr2line_units.specs.declared.frames_lookup.OnFault.TheVariants.{PassOver};
+ghost use Rattle.addr2line_units.specs.declared.frames_lookup.OnFault.TheVariants.{Skip};
 ghost use Rattle.addr2line_units.specs.SeenUnit.{seen_found, seen_unit};
 ghost use Rattle.addr2line_lines.specs.LastAddress.{last_address};
 ghost use Rattle.addr2line_units.specs.Suspended.{IfLoad, IfOutput, IsOkOutput};
@@ -28,10 +28,10 @@ use gimli::read::Reader;
 pub struct DwarfAndUnit;
 
 impl LookupKind for DwarfAndUnit {
-    ghost faults = { PassOver };
+    ghost faults = { Skip };
 
     fn on_fault() -> OnFault {
-        OnFault::PassOver
+        OnFault::Skip
     }
 }
 
@@ -76,9 +76,9 @@ impl<R: Reader> Context<R> {
     /// lookup waits for.
     pub fn find_dwarf_and_unit(&mut self, probe: u64) -> LookupResult<UnitLookup<'_, R>>
         ensures* ends { sem 𝓛 (RestsAs (λ c. c.ctx.ghost_name) R.row R.Reader self.entry
-            result (λ o n. AfterFramesOver R.shares PassOver probe o self.old n)) }
+            result (λ o n. AfterFramesOver R.shares Skip probe o self.old n)) }
         ensures load { IfLoad result (λ c.
-            SuspendsIn PassOver self.entry probe c.ctx c.probe c.number
+            SuspendsIn Skip self.entry probe c.ctx c.probe c.number
             c.load) }
         ensures output { IfOutput result
             (λ o. ExactlyUnlessOom seen_found o (unit_of_context self.old probe)) }

@@ -12,7 +12,7 @@ use Rattle.addr2line_lines.specs.LastAddress.{last_address}
 use Rattle.addr2line_lines.specs.Location.{Location}
 use Rattle.addr2line_units.specs.declared.index.UnitRange.{UnitRange}
 use Rattle.addr2line_units.specs.Cover.{cover}
-use Rattle.addr2line_units.specs.declared.frames_lookup.OnFault.TheVariants.{End}
+use Rattle.addr2line_units.specs.declared.frames_lookup.OnFault.TheVariants.{Stop}
 use Rattle.addr2line_units.specs.Frames.{FrameRecord}
 use Rattle.addr2line_units.specs.FramesLookup.{is_waiting}
 use Rattle.addr2line_units.specs.Located.{location_in, location_of}
@@ -75,7 +75,7 @@ same_answers old new files object s = record {
     subst (λ d. IfSome old.files (λ held. LoadsUnlessOom (λ frames. frames) given (frames_by_files held d old.context.answers address))) s.sections
         (subst (λ x. IfSome old.files (λ held. LoadsUnlessOom (λ frames. frames) given (frames_by_files held new.context.sections x address))) s.answers
         (subst (λ (f : Option ReadFiles). IfSome f (λ held. LoadsUnlessOom (λ frames. frames) given (frames_by_files held new.context.sections new.context.answers address))) files h.0)),
-    ended_before old.context new.context (λ q w. ap (λ d. lookup_stop End d new.context.answers q) s.sections ∙ ap (λ x. lookup_stop End old.context.sections x q) s.answers) address given h.1,
+    ended_before old.context new.context (λ q w. ap (λ d. lookup_stop Stop d new.context.answers q) s.sections ∙ ap (λ x. lookup_stop Stop old.context.sections x q) s.answers) address given h.1,
     λ bare. h.2 (bare_later old.context new.context s.sections address bare),
   );
   symbol_at = ap (λ (o : ObjectFile). λ (address : ℕ). option_map (λ (x : NamedAddress). x.name) (symbol_at address o)) object;
@@ -123,7 +123,7 @@ by_files view None c address r h = tt
 by_files view (Some held) c address r h = seen_unless view r (frames_by_files held c.sections c.answers address) h
 
 -- a lookup gives none where no unit covers the address
-gives_none : {X : Type 0} (view : X → List FrameRecord) (c : ContextState) (address : ℕ) (r : Loading X) → IsUncovered c address → (WaitsForNone c address → IsKnownFew End c address → Exactly view r (ended_frames_of c address))
+gives_none : {X : Type 0} (view : X → List FrameRecord) (c : ContextState) (address : ℕ) (r : Loading X) → IsUncovered c address → (WaitsForNone c address → IsKnownFew Stop c address → Exactly view r (ended_frames_of c address))
     → Exactly view r (Ok [])
 gives_none view c address (Ok x) u exact = last_frames address c u (Ok (view x)) exact
 gives_none view c address (Err e) u exact = last_frames address c u (Err e) exact
@@ -131,7 +131,7 @@ gives_none view c address (Err e) u exact = last_frames address c u (Err e) exac
 -- frames, as they are seen
 pub gives_frames : {X : Type 0} (view : X → List FrameRecord) (l : LoaderState) (address : ℕ) (r : Loading X) → IfSome l.files (λ held. LoadsUnlessOom view r (frames_by_files held l.context.sections l.context.answers address))
     → (WaitsForNone l.context address → LoadsUnlessOom view r (ended_frames_of l.context address)) → (address ≡ last_address → Exactly view r (Ok []))
-    → (WaitsForNone l.context address → IsKnownFew End l.context address → Exactly view r (ended_frames_of l.context address)) → MayGiveBy l address (result_map view r)
+    → (WaitsForNone l.context address → IsKnownFew Stop l.context address → Exactly view r (ended_frames_of l.context address)) → MayGiveBy l address (result_map view r)
 gives_frames view l address r h ended last exact = (
   by_files view l.files l.context address r h,
   λ w. seen_unless view r (ended_frames_of l.context address) (ended w),

@@ -5,7 +5,7 @@ use Rattle.gimli_read.specs.Alike.{WasNotRefused}
 use Rattle.gimli_read.specs.Reading.{result_map}
 use Rattle.elf.specs.declared.error.LoaderError.TheVariants.{OutOfMemory}
 use Rattle.elf.specs.Text.{loader_error_of}
-use Rattle.addr2line_units.specs.declared.frames_lookup.OnFault.TheVariants.{End}
+use Rattle.addr2line_units.specs.declared.frames_lookup.OnFault.TheVariants.{Stop}
 use Rattle.addr2line_units.specs.Located.{is_found}
 use Rattle.addr2line.specs.AfterLookups.{AfterFrames, AfterFramesOver, IsKnownFew}
 use Rattle.addr2line.specs.Context.{AfterLookup, AfterRangeLookup, ContextState, IsReady, IsReadyForRange}
@@ -125,8 +125,8 @@ range_had_memory low high fits s r old new is a ready = had_memory_reply fits r 
 
 -- the same of frames
 frames_came : {X : Type 0} (probe : ℕ) (r : Result X Error) (old new : ContextState)
-    → AfterFrames End probe r old new
-    → AfterFrames End probe (found_some r) old new
+    → AfterFrames Stop probe r old new
+    → AfterFrames Stop probe (found_some r) old new
 frames_came probe (Ok x) old new a = record {
   sections = a.sections;
   answers = a.answers;
@@ -155,14 +155,14 @@ frames_came probe (Err e) old new a = record {
 pub leaves_frames : {X : Type 0} (shares : Bool) (probe : ℕ) (fits : Bool) (s : Status) (r : Result X Error)
     (old new : ContextState)
     → (s ≡ Refused OutOfMemory) ⊎ (s ≡ status_by Waits fits (found_some r))
-    → AfterFramesOver shares End probe r old new → LeavesFrames probe fits s old new
+    → AfterFramesOver shares Stop probe r old new → LeavesFrames probe fits s old new
 leaves_frames shares probe fits s r old new is a =
     record { came = found_some r; status = is; after = frames_came probe r old new a.after }
 
 -- a lookup that waits has left the context so
 pub leaves_waiting : (probe : ℕ) (fits : Bool) (s : Status) (old new held : ContextState)
     → (s ≡ Refused OutOfMemory) ⊎ (s ≡ Waits) → new ≡ held
-    → AfterFrames {X = Unit {0}} End probe (Ok tt) old held → LeavesFrames probe fits s old new
+    → AfterFrames {X = Unit {0}} Stop probe (Ok tt) old held → LeavesFrames probe fits s old new
 leaves_waiting probe fits s old new held is same a =
     subst (λ n. LeavesFrames probe fits s old n) (sym same) (record {
       came = Ok None;
@@ -183,11 +183,11 @@ leaves_waiting probe fits s old new held is same a =
 
 pub frames_had_memory : {X : Type 0} (shares : Bool) (probe : ℕ) (fits : Bool) (s : Status) (r : Result X Error)
     (old new : ContextState) → s ≡ status_by Waits fits (found_some r)
-    → AfterFramesOver shares End probe r old new → WaitsForNone old probe → IsKnownFew End old probe
+    → AfterFramesOver shares Stop probe r old new → WaitsForNone old probe → IsKnownFew Stop old probe
     → s ≢ Refused OutOfMemory
 frames_had_memory {X} shares probe fits s r old new is a ended few =
     had_memory Waits fits (found_some r) s (λ q. absurd cc) is (by r a.after)
   where
-    by : (r : Result X Error) → AfterFrames End probe r old new → WasNotRefused (found_some r)
+    by : (r : Result X Error) → AfterFrames Stop probe r old new → WasNotRefused (found_some r)
     by (Ok x) b = tt
     by (Err e) b = b.memory (few_stays probe old new b.sections b.answers b.known b.parsed few) ended

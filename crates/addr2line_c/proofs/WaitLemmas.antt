@@ -1,7 +1,7 @@
 -- What lookups that wait say (on addr2line's specs/WaitingLookups.antt).
 use Rattle.std.proofs.Common.{◌≡◌, ℕ, Ok, None, ap}
 use Rattle.std.specs.Borrow.{MutBor}
-use Rattle.addr2line_units.specs.declared.frames_lookup.OnFault.TheVariants.{End}
+use Rattle.addr2line_units.specs.declared.frames_lookup.OnFault.TheVariants.{Stop}
 use Rattle.addr2line_units.specs.Views.{SplitLoad}
 use Rattle.addr2line.specs.Context.{ContextState}
 use Rattle.addr2line.specs.Lookups.{frames_of_stop}
@@ -10,7 +10,7 @@ use Rattle.addr2line.specs.WaitingLookups.{SuspendsIn, frames_of_context}
 
 -- a lookup that waits has no frames yet
 pub waits_for_frames : (context : MutBor ContextState) (probe : ℕ) (held : MutBor ContextState)
-    (at number : ℕ) (load : SplitLoad) → SuspendsIn End context probe held at number load
+    (at number : ℕ) (load : SplitLoad) → SuspendsIn Stop context probe held at number load
     → of_file (frames_of_context context.now probe) ≡ Ok None
 waits_for_frames context probe held at number load so =
     ap (λ stop. of_file (frames_of_stop stop)) so.2.waits

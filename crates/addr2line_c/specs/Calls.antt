@@ -5,7 +5,7 @@ use Rattle.elf.specs.declared.error.LoaderError.{LoaderError}
 use Rattle.elf.specs.declared.error.LoaderError.TheVariants.{OutOfMemory}
 use Rattle.elf.specs.Sections.{section_range_at}
 use Rattle.elf.specs.Symbols.{symbol_at}
-use Rattle.addr2line_units.specs.declared.frames_lookup.OnFault.TheVariants.{End}
+use Rattle.addr2line_units.specs.declared.frames_lookup.OnFault.TheVariants.{Stop}
 use Rattle.addr2line_units.specs.Located.{location_of}
 use Rattle.addr2line.specs.declared.compressed.CompressedSections.TheVariants as compressed
 use Rattle.addr2line.specs.AfterLookups.{IsKnownFew}
@@ -72,7 +72,7 @@ pub record FramesAt (probe : ℕ) (demangles : Bool) (out : List WrittenFrame) (
       old.context new.context
   pub asks : AsksIfWaiting probe old.context old.loads.loads.items new.loads.loads.items s
   pub memory : demangles ≡ false → WaitsForNone old.context probe
-      → IsKnownFew End old.context probe → s ≢ Refused OutOfMemory
+      → IsKnownFew Stop old.context probe → s ≢ Refused OutOfMemory
   pub others : ChangesLoads old new
 
 -- the rows that a range of addresses meets were looked up, from a place on, so many at most

@@ -5,7 +5,7 @@ use Rattle.std.specs.Prelude.{◌≡◌, ◌⊎◌, ℕ, Bool, List, Option, Som
 use Rattle.gimli_read.specs.declared.error.Error.{Error}
 use Rattle.gimli_read.specs.Reading.{result_map}
 use Rattle.elf.specs.declared.error.LoaderError.TheVariants.{OutOfMemory}
-use Rattle.addr2line_units.specs.declared.frames_lookup.OnFault.TheVariants.{End}
+use Rattle.addr2line_units.specs.declared.frames_lookup.OnFault.TheVariants.{Stop}
 use Rattle.addr2line_units.specs.FramesLookup.{Waits as WaitsFor}
 use Rattle.addr2line_units.specs.Views.{SplitLoad}
 use Rattle.addr2line.specs.AfterLookups.{AfterFrames}
@@ -52,7 +52,7 @@ pub record LeavesFrames (probe : ℕ) (fits : Bool) (s : Status) (old new : Cont
     : Type 0 where
   pub came : Result (Option (Unit {0})) Error
   pub status : (s ≡ Refused OutOfMemory) ⊎ (s ≡ status_by Waits fits came)
-  pub after : AfterFrames End probe came old new
+  pub after : AfterFrames Stop probe came old new
 
 -- a lookup of the frames at the probe that waits has asked for the load of the unit that it waits
 -- for, and any other has asked for none
@@ -60,6 +60,6 @@ module _ {R : Type 0} where
   abbrev pub AsksIfWaiting : ℕ → ContextState → List (AskedLoad R) → List (AskedLoad R) → Status
       → Type 0
   AsksIfWaiting probe c asked left Waits = (n : ℕ) × (load : SplitLoad)
-      × (lookup_stop End c.sections c.answers probe ≡ Ok (WaitsFor n)) × IsLoadOf c.sections n load
+      × (lookup_stop Stop c.sections c.answers probe ≡ Ok (WaitsFor n)) × IsLoadOf c.sections n load
       × (left ≡ with_load asked load)
   AsksIfWaiting probe c asked left s = left ≡ asked

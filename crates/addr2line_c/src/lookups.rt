@@ -2,7 +2,7 @@
 
 ghost use Rattle.std.specs.Prelude.{◌≡◌, ◌≢◌, ◌&&◌, false, length, nat_le};
 ghost use Rattle.elf.specs.declared.error.LoaderError.TheVariants.{OutOfMemory};
-ghost use Rattle.addr2line_units.specs.declared.frames_lookup.OnFault.TheVariants.{End};
+ghost use Rattle.addr2line_units.specs.declared.frames_lookup.OnFault.TheVariants.{Stop};
 ghost use Rattle.addr2line_units.specs.Located.{location_of};
 ghost use Rattle.addr2line.specs.AfterLookups.{IsKnownFew};
 ghost use Rattle.addr2line.specs.Context.{IsReady};
@@ -65,7 +65,7 @@ pub(crate) fn find_frames<R: Reader>(
     ensures asks { AsksIfWaiting probe context.old loads.old.loads.items loads.new.loads.items
         result }
     ensures memory { demangles ≡ false → WaitsForNone context.old probe
-        → IsKnownFew End context.old probe → result ≢ Refused OutOfMemory }
+        → IsKnownFew Stop context.old probe → result ≢ Refused OutOfMemory }
 {
     match context.find_frames(probe) {
         LookupResult::Output(found) => {

@@ -21,7 +21,7 @@ use Rattle.addr2line_lines.specs.FoundDetails.{detail_found_at}
 use Rattle.addr2line_lines.specs.InlinedOrder.{inlined_sooner, place, place_begin, place_end, places_chain, places_of_depth, places_within}
 use Rattle.addr2line_lines.specs.InOrder.{IsInOrder, in_order}
 use Rattle.addr2line_lines.specs.CachedDetails.{AreDetailsMore, IsDetailPlace, IsOfEntryBetween, CachedDetails, between, detail_of, listed_ranges}
-use Rattle.addr2line_lines.specs.ManyInlined.{are_many, most_inlined}
+use Rattle.addr2line_lines.specs.InlineRoom.{exceeds_inline_room, inline_room}
 use Rattle.addr2line_lines.specs.Pick.{at_or_below, candidate, if_past, pick}
 use Rattle.addr2line_lines.specs.References.{Scope}
 use Rattle.addr2line_lines.proofs.DetailOrder.{AgreesDetail, detail_agrees}
@@ -237,17 +237,17 @@ module _ (d : CachedDetails) (p : FunctionDetail) (at : IsDetailPlace d p) where
   -- what the search in the run gives is the chain of the details
   module _ (probe : ℕ) (ranges : List InlinedFunctionAddress) (same : ranges ≡ run) {X : Type 0} (items : X → List ℕ) where
     abbrev SearchGives : Result X Error → Type 0
-    SearchGives r = ExactlyUnlessOomIf (are_many (places_chain probe ranges)) items r (Ok (places_chain probe ranges))
+    SearchGives r = ExactlyUnlessOomIf (exceeds_inline_room (places_chain probe ranges)) items r (Ok (places_chain probe ranges))
 
     pub chain_gives : (r : Result X Error) → SearchGives r
-        → ExactlyUnlessOomIf (are_many (inlined_chain probe (detail_of d p).inlined)) (λ x. map (entry_among d.found.entries) (items x)) r (Ok (inlined_chain probe (detail_of d p).inlined))
+        → ExactlyUnlessOomIf (exceeds_inline_room (inlined_chain probe (detail_of d p).inlined)) (λ x. map (entry_among d.found.entries) (items x)) r (Ok (inlined_chain probe (detail_of d p).inlined))
     chain_gives (Ok x) h =
         let is : places_chain probe ranges ≡ items x = cc in
         ap Ok (chain_is probe ∙ ap (λ xs. map (entry_among d.found.entries) (places_chain probe xs)) (sym same) ∙ ap (map (entry_among d.found.entries)) is)
     chain_gives (Err e) h = λ ne.
         let long : length (places_chain probe ranges) ≡ length (inlined_chain probe (detail_of d p).inlined) =
         ap (λ xs. length (places_chain probe xs)) same ∙ sym (length-map (places_chain probe run) (entry_among d.found.entries)) ∙ ap (λ xs. length xs) (sym (chain_is probe)) in
-        let fault : ◌≡◌ {A = Result (List ℕ) Error} (Ok (places_chain probe ranges)) (Err e) = h (λ t. ne (subst (λ n. nat_lt most_inlined n ≡ true) long t)) in
+        let fault : ◌≡◌ {A = Result (List ℕ) Error} (Ok (places_chain probe ranges)) (Err e) = h (λ t. ne (subst (λ n. nat_lt inline_room n ≡ true) long t)) in
         absurd cc
 
     pub chain_items : (r : Result X Error) → SearchGives r → IfOk r (λ x. AllByRecursion (λ n. n < length d.found.entries) (items x))

@@ -22,7 +22,7 @@ use Rattle.addr2line_lines.specs.declared.function.RangeAttributes.{RangeAttribu
 use Rattle.addr2line_lines.specs.InlinedEntries.{InlinedAttributes, with_call_constant, with_inlined_attribute}
 use Rattle.addr2line_lines.specs.FoundAttributes.{IsTakenIn, is_call, or_fault}
 use Rattle.addr2line_lines.specs.FoundNumbers.{is_number_name, with_range_number}
-use Rattle.addr2line_lines.specs.FoundRanges.{is_range_name}
+use Rattle.addr2line_lines.specs.FoundRanges.{is_address_name, is_range_name}
 use Rattle.addr2line_lines.specs.Names.{is_origin, or_referred_name, with_name}
 use Rattle.addr2line_lines.specs.RangeAttributes.{attr_address, with_range_attribute}
 use Rattle.addr2line_lines.specs.References.{Scope, referred}
@@ -85,11 +85,17 @@ as_reference scope u found v n h =
 abbrev pub attribute_of : DwAt → AttributeValue Section → NamedValue
 attribute_of name v = record { name = name; value = v }
 
+-- of one name twice
+twice : (x y : Bool) → (x || y) ≡ true → (x || y || y) ≡ true
+twice true y h = refl
+twice false true h = refl
+twice false false h = absurd cc
+
 -- low_pc or high_pc
-range_number : (d : Sections) (u : UnitRecord) (r : RangeAttributes) (name : DwAt) (v : AttributeValue Section) (n : NumberValue) → number_of v ≡ Some n → is_range_name name ≡ true → is_number_name name ≡ true → with_range_attribute d u r (attribute_of name v) ≡ Ok (with_range_number r name n)
+pub address_number : (d : Sections) (u : UnitRecord) (r : RangeAttributes) (name : DwAt) (v : AttributeValue Section) (n : NumberValue) → number_of v ≡ Some n → is_address_name name ≡ true → with_range_attribute d u r (attribute_of name v) ≡ Ok (with_range_number r name n)
 unfolding with_range_attribute
-range_number d u r name v n h is number =
-    by_range_name (λ k. is_number_name k ≡ true → with_range_attribute d u r (attribute_of k v) ≡ Ok (with_range_number r k n)) (λ _. ap with_low address) (λ _. ap (with_high (constant_of v)) address ∙ ap (λ c. with_high c (Ok (number_address n))) (as_constant v n h)) (λ no. absurd cc) name is number
+address_number d u r name v n h is =
+    by_one_of DW_AT_low_pc DW_AT_high_pc DW_AT_high_pc (λ k. with_range_attribute d u r (attribute_of k v) ≡ Ok (with_range_number r k n)) (ap with_low address) high high name (twice (name.0 == DW_AT_low_pc.0) (name.0 == DW_AT_high_pc.0) is)
   where
     address : attr_address d u v ≡ Ok (number_address n)
     address = as_address d u v n h
@@ -100,6 +106,13 @@ range_number d u r name v n h is number =
     with_high : Option ℕ → Result (Option ℕ) Error → Result RangeAttributes Error
     with_high size a = a >>= λ high. Ok (record r { high_pc = option_or high r.high_pc; size = option_or size r.size })
 
+    high : with_range_attribute d u r (attribute_of DW_AT_high_pc v) ≡ Ok (with_range_number r DW_AT_high_pc n)
+    high = ap (with_high (constant_of v)) address ∙ ap (λ c. with_high c (Ok (number_address n))) (as_constant v n h)
+
+range_number : (d : Sections) (u : UnitRecord) (r : RangeAttributes) (name : DwAt) (v : AttributeValue Section) (n : NumberValue) → number_of v ≡ Some n → is_range_name name ≡ true → is_number_name name ≡ true → with_range_attribute d u r (attribute_of name v) ≡ Ok (with_range_number r name n)
+range_number d u r name v n h is number =
+    by_range_name (λ k. is_number_name k ≡ true → with_range_attribute d u r (attribute_of k v) ≡ Ok (with_range_number r k n)) (λ _. address_number d u r DW_AT_low_pc v n h refl) (λ _. address_number d u r DW_AT_high_pc v n h refl) (λ no. absurd cc) name is number
+
 -- a name of numbers that is of neither a call nor a range is an origin's
 origin_is : (name : DwAt) → is_call name ≡ false → is_range_name name ≡ false → is_number_name name ≡ true → is_origin name ≡ true
 origin_is name c r h =
@@ -107,7 +120,7 @@ origin_is name c r h =
     let q = neither (name.0 == DW_AT_low_pc.0) (name.0 == DW_AT_high_pc.0) p.0 in
     last (is_call name) (name.0 == DW_AT_low_pc.0) (name.0 == DW_AT_high_pc.0) (is_origin name) c q.0 q.1 h
   where
-    last : (w x y z : Bool) → w ≡ false → x ≡ false → y ≡ false → (w || x || y || z) ≡ true → z ≡ true
+    last : (w x y z : Bool) → w ≡ false → x ≡ false → y ≡ false → (w || (x || y) || z) ≡ true → z ≡ true
     last true x y z h k l m = absurd cc
     last false true y z h k l m = absurd cc
     last false false true z h k l m = absurd cc
@@ -116,12 +129,7 @@ origin_is name c r h =
 origin_name : (scope : Scope) (u : UnitRecord) (found : Option Section) (name : DwAt) (v : AttributeValue Section) → is_origin name ≡ true → with_name scope u found (attribute_of name v) ≡ or_referred_name scope u found v
 unfolding with_name
 origin_name scope u found name v is =
-    by_one_of DW_AT_abstract_origin DW_AT_specification DW_AT_specification (λ k. with_name scope u found (attribute_of k v) ≡ or_referred_name scope u found v) refl refl refl name (once_more (name.0 == DW_AT_abstract_origin.0) (name.0 == DW_AT_specification.0) is)
-  where
-    once_more : (x y : Bool) → (x || y) ≡ true → (x || y || y) ≡ true
-    once_more true y h = refl
-    once_more false true h = refl
-    once_more false false h = absurd cc
+    by_one_of DW_AT_abstract_origin DW_AT_specification DW_AT_specification (λ k. with_name scope u found (attribute_of k v) ≡ or_referred_name scope u found v) refl refl refl name (twice (name.0 == DW_AT_abstract_origin.0) (name.0 == DW_AT_specification.0) is)
 
 module _ (scope : Scope) (u : UnitRecord) (x : InlinedAttributes) (name : DwAt) (v : AttributeValue Section) (n : NumberValue) (is : number_of v ≡ Some n) where
   -- a number of a call
@@ -145,6 +153,11 @@ module _ (scope : Scope) (u : UnitRecord) (x : InlinedAttributes) (name : DwAt) 
 pub unfaulted : {X Y : Type 0} (may : Bool) (view : X → Y) (more : Y → Result Y Error) (old new : X) (fault : Option Error) → more (view old) ≡ Ok (view new) → IsTakenIn may view more (or_fault old fault) (or_fault new fault)
 unfaulted may view more old new None h = h
 unfaulted may view more old new (Some e) h = refl
+
+-- the same as one equality
+pub taken_unfaulted : {X : Type 0} (more : X → Result X Error) (old new : X) (fault : Option Error) → more old ≡ Ok new → or_fault new fault ≡ (or_fault old fault >>= more)
+taken_unfaulted more old new None h = sym h
+taken_unfaulted more old new (Some e) h = refl
 
 -- what is given with an attribute, in other words
 pub taken_alike : {X Y : Type 0} (may : Bool) (view : X → Y) (more other : Y → Result Y Error) (old result : Result X Error) → ((y : Y) → more y ≡ other y) → IsTakenIn may view other old result → IsTakenIn may view more old result

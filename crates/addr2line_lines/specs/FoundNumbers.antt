@@ -1,4 +1,4 @@
--- Numbers among the attributes of inlined entries, as the private functions see them.
+-- Numbers among the attributes of functions and inlined entries, as the private functions see them.
 use Rattle.std.specs.Prelude.{◌≡◌, ◌==◌, ◌||◌, Bool, true, Option, Some, None, Result, Ok, Err, if◌then◌else◌}
 use Rattle.std.specs.Option.{option_or}
 use Rattle.gimli_read.specs.declared.constants.DwAt.{DwAt}
@@ -15,14 +15,14 @@ use Rattle.gimli_read.specs.Section.{Section}
 use Rattle.gimli.specs.Unit.{UnitRecord}
 use Rattle.addr2line_lines.specs.declared.function.RangeAttributes.{RangeAttributes}
 use Rattle.addr2line_lines.specs.FoundAttributes.{IsTakenIn, is_call, or_fault}
+use Rattle.addr2line_lines.specs.FoundRanges.{is_address_name}
 use Rattle.addr2line_lines.specs.InlinedEntries.{InlinedAttributes}
 use Rattle.addr2line_lines.specs.Names.{is_origin, or_referred_name}
 use Rattle.addr2line_lines.specs.References.{Scope}
 
 -- whether an attribute's value is mostly a number
 abbrev pub is_number_name : DwAt → Bool
-is_number_name name =
-    is_call name || name.0 == DW_AT_low_pc.0 || name.0 == DW_AT_high_pc.0 || is_origin name
+is_number_name name = is_call name || is_address_name name || is_origin name
 
 -- the ranges with a number as low_pc or high_pc
 abbrev pub with_range_number : RangeAttributes → DwAt → NumberValue → RangeAttributes
@@ -60,17 +60,17 @@ IsNumberRead wanted old left (Ok None) given = left ≡ old
 IsNumberRead wanted old left (Err e) given = given ≡ Err e
 
 -- an attribute was read, and taken in
-pub record IsNextTaken {X Y : Type 0} (may : Bool) (view : X → Y)
-    (more : NamedValue → Y → Result Y Error) (left : Section) (given : Reading NamedValue)
-    (old result : Result X Error) : Type 0 where
+pub record IsNextTaken {X : Type 0} (Taken : NamedValue → Result X Error → Result X Error → Type 0)
+    (left : Section) (given : Reading NamedValue) (old new : Result X Error) : Type 0 where
   pub attribute : NamedValue
   pub is : given ≡ Ok (attribute, left)
-  pub taken : IsTakenIn may view (more attribute) old result
+  pub taken : Taken attribute old new
 
 -- the same, after which there may be a fault of the attribute; or what is given is the fault
-abbrev pub IsNextRead : {X Y : Type 0} → Bool → (X → Y) → (NamedValue → Y → Result Y Error)
-    → Section → Reading NamedValue → Result X Error → X → Result (Option Error) Error → Type 0
-IsNextRead may view more left given old found (Ok fault) =
-    IsNextTaken may view more left given old (or_fault found fault)
-IsNextRead may view more left given old found (Err e) =
+abbrev pub IsNextRead : {X : Type 0} → Bool
+    → (NamedValue → Result X Error → Result X Error → Type 0) → Section → Reading NamedValue
+    → Result X Error → X → Result (Option Error) Error → Type 0
+IsNextRead may Taken left given old found (Ok fault) =
+    IsNextTaken Taken left given old (or_fault found fault)
+IsNextRead may Taken left given old found (Err e) =
     ExactlyUnlessOomIf may (λ (x : NamedValue × Section). x) (Err e) given

@@ -11,6 +11,10 @@ abbrev pub is_range_name : DwAt → Bool
 is_range_name name =
     name.0 == DW_AT_low_pc.0 || name.0 == DW_AT_high_pc.0 || name.0 == DW_AT_ranges.0
 
+-- whether an attribute's value is mostly an address, or how many there are
+abbrev pub is_address_name : DwAt → Bool
+is_address_name name = name.0 == DW_AT_low_pc.0 || name.0 == DW_AT_high_pc.0
+
 -- whether a specification is that of an attribute of ranges
 abbrev pub is_range_specification : Specification → Bool
 is_range_specification x = is_range_name x.name

@@ -49,6 +49,6 @@ pub mod CachedDetails
 pub mod FunctionDetails
 pub mod FunctionTable
 pub mod FunctionCache
-pub mod ManyInlined
+pub mod InlineRoom
 pub mod LastAddress
 pub mod FaultLaws

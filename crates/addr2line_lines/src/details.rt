@@ -8,7 +8,7 @@ ghost use Rattle.addr2line_lines.specs.InlinedChain.{inlined_chain};
 ghost use Rattle.addr2line_lines.specs.FoundInlined.{entry_among, none_inlined};
 ghost use Rattle.addr2line_lines.specs.CachedNames.{AreNamesMore, AreNamesOf};
 ghost use Rattle.addr2line_lines.specs.CachedDetails.{AreDetailsMore, IsDetailPlace, IsNextPlace, detail_of, seen_details};
-ghost use Rattle.addr2line_lines.specs.ManyInlined.{are_many};
+ghost use Rattle.addr2line_lines.specs.InlineRoom.{exceeds_inline_room};
 ghost use Rattle.addr2line_lines.specs.References.{IsScope};
 ghost use Rattle.addr2line_lines.specs.SeenScope.{seen_scope};
 
@@ -185,7 +185,7 @@ impl<R: Reader> Details<R> {
         probe: u64,
     ) -> Result<InlinedPlaces, Error>
         requires place { IsDetailPlace (seen_details R.section self.now) detail.now }
-        ensures gives { ExactlyUnlessOomIf (are_many (inlined_chain probe
+        ensures gives { ExactlyUnlessOomIf (exceeds_inline_room (inlined_chain probe
             (detail_of (seen_details R.section self.now) detail.now).inlined))
             (λ chain. map (entry_among (seen_details R.section self.now).found.entries) chain.items)
             result (Ok (inlined_chain probe

@@ -4,11 +4,13 @@ ghost use Rattle.std.specs.Prelude.{◌≡◌, Ok, OnOk};
 ghost use Rattle.std.specs.List.{list_any};
 ghost use Rattle.std.specs.Option.{option_to_list};
 ghost use Rattle.gimli_read.specs.Reading.{Exactly, ExactlyUnlessOomIf};
-ghost use Rattle.gimli_read.specs.Form.{rest_of, seen_value};
+ghost use Rattle.gimli_read.specs.Form.{attribute_at, rest_of, seen_value};
+ghost use Rattle.gimli_read.specs.NumberValue.{number_at};
 ghost use Rattle.gimli.specs.Entry.{attributes_at};
 ghost use Rattle.gimli.specs.Ranges.{ranges_at};
-ghost use Rattle.addr2line_lines.specs.FoundRanges.{is_range_specification, is_range_name};
-ghost use Rattle.addr2line_lines.specs.FoundNumbers.{with_range_number};
+ghost use Rattle.addr2line_lines.specs.FoundRanges.{is_address_name, is_range_specification, is_range_name};
+ghost use Rattle.addr2line_lines.specs.FoundAttributes.{or_fault};
+ghost use Rattle.addr2line_lines.specs.FoundNumbers.{IsNextRead, IsNumberRead, with_range_number};
 ghost use Rattle.addr2line_lines.specs.RangeAttributes.{attr_address, no_range_attributes, with_range_attribute, or_with_range_attribute, range_attributes_after, range_between, ranges_of, all_ranges, attribute_ranges, begins_well, gives_a_range};
 
 use gimli::read::{
@@ -140,6 +142,55 @@ impl RangeAttributes {
         }
     }
 
+    // Takes one more attribute in, unless there is a fault, and answers the fault that there is.
+    fn take_unless<R: Reader>(
+        &mut self,
+        unit: UnitRef<'_, R>,
+        fault: Option<Error>,
+        attribute: Attribute<R>,
+    ) -> Option<Error>
+        ensures gives { or_fault self.new result ≡ or_with_range_attribute
+            unit.entry.dwarf.now unit.entry.unit.now (or_fault self.old fault) attribute }
+    {
+        match fault {
+            Some(error) => Some(error),
+            None => match self.take(unit, attribute) {
+                Ok(ranges) => {
+                    *self = ranges;
+                    None
+                }
+                Err(error) => Some(error),
+            },
+        }
+    }
+
+    // Reads the next attribute and takes it in, unless there is a fault, and answers the fault that
+    // there is. A number is read without a value being made.
+    #[inline(always)]
+    fn read_next<R: Reader>(
+        &mut self,
+        unit: UnitRef<'_, R>,
+        entries: &mut EntriesRaw<'_, R>,
+        fault: Option<Error>,
+        specification: AttributeSpecification,
+    ) -> Result<Option<Error>, Error>
+        ensures gives { IsNextRead R.shares (λ a old new. new ≡ or_with_range_attribute
+            unit.entry.dwarf.now unit.entry.unit.now old a) entries.new.cursor.left
+            (attribute_at entries.old.unit.encoding specification entries.old.cursor.left)
+            (or_fault self.old fault) self.new result }
+        ensures unit { entries.new.unit ≡ entries.old.unit }
+        ensures depth { entries.new.cursor.depth ≡ entries.old.cursor.depth }
+    {
+        let name = specification.name();
+        let wanted = is_address_name(name);
+        if let Some(number) = read_number_if(entries, specification, wanted)? {
+            self.take_number(name, number);
+            return Ok(fault);
+        }
+        let attribute = entries.read_attribute(specification)?;
+        Ok(self.take_unless(unit, fault, attribute))
+    }
+
     /// The range from low_pc on: up to the high_pc address, else of the size; none where it is
     /// empty or reversed. It counts only where there is no range list. Takes no memory.
     pub fn range(&self) -> Option<Range>
@@ -159,6 +210,35 @@ pub(crate) fn is_range_name(name: DwAt) -> bool
     ensures gives { result ≡ is_range_name name }
 {
     name == DwAt::DW_AT_low_pc || name == DwAt::DW_AT_high_pc || name == DwAt::DW_AT_ranges
+}
+
+/// Whether an attribute's value is mostly an address, or how many there are. Takes no memory. Source:
+/// DWARF 5, section 2.17.
+#[inline(always)]
+pub(crate) fn is_address_name(name: DwAt) -> bool
+    ensures gives { result ≡ is_address_name name }
+{
+    name == DwAt::DW_AT_low_pc || name == DwAt::DW_AT_high_pc
+}
+
+/// Reads the next attribute as a number, if it is wanted so and one of a frequent form; else reads
+/// nothing.
+#[inline(always)]
+pub(crate) fn read_number_if<R: Reader>(
+    entries: &mut EntriesRaw<'_, R>,
+    specification: AttributeSpecification,
+    wanted: bool,
+) -> Result<Option<NumberValue>, Error>
+    ensures gives { IsNumberRead wanted entries.old.cursor.left entries.new.cursor.left result
+        (number_at entries.old.unit.encoding specification entries.old.cursor.left) }
+    ensures unit { entries.new.unit ≡ entries.old.unit }
+    ensures depth { entries.new.cursor.depth ≡ entries.old.cursor.depth }
+{
+    if wanted {
+        entries.read_number(specification)
+    } else {
+        Ok(None)
+    }
 }
 
 /// Whether any of these attributes says of its entry's ranges. Takes no memory. Source: DWARF 5,
@@ -184,21 +264,6 @@ impl WantedNames for RangeWanted {
     }
 }
 
-// Takes one more attribute in, where none before it has a fault.
-fn with_attribute<R: Reader>(
-    unit: UnitRef<'_, R>,
-    ranges: Result<RangeAttributes, Error>,
-    attribute: Attribute<R>,
-) -> Result<RangeAttributes, Error>
-    ensures gives { result ≡ or_with_range_attribute unit.entry.dwarf.now unit.entry.unit.now
-        ranges attribute }
-{
-    match ranges {
-        Ok(ranges) => ranges.take(unit, attribute),
-        Err(error) => Err(error),
-    }
-}
-
 /// The range attributes among those of specifications. A value that can't be read is a fault before
 /// that of an address's index, so the first of these waits until all values are read.
 pub(crate) fn read_range_attributes<R: Reader>(
@@ -216,16 +281,19 @@ pub(crate) fn read_range_attributes<R: Reader>(
     ensures unit { entries.new.unit ≡ entries.old.unit }
     ensures depth { entries.new.cursor.depth ≡ entries.old.cursor.depth }
 {
-    let mut ranges = Ok(RangeAttributes::new());
+    let mut ranges = RangeAttributes::new();
+    let mut fault = None;
     let mut rest = specifications;
     while let Some(next) = split_at_wanted::<RangeWanted>(rest) {
         entries.skip_attributes(next.before)?;
-        let attribute = entries.read_attribute(next.specification)?;
-        ranges = with_attribute(unit, ranges, attribute);
+        fault = ranges.read_next(unit, entries, fault, next.specification)?;
         rest = next.after;
     }
     entries.skip_attributes(rest)?;
-    ranges
+    match fault {
+        Some(error) => Err(error),
+        None => Ok(ranges),
+    }
 }
 
 // The ranges of the range list at an offset, in its order.

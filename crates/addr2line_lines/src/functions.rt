@@ -12,7 +12,7 @@ ghost use Rattle.addr2line_lines.specs.FunctionCache.{read_at};
 ghost use Rattle.addr2line_lines.specs.FunctionDetails.{AreCachedToFault, AreDetailsOf, AreUnread, HasDetail, IsReadAt, IsTableMore, details_fault, details_take_memory, read_fault, cached_takes_memory};
 ghost use Rattle.addr2line_lines.specs.FunctionTable.{AreListed, cached_inlined, cached_name, function_place_at, cached_offset_at};
 ghost use Rattle.addr2line_lines.specs.Functions.{function_offset_at, functions_of, functions_take_memory, is_subprogram};
-ghost use Rattle.addr2line_lines.specs.ManyInlined.{are_many};
+ghost use Rattle.addr2line_lines.specs.InlineRoom.{exceeds_inline_room};
 ghost use Rattle.gimli.specs.Ranges.{ranges_at};
 ghost use Rattle.addr2line_lines.specs.RangeAttributes.{begins_well, gives_a_range};
 ghost use Rattle.addr2line_lines.specs.References.{IsScope};
@@ -406,7 +406,7 @@ impl<R: Reader> Functions<R> {
         probe: u64,
     ) -> Result<InlinedPlaces, Error>
         ensures gives { ExactlyUnlessOomIf
-            (are_many (inlined_chain probe (cached_inlined self.now place)))
+            (exceeds_inline_room (inlined_chain probe (cached_inlined self.now place)))
             (λ chain. map (entry_among self.now.inlined) chain.items) result
             (Ok (inlined_chain probe (cached_inlined self.now place))) }
         ensures there { IfOk result (λ chain. AllByRecursion

@@ -3,18 +3,17 @@
 ghost use Rattle.std.specs.Prelude.{◌≡◌, Ok, OnOk, option_and_then, option_map, true};
 ghost use Rattle.std.specs.Option.{option_or};
 ghost use Rattle.gimli_read.specs.Form.{attribute_at, rest_of};
-ghost use Rattle.gimli_read.specs.NumberValue.{number_at};
 ghost use Rattle.gimli_read.specs.Reading.{ExactlyUnlessOomIf};
 ghost use Rattle.gimli.specs.Entry.{attributes_at};
 ghost use Rattle.addr2line_lines.specs.CachedNames.{AreNamesMore, AreNamesOf, seen_names};
 ghost use Rattle.addr2line_lines.specs.InlinedEntries.{constant_bits, counted_file, no_call, no_inlined_attributes, with_call_constant, with_inlined_attribute};
 ghost use Rattle.addr2line_lines.specs.FoundAttributes.{IsReadIf, IsTakenIn, inlined_attributes_after, is_call, or_fault, seen_attributes};
-ghost use Rattle.addr2line_lines.specs.FoundNumbers.{IsNextRead, IsNumberRead, IsNumberTaken, is_number_name, with_origin_name};
+ghost use Rattle.addr2line_lines.specs.FoundNumbers.{IsNextRead, IsNumberTaken, is_number_name, with_origin_name};
 ghost use Rattle.addr2line_lines.specs.References.{IsScope};
 ghost use Rattle.addr2line_lines.specs.SeenScope.{seen_scope};
 
 use crate::found_name::FoundName;
-use crate::function::{RangeAttributes, is_range_name};
+use crate::function::{RangeAttributes, is_address_name, is_range_name, read_number_if};
 use crate::name::{is_name_attribute, is_origin, name_by_origin, pass_over, take_name};
 use crate::names::NameCache;
 use crate::references::Scope;
@@ -164,27 +163,7 @@ fn is_call(name: DwAt) -> bool
 fn is_number_name(name: DwAt) -> bool
     ensures gives { result ≡ is_number_name name }
 {
-    is_call(name) || name == DwAt::DW_AT_low_pc || name == DwAt::DW_AT_high_pc || is_origin(name)
-}
-
-// Reads the next attribute as a number, if it is wanted so and one of a frequent form; else reads
-// nothing.
-#[inline(always)]
-fn read_number_if<R: Reader>(
-    entries: &mut EntriesRaw<'_, R>,
-    specification: AttributeSpecification,
-    wanted: bool,
-) -> Result<Option<NumberValue>, Error>
-    ensures gives { IsNumberRead wanted entries.old.cursor.left entries.new.cursor.left result
-        (number_at entries.old.unit.encoding specification entries.old.cursor.left) }
-    ensures unit { entries.new.unit ≡ entries.old.unit }
-    ensures depth { entries.new.cursor.depth ≡ entries.old.cursor.depth }
-{
-    if wanted {
-        entries.read_number(specification)
-    } else {
-        Ok(None)
-    }
+    is_call(name) || is_address_name(name) || is_origin(name)
 }
 
 impl<R: Reader> InlinedAttributes<R> {
@@ -339,8 +318,8 @@ impl<R: Reader> InlinedAttributes<R> {
     ) -> Result<Option<Error>, Error>
         requires in_order { IsScope (seen_scope scope) }
         requires names { AreNamesOf (seen_scope scope) unit.now (seen_names R.section names.old) }
-        ensures gives { IsNextRead R.shares (seen_attributes R.section)
-            (λ a x. with_inlined_attribute (seen_scope scope.entry) unit.now x a)
+        ensures gives { IsNextRead R.shares (λ a. IsTakenIn R.shares (seen_attributes R.section)
+            (λ x. with_inlined_attribute (seen_scope scope.entry) unit.now x a))
             entries.new.cursor.left (attribute_at entries.old.unit.encoding specification
             entries.old.cursor.left) (or_fault self.old fault) self.new result }
         ensures unit { entries.new.unit ≡ entries.old.unit }

@@ -7,7 +7,7 @@ ghost use Rattle.addr2line_lines.specs.InOrder.{IsInOrder, in_order};
 ghost use Rattle.addr2line_lines.specs.InlinedEntries.{InlinedEntry};
 ghost use Rattle.addr2line_lines.specs.InlinedChain.{inlined_chain};
 ghost use Rattle.addr2line_lines.specs.InlinedOrder.{inlined_range_of, inlined_sooner, place, place_at, places_chain};
-ghost use Rattle.addr2line_lines.specs.ManyInlined.{are_many};
+ghost use Rattle.addr2line_lines.specs.InlineRoom.{exceeds_inline_room};
 
 use gimli::read::{Error, Range};
 use smallvec::SmallVec;
@@ -81,7 +81,7 @@ pub(crate) fn find_chain(
     probe: u64,
 ) -> Result<InlinedPlaces, Error>
     requires ordered { IsInOrder inlined_sooner ranges.now }
-    ensures gives { ExactlyUnlessOomIf (are_many (places_chain probe ranges.now))
+    ensures gives { ExactlyUnlessOomIf (exceeds_inline_room (places_chain probe ranges.now))
         (λ chain. chain.items) result (Ok (places_chain probe ranges.now)) }
     ensures listed { (listed : List InlinedFunctionAddress) → (entry_of : ℕ → InlinedEntry)
         → IsNonDecreasingBy place listed → ranges.now ≡ in_order inlined_sooner listed

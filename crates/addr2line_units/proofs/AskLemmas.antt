@@ -10,6 +10,7 @@ use Rattle.gimli_read.specs.Alike.{WasNotRefused}
 use Rattle.gimli_read.specs.Reading.{◌>>=◌, ExactlyUnlessOom}
 use Rattle.gimli.specs.Sections.{Sections}
 use Rattle.gimli.specs.Unit.{UnitRecord}
+use Rattle.addr2line_lines.specs.InlineRoom.{exceeds_inline_room}
 use Rattle.addr2line_lines.specs.References.{Scope}
 use Rattle.addr2line_units.specs.declared.frames_lookup.OnFault.{OnFault}
 use Rattle.addr2line_units.specs.declared.frames_lookup.FramesStop.{FramesStop}
@@ -23,12 +24,12 @@ use Rattle.addr2line_units.specs.CachedEntries.{AreEntriesOf, AreFramesIn, AsksN
 use Rattle.addr2line_units.specs.CachedFrames.{AreFoundAt, IsLendable, IsStopIn, found_after_fault, frames_found_at, has_frames_at, seen_stop, stop_of_found}
 use Rattle.addr2line_units.specs.CachedLines.{AreLinesOf, StaysUnit, StayUnits, indexed_unit, indexed_units, is_uncached, parsed_units}
 use Rattle.addr2line_units.specs.CachedUnits.{HaveEntriesOf, StayAllEntries, answers_in, has_entries_at}
-use Rattle.addr2line_units.specs.FramesLookup.{FindsNothing, Stop, after_fault, asks_lines_of, ends_lookup, function_offset_of, functions_of_take_memory, has_many_of, or_stop}
+use Rattle.addr2line_units.specs.FramesLookup.{FindsNothing, LookupStop, after_fault, asks_lines_of, ends_lookup, function_offset_of, functions_of_take_memory, inlined_at_number, or_stop}
 use Rattle.addr2line_units.specs.CachedKnown.{known_in}
 use Rattle.addr2line_units.specs.KnownEntries.{knows_detail_at}
 use Rattle.addr2line_units.specs.Parsed.{has_parsed}
 use Rattle.addr2line_units.specs.StoredUnits.{AreUnits, seen_units}
-use Rattle.addr2line_units.specs.UnitFrames.{FramesResult, asks_lines_in, frames_in, has_many}
+use Rattle.addr2line_units.specs.UnitFrames.{FramesResult, asks_lines_in, frames_in, inlined_at}
 use Rattle.addr2line_units.specs.UnitsState.{IsFaultAt, UnitsState, asked_by, asks_no_memory_at, has_all_at, reads_no_memory_at}
 use Rattle.addr2line_units.proofs.CachedUnitLemmas.{as_many_entries, cache_set, entries_at, entries_right, entries_set, lines_right, reads_set, same_answers, stay_entries_set}
 use Rattle.addr2line_units.proofs.FoundLemmas.{lendable_if_told}
@@ -52,7 +53,7 @@ holds_alone h x e = by (ends_lookup x) h e
     by false true e = refl
     by b false e = cc
 
-module _ {R : Type 0} (scope : Scope) (cs : List (UnitCache R)) (last : FramesStop) (i : AreUnits scope cs last) (probe n looks : ℕ) (was : Stop) where
+module _ {R : Type 0} (scope : Scope) (cs : List (UnitCache R)) (last : FramesStop) (i : AreUnits scope cs last) (probe n looks : ℕ) (was : LookupStop) where
   abbrev us : List UnitRecord
   us = scope.file.units
 
@@ -81,6 +82,7 @@ module _ {R : Type 0} (scope : Scope) (cs : List (UnitCache R)) (last : FramesSt
       asked = record { scope = refl; units = refl; answers = refl; parsed = λ m e. e; known = λ m. record { at = λ p e. e; whole = λ k h. h }; only = λ m e. inl e; learns = λ m. inl refl; details = λ m o e. inl e; raised = omega arith };
       ready = λ h. ap (λ b. b && (not (asks_lines_of scope (indexed_units us cs) (answers_in cs) probe n) || has_parsed (parsed_units cs) n)) (known_is probe cs n) ∙ none_known scope probe us cs n past;
       memory = λ h. tt;
+      stop = tt;
     }
 
   module _ (u : UnitRecord) (there : slice_get us n ≡ Some u) where
@@ -149,7 +151,7 @@ module _ {R : Type 0} (scope : Scope) (cs : List (UnitCache R)) (last : FramesSt
               (lines : asks_lines_in scope u (first_answer_of c.entries) probe ≡ false → w.lines ≡ c.lines)
               (ready : WasNotRefused result → has_entries probe w.entries ≡ true)
               (parsed : WasNotRefused result → asks_lines_in scope u (first_answer_of c.entries) probe ≡ true → is_uncached w.lines.lines ≡ false)
-              (memory : has_entries probe w.entries ≡ true → (asks_lines_in scope u (first_answer_of c.entries) probe ≡ true → is_uncached w.lines.lines ≡ false) → has_many scope u (first_answer_of c.entries) probe ≡ false → WasNotRefused result) where
+              (memory : has_entries probe w.entries ≡ true → (asks_lines_in scope u (first_answer_of c.entries) probe ≡ true → is_uncached w.lines.lines ≡ false) → exceeds_inline_room (inlined_at scope u (first_answer_of c.entries) probe) ≡ false → WasNotRefused result) where
             stay_lines : StayUnits cs now_cs
             stay_lines = stay_set cs n c w in_caches at stays
 
@@ -175,7 +177,7 @@ module _ {R : Type 0} (scope : Scope) (cs : List (UnitCache R)) (last : FramesSt
                 (sym units_same) (sym answers_same) (stop_right ok f e) (asked_ok f e)
                 (λ _. holds_alone (has_frames_at asks probe now_cs n) (asked_by faults probe old n) (known_there (oom_before faults result (subst WasNotRefused (sym e) tt))))
 
-            module _ (now : ℕ) (raised : looks ≤ now) (stop : Stop) where
+            module _ (now : ℕ) (raised : looks ≤ now) (stop : LookupStop) where
               abbrev new : UnitsState
               new = seen_units scope now_cs now stop
 
@@ -185,10 +187,10 @@ module _ {R : Type 0} (scope : Scope) (cs : List (UnitCache R)) (last : FramesSt
                   ∙ ap (λ xs. has_entries_at probe now_cs n && (not (asks_lines_of scope xs (answers_in now_cs) probe n) || has_parsed (parsed_units now_cs) n)) units_same
                   ∙ ap (λ a. has_entries_at probe now_cs n && (not (asks_lines_of scope (indexed_units us cs) a probe n) || has_parsed (parsed_units now_cs) n)) answers_same
 
-              many_is : has_many_of scope (indexed_units us now_cs) (answers_in now_cs) probe n ≡ has_many scope u (first_answer_of c.entries) probe
+              many_is : exceeds_inline_room (inlined_at_number scope (indexed_units us now_cs) (answers_in now_cs) probe n) ≡ exceeds_inline_room (inlined_at scope u (first_answer_of c.entries) probe)
               many_is =
-                  ap (λ xs. has_many_of scope xs (answers_in now_cs) probe n) units_same
-                  ∙ ap (λ a. has_many_of scope (indexed_units us cs) a probe n) answers_same
+                  ap (λ xs. exceeds_inline_room (inlined_at_number scope xs (answers_in now_cs) probe n)) units_same
+                  ∙ ap (λ a. exceeds_inline_room (inlined_at_number scope (indexed_units us cs) a probe n)) answers_same
                   ∙ many_are scope probe us cs n own in_caches u c w unit at
 
               -- where the lookup takes no memory there, a refusal is the fault of the unit
@@ -215,8 +217,8 @@ module _ {R : Type 0} (scope : Scope) (cs : List (UnitCache R)) (last : FramesSt
                 | inr h ↦ inr (ap (function_offset_of scope (indexed_units us cs) (answers_in cs) probe) is ∙ offset_is scope probe us cs n own in_caches u c w unit at ∙ h)
               ]
 
-              pub after_asked : {X : Type 0} (q : Result X Error) → AreEntriesOf scope u w.entries → (WasNotRefused q → WasNotRefused result) → (WasNotRefused result → WasNotRefused q) → AfterAsk n probe q old new
-              after_asked q right before then = record {
+              pub after_asked : {X : Type 0} (q : Result X Error) → AreEntriesOf scope u w.entries → (WasNotRefused q → WasNotRefused result) → (WasNotRefused result → WasNotRefused q) → IfErr q (λ _. stop ≡ FindsNothing) → AfterAsk n probe q old new
+              after_asked q right before then stored = record {
                 asked = record {
                   scope = refl;
                   units = units_same;
@@ -234,6 +236,7 @@ module _ {R : Type 0} (scope : Scope) (cs : List (UnitCache R)) (last : FramesSt
                   ];
                   raised = raised;
                 };
+                stop = stored;
                 ready = λ told. all_is ∙ known_there (before told);
                 memory = λ few.
                     let both = then_known scope probe us cs n own in_caches u c w unit at (sym all_is ∙ and_first _ _ few) in

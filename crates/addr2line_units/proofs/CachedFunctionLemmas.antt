@@ -19,7 +19,7 @@ use Rattle.addr2line_lines.specs.Functions.{FunctionRange, entries_of, function_
 use Rattle.addr2line_lines.specs.FunctionDetails.{AreDetailsOf, AreUnread, HasDetail, IsDetailOf, IsFunctionMore, IsReadAt, IsReadOf, IsReadOnce, IsTableMore, IsWithDetail, details_fault, details_take_memory}
 use Rattle.addr2line_lines.specs.FunctionTable.{AreListed, CachedFunction, FunctionTable, cached_detail, cached_inlined, cached_name, function_place_at, inlined_of_detail, name_of_detail, cached_offset_at}
 use Rattle.addr2line_lines.specs.Location.{Location}
-use Rattle.addr2line_lines.specs.ManyInlined.{are_many}
+use Rattle.addr2line_lines.specs.InlineRoom.{exceeds_inline_room}
 use Rattle.addr2line_lines.specs.References.{Scope}
 use Rattle.addr2line_lines.proofs.ListedFunctions.{more_listed}
 use Rattle.addr2line_lines.proofs.PlaceLemmas.{all_at, get_set_other, some_at}
@@ -29,7 +29,7 @@ use Rattle.addr2line_units.specs.declared.functions.LazyFunctions.{LazyFunctions
 use Rattle.addr2line_units.specs.declared.functions.LazyFunctions.TheVariants as lazy
 use Rattle.addr2line_units.specs.Frames.{FrameRecord, found_frames, found_function, frames_from, function_at, function_from}
 use Rattle.addr2line_units.proofs.FunctionMemoryLemmas.{details_take, place_takes}
-use Rattle.addr2line_units.specs.CachedFunctions.{ArePlacesIn, IsTableOf, ReadsNoOther, StayFunctions, table_has_many, cached_detail_takes_memory, details_at, find_takes_memory, function_of_place, functions_fault, cached_functions, place_takes_memory, reading_takes_memory, table_takes_memory, were_read}
+use Rattle.addr2line_units.specs.CachedFunctions.{ArePlacesIn, IsTableOf, ReadsNoOther, StayFunctions, cached_inlined_at, cached_detail_takes_memory, details_at, find_takes_memory, function_of_place, functions_fault, cached_functions, place_takes_memory, reading_takes_memory, table_takes_memory, were_read}
 
 -- whether an error is that of memory
 pub memory_or_not : (e : Error) → (e ≡ OutOfMemory) ⊎ (e ≢ OutOfMemory)
@@ -101,17 +101,17 @@ place_stays probe old new more =
 
 -- where what is at the place of a function is cached, memory is taken for many inlined functions
 -- alone
-pub cached_ready : (probe n : ℕ) (t : FunctionTable) (v : Result Detail Error) → function_place_at probe t ≡ Some n → cached_detail t n ≡ Some v → table_takes_memory probe t ≡ table_has_many probe t
+pub cached_ready : (probe n : ℕ) (t : FunctionTable) (v : Result Detail Error) → function_place_at probe t ≡ Some n → cached_detail t n ≡ Some v → table_takes_memory probe t ≡ exceeds_inline_room (cached_inlined_at probe t)
 cached_ready probe n t v at e =
     ap (place_takes_memory probe t) at ∙ ap (cached_detail_takes_memory probe) e
-    ∙ sym (ap (λ (o : Option (Result Detail Error)). are_many (inlined_chain probe (elim o [ None ↦ [] | Some d ↦ inlined_of_detail d ]))) e)
-    ∙ sym (ap (λ (o : Option ℕ). elim o [ None ↦ false | Some m ↦ are_many (inlined_chain probe (cached_inlined t m)) ]) at)
+    ∙ sym (ap (λ (o : Option (Result Detail Error)). exceeds_inline_room (inlined_chain probe (elim o [ None ↦ [] | Some d ↦ inlined_of_detail d ]))) e)
+    ∙ sym (ap (λ (o : Option ℕ). exceeds_inline_room (elim o [ None ↦ [] | Some m ↦ inlined_chain probe (cached_inlined t m) ])) at)
 
 -- where no function is at the address neither is any memory taken, nor are there inlined functions
-pub none_ready : (probe : ℕ) (t : FunctionTable) → function_place_at probe t ≡ None → table_takes_memory probe t ≡ table_has_many probe t
+pub none_ready : (probe : ℕ) (t : FunctionTable) → function_place_at probe t ≡ None → table_takes_memory probe t ≡ exceeds_inline_room (cached_inlined_at probe t)
 none_ready probe t at =
     ap (place_takes_memory probe t) at
-    ∙ sym (ap (λ (o : Option ℕ). elim o [ None ↦ false | Some m ↦ are_many (inlined_chain probe (cached_inlined t m)) ]) at)
+    ∙ sym (ap (λ (o : Option ℕ). exceeds_inline_room (elim o [ None ↦ [] | Some m ↦ inlined_chain probe (cached_inlined t m) ])) at)
 
 -- the function at no place
 pub none_found : (scope : Scope) (view : UnitRecord) (probe : ℕ) (t : FunctionTable) → IsTableOf scope view t → None ≡ function_offset_at probe t.ranges → function_at scope view probe ≡ Ok None
@@ -213,31 +213,31 @@ module _ (scope : Scope) (view : UnitRecord) (probe n : ℕ) (old new : Function
         absurd (lacks (both _ _ before after) m.0))
   ]
 
-  pub refused_ready : IsTableOf scope view old → function_place_at probe old ≡ Some n → (x : Error) → IsReadAt scope view n old (Err x) new → x ≢ OutOfMemory → table_takes_memory probe new ≡ table_has_many probe new
+  pub refused_ready : IsTableOf scope view old → function_place_at probe old ≡ Some n → (x : Error) → IsReadAt scope view n old (Err x) new → x ≢ OutOfMemory → table_takes_memory probe new ≡ exceeds_inline_room (cached_inlined_at probe new)
   refused_ready h place x k ne = elim (read_err x (all_at (IsDetailOf scope view) old.functions n f h.details q) k) [
     | inl c ↦ cached_ready probe n new (Err x) (place_stays probe old new (read_more scope view n old new (Err x) k) ∙ place) (cached_is (Err x) c)
     | inr m ↦ absurd (ne m.0)
   ]
 
   -- memory is taken for more than 16 inlined functions before and after, so that no other refusal stands
-  pub refused_chain : IsTableOf scope view old → function_place_at probe old ≡ Some n → IsReadAt scope view n old (Ok tt) new → (x : Error) → ((are_many (inlined_chain probe (cached_inlined new n)) ≡ true → x ≢ OutOfMemory) → ◌≡◌ {A = Result (List InlinedEntry) Error} (Ok (inlined_chain probe (cached_inlined new n))) (Err x)) → MemoryLacks x → ⊥
+  pub refused_chain : IsTableOf scope view old → function_place_at probe old ≡ Some n → IsReadAt scope view n old (Ok tt) new → (x : Error) → ((exceeds_inline_room (inlined_chain probe (cached_inlined new n)) ≡ true → x ≢ OutOfMemory) → ◌≡◌ {A = Result (List InlinedEntry) Error} (Ok (inlined_chain probe (cached_inlined new n))) (Err x)) → MemoryLacks x → ⊥
   refused_chain h place k x given lacks =
       let c = read_ok (all_at (IsDetailOf scope view) old.functions n f h.details q) k in
-      let never : (are_many (inlined_chain probe (cached_inlined new n)) ≡ true → x ≢ OutOfMemory) → ⊥ = λ m. (let w = given m in absurd cc) in
+      let never : (exceeds_inline_room (inlined_chain probe (cached_inlined new n)) ≡ true → x ≢ OutOfMemory) → ⊥ = λ m. (let w = given m in absurd cc) in
       elim (memory_or_not x) [
         | inr ne ↦ never (λ _. ne)
         | inl m ↦ never (λ many. λ _. lacks (both _ _ (before c.0 c.1 many) (after c.0 c.1 many)) m)
       ]
     where
-      after : (d : Detail) → IsCached (Ok d) → are_many (inlined_chain probe (cached_inlined new n)) ≡ true → table_takes_memory probe new ≡ true
+      after : (d : Detail) → IsCached (Ok d) → exceeds_inline_room (inlined_chain probe (cached_inlined new n)) ≡ true → table_takes_memory probe new ≡ true
       after d c many =
           ap (place_takes_memory probe new) (place_stays probe old new (read_more scope view n old new (Ok tt) k) ∙ place) ∙ ap (cached_detail_takes_memory probe) (cached_is (Ok d) c)
-          ∙ sym (ap (λ (o : Option (Result Detail Error)). are_many (inlined_chain probe (elim o [ None ↦ [] | Some y ↦ inlined_of_detail y ]))) (cached_is (Ok d) c)) ∙ many
+          ∙ sym (ap (λ (o : Option (Result Detail Error)). exceeds_inline_room (inlined_chain probe (elim o [ None ↦ [] | Some y ↦ inlined_of_detail y ]))) (cached_is (Ok d) c)) ∙ many
 
       at_old : cached_detail old n ≡ f.detail
       at_old = ap (λ (o : Option CachedFunction). option_and_then (λ (g : CachedFunction). g.detail) o) q
 
-      before : (d : Detail) → IsCached (Ok d) → are_many (inlined_chain probe (cached_inlined new n)) ≡ true → table_takes_memory probe old ≡ true
+      before : (d : Detail) → IsCached (Ok d) → exceeds_inline_room (inlined_chain probe (cached_inlined new n)) ≡ true → table_takes_memory probe old ≡ true
       before d c many = ap (place_takes_memory probe old) place ∙ ap (cached_detail_takes_memory probe) at_old ∙ by_detail f.detail refl
         where
           right : IsDetailOf scope view f
@@ -247,10 +247,10 @@ module _ (scope : Scope) (view : UnitRecord) (probe n : ℕ) (old new : Function
           by_detail None e = refl
           by_detail (Some v) e =
               let same : v ≡ Ok d = sym (right v e) ∙ c.is in
-              ap (λ (w : Result Detail Error). are_many (inlined_chain probe (inlined_of_detail w))) same
-              ∙ sym (ap (λ (o : Option (Result Detail Error)). are_many (inlined_chain probe (elim o [ None ↦ [] | Some y ↦ inlined_of_detail y ]))) (cached_is (Ok d) c)) ∙ many
+              ap (λ (w : Result Detail Error). exceeds_inline_room (inlined_chain probe (inlined_of_detail w))) same
+              ∙ sym (ap (λ (o : Option (Result Detail Error)). exceeds_inline_room (inlined_chain probe (elim o [ None ↦ [] | Some y ↦ inlined_of_detail y ]))) (cached_is (Ok d) c)) ∙ many
 
-  pub chain_ready : IsTableOf scope view old → function_place_at probe old ≡ Some n → IsReadAt scope view n old (Ok tt) new → table_takes_memory probe new ≡ table_has_many probe new
+  pub chain_ready : IsTableOf scope view old → function_place_at probe old ≡ Some n → IsReadAt scope view n old (Ok tt) new → table_takes_memory probe new ≡ exceeds_inline_room (cached_inlined_at probe new)
   chain_ready h place k =
       let c = read_ok (all_at (IsDetailOf scope view) old.functions n f h.details q) k in
       cached_ready probe n new (Ok c.0) (place_stays probe old new (read_more scope view n old new (Ok tt) k) ∙ place) (cached_is (Ok c.0) c.1)
@@ -311,7 +311,7 @@ fault_is scope view t h =
     ∙ ap (details_at scope view) (sym h.listed) ∙ sym (details_by_entries scope view t.functions)
 
 -- where all details are cached memory is taken for many inlined functions alone
-pub all_ready : (t : FunctionTable) → AllByRecursion HasDetail t.functions → (probe : ℕ) → table_takes_memory probe t ≡ table_has_many probe t
+pub all_ready : (t : FunctionTable) → AllByRecursion HasDetail t.functions → (probe : ℕ) → table_takes_memory probe t ≡ exceeds_inline_room (cached_inlined_at probe t)
 all_ready t all probe = by_place (function_place_at probe t) refl
   where
     short : (k l m : ℕ) → cond (nat_lt k l) (Some k) None ≡ Some m → m < l
@@ -325,7 +325,7 @@ all_ready t all probe = by_place (function_place_at probe t) refl
     below None n e = absurd cc
     below (Some offset) n e = short (position_or_len (λ (f : CachedFunction). f.offset == offset) t.functions) (length t.functions) n e
 
-    by_place : (o : Option ℕ) → function_place_at probe t ≡ o → table_takes_memory probe t ≡ table_has_many probe t
+    by_place : (o : Option ℕ) → function_place_at probe t ≡ o → table_takes_memory probe t ≡ exceeds_inline_room (cached_inlined_at probe t)
     by_place None e = none_ready probe t e
     by_place (Some n) e =
         let at = some_at t.functions n (below (function_offset_at probe t.ranges) n e) in

@@ -19,7 +19,7 @@ use Rattle.addr2line_lines.proofs.PlaceLemmas.{all_at, some_at}
 use Rattle.addr2line_units.specs.declared.functions.LazyFunctions.{LazyFunctions}
 use Rattle.addr2line_units.specs.declared.functions.LazyFunctions.TheVariants as lazy
 use Rattle.addr2line_units.specs.declared.parses.ReadingDepth.{ReadingDepth}
-use Rattle.addr2line_units.specs.declared.parses.ReadingDepth.TheVariants as reads
+use Rattle.addr2line_units.specs.declared.parses.ReadingDepth.TheVariants as depths
 use Rattle.addr2line_units.specs.declared.unit_frames.UnitCache.{UnitCache}
 use Rattle.addr2line_units.specs.declared.unit_frames.UnitEntries.{UnitEntries}
 use Rattle.addr2line_units.specs.declared.view.UnitView.{UnitView}
@@ -61,15 +61,15 @@ cached_stay {R} scope u (lazy.Read t) mid kept = subst (λ (m : LazyFunctions R)
 cached_stay scope u (lazy.Faulty e) mid kept = kept refl
 
 -- the first fault of the functions of a view alone
-pub alone_read : (scope : Scope) (view : UnitRecord) (ranges : List FunctionRange) → functions_of scope.file.sections view ≡ Ok ranges → read_of_functions reads.Functions scope view ≡ Ok tt
+pub alone_read : (scope : Scope) (view : UnitRecord) (ranges : List FunctionRange) → functions_of scope.file.sections view ≡ Ok ranges → read_of_functions depths.Functions scope view ≡ Ok tt
 alone_read scope view ranges h = ap (λ (r : Result (List FunctionRange) Error). r >>= λ _. Ok tt) h
 
-pub alone_fault : (scope : Scope) (view : UnitRecord) (e : Error) → functions_of scope.file.sections view ≡ Err e → read_of_functions reads.Functions scope view ≡ Err e
+pub alone_fault : (scope : Scope) (view : UnitRecord) (e : Error) → functions_of scope.file.sections view ≡ Err e → read_of_functions depths.Functions scope view ≡ Err e
 alone_fault scope view e h = ap (λ (r : Result (List FunctionRange) Error). r >>= λ _. Ok tt) h
 
 -- functions that were read with all details are cached with them
 pub details_have : {R : Type 0} (scope : Scope) (view : UnitRecord) (may : Bool) (f : LazyFunctions R) (r : Result (Unit {0}) Error) → AreFunctionsOf scope view f → ExactlyUnlessOomIf may (λ x. x) r (functions_fault scope view)
-    → OnOk r (were_read f ≡ true) → OnOk r (AllByRecursion HasDetail (cached_functions f).functions) → OnOk r (HaveFunctions reads.Details f)
+    → OnOk r (were_read f ≡ true) → OnOk r (AllByRecursion HasDetail (cached_functions f).functions) → OnOk r (HaveFunctions depths.Details f)
 details_have scope view may f (Err e) right gives read details = tt
 details_have scope view may lazy.Unread (Ok x) right gives read details = absurd cc
 details_have scope view may lazy.Absent (Ok x) right gives read details = tt
@@ -98,7 +98,7 @@ exactly_ok : (may : Bool) (r given : Result (Unit {0}) Error) → may ≡ false 
 exactly_ok may (Ok x) given m g h = refl
 exactly_ok may (Err e) given m g h = absurd (let no = sym (h (λ t. absurd (let k : true ≡ false = sym t ∙ m in cc))) ∙ g in cc)
 
-pub details_cached : {R : Type 0} (shares : Bool) (scope : Scope) (view : UnitRecord) (f : LazyFunctions R) (r : Result (Unit {0}) Error) → AreFunctionsOf scope view f → HaveFunctions reads.Details f
+pub details_cached : {R : Type 0} (shares : Bool) (scope : Scope) (view : UnitRecord) (f : LazyFunctions R) (r : Result (Unit {0}) Error) → AreFunctionsOf scope view f → HaveFunctions depths.Details f
     → ExactlyUnlessOomIf (reading_takes_memory shares scope view f) (λ x. x) r (functions_fault scope view) → r ≡ Ok tt
 details_cached shares scope view lazy.Unread r right h gives = absurd h
 details_cached shares scope view (lazy.Faulty e) r right h gives = absurd h
@@ -163,13 +163,13 @@ has_all probe t all (Some n) e =
     ap (λ (o : Option CachedFunction). has_detail (option_and_then (λ (g : CachedFunction). g.detail) o)) at.1 ∙ ap has_detail h.1
 
 module _ {R : Type 0} (probe : ℕ) where
-  has_functions : (f : LazyFunctions R) → HaveFunctions reads.Details f → cached_has_function probe f ≡ true
+  has_functions : (f : LazyFunctions R) → HaveFunctions depths.Details f → cached_has_function probe f ≡ true
   has_functions lazy.Unread h = absurd h
   has_functions lazy.Absent h = refl
   has_functions (lazy.Read t) h = has_all probe t.value h (function_place_at probe t.value) refl
   has_functions (lazy.Faulty e) h = absurd h
 
-  has_by : (s : ViewState R) (f : LazyFunctions R) → has_view s ≡ true → HaveFunctions reads.Details f → has_entries_by probe s f ≡ true
+  has_by : (s : ViewState R) (f : LazyFunctions R) → has_view s ≡ true → HaveFunctions depths.Details f → has_entries_by probe s f ≡ true
   has_by states.Undecided f h k = cc
   has_by states.Open f h k = refl
   has_by states.Main f h k = has_functions f k
@@ -180,13 +180,13 @@ module _ {R : Type 0} (probe : ℕ) where
       by_unit (Ok y) q = has_functions f k
       by_unit (Err y) q = cc
 
-  has_entries_if : (vs : List (UnitCache R)) → HaveRead reads.Details vs → (n : ℕ) → has_entries_at probe vs n ≡ true
+  has_entries_if : (vs : List (UnitCache R)) → HaveRead depths.Details vs → (n : ℕ) → has_entries_at probe vs n ≡ true
   has_entries_if [] all n = refl
   has_entries_if (v ∷ vs) all zero = has_by v.entries.view.state v.entries.functions all.0.view all.0.functions
   has_entries_if (v ∷ vs) all (suc n) = has_entries_if vs all.1 n
 
 module _ {R : Type 0} where
-  pub found_if_ok : (r : ReadingDepth) (result : Result (Unit {0}) Error) (vs : List (UnitCache R)) → r ≡ reads.Details → OnOk result (HaveRead r vs) → OnOk result ((probe n : ℕ) → has_entries_at probe vs n ≡ true)
+  pub found_if_ok : (r : ReadingDepth) (result : Result (Unit {0}) Error) (vs : List (UnitCache R)) → r ≡ depths.Details → OnOk result (HaveRead r vs) → OnOk result ((probe n : ℕ) → has_entries_at probe vs n ≡ true)
   found_if_ok r (Err e) vs is h = tt
   found_if_ok r (Ok x) vs is h = λ probe. has_entries_if probe vs (subst (λ (q : ReadingDepth). HaveRead q vs) is h)
 

@@ -10,7 +10,7 @@ use Rattle.addr2line_lines.specs.InlinedChain.{inlined_chain}
 use Rattle.addr2line_lines.specs.Functions.{function_offset_at}
 use Rattle.addr2line_lines.specs.FunctionTable.{CachedFunction, FunctionTable, cached_detail, cached_inlined, function_place_at, inlined_of_detail, cached_offset_at}
 use Rattle.addr2line_lines.specs.FunctionDetails.{IsDetailOf, IsReadAt, IsReadOf, IsReadOnce}
-use Rattle.addr2line_lines.specs.ManyInlined.{are_many}
+use Rattle.addr2line_lines.specs.InlineRoom.{exceeds_inline_room}
 use Rattle.addr2line_lines.specs.References.{Scope}
 use Rattle.addr2line_lines.proofs.PlaceLemmas.{all_at}
 use Rattle.addr2line_lines.proofs.ReadLemmas.{read_more}
@@ -18,7 +18,7 @@ use Rattle.addr2line_units.specs.declared.functions.LazyFunctions.{LazyFunctions
 use Rattle.addr2line_units.specs.declared.functions.LazyFunctions.TheVariants as lazy
 use Rattle.addr2line_units.specs.Frames.{function_at}
 use Rattle.addr2line_units.specs.CachedFunctions.{IsTableOf, has_detail, cached_has_function, has_place, has_table, is_cached_fault, were_read}
-use Rattle.addr2line_units.specs.UnitFrames.{is_many}
+use Rattle.addr2line_units.specs.UnitFrames.{inlined_of_found}
 use Rattle.addr2line_units.proofs.CachedFunctionLemmas.{cached_is, from_detail, place_stays, read_err, read_ok}
 
 -- any fault but OutOfMemory is cached
@@ -74,14 +74,14 @@ module _ (scope : Scope) (view : UnitRecord) (probe n : ℕ) (old new : Function
 
   -- and its inlined functions take no memory where they are at most 16
   pub chain_fits : cached_offset_at old n ≡ function_offset_at probe old.ranges → IsReadAt scope view n old (Ok tt) new → (x : Error)
-      → ((are_many (inlined_chain probe (cached_inlined new n)) ≡ true → x ≢ OutOfMemory) → ◌≡◌ {A = Result (List InlinedEntry) Error} (Ok (inlined_chain probe (cached_inlined new n))) (Err x))
-      → is_many (function_at scope view probe) ≡ false → x ≢ OutOfMemory
+      → ((exceeds_inline_room (inlined_chain probe (cached_inlined new n)) ≡ true → x ≢ OutOfMemory) → ◌≡◌ {A = Result (List InlinedEntry) Error} (Ok (inlined_chain probe (cached_inlined new n))) (Err x))
+      → exceeds_inline_room (inlined_of_found (function_at scope view probe)) ≡ false → x ≢ OutOfMemory
   chain_fits at k x given few =
       let c = read_ok scope view probe n old new f q right k in
       let found = from_detail scope view probe n old new f q h at (Ok c.0) c.1.is in
-      let short : are_many (inlined_chain probe c.0.inlined) ≡ false = sym (ap is_many found) ∙ few in
+      let short : exceeds_inline_room (inlined_chain probe c.0.inlined) ≡ false = sym (ap (λ f. exceeds_inline_room (inlined_of_found f)) found) ∙ few in
       let same : cached_inlined new n ≡ c.0.inlined = ap (λ (o : Option (Result Detail Error)). elim o [ None ↦ [] | Some y ↦ inlined_of_detail y ]) (cached_is scope view probe n old new f q (Ok c.0) c.1) in
-      let fits : are_many (inlined_chain probe (cached_inlined new n)) ≡ false = ap (λ (rs : List InlinedRange). are_many (inlined_chain probe rs)) same ∙ short in
+      let fits : exceeds_inline_room (inlined_chain probe (cached_inlined new n)) ≡ false = ap (λ (rs : List InlinedRange). exceeds_inline_room (inlined_chain probe rs)) same ∙ short in
       let no = given (λ many. (let both : false ≡ true = sym fits ∙ many in absurd cc)) in
       absurd cc
 

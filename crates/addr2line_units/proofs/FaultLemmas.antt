@@ -25,10 +25,10 @@ use Rattle.addr2line_lines.proofs.FaultLemmas.{read_all_is, optional_string_is, 
 use Rattle.addr2line_units.specs.declared.aranges.UnitArange.{UnitArange}
 use Rattle.addr2line_units.specs.declared.attributes.UnitAttributes.{UnitAttributes}
 use Rattle.addr2line_units.specs.declared.frames_lookup.OnFault.{OnFault}
-use Rattle.addr2line_units.specs.declared.frames_lookup.OnFault.TheVariants.{End, PassOver}
+use Rattle.addr2line_units.specs.declared.frames_lookup.OnFault.TheVariants.{Stop, Skip}
 use Rattle.addr2line_units.specs.declared.index.UnitRange.{UnitRange}
 use Rattle.addr2line_units.specs.declared.parses.ReadingDepth.{ReadingDepth}
-use Rattle.addr2line_units.specs.declared.parses.ReadingDepth.TheVariants as reads
+use Rattle.addr2line_units.specs.declared.parses.ReadingDepth.TheVariants as depths
 use Rattle.addr2line_units.specs.Cover.{cover, cover_range}
 use Rattle.addr2line_units.specs.UnitAranges.{aranges_at, aranges_in}
 use Rattle.addr2line_units.specs.UnitAttributes.{no_unit_attributes, with_unit_attribute, or_with_unit_attribute, unit_attributes}
@@ -38,7 +38,7 @@ use Rattle.addr2line_units.specs.UnitsState.{UnitsState, new_units, asked_by, st
 use Rattle.addr2line_units.specs.Views.{FirstAnswers, View, SplitLoad, split_name_of, first_of, first_unit, answered_view, load_by, load_of_unit, verdict_by, verdict, is_open, decided_answer, view_scope}
 use Rattle.addr2line_units.specs.Frames.{FoundFunction, FrameRecord, function_from, function_at}
 use Rattle.addr2line_units.specs.UnitFrames.{FramesResult, function_by, function_in, frames_by, frames_in}
-use Rattle.addr2line_units.specs.FramesLookup.{Stop, FindsNothing, answer_of, frames_of_number, after_fault, asked_frames, or_stop, stop_along}
+use Rattle.addr2line_units.specs.FramesLookup.{LookupStop, FindsNothing, answer_of, frames_of_number, after_fault, asked_frames, or_stop, stop_along}
 use Rattle.addr2line_units.specs.AskedUnits.{stop_at}
 use Rattle.addr2line_units.specs.CachedFunctions.{details_at, functions_fault}
 use Rattle.addr2line_units.specs.FunctionParses.{read_of_functions, read_of_view, read_of_unit, read_of_number, read_of_units}
@@ -234,13 +234,13 @@ frames_of_number_are scope units answers probe n = frames_if_are scope (answer_o
 
 after_fault_is : (faults : OnFault) (r : FramesResult) → IsByBytes r → IsByBytes (after_fault faults r)
 after_fault_is faults (Ok frames) h = value
-after_fault_is End (Err e) h = h
-after_fault_is PassOver (Err e) h = value
+after_fault_is Stop (Err e) h = h
+after_fault_is Skip (Err e) h = value
 
 pub asked_frames_are : (faults : OnFault) (scope : Scope) (units : List IndexedUnit) (answers : FirstAnswers) (probe n : ℕ) → IsByBytes (asked_frames faults scope units answers probe n)
 asked_frames_are faults scope units answers probe n = after_fault_is faults (frames_of_number scope units answers probe n) (frames_of_number_are scope units answers probe n)
 
-or_stop_is : (n : ℕ) (rest : Result Stop Error) (frames : Option (List FrameRecord)) → IsByBytes rest → IsByBytes (or_stop n rest frames)
+or_stop_is : (n : ℕ) (rest : Result LookupStop Error) (frames : Option (List FrameRecord)) → IsByBytes rest → IsByBytes (or_stop n rest frames)
 or_stop_is n rest None h = value
 or_stop_is n rest (Some []) h = h
 or_stop_is n rest (Some (f ∷ frames)) h = value
@@ -283,8 +283,8 @@ pub functions_fault_is : (scope : Scope) (u : UnitRecord) → IsByBytes (functio
 functions_fault_is scope u = step (functions_are scope.file.sections u) (λ ranges. details_at_are scope u (entries_of ranges))
 
 read_of_functions_is : (depth : ReadingDepth) (scope : Scope) (u : UnitRecord) → IsByBytes (read_of_functions depth scope u)
-read_of_functions_is reads.Functions scope u = fault_of_is (functions_are scope.file.sections u)
-read_of_functions_is reads.Details scope u = functions_fault_is scope u
+read_of_functions_is depths.Functions scope u = fault_of_is (functions_are scope.file.sections u)
+read_of_functions_is depths.Details scope u = functions_fault_is scope u
 
 read_of_view_is : (depth : ReadingDepth) (scope : Scope) (v : Option (Result View Error)) → IsViewByBytes v → IsByBytes (read_of_view depth scope v)
 read_of_view_is depth scope None h = value

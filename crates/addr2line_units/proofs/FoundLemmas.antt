@@ -9,7 +9,7 @@ use Rattle.gimli.specs.Sections.{Sections}
 use Rattle.gimli.specs.Unit.{UnitRecord}
 use Rattle.addr2line_lines.specs.References.{Scope}
 use Rattle.addr2line_units.specs.declared.frames_lookup.OnFault.{OnFault}
-use Rattle.addr2line_units.specs.declared.frames_lookup.OnFault.TheVariants.{End, PassOver}
+use Rattle.addr2line_units.specs.declared.frames_lookup.OnFault.TheVariants.{Stop, Skip}
 use Rattle.addr2line_units.specs.declared.frames_lookup.FramesStop.{FramesStop}
 use Rattle.addr2line_units.specs.declared.frames_lookup.FramesStop.TheVariants as stops
 use Rattle.addr2line_units.specs.declared.index.UnitRange.{UnitRange}
@@ -18,7 +18,7 @@ use Rattle.addr2line_units.specs.declared.view.ViewState.{ViewState}
 use Rattle.addr2line_units.specs.declared.view.ViewState.TheVariants as states
 use Rattle.addr2line_units.specs.CachedLines.{indexed_units}
 use Rattle.addr2line_units.specs.Frames.{FrameRecord}
-use Rattle.addr2line_units.specs.FramesLookup.{Stop, Waits, Finds, FindsNothing, after_fault, asked_frames, ends_lookup, frames_of_number, holds_along, or_stop, stop_along}
+use Rattle.addr2line_units.specs.FramesLookup.{LookupStop, Waits, Finds, FindsNothing, after_fault, asked_frames, ends_lookup, frames_of_number, holds_along, or_stop, stop_along}
 use Rattle.addr2line_units.specs.CachedEntries.{first_answer_of}
 use Rattle.addr2line_units.specs.CachedUnits.{HaveEntriesOf, answers_in, decided_at, has_entries_at}
 use Rattle.addr2line_units.specs.CachedFrames.{IsLendable, IsStopIn, frames_at_place, has_frames_at, seen_stop}
@@ -29,14 +29,14 @@ use Rattle.addr2line_units.specs.Views.{FirstAnswers, is_open}
 use Rattle.addr2line_units.proofs.AnswerLemmas.{looked_waits}
 use Rattle.addr2line_units.proofs.WaitLemmas.{and_first, and_second, known_was_looked_at, waits_where_told}
 
-number_of : Stop → ℕ → ℕ
+number_of : LookupStop → ℕ → ℕ
 number_of (Waits n) d = d
 number_of (Finds n frames) d = n
 number_of FindsNothing d = d
 
-same_number : (n k : ℕ) (fs gs : List FrameRecord) → ◌≡◌ {A = Result Stop Error} (Ok (Finds n fs)) (Ok (Finds k gs)) → n ≡ k
+same_number : (n k : ℕ) (fs gs : List FrameRecord) → ◌≡◌ {A = Result LookupStop Error} (Ok (Finds n fs)) (Ok (Finds k gs)) → n ≡ k
 unfolding number_of
-same_number n k fs gs e = let s : ◌≡◌ {A = Stop} (Finds n fs) (Finds k gs) = cc in ap (λ x. number_of x 0) s
+same_number n k fs gs e = let s : ◌≡◌ {A = LookupStop} (Finds n fs) (Finds k gs) = cc in ap (λ x. number_of x 0) s
 
 -- whether there are frames
 unfoldable pub has_frames : FramesResult → Bool
@@ -48,7 +48,7 @@ has_frames (Err e) = false
 -- a lookup that has found something in a unit was told so by it, and of it holds what holds along
 -- the ranges
 module _ (holds : ℕ → Bool) (frames : ℕ → FramesResult) (n : ℕ) (fs : List FrameRecord) where
-  told : (k : ℕ) (rest : Result Stop Error) (more : Bool) (r : FramesResult) → frames k ≡ r → (holds k && (ends_lookup r || more)) ≡ true → (r >>= or_stop k rest) ≡ Ok (Finds n fs)
+  told : (k : ℕ) (rest : Result LookupStop Error) (more : Bool) (r : FramesResult) → frames k ≡ r → (holds k && (ends_lookup r || more)) ≡ true → (r >>= or_stop k rest) ≡ Ok (Finds n fs)
       → (rest ≡ Ok (Finds n fs) → more ≡ true → (has_frames (frames n) ≡ true) × (holds n ≡ true)) → (has_frames (frames n) ≡ true) × (holds n ≡ true)
   unfolding has_frames
   told k rest more (Err x) e h w further = absurd cc
@@ -74,8 +74,8 @@ always_along frames (r ∷ ranges) = by (ends_lookup (frames r.unit)) (always_al
 pub found_by_unit : (faults : OnFault) (r : FramesResult) → has_frames (after_fault faults r) ≡ true → has_frames r ≡ true
 unfolding has_frames
 found_by_unit faults (Ok x) e = e
-found_by_unit End (Err x) e = e
-found_by_unit PassOver (Err x) e = absurd cc
+found_by_unit Stop (Err x) e = e
+found_by_unit Skip (Err x) e = absurd cc
 
 -- only a unit that is decided has frames
 pub decided_by_frames : (scope : Scope) (u : IndexedUnit) (answer : Option (Option Sections)) (probe : ℕ) → has_frames (frames_in scope u answer probe) ≡ true → is_open scope.file.sections u.unit answer ≡ false

@@ -9,7 +9,7 @@ use Rattle.gimli_read.specs.Section.{Section}
 use Rattle.addr2line_lines.specs.InlinedEntries.{InlinedEntry}
 use Rattle.addr2line_lines.specs.Location.{Location}
 use Rattle.addr2line_units.specs.declared.frames_lookup.OnFault.{OnFault}
-use Rattle.addr2line_units.specs.declared.frames_lookup.OnFault.TheVariants.{End, PassOver}
+use Rattle.addr2line_units.specs.declared.frames_lookup.OnFault.TheVariants.{Stop, Skip}
 use Rattle.addr2line_units.specs.declared.frames_lookup.FramesStop.{FramesStop}
 use Rattle.addr2line_units.specs.declared.frames_lookup.FramesStop.TheVariants as stops
 use Rattle.addr2line_units.specs.declared.index.UnitRange.{UnitRange}
@@ -17,7 +17,7 @@ use Rattle.addr2line_units.specs.declared.unit_frames.UnitCache.{UnitCache}
 use Rattle.addr2line_units.specs.declared.unit_frames.UnitFrames.{UnitFrames}
 use Rattle.addr2line_units.specs.declared.unit_frames.UnitFrames.TheVariants as found
 use Rattle.addr2line_units.specs.Frames.{FrameRecord, frames_from}
-use Rattle.addr2line_units.specs.FramesLookup.{Stop, Finds, after_fault, ends_lookup, holds_along, or_stop, stop_along}
+use Rattle.addr2line_units.specs.FramesLookup.{LookupStop, Finds, after_fault, ends_lookup, holds_along, or_stop, stop_along}
 use Rattle.addr2line_units.specs.CachedFrames.{AreFoundAt, IsStopIn, found_after_fault, frames_found_at, seen_stop, stop_of_found}
 use Rattle.gimli_read.specs.Alike.{WasNotRefused}
 use Rattle.addr2line_units.specs.Parsed.{ParsesOnly}
@@ -29,68 +29,68 @@ module _ (faults : OnFault) where
       → ExactlyUnlessOom see r given → ExactlyUnlessOom see (found_after_fault faults r) (after_fault faults given)
   gives_after see r given nothing h = of_faults faults r h
     where
-      passed : (e : Error) → ExactlyUnlessOom see (Err e) given → ExactlyUnlessOom see (found_after_fault PassOver (Err e)) (after_fault PassOver given)
+      passed : (e : Error) → ExactlyUnlessOom see (Err e) given → ExactlyUnlessOom see (found_after_fault Skip (Err e)) (after_fault Skip given)
       passed OutOfMemory h = λ ne. absurd (ne refl)
-      passed _ h = ap (after_fault PassOver) (h (λ q. absurd cc)) ∙ ap (λ x. Ok x) (sym nothing)
+      passed _ h = ap (after_fault Skip) (h (λ q. absurd cc)) ∙ ap (λ x. Ok x) (sym nothing)
 
       of_faults : (f : OnFault) (r : Result UnitFrames Error) → ExactlyUnlessOom see r given → ExactlyUnlessOom see (found_after_fault f r) (after_fault f given)
-      of_faults End (Ok x) h = ap (after_fault End) h
-      of_faults End (Err e) h = λ ne. ap (after_fault End) (h ne)
-      of_faults PassOver (Ok x) h = ap (after_fault PassOver) h
-      of_faults PassOver (Err e) h = passed e h
+      of_faults Stop (Ok x) h = ap (after_fault Stop) h
+      of_faults Stop (Err e) h = λ ne. ap (after_fault Stop) (h ne)
+      of_faults Skip (Ok x) h = ap (after_fault Skip) h
+      of_faults Skip (Err e) h = passed e h
 
   pub oom_before : (r : Result UnitFrames Error) → WasNotRefused (found_after_fault faults r) → WasNotRefused r
   oom_before r h = of_faults faults r h
     where
-      passed : (e : Error) → WasNotRefused (found_after_fault PassOver (Err e)) → e ≢ OutOfMemory
+      passed : (e : Error) → WasNotRefused (found_after_fault Skip (Err e)) → e ≢ OutOfMemory
       passed OutOfMemory h = h
       passed _ h = λ q. absurd cc
 
       of_faults : (f : OnFault) (r : Result UnitFrames Error) → WasNotRefused (found_after_fault f r) → WasNotRefused r
-      of_faults End (Ok x) h = tt
-      of_faults End (Err e) h = h
-      of_faults PassOver (Ok x) h = tt
-      of_faults PassOver (Err e) h = passed e h
+      of_faults Stop (Ok x) h = tt
+      of_faults Stop (Err e) h = h
+      of_faults Skip (Ok x) h = tt
+      of_faults Skip (Err e) h = passed e h
 
   pub oom_after : (r : Result UnitFrames Error) → WasNotRefused r → WasNotRefused (found_after_fault faults r)
   oom_after r h = of_faults faults r h
     where
-      passed : (e : Error) → e ≢ OutOfMemory → WasNotRefused (found_after_fault PassOver (Err e))
+      passed : (e : Error) → e ≢ OutOfMemory → WasNotRefused (found_after_fault Skip (Err e))
       passed OutOfMemory h = h
       passed _ h = tt
 
       of_faults : (f : OnFault) (r : Result UnitFrames Error) → WasNotRefused r → WasNotRefused (found_after_fault f r)
-      of_faults End (Ok x) h = tt
-      of_faults End (Err e) h = h
-      of_faults PassOver (Ok x) h = tt
-      of_faults PassOver (Err e) h = passed e h
+      of_faults Stop (Ok x) h = tt
+      of_faults Stop (Err e) h = h
+      of_faults Skip (Ok x) h = tt
+      of_faults Skip (Err e) h = passed e h
 
   -- a refusal that isn't passed over is that of the unit
   pub refused_before : (r : Result UnitFrames Error) (x : Error) → found_after_fault faults r ≡ Err x → r ≡ Err x
   refused_before r x h = of_faults faults r h
     where
-      passed : (e : Error) → found_after_fault PassOver (Err e) ≡ Err x → ◌≡◌ {A = Result UnitFrames Error} (Err e) (Err x)
+      passed : (e : Error) → found_after_fault Skip (Err e) ≡ Err x → ◌≡◌ {A = Result UnitFrames Error} (Err e) (Err x)
       passed OutOfMemory h = h
       passed _ h = absurd cc
 
       of_faults : (f : OnFault) (r : Result UnitFrames Error) → found_after_fault f r ≡ Err x → r ≡ Err x
-      of_faults End (Ok y) h = h
-      of_faults End (Err e) h = h
-      of_faults PassOver (Ok y) h = h
-      of_faults PassOver (Err e) h = passed e h
+      of_faults Stop (Ok y) h = h
+      of_faults Stop (Err e) h = h
+      of_faults Skip (Ok y) h = h
+      of_faults Skip (Err e) h = passed e h
 
   pub there_after : {R : Type 0} (cs : List (UnitCache R)) (n : ℕ) (r : Result UnitFrames Error) → IfOk r (AreFoundAt cs n) → IfOk (found_after_fault faults r) (AreFoundAt cs n)
   there_after cs n r h = of_faults faults r h
     where
-      passed : (e : Error) → IfOk (found_after_fault PassOver (Err e)) (AreFoundAt cs n)
+      passed : (e : Error) → IfOk (found_after_fault Skip (Err e)) (AreFoundAt cs n)
       passed OutOfMemory = tt
       passed _ = tt
 
       of_faults : (f : OnFault) (r : Result UnitFrames Error) → IfOk r (AreFoundAt cs n) → IfOk (found_after_fault f r) (AreFoundAt cs n)
-      of_faults End (Ok x) h = h
-      of_faults End (Err e) h = h
-      of_faults PassOver (Ok x) h = h
-      of_faults PassOver (Err e) h = passed e
+      of_faults Stop (Ok x) h = h
+      of_faults Stop (Err e) h = h
+      of_faults Skip (Ok x) h = h
+      of_faults Skip (Err e) h = passed e
 
 -- along ranges
 module _ (frames : ℕ → FramesResult) (r : UnitRange) (rest : List UnitRange) where
@@ -132,7 +132,7 @@ module _ (frames : ℕ → FramesResult) (r : UnitRange) (rest : List UnitRange)
       of_bools false b c e k = e
 
 -- a function that is found has frames
-has_frame : (files : List (List ℕ)) (language : Option DwLang) (offset : ℕ) (name : Option Section) (es : List InlinedEntry) (location : Option Location) (n : ℕ) (rest : Result Stop Error)
+has_frame : (files : List (List ℕ)) (language : Option DwLang) (offset : ℕ) (name : Option Section) (es : List InlinedEntry) (location : Option Location) (n : ℕ) (rest : Result LookupStop Error)
     → or_stop n rest (Some (frames_from files language offset name es location)) ≡ Ok (Finds n (frames_from files language offset name es location))
 has_frame files language offset name [] location n rest = refl
 has_frame files language offset name (e ∷ es) location n rest = refl
@@ -152,7 +152,7 @@ module _ {R : Type 0} (cs : List (UnitCache R)) (n : ℕ) where
   stop_there (found.Here (Some p) row) stop e h =
       let same : stops.Finds (record { unit = n; function = Some p; row = row }) ≡ stop = cc in subst (IsStopIn cs) same h
 
-  pub stop_is : (f : UnitFrames) (stop : FramesStop) (rest : Result Stop Error) → stop_of_found n f ≡ Some stop → or_stop n rest (frames_found_at cs n f) ≡ Ok (seen_stop cs stop)
+  pub stop_is : (f : UnitFrames) (stop : FramesStop) (rest : Result LookupStop Error) → stop_of_found n f ≡ Some stop → or_stop n rest (frames_found_at cs n f) ≡ Ok (seen_stop cs stop)
   stop_is found.Open stop rest e = let same : stops.Waits n ≡ stop = cc in ap (λ s. Ok (seen_stop cs s)) same
   stop_is (found.Here None None) stop rest e = cc
   stop_is (found.Here None (Some row)) stop rest e =

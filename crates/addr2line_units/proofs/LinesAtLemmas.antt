@@ -20,7 +20,7 @@ use Rattle.addr2line_units.specs.AfterUnits.{AfterLines}
 use Rattle.addr2line_units.specs.AskedUnits.{AfterCachingAt, AfterRowAt}
 use Rattle.addr2line_units.specs.AskMemory.{any_lines_take_memory, lines_of_take_memory, lines_take_memory}
 use Rattle.addr2line_units.specs.CachedLines.{AreLinesOf, CachesResult, HaveLinesOf, StaysUnit, StayUnits, cached_files, indexed_unit, is_uncached, lines_result, lines_result_at, parsed_units, unit_row}
-use Rattle.addr2line_units.specs.FramesLookup.{FindsNothing, Stop}
+use Rattle.addr2line_units.specs.FramesLookup.{FindsNothing, LookupStop}
 use Rattle.addr2line_units.specs.Located.{is_found, location_in, looks_in}
 use Rattle.addr2line_units.specs.Parsed.{has_parsed}
 use Rattle.addr2line_units.specs.StoredUnits.{AreUnits, seen_units}
@@ -31,7 +31,7 @@ use Rattle.addr2line_units.proofs.NumberedFrames.{none_past}
 use Rattle.addr2line_units.proofs.StateLemmas.{after_lines, files_are}
 use Rattle.addr2line_units.proofs.UnitsLemmas.{answer_cached, as_many, lines_read, lines_set, no_parsed, no_unit, only_set, own_at, own_set, parsed_set, set_parsed, stay_indexed, stay_set, unit_at}
 
-module _ {R : Type 0} (scope : Scope) (cs : List (UnitCache R)) (last : FramesStop) (i : AreUnits scope cs last) (n looks : ℕ) (was : Stop) where
+module _ {R : Type 0} (scope : Scope) (cs : List (UnitCache R)) (last : FramesStop) (i : AreUnits scope cs last) (n looks : ℕ) (was : LookupStop) where
   abbrev d : Sections
   d = scope.file.sections
 

@@ -21,7 +21,7 @@ use Rattle.addr2line_units.specs.CachedKnown.{known_in}
 use Rattle.addr2line_units.specs.CachedLines.{AreLinesOf}
 use Rattle.addr2line_units.specs.CachedUnits.{HaveEntriesOf, HaveSameLines, answers_in, decided_at}
 use Rattle.addr2line_units.specs.CachedViews.{is_decided}
-use Rattle.addr2line_units.specs.FramesLookup.{FindsNothing, Stop, answer_of}
+use Rattle.addr2line_units.specs.FramesLookup.{FindsNothing, LookupStop, answer_of}
 use Rattle.addr2line_units.specs.KnownEntries.{LearnsNoFunctions}
 use Rattle.addr2line_units.specs.Loads.{load_result, view_fault}
 use Rattle.addr2line_units.specs.StoredUnits.{AreUnits, seen_units}
@@ -47,7 +47,7 @@ module _ {R : Type 0} (scope : Scope) (held : List (UnitCache R)) (last : Frames
   own_all = entries_right scope us held i.caches
 
   -- there is none
-  module _ (none : slice_get us n ≡ None) (given : Option Sections) (looks : ℕ) (was : Stop) where
+  module _ (none : slice_get us n ≡ None) (given : Option Sections) (looks : ℕ) (was : LookupStop) where
     pub none_answered : AfterAnswer n given (Ok tt) (seen_units scope held looks was) (seen_units scope held looks FindsNothing)
     none_answered = record {
       stays = refl;
@@ -142,7 +142,7 @@ module _ {R : Type 0} (scope : Scope) (held : List (UnitCache R)) (last : Frames
         pub fault_told : (given : Option Sections) (r : Result (Unit {0}) Error) → r ≡ view_fault (verdict d u (decided_answer d u (first_answer_of v) given)) → r ≡ load_result d us (answers_in held) n given
         fault_told given r e = e ∙ sym (load_is given)
 
-        module _ (given : Option Sections) (b : Bool) (some : is_some given ≡ b) (looks : ℕ) (was : Stop) where
+        module _ (given : Option Sections) (b : Bool) (some : is_some given ≡ b) (looks : ℕ) (was : LookupStop) where
           abbrev old : UnitsState
           old = seen_units scope held looks was
 
@@ -181,7 +181,7 @@ module _ {R : Type 0} (scope : Scope) (held : List (UnitCache R)) (last : Frames
                 (λ h. absurd (let no = shut (not_open_there d us held n u c there in_entries at h) in cc))
                 (λ none. absurd (let f : false ≡ true = ap is_some (sym none) ∙ some ∙ refused.2 in cc)) learns
 
-        pub forgotten_there : (looks : ℕ) (was : Stop) → first_answer_of w ≡ None → (first_answer_of v ≡ None → w ≡ v) → (is_some (first_answer_of v) ≡ true → were_read w.functions ≡ false) → AfterForget n (seen_units scope held looks was) (seen_units scope now looks FindsNothing)
+        pub forgotten_there : (looks : ℕ) (was : LookupStop) → first_answer_of w ≡ None → (first_answer_of v ≡ None → w ≡ v) → (is_some (first_answer_of v) ≡ true → were_read w.functions ≡ false) → AfterForget n (seen_units scope held looks was) (seen_units scope now looks FindsNothing)
         forgotten_there looks was none same unread = after_forget scope held own_all now same_lines_now looks was n
             (answers_set held n with_entries ∙ ap (λ a. set (answers_in held) n a) none)
             (λ h. same_set held n c with_entries at (ap (λ e. record c { entries = e }) (same (sym answer_is ∙ h)))) (λ k ne. others_stay held n k with_entries ne)

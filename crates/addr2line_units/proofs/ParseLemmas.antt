@@ -50,60 +50,60 @@ module _ (d : Sections) where
   decided_at (u ∷ us) [] (suc n) = refl
   decided_at (u ∷ us) (a ∷ answers) (suc n) = decided_at us answers n
 
-module _ (reads : ReadingDepth) (scope : Scope) where
+module _ (depth : ReadingDepth) (scope : Scope) where
   -- what is read of a unit is the same where those before it are decided
   pub number_behind : (us : List UnitRecord) (answers : FirstAnswers) (n : ℕ)
-      → read_of_number reads scope us (first_decided scope.file.sections n us answers) n ≡ read_of_number reads scope us answers n
+      → read_of_number depth scope us (first_decided scope.file.sections n us answers) n ≡ read_of_number depth scope us answers n
   number_behind us answers n =
       ap (λ (a : Option (Option Sections)). by_answer a) (decided_at scope.file.sections us answers n)
     where
       by_answer : Option (Option Sections) → Result (Unit {0}) Error
-      by_answer a = elim (slice_get us n) [ None ↦ Ok tt | Some u ↦ read_of_unit reads scope u a ]
+      by_answer a = elim (slice_get us n) [ None ↦ Ok tt | Some u ↦ read_of_unit depth scope u a ]
 
   -- one more unit was read
-  pub before_more : (us : List UnitRecord) (answers : FirstAnswers) (n : ℕ) → AreReadBefore reads scope us answers n → read_of_number reads scope us answers n ≡ Ok tt → AreReadBefore reads scope us answers (suc n)
+  pub before_more : (us : List UnitRecord) (answers : FirstAnswers) (n : ℕ) → AreReadBefore depth scope us answers n → read_of_number depth scope us answers n ≡ Ok tt → AreReadBefore depth scope us answers (suc n)
   before_more us answers n before at m h = elim (below_next m n h) [
     | inl l ↦ before m l
-    | inr e ↦ ap (read_of_number reads scope us answers) e ∙ at
+    | inr e ↦ ap (read_of_number depth scope us answers) e ∙ at
   ]
 
   -- the first fault is that of the first unit that has one
-  pub read_stop : (us : List UnitRecord) (answers : FirstAnswers) (n : ℕ) (e : Error) → length us ≡ length answers → AreReadBefore reads scope us answers n → read_of_number reads scope us answers n ≡ Err e
-      → read_of_units reads scope us answers ≡ Err e
+  pub read_stop : (us : List UnitRecord) (answers : FirstAnswers) (n : ℕ) (e : Error) → length us ≡ length answers → AreReadBefore depth scope us answers n → read_of_number depth scope us answers n ≡ Err e
+      → read_of_units depth scope us answers ≡ Err e
   read_stop [] answers n e many before at = absurd cc
   read_stop (u ∷ us) [] n e many before at = absurd (omega arith)
-  read_stop (u ∷ us) (a ∷ answers) zero e many before at = ap (λ (r : Result (Unit {0}) Error). r >>= λ _. read_of_units reads scope us answers) at
+  read_stop (u ∷ us) (a ∷ answers) zero e many before at = ap (λ (r : Result (Unit {0}) Error). r >>= λ _. read_of_units depth scope us answers) at
   read_stop (u ∷ us) (a ∷ answers) (suc n) e many before at =
-      ap (λ (r : Result (Unit {0}) Error). r >>= λ _. read_of_units reads scope us answers) (before 0 (omega arith))
+      ap (λ (r : Result (Unit {0}) Error). r >>= λ _. read_of_units depth scope us answers) (before 0 (omega arith))
       ∙ read_stop us answers n e (omega arith) (λ m h. before (suc m) (omega arith)) at
 
   -- there is none where no unit has one
-  pub read_end : (us : List UnitRecord) (answers : FirstAnswers) (n : ℕ) → length us ≡ length answers → length us ≤ n → AreReadBefore reads scope us answers n → read_of_units reads scope us answers ≡ Ok tt
+  pub read_end : (us : List UnitRecord) (answers : FirstAnswers) (n : ℕ) → length us ≡ length answers → length us ≤ n → AreReadBefore depth scope us answers n → read_of_units depth scope us answers ≡ Ok tt
   read_end [] answers n many past before = refl
   read_end (u ∷ us) [] n many past before = refl
   read_end (u ∷ us) (a ∷ answers) zero many past before = absurd (omega arith)
   read_end (u ∷ us) (a ∷ answers) (suc n) many past before =
-      ap (λ (r : Result (Unit {0}) Error). r >>= λ _. read_of_units reads scope us answers) (before 0 (omega arith))
+      ap (λ (r : Result (Unit {0}) Error). r >>= λ _. read_of_units depth scope us answers) (before 0 (omega arith))
       ∙ read_end us answers n (omega arith) (omega arith) (λ m h. before (suc m) (omega arith))
 
   -- the answers then: up to the unit with the first fault, or all
-  pub after_stop : (us : List UnitRecord) (answers : FirstAnswers) (n : ℕ) (e : Error) → length us ≡ length answers → AreReadBefore reads scope us answers n → read_of_number reads scope us answers n ≡ Err e
-      → answers_after_parse reads scope us answers ≡ first_decided scope.file.sections (suc n) us answers
+  pub after_stop : (us : List UnitRecord) (answers : FirstAnswers) (n : ℕ) (e : Error) → length us ≡ length answers → AreReadBefore depth scope us answers n → read_of_number depth scope us answers n ≡ Err e
+      → answers_after_parse depth scope us answers ≡ first_decided scope.file.sections (suc n) us answers
   after_stop [] answers n e many before at = absurd cc
   after_stop (u ∷ us) [] n e many before at = absurd (omega arith)
   after_stop (u ∷ us) (a ∷ answers) zero e many before at =
-      ap (λ (r : Result (Unit {0}) Error). decided_answer scope.file.sections u a None ∷ unless_fault r (answers_after_parse reads scope us answers) answers) at
+      ap (λ (r : Result (Unit {0}) Error). decided_answer scope.file.sections u a None ∷ unless_fault r (answers_after_parse depth scope us answers) answers) at
   after_stop (u ∷ us) (a ∷ answers) (suc n) e many before at =
-      ap (λ (r : Result (Unit {0}) Error). decided_answer scope.file.sections u a None ∷ unless_fault r (answers_after_parse reads scope us answers) answers) (before 0 (omega arith))
+      ap (λ (r : Result (Unit {0}) Error). decided_answer scope.file.sections u a None ∷ unless_fault r (answers_after_parse depth scope us answers) answers) (before 0 (omega arith))
       ∙ ap (λ (xs : FirstAnswers). decided_answer scope.file.sections u a None ∷ xs) (after_stop us answers n e (omega arith) (λ m h. before (suc m) (omega arith)) at)
 
-  pub after_end : (us : List UnitRecord) (answers : FirstAnswers) (n : ℕ) → length us ≡ length answers → length us ≤ n → AreReadBefore reads scope us answers n → answers_after_parse reads scope us answers ≡ first_decided scope.file.sections n us answers
+  pub after_end : (us : List UnitRecord) (answers : FirstAnswers) (n : ℕ) → length us ≡ length answers → length us ≤ n → AreReadBefore depth scope us answers n → answers_after_parse depth scope us answers ≡ first_decided scope.file.sections n us answers
   after_end [] answers zero many past before = refl
   after_end [] answers (suc n) many past before = refl
   after_end (u ∷ us) [] n many past before = absurd (omega arith)
   after_end (u ∷ us) (a ∷ answers) zero many past before = absurd (omega arith)
   after_end (u ∷ us) (a ∷ answers) (suc n) many past before =
-      ap (λ (r : Result (Unit {0}) Error). decided_answer scope.file.sections u a None ∷ unless_fault r (answers_after_parse reads scope us answers) answers) (before 0 (omega arith))
+      ap (λ (r : Result (Unit {0}) Error). decided_answer scope.file.sections u a None ∷ unless_fault r (answers_after_parse depth scope us answers) answers) (before 0 (omega arith))
       ∙ ap (λ (xs : FirstAnswers). decided_answer scope.file.sections u a None ∷ xs) (after_end us answers n (omega arith) (omega arith) (λ m h. before (suc m) (omega arith)))
 
 -- a unit that is decided by none where it was open is decided
@@ -131,39 +131,39 @@ module _ (d : Sections) (u : UnitRecord) where
       ap (λ (o : Option (Result View Error)). if is_none o then Some None else decided_answer d u answer None) v.1
 
 -- a parse after a parse
-module _ (reads : ReadingDepth) (scope : Scope) where
-  pub unit_again : (u : UnitRecord) (answer : Option (Option Sections)) → read_of_unit reads scope u (decided_answer scope.file.sections u answer None) ≡ read_of_unit reads scope u answer
+module _ (depth : ReadingDepth) (scope : Scope) where
+  pub unit_again : (u : UnitRecord) (answer : Option (Option Sections)) → read_of_unit depth scope u (decided_answer scope.file.sections u answer None) ≡ read_of_unit depth scope u answer
   unit_again u answer = ap (λ a. read_of_view_at a) (decided_again scope.file.sections u answer)
     where
       read_of_view_at : Option (Option Sections) → Result (Unit {0}) Error
-      read_of_view_at a = read_of_view reads scope (verdict scope.file.sections u a)
+      read_of_view_at a = read_of_view depth scope (verdict scope.file.sections u a)
 
-  pub units_again : (us : List UnitRecord) (answers : FirstAnswers) → read_of_units reads scope us (answers_after_parse reads scope us answers) ≡ read_of_units reads scope us answers
+  pub units_again : (us : List UnitRecord) (answers : FirstAnswers) → read_of_units depth scope us (answers_after_parse depth scope us answers) ≡ read_of_units depth scope us answers
   units_again [] answers = refl
   units_again (u ∷ us) [] = refl
-  units_again (u ∷ us) (a ∷ answers) = by_unit (units_again us answers) (read_of_unit reads scope u a) (unit_again u a)
+  units_again (u ∷ us) (a ∷ answers) = by_unit (units_again us answers) (read_of_unit depth scope u a) (unit_again u a)
     where
-      by_unit : read_of_units reads scope us (answers_after_parse reads scope us answers) ≡ read_of_units reads scope us answers → (r : Result (Unit {0}) Error) → read_of_unit reads scope u (decided_answer scope.file.sections u a None) ≡ r
-          → (read_of_unit reads scope u (decided_answer scope.file.sections u a None) >>= λ _. read_of_units reads scope us (unless_fault r (answers_after_parse reads scope us answers) answers)) ≡ (r >>= λ _. read_of_units reads scope us answers)
-      by_unit again (Ok x) e = ap (λ (r : Result (Unit {0}) Error). r >>= λ _. read_of_units reads scope us (answers_after_parse reads scope us answers)) e ∙ again
-      by_unit again (Err x) e = ap (λ (r : Result (Unit {0}) Error). r >>= λ _. read_of_units reads scope us answers) e
+      by_unit : read_of_units depth scope us (answers_after_parse depth scope us answers) ≡ read_of_units depth scope us answers → (r : Result (Unit {0}) Error) → read_of_unit depth scope u (decided_answer scope.file.sections u a None) ≡ r
+          → (read_of_unit depth scope u (decided_answer scope.file.sections u a None) >>= λ _. read_of_units depth scope us (unless_fault r (answers_after_parse depth scope us answers) answers)) ≡ (r >>= λ _. read_of_units depth scope us answers)
+      by_unit again (Ok x) e = ap (λ (r : Result (Unit {0}) Error). r >>= λ _. read_of_units depth scope us (answers_after_parse depth scope us answers)) e ∙ again
+      by_unit again (Err x) e = ap (λ (r : Result (Unit {0}) Error). r >>= λ _. read_of_units depth scope us answers) e
 
-  pub answers_again : (us : List UnitRecord) (answers : FirstAnswers) → answers_after_parse reads scope us (answers_after_parse reads scope us answers) ≡ answers_after_parse reads scope us answers
+  pub answers_again : (us : List UnitRecord) (answers : FirstAnswers) → answers_after_parse depth scope us (answers_after_parse depth scope us answers) ≡ answers_after_parse depth scope us answers
   answers_again [] answers = refl
   answers_again (u ∷ us) [] = refl
   answers_again (u ∷ us) (a ∷ answers) =
-      ap (λ x. x ∷ unless_fault (read_of_unit reads scope u (decided_answer scope.file.sections u a None)) (answers_after_parse reads scope us (rest (read_of_unit reads scope u a))) (rest (read_of_unit reads scope u a))) (decided_again scope.file.sections u a)
-      ∙ ap (λ xs. decided_answer scope.file.sections u a None ∷ xs) (by_unit (answers_again us answers) (read_of_unit reads scope u a) (unit_again u a))
+      ap (λ x. x ∷ unless_fault (read_of_unit depth scope u (decided_answer scope.file.sections u a None)) (answers_after_parse depth scope us (rest (read_of_unit depth scope u a))) (rest (read_of_unit depth scope u a))) (decided_again scope.file.sections u a)
+      ∙ ap (λ xs. decided_answer scope.file.sections u a None ∷ xs) (by_unit (answers_again us answers) (read_of_unit depth scope u a) (unit_again u a))
     where
       rest : Result (Unit {0}) Error → FirstAnswers
-      rest r = unless_fault r (answers_after_parse reads scope us answers) answers
+      rest r = unless_fault r (answers_after_parse depth scope us answers) answers
 
-      by_unit : answers_after_parse reads scope us (answers_after_parse reads scope us answers) ≡ answers_after_parse reads scope us answers → (r : Result (Unit {0}) Error) → read_of_unit reads scope u (decided_answer scope.file.sections u a None) ≡ r
-          → unless_fault (read_of_unit reads scope u (decided_answer scope.file.sections u a None)) (answers_after_parse reads scope us (unless_fault r (answers_after_parse reads scope us answers) answers)) (unless_fault r (answers_after_parse reads scope us answers) answers)
-          ≡ unless_fault r (answers_after_parse reads scope us answers) answers
-      by_unit again (Ok x) e = ap (λ (r : Result (Unit {0}) Error). unless_fault r (answers_after_parse reads scope us (answers_after_parse reads scope us answers)) (answers_after_parse reads scope us answers)) e ∙ again
-      by_unit again (Err x) e = ap (λ (r : Result (Unit {0}) Error). unless_fault r (answers_after_parse reads scope us answers) answers) e
+      by_unit : answers_after_parse depth scope us (answers_after_parse depth scope us answers) ≡ answers_after_parse depth scope us answers → (r : Result (Unit {0}) Error) → read_of_unit depth scope u (decided_answer scope.file.sections u a None) ≡ r
+          → unless_fault (read_of_unit depth scope u (decided_answer scope.file.sections u a None)) (answers_after_parse depth scope us (unless_fault r (answers_after_parse depth scope us answers) answers)) (unless_fault r (answers_after_parse depth scope us answers) answers)
+          ≡ unless_fault r (answers_after_parse depth scope us answers) answers
+      by_unit again (Ok x) e = ap (λ (r : Result (Unit {0}) Error). unless_fault r (answers_after_parse depth scope us (answers_after_parse depth scope us answers)) (answers_after_parse depth scope us answers)) e ∙ again
+      by_unit again (Err x) e = ap (λ (r : Result (Unit {0}) Error). unless_fault r (answers_after_parse depth scope us answers) answers) e
 
   pub reads_again : (us : List UnitRecord) (answers : FirstAnswers)
-      → (read_of_units reads scope us (answers_after_parse reads scope us answers) ≡ read_of_units reads scope us answers) × (answers_after_parse reads scope us (answers_after_parse reads scope us answers) ≡ answers_after_parse reads scope us answers)
+      → (read_of_units depth scope us (answers_after_parse depth scope us answers) ≡ read_of_units depth scope us answers) × (answers_after_parse depth scope us (answers_after_parse depth scope us answers) ≡ answers_after_parse depth scope us answers)
   reads_again us answers = (units_again us answers, answers_again us answers)

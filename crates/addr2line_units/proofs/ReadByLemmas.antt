@@ -11,7 +11,7 @@ use Rattle.addr2line_units.specs.Loads.{is_open_at}
 use Rattle.addr2line_units.specs.declared.functions.LazyFunctions.{LazyFunctions}
 use Rattle.addr2line_units.specs.declared.functions.LazyFunctions.TheVariants as lazy
 use Rattle.addr2line_units.specs.declared.parses.ReadingDepth.{ReadingDepth}
-use Rattle.addr2line_units.specs.declared.parses.ReadingDepth.TheVariants as kinds
+use Rattle.addr2line_units.specs.declared.parses.ReadingDepth.TheVariants as depths
 use Rattle.addr2line_units.specs.declared.unit_frames.UnitCache.{UnitCache}
 use Rattle.addr2line_units.specs.declared.view.ViewState.{ViewState}
 use Rattle.addr2line_units.specs.declared.view.ViewState.TheVariants as states
@@ -29,63 +29,63 @@ use Rattle.addr2line_units.proofs.CachedUnitLemmas.{entries_more}
 use Rattle.addr2line_units.proofs.WaitLemmas.{known_was_looked_at}
 use Rattle.addr2line_units.specs.StaysKnown.{IsReadBy}
 
-never_fault : (reads : ReadingDepth) (b : Bool) → IsReadBy reads (if b then AllKnown else NothingKnown) → ⊥
-never_fault reads true h = h
-never_fault reads false h = h
+never_fault : (depth : ReadingDepth) (b : Bool) → IsReadBy depth (if b then AllKnown else NothingKnown) → ⊥
+never_fault depth true h = h
+never_fault depth false h = h
 
 module _ {R : Type 0} where
-  read_functions : (reads : ReadingDepth) (f : LazyFunctions R) → HaveFunctions reads f → IsReadBy reads (known_functions f)
-  read_functions reads lazy.Unread h = absurd h
-  read_functions reads (lazy.Faulty e) h = absurd h
-  read_functions kinds.Functions lazy.Absent h = tt
-  read_functions kinds.Details lazy.Absent h = tt
-  read_functions kinds.Functions (lazy.Read t) h = tt
-  read_functions kinds.Details (lazy.Read t) h = all_are_read t.value.functions h
+  read_functions : (depth : ReadingDepth) (f : LazyFunctions R) → HaveFunctions depth f → IsReadBy depth (known_functions f)
+  read_functions depth lazy.Unread h = absurd h
+  read_functions depth (lazy.Faulty e) h = absurd h
+  read_functions depths.Functions lazy.Absent h = tt
+  read_functions depths.Details lazy.Absent h = tt
+  read_functions depths.Functions (lazy.Read t) h = tt
+  read_functions depths.Details (lazy.Read t) h = all_are_read t.value.functions h
 
-  read_answer : {X : Type 0} (reads : ReadingDepth) (r : Result X Error) (f : LazyFunctions R) → is_ok r ≡ true → HaveFunctions reads f → IsReadBy reads (known_answer r f)
-  read_answer reads (Ok x) f e h = read_functions reads f h
-  read_answer reads (Err x) f e h = absurd cc
+  read_answer : {X : Type 0} (depth : ReadingDepth) (r : Result X Error) (f : LazyFunctions R) → is_ok r ≡ true → HaveFunctions depth f → IsReadBy depth (known_answer r f)
+  read_answer depth (Ok x) f e h = read_functions depth f h
+  read_answer depth (Err x) f e h = absurd cc
 
-  read_view : (reads : ReadingDepth) (s : ViewState R) (f : LazyFunctions R) → has_view s ≡ true → HaveFunctions reads f → IsReadBy reads (known_by s f)
-  read_view reads states.Undecided f e h = absurd cc
-  read_view reads states.Open f e h = absurd cc
-  read_view reads states.Main f e h = read_functions reads f h
-  read_view reads (states.Unnamed x) f e h = absurd cc
-  read_view reads (states.Answered a) f e h = read_answer reads a.unit f e h
+  read_view : (depth : ReadingDepth) (s : ViewState R) (f : LazyFunctions R) → has_view s ≡ true → HaveFunctions depth f → IsReadBy depth (known_by s f)
+  read_view depth states.Undecided f e h = absurd cc
+  read_view depth states.Open f e h = absurd cc
+  read_view depth states.Main f e h = read_functions depth f h
+  read_view depth (states.Unnamed x) f e h = absurd cc
+  read_view depth (states.Answered a) f e h = read_answer depth a.unit f e h
 
   -- what is cached is known
-  all_read : (reads : ReadingDepth) (vs : List (UnitCache R)) → HaveRead reads vs → AllByRecursion (IsReadBy reads) (known_in vs)
-  all_read reads [] h = tt
-  all_read reads (v ∷ vs) h = (read_view reads v.entries.view.state v.entries.functions h.0.view h.0.functions, all_read reads vs h.1)
+  all_read : (depth : ReadingDepth) (vs : List (UnitCache R)) → HaveRead depth vs → AllByRecursion (IsReadBy depth) (known_in vs)
+  all_read depth [] h = tt
+  all_read depth (v ∷ vs) h = (read_view depth v.entries.view.state v.entries.functions h.0.view h.0.functions, all_read depth vs h.1)
 
-  pub read_after : (reads : ReadingDepth) (r : Result (Unit {0}) Error) (vs : List (UnitCache R)) → OnOk r (HaveRead reads vs) → OnOk r (AllByRecursion (IsReadBy reads) (known_in vs))
-  read_after reads (Ok x) vs h = all_read reads vs h
-  read_after reads (Err e) vs h = tt
+  pub read_after : (depth : ReadingDepth) (r : Result (Unit {0}) Error) (vs : List (UnitCache R)) → OnOk r (HaveRead depth vs) → OnOk r (AllByRecursion (IsReadBy depth) (known_in vs))
+  read_after depth (Ok x) vs h = all_read depth vs h
+  read_after depth (Err e) vs h = tt
 
-  cached_functions : (reads : ReadingDepth) (f : LazyFunctions R) → IsReadBy reads (known_functions f) → HaveFunctions reads f
-  cached_functions reads lazy.Unread h = absurd h
-  cached_functions reads (lazy.Faulty e) h = absurd (never_fault reads (is_cached_fault e) h)
-  cached_functions reads lazy.Absent h = tt
-  cached_functions kinds.Functions (lazy.Read t) h = tt
-  cached_functions kinds.Details (lazy.Read t) h = all_have_detail t.value.functions h
+  cached_functions : (depth : ReadingDepth) (f : LazyFunctions R) → IsReadBy depth (known_functions f) → HaveFunctions depth f
+  cached_functions depth lazy.Unread h = absurd h
+  cached_functions depth (lazy.Faulty e) h = absurd (never_fault depth (is_cached_fault e) h)
+  cached_functions depth lazy.Absent h = tt
+  cached_functions depths.Functions (lazy.Read t) h = tt
+  cached_functions depths.Details (lazy.Read t) h = all_have_detail t.value.functions h
 
-  cached_in_answer : {X : Type 0} (reads : ReadingDepth) (r : Result X Error) (f : LazyFunctions R) → IsReadBy reads (known_answer r f) → (is_ok r ≡ true) × HaveFunctions reads f
-  cached_in_answer reads (Ok x) f h = (refl, cached_functions reads f h)
-  cached_in_answer reads (Err e) f h = absurd (never_fault reads (is_cached_fault e) h)
+  cached_in_answer : {X : Type 0} (depth : ReadingDepth) (r : Result X Error) (f : LazyFunctions R) → IsReadBy depth (known_answer r f) → (is_ok r ≡ true) × HaveFunctions depth f
+  cached_in_answer depth (Ok x) f h = (refl, cached_functions depth f h)
+  cached_in_answer depth (Err e) f h = absurd (never_fault depth (is_cached_fault e) h)
 
-  cached_view : (reads : ReadingDepth) (s : ViewState R) (f : LazyFunctions R) → IsReadBy reads (known_by s f) → (has_view s ≡ true) × HaveFunctions reads f
-  cached_view reads states.Undecided f h = absurd h
-  cached_view reads states.Open f h = absurd h
-  cached_view reads states.Main f h = (refl, cached_functions reads f h)
-  cached_view reads (states.Unnamed e) f h = absurd (never_fault reads (is_cached_fault e) h)
-  cached_view reads (states.Answered a) f h = cached_in_answer reads a.unit f h
+  cached_view : (depth : ReadingDepth) (s : ViewState R) (f : LazyFunctions R) → IsReadBy depth (known_by s f) → (has_view s ≡ true) × HaveFunctions depth f
+  cached_view depth states.Undecided f h = absurd h
+  cached_view depth states.Open f h = absurd h
+  cached_view depth states.Main f h = (refl, cached_functions depth f h)
+  cached_view depth (states.Unnamed e) f h = absurd (never_fault depth (is_cached_fault e) h)
+  cached_view depth (states.Answered a) f h = cached_in_answer depth a.unit f h
 
   -- what is known is cached
-  pub read_before : (reads : ReadingDepth) (vs : List (UnitCache R)) → AllByRecursion (IsReadBy reads) (known_in vs) → HaveRead reads vs
-  read_before reads [] h = tt
-  read_before reads (v ∷ vs) h =
-      let k = cached_view reads v.entries.view.state v.entries.functions h.0 in
-      (record { view = k.0; functions = k.1 }, read_before reads vs h.1)
+  pub read_before : (depth : ReadingDepth) (vs : List (UnitCache R)) → AllByRecursion (IsReadBy depth) (known_in vs) → HaveRead depth vs
+  read_before depth [] h = tt
+  read_before depth (v ∷ vs) h =
+      let k = cached_view depth v.entries.view.state v.entries.functions h.0 in
+      (record { view = k.0; functions = k.1 }, read_before depth vs h.1)
 
   -- what is known of units that aren't open stays
   pub decided_more : (scope : Scope) (probe : ℕ) (us : List UnitRecord) (vs ws : List (UnitCache R)) (n : ℕ) → HaveEntriesOf scope us vs → StayDecided vs ws → is_open_at scope.file.sections us (answers_in vs) n ≡ false

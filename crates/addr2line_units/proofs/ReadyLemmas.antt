@@ -15,7 +15,7 @@ use Rattle.addr2line_lines.proofs.ReadLemmas.{all_to_fault}
 use Rattle.addr2line_units.specs.declared.functions.LazyFunctions.{LazyFunctions}
 use Rattle.addr2line_units.specs.declared.functions.LazyFunctions.TheVariants as lazy
 use Rattle.addr2line_units.specs.declared.parses.ReadingDepth.{ReadingDepth}
-use Rattle.addr2line_units.specs.declared.parses.ReadingDepth.TheVariants as reads
+use Rattle.addr2line_units.specs.declared.parses.ReadingDepth.TheVariants as depths
 use Rattle.addr2line_units.specs.declared.unit_frames.UnitCache.{UnitCache}
 use Rattle.addr2line_units.specs.declared.unit_frames.UnitEntries.{UnitEntries}
 use Rattle.addr2line_units.specs.declared.view.ViewState.{ViewState}
@@ -68,10 +68,10 @@ module _ {R : Type 0} (r : ReadingDepth) where
   functions_ready : (q : ReadingDepth) (f : LazyFunctions R) → HaveFunctions q f → IsReadyFor q (known_functions f)
   functions_ready q lazy.Unread h = absurd h
   functions_ready q (lazy.Faulty e) h = absurd h
-  functions_ready reads.Functions lazy.Absent h = tt
-  functions_ready reads.Details lazy.Absent h = tt
-  functions_ready reads.Functions (lazy.Read t) h = tt
-  functions_ready reads.Details (lazy.Read t) h = to_fault_known t.value.functions (all_to_fault t.value.functions h)
+  functions_ready depths.Functions lazy.Absent h = tt
+  functions_ready depths.Details lazy.Absent h = tt
+  functions_ready depths.Functions (lazy.Read t) h = tt
+  functions_ready depths.Details (lazy.Read t) h = to_fault_known t.value.functions (all_to_fault t.value.functions h)
 
   answer_ready : {X : Type 0} (a : Result X Error) (f : LazyFunctions R) → is_ok a ≡ true → IsReadyFor r (known_functions f) → IsReadyFor r (known_answer a f)
   answer_ready (Ok x) f e h = h

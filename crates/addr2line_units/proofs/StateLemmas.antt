@@ -17,7 +17,7 @@ use Rattle.addr2line_units.specs.declared.frames_lookup.FramesStop.{FramesStop}
 use Rattle.addr2line_units.specs.declared.frames_lookup.FramesStop.TheVariants as stops
 use Rattle.addr2line_units.specs.declared.index.UnitRange.{UnitRange}
 use Rattle.addr2line_units.specs.declared.parses.ReadingDepth.{ReadingDepth}
-use Rattle.addr2line_units.specs.declared.parses.ReadingDepth.TheVariants as kinds
+use Rattle.addr2line_units.specs.declared.parses.ReadingDepth.TheVariants as depths
 use Rattle.addr2line_units.specs.declared.unit.LazyLines.{LazyLines}
 use Rattle.addr2line_units.specs.declared.unit.LazyLines.TheVariants.{Absent, Faulty, Read, Unread}
 use Rattle.addr2line_units.specs.declared.unit_frames.UnitCache.{UnitCache}
@@ -27,7 +27,7 @@ use Rattle.addr2line_units.specs.CachedFrames.{IsLendable, seen_stop}
 use Rattle.addr2line_units.specs.CachedLines.{AreLinesOf, HaveLinesOf, HaveSameEntries, StayUnits, cached_files, cached_spans, indexed_units, is_parsed, is_uncached, lines_at, parsed_units}
 use Rattle.addr2line_units.specs.CachedParses.{AreReadyUnits, ChangesOnly, HaveRead, StayDecided}
 use Rattle.addr2line_units.specs.CachedUnits.{HaveEntriesOf, HaveSameLines, StayAllEntries, answers_in, decided_at, has_entries_at, waits_at}
-use Rattle.addr2line_units.specs.FramesLookup.{FindsNothing, Stop, Waits, answer_of, ends_lookup, holds_along, with_answer}
+use Rattle.addr2line_units.specs.FramesLookup.{FindsNothing, LookupStop, Waits, answer_of, ends_lookup, holds_along, with_answer}
 use Rattle.addr2line_units.specs.FunctionParses.{AreFirstDecided, AreReadBefore, IsReadyFor, answers_after_parse, read_of_units}
 use Rattle.addr2line_units.specs.CachedKnown.{known_in}
 use Rattle.addr2line_units.specs.KnownEntries.{KnownEntries, LearnsNoDetails, LearnsNoFunctions, knows_at}
@@ -59,7 +59,7 @@ some_given f (Some x) = refl
 pub waits_if_stored : {R : Type 0} (views : List (UnitCache R)) (last : FramesStop) (n : ℕ) → seen_stop views last ≡ Waits n → IsLendable views last → waits_at views n ≡ true
 waits_if_stored views (stops.Waits k) n e h = subst (λ j. waits_at views j ≡ true) (same_wait e) h
   where
-    same_wait : ◌≡◌ {A = Stop} (Waits k) (Waits n) → k ≡ n
+    same_wait : ◌≡◌ {A = LookupStop} (Waits k) (Waits n) → k ≡ n
     same_wait q = cc
 waits_if_stored views (stops.Finds p) n e h = absurd cc
 waits_if_stored views stops.FindsNothing n e h = absurd cc
@@ -123,7 +123,7 @@ module _ {R : Type 0} (scope : Scope) (held : List (UnitCache R)) where
   us = scope.file.units
 
   -- after lines were parsed
-  module _ (now : List (UnitCache R)) (stay : StayUnits held now) (same : HaveSameEntries held now) (looks later : ℕ) (was : Stop) where
+  module _ (now : List (UnitCache R)) (stay : StayUnits held now) (same : HaveSameEntries held now) (looks later : ℕ) (was : LookupStop) where
     abbrev before : UnitsState
     before = seen_units scope held looks was
 
@@ -144,7 +144,7 @@ module _ {R : Type 0} (scope : Scope) (held : List (UnitCache R)) where
     }
 
   -- after answers to loads, and what is known of entries
-  module _ (own : HaveEntriesOf scope us held) (entries : List (UnitCache R)) (lines : HaveSameLines held entries) (looks : ℕ) (was : Stop) where
+  module _ (own : HaveEntriesOf scope us held) (entries : List (UnitCache R)) (lines : HaveSameLines held entries) (looks : ℕ) (was : LookupStop) where
     abbrev old : UnitsState
     old = seen_units scope held looks was
 
@@ -232,11 +232,11 @@ module _ {R : Type 0} (scope : Scope) (held : List (UnitCache R)) where
     pub after_listing : StayAllEntries held entries → LearnsNoFunctions (known_in held) (known_in entries) → AfterListing old new
     after_listing stay functions = record { stays = only_entries; answers = same_answers held entries stay; known = stays_known held entries stay; functions = functions }
 
-    pub after_reading : (reads : ReadingDepth) (result : Result (Unit {0}) Error) → HaveEntriesOf scope us entries → (WasNotRefused result → answers_in entries ≡ answers_after_parse reads scope us (answers_in held)) → AreFirstDecided reads scope us (answers_in held) (answers_in entries)
-        → StayDecided held entries → ChangesOnly (AreReadBefore reads scope us (answers_in held)) held entries → OnOk result (HaveRead reads entries) → (HaveRead reads held → result ≡ Ok tt)
-        → (WasNotRefused result → AreReadyUnits reads scope us (answers_in held) entries) → (AreReadyUnits reads scope us (answers_in entries) entries → WasNotRefused result) → (AreReadyUnits reads scope us (answers_in held) held → result ≡ read_of_units reads scope us (answers_in held))
-        → (AreReadyUnits reads scope us (answers_in held) held → entries ≡ held) → (reads ≡ kinds.Functions → LearnsNoDetails (known_in held) (known_in entries)) → AfterReading reads result old new
-    after_reading reads result right answers begun stay only read whole ready memory exact unchanged details = record {
+    pub after_reading : (depth : ReadingDepth) (result : Result (Unit {0}) Error) → HaveEntriesOf scope us entries → (WasNotRefused result → answers_in entries ≡ answers_after_parse depth scope us (answers_in held)) → AreFirstDecided depth scope us (answers_in held) (answers_in entries)
+        → StayDecided held entries → ChangesOnly (AreReadBefore depth scope us (answers_in held)) held entries → OnOk result (HaveRead depth entries) → (HaveRead depth held → result ≡ Ok tt)
+        → (WasNotRefused result → AreReadyUnits depth scope us (answers_in held) entries) → (AreReadyUnits depth scope us (answers_in entries) entries → WasNotRefused result) → (AreReadyUnits depth scope us (answers_in held) held → result ≡ read_of_units depth scope us (answers_in held))
+        → (AreReadyUnits depth scope us (answers_in held) held → entries ≡ held) → (depth ≡ depths.Functions → LearnsNoDetails (known_in held) (known_in entries)) → AfterReading depth result old new
+    after_reading depth result right answers begun stay only read whole ready memory exact unchanged details = record {
       stays = only_entries;
       answers = answers;
       begun = begun;
@@ -244,13 +244,13 @@ module _ {R : Type 0} (scope : Scope) (held : List (UnitCache R)) where
       whole = λ kind n shut k. whole_decided kind scope us held entries n own stay shut k;
       only = λ n. elim (only n) [ inl k ↦ inl (known_unchanged held entries n k) | inr q ↦ inr q ];
       details = details;
-      read = read_after reads result entries read;
-      whole_known = λ all. whole (read_before reads held all);
-      ready = λ told. ready_after reads scope us (answers_in held) entries right (answers told) (ready told);
-      memory = λ known. memory (ready_before reads scope us entries right known);
-      exact = λ known. exact (ready_before reads scope us held own known);
-      same = λ known. let e = unchanged (ready_before reads scope us held own known) in (ap answers_in e, ap known_in e);
-      all = λ is. all_known result (found_if_ok reads result entries is read);
+      read = read_after depth result entries read;
+      whole_known = λ all. whole (read_before depth held all);
+      ready = λ told. ready_after depth scope us (answers_in held) entries right (answers told) (ready told);
+      memory = λ known. memory (ready_before depth scope us entries right known);
+      exact = λ known. exact (ready_before depth scope us held own known);
+      same = λ known. let e = unchanged (ready_before depth scope us held own known) in (ap answers_in e, ap known_in e);
+      all = λ is. all_known result (found_if_ok depth result entries is read);
       beside = beside;
     }
       where

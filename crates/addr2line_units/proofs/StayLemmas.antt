@@ -11,7 +11,7 @@ use Rattle.addr2line_lines.specs.References.{Scope}
 use Rattle.addr2line_units.specs.declared.functions.LazyFunctions.{LazyFunctions}
 use Rattle.addr2line_units.specs.declared.functions.LazyFunctions.TheVariants as lazy
 use Rattle.addr2line_units.specs.declared.parses.ReadingDepth.{ReadingDepth}
-use Rattle.addr2line_units.specs.declared.parses.ReadingDepth.TheVariants as kinds
+use Rattle.addr2line_units.specs.declared.parses.ReadingDepth.TheVariants as depths
 use Rattle.addr2line_units.specs.declared.unit_frames.UnitCache.{UnitCache}
 use Rattle.addr2line_units.specs.declared.unit_frames.UnitEntries.{UnitEntries}
 use Rattle.addr2line_units.specs.declared.view.ViewState.{ViewState}
@@ -35,7 +35,7 @@ use Rattle.addr2line_units.specs.StaysKnown.{IsReadyAt, StaysKnown, StaysKnownOf
 pub known_of_twice : (n : ℕ) (old mid new : List KnownEntries) → StaysKnownOf n old mid → StaysKnownOf n mid new → StaysKnownOf n old new
 known_of_twice n old mid new a b = record {
   at = λ probe e. b.at probe (a.at probe e);
-  whole = λ reads h. b.whole reads (a.whole reads h);
+  whole = λ depth h. b.whole depth (a.whole depth h);
 }
 
 pub known_twice : (old mid new : List KnownEntries) → StaysKnown old mid → StaysKnown mid new → StaysKnown old new
@@ -45,7 +45,7 @@ known_twice old mid new a b n = known_of_twice n old mid new (a n) (b n)
 pub same_stays_known : (n : ℕ) (old new : List KnownEntries) → slice_get new n ≡ slice_get old n → StaysKnownOf n old new
 same_stays_known n old new same = record {
   at = λ probe e. subst (λ o. unwrap_or (option_map (is_known_at probe) o) true ≡ true) (sym same) e;
-  whole = λ reads h. subst (λ o. IfSome o (IsReadyFor reads)) (sym same) h;
+  whole = λ depth h. subst (λ o. IfSome o (IsReadyFor depth)) (sym same) h;
 }
 
 -- details that were cached up to the first fault still are where more is cached
@@ -61,8 +61,8 @@ cached_more (f ∷ fs) (g ∷ gs) a h = by (λ k. cached_more fs gs a.1 k) f.det
     by more (Some (Err x)) e k = subst (λ o. IsCachedToFault o (AreCachedToFault gs)) (sym (a.0.detail (Err x) e)) k
 
 table_whole : (r : ReadingDepth) (t u : FunctionTable) → IsTableMore t u → IsReadyFor r (known_table t) → IsReadyFor r (known_table u)
-table_whole kinds.Functions t u a h = tt
-table_whole kinds.Details t u a h = to_fault_known u.functions (cached_more t.functions u.functions a.functions (to_fault_cached t.functions h))
+table_whole depths.Functions t u a h = tt
+table_whole depths.Details t u a h = to_fault_known u.functions (cached_more t.functions u.functions a.functions (to_fault_cached t.functions h))
 
 module _ {R : Type 0} where
   functions_whole : (r : ReadingDepth) (f g : LazyFunctions R) → StayFunctions f g → IsReadyFor r (known_functions f) → IsReadyFor r (known_functions g)

@@ -8,7 +8,7 @@ use Rattle.gimli.specs.Sections.{Sections}
 use Rattle.gimli.specs.Unit.{UnitRecord}
 use Rattle.addr2line_lines.specs.References.{Scope}
 use Rattle.addr2line_units.specs.declared.frames_lookup.OnFault.{OnFault}
-use Rattle.addr2line_units.specs.declared.frames_lookup.OnFault.TheVariants.{End, PassOver}
+use Rattle.addr2line_units.specs.declared.frames_lookup.OnFault.TheVariants.{Stop, Skip}
 use Rattle.addr2line_units.specs.declared.index.UnitRange.{UnitRange}
 use Rattle.addr2line_units.specs.declared.unit_frames.UnitCache.{UnitCache}
 use Rattle.addr2line_units.specs.declared.unit_frames.UnitEntries.{UnitEntries}
@@ -16,7 +16,7 @@ use Rattle.addr2line_units.specs.declared.view.ViewState.{ViewState}
 use Rattle.addr2line_units.specs.declared.view.ViewState.TheVariants as states
 use Rattle.addr2line_units.specs.CachedLines.{indexed_units}
 use Rattle.addr2line_units.specs.Frames.{FrameRecord}
-use Rattle.addr2line_units.specs.FramesLookup.{Stop, Waits, Finds, FindsNothing, after_fault, asked_frames, ends_lookup, frames_of_number, holds_along, or_stop, stop_along}
+use Rattle.addr2line_units.specs.FramesLookup.{LookupStop, Waits, Finds, FindsNothing, after_fault, asked_frames, ends_lookup, frames_of_number, holds_along, or_stop, stop_along}
 use Rattle.addr2line_units.specs.CachedEntries.{has_entries, first_answer_of}
 use Rattle.addr2line_units.specs.CachedUnits.{HaveEntriesOf, HaveViewsOf, answers_in, has_entries_at, waits_at}
 use Rattle.addr2line_units.specs.CachedFrames.{has_frames_at}
@@ -26,14 +26,14 @@ use Rattle.addr2line_units.specs.RangedUnits.{IndexedUnit}
 use Rattle.addr2line_units.specs.Views.{is_open}
 use Rattle.addr2line_units.proofs.AnswerLemmas.{got_unit, looked_waits}
 
-number_of : Stop → ℕ → ℕ
+number_of : LookupStop → ℕ → ℕ
 number_of (Waits n) d = n
 number_of (Finds n frames) d = d
 number_of FindsNothing d = d
 
-pub same_number : (n k : ℕ) → ◌≡◌ {A = Result Stop Error} (Ok (Waits n)) (Ok (Waits k)) → n ≡ k
+pub same_number : (n k : ℕ) → ◌≡◌ {A = Result LookupStop Error} (Ok (Waits n)) (Ok (Waits k)) → n ≡ k
 unfolding number_of
-same_number n k e = let s : ◌≡◌ {A = Stop} (Waits n) (Waits k) = cc in ap (λ x. number_of x 0) s
+same_number n k e = let s : ◌≡◌ {A = LookupStop} (Waits n) (Waits k) = cc in ap (λ x. number_of x 0) s
 
 pub and_first : (a b : Bool) → (a && b) ≡ true → a ≡ true
 and_first true b e = refl
@@ -45,7 +45,7 @@ and_second false b e = absurd cc
 
 -- a lookup that waits for a unit was told so by it, and of it holds what holds along the ranges
 module _ (holds : ℕ → Bool) (frames : ℕ → FramesResult) (n : ℕ) where
-  told : (k : ℕ) (rest : Result Stop Error) (more : Bool) (r : FramesResult) → frames k ≡ r → (holds k && (ends_lookup r || more)) ≡ true → (r >>= or_stop k rest) ≡ Ok (Waits n)
+  told : (k : ℕ) (rest : Result LookupStop Error) (more : Bool) (r : FramesResult) → frames k ≡ r → (holds k && (ends_lookup r || more)) ≡ true → (r >>= or_stop k rest) ≡ Ok (Waits n)
       → (rest ≡ Ok (Waits n) → more ≡ true → (frames n ≡ Ok None) × (holds n ≡ true)) → (frames n ≡ Ok None) × (holds n ≡ true)
   told k rest more (Err x) e h w further = absurd cc
   told k rest more (Ok None) e h w further =
@@ -61,8 +61,8 @@ module _ (holds : ℕ → Bool) (frames : ℕ → FramesResult) (n : ℕ) where
 
 pub told_by_unit : (faults : OnFault) (r : FramesResult) → after_fault faults r ≡ Ok None → r ≡ Ok None
 told_by_unit faults (Ok x) e = e
-told_by_unit End (Err x) e = absurd cc
-told_by_unit PassOver (Err x) e = absurd cc
+told_by_unit Stop (Err x) e = absurd cc
+told_by_unit Skip (Err x) e = absurd cc
 
 -- only a unit that is open has no frames yet
 pub open_of_none : (scope : Scope) (u : IndexedUnit) (answer : Option (Option Sections)) (probe : ℕ) → frames_in scope u answer probe ≡ Ok None → is_open scope.file.sections u.unit answer ≡ true

@@ -7,7 +7,7 @@ use Rattle.gimli_read.specs.Reading.{◌>>=◌}
 use Rattle.addr2line_lines.specs.References.{Scope}
 use Rattle.addr2line_units.specs.declared.frames_lookup.OnFault.{OnFault}
 use Rattle.addr2line_units.specs.declared.index.UnitRange.{UnitRange}
-use Rattle.addr2line_units.specs.FramesLookup.{FindsNothing, Finds, LookupAsks, Stop, Waits, asked_frames, asks_lines_of, ends_lookup, frames_of_number, function_offset_of, holds_along, or_stop, stop_along}
+use Rattle.addr2line_units.specs.FramesLookup.{FindsNothing, Finds, LookupAsks, LookupStop, Waits, asked_frames, asks_lines_of, ends_lookup, frames_of_number, function_offset_of, holds_along, or_stop, stop_along}
 use Rattle.addr2line_units.specs.KnownEntries.{LearnsDetailsAt, knows_at}
 use Rattle.addr2line_units.specs.Parsed.{ParsesOnly, has_parsed}
 use Rattle.addr2line_units.specs.RangedUnits.{IndexedUnit}
@@ -47,13 +47,13 @@ at_old mid old a b c P h = subst (λ x. P old.scope old.units x) c (subst (λ x.
 step_err : (n : ℕ) (e : Error) (r : FramesResult) → (r >>= or_stop n (Ok FindsNothing)) ≡ Err e → r ≡ Err e
 step_err n e (Err x) h = ap (λ y. y) (same x e h)
   where
-    same : (x e : Error) → ◌≡◌ {A = Result Stop Error} (Err x) (Err e) → ◌≡◌ {A = FramesResult} (Err x) (Err e)
+    same : (x e : Error) → ◌≡◌ {A = Result LookupStop Error} (Err x) (Err e) → ◌≡◌ {A = FramesResult} (Err x) (Err e)
     same x e h = cc
 step_err n e (Ok None) h = absurd cc
 step_err n e (Ok (Some [])) h = absurd cc
 step_err n e (Ok (Some (f ∷ fs))) h = absurd cc
 
-step_on : (n : ℕ) (s : Stop) (r : FramesResult) → (r >>= or_stop n (Ok FindsNothing)) ≡ Ok s → has_stopped s ≡ false → (r ≡ Ok (Some [])) × (s ≡ FindsNothing)
+step_on : (n : ℕ) (s : LookupStop) (r : FramesResult) → (r >>= or_stop n (Ok FindsNothing)) ≡ Ok s → has_stopped s ≡ false → (r ≡ Ok (Some [])) × (s ≡ FindsNothing)
 step_on n s (Err x) h k = absurd cc
 step_on n s (Ok None) h k = let same : Waits n ≡ s = cc in absurd (no (ap has_stopped same ∙ k))
   where
@@ -65,7 +65,7 @@ step_on n s (Ok (Some (f ∷ fs))) h k = let same : Finds n (f ∷ fs) ≡ s = c
     no : true ≡ false → ⊥
     no e = cc
 
-step_stop : (n : ℕ) (s : Stop) (r : FramesResult) → (r >>= or_stop n (Ok FindsNothing)) ≡ Ok s → has_stopped s ≡ true → (ends_lookup r ≡ true) × ((rest : Result Stop Error) → (r >>= or_stop n rest) ≡ Ok s)
+step_stop : (n : ℕ) (s : LookupStop) (r : FramesResult) → (r >>= or_stop n (Ok FindsNothing)) ≡ Ok s → has_stopped s ≡ true → (ends_lookup r ≡ true) × ((rest : Result LookupStop Error) → (r >>= or_stop n rest) ≡ Ok s)
 step_stop n s (Err x) h k = absurd cc
 step_stop n s (Ok None) h k = (refl, λ rest. h)
 step_stop n s (Ok (Some [])) h k = let same : FindsNothing ≡ s = cc in absurd (no (ap has_stopped same ∙ k))
@@ -138,6 +138,7 @@ module _ (faults : OnFault) (probe : ℕ) (all : List UnitRange) (r : UnitRange)
     ended : ends_lookup (frames r.unit) ≡ true → AfterWalk faults probe all result old now
     ended ends = record {
       asked = both_asked;
+      stop = a.stop;
       ready = λ told. w.more (has_all_at probe now) has_more_now (subst (λ xs. holds_along (has_all_at probe now) frames xs ≡ true) (sym is) (holds_ended frames r rest (has_all_at probe now) (a.ready told) ends));
       memory = λ few. a.memory (holds_first frames r rest (has_few_at probe now) (subst (λ xs. holds_along (has_few_at probe now) frames xs ≡ true) is (w.less (has_few_at probe now) few)));
     }
@@ -165,6 +166,7 @@ module _ (faults : OnFault) (probe : ℕ) (all : List UnitRange) (r : UnitRange)
     pub fault_after : AfterWalk {X = X} faults probe all (Err e) old now
     fault_after = record {
       asked = both_asked (Err e) a;
+      stop = a.stop;
       ready = λ told. (ended (Err e) a (ap ends_lookup (frames_err told))).ready told;
       memory = λ few. a.memory (holds_first frames r rest (has_few_at probe now) (subst (λ xs. holds_along (has_few_at probe now) frames xs ≡ true) is (w.less (has_few_at probe now) few)));
     }
@@ -200,6 +202,7 @@ module _ (faults : OnFault) (probe : ℕ) (all ranges : List UnitRange) (is : ra
   pub end_after : AfterWalk {X = Unit {0}} faults probe all (Ok tt) old now
   end_after = record {
     asked = w.asked;
+    stop = tt;
     ready = λ told. w.more (has_all_at probe now) (λ n e. e) (ap (holds_along (has_all_at probe now) (asked_by faults probe old)) is);
     memory = λ few. tt;
   }

@@ -11,7 +11,7 @@ use Rattle.gimli.specs.Sections.{Sections}
 use Rattle.addr2line_units.specs.declared.frames_lookup.OnFault.{OnFault}
 use Rattle.addr2line_units.specs.declared.index.UnitRange.{UnitRange}
 use Rattle.addr2line_units.specs.declared.parses.ReadingDepth.{ReadingDepth}
-use Rattle.addr2line_units.specs.declared.parses.ReadingDepth.TheVariants as kinds
+use Rattle.addr2line_units.specs.declared.parses.ReadingDepth.TheVariants as depths
 use Rattle.addr2line_units.specs.FramesLookup.{FindsNothing, LookupAsks, answer_of, asks_lines_of, holds_along, function_offset_of, with_answer}
 use Rattle.addr2line_units.specs.FunctionParses.{AreFirstDecided, AreReadBefore, AreReadyFor, answers_after_parse, read_of_units}
 use Rattle.addr2line_units.specs.KnownEntries.{LearnsDetailsAt, LearnsNoDetails, LearnsNoFunctions, knows_at}
@@ -78,12 +78,14 @@ pub record WereAsked (asks : ℕ → Type 0) (probe : ℕ) (old new : UnitsState
       new.known
   pub raised : old.looks ≤ new.looks
 
--- after units were asked; the same lookup reads nothing more, but after OutOfMemory
+-- after units were asked; the same lookup reads nothing more, but after OutOfMemory, and no lookup of
+-- frames is stored where this one was refused
 pub record AfterAsking {X : Type 0} (asks : ℕ → Type 0) (probe : ℕ) (all few : UnitsState → Bool)
     (result : Result X Error) (old new : UnitsState) : Type 0 where
   pub asked : WereAsked asks probe old new
   pub ready : WasNotRefused result → all new ≡ true
   pub memory : few new ≡ true → WasNotRefused result
+  pub stop : IfErr result (λ _. new.stop ≡ FindsNothing)
 
 -- after a lookup along ranges
 abbrev pub AfterWalk : {X : Type 0} → OnFault → ℕ → List UnitRange → Result X Error → UnitsState
@@ -170,12 +172,12 @@ pub record AfterListing (old new : UnitsState) : Type 0 where
 -- functions alone are read no detail becomes known. Unless memory was refused all is known that the
 -- parse reads, and where it is, none was refused; where it was before, nothing is changed of what
 -- is known and answered
-pub record AfterReading (reads : ReadingDepth) (result : Result (Unit {0}) Error)
+pub record AfterReading (depth : ReadingDepth) (result : Result (Unit {0}) Error)
     (old new : UnitsState) : Type 0 where
   pub stays : StayRead old new
   pub answers : WasNotRefused result → new.answers
-      ≡ answers_after_parse reads old.scope old.scope.file.units old.answers
-  pub begun : AreFirstDecided reads old.scope old.scope.file.units old.answers new.answers
+      ≡ answers_after_parse depth old.scope old.scope.file.units old.answers
+  pub begun : AreFirstDecided depth old.scope old.scope.file.units old.answers new.answers
   pub known : (probe n : ℕ)
       → is_open_at old.scope.file.sections old.scope.file.units old.answers n ≡ false
       → knows_at old.known probe n ≡ true → knows_at new.known probe n ≡ true
@@ -183,18 +185,18 @@ pub record AfterReading (reads : ReadingDepth) (result : Result (Unit {0}) Error
       → is_open_at old.scope.file.sections old.scope.file.units old.answers n ≡ false
       → IsReadyAt kind old.known n → IsReadyAt kind new.known n
   pub only : (n : ℕ) → (slice_get new.known n ≡ slice_get old.known n)
-      ⊎ AreReadBefore reads old.scope old.scope.file.units old.answers n
-  pub details : reads ≡ kinds.Functions → LearnsNoDetails old.known new.known
-  pub read : OnOk result (AllByRecursion (IsReadBy reads) new.known)
-  pub whole_known : AllByRecursion (IsReadBy reads) old.known → result ≡ Ok tt
+      ⊎ AreReadBefore depth old.scope old.scope.file.units old.answers n
+  pub details : depth ≡ depths.Functions → LearnsNoDetails old.known new.known
+  pub read : OnOk result (AllByRecursion (IsReadBy depth) new.known)
+  pub whole_known : AllByRecursion (IsReadBy depth) old.known → result ≡ Ok tt
   pub ready : WasNotRefused result
-      → AreReadyFor reads old.scope old.scope.file.units new.answers new.known
-  pub memory : AreReadyFor reads old.scope old.scope.file.units new.answers new.known
+      → AreReadyFor depth old.scope old.scope.file.units new.answers new.known
+  pub memory : AreReadyFor depth old.scope old.scope.file.units new.answers new.known
       → WasNotRefused result
-  pub exact : AreReadyFor reads old.scope old.scope.file.units old.answers old.known
-      → result ≡ read_of_units reads old.scope old.scope.file.units old.answers
-  pub same : AreReadyFor reads old.scope old.scope.file.units old.answers old.known
+  pub exact : AreReadyFor depth old.scope old.scope.file.units old.answers old.known
+      → result ≡ read_of_units depth old.scope old.scope.file.units old.answers
+  pub same : AreReadyFor depth old.scope old.scope.file.units old.answers old.known
       → (new.answers ≡ old.answers) × (new.known ≡ old.known)
-  pub all : reads ≡ kinds.Details → OnOk result
+  pub all : depth ≡ depths.Details → OnOk result
       ((probe n : ℕ) → knows_at new.known probe n ≡ true)
   pub beside : length old.scope.file.units ≡ length old.answers

@@ -9,17 +9,17 @@ use Rattle.addr2line_units.specs.declared.frames_lookup.FramesStop.TheVariants a
 use Rattle.addr2line_units.specs.declared.unit_frames.UnitFrames.{UnitFrames}
 use Rattle.addr2line_units.specs.AfterUnits.{AfterAsking, AfterLines}
 use Rattle.addr2line_units.specs.CachedFrames.{stop_of_found}
-use Rattle.addr2line_units.specs.FramesLookup.{Finds, FindsNothing, Stop, Waits, or_stop}
+use Rattle.addr2line_units.specs.FramesLookup.{Finds, FindsNothing, LookupStop, Waits, or_stop}
 use Rattle.addr2line_units.specs.Located.{is_found, looks_in}
 use Rattle.addr2line_units.specs.Parsed.{has_parsed, parses_no_memory}
 use Rattle.addr2line_units.specs.UnitsState.{UnitsState, asked_by, has_all_at, has_few_at}
 
 -- what a lookup comes to in the unit of a number alone
-abbrev pub stop_at : OnFault → ℕ → UnitsState → ℕ → Result Stop Error
+abbrev pub stop_at : OnFault → ℕ → UnitsState → ℕ → Result LookupStop Error
 stop_at faults probe s n = asked_by faults probe s n >>= or_stop n (Ok FindsNothing)
 
 -- whether a lookup ends there
-abbrev pub has_stopped : Stop → Bool
+abbrev pub has_stopped : LookupStop → Bool
 has_stopped (Waits n) = true
 has_stopped (Finds n frames) = true
 has_stopped FindsNothing = false

@@ -7,6 +7,7 @@ use Rattle.std.specs.Prelude.{◌≡◌, ℕ, Bool, true, false, List, Option, S
 use Rattle.gimli_read.specs.declared.error.Error.{Error}
 use Rattle.gimli.specs.Sections.{Sections}
 use Rattle.gimli.specs.Unit.{UnitRecord}
+use Rattle.addr2line_lines.specs.InlineRoom.{exceeds_inline_room}
 use Rattle.addr2line_lines.specs.Location.{location_of_row}
 use Rattle.addr2line_lines.specs.References.{Scope}
 use Rattle.addr2line_units.specs.declared.functions.LazyFunctions.{LazyFunctions}
@@ -23,7 +24,7 @@ use Rattle.addr2line_units.specs.CachedLines.{cached_files, is_uncached}
 use Rattle.addr2line_units.specs.Frames.{FrameRecord, found_frames}
 use Rattle.addr2line_units.specs.CachedFunctions.{AreFunctionsOf, ArePlacesIn, ReadsNoOther, StayFunctions, function_of_place, cached_has_function, is_cached_fault, cached_functions, were_read}
 use Rattle.addr2line_units.specs.CachedViews.{IsViewOf, is_decided, seen_first_answer, was_looked_at}
-use Rattle.addr2line_units.specs.UnitFrames.{asks_lines_in, has_many}
+use Rattle.addr2line_units.specs.UnitFrames.{asks_lines_in, inlined_at}
 use Rattle.addr2line_units.specs.Views.{verdict, view_scope}
 
 -- the first answer of a unit
@@ -106,4 +107,4 @@ pub record AsksNoMemoryIn {R : Type 0} (shares : Bool) (scope : Scope) (dw_unit 
       → has_entries probe v ≡ true
   pub lines : asks_lines_in scope dw_unit answer probe ≡ true
       → lines_take_memory shares dw_unit ≡ true → is_uncached u.lines ≡ false
-  pub few : has_many scope dw_unit answer probe ≡ false
+  pub few : exceeds_inline_room (inlined_at scope dw_unit answer probe) ≡ false

@@ -6,7 +6,7 @@ use Rattle.gimli_read.specs.declared.error.Error.TheVariants.{OutOfMemory}
 use Rattle.addr2line_lines.specs.FunctionTable.{FunctionTable}
 use Rattle.addr2line_lines.specs.Location.{location_of_row}
 use Rattle.addr2line_units.specs.declared.frames_lookup.OnFault.{OnFault}
-use Rattle.addr2line_units.specs.declared.frames_lookup.OnFault.TheVariants.{PassOver}
+use Rattle.addr2line_units.specs.declared.frames_lookup.OnFault.TheVariants.{Skip}
 use Rattle.addr2line_units.specs.declared.frames_lookup.FramePlace.{FramePlace}
 use Rattle.addr2line_units.specs.declared.frames_lookup.FramesStop.{FramesStop}
 use Rattle.addr2line_units.specs.declared.frames_lookup.FramesStop.TheVariants as stops
@@ -15,7 +15,7 @@ use Rattle.addr2line_units.specs.declared.unit_frames.UnitFrames.{UnitFrames}
 use Rattle.addr2line_units.specs.declared.unit_frames.UnitFrames.TheVariants as found
 use Rattle.addr2line_units.specs.CachedLines.{cached_files, lines_at, parsed_units}
 use Rattle.addr2line_units.specs.Frames.{FrameRecord, found_frames}
-use Rattle.addr2line_units.specs.FramesLookup.{Stop, Waits, Finds, FindsNothing}
+use Rattle.addr2line_units.specs.FramesLookup.{LookupStop, Waits, Finds, FindsNothing}
 use Rattle.addr2line_units.specs.CachedFunctions.{ArePlacesIn, function_of_place, cached_functions, no_functions}
 use Rattle.addr2line_units.specs.Parsed.{has_parsed}
 use Rattle.addr2line_units.specs.CachedEntries.{AreRead}
@@ -38,7 +38,7 @@ frames_at_place caches p =
     (option_map (location_of_row (cached_files (lines_at caches p.unit))) p.row)
 
 -- what a lookup comes to, by what is cached
-abbrev pub seen_stop : {R : Type 0} → List (UnitCache R) → FramesStop → Stop
+abbrev pub seen_stop : {R : Type 0} → List (UnitCache R) → FramesStop → LookupStop
 seen_stop caches (stops.Waits n) = Waits n
 seen_stop caches (stops.Finds p) = Finds p.unit (frames_at_place caches p)
 seen_stop caches stops.FindsNothing = FindsNothing
@@ -87,7 +87,7 @@ AreFoundAt caches n _ = Unit {0}
 
 -- a fault as it is, or nothing in its place where a lookup passes over it
 abbrev pub found_after_fault : OnFault → Result UnitFrames Error → Result UnitFrames Error
-found_after_fault PassOver (Err e) = elim e [ OutOfMemory ↦ Err OutOfMemory | _ ↦ nothing ]
+found_after_fault Skip (Err e) = elim e [ OutOfMemory ↦ Err OutOfMemory | _ ↦ nothing ]
   where
     nothing : Result UnitFrames Error
     nothing = Ok (found.Here None None)

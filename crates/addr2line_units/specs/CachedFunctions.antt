@@ -14,7 +14,8 @@ use Rattle.addr2line_lines.specs.FoundInlined.{entry_among}
 use Rattle.addr2line_lines.specs.FunctionDetails.{AreDetailsOf, IsTableMore, details_take_memory}
 use Rattle.addr2line_lines.specs.FunctionTable.{AreListed, FunctionTable, cached_detail, cached_inlined, cached_name, function_place_at, inlined_of_detail, cached_offset_at}
 use Rattle.addr2line_lines.specs.Functions.{entries_of, functions_of, functions_take_memory}
-use Rattle.addr2line_lines.specs.ManyInlined.{are_many}
+use Rattle.addr2line_lines.specs.InlineRoom.{exceeds_inline_room}
+use Rattle.addr2line_lines.specs.InlinedEntries.{InlinedEntry}
 use Rattle.addr2line_lines.specs.References.{Scope}
 use Rattle.addr2line_units.specs.declared.functions.FunctionPlace.{FunctionPlace}
 use Rattle.addr2line_units.specs.declared.functions.LazyFunctions.{LazyFunctions}
@@ -80,19 +81,17 @@ function_of_place t p = record {
   inlined = map (entry_among t.inlined) p.inlined.items;
 }
 
--- whether there are many inlined functions at the probe, as far as details are cached
-abbrev pub table_has_many : ℕ → FunctionTable → Bool
-table_has_many probe t = elim (function_place_at probe t) [
-  | None ↦ false
-  | Some n ↦ are_many (inlined_chain probe (cached_inlined t n))
-]
+-- the inlined functions at the probe, as far as details are cached
+abbrev pub cached_inlined_at : ℕ → FunctionTable → List InlinedEntry
+cached_inlined_at probe t = elim (function_place_at probe t)
+    [ None ↦ [] | Some n ↦ inlined_chain probe (cached_inlined t n) ]
 
 -- whether memory may be taken to find a function by what is cached of it: nothing is, or there are
 -- many inlined functions
 abbrev pub cached_detail_takes_memory : ℕ → Option (Result Detail Error) → Bool
 cached_detail_takes_memory probe None = true
 cached_detail_takes_memory probe (Some d) =
-    are_many (inlined_chain probe (inlined_of_detail d))
+    exceeds_inline_room (inlined_chain probe (inlined_of_detail d))
 
 -- the same of the function of a place; where there is none no memory is taken
 abbrev pub place_takes_memory : ℕ → FunctionTable → Option ℕ → Bool

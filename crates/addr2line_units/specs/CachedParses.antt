@@ -8,7 +8,7 @@ use Rattle.addr2line_lines.specs.References.{Scope}
 use Rattle.addr2line_units.specs.declared.functions.LazyFunctions.{LazyFunctions}
 use Rattle.addr2line_units.specs.declared.functions.LazyFunctions.TheVariants as lazy
 use Rattle.addr2line_units.specs.declared.parses.ReadingDepth.{ReadingDepth}
-use Rattle.addr2line_units.specs.declared.parses.ReadingDepth.TheVariants as reads
+use Rattle.addr2line_units.specs.declared.parses.ReadingDepth.TheVariants as depths
 use Rattle.addr2line_units.specs.declared.unit_frames.UnitCache.{UnitCache}
 use Rattle.addr2line_units.specs.declared.unit_frames.UnitEntries.{UnitEntries}
 use Rattle.addr2line_units.specs.declared.view.ViewState.{ViewState}
@@ -27,31 +27,31 @@ has_view _ = false
 
 -- the functions are cached, with all details where these are read, and none has a fault
 abbrev pub HaveFunctions : {R : Type 0} → ReadingDepth → LazyFunctions R → Type 0
-HaveFunctions reads lazy.Unread = ⊥
-HaveFunctions reads lazy.Absent = Unit {0}
-HaveFunctions reads (lazy.Faulty e) = ⊥
-HaveFunctions reads.Functions (lazy.Read t) = Unit {0}
-HaveFunctions reads.Details (lazy.Read t) = AllByRecursion HasDetail (box_value t).functions
+HaveFunctions depth lazy.Unread = ⊥
+HaveFunctions depth lazy.Absent = Unit {0}
+HaveFunctions depth (lazy.Faulty e) = ⊥
+HaveFunctions depths.Functions (lazy.Read t) = Unit {0}
+HaveFunctions depths.Details (lazy.Read t) = AllByRecursion HasDetail (box_value t).functions
 
 -- all that is read of a unit is cached, and has no fault
-pub record HasRead {R : Type 0} (reads : ReadingDepth) (v : UnitEntries R) : Type 0 where
+pub record HasRead {R : Type 0} (depth : ReadingDepth) (v : UnitEntries R) : Type 0 where
   pub view : has_view v.view.state ≡ true
-  pub functions : HaveFunctions reads v.functions
+  pub functions : HaveFunctions depth v.functions
 
 -- the same of each unit
 abbrev pub HaveRead : {R : Type 0} → ReadingDepth → List (UnitCache R) → Type 0
-HaveRead reads caches = AllByRecursion (λ c. HasRead reads c.entries) caches
+HaveRead depth caches = AllByRecursion (λ c. HasRead depth c.entries) caches
 
 -- the view of a unit is known, or its fault, and what is read of it, up to the first fault
-pub record IsReadyUnit {R : Type 0} (reads : ReadingDepth) (v : UnitEntries R) : Type 0 where
+pub record IsReadyUnit {R : Type 0} (depth : ReadingDepth) (v : UnitEntries R) : Type 0 where
   pub decided : is_decided v.view.state ≡ true
-  pub known : IsReadyFor reads (known_by v.view.state v.functions)
+  pub known : IsReadyFor depth (known_by v.view.state v.functions)
 
 -- the same of each unit before which all can be read
 abbrev pub AreReadyUnits : {R : Type 0} → ReadingDepth → Scope → List UnitRecord
     → FirstAnswers → List (UnitCache R) → Type 0
-AreReadyUnits reads scope us answers caches = (n : ℕ) → AreReadBefore reads scope us answers n
-    → IfSome (slice_get caches n) (λ c. IsReadyUnit reads c.entries)
+AreReadyUnits depth scope us answers caches = (n : ℕ) → AreReadBefore depth scope us answers n
+    → IfSome (slice_get caches n) (λ c. IsReadyUnit depth c.entries)
 
 -- the view of each unit is known, or its fault
 abbrev pub AreDecided : {R : Type 0} → List (UnitCache R) → Type 0

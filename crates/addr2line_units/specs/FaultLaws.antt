@@ -90,7 +90,7 @@ pub record FramesAreNotRefused : Type 0 where
 -- no fault of a parse of functions and their details is
 pub record ParsesAreNotRefused : Type 0 where
   pub functions : (scope : Scope) (view : UnitRecord) → WasNotRefused (functions_fault scope view)
-  pub unit : (reads : ReadingDepth) (scope : Scope) (u : UnitRecord)
-      (answer : Option (Option Sections)) → WasNotRefused (read_of_unit reads scope u answer)
-  pub units : (reads : ReadingDepth) (scope : Scope) (us : List UnitRecord)
-      (answers : FirstAnswers) → WasNotRefused (read_of_units reads scope us answers)
+  pub unit : (depth : ReadingDepth) (scope : Scope) (u : UnitRecord)
+      (answer : Option (Option Sections)) → WasNotRefused (read_of_unit depth scope u answer)
+  pub units : (depth : ReadingDepth) (scope : Scope) (us : List UnitRecord)
+      (answers : FirstAnswers) → WasNotRefused (read_of_units depth scope us answers)

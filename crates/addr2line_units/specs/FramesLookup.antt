@@ -6,14 +6,15 @@ use Rattle.gimli_read.specs.declared.error.Error.{Error}
 use Rattle.gimli_read.specs.Reading.{◌>>=◌}
 use Rattle.gimli.specs.Sections.{Sections}
 use Rattle.gimli.specs.Unit.{UnitRecord}
+use Rattle.addr2line_lines.specs.InlinedEntries.{InlinedEntry}
 use Rattle.addr2line_lines.specs.References.{Scope}
 use Rattle.addr2line_units.specs.declared.index.UnitRange.{UnitRange}
 use Rattle.addr2line_units.specs.declared.frames_lookup.OnFault.{OnFault}
-use Rattle.addr2line_units.specs.declared.frames_lookup.OnFault.TheVariants.{End, PassOver}
+use Rattle.addr2line_units.specs.declared.frames_lookup.OnFault.TheVariants.{Stop, Skip}
 use Rattle.addr2line_units.specs.AskMemory.{functions_in_take_memory}
 use Rattle.addr2line_units.specs.Cover.{ComesTo, holds_until}
 use Rattle.addr2line_units.specs.Frames.{FrameRecord}
-use Rattle.addr2line_units.specs.UnitFrames.{FramesResult, asks_lines_in, frames_in, has_many, function_offset_in}
+use Rattle.addr2line_units.specs.UnitFrames.{FramesResult, asks_lines_in, frames_in, inlined_at, function_offset_in}
 use Rattle.addr2line_units.specs.UnitIndex.{UnitIndex, sup_sections}
 use Rattle.addr2line_units.specs.RangedUnits.{IndexedUnit, unit_records}
 use Rattle.addr2line_units.specs.Views.{FirstAnswers, View, decided_answer, parts_of, verdict}
@@ -27,10 +28,10 @@ main_scope d m = record {
 
 -- what a lookup comes to: the unit of this number waits for an answer; that of this number has
 -- these frames; or no unit has any
-pub data Stop : Type 0 where
-  Waits : ℕ → Stop
-  Finds : ℕ → List FrameRecord → Stop
-  FindsNothing : Stop
+pub data LookupStop : Type 0 where
+  Waits : ℕ → LookupStop
+  Finds : ℕ → List FrameRecord → LookupStop
+  FindsNothing : LookupStop
 
 -- the first answer of the unit of a number, none while it has none
 abbrev pub answer_of : FirstAnswers → ℕ → Option (Option Sections)
@@ -45,8 +46,8 @@ frames_of_number scope units answers probe n = elim (slice_get units n)
 -- a fault as it is, or no frames in its place where a lookup passes over it
 abbrev pub after_fault : OnFault → FramesResult → FramesResult
 after_fault faults (Ok frames) = Ok frames
-after_fault End (Err e) = Err e
-after_fault PassOver (Err e) = Ok (Some [])
+after_fault Stop (Err e) = Err e
+after_fault Skip (Err e) = Ok (Some [])
 
 -- what a lookup asks the unit of a number for
 abbrev pub asked_frames : OnFault → Scope → List IndexedUnit → FirstAnswers → ℕ → ℕ → FramesResult
@@ -54,24 +55,24 @@ asked_frames faults scope units answers probe n =
     after_fault faults (frames_of_number scope units answers probe n)
 
 -- the unit of a number waits, or has frames, else the lookup goes on
-abbrev pub or_stop : ℕ → Result Stop Error → Option (List FrameRecord) → Result Stop Error
+abbrev pub or_stop : ℕ → Result LookupStop Error → Option (List FrameRecord) → Result LookupStop Error
 or_stop n rest None = Ok (Waits n)
 or_stop n rest (Some []) = rest
 or_stop n rest (Some (f ∷ frames)) = Ok (Finds n (f ∷ frames))
 
 -- what a lookup comes to along ranges, by what the unit of each number has
 abbrev pub stop_along : (ℕ → FramesResult) → List UnitRange
-    → Result Stop Error
+    → Result LookupStop Error
 stop_along frames [] = Ok FindsNothing
 stop_along frames (r ∷ ranges) = frames r.unit >>= or_stop r.unit (stop_along frames ranges)
 
 -- the frames that a lookup has found
-abbrev pub frames_found : Stop → List FrameRecord
+abbrev pub frames_found : LookupStop → List FrameRecord
 frames_found (Finds n frames) = frames
 frames_found stop = []
 
 -- whether a lookup waits for an answer
-abbrev pub is_waiting : Result Stop Error → Bool
+abbrev pub is_waiting : Result LookupStop Error → Bool
 is_waiting (Ok (Waits n)) = true
 is_waiting stop = false
 
@@ -87,7 +88,7 @@ readable_view (Some (Ok v)) = Some v
 readable_view view = None
 
 -- the sections and the unit of the view that a lookup has found
-abbrev pub unit_found : Sections → List UnitRecord → FirstAnswers → Stop
+abbrev pub unit_found : Sections → List UnitRecord → FirstAnswers → LookupStop
     → Option (Sections × UnitRecord)
 unit_found d us answers (Finds n frames) =
     option_map parts_of (readable_view (view_of_number d us answers n))
@@ -119,10 +120,10 @@ abbrev pub function_offset_of : Scope → List IndexedUnit → FirstAnswers → 
 function_offset_of scope units answers probe n = elim (slice_get units n)
     [ None ↦ None | Some u ↦ function_offset_in scope u.unit (answer_of answers n) probe ]
 
--- whether many inlined functions stand at the probe in the unit of a number
-abbrev pub has_many_of : Scope → List IndexedUnit → FirstAnswers → ℕ → ℕ → Bool
-has_many_of scope units answers probe n = elim (slice_get units n)
-    [ None ↦ false | Some u ↦ has_many scope u.unit (answer_of answers n) probe ]
+-- the inlined functions at the probe in the unit of a number
+abbrev pub inlined_at_number : Scope → List IndexedUnit → FirstAnswers → ℕ → ℕ → List InlinedEntry
+inlined_at_number scope units answers probe n = elim (slice_get units n)
+    [ None ↦ [] | Some u ↦ inlined_at scope u.unit (answer_of answers n) probe ]
 
 -- whether memory may be taken to read the functions in the view of the unit of a number
 abbrev pub functions_of_take_memory : Bool → Scope → List IndexedUnit → FirstAnswers → ℕ → Bool

@@ -7,7 +7,7 @@ use Rattle.addr2line_units.specs.declared.frames_lookup.OnFault.{OnFault}
 use Rattle.addr2line_units.specs.declared.index.UnitRange.{UnitRange}
 use Rattle.addr2line_units.specs.declared.parses.ReadingDepth.{ReadingDepth}
 use Rattle.addr2line_units.specs.declared.parses.ReadingDepth.TheVariants.{Details}
-use Rattle.addr2line_units.specs.FramesLookup.{Stop, Waits, asked_frames, stop_along}
+use Rattle.addr2line_units.specs.FramesLookup.{LookupStop, Waits, asked_frames, stop_along}
 use Rattle.addr2line_units.specs.FunctionParses.{answers_after_parse, read_of_units}
 use Rattle.gimli_read.specs.Reading.{fault_of}
 use Rattle.addr2line_units.specs.Located.{all_lines}
@@ -15,7 +15,7 @@ use Rattle.addr2line_units.specs.RangedUnits.{IndexedUnit, unit_records}
 use Rattle.addr2line_units.specs.Views.{FirstAnswers}
 
 -- what a lookup comes to is no fault, and it waits for no unit
-abbrev pub IsReached : Result Stop Error → Type 0
+abbrev pub IsReached : Result LookupStop Error → Type 0
 IsReached (Err e) = ⊥
 IsReached (Ok (Waits n)) = ⊥
 IsReached (Ok _) = Unit {0}
@@ -33,9 +33,9 @@ ReachesAll = (faults : OnFault) (scope : Scope) (units : List IndexedUnit)
 
 -- a parse after a parse has the same first fault, and decides no more units
 abbrev pub ReadsAgain : Type 0
-ReadsAgain = (reads : ReadingDepth) (scope : Scope) (us : List UnitRecord)
+ReadsAgain = (depth : ReadingDepth) (scope : Scope) (us : List UnitRecord)
     (answers : FirstAnswers)
-    → (read_of_units reads scope us (answers_after_parse reads scope us answers)
-    ≡ read_of_units reads scope us answers)
-    × (answers_after_parse reads scope us (answers_after_parse reads scope us answers)
-    ≡ answers_after_parse reads scope us answers)
+    → (read_of_units depth scope us (answers_after_parse depth scope us answers)
+    ≡ read_of_units depth scope us answers)
+    × (answers_after_parse depth scope us (answers_after_parse depth scope us answers)
+    ≡ answers_after_parse depth scope us answers)

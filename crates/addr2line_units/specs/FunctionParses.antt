@@ -11,7 +11,7 @@ use Rattle.gimli.specs.Unit.{UnitRecord}
 use Rattle.addr2line_lines.specs.Functions.{functions_of}
 use Rattle.addr2line_lines.specs.References.{Scope}
 use Rattle.addr2line_units.specs.declared.parses.ReadingDepth.{ReadingDepth}
-use Rattle.addr2line_units.specs.declared.parses.ReadingDepth.TheVariants as reads
+use Rattle.addr2line_units.specs.declared.parses.ReadingDepth.TheVariants as depths
 use Rattle.addr2line_units.specs.AskMemory.{functions_in_take_memory}
 use Rattle.addr2line_units.specs.FramesLookup.{answer_of}
 use Rattle.addr2line_units.specs.CachedFunctions.{functions_fault}
@@ -21,40 +21,40 @@ use Rattle.addr2line_units.specs.Views.{FirstAnswers, View, decided_answer, verd
 
 -- the first fault of the functions of a view, and of their details where these are read
 abbrev pub read_of_functions : ReadingDepth → Scope → UnitRecord → Result (Unit {0}) Error
-read_of_functions reads.Functions scope view = fault_of (functions_of scope.file.sections view)
-read_of_functions reads.Details scope view = functions_fault scope view
+read_of_functions depths.Functions scope view = fault_of (functions_of scope.file.sections view)
+read_of_functions depths.Details scope view = functions_fault scope view
 
 -- the first fault of a view and of what is read of it; nothing is read of a unit that is open
 abbrev pub read_of_view : ReadingDepth → Scope → Option (Result View Error)
     → Result (Unit {0}) Error
-read_of_view reads scope None = Ok tt
-read_of_view reads scope (Some view) =
-    view >>= λ v. read_of_functions reads (view_scope scope v) v.unit
+read_of_view depth scope None = Ok tt
+read_of_view depth scope (Some view) =
+    view >>= λ v. read_of_functions depth (view_scope scope v) v.unit
 
 -- the first fault of what is read of a unit with this first answer, which is decided by none where
 -- it is open
 abbrev pub read_of_unit : ReadingDepth → Scope → UnitRecord → Option (Option Sections)
     → Result (Unit {0}) Error
-read_of_unit reads scope u answer = read_of_view reads scope
+read_of_unit depth scope u answer = read_of_view depth scope
     (verdict scope.file.sections u (decided_answer scope.file.sections u answer None))
 
 -- the same of the unit of a number; where there is no such unit nothing is read
 abbrev pub read_of_number : ReadingDepth → Scope → List UnitRecord → FirstAnswers → ℕ
     → Result (Unit {0}) Error
-read_of_number reads scope us answers n = elim (slice_get us n)
-    [ None ↦ Ok tt | Some u ↦ read_of_unit reads scope u (answer_of answers n) ]
+read_of_number depth scope us answers n = elim (slice_get us n)
+    [ None ↦ Ok tt | Some u ↦ read_of_unit depth scope u (answer_of answers n) ]
 
 -- the first fault of what is read of units with these first answers, in their order
 abbrev pub read_of_units : ReadingDepth → Scope → List UnitRecord → FirstAnswers
     → Result (Unit {0}) Error
-read_of_units reads scope (u ∷ us) (answer ∷ answers) =
-    read_of_unit reads scope u answer >>= λ _. read_of_units reads scope us answers
-read_of_units reads scope _ _ = Ok tt
+read_of_units depth scope (u ∷ us) (answer ∷ answers) =
+    read_of_unit depth scope u answer >>= λ _. read_of_units depth scope us answers
+read_of_units depth scope _ _ = Ok tt
 
 -- all units before the one of a number can be read
 abbrev pub AreReadBefore : ReadingDepth → Scope → List UnitRecord → FirstAnswers → ℕ → Type 0
-AreReadBefore reads scope us answers n =
-    (m : ℕ) → m < n → read_of_number reads scope us answers m ≡ Ok tt
+AreReadBefore depth scope us answers n =
+    (m : ℕ) → m < n → read_of_number depth scope us answers m ≡ Ok tt
 
 -- a detail is known, and where it has no fault, so is what follows
 abbrev pub IsKnownToFault : KnownDetail → Type 0 → Type 0
@@ -70,23 +70,23 @@ AreKnownToFault (f ∷ functions) = IsKnownToFault f.detail (AreKnownToFault fun
 
 -- what a parse reads of a unit that isn't open is known, up to the first fault, and that fault too
 abbrev pub IsReadyFor : ReadingDepth → KnownEntries → Type 0
-IsReadyFor reads NothingKnown = ⊥
-IsReadyFor reads AllKnown = Unit {0}
-IsReadyFor reads.Functions (FunctionsKnown ranges functions) = Unit {0}
-IsReadyFor reads.Details (FunctionsKnown ranges functions) = AreKnownToFault functions
+IsReadyFor depth NothingKnown = ⊥
+IsReadyFor depth AllKnown = Unit {0}
+IsReadyFor depths.Functions (FunctionsKnown ranges functions) = Unit {0}
+IsReadyFor depths.Details (FunctionsKnown ranges functions) = AreKnownToFault functions
 
 -- the same of the unit of a number, which isn't open
 abbrev pub IsReadyOf : ReadingDepth → Scope → List UnitRecord → FirstAnswers → List KnownEntries
     → ℕ → Type 0
-IsReadyOf reads scope us answers known n =
+IsReadyOf depth scope us answers known n =
     (is_open_at scope.file.sections us answers n ≡ false)
-    × IfSome (slice_get known n) (IsReadyFor reads)
+    × IfSome (slice_get known n) (IsReadyFor depth)
 
 -- the same of each unit before which all can be read
 abbrev pub AreReadyFor : ReadingDepth → Scope → List UnitRecord → FirstAnswers
     → List KnownEntries → Type 0
-AreReadyFor reads scope us answers known = (n : ℕ) → AreReadBefore reads scope us answers n
-    → IsReadyOf reads scope us answers known n
+AreReadyFor depth scope us answers known = (n : ℕ) → AreReadBefore depth scope us answers n
+    → IsReadyOf depth scope us answers known n
 
 -- whether memory may be taken for the functions of a unit with this first answer, which is decided
 -- by none where it is open; where it takes none it has no details either
@@ -103,8 +103,8 @@ parse_of_takes_memory shares scope us answers n = elim (slice_get us n)
 -- functions take none
 abbrev pub ReadsNoMemory : Bool → ReadingDepth → Scope → List UnitRecord → FirstAnswers
     → List KnownEntries → Type 0
-ReadsNoMemory shares reads scope us answers known = (n : ℕ)
-    → AreReadBefore reads scope us answers n → IsReadyOf reads scope us answers known n
+ReadsNoMemory shares depth scope us answers known = (n : ℕ)
+    → AreReadBefore depth scope us answers n → IsReadyOf depth scope us answers known n
     ⊎ (parse_of_takes_memory shares scope us answers n ≡ false)
 
 -- the first answers of units after one that was read, or as they were where it had a fault
@@ -116,11 +116,11 @@ unless_fault (Err e) after before = before
 -- with a fault, and that one too
 abbrev pub answers_after_parse : ReadingDepth → Scope → List UnitRecord → FirstAnswers
     → FirstAnswers
-answers_after_parse reads scope (u ∷ us) (answer ∷ answers) =
+answers_after_parse depth scope (u ∷ us) (answer ∷ answers) =
     decided_answer scope.file.sections u answer None
-    ∷ unless_fault (read_of_unit reads scope u answer)
-    (answers_after_parse reads scope us answers) answers
-answers_after_parse reads scope _ answers = answers
+    ∷ unless_fault (read_of_unit depth scope u answer)
+    (answers_after_parse depth scope us answers) answers
+answers_after_parse depth scope _ answers = answers
 
 -- the first answers where those of the first units that were open, so many, are decided by none
 abbrev pub first_decided : Sections → ℕ → List UnitRecord → FirstAnswers → FirstAnswers
@@ -133,6 +133,6 @@ first_decided d (suc n) _ answers = answers
 -- none; that one may be, and no other
 abbrev pub AreFirstDecided : ReadingDepth → Scope → List UnitRecord → FirstAnswers
     → FirstAnswers → Type 0
-AreFirstDecided reads scope us old new = (n : ℕ) × AreReadBefore reads scope us old n
+AreFirstDecided depth scope us old new = (n : ℕ) × AreReadBefore depth scope us old n
     × ((new ≡ first_decided scope.file.sections n us old)
     ⊎ (new ≡ first_decided scope.file.sections (suc n) us old))

@@ -7,7 +7,7 @@ use Rattle.addr2line_units.specs.declared.units.Sources.{Sources}
 use Rattle.addr2line_units.specs.CachedFrames.{IsLendable}
 use Rattle.addr2line_units.specs.CachedLines.{indexed_units, parsed_units}
 use Rattle.addr2line_units.specs.CachedUnits.{HaveCachesOf, answers_in}
-use Rattle.addr2line_units.specs.FramesLookup.{Stop}
+use Rattle.addr2line_units.specs.FramesLookup.{LookupStop}
 use Rattle.addr2line_units.specs.CachedKnown.{known_in}
 use Rattle.addr2line_units.specs.SeenUnit.{scope_in}
 use Rattle.addr2line_units.specs.UnitsState.{UnitsState}
@@ -17,7 +17,7 @@ abbrev pub scope_of : {R : Type 0} → Sources R → Scope
 scope_of s = scope_in s.dwarf.value s.units.items s.sup
 
 -- units by what is cached of them
-abbrev pub seen_units : {R : Type 0} → Scope → List (UnitCache R) → ℕ → Stop → UnitsState
+abbrev pub seen_units : {R : Type 0} → Scope → List (UnitCache R) → ℕ → LookupStop → UnitsState
 seen_units scope caches looks stop = record {
   scope = scope;
   units = indexed_units scope.file.units caches;

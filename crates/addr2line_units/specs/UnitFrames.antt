@@ -2,14 +2,14 @@
 -- of the unit, and the frames.
 -- Own: the first fault counts of the view, its functions, the detail of the function, and the lines
 -- of the main unit. A unit that waits for an answer has no frames yet.
-use Rattle.std.specs.Prelude.{ℕ, Bool, false, ◌&&◌, not, List, Option, Some, None, Result, Ok, Err, is_ok, if◌then◌else◌}
+use Rattle.std.specs.Prelude.{ℕ, Bool, ◌&&◌, not, List, [], Option, Some, None, Result, Ok, Err, is_ok, if◌then◌else◌}
 use Rattle.gimli_read.specs.declared.error.Error.{Error}
 use Rattle.gimli_read.specs.Reading.{◌>>=◌}
 use Rattle.gimli.specs.Sections.{Sections}
 use Rattle.gimli.specs.Unit.{UnitRecord}
 use Rattle.addr2line_lines.specs.Functions.{FunctionRange, function_offset_at, functions_of}
+use Rattle.addr2line_lines.specs.InlinedEntries.{InlinedEntry}
 use Rattle.addr2line_lines.specs.Location.{location_at}
-use Rattle.addr2line_lines.specs.ManyInlined.{are_many}
 use Rattle.addr2line_lines.specs.References.{Scope}
 use Rattle.addr2line_lines.specs.UnitLines.{unit_lines}
 use Rattle.addr2line_units.specs.Frames.{FoundFunction, FrameRecord, found_frames, function_at}
@@ -69,12 +69,11 @@ unfoldable pub asks_lines_in : Scope → UnitRecord → Option (Option Sections)
 asks_lines_in scope u answer probe =
     not (is_open scope.file.sections u answer) && is_ok (function_in scope u answer probe)
 
--- whether a function has many inlined functions at the probe
-abbrev pub is_many : Result (Option FoundFunction) Error → Bool
-is_many (Err e) = false
-is_many (Ok None) = false
-is_many (Ok (Some f)) = are_many f.inlined
+-- the inlined functions of what was found; none where it is no function, or a fault
+abbrev pub inlined_of_found : Result (Option FoundFunction) Error → List InlinedEntry
+inlined_of_found (Ok (Some f)) = f.inlined
+inlined_of_found _ = []
 
--- the same of the function at the probe in the view of a unit
-unfoldable pub has_many : Scope → UnitRecord → Option (Option Sections) → ℕ → Bool
-has_many scope u answer probe = is_many (function_in scope u answer probe)
+-- the inlined functions at the probe in the view of a unit
+unfoldable pub inlined_at : Scope → UnitRecord → Option (Option Sections) → ℕ → List InlinedEntry
+inlined_at scope u answer probe = inlined_of_found (function_in scope u answer probe)

@@ -7,13 +7,14 @@ use Rattle.gimli_read.specs.declared.error.Error.{Error}
 use Rattle.gimli_read.specs.Reading.{◌>>=◌}
 use Rattle.gimli.specs.Sections.{Sections}
 use Rattle.gimli.specs.Unit.{UnitRecord}
+use Rattle.addr2line_lines.specs.InlineRoom.{exceeds_inline_room}
 use Rattle.addr2line_lines.specs.Location.{LineTable, Location, location_of_row}
 use Rattle.addr2line_lines.specs.References.{Scope}
 use Rattle.addr2line_units.specs.declared.frames_lookup.OnFault.{OnFault}
 use Rattle.addr2line_units.specs.declared.index.UnitRange.{UnitRange}
 use Rattle.addr2line_units.specs.declared.unit_row.UnitRow.{UnitRow}
 use Rattle.addr2line_units.specs.AskMemory.{lines_of_take_memory}
-use Rattle.addr2line_units.specs.FramesLookup.{FindsNothing, Stop, Waits, asked_frames, asks_lines_of, frames_of_number, functions_of_take_memory, has_many_of, main_scope, stop_along}
+use Rattle.addr2line_units.specs.FramesLookup.{FindsNothing, LookupStop, Waits, asked_frames, asks_lines_of, frames_of_number, functions_of_take_memory, inlined_at_number, main_scope, stop_along}
 use Rattle.addr2line_units.specs.KnownEntries.{KnownEntries, NothingKnown, knows_at}
 use Rattle.addr2line_units.specs.Located.{lines_of_unit}
 use Rattle.addr2line_units.specs.Parsed.{has_parsed}
@@ -29,7 +30,7 @@ pub record UnitsState : Type 0 where
   pub parsed : List Bool
   pub known : List KnownEntries
   pub looks : ℕ
-  pub stop : Stop
+  pub stop : LookupStop
 
 -- units as they are read, and those of the supplementary file: nothing is answered, and nothing
 -- known
@@ -64,11 +65,11 @@ abbrev pub IsFaultAt : ℕ → UnitsState → ℕ → Error → Type 0
 IsFaultAt probe s n e = frames_of_number s.scope s.units s.answers probe n ≡ Err e
 
 -- what a lookup comes to along ranges
-abbrev pub stop_of : OnFault → ℕ → UnitsState → List UnitRange → Result Stop Error
+abbrev pub stop_of : OnFault → ℕ → UnitsState → List UnitRange → Result LookupStop Error
 stop_of faults probe s ranges = stop_along (asked_by faults probe s) ranges
 
 -- the unit that a lookup waits for, if it waits for one
-abbrev pub waiting_unit : Stop → Option ℕ
+abbrev pub waiting_unit : LookupStop → Option ℕ
 waiting_unit (Waits n) = Some n
 waiting_unit stop = None
 
@@ -80,7 +81,7 @@ has_all_at probe s n = knows_at s.known probe n
 -- the same, and at most 16 inlined functions stand there
 abbrev pub has_few_at : ℕ → UnitsState → ℕ → Bool
 has_few_at probe s n =
-    has_all_at probe s n && not (has_many_of s.scope s.units s.answers probe n)
+    has_all_at probe s n && not (exceeds_inline_room (inlined_at_number s.scope s.units s.answers probe n))
 
 -- whether a lookup reads nothing in the unit of a number that may take memory: what it asks for is
 -- known, or reading it takes none
@@ -93,7 +94,7 @@ reads_no_memory_at shares probe s n = (knows_at s.known probe n
 -- the same, and at most 16 inlined functions stand there
 abbrev pub asks_no_memory_at : Bool → ℕ → UnitsState → ℕ → Bool
 asks_no_memory_at shares probe s n = reads_no_memory_at shares probe s n
-    && not (has_many_of s.scope s.units s.answers probe n)
+    && not (exceeds_inline_room (inlined_at_number s.scope s.units s.answers probe n))
 
 -- the texts of the files of lines, none where these can't be read
 abbrev pub files_in : Result LineTable Error → List (List ℕ)

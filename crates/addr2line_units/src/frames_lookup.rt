@@ -20,9 +20,9 @@ use gimli::read::{Error, Reader};
 #[derive(Clone, Copy)]
 pub enum OnFault {
     /// It ends the lookup.
-    End,
+    Stop,
     /// The lookup goes on with the next unit.
-    PassOver,
+    Skip,
 }
 
 // A unit by its number, and the function and the row at an address there, as far as there are.
@@ -49,7 +49,7 @@ fn after_fault(found: Result<UnitFrames, Error>, faults: OnFault) -> Result<Unit
 {
     match (found, faults) {
         (Err(Error::OutOfMemory), _) => Err(Error::OutOfMemory),
-        (Err(_), OnFault::PassOver) => Ok(UnitFrames::Here {
+        (Err(_), OnFault::Skip) => Ok(UnitFrames::Here {
             function: None,
             row: None,
         }),

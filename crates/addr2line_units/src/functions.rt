@@ -6,15 +6,16 @@ ghost use Rattle.gimli_read.specs.declared.error.Error.TheVariants.{OutOfMemory}
 ghost use Rattle.gimli_read.specs.Reading.{ExactlyUnlessOomIf};
 ghost use Rattle.addr2line_lines.specs.FunctionDetails.{AreUnread, HasDetail, IsTableMore};
 ghost use Rattle.addr2line_lines.specs.Functions.{functions_of, functions_take_memory};
+ghost use Rattle.addr2line_lines.specs.InlineRoom.{exceeds_inline_room};
 ghost use Rattle.addr2line_lines.specs.References.{IsScope};
 ghost use Rattle.addr2line_lines.specs.SeenScope.{seen_scope};
-ghost use Rattle.addr2line_units.specs.declared.parses.ReadingDepth.TheVariants as kinds;
+ghost use Rattle.addr2line_units.specs.declared.parses.ReadingDepth.TheVariants as depths;
 ghost use Rattle.addr2line_units.specs.Frames.{function_at};
 ghost use Rattle.addr2line_units.specs.FunctionParses.{IsReadyFor};
-ghost use Rattle.addr2line_units.specs.CachedFunctions.{AreFunctionsOf, ArePlacesIn, IsTableOf, ReadsNoOther, StayFunctions, table_has_many, find_takes_memory, function_of_place, functions_fault, cached_has_function, has_table, cached_functions, reading_takes_memory, table_takes_memory, were_read};
+ghost use Rattle.addr2line_units.specs.CachedFunctions.{AreFunctionsOf, ArePlacesIn, IsTableOf, ReadsNoOther, StayFunctions, cached_inlined_at, find_takes_memory, function_of_place, functions_fault, cached_has_function, has_table, cached_functions, reading_takes_memory, table_takes_memory, were_read};
 ghost use Rattle.addr2line_units.specs.CachedKnown.{known_functions};
 ghost use Rattle.gimli_read.specs.Alike.{WasNotRefused};
-ghost use Rattle.addr2line_units.specs.UnitFrames.{is_many};
+ghost use Rattle.addr2line_units.specs.UnitFrames.{inlined_of_found};
 
 use addr2line_lines::{Functions, InlinedPlaces, Scope};
 use gimli::read::{Error, Reader};
@@ -89,11 +90,11 @@ fn find_place<R: Reader>(
     ensures stay { IsTableMore functions.old functions.new }
     ensures alone { ReadsNoOther probe functions.old functions.new }
     ensures ready { result ≢ Err OutOfMemory
-        → table_takes_memory probe functions.new ≡ table_has_many probe functions.new }
+        → table_takes_memory probe functions.new ≡ exceeds_inline_room (cached_inlined_at probe functions.new) }
     ensures kept { has_table probe functions.old ≡ true → functions.new ≡ functions.old }
     ensures known { WasNotRefused result → has_table probe functions.new ≡ true }
     ensures memory { has_table probe functions.new ≡ true
-        → is_many (function_at (seen_scope scope.entry) view.now probe) ≡ false
+        → exceeds_inline_room (inlined_of_found (function_at (seen_scope scope.entry) view.now probe)) ≡ false
         → WasNotRefused result }
 {
     let Some(place) = functions.find(probe) else {
@@ -163,11 +164,11 @@ impl<R: Reader> LazyFunctions<R> {
         ensures alone { ReadsNoOther probe (cached_functions self.old) (cached_functions self.new) }
         ensures ready { result ≢ Err OutOfMemory
             → find_takes_memory R.shares (seen_scope scope.entry) view.now probe self.new
-            ≡ table_has_many probe (cached_functions self.new) }
+            ≡ exceeds_inline_room (cached_inlined_at probe (cached_functions self.new)) }
         ensures kept { cached_has_function probe self.old ≡ true → self.new ≡ self.old }
         ensures known { WasNotRefused result → cached_has_function probe self.new ≡ true }
         ensures memory { cached_has_function probe self.new ≡ true
-            → is_many (function_at (seen_scope scope.entry) view.now probe) ≡ false
+            → exceeds_inline_room (inlined_of_found (function_at (seen_scope scope.entry) view.now probe)) ≡ false
             → WasNotRefused result }
     {
         self.cache(alloc, scope, view)?;
@@ -203,14 +204,14 @@ impl<R: Reader> LazyFunctions<R> {
             (AllByRecursion HasDetail (cached_functions self.new).functions) }
         ensures ready { OnOk result ((probe : ℕ)
             → find_takes_memory R.shares (seen_scope scope.entry) view.now probe self.new
-            ≡ table_has_many probe (cached_functions self.new)) }
+            ≡ exceeds_inline_room (cached_inlined_at probe (cached_functions self.new))) }
         ensures ready_for_all { WasNotRefused result
-            → IsReadyFor kinds.Details (known_functions self.new) }
-        ensures had_memory { IsReadyFor kinds.Details (known_functions self.new)
+            → IsReadyFor depths.Details (known_functions self.new) }
+        ensures had_memory { IsReadyFor depths.Details (known_functions self.new)
             → WasNotRefused result }
-        ensures exact { IsReadyFor kinds.Details (known_functions self.old)
+        ensures exact { IsReadyFor depths.Details (known_functions self.old)
             → result ≡ functions_fault (seen_scope scope.entry) view.now }
-        ensures same { IsReadyFor kinds.Details (known_functions self.old)
+        ensures same { IsReadyFor depths.Details (known_functions self.old)
             → self.new ≡ self.old }
     {
         self.cache(alloc, scope, view)?;

@@ -82,28 +82,28 @@ impl<R: Reader> LazyFunctions<R> {
         alloc: Global,
         scope: Scope<'_, R>,
         view: &Unit<R>,
-        reads: ReadingDepth,
+        depth: ReadingDepth,
     ) -> Result<(), Error>
         requires in_order { IsScope (seen_scope scope) }
         requires right { AreFunctionsOf (seen_scope scope) view.now self.old }
         ensures gives { IsUnlessOom result
-            (read_of_functions reads (seen_scope scope.entry) view.now) }
+            (read_of_functions depth (seen_scope scope.entry) view.now) }
         ensures right { AreFunctionsOf (seen_scope scope.entry) view.now self.new }
         ensures stay { StayFunctions self.old self.new }
-        ensures read { OnOk result (HaveFunctions reads self.new) }
-        ensures memory { HaveFunctions reads self.old → result ≡ Ok tt }
-        ensures ready_for_all { WasNotRefused result → IsReadyFor reads (known_functions self.new) }
-        ensures had_memory { IsReadyFor reads (known_functions self.new) → WasNotRefused result }
+        ensures read { OnOk result (HaveFunctions depth self.new) }
+        ensures memory { HaveFunctions depth self.old → result ≡ Ok tt }
+        ensures ready_for_all { WasNotRefused result → IsReadyFor depth (known_functions self.new) }
+        ensures had_memory { IsReadyFor depth (known_functions self.new) → WasNotRefused result }
         ensures no_memory { functions_take_memory R.shares scope.entry.file.dwarf.now view.now
-            ≡ false → IfErr result (λ e. read_of_functions reads (seen_scope scope.entry) view.now
+            ≡ false → IfErr result (λ e. read_of_functions depth (seen_scope scope.entry) view.now
             ≡ Err e) }
-        ensures exact { IsReadyFor reads (known_functions self.old)
-            → result ≡ read_of_functions reads (seen_scope scope.entry) view.now }
-        ensures same { IsReadyFor reads (known_functions self.old) → self.new ≡ self.old }
-        ensures details { reads ≡ Functions
+        ensures exact { IsReadyFor depth (known_functions self.old)
+            → result ≡ read_of_functions depth (seen_scope scope.entry) view.now }
+        ensures same { IsReadyFor depth (known_functions self.old) → self.new ≡ self.old }
+        ensures details { depth ≡ Functions
             → ReadsNoDetail (cached_functions self.old) (cached_functions self.new) }
     {
-        match reads {
+        match depth {
             ReadingDepth::Functions => self.read_alone(alloc, scope, view),
             ReadingDepth::Details => self.read_all(alloc, scope, view),
         }
@@ -117,39 +117,39 @@ fn read_in_view<'x, R: Reader>(
     functions: &mut LazyFunctions<R>,
     scope: Scope<'x, R>,
     dw_unit: &'x Unit<R>,
-    reads: ReadingDepth,
+    depth: ReadingDepth,
 ) -> Result<(), Error>
     requires in_order { IsScope (seen_scope scope) }
     requires right { AreEntriesOf (seen_scope scope) dw_unit.now
         (record { view = view.now; functions = functions.old }) }
     requires decided { is_decided view.now.state ≡ true }
-    ensures gives { IsUnlessOom result (read_of_view reads (seen_scope scope.entry)
+    ensures gives { IsUnlessOom result (read_of_view depth (seen_scope scope.entry)
         (verdict scope.entry.file.dwarf.now dw_unit.now (seen_first_answer view.now))) }
     ensures right { AreEntriesOf (seen_scope scope.entry) dw_unit.now
         (record { view = view.now; functions = functions.new }) }
     ensures stay { StayFunctions functions.old functions.new }
-    ensures read { OnOk result (HasRead reads
+    ensures read { OnOk result (HasRead depth
         (record { view = view.now; functions = functions.new })) }
-    ensures memory { HasRead reads (record { view = view.now; functions = functions.old })
+    ensures memory { HasRead depth (record { view = view.now; functions = functions.old })
         → result ≡ Ok tt }
     ensures ready_for_all { WasNotRefused result
-        → IsReadyFor reads (known_by view.now.state functions.new) }
-    ensures had_memory { IsReadyFor reads (known_by view.now.state functions.new)
+        → IsReadyFor depth (known_by view.now.state functions.new) }
+    ensures had_memory { IsReadyFor depth (known_by view.now.state functions.new)
         → WasNotRefused result }
     ensures no_memory { functions_in_take_memory R.shares (seen_scope scope.entry) dw_unit.now
-        (seen_first_answer view.now) ≡ false → IfErr result (λ e. read_of_view reads
+        (seen_first_answer view.now) ≡ false → IfErr result (λ e. read_of_view depth
         (seen_scope scope.entry) (verdict scope.entry.file.dwarf.now dw_unit.now
         (seen_first_answer view.now)) ≡ Err e) }
-    ensures exact { IsReadyFor reads (known_by view.now.state functions.old)
-        → result ≡ read_of_view reads (seen_scope scope.entry)
+    ensures exact { IsReadyFor depth (known_by view.now.state functions.old)
+        → result ≡ read_of_view depth (seen_scope scope.entry)
         (verdict scope.entry.file.dwarf.now dw_unit.now (seen_first_answer view.now)) }
-    ensures same { IsReadyFor reads (known_by view.now.state functions.old)
+    ensures same { IsReadyFor depth (known_by view.now.state functions.old)
         → functions.new ≡ functions.old }
-    ensures details { reads ≡ Functions
+    ensures details { depth ≡ Functions
         → ReadsNoDetail (cached_functions functions.old) (cached_functions functions.new) }
 {
     let unit = view.unit_ref(scope.file.dwarf, dw_unit)?;
-    functions.read(alloc, view.scope_of(scope), unit.unit, reads)
+    functions.read(alloc, view.scope_of(scope), unit.unit, depth)
 }
 
 impl<R: Reader> UnitEntries<R> {
@@ -166,11 +166,11 @@ impl<R: Reader> UnitEntries<R> {
         alloc: Global,
         scope: Scope<'x, R>,
         dw_unit: &'x Unit<R>,
-        reads: ReadingDepth,
+        depth: ReadingDepth,
     ) -> Result<(), Error>
         requires in_order { IsScope (seen_scope scope) }
         requires right { AreEntriesOf (seen_scope scope) dw_unit.now self.old }
-        ensures gives { IsUnlessOom result (read_of_unit reads
+        ensures gives { IsUnlessOom result (read_of_unit depth
             (seen_scope scope.entry) dw_unit.now (first_answer_of self.old)) }
         ensures right { AreEntriesOf (seen_scope scope.entry) dw_unit.now self.new }
         ensures answer { WasNotRefused result → first_answer_of self.new ≡ decided_answer
@@ -179,23 +179,23 @@ impl<R: Reader> UnitEntries<R> {
             ⊎ (first_answer_of self.new ≡ decided_answer scope.entry.file.dwarf.now dw_unit.now
             (first_answer_of self.old) None) }
         ensures stay { is_decided self.old.view.state ≡ true → StayEntries self.old self.new }
-        ensures read { OnOk result (HasRead reads self.new) }
-        ensures memory { HasRead reads self.old → result ≡ Ok tt }
-        ensures ready_for_all { WasNotRefused result → IsReadyUnit reads self.new }
-        ensures had_memory { IsReadyUnit reads self.new → WasNotRefused result }
+        ensures read { OnOk result (HasRead depth self.new) }
+        ensures memory { HasRead depth self.old → result ≡ Ok tt }
+        ensures ready_for_all { WasNotRefused result → IsReadyUnit depth self.new }
+        ensures had_memory { IsReadyUnit depth self.new → WasNotRefused result }
         ensures no_memory { parse_takes_memory R.shares (seen_scope scope.entry) dw_unit.now
-            (first_answer_of self.new) ≡ false → IfErr result (λ e. read_of_unit reads
+            (first_answer_of self.new) ≡ false → IfErr result (λ e. read_of_unit depth
             (seen_scope scope.entry) dw_unit.now (first_answer_of self.old) ≡ Err e) }
-        ensures exact { IsReadyUnit reads self.old → result ≡ read_of_unit reads
+        ensures exact { IsReadyUnit depth self.old → result ≡ read_of_unit depth
             (seen_scope scope.entry) dw_unit.now (first_answer_of self.old) }
-        ensures same { IsReadyUnit reads self.old → self.new ≡ self.old }
-        ensures details { reads ≡ Functions → (offset : ℕ)
+        ensures same { IsReadyUnit depth self.old → self.new ≡ self.old }
+        ensures details { depth ≡ Functions → (offset : ℕ)
             → knows_detail offset (known_by self.new.view.state self.new.functions) ≡ true
             → knows_detail offset (known_by self.old.view.state self.old.functions) ≡ true }
     {
         self.answer(alloc, scope, dw_unit, None)?;
         let UnitEntries { view, functions } = self;
-        read_in_view(alloc, view, functions, scope, dw_unit, reads)
+        read_in_view(alloc, view, functions, scope, dw_unit, depth)
     }
 }
 
@@ -205,12 +205,12 @@ fn read_functions_in<R: Reader>(
     scope: Scope<'_, R>,
     caches: &mut Vec<UnitCache<R>>,
     number: usize,
-    reads: ReadingDepth,
+    depth: ReadingDepth,
 ) -> Result<(), Error>
     requires in_order { IsScope (seen_scope scope) }
     requires right { HaveEntriesOf (seen_scope scope) scope.file.units.now caches.old.items }
     requires there { number < length caches.old.items }
-    ensures gives { IsUnlessOom result (read_of_number reads
+    ensures gives { IsUnlessOom result (read_of_number depth
         (seen_scope scope.entry) scope.entry.file.units.now (answers_in caches.old.items)
         number) }
     ensures right { HaveEntriesOf (seen_scope scope.entry) scope.entry.file.units.now
@@ -225,30 +225,30 @@ fn read_functions_in<R: Reader>(
     ensures stay { StayDecided caches.old.items caches.new.items }
     ensures only { ChangesOnly (λ n. n ≡ number) caches.old.items caches.new.items }
     ensures read { OnOk result (IfSome (slice_get caches.new.items number)
-        (λ c. HasRead reads c.entries)) }
-    ensures memory { IfSome (slice_get caches.old.items number) (λ c. HasRead reads c.entries)
+        (λ c. HasRead depth c.entries)) }
+    ensures memory { IfSome (slice_get caches.old.items number) (λ c. HasRead depth c.entries)
         → result ≡ Ok tt }
     ensures ready_for_all { WasNotRefused result
-        → IfSome (slice_get caches.new.items number) (λ c. IsReadyUnit reads c.entries) }
-    ensures had_memory { IfSome (slice_get caches.new.items number) (λ c. IsReadyUnit reads c.entries)
+        → IfSome (slice_get caches.new.items number) (λ c. IsReadyUnit depth c.entries) }
+    ensures had_memory { IfSome (slice_get caches.new.items number) (λ c. IsReadyUnit depth c.entries)
         → WasNotRefused result }
     ensures no_memory { parse_of_takes_memory R.shares (seen_scope scope.entry)
         scope.entry.file.units.now (answers_in caches.new.items) number ≡ false
-        → IfErr result (λ e. read_of_number reads (seen_scope scope.entry)
+        → IfErr result (λ e. read_of_number depth (seen_scope scope.entry)
         scope.entry.file.units.now (answers_in caches.old.items) number ≡ Err e) }
-    ensures exact { IfSome (slice_get caches.old.items number) (λ c. IsReadyUnit reads c.entries)
-        → result ≡ read_of_number reads (seen_scope scope.entry) scope.entry.file.units.now
+    ensures exact { IfSome (slice_get caches.old.items number) (λ c. IsReadyUnit depth c.entries)
+        → result ≡ read_of_number depth (seen_scope scope.entry) scope.entry.file.units.now
         (answers_in caches.old.items) number }
-    ensures same { IfSome (slice_get caches.old.items number) (λ c. IsReadyUnit reads c.entries)
+    ensures same { IfSome (slice_get caches.old.items number) (λ c. IsReadyUnit depth c.entries)
         → caches.new.items ≡ caches.old.items }
-    ensures details { reads ≡ Functions
+    ensures details { depth ≡ Functions
         → LearnsNoDetails (known_in caches.old.items) (known_in caches.new.items) }
 {
     let Some(dw_unit) = scope.file.units.get(number) else {
         return Ok(());
     };
     let cache = &mut caches[number];
-    cache.entries.read(alloc, scope, dw_unit, reads)
+    cache.entries.read(alloc, scope, dw_unit, depth)
 }
 
 // Reads the functions of all units in their order, up to the first that has a fault, as
@@ -257,49 +257,49 @@ fn read_all_functions<R: Reader>(
     alloc: Global,
     scope: Scope<'_, R>,
     caches: &mut Vec<UnitCache<R>>,
-    reads: ReadingDepth,
+    depth: ReadingDepth,
 ) -> Result<(), Error>
     requires in_order { IsScope (seen_scope scope) }
     requires right { HaveEntriesOf (seen_scope scope) scope.file.units.now caches.old.items }
-    ensures gives { IsUnlessOom result (read_of_units reads
+    ensures gives { IsUnlessOom result (read_of_units depth
         (seen_scope scope.entry) scope.entry.file.units.now (answers_in caches.old.items)) }
     ensures right { HaveEntriesOf (seen_scope scope.entry) scope.entry.file.units.now
         caches.new.items }
     ensures answers { WasNotRefused result → answers_in caches.new.items
-        ≡ answers_after_parse reads (seen_scope scope.entry) scope.entry.file.units.now
+        ≡ answers_after_parse depth (seen_scope scope.entry) scope.entry.file.units.now
         (answers_in caches.old.items) }
-    ensures begun { AreFirstDecided reads (seen_scope scope.entry)
+    ensures begun { AreFirstDecided depth (seen_scope scope.entry)
         scope.entry.file.units.now (answers_in caches.old.items)
         (answers_in caches.new.items) }
     ensures lines { HaveSameLines caches.old.items caches.new.items }
     ensures stay { StayDecided caches.old.items caches.new.items }
-    ensures only { ChangesOnly (AreReadBefore reads (seen_scope scope.entry)
+    ensures only { ChangesOnly (AreReadBefore depth (seen_scope scope.entry)
         scope.entry.file.units.now (answers_in caches.old.items))
         caches.old.items caches.new.items }
-    ensures read { OnOk result (HaveRead reads caches.new.items) }
-    ensures memory { HaveRead reads caches.old.items → result ≡ Ok tt }
-    ensures ready_for_all { WasNotRefused result → AreReadyUnits reads (seen_scope scope.entry)
+    ensures read { OnOk result (HaveRead depth caches.new.items) }
+    ensures memory { HaveRead depth caches.old.items → result ≡ Ok tt }
+    ensures ready_for_all { WasNotRefused result → AreReadyUnits depth (seen_scope scope.entry)
         scope.entry.file.units.now (answers_in caches.old.items) caches.new.items }
-    ensures had_memory { AreReadyUnits reads (seen_scope scope.entry)
+    ensures had_memory { AreReadyUnits depth (seen_scope scope.entry)
         scope.entry.file.units.now (answers_in caches.new.items) caches.new.items
         → WasNotRefused result }
-    ensures no_memory { ReadsNoMemory R.shares reads (seen_scope scope.entry)
+    ensures no_memory { ReadsNoMemory R.shares depth (seen_scope scope.entry)
         scope.entry.file.units.now (answers_in caches.new.items) (known_in caches.new.items)
-        → IfErr result (λ e. read_of_units reads (seen_scope scope.entry)
+        → IfErr result (λ e. read_of_units depth (seen_scope scope.entry)
         scope.entry.file.units.now (answers_in caches.old.items) ≡ Err e) }
-    ensures exact { AreReadyUnits reads (seen_scope scope.entry) scope.entry.file.units.now
+    ensures exact { AreReadyUnits depth (seen_scope scope.entry) scope.entry.file.units.now
         (answers_in caches.old.items) caches.old.items
-        → result ≡ read_of_units reads (seen_scope scope.entry) scope.entry.file.units.now
+        → result ≡ read_of_units depth (seen_scope scope.entry) scope.entry.file.units.now
         (answers_in caches.old.items) }
-    ensures same { AreReadyUnits reads (seen_scope scope.entry) scope.entry.file.units.now
+    ensures same { AreReadyUnits depth (seen_scope scope.entry) scope.entry.file.units.now
         (answers_in caches.old.items) caches.old.items
         → caches.new.items ≡ caches.old.items }
-    ensures details { reads ≡ Functions
+    ensures details { depth ≡ Functions
         → LearnsNoDetails (known_in caches.old.items) (known_in caches.new.items) }
 {
     let count = caches.len();
     for number in 0..count {
-        read_functions_in(alloc, scope, caches, number, reads)?;
+        read_functions_in(alloc, scope, caches, number, depth)?;
     }
     Ok(())
 }
@@ -315,16 +315,16 @@ impl<R: Reader> Units<R> {
     /// decide are decided. Takes no memory where of each unit up to the first fault what it reads
     /// is cached, that fault too, or the functions take none to read; changes nothing where all of
     /// it is cached. Source: DWARF 5, sections 3.3.1 and 3.3.8.
-    pub fn read_functions(&mut self, reads: ReadingDepth) -> Result<(), Error>
-        ensures gives { IsUnlessOom result (read_of_units reads self.old.scope
+    pub fn read_functions(&mut self, depth: ReadingDepth) -> Result<(), Error>
+        ensures gives { IsUnlessOom result (read_of_units depth self.old.scope
             self.old.scope.file.units self.old.answers) }
-        ensures after { AfterReading reads result self.old self.new }
-        ensures no_memory { ReadsNoMemory R.shares reads self.old.scope self.old.scope.file.units
-            self.new.answers self.new.known → IfErr result (λ e. read_of_units reads
+        ensures after { AfterReading depth result self.old self.new }
+        ensures no_memory { ReadsNoMemory R.shares depth self.old.scope self.old.scope.file.units
+            self.new.answers self.new.known → IfErr result (λ e. read_of_units depth
             self.old.scope self.old.scope.file.units self.old.answers ≡ Err e) }
     {
         self.stop = FramesStop::FindsNothing;
         let scope = self.sources.scope();
-        read_all_functions(self.alloc, scope, &mut self.caches, reads)
+        read_all_functions(self.alloc, scope, &mut self.caches, depth)
     }
 }

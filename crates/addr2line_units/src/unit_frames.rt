@@ -2,6 +2,7 @@
 
 ghost use Rattle.std.specs.Prelude.{◌≡◌, ◌≤◌, Err, IfErr, IfOk, IfSome, None, Ok, false, option_map, true};
 ghost use Rattle.gimli_read.specs.Reading.{ExactlyUnlessOom};
+ghost use Rattle.addr2line_lines.specs.InlineRoom.{exceeds_inline_room};
 ghost use Rattle.addr2line_lines.specs.References.{IsScope};
 ghost use Rattle.addr2line_lines.specs.SeenScope.{seen_scope};
 ghost use Rattle.addr2line_units.specs.CachedLines.{AreLinesOf, StaysUnit, indexed_unit, is_uncached};
@@ -10,7 +11,7 @@ ghost use Rattle.addr2line_units.specs.CachedEntries.{AreEntriesOf, AreFramesIn,
 ghost use Rattle.addr2line_units.specs.CachedFunctions.{ArePlacesIn, ReadsNoOther, StayFunctions, function_of_place, cached_functions};
 ghost use Rattle.addr2line_units.specs.CachedViews.{is_decided, seen_first_answer, waits, was_looked_at};
 ghost use Rattle.gimli_read.specs.Alike.{WasNotRefused};
-ghost use Rattle.addr2line_units.specs.UnitFrames.{asks_lines_in, frames_in, function_in, has_many};
+ghost use Rattle.addr2line_units.specs.UnitFrames.{asks_lines_in, frames_in, function_in, inlined_at};
 ghost use Rattle.addr2line_units.specs.Views.{is_open};
 
 use crate::functions::{FunctionPlace, LazyFunctions};
@@ -75,7 +76,7 @@ fn find_in_view<'x, R: Reader>(
     ensures ready { WasNotRefused result
         → has_entries_by probe view.now.state functions.new ≡ true }
     ensures memory { has_entries_by probe view.now.state functions.new ≡ true
-        → has_many (seen_scope scope.entry) dw_unit.now (seen_first_answer view.now) probe ≡ false
+        → exceeds_inline_room (inlined_at (seen_scope scope.entry) dw_unit.now (seen_first_answer view.now) probe) ≡ false
         → WasNotRefused result }
     ensures no_memory { functions_in_take_memory R.shares (seen_scope scope.entry) dw_unit.now
         (seen_first_answer view.now) ≡ false → IfErr result (λ e. function_in
@@ -136,7 +137,7 @@ impl<R: Reader> UnitEntries<R> {
         ensures only { ReadsEntriesOf probe self.old self.new }
         ensures ready { WasNotRefused result → has_entries probe self.new ≡ true }
         ensures memory { has_entries probe self.new ≡ true
-            → has_many (seen_scope scope.entry) dw_unit.now (first_answer_of self.old) probe ≡ false
+            → exceeds_inline_room (inlined_at (seen_scope scope.entry) dw_unit.now (first_answer_of self.old) probe) ≡ false
             → WasNotRefused result }
         ensures no_memory { functions_in_take_memory R.shares (seen_scope scope.entry) dw_unit.now
             (first_answer_of self.old) ≡ false → IfErr result (λ e. function_in
@@ -186,7 +187,7 @@ pub(crate) fn find_frames_in<'x, R: Reader>(
         → (asks_lines_in (seen_scope scope.entry) dw_unit.now (first_answer_of entries.old) probe
         ≡ true
         → is_uncached unit.new.lines ≡ false)
-        → has_many (seen_scope scope.entry) dw_unit.now (first_answer_of entries.old) probe ≡ false
+        → exceeds_inline_room (inlined_at (seen_scope scope.entry) dw_unit.now (first_answer_of entries.old) probe) ≡ false
         → WasNotRefused result }
     ensures no_memory { AsksNoMemoryIn R.shares (seen_scope scope.entry) dw_unit.now
         (first_answer_of entries.old) probe unit.new entries.new → IfErr result (λ e. frames_in

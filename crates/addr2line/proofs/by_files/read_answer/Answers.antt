@@ -2,7 +2,7 @@ use Rattle.std.proofs.Common.{◌≡◌, ℕ, Option, Some, None, Ok, Err, optio
 use Rattle.std.specs.Prelude.{IfErr, IfOk, IfSome}
 use Rattle.gimli.specs.Sections.{Sections}
 use Rattle.elf.specs.Loading.{Loading, LoadsUnlessOom}
-use Rattle.addr2line_units.specs.declared.frames_lookup.OnFault.TheVariants.{End}
+use Rattle.addr2line_units.specs.declared.frames_lookup.OnFault.TheVariants.{Stop}
 use Rattle.addr2line_units.specs.FramesLookup.{Waits}
 use Rattle.addr2line_units.specs.Views.{SplitLoad}
 use Rattle.addr2line.specs.Context.{ContextState}
@@ -19,7 +19,7 @@ module _ {X : Type 0} (view : X → Option Sections) (files : Option ReadFiles) 
   given_by d n is (Ok x) h = (load, is, h)
   given_by d n is (Err e) h = tt
 
-  refused_by : (probe n : ℕ) (c : ContextState) → lookup_stop End c.sections c.answers probe ≡ Ok (Waits n) → IsLoadOf c.sections n load → (r : Loading X) → IfSome files (λ held. LoadsUnlessOom view r (given_by_files held load)) → IfErr r (IsFaultByFiles files c probe)
+  refused_by : (probe n : ℕ) (c : ContextState) → lookup_stop Stop c.sections c.answers probe ≡ Ok (Waits n) → IsLoadOf c.sections n load → (r : Loading X) → IfSome files (λ held. LoadsUnlessOom view r (given_by_files held load)) → IfErr r (IsFaultByFiles files c probe)
   refused_by probe n c waits is (Ok x) h = tt
   refused_by probe n c waits is (Err e) h = refused_by_file files probe n load c waits is e h
 

@@ -1,5 +1,5 @@
 use Rattle.gimli_read.proofs.FaultLemmas.{not_refused}
-use Rattle.addr2line_units.specs.declared.frames_lookup.OnFault.TheVariants.{End, PassOver}
+use Rattle.addr2line_units.specs.declared.frames_lookup.OnFault.TheVariants.{Stop, Skip}
 use Rattle.addr2line_units.proofs.FaultLemmas.{location_of_is, spans_of_are, spans_unrefused}
 use Rattle.addr2line.proofs.FaultLemmas.{forget_reply_is, found_are, lines_of_all_are, load_reply_is, lookup_stop_is, new_context_is, parse_reply_is, replies_are}
 use Rattle.addr2line.specs.Lookups.{frames_value, unit_value}
@@ -10,7 +10,7 @@ returns c = record {
   contexts = record {
     made = λ d. not_refused (new_context_is d);
     lines = λ d. not_refused (lines_of_all_are d);
-    functions = λ reads d answers. not_refused (parse_reply_is reads d answers);
+    functions = λ depth d answers. not_refused (parse_reply_is depth d answers);
   };
   locations = record {
     location = λ d probe. not_refused (location_of_is d probe);
@@ -19,8 +19,8 @@ returns c = record {
   };
   lookups = record {
     stop = λ faults d answers probe. not_refused (lookup_stop_is faults d answers probe);
-    frames = λ d answers probe. not_refused (found_are End frames_value d answers probe);
-    unit = λ d answers probe. not_refused (found_are PassOver unit_value d answers probe);
+    frames = λ d answers probe. not_refused (found_are Stop frames_value d answers probe);
+    unit = λ d answers probe. not_refused (found_are Skip unit_value d answers probe);
   };
   loads = record {
     answer = λ d answers n given. not_refused (load_reply_is d answers n given);

@@ -1,7 +1,7 @@
 use Rattle.std.proofs.Common.{◌≤◌, Some, ap, length, map, option_map, refl, rules, subst, sym, ◌∙◌}
 use Rattle.std.proofs.lemmas.List.{length-map}
 use Rattle.gimli_read.specs.Reading.{ExactlyUnlessOom}
-use Rattle.addr2line_units.specs.declared.frames_lookup.OnFault.TheVariants.{End}
+use Rattle.addr2line_units.specs.declared.frames_lookup.OnFault.TheVariants.{Stop}
 use Rattle.addr2line_units.specs.FramesLeft.{frames_left}
 use Rattle.addr2line.proofs.ReplayLemmas.{begun_at, ends_at_once, ends_resumed, goes_on, is_left, is_refused, left_at_end, left_by, load_token, next_of}
 use Rattle.addr2line.specs.Answers.{SuspendsAgain, answered}
@@ -17,7 +17,7 @@ returns-in-Output g c =
     let p = c.args.probe in
     let e = c.frames_reply.ensures in
     let all = map seen_given c.args.answers.now in
-    record { made = ends_at_once End p first all g.R.Reader.shares (frames_replied first.sections p) c.in-Output.frames _ (search rules) c.frames_reply.result (e.gives (lookup_stop End first.sections first.answers p) c.in-Output.ensures.output) e.told e.refused }
+    record { made = ends_at_once Stop p first all g.R.Reader.shares (frames_replied first.sections p) c.in-Output.frames _ (search rules) c.frames_reply.result (e.gives (lookup_stop Stop first.sections first.answers p) c.in-Output.ensures.output) e.told e.refused }
 
 pub loop-answer-init : goal.loop-answer-init
 loop-answer-init g c =
@@ -27,8 +27,8 @@ loop-answer-init g c =
     record {
       name = refl;
       probe = load.1;
-      token = load_token End first.sections first.answers c.args.probe next.number next.load load.2.waits load.2.load;
-      so = begun_at End c.args.probe first (map seen_given c.args.answers.now) next.number _ next.ctx.now load.2;
+      token = load_token Stop first.sections first.answers c.args.probe next.number next.load load.2.waits load.2.load;
+      so = begun_at Stop c.args.probe first (map seen_given c.args.answers.now) next.number _ next.ctx.now load.2;
     }
 
 pub returns-in-Output-resume : goal.returns-in-Output-resume
@@ -46,8 +46,8 @@ returns-in-Output-resume g c =
     let o = c.in-Output-resume.frames in
     let out = subst (λ s. ExactlyUnlessOom (λ j. Some (frames_left j)) o (frames_of s left p)) inv.so.sections (subst (λ q. ExactlyUnlessOom (λ j. Some (frames_left j)) o (frames_of l.ctx.now.sections left q)) inv.probe c.in-Output-resume.ensures.output) in
     record {
-      made = ends_resumed End p first (map seen_given c.args.answers.now) i l.number l.ctx.now inv.so x one g.R.Reader.shares (frames_replied first.sections p) c.resume.result o c.in-Output-resume.is l.probe inv.probe _ c.resume.follows.lender-at-none (search rules) c.resume.follows.holds-at-none
-          c.frames_reply-in-Output-resume.result (e.gives (lookup_stop End first.sections left p) out) e.told e.refused;
+      made = ends_resumed Stop p first (map seen_given c.args.answers.now) i l.number l.ctx.now inv.so x one g.R.Reader.shares (frames_replied first.sections p) c.resume.result o c.in-Output-resume.is l.probe inv.probe _ c.resume.follows.lender-at-none (search rules) c.resume.follows.holds-at-none
+          c.frames_reply-in-Output-resume.result (e.gives (lookup_stop Stop first.sections left p) out) e.told e.refused;
     }
 
 pub returns-in-Ok-None : goal.returns-in-Ok-None
@@ -59,13 +59,13 @@ returns-in-Ok-None g c =
     let all = map seen_given c.args.answers.now in
     let given = sym (ap (λ o. given_by (option_map (option_map (λ r. r.value)) o)) c.in-Ok-None.field-0-is) ∙ c.in-Ok-None.ensures.gives in
     let one = next_of seen_given c.args.answers.now i c.answer-item.result (search rules) c.answer-item.is _ given in
-    record { made = is_left End c.args.probe first all i l.number l.ctx.now inv.so (frames_replied first.sections c.args.probe) (λ w. ap reply_of_frames w) l.load.unit inv.token c.suspended_reply.result c.suspended_reply.ensures.gives _ (search rules) (left_by End c.args.probe first all i l.number l.ctx.now inv.so one) }
+    record { made = is_left Stop c.args.probe first all i l.number l.ctx.now inv.so (frames_replied first.sections c.args.probe) (λ w. ap reply_of_frames w) l.load.unit inv.token c.suspended_reply.result c.suspended_reply.ensures.gives _ (search rules) (left_by Stop c.args.probe first all i l.number l.ctx.now inv.so one) }
 
 pub returns-in-Err : goal.returns-in-Err
 returns-in-Err g c =
     let first = c.args.context.now in
     let l = c.loop-answer.next in
-    record { made = is_refused End c.args.probe first (map seen_given c.args.answers.now) c.loop-answer.answer-index l.number l.ctx.now c.loop-answer.invariant.so (frames_replied first.sections c.args.probe) _ _ (search rules) c.in-Err.ensures.refused }
+    record { made = is_refused Stop c.args.probe first (map seen_given c.args.answers.now) c.loop-answer.answer-index l.number l.ctx.now c.loop-answer.invariant.so (frames_replied first.sections c.args.probe) _ _ (search rules) c.in-Err.ensures.refused }
 
 pub loop-answer-preserved : goal.loop-answer-preserved
 loop-answer-preserved g c =
@@ -79,12 +79,12 @@ loop-answer-preserved g c =
     let x = option_map (λ r. r.value) c.in-Ok-Some.input in
     let given = sym (ap (λ o. given_by (option_map (option_map (λ r. r.value)) o)) c.in-Ok-Some.field-0-is) ∙ c.in-Ok-Some.ensures.gives in
     let one = next_of seen_given c.args.answers.now i c.answer-item.result (search rules) c.answer-item.is _ given in
-    let again = subst (λ q. SuspendsAgain End q l.number x next.number next.load l.ctx.now next.ctx.now) inv.probe load.2 in
+    let again = subst (λ q. SuspendsAgain Stop q l.number x next.number next.load l.ctx.now next.ctx.now) inv.probe load.2 in
     record {
       name = load.0 ∙ inv.name;
       probe = load.1 ∙ inv.probe;
-      token = load_token End again.0.sections again.0.answers p next.number next.load again.2.waits again.2.load;
-      so = goes_on End p first (map seen_given c.args.answers.now) i l.number l.ctx.now inv.so x one next.number next.load next.ctx.now again;
+      token = load_token Stop again.0.sections again.0.answers p next.number next.load again.2.waits again.2.load;
+      so = goes_on Stop p first (map seen_given c.args.answers.now) i l.number l.ctx.now inv.so x one next.number next.load next.ctx.now again;
     }
 
 pub returns : goal.returns
@@ -96,6 +96,6 @@ returns g c =
     let all = map seen_given c.args.answers.now in
     let past : length c.args.answers.now ≤ i = (search rules) in
     record {
-      made = is_left End c.args.probe first all i l.number l.ctx.now inv.so (frames_replied first.sections c.args.probe) (λ w. ap reply_of_frames w) l.load.unit inv.token c.suspended_reply-2.result c.suspended_reply-2.ensures.gives _ (search rules)
-          (left_at_end End c.args.probe first all i l.number l.ctx.now inv.so (subst (λ n. n ≤ i) (sym (length-map c.args.answers.now seen_given)) past));
+      made = is_left Stop c.args.probe first all i l.number l.ctx.now inv.so (frames_replied first.sections c.args.probe) (λ w. ap reply_of_frames w) l.load.unit inv.token c.suspended_reply-2.result c.suspended_reply-2.ensures.gives _ (search rules)
+          (left_at_end Stop c.args.probe first all i l.number l.ctx.now inv.so (subst (λ n. n ≤ i) (sym (length-map c.args.answers.now seen_given)) past));
     }

@@ -1,5 +1,5 @@
 use Rattle.std.proofs.Common.{◌≡◌, map}
-use Rattle.addr2line_units.specs.declared.frames_lookup.OnFault.TheVariants.{PassOver}
+use Rattle.addr2line_units.specs.declared.frames_lookup.OnFault.TheVariants.{Skip}
 use Rattle.addr2line.proofs.ReplayLemmas.{HasAnswered}
 use Rattle.addr2line.specs.SeenCalls.{seen_given}
 use Rattle.addr2line.proofs.session.replay_unit.Given as goal
@@ -10,5 +10,5 @@ invariant-loop-answer g l = record {
   name : l.next.ctx.ghost_name ≡ l.initial.next.ctx.ghost_name;
   probe : l.next.probe ≡ l.fn.probe;
   token : l.next.load.unit ≡ l.next.number;
-  so : HasAnswered PassOver l.fn.probe l.fn.context (map seen_given l.answers) l.answer-index l.next.number l.next.ctx.now;
+  so : HasAnswered Skip l.fn.probe l.fn.context (map seen_given l.answers) l.answer-index l.next.number l.next.ctx.now;
 }

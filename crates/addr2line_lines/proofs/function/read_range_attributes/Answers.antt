@@ -3,7 +3,7 @@ use Rattle.std.proofs.lemmas.Result.{err_from_is_err_and}
 use Rattle.gimli.proofs.WantedLemmas.{rest_passes, wanted_end, wanted_next, wanted_passed}
 use Rattle.addr2line_lines.specs.FoundRanges.{is_range_name}
 use Rattle.addr2line_lines.proofs.FoundRanges.{range_passes}
-use Rattle.addr2line_lines.proofs.RangeLemmas.{is_unless_oom, on_err, on_ok}
+use Rattle.addr2line_lines.proofs.RangeLemmas.{on_err}
 use Rattle.addr2line_lines.proofs.function.read_range_attributes.Goals as goal
 
 pub returns-in_err-skip_attributes : goal.returns-in_err-skip_attributes
@@ -20,20 +20,20 @@ returns-in_err-skip_attributes g c =
       depth = c.in_err-skip_attributes.ensures.depth ∙ i.depth;
     }
 
-pub returns-in_err-attribute : goal.returns-in_err-attribute
-returns-in_err-attribute g c =
-    let p = err_from_is_err_and c.from_residual-in_err-attribute.result c.from_residual-in_err-attribute.ensures.1 in
+pub returns-in_err-fault : goal.returns-in_err-fault
+returns-in_err-fault g c =
+    let p = err_from_is_err_and c.from_residual-in_err-fault.result c.from_residual-in_err-fault.ensures.1 in
     let i = c.loop-next.invariant in
     let d = c.args.unit.dwarf.now in
     let u = c.args.unit.unit.now in
     let skipped = rw i.same at c.in_ok-skip_attributes.ensures.gives in
     let encoding = ap (λ v. v.encoding) c.in_ok-skip_attributes.ensures.unit ∙ i.same in
-    let fault = rw encoding at c.in_err-attribute.ensures.gives in
+    let fault = rw encoding at c.in_err-fault.ensures.gives in
     record {
-      gives = rw (p.1, p.2) (λ ne. sym i.gives ∙ wanted_next (range_passes d u _ _) _ _ _ c.in-Some.ensures.split skipped (fault (λ shares _. ne shares)));
+      gives = rw (p.1, p.2) (λ ne. sym i.gives ∙ wanted_next (range_passes d u _ _) _ _ _ c.in-Some.ensures.split skipped (fault ne));
       left = on_err _ _ _ p.1;
-      unit = c.in_err-attribute.ensures.unit ∙ c.in_ok-skip_attributes.ensures.unit ∙ i.unit;
-      depth = c.in_err-attribute.ensures.depth ∙ c.in_ok-skip_attributes.ensures.depth ∙ i.depth;
+      unit = c.in_err-fault.ensures.unit ∙ c.in_ok-skip_attributes.ensures.unit ∙ i.unit;
+      depth = c.in_err-fault.ensures.depth ∙ c.in_ok-skip_attributes.ensures.depth ∙ i.depth;
     }
 
 pub loop-next-preserved : goal.loop-next-preserved
@@ -44,13 +44,13 @@ loop-next-preserved g c =
     let split = c.in-Some.ensures.split in
     let skipped = rw i.same at c.in_ok-skip_attributes.ensures.gives in
     let encoding = ap (λ v. v.encoding) c.in_ok-skip_attributes.ensures.unit ∙ i.same in
-    let given = rw encoding at c.in_ok-attribute.ensures.gives in
+    let next = rw encoding at c.in_ok-fault.ensures.gives in
     record {
-      gives = rw (c.with_attribute-ranges.ensures.gives) (sym (wanted_next (range_passes d u _ _) _ _ _ split skipped given) ∙ i.gives);
-      same = ap (λ v. v.encoding) c.in_ok-attribute.ensures.unit ∙ encoding;
-      left = sym (wanted_next (rest_passes _ is_range_name) _ _ _ split skipped given) ∙ i.left;
-      unit = c.in_ok-attribute.ensures.unit ∙ c.in_ok-skip_attributes.ensures.unit ∙ i.unit;
-      depth = c.in_ok-attribute.ensures.depth ∙ c.in_ok-skip_attributes.ensures.depth ∙ i.depth;
+      gives = rw (next.taken) (sym (wanted_next (range_passes d u _ _) _ _ _ split skipped next.is) ∙ i.gives);
+      same = ap (λ v. v.encoding) c.in_ok-fault.ensures.unit ∙ encoding;
+      left = sym (wanted_next (rest_passes _ is_range_name) _ _ _ split skipped next.is) ∙ i.left;
+      unit = c.in_ok-fault.ensures.unit ∙ c.in_ok-skip_attributes.ensures.unit ∙ i.unit;
+      depth = c.in_ok-fault.ensures.depth ∙ c.in_ok-skip_attributes.ensures.depth ∙ i.depth;
     }
 
 pub returns-in_err-skip_attributes-2 : goal.returns-in_err-skip_attributes-2
@@ -67,15 +67,30 @@ returns-in_err-skip_attributes-2 g c =
       depth = c.in_err-skip_attributes-2.ensures.depth ∙ i.depth;
     }
 
-pub returns : goal.returns
-returns g c =
+pub returns-in-Some-fault : goal.returns-in-Some-fault
+returns-in-Some-fault g c =
     let i = c.loop-next.invariant in
     let d = c.args.unit.dwarf.now in
     let u = c.args.unit.unit.now in
     let skipped = rw i.same at c.in_ok-skip_attributes-2.ensures.gives in
+    let given = rw c.in-Some-fault.is at i.gives in
     record {
-      gives = is_unless_oom _ _ _ (sym i.gives ∙ wanted_end (range_passes d u _ _) (c.in_default.ensures.none refl) skipped);
-      left = on_ok _ _ (sym i.left ∙ skipped);
+      gives = λ _. sym given ∙ wanted_end (range_passes d u _ _) (c.in_default.ensures.none refl) skipped;
+      left = tt;
+      unit = c.in_ok-skip_attributes-2.ensures.unit ∙ i.unit;
+      depth = c.in_ok-skip_attributes-2.ensures.depth ∙ i.depth;
+    }
+
+pub returns-in-None : goal.returns-in-None
+returns-in-None g c =
+    let i = c.loop-next.invariant in
+    let d = c.args.unit.dwarf.now in
+    let u = c.args.unit.unit.now in
+    let skipped = rw i.same at c.in_ok-skip_attributes-2.ensures.gives in
+    let given = rw c.in-None.is at i.gives in
+    record {
+      gives = sym given ∙ wanted_end (range_passes d u _ _) (c.in_default.ensures.none refl) skipped;
+      left = sym i.left ∙ skipped;
       unit = c.in_ok-skip_attributes-2.ensures.unit ∙ i.unit;
       depth = c.in_ok-skip_attributes-2.ensures.depth ∙ i.depth;
     }

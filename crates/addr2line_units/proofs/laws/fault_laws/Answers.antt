@@ -53,6 +53,6 @@ returns-clause-frames c = record {
 pub returns-clause-parses : goal.returns-clause-parses
 returns-clause-parses c = record {
   functions = λ scope view. not_refused (functions_fault_is scope view);
-  unit = λ reads scope u answer. not_refused (read_of_unit_is reads scope u answer);
-  units = λ reads scope us answers. not_refused (read_of_units_is reads scope us answers);
+  unit = λ depth scope u answer. not_refused (read_of_unit_is depth scope u answer);
+  units = λ depth scope us answers. not_refused (read_of_units_is depth scope us answers);
 }

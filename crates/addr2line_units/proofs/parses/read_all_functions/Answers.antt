@@ -49,8 +49,8 @@ returns-in_err-read_functions_in-clause-gives g c =
     let k = c.loop-number.number in
     let many = many_answers scope us vs c.requires.right in
     rw (p.1, p.2) (λ ne.
-    let at = sym (number_behind c.args.reads scope us (answers_in vs) k) ∙ ap (λ a. read_of_number c.args.reads scope us a k) (sym i.answers) ∙ c.in_err-read_functions_in.ensures.gives ne in
-    read_stop c.args.reads scope us (answers_in vs) k _ many i.before at)
+    let at = sym (number_behind c.args.depth scope us (answers_in vs) k) ∙ ap (λ a. read_of_number c.args.depth scope us a k) (sym i.answers) ∙ c.in_err-read_functions_in.ensures.gives ne in
+    read_stop c.args.depth scope us (answers_in vs) k _ many i.before at)
 
 pub returns-in_err-read_functions_in-clause-answers : goal.returns-in_err-read_functions_in-clause-answers
 returns-in_err-read_functions_in-clause-answers g c =
@@ -67,9 +67,9 @@ returns-in_err-read_functions_in-clause-answers g c =
     let h : k < length us = omega (arith, first, below, count) in
     let many = many_answers scope us vs c.requires.right in
     rw (p.1, p.2) (λ ne.
-    let at = sym (number_behind c.args.reads scope us (answers_in vs) k) ∙ ap (λ a. read_of_number c.args.reads scope us a k) (sym i.answers) ∙ c.in_err-read_functions_in.ensures.gives ne in
+    let at = sym (number_behind c.args.depth scope us (answers_in vs) k) ∙ ap (λ a. read_of_number c.args.depth scope us a k) (sym i.answers) ∙ c.in_err-read_functions_in.ensures.gives ne in
     c.in_err-read_functions_in.ensures.answers ne ∙ ap (λ a. with_answer d us a k None) i.answers ∙ decided_more d us (answers_in vs) k h many
-    ∙ sym (after_stop c.args.reads scope us (answers_in vs) k _ many i.before at))
+    ∙ sym (after_stop c.args.depth scope us (answers_in vs) k _ many i.before at))
 
 pub returns-in_err-read_functions_in-clause-begun : goal.returns-in_err-read_functions_in-clause-begun
 returns-in_err-read_functions_in-clause-begun g c =
@@ -99,15 +99,15 @@ returns-in_err-read_functions_in-clause-only g c =
     let scope = seen_scope c.args.scope in
     let us = c.args.scope.file.units.now in
     let vs = c.args.caches.now.items in
-    changes_then (AreReadBefore c.args.reads scope us (answers_in vs)) vs c.loop-number.caches.items c.read_functions_in.new.caches.items c.loop-number.number i.behind c.in_err-read_functions_in.ensures.only
-    (before_less c.args.reads scope us (answers_in vs) c.loop-number.number i.before)
+    changes_then (AreReadBefore c.args.depth scope us (answers_in vs)) vs c.loop-number.caches.items c.read_functions_in.new.caches.items c.loop-number.number i.behind c.in_err-read_functions_in.ensures.only
+    (before_less c.args.depth scope us (answers_in vs) c.loop-number.number i.before)
 
 pub returns-in_err-read_functions_in-clause-memory : goal.returns-in_err-read_functions_in-clause-memory
 returns-in_err-read_functions_in-clause-memory g c = λ have.
     let i = c.loop-number.invariant in
     let vs = c.args.caches.now.items in
     let k = c.loop-number.number in
-    let at = subst (λ o. IfSome o (λ x. HasRead c.args.reads x.entries)) (sym (i.behind k (omega arith))) (read_number c.args.reads vs have k) in
+    let at = subst (λ o. IfSome o (λ x. HasRead c.args.depth x.entries)) (sym (i.behind k (omega arith))) (read_number c.args.depth vs have k) in
     absurd (let no = c.in_err-read_functions_in.ensures.memory at in cc)
 
 pub loop-number-preserved : goal.loop-number-preserved
@@ -126,17 +126,17 @@ loop-number-preserved g c =
     let h : k < length us = omega (arith, first, below, count) in
     let many = many_answers scope us vs c.requires.right in
     let step = c.in_ok-read_functions_in.ensures in
-    let at = sym (number_behind c.args.reads scope us (answers_in vs) k) ∙ ap (λ a. read_of_number c.args.reads scope us a k) (sym i.answers) ∙ step.gives in
+    let at = sym (number_behind c.args.depth scope us (answers_in vs) k) ∙ ap (λ a. read_of_number c.args.depth scope us a k) (sym i.answers) ∙ step.gives in
     let one : suc k ≡ k + 1 = omega arith in
     record {
       count = i.count;
       kept = step.right;
       lines = same_lines_over vs mid new i.lines step.lines;
       answers = step.answers tt ∙ ap (λ a. with_answer d us a k None) i.answers ∙ decided_more d us (answers_in vs) k h many ∙ ap (λ m. first_decided d m us (answers_in vs)) one;
-      before = subst (AreReadBefore c.args.reads scope us (answers_in vs)) one (before_more c.args.reads scope us (answers_in vs) k i.before at);
+      before = subst (AreReadBefore c.args.depth scope us (answers_in vs)) one (before_more c.args.depth scope us (answers_in vs) k i.before at);
       stay = decided_over vs mid new i.stay step.stay;
-      read = subst (λ m. (n : ℕ) → n < m → IfSome (slice_get new n) (λ x. HasRead c.args.reads x.entries)) one (read_more c.args.reads mid new k i.read step.only step.read);
-      same = λ ready. step.same (subst (λ o. IfSome o (λ x. IsReadyUnit c.args.reads x.entries)) (sym (i.behind k (omega arith))) (ready k i.before)) ∙ i.same ready;
+      read = subst (λ m. (n : ℕ) → n < m → IfSome (slice_get new n) (λ x. HasRead c.args.depth x.entries)) one (read_more c.args.depth mid new k i.read step.only step.read);
+      same = λ ready. step.same (subst (λ o. IfSome o (λ x. IsReadyUnit c.args.depth x.entries)) (sym (i.behind k (omega arith))) (ready k i.before)) ∙ i.same ready;
       details = λ is n offset e. i.details is n offset (step.details is n offset e);
       behind = subst (λ m. (n : ℕ) → m ≤ n → slice_get new n ≡ slice_get vs n) one (behind_more vs mid new k i.behind step.only);
     }
@@ -151,7 +151,7 @@ returns-clause-gives g c =
     let end = c.loop-number-test.false in
     let count = i.count in
     let past : length us ≤ c.loop-number.number = omega (arith, first, end, count) in
-    read_end c.args.reads scope us (answers_in vs) c.loop-number.number (many_answers scope us vs c.requires.right) past i.before
+    read_end c.args.depth scope us (answers_in vs) c.loop-number.number (many_answers scope us vs c.requires.right) past i.before
 
 pub returns-clause-answers : goal.returns-clause-answers
 returns-clause-answers g c = λ ne.
@@ -163,7 +163,7 @@ returns-clause-answers g c = λ ne.
     let end = c.loop-number-test.false in
     let count = i.count in
     let past : length us ≤ c.loop-number.number = omega (arith, first, end, count) in
-    i.answers ∙ sym (after_end c.args.reads scope us (answers_in vs) c.loop-number.number (many_answers scope us vs c.requires.right) past i.before)
+    i.answers ∙ sym (after_end c.args.depth scope us (answers_in vs) c.loop-number.number (many_answers scope us vs c.requires.right) past i.before)
 
 pub returns-clause-begun : goal.returns-clause-begun
 returns-clause-begun g c = (c.loop-number.number, c.loop-number.invariant.before, inl c.loop-number.invariant.answers)
@@ -174,7 +174,7 @@ returns-clause-only g c =
     let scope = seen_scope c.args.scope in
     let us = c.args.scope.file.units.now in
     let vs = c.args.caches.now.items in
-    changes_all (AreReadBefore c.args.reads scope us (answers_in vs)) vs c.loop-number.caches.items c.loop-number.number i.behind (before_less c.args.reads scope us (answers_in vs) c.loop-number.number i.before)
+    changes_all (AreReadBefore c.args.depth scope us (answers_in vs)) vs c.loop-number.caches.items c.loop-number.number i.behind (before_less c.args.depth scope us (answers_in vs) c.loop-number.number i.before)
 
 pub returns-clause-read : goal.returns-clause-read
 returns-clause-read g c =
@@ -187,7 +187,7 @@ returns-clause-read g c =
     let end = c.loop-number-test.false in
     let count = i.count in
     let past : length mid ≤ c.loop-number.number = omega (arith, first, now, end, count) in
-    all_read c.args.reads mid c.loop-number.number past i.read
+    all_read c.args.depth mid c.loop-number.number past i.read
 
 pub returns-in_err-read_functions_in-clause-ready_for_all : goal.returns-in_err-read_functions_in-clause-ready_for_all
 returns-in_err-read_functions_in-clause-ready_for_all g c =
@@ -198,8 +198,8 @@ returns-in_err-read_functions_in-clause-ready_for_all g c =
     let vs = c.args.caches.now.items in
     let k = c.loop-number.number in
     rw (p.1, p.2) (λ ne.
-    let at = sym (number_behind c.args.reads scope us (answers_in vs) k) ∙ ap (λ a. read_of_number c.args.reads scope us a k) (sym i.answers) ∙ c.in_err-read_functions_in.ensures.gives ne in
-    ready_stop c.args.reads scope us (answers_in vs) c.loop-number.caches.items c.read_functions_in.new.caches.items k _ i.read c.in_err-read_functions_in.ensures.only (c.in_err-read_functions_in.ensures.ready_for_all ne) at)
+    let at = sym (number_behind c.args.depth scope us (answers_in vs) k) ∙ ap (λ a. read_of_number c.args.depth scope us a k) (sym i.answers) ∙ c.in_err-read_functions_in.ensures.gives ne in
+    ready_stop c.args.depth scope us (answers_in vs) c.loop-number.caches.items c.read_functions_in.new.caches.items k _ i.read c.in_err-read_functions_in.ensures.only (c.in_err-read_functions_in.ensures.ready_for_all ne) at)
 
 pub returns-in_err-read_functions_in-clause-exact : goal.returns-in_err-read_functions_in-clause-exact
 returns-in_err-read_functions_in-clause-exact g c =
@@ -211,15 +211,15 @@ returns-in_err-read_functions_in-clause-exact g c =
     let k = c.loop-number.number in
     let many = many_answers scope us vs c.requires.right in
     rw (p.1, p.2) (λ ready.
-    let known = subst (λ o. IfSome o (λ x. IsReadyUnit c.args.reads x.entries)) (sym (i.behind k (omega arith))) (ready k i.before) in
-    let at = sym (number_behind c.args.reads scope us (answers_in vs) k) ∙ ap (λ a. read_of_number c.args.reads scope us a k) (sym i.answers) ∙ sym (c.in_err-read_functions_in.ensures.exact known) in
-    sym (read_stop c.args.reads scope us (answers_in vs) k _ many i.before at))
+    let known = subst (λ o. IfSome o (λ x. IsReadyUnit c.args.depth x.entries)) (sym (i.behind k (omega arith))) (ready k i.before) in
+    let at = sym (number_behind c.args.depth scope us (answers_in vs) k) ∙ ap (λ a. read_of_number c.args.depth scope us a k) (sym i.answers) ∙ sym (c.in_err-read_functions_in.ensures.exact known) in
+    sym (read_stop c.args.depth scope us (answers_in vs) k _ many i.before at))
 
 pub returns-in_err-read_functions_in-clause-same : goal.returns-in_err-read_functions_in-clause-same
 returns-in_err-read_functions_in-clause-same g c = λ ready.
     let i = c.loop-number.invariant in
     let k = c.loop-number.number in
-    c.in_err-read_functions_in.ensures.same (subst (λ o. IfSome o (λ x. IsReadyUnit c.args.reads x.entries)) (sym (i.behind k (omega arith))) (ready k i.before)) ∙ i.same ready
+    c.in_err-read_functions_in.ensures.same (subst (λ o. IfSome o (λ x. IsReadyUnit c.args.depth x.entries)) (sym (i.behind k (omega arith))) (ready k i.before)) ∙ i.same ready
 
 pub returns-clause-ready_for_all : goal.returns-clause-ready_for_all
 returns-clause-ready_for_all g c = λ _. λ n. λ _.
@@ -232,7 +232,7 @@ returns-clause-ready_for_all g c = λ _. λ n. λ _.
     let end = c.loop-number-test.false in
     let count = i.count in
     let past : length mid ≤ c.loop-number.number = omega (arith, first, now, end, count) in
-    some_ready c.args.reads (slice_get mid n) (read_number c.args.reads mid (all_read c.args.reads mid c.loop-number.number past i.read) n)
+    some_ready c.args.depth (slice_get mid n) (read_number c.args.depth mid (all_read c.args.depth mid c.loop-number.number past i.read) n)
 
 pub returns-clause-exact : goal.returns-clause-exact
 returns-clause-exact g c = λ _.
@@ -244,7 +244,7 @@ returns-clause-exact g c = λ _.
     let end = c.loop-number-test.false in
     let count = i.count in
     let past : length us ≤ c.loop-number.number = omega (arith, first, end, count) in
-    sym (read_end c.args.reads scope us (answers_in vs) c.loop-number.number (many_answers scope us vs c.requires.right) past i.before)
+    sym (read_end c.args.depth scope us (answers_in vs) c.loop-number.number (many_answers scope us vs c.requires.right) past i.before)
 
 pub returns-clause-same : goal.returns-clause-same
 returns-clause-same g c = c.loop-number.invariant.same
@@ -264,9 +264,9 @@ returns-in_err-read_functions_in-clause-had_memory g c =
     let count = i.count in
     let h : k < length us = omega (arith, first, below, count) in
     let many = many_answers scope us vs c.requires.right in
-    let before : AreReadBefore c.args.reads scope us (answers_in new) k = elim c.in_err-read_functions_in.ensures.memory_answers [
-      | inl e ↦ before_decided c.args.reads scope us (answers_in vs) (answers_in new) k k (e ∙ i.answers) i.before
-      | inr e ↦ before_decided c.args.reads scope us (answers_in vs) (answers_in new) (suc k) k (e ∙ ap (λ a. with_answer d us a k None) i.answers ∙ decided_more d us (answers_in vs) k h many) i.before
+    let before : AreReadBefore c.args.depth scope us (answers_in new) k = elim c.in_err-read_functions_in.ensures.memory_answers [
+      | inl e ↦ before_decided c.args.depth scope us (answers_in vs) (answers_in new) k k (e ∙ i.answers) i.before
+      | inr e ↦ before_decided c.args.depth scope us (answers_in vs) (answers_in new) (suc k) k (e ∙ ap (λ a. with_answer d us a k None) i.answers ∙ decided_more d us (answers_in vs) k h many) i.before
     ] in
     rw (p.1, p.2) (λ ready. c.in_err-read_functions_in.ensures.had_memory (ready k before))
 
@@ -286,17 +286,17 @@ returns-in_err-read_functions_in-clause-no_memory g c =
     let h : k < length us = omega (arith, first, below, count) in
     let many = many_answers scope us vs c.requires.right in
     let so = c.in_err-read_functions_in.ensures in
-    let before : AreReadBefore c.args.reads scope us (answers_in new) k = elim so.memory_answers [
-      | inl e ↦ before_decided c.args.reads scope us (answers_in vs) (answers_in new) k k (e ∙ i.answers) i.before
-      | inr e ↦ before_decided c.args.reads scope us (answers_in vs) (answers_in new) (suc k) k (e ∙ ap (λ a. with_answer d us a k None) i.answers ∙ decided_more d us (answers_in vs) k h many) i.before
+    let before : AreReadBefore c.args.depth scope us (answers_in new) k = elim so.memory_answers [
+      | inl e ↦ before_decided c.args.depth scope us (answers_in vs) (answers_in new) k k (e ∙ i.answers) i.before
+      | inr e ↦ before_decided c.args.depth scope us (answers_in vs) (answers_in new) (suc k) k (e ∙ ap (λ a. with_answer d us a k None) i.answers ∙ decided_more d us (answers_in vs) k h many) i.before
     ] in
     rw (p.1, p.2) (λ none.
-    let fault : read_of_number c.args.reads scope us (answers_in c.loop-number.caches.items) k ≡ Err c.in_err-read_functions_in.field-0.0 = elim (none k before) [
-      | inl ready ↦ so.gives (so.had_memory (ready_units c.args.reads scope us new so.right k ready.0 ready.1))
+    let fault : read_of_number c.args.depth scope us (answers_in c.loop-number.caches.items) k ≡ Err c.in_err-read_functions_in.field-0.0 = elim (none k before) [
+      | inl ready ↦ so.gives (so.had_memory (ready_units c.args.depth scope us new so.right k ready.0 ready.1))
       | inr takes ↦ so.no_memory takes
     ] in
-    let at = sym (number_behind c.args.reads scope us (answers_in vs) k) ∙ ap (λ a. read_of_number c.args.reads scope us a k) (sym i.answers) ∙ fault in
-    read_stop c.args.reads scope us (answers_in vs) k _ many i.before at)
+    let at = sym (number_behind c.args.depth scope us (answers_in vs) k) ∙ ap (λ a. read_of_number c.args.depth scope us a k) (sym i.answers) ∙ fault in
+    read_stop c.args.depth scope us (answers_in vs) k _ many i.before at)
 
 pub returns-in_err-read_functions_in-clause-details : goal.returns-in_err-read_functions_in-clause-details
 returns-in_err-read_functions_in-clause-details g c = λ is. λ n offset e. c.loop-number.invariant.details is n offset (c.in_err-read_functions_in.ensures.details is n offset e)

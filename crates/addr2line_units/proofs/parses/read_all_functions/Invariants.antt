@@ -20,10 +20,10 @@ invariant-loop-number g l =
       kept : HaveEntriesOf scope us l.caches.items;
       lines : HaveSameLines l.fn.caches.items l.caches.items;
       answers : answers_in l.caches.items ≡ first_decided l.scope.file.dwarf.now l.number us given;
-      before : AreReadBefore l.reads scope us given l.number;
+      before : AreReadBefore l.depth scope us given l.number;
       stay : StayDecided l.fn.caches.items l.caches.items;
-      read : (n : ℕ) → n < l.number → IfSome (slice_get l.caches.items n) (λ c. HasRead l.reads c.entries);
-      same : AreReadyUnits l.reads scope us given l.fn.caches.items → l.caches.items ≡ l.fn.caches.items;
-      details : l.reads ≡ Functions → LearnsNoDetails (known_in l.fn.caches.items) (known_in l.caches.items);
+      read : (n : ℕ) → n < l.number → IfSome (slice_get l.caches.items n) (λ c. HasRead l.depth c.entries);
+      same : AreReadyUnits l.depth scope us given l.fn.caches.items → l.caches.items ≡ l.fn.caches.items;
+      details : l.depth ≡ Functions → LearnsNoDetails (known_in l.fn.caches.items) (known_in l.caches.items);
       behind : (n : ℕ) → l.number ≤ n → slice_get l.caches.items n ≡ slice_get l.fn.caches.items n;
     }

@@ -31,7 +31,7 @@ returns-clause-gives g c =
     let e = sym (get_or_from_slice_get us n u u there) in
     let v = c.index_mut-cache.result.now in
     let h : n < length us = subst (λ m. n < m) (sym (as_many_entries (seen_scope c.args.scope) us vs c.requires.right)) c.requires.there in
-    subst (ExactlyUnlessOom (λ y. y) c.read.result) (sym (number_is c.args.reads (seen_scope c.args.scope) us vs n u v h c.requires.there e c.index_mut-cache.ensures.value)) c.read.ensures.gives
+    subst (ExactlyUnlessOom (λ y. y) c.read.result) (sym (number_is c.args.depth (seen_scope c.args.scope) us vs n u v h c.requires.there e c.index_mut-cache.ensures.value)) c.read.ensures.gives
 
 pub returns-clause-right : goal.returns-clause-right
 returns-clause-right g c =
@@ -78,11 +78,11 @@ pub returns-clause-only : goal.returns-clause-only
 returns-clause-only g c = changes_set c.args.caches.now.items c.args.number (record c.index_mut-cache.result.now { entries = c.read.new.self })
 
 pub returns-clause-read : goal.returns-clause-read
-returns-clause-read g c = read_set c.args.reads c.read.result c.args.caches.now.items c.args.number (record c.index_mut-cache.result.now { entries = c.read.new.self }) c.requires.there c.read.ensures.read
+returns-clause-read g c = read_set c.args.depth c.read.result c.args.caches.now.items c.args.number (record c.index_mut-cache.result.now { entries = c.read.new.self }) c.requires.there c.read.ensures.read
 
 pub returns-clause-memory : goal.returns-clause-memory
 returns-clause-memory g c = λ have.
-    c.read.ensures.memory (read_entry c.args.reads c.args.caches.now.items c.args.number c.index_mut-cache.result.now c.requires.there c.index_mut-cache.ensures.value have)
+    c.read.ensures.memory (read_entry c.args.depth c.args.caches.now.items c.args.number c.index_mut-cache.result.now c.requires.there c.index_mut-cache.ensures.value have)
 
 pub returns-in_default-clause-gives : goal.returns-in_default-clause-gives
 returns-in_default-clause-gives g c =
@@ -127,7 +127,7 @@ returns-in_default-clause-read g c =
     absurd (omega (arith, past, many, there))
 
 pub returns-clause-ready_for_all : goal.returns-clause-ready_for_all
-returns-clause-ready_for_all g c = λ ne. ready_set c.args.reads c.args.caches.now.items c.args.number (record c.index_mut-cache.result.now { entries = c.read.new.self }) c.requires.there (c.read.ensures.ready_for_all ne)
+returns-clause-ready_for_all g c = λ ne. ready_set c.args.depth c.args.caches.now.items c.args.number (record c.index_mut-cache.result.now { entries = c.read.new.self }) c.requires.there (c.read.ensures.ready_for_all ne)
 
 pub returns-clause-exact : goal.returns-clause-exact
 returns-clause-exact g c = λ ready.
@@ -139,14 +139,14 @@ returns-clause-exact g c = λ ready.
     let e = sym (get_or_from_slice_get us n u u there) in
     let v = c.index_mut-cache.result.now in
     let h : n < length us = subst (λ m. n < m) (sym (as_many_entries (seen_scope c.args.scope) us vs c.requires.right)) c.requires.there in
-    c.read.ensures.exact (ready_entry c.args.reads vs n v c.requires.there c.index_mut-cache.ensures.value ready)
-    ∙ sym (number_is c.args.reads (seen_scope c.args.scope) us vs n u v h c.requires.there e c.index_mut-cache.ensures.value)
+    c.read.ensures.exact (ready_entry c.args.depth vs n v c.requires.there c.index_mut-cache.ensures.value ready)
+    ∙ sym (number_is c.args.depth (seen_scope c.args.scope) us vs n u v h c.requires.there e c.index_mut-cache.ensures.value)
 
 pub returns-clause-same : goal.returns-clause-same
 returns-clause-same g c = λ ready.
     let vs = c.args.caches.now.items in
     let v = c.index_mut-cache.result.now in
-    same_set vs c.args.number v (record c.index_mut-cache.result.now { entries = c.read.new.self }) c.requires.there c.index_mut-cache.ensures.value (ap (λ x. record v { entries = x }) (c.read.ensures.same (ready_entry c.args.reads vs c.args.number v c.requires.there c.index_mut-cache.ensures.value ready)))
+    same_set vs c.args.number v (record c.index_mut-cache.result.now { entries = c.read.new.self }) c.requires.there c.index_mut-cache.ensures.value (ap (λ x. record v { entries = x }) (c.read.ensures.same (ready_entry c.args.depth vs c.args.number v c.requires.there c.index_mut-cache.ensures.value ready)))
 
 pub returns-in_default-clause-ready_for_all : goal.returns-in_default-clause-ready_for_all
 returns-in_default-clause-ready_for_all g c = λ ne.
@@ -168,7 +168,7 @@ returns-in_default-clause-exact g c = λ ready.
 
 pub returns-clause-had_memory : goal.returns-clause-had_memory
 returns-clause-had_memory g c = λ ready.
-    c.read.ensures.had_memory (ready_was_set c.args.reads c.args.caches.now.items c.args.number (record c.index_mut-cache.result.now { entries = c.read.new.self }) c.requires.there ready)
+    c.read.ensures.had_memory (ready_was_set c.args.depth c.args.caches.now.items c.args.number (record c.index_mut-cache.result.now { entries = c.read.new.self }) c.requires.there ready)
 
 pub returns-clause-no_memory : goal.returns-clause-no_memory
 returns-clause-no_memory g c = λ none.
@@ -181,7 +181,7 @@ returns-clause-no_memory g c = λ none.
     let e = sym (get_or_from_slice_get us n u u there) in
     let v = c.index_mut-cache.result.now in
     let h : n < length us = subst (λ m. n < m) (sym (as_many_entries scope us vs c.requires.right)) c.requires.there in
-    subst (λ given. IfErr c.read.result (λ x. given ≡ Err x)) (sym (number_is c.args.reads scope us vs n u v h c.requires.there e c.index_mut-cache.ensures.value))
+    subst (λ given. IfErr c.read.result (λ x. given ≡ Err x)) (sym (number_is c.args.depth scope us vs n u v h c.requires.there e c.index_mut-cache.ensures.value))
     (c.read.ensures.no_memory (sym (takes_of_set g.R.Reader.shares scope us vs n u (record c.index_mut-cache.result.now { entries = c.read.new.self }) h c.requires.there e) ∙ none))
 
 pub returns-clause-details : goal.returns-clause-details

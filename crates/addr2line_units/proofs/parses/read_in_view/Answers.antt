@@ -45,7 +45,7 @@ returns-clause-gives g c =
     let inner = seen_scope c.scope_of.result in
     let x = c.in_ok-unit.unit.unit.now in
     let v = view_known scope u 0 old c.requires.right c.requires.decided c.in_ok-unit.unit.dwarf.now x inner c.in_ok-unit.ensures.gives (c.scope_of.ensures.gives scope.file.sections u c.requires.right.view) in
-    subst (ExactlyUnlessOom (λ y. y) c.read.result) (sym (ap (read_of_view c.args.reads scope) v.is ∙ view_read c.args.reads scope v.view inner x v.unit v.leads)) c.read.ensures.gives
+    subst (ExactlyUnlessOom (λ y. y) c.read.result) (sym (ap (read_of_view c.args.depth scope) v.is ∙ view_read c.args.depth scope v.view inner x v.unit v.leads)) c.read.ensures.gives
 
 pub returns-clause-right : goal.returns-clause-right
 returns-clause-right g c =
@@ -65,7 +65,7 @@ returns-clause-read g c =
     let inner = seen_scope c.scope_of.result in
     let x = c.in_ok-unit.unit.unit.now in
     let v = view_known scope u 0 old c.requires.right c.requires.decided c.in_ok-unit.unit.dwarf.now x inner c.in_ok-unit.ensures.gives (c.scope_of.ensures.gives scope.file.sections u c.requires.right.view) in
-    read_if_view c.args.reads c.read.result c.args.view.now c.read.new.self
+    read_if_view c.args.depth c.read.result c.args.view.now c.read.new.self
     (known_view scope.file.sections u (here scope u 0 old c.requires.right c.requires.decided) v.view old.view.state c.requires.decided c.requires.right.view.right v.is) c.read.ensures.read
 
 pub returns-in_err-unit-clause-ready_for_all : goal.returns-in_err-unit-clause-ready_for_all
@@ -76,7 +76,7 @@ returns-in_err-unit-clause-ready_for_all g c =
     let old : UnitEntries g.row.R.Denot = record { view = c.args.view.now; functions = c.args.functions.now } in
     let x = c.in_err-unit.field-0.0 in
     let is = fault_known scope u 0 old c.requires.right c.requires.decided x c.in_err-unit.ensures.gives in
-    rw (p.1, p.2) (λ ne. subst (IsReadyFor c.args.reads) (sym (fault_by_view scope.file.sections u (here scope u 0 old c.requires.right c.requires.decided) x old.view.state old.functions c.requires.decided c.requires.right.view.right is)) (ready_fault c.args.reads x ne))
+    rw (p.1, p.2) (λ ne. subst (IsReadyFor c.args.depth) (sym (fault_by_view scope.file.sections u (here scope u 0 old c.requires.right c.requires.decided) x old.view.state old.functions c.requires.decided c.requires.right.view.right is)) (ready_fault c.args.depth x ne))
 
 pub returns-in_err-unit-clause-exact : goal.returns-in_err-unit-clause-exact
 returns-in_err-unit-clause-exact g c = λ _.
@@ -86,7 +86,7 @@ returns-in_err-unit-clause-exact g c = λ _.
     let old : UnitEntries g.row.R.Denot = record { view = c.args.view.now; functions = c.args.functions.now } in
     let x = c.in_err-unit.field-0.0 in
     let is = fault_known scope u 0 old c.requires.right c.requires.decided x c.in_err-unit.ensures.gives in
-    rw (p.1, p.2) (sym (ap (read_of_view c.args.reads scope) is))
+    rw (p.1, p.2) (sym (ap (read_of_view c.args.depth scope) is))
 
 pub returns-clause-ready_for_all : goal.returns-clause-ready_for_all
 returns-clause-ready_for_all g c = λ ne.
@@ -96,7 +96,7 @@ returns-clause-ready_for_all g c = λ ne.
     let inner = seen_scope c.scope_of.result in
     let x = c.in_ok-unit.unit.unit.now in
     let v = view_known scope u 0 old c.requires.right c.requires.decided c.in_ok-unit.unit.dwarf.now x inner c.in_ok-unit.ensures.gives (c.scope_of.ensures.gives scope.file.sections u c.requires.right.view) in
-    subst (IsReadyFor c.args.reads) (sym (functions_by_view scope.file.sections u (here scope u 0 old c.requires.right c.requires.decided) v.view old.view.state c.read.new.self c.requires.decided c.requires.right.view.right v.is)) (c.read.ensures.ready_for_all ne)
+    subst (IsReadyFor c.args.depth) (sym (functions_by_view scope.file.sections u (here scope u 0 old c.requires.right c.requires.decided) v.view old.view.state c.read.new.self c.requires.decided c.requires.right.view.right v.is)) (c.read.ensures.ready_for_all ne)
 
 pub returns-clause-exact : goal.returns-clause-exact
 returns-clause-exact g c = λ ready.
@@ -106,7 +106,7 @@ returns-clause-exact g c = λ ready.
     let inner = seen_scope c.scope_of.result in
     let x = c.in_ok-unit.unit.unit.now in
     let v = view_known scope u 0 old c.requires.right c.requires.decided c.in_ok-unit.unit.dwarf.now x inner c.in_ok-unit.ensures.gives (c.scope_of.ensures.gives scope.file.sections u c.requires.right.view) in
-    c.read.ensures.exact (subst (IsReadyFor c.args.reads) (functions_by_view scope.file.sections u (here scope u 0 old c.requires.right c.requires.decided) v.view old.view.state old.functions c.requires.decided c.requires.right.view.right v.is) ready) ∙ sym (ap (read_of_view c.args.reads scope) v.is ∙ view_read c.args.reads scope v.view inner x v.unit v.leads)
+    c.read.ensures.exact (subst (IsReadyFor c.args.depth) (functions_by_view scope.file.sections u (here scope u 0 old c.requires.right c.requires.decided) v.view old.view.state old.functions c.requires.decided c.requires.right.view.right v.is) ready) ∙ sym (ap (read_of_view c.args.depth scope) v.is ∙ view_read c.args.depth scope v.view inner x v.unit v.leads)
 
 pub returns-clause-same : goal.returns-clause-same
 returns-clause-same g c = λ ready.
@@ -116,7 +116,7 @@ returns-clause-same g c = λ ready.
     let inner = seen_scope c.scope_of.result in
     let x = c.in_ok-unit.unit.unit.now in
     let v = view_known scope u 0 old c.requires.right c.requires.decided c.in_ok-unit.unit.dwarf.now x inner c.in_ok-unit.ensures.gives (c.scope_of.ensures.gives scope.file.sections u c.requires.right.view) in
-    c.read.ensures.same (subst (IsReadyFor c.args.reads) (functions_by_view scope.file.sections u (here scope u 0 old c.requires.right c.requires.decided) v.view old.view.state old.functions c.requires.decided c.requires.right.view.right v.is) ready)
+    c.read.ensures.same (subst (IsReadyFor c.args.depth) (functions_by_view scope.file.sections u (here scope u 0 old c.requires.right c.requires.decided) v.view old.view.state old.functions c.requires.decided c.requires.right.view.right v.is) ready)
 
 pub returns-in_err-unit-clause-had_memory : goal.returns-in_err-unit-clause-had_memory
 returns-in_err-unit-clause-had_memory g c =
@@ -126,8 +126,8 @@ returns-in_err-unit-clause-had_memory g c =
     let old : UnitEntries g.row.R.Denot = record { view = c.args.view.now; functions = c.args.functions.now } in
     let x = c.in_err-unit.field-0.0 in
     let is = fault_known scope u 0 old c.requires.right c.requires.decided x c.in_err-unit.ensures.gives in
-    rw (p.1, p.2) (λ ready. known_not_oom c.args.reads x
-    (subst (IsReadyFor c.args.reads) (fault_by_view scope.file.sections u (here scope u 0 old c.requires.right c.requires.decided) x old.view.state old.functions c.requires.decided c.requires.right.view.right is) ready))
+    rw (p.1, p.2) (λ ready. known_not_oom c.args.depth x
+    (subst (IsReadyFor c.args.depth) (fault_by_view scope.file.sections u (here scope u 0 old c.requires.right c.requires.decided) x old.view.state old.functions c.requires.decided c.requires.right.view.right is) ready))
 
 pub returns-clause-had_memory : goal.returns-clause-had_memory
 returns-clause-had_memory g c = λ ready.
@@ -137,7 +137,7 @@ returns-clause-had_memory g c = λ ready.
     let inner = seen_scope c.scope_of.result in
     let x = c.in_ok-unit.unit.unit.now in
     let v = view_known scope u 0 old c.requires.right c.requires.decided c.in_ok-unit.unit.dwarf.now x inner c.in_ok-unit.ensures.gives (c.scope_of.ensures.gives scope.file.sections u c.requires.right.view) in
-    c.read.ensures.had_memory (subst (IsReadyFor c.args.reads) (functions_by_view scope.file.sections u (here scope u 0 old c.requires.right c.requires.decided) v.view old.view.state c.read.new.self c.requires.decided c.requires.right.view.right v.is) ready)
+    c.read.ensures.had_memory (subst (IsReadyFor c.args.depth) (functions_by_view scope.file.sections u (here scope u 0 old c.requires.right c.requires.decided) v.view old.view.state c.read.new.self c.requires.decided c.requires.right.view.right v.is) ready)
 
 pub returns-in_err-unit-clause-no_memory : goal.returns-in_err-unit-clause-no_memory
 returns-in_err-unit-clause-no_memory g c =
@@ -147,7 +147,7 @@ returns-in_err-unit-clause-no_memory g c =
     let old : UnitEntries g.row.R.Denot = record { view = c.args.view.now; functions = c.args.functions.now } in
     let x = c.in_err-unit.field-0.0 in
     let is = fault_known scope u 0 old c.requires.right c.requires.decided x c.in_err-unit.ensures.gives in
-    rw (p.1, p.2) (λ none. ap (read_of_view c.args.reads scope) is)
+    rw (p.1, p.2) (λ none. ap (read_of_view c.args.depth scope) is)
 
 pub returns-clause-no_memory : goal.returns-clause-no_memory
 returns-clause-no_memory g c = λ none.
@@ -157,7 +157,7 @@ returns-clause-no_memory g c = λ none.
     let inner = seen_scope c.scope_of.result in
     let x = c.in_ok-unit.unit.unit.now in
     let v = view_known scope u 0 old c.requires.right c.requires.decided c.in_ok-unit.unit.dwarf.now x inner c.in_ok-unit.ensures.gives (c.scope_of.ensures.gives scope.file.sections u c.requires.right.view) in
-    subst (λ given. IfErr c.read.result (λ e. given ≡ Err e)) (sym (ap (read_of_view c.args.reads scope) v.is ∙ view_read c.args.reads scope v.view inner x v.unit v.leads))
+    subst (λ given. IfErr c.read.result (λ e. given ≡ Err e)) (sym (ap (read_of_view c.args.depth scope) v.is ∙ view_read c.args.depth scope v.view inner x v.unit v.leads))
     (c.read.ensures.no_memory (functions_take_in scope u 0 old c.requires.right c.requires.decided inner x v g.R.Reader.shares none))
 
 pub returns-in_err-unit-clause-details : goal.returns-in_err-unit-clause-details

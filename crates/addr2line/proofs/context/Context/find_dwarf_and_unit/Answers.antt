@@ -1,5 +1,5 @@
 use Rattle.std.proofs.Common.{refl}
-use Rattle.addr2line_units.specs.declared.frames_lookup.OnFault.TheVariants.{PassOver}
+use Rattle.addr2line_units.specs.declared.frames_lookup.OnFault.TheVariants.{Skip}
 use Rattle.addr2line_units.specs.SeenUnit.{seen_found}
 use Rattle.addr2line.proofs.AfterLemmas.{if_load}
 use Rattle.addr2line.proofs.UncoveredLemmas.{uncovered_ends, uncovered_ok}
@@ -14,7 +14,7 @@ returns g c =
     let probe = c.args.probe in
     let e = c.begin.ensures in
     let f = c.begin.follows in
-    let ends = λ (u : IsUncovered old probe). uncovered_ends PassOver probe old u g.R.Reader.shares seen_found (unit_of_context old probe) (uncovered_ok PassOver unit_value probe old u) _ c.begin.result
+    let ends = λ (u : IsUncovered old probe). uncovered_ends Skip probe old u g.R.Reader.shares seen_found (unit_of_context old probe) (uncovered_ok Skip unit_value probe old u) _ c.begin.result
     (if_load _ _ c.begin.result (λ x h. (x.number, h.2.waits)) e.load) f.holds-at-none e.output in (
       (refl, f.holds, f.holds-at-none),
       record { ends = tt; load = e.load; output = e.output; refused = e.refused refl; last = λ q. ends (e.last q); uncovered = ends },

@@ -1,6 +1,6 @@
 use Rattle.std.proofs.Common.{◌≡◌, Ok, ap, refl, sym, ◌∙◌}
 use Rattle.std.proofs.lemmas.Result.{err_from_is_err_and}
-use Rattle.addr2line_units.specs.declared.frames_lookup.OnFault.TheVariants.{End}
+use Rattle.addr2line_units.specs.declared.frames_lookup.OnFault.TheVariants.{Stop}
 use Rattle.addr2line_units.specs.FramesLeft.{frames_left}
 use Rattle.addr2line.specs.Files.{as_read_if_known}
 use Rattle.addr2line.specs.FramesByFiles.{ended_frames_of, stop_frames}
@@ -21,7 +21,7 @@ returns-in_err-answer_loads g c =
     let t = c.answer_loads.ensures.in_turn in
     let e = c.in_err-answer_loads.field-0.0 in
     let so = c.in_err-answer_loads.ensures in
-    let exact = λ (w : WaitsForNone first probe) (few : IsKnownFew End first probe). refused_exactly files probe first mid a w t e (so.fault w) so.memory few in
+    let exact = λ (w : WaitsForNone first probe) (few : IsKnownFew Stop first probe). refused_exactly files probe first mid a w t e (so.fault w) so.memory few in
     rw (p.1, p.2) (
       (
         refl,

@@ -7,7 +7,7 @@ use Rattle.addr2line_lines.specs.FoundInlined.{entry_among}
 use Rattle.addr2line_lines.specs.FunctionCache.{read_at}
 use Rattle.addr2line_lines.specs.FunctionTable.{FunctionTable, cached_inlined}
 use Rattle.addr2line_lines.specs.CachedDetails.{seen_details}
-use Rattle.addr2line_lines.specs.ManyInlined.{are_many}
+use Rattle.addr2line_lines.specs.InlineRoom.{exceeds_inline_room}
 use Rattle.addr2line_lines.proofs.CachedPlaces.{inlined_cached, none_read, place_cached, read_is}
 use Rattle.addr2line_lines.proofs.functions.Functions.find_inlined_functions.Goals as goal
 
@@ -25,8 +25,8 @@ returns-in-Some-clause-gives g c =
     let at = ap (λ fs. read_at fs c.args.place) (sym c.deref.ensures.value) ∙ sym (rw c.in-Some.is at c.read_detail_of.ensures.gives) in
     let probe = c.args.probe in
     let result = c.find_inlined_functions.result in
-    subst (λ (t : FunctionTable). ExactlyUnlessOomIf (are_many (inlined_chain probe (cached_inlined t c.args.place))) (λ chain. map (entry_among t.inlined) chain.items) result (Ok (inlined_chain probe (cached_inlined t c.args.place)))) c.self.view_is
-    (subst (λ (xs : List InlinedRange). ExactlyUnlessOomIf (are_many (inlined_chain probe xs)) (λ chain. map (entry_among d.found.entries) chain.items) result (Ok (inlined_chain probe xs)))
+    subst (λ (t : FunctionTable). ExactlyUnlessOomIf (exceeds_inline_room (inlined_chain probe (cached_inlined t c.args.place))) (λ chain. map (entry_among t.inlined) chain.items) result (Ok (inlined_chain probe (cached_inlined t c.args.place)))) c.self.view_is
+    (subst (λ (xs : List InlinedRange). ExactlyUnlessOomIf (exceeds_inline_room (inlined_chain probe xs)) (λ chain. map (entry_among d.found.entries) chain.items) result (Ok (inlined_chain probe xs)))
     (sym (ap inlined_cached (read_is d fs c.args.place c.in-Some.detail.now at))) c.find_inlined_functions.ensures.gives)
 
 pub returns-in-Some-clause-there : goal.returns-in-Some-clause-there

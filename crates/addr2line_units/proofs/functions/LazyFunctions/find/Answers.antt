@@ -7,12 +7,13 @@ use Rattle.gimli_read.specs.declared.error.Error.TheVariants.{OutOfMemory}
 use Rattle.gimli.specs.Unit.{UnitRecord}
 use Rattle.addr2line_lines.specs.Functions.{functions_of, functions_take_memory}
 use Rattle.addr2line_lines.specs.FunctionTable.{cached_detail}
+use Rattle.addr2line_lines.specs.InlineRoom.{exceeds_inline_room}
 use Rattle.addr2line_lines.specs.References.{Scope}
 use Rattle.addr2line_lines.specs.SeenScope.{seen_scope}
 use Rattle.addr2line_units.specs.declared.functions.LazyFunctions.{LazyFunctions}
 use Rattle.addr2line_units.specs.declared.functions.LazyFunctions.TheVariants as lazy
 use Rattle.addr2line_units.specs.Frames.{function_at}
-use Rattle.addr2line_units.specs.CachedFunctions.{AreFunctionsOf, IsTableOf, StayFunctions, cached_functions, cached_has_function, find_takes_memory, function_of_place, table_has_many, table_takes_memory, were_read}
+use Rattle.addr2line_units.specs.CachedFunctions.{AreFunctionsOf, IsTableOf, StayFunctions, cached_functions, cached_has_function, find_takes_memory, function_of_place, cached_inlined_at, table_takes_memory, were_read}
 use Rattle.addr2line_units.proofs.CachedFunctionLemmas.{and_weaker, details_before, exactly_weaker, function_is, memory_before, none_before, stay_faulty, stay_read}
 use Rattle.addr2line_units.proofs.CachedParseLemmas.{cached_stay}
 use Rattle.addr2line_units.proofs.LearnedLemmas.{cache_reads_none}
@@ -182,7 +183,7 @@ returns-in-Absent-clause-alone g c =
 
 pub returns-in-Absent-clause-ready : goal.returns-in-Absent-clause-ready
 returns-in-Absent-clause-ready g c = λ ne.
-    subst (λ f. find_takes_memory g.R.Reader.shares (seen_scope c.args.scope) c.args.view.now c.args.probe f ≡ table_has_many c.args.probe (cached_functions f)) (sym c.in-Absent.is) refl
+    subst (λ f. find_takes_memory g.R.Reader.shares (seen_scope c.args.scope) c.args.view.now c.args.probe f ≡ exceeds_inline_room (cached_inlined_at c.args.probe (cached_functions f))) (sym c.in-Absent.is) refl
 
 pub returns-in-Absent-clause-kept : goal.returns-in-Absent-clause-kept
 returns-in-Absent-clause-kept g c =

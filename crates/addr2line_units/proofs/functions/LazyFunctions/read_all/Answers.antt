@@ -10,12 +10,13 @@ use Rattle.addr2line_lines.specs.CachedNames.{AreNamesOf}
 use Rattle.addr2line_lines.specs.FunctionDetails.{HasDetail, details_take_memory}
 use Rattle.addr2line_lines.specs.FunctionTable.{FunctionTable}
 use Rattle.addr2line_lines.specs.Functions.{functions_of, functions_take_memory}
+use Rattle.addr2line_lines.specs.InlineRoom.{exceeds_inline_room}
 use Rattle.addr2line_lines.specs.References.{Scope}
 use Rattle.addr2line_lines.specs.SeenScope.{seen_scope}
 use Rattle.addr2line_units.specs.declared.functions.LazyFunctions.{LazyFunctions}
 use Rattle.addr2line_units.specs.declared.functions.LazyFunctions.TheVariants as lazy
-use Rattle.addr2line_units.specs.declared.parses.ReadingDepth.TheVariants as reads
-use Rattle.addr2line_units.specs.CachedFunctions.{AreFunctionsOf, cached_functions, find_takes_memory, functions_fault, reading_takes_memory, table_has_many, were_read}
+use Rattle.addr2line_units.specs.declared.parses.ReadingDepth.TheVariants as depths
+use Rattle.addr2line_units.specs.CachedFunctions.{AreFunctionsOf, cached_functions, find_takes_memory, functions_fault, reading_takes_memory, cached_inlined_at, were_read}
 use Rattle.addr2line_units.specs.CachedKnown.{known_functions}
 use Rattle.addr2line_units.specs.FunctionParses.{IsReadyFor}
 use Rattle.addr2line_units.proofs.CachedFunctionLemmas.{all_ready, exactly_weaker, fault_is, no_fault_of, on_ok, reading_before, stay_faulty, stay_read, table_more}
@@ -71,21 +72,21 @@ returns-in-Absent-clause-details g c = subst (λ f. AllByRecursion HasDetail (ca
 
 pub returns-in-Absent-clause-ready : goal.returns-in-Absent-clause-ready
 returns-in-Absent-clause-ready g c = λ probe.
-    subst (λ f. find_takes_memory g.R.Reader.shares (seen_scope c.args.scope) c.args.view.now probe f ≡ table_has_many probe (cached_functions f)) (sym c.in-Absent.is) refl
+    subst (λ f. find_takes_memory g.R.Reader.shares (seen_scope c.args.scope) c.args.view.now probe f ≡ exceeds_inline_room (cached_inlined_at probe (cached_functions f))) (sym c.in-Absent.is) refl
 
 pub returns-in-Absent-clause-ready_for_all : goal.returns-in-Absent-clause-ready_for_all
-returns-in-Absent-clause-ready_for_all g c = λ ne. subst (λ f. IsReadyFor reads.Details (known_functions f)) (sym c.in-Absent.is) tt
+returns-in-Absent-clause-ready_for_all g c = λ ne. subst (λ f. IsReadyFor depths.Details (known_functions f)) (sym c.in-Absent.is) tt
 
 pub returns-in-Absent-clause-exact : goal.returns-in-Absent-clause-exact
 returns-in-Absent-clause-exact g c = λ ready. sym (returns-in-Absent-clause-gives g c)
 
 pub returns-in-Absent-clause-same : goal.returns-in-Absent-clause-same
 returns-in-Absent-clause-same g c = λ ready.
-    ready_same reads.Details c.args.self.now c.cache.new.self (λ read. (c.cache.ensures.kept read).0) ready
+    ready_same depths.Details c.args.self.now c.cache.new.self (λ read. (c.cache.ensures.kept read).0) ready
 
 pub returns-in_err-cache-clause-exact : goal.returns-in_err-cache-clause-exact
 returns-in_err-cache-clause-exact g c = λ ready.
-    absurd (let no = (c.in_err-cache.ensures.kept (ready_were_read reads.Details c.args.self.now ready)).1 in cc)
+    absurd (let no = (c.in_err-cache.ensures.kept (ready_were_read depths.Details c.args.self.now ready)).1 in cc)
 
 pub returns-in-Read-clause-ready_for_all : goal.returns-in-Read-clause-ready_for_all
 returns-in-Read-clause-ready_for_all g c = λ ne. to_fault_known c.read_all.new.self.functions (c.read_all.ensures.ready_for_all (not_oom c.read_all.result ne))
@@ -97,17 +98,17 @@ returns-in-Read-clause-exact g c = λ ready.
     let t = c.in-Read.functions in
     let table = subst (λ x. AreFunctionsOf scope view x) c.in-Read.is c.cache.ensures.right in
     let exact = rw c.deref_mut.ensures.value at c.read_all.ensures.exact in
-    exact table.details (to_fault_cached t.value.functions (ready_then reads.Details c.args.self.now c.cache.new.self (λ read. (c.cache.ensures.kept read).0) ready (lazy.Read t) c.in-Read.is)) ∙ sym (fault_is scope view t.value table)
+    exact table.details (to_fault_cached t.value.functions (ready_then depths.Details c.args.self.now c.cache.new.self (λ read. (c.cache.ensures.kept read).0) ready (lazy.Read t) c.in-Read.is)) ∙ sym (fault_is scope view t.value table)
 
 pub returns-in-Read-clause-same : goal.returns-in-Read-clause-same
 returns-in-Read-clause-same g c = λ ready.
     let t = c.in-Read.functions in
     let same = rw c.deref_mut.ensures.value at c.read_all.ensures.same in
-    ap (λ x. lazy.Read (with_value t x)) (same (to_fault_cached t.value.functions (ready_then reads.Details c.args.self.now c.cache.new.self (λ read. (c.cache.ensures.kept read).0) ready (lazy.Read t) c.in-Read.is)))
-    ∙ sym c.in-Read.is ∙ ready_same reads.Details c.args.self.now c.cache.new.self (λ read. (c.cache.ensures.kept read).0) ready
+    ap (λ x. lazy.Read (with_value t x)) (same (to_fault_cached t.value.functions (ready_then depths.Details c.args.self.now c.cache.new.self (λ read. (c.cache.ensures.kept read).0) ready (lazy.Read t) c.in-Read.is)))
+    ∙ sym c.in-Read.is ∙ ready_same depths.Details c.args.self.now c.cache.new.self (λ read. (c.cache.ensures.kept read).0) ready
 
 pub returns-in-Faulty-clause-ready_for_all : goal.returns-in-Faulty-clause-ready_for_all
-returns-in-Faulty-clause-ready_for_all g c = λ ne. ready_fault reads.Details c.in-Faulty.error ne
+returns-in-Faulty-clause-ready_for_all g c = λ ne. ready_fault depths.Details c.in-Faulty.error ne
 
 pub returns-in-Faulty-clause-exact : goal.returns-in-Faulty-clause-exact
 returns-in-Faulty-clause-exact g c = λ _.
@@ -117,7 +118,7 @@ returns-in-Faulty-clause-exact g c = λ _.
 
 pub returns-in-Faulty-clause-same : goal.returns-in-Faulty-clause-same
 returns-in-Faulty-clause-same g c = λ ready.
-    sym c.in-Faulty.is ∙ ready_same reads.Details c.args.self.now c.cache.new.self (λ read. (c.cache.ensures.kept read).0) ready
+    sym c.in-Faulty.is ∙ ready_same depths.Details c.args.self.now c.cache.new.self (λ read. (c.cache.ensures.kept read).0) ready
 
 -- functions that weren't read take memory, or memory is their fault
 unread_takes : {R : Type 0} (shares : Bool) (scope : Scope) (view : UnitRecord) (old : LazyFunctions R) (x : Error) → (were_read old ≡ true → ⊥) → x ≡ OutOfMemory
@@ -142,14 +143,14 @@ returns-in_err-cache-clause-gives g c =
 
 pub returns-in_err-cache-clause-had_memory : goal.returns-in_err-cache-clause-had_memory
 returns-in_err-cache-clause-had_memory g c = λ ready.
-    let read = ap (λ f. were_read f) (sym c.in_err-cache.ensures.refused.1) ∙ ready_were_read reads.Details c.cache.new.self ready in
+    let read = ap (λ f. were_read f) (sym c.in_err-cache.ensures.refused.1) ∙ ready_were_read depths.Details c.cache.new.self ready in
     absurd (let no = (c.in_err-cache.ensures.kept read).1 in cc)
 
 pub returns-in-Read-clause-had_memory : goal.returns-in-Read-clause-had_memory
 returns-in-Read-clause-had_memory g c = λ ready. had_not_oom c.read_all.result (c.read_all.ensures.memory (to_fault_cached c.read_all.new.self.functions ready))
 
 pub returns-in-Faulty-clause-had_memory : goal.returns-in-Faulty-clause-had_memory
-returns-in-Faulty-clause-had_memory g c = λ ready. known_not_oom reads.Details c.in-Faulty.error ready
+returns-in-Faulty-clause-had_memory g c = λ ready. known_not_oom depths.Details c.in-Faulty.error ready
 
 pub read_all-requires-clause-names : goal.read_all-requires-clause-names
 read_all-requires-clause-names g c =

@@ -22,7 +22,7 @@ returns-in_err-answer-clause-stay g c = λ decided.
 
 pub returns-in_err-answer-clause-memory : goal.returns-in_err-answer-clause-memory
 returns-in_err-answer-clause-memory g c = λ have.
-    absurd (let no = (c.in_err-answer.ensures.same (read_decided c.args.reads c.args.self.now have)).1 in cc)
+    absurd (let no = (c.in_err-answer.ensures.same (read_decided c.args.depth c.args.self.now have)).1 in cc)
 
 pub returns-clause-stay : goal.returns-clause-stay
 returns-clause-stay g c = λ decided.
@@ -30,8 +30,8 @@ returns-clause-stay g c = λ decided.
 
 pub returns-clause-memory : goal.returns-clause-memory
 returns-clause-memory g c = λ have.
-    let same = (c.answer.ensures.same (read_decided c.args.reads c.args.self.now have)).0 in
-    c.read_in_view.ensures.memory (subst (HasRead c.args.reads) (sym same) have)
+    let same = (c.answer.ensures.same (read_decided c.args.depth c.args.self.now have)).0 in
+    c.read_in_view.ensures.memory (subst (HasRead c.args.depth) (sym same) have)
 
 pub returns-in_err-answer-clause-ready_for_all : goal.returns-in_err-answer-clause-ready_for_all
 returns-in_err-answer-clause-ready_for_all g c =
@@ -53,14 +53,14 @@ pub returns-clause-exact : goal.returns-clause-exact
 returns-clause-exact g c = λ ready.
     let scope = seen_scope c.args.scope in
     let same = (c.answer.ensures.same ready.decided).0 in
-    c.read_in_view.ensures.exact (subst (IsReadyUnit c.args.reads) (sym same) ready).known
-    ∙ ap (λ a. read_of_view c.args.reads scope (verdict scope.file.sections c.args.dw_unit.now a)) c.in_ok-answer.ensures.answer
+    c.read_in_view.ensures.exact (subst (IsReadyUnit c.args.depth) (sym same) ready).known
+    ∙ ap (λ a. read_of_view c.args.depth scope (verdict scope.file.sections c.args.dw_unit.now a)) c.in_ok-answer.ensures.answer
 
 pub returns-clause-same : goal.returns-clause-same
 returns-clause-same g c = λ ready.
     let same = (c.answer.ensures.same ready.decided).0 in
     let mid = c.answer.new.self in
-    ap (λ f. with_functions mid f) (c.read_in_view.ensures.same (subst (IsReadyUnit c.args.reads) (sym same) ready).known) ∙ same
+    ap (λ f. with_functions mid f) (c.read_in_view.ensures.same (subst (IsReadyUnit c.args.depth) (sym same) ready).known) ∙ same
   where
     with_functions : {R : Type 0} → UnitEntries R → LazyFunctions R → UnitEntries R
     with_functions v f = record { view = v.view; functions = f }
@@ -82,7 +82,7 @@ returns-clause-no_memory g c = λ none.
     let u = c.args.dw_unit.now in
     let mid = c.answer.new.self in
     let same = decided_if_not scope.file.sections u (first_answer_of mid) None (not_open scope u 0 mid c.answer.ensures.right c.in_ok-answer.ensures.decided) in
-    subst (λ a. IfErr c.read_in_view.result (λ e. read_of_view c.args.reads scope (verdict scope.file.sections u a) ≡ Err e)) c.in_ok-answer.ensures.answer
+    subst (λ a. IfErr c.read_in_view.result (λ e. read_of_view c.args.depth scope (verdict scope.file.sections u a) ≡ Err e)) c.in_ok-answer.ensures.answer
     (c.read_in_view.ensures.no_memory (subst (λ a. functions_in_take_memory g.R.Reader.shares scope u a ≡ false) same none))
 
 pub returns-in_err-answer-clause-details : goal.returns-in_err-answer-clause-details

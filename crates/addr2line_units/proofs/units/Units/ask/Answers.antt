@@ -164,7 +164,7 @@ returns-in_err-found-clause-after g c =
     let e = rw (c.scope-scope.ensures.gives, sections_is) at found.ensures in
     let p = err_from_is_err_and c.from_residual.result c.from_residual.ensures.1 in
     rw (p.1, p.2, sym c.self.view_is) (after_asked S cs s.stop i probe n s.looks was u there v at w c.args.faults found.result e.gives e.stays e.stay e.only e.lines e.ready e.parsed e.memory found.new.looks e.raised FindsNothing _ e.right
-    (λ told. oom_before c.args.faults found.result (subst WasNotRefused c.in_err-found.ensures.gives told)) (λ told. subst WasNotRefused (sym c.in_err-found.ensures.gives) (oom_after c.args.faults found.result told)))
+    (λ told. oom_before c.args.faults found.result (subst WasNotRefused c.in_err-found.ensures.gives told)) (λ told. subst WasNotRefused (sym c.in_err-found.ensures.gives) (oom_after c.args.faults found.result told)) refl)
 
 pub invariant_of-self-2 : goal.invariant_of-self-2
 invariant_of-self-2 g c =
@@ -230,7 +230,7 @@ returns-clause-after g c =
     let w = record v { lines = found.new.unit; entries = found.new.entries } in
     let e = rw (c.scope-scope.ensures.gives, sections_is) at found.ensures in
     rw (sym c.self.view_is) (after_asked S cs s.stop i probe n s.looks was u there v at w c.args.faults found.result e.gives e.stays e.stay e.only e.lines e.ready e.parsed e.memory found.new.looks e.raised _ _ e.right
-    (λ told. oom_before c.args.faults found.result (subst WasNotRefused c.in_ok-found.ensures.gives told)) (λ told. subst WasNotRefused (sym c.in_ok-found.ensures.gives) (oom_after c.args.faults found.result told)))
+    (λ told. oom_before c.args.faults found.result (subst WasNotRefused c.in_ok-found.ensures.gives told)) (λ told. subst WasNotRefused (sym c.in_ok-found.ensures.gives) (oom_after c.args.faults found.result told)) tt)
 
 pub returns-in_err-found-clause-no_memory : goal.returns-in_err-found-clause-no_memory
 returns-in_err-found-clause-no_memory g c =

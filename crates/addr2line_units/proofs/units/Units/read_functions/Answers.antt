@@ -34,8 +34,8 @@ invariant_of-self g c =
 pub returns-clause-gives : goal.returns-clause-gives
 returns-clause-gives g c =
     let s = c.self.inside in
-    subst (λ x. ExactlyUnlessOom (λ y. y) c.read_all_functions.result (read_of_units c.args.reads x.scope x.scope.file.units x.answers)) c.self.view_is
-    (subst (λ S. ExactlyUnlessOom (λ x. x) c.read_all_functions.result (read_of_units c.args.reads S S.file.units (answers_in s.caches.items))) c.scope-scope.ensures.gives c.read_all_functions.ensures.gives)
+    subst (λ x. ExactlyUnlessOom (λ y. y) c.read_all_functions.result (read_of_units c.args.depth x.scope x.scope.file.units x.answers)) c.self.view_is
+    (subst (λ S. ExactlyUnlessOom (λ x. x) c.read_all_functions.result (read_of_units c.args.depth S S.file.units (answers_in s.caches.items))) c.scope-scope.ensures.gives c.read_all_functions.ensures.gives)
 
 pub returns-clause-after : goal.returns-clause-after
 returns-clause-after g c =
@@ -45,14 +45,14 @@ returns-clause-after g c =
     let scope = seen_scope c.scope-scope.result in
     let was = seen_stop s.caches.items s.stop in
     let kept = subst (λ S. HaveEntriesOf S S.file.units s.caches.items) (sym c.scope-scope.ensures.gives) (entries_right (scope_of s.sources) s.sources.units.items s.caches.items c.self.invariant.caches) in
-    rw (sym c.self.view_is) (subst (λ S. AfterReading c.args.reads c.read_all_functions.result (seen_units S s.caches.items s.looks was) (seen_units S new s.looks FindsNothing)) c.scope-scope.ensures.gives
-    (after_reading scope s.caches.items kept new e.lines s.looks was c.args.reads c.read_all_functions.result e.right e.answers e.begun e.stay e.only e.read e.memory e.ready_for_all e.had_memory e.exact e.same e.details))
+    rw (sym c.self.view_is) (subst (λ S. AfterReading c.args.depth c.read_all_functions.result (seen_units S s.caches.items s.looks was) (seen_units S new s.looks FindsNothing)) c.scope-scope.ensures.gives
+    (after_reading scope s.caches.items kept new e.lines s.looks was c.args.depth c.read_all_functions.result e.right e.answers e.begun e.stay e.only e.read e.memory e.ready_for_all e.had_memory e.exact e.same e.details))
 
 pub returns-clause-no_memory : goal.returns-clause-no_memory
 returns-clause-no_memory g c =
     let s = c.self.inside in
     let r = c.read_all_functions in
     let new = r.new.caches.items in
-    subst (λ x. ReadsNoMemory g.R.Reader.shares c.args.reads x.scope x.scope.file.units (answers_in new) (known_in new) → IfErr r.result (λ e. read_of_units c.args.reads x.scope x.scope.file.units x.answers ≡ Err e)) c.self.view_is
-    (subst (λ S. ReadsNoMemory g.R.Reader.shares c.args.reads S S.file.units (answers_in new) (known_in new) → IfErr r.result (λ e. read_of_units c.args.reads S S.file.units (answers_in s.caches.items) ≡ Err e))
+    subst (λ x. ReadsNoMemory g.R.Reader.shares c.args.depth x.scope x.scope.file.units (answers_in new) (known_in new) → IfErr r.result (λ e. read_of_units c.args.depth x.scope x.scope.file.units x.answers ≡ Err e)) c.self.view_is
+    (subst (λ S. ReadsNoMemory g.R.Reader.shares c.args.depth S S.file.units (answers_in new) (known_in new) → IfErr r.result (λ e. read_of_units c.args.depth S S.file.units (answers_in s.caches.items) ≡ Err e))
     c.scope-scope.ensures.gives r.ensures.no_memory)

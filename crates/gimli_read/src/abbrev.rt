@@ -223,6 +223,8 @@ fn read_specifications<R: Reader>(
     while let Some(attribute) = read_specification(input)? {
         attributes.push(attribute)?;
     }
+    // A table may have as many abbreviations as it has bytes.
+    attributes.shrink_to_fit();
     Ok(attributes)
 }
 
@@ -248,6 +250,7 @@ fn sized_runs(
             }
         }
     }
+    runs.shrink_to_fit();
     Ok((runs, last))
 }
 

@@ -28,4 +28,4 @@ returns-in_err-push g c =
     record { gives = rw (p.1, p.2) (λ n. absurd (n begun refl)) }
 
 pub returns : goal.returns
-returns g c = record { gives = sym c.loop-attributes.invariant.gives ∙ ap (with_front c.loop-attributes.attributes.items) (collected-end specification_at specification_takes _ _ (rw c.in_default.is at c.in_ok-attribute.ensures.gives)) ∙ ap (λ v. Ok (v, g.R.Reader.section c.read_specification.new.input)) (append-nil c.loop-attributes.attributes.items) }
+returns g c = record { gives = rw c.shrink_to_fit.ensures.items (sym c.loop-attributes.invariant.gives ∙ ap (with_front c.loop-attributes.attributes.items) (collected-end specification_at specification_takes _ _ (rw c.in_default.is at c.in_ok-attribute.ensures.gives)) ∙ ap (λ v. Ok (v, g.R.Reader.section c.read_specification.new.input)) (append-nil c.loop-attributes.attributes.items)) }

@@ -108,17 +108,6 @@ set_parsed [] n s h e = absurd (omega arith)
 set_parsed (x ∷ rs) zero s h e = parsed_is s.lines.lines e
 set_parsed (x ∷ rs) (suc n) s h e = set_parsed rs n s (omega arith) e
 
--- a call that left lines as they were, and takes no memory where they are cached, isn't refused
--- where they are
-pub not_refused : (old new : LazyLines) (result : Result (Unit {0}) Error) → (is_uncached old ≡ false → result ≡ Ok tt) → OnErr result (new ≡ old) → is_uncached new ≡ false → WasNotRefused result
-not_refused old new (Ok x) exact same e = tt
-not_refused old new (Err x) exact same e = absurd (let ok = exact (sym (ap is_uncached same) ∙ e) in cc)
-
--- a call that is refused memory alone, by what is cached where it isn't refused
-pub cached_if_told : {X P : Type 0} (result : Result X Error) → IfErr result (λ e. e ≡ OutOfMemory) → OnOk result P → WasNotRefused result → P
-cached_if_told (Ok x) refused p told = p
-cached_if_told (Err e) refused p told = absurd (told refused)
-
 -- no lines are cached but those of the unit of a number
 pub only_set : {R : Type 0} (rs : List (UnitCache R)) (k : ℕ) (s : UnitCache R) → ParsesOnly (λ n. n ≡ k) (parsed_units rs) (parsed_units (set rs k s))
 only_set [] k s n e = inl e

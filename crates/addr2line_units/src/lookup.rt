@@ -71,23 +71,6 @@ impl<R: Reader> Units<R> {
         )
     }
 
-    // Caches the lines of the unit of a number, or their fault, if there is such a unit. Refused
-    // `OutOfMemory` alone.
-    fn cache_lines_in(&mut self, number: usize) -> Result<(), Error>
-        ensures after { AfterCachingAt R.shares number result self.old self.new }
-        ensures refused { IfErr result (λ e. e ≡ OutOfMemory) }
-    {
-        self.stop = FramesStop::FindsNothing;
-        let scope = self.sources.scope();
-        let Some(dw_unit) = scope.file.units.get(number) else {
-            return Ok(());
-        };
-        let cache = &mut self.caches[number];
-        cache
-            .lines
-            .cache_lines(self.alloc, scope.file.dwarf, dw_unit)
-    }
-
     // Reads the lines of the unit of a number, unless they are cached, and caches them, or their
     // fault.
     fn read_lines_in(&mut self, number: usize) -> Result<(), Error>
@@ -104,6 +87,18 @@ impl<R: Reader> Units<R> {
         cache
             .lines
             .read_lines(self.alloc, scope.file.dwarf, dw_unit)
+    }
+
+    // Caches the lines of the unit of a number, or their fault, if there is such a unit. Refused
+    // `OutOfMemory` alone.
+    fn cache_lines_in(&mut self, number: usize) -> Result<(), Error>
+        ensures after { AfterCachingAt R.shares number result self.old self.new }
+        ensures refused { IfErr result (λ e. e ≡ OutOfMemory) }
+    {
+        match self.read_lines_in(number) {
+            Err(Error::OutOfMemory) => Err(Error::OutOfMemory),
+            Err(_) | Ok(()) => Ok(()),
+        }
     }
 
     /// The row of an address in the first unit along ranges which has one. The lines of each unit

@@ -56,7 +56,12 @@ pub(crate) fn sort_inlined<S: StoredRange>(upper: u32, ranges: &mut [S])
 {
     ranges.sort_unstable_by_key(|r| {
         let whole = r.range(upper);
-        (whole.depth, whole.range.begin, whole.range.end, whole.function)
+        (
+            whole.depth,
+            whole.range.begin,
+            whole.range.end,
+            whole.function,
+        )
     });
 }
 

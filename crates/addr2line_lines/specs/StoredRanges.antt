@@ -2,11 +2,12 @@
 -- Own: ranges take sixteen bytes each as long as depths and places have 32 bits and addresses have
 -- the upper half of the first range that is stored; where none is stored any more, the next range's
 -- takes its place. From the first range on that doesn't fit, all are stored whole.
-use Rattle.std.specs.Prelude.{ℕ, ◌+◌, ◌*◌, ◌^◌, ◌/◌, ◌%◌, ◌==◌, ◌&&◌, Bool, true, List, map, nat_lt}
+use Rattle.std.specs.Prelude.{ℕ, ◌≡◌, ◌⊎◌, ◌+◌, ◌*◌, ◌^◌, ◌/◌, ◌%◌, ◌==◌, ◌&&◌, Bool, true, List, [], length, map, nat_lt, if◌then◌else◌}
 use Rattle.addr2line_lines.specs.declared.inlined_ranges.RangeStore.{RangeStore}
 use Rattle.addr2line_lines.specs.declared.inlined_ranges.RangeStore.TheVariants as stored
 use Rattle.addr2line_lines.specs.declared.inlined_ranges.ShortRange.{ShortRange}
 use Rattle.addr2line_lines.specs.declared.picks.InlinedFunctionAddress.{InlinedFunctionAddress}
+use Rattle.addr2line_lines.specs.StoredRows.{Width, Short, Whole}
 
 -- the upper half of an address
 abbrev pub upper_half : ℕ → ℕ
@@ -42,12 +43,37 @@ abbrev pub fits : ℕ → InlinedFunctionAddress → Bool
 fits upper r =
     (upper_half r.range.begin == upper) && (upper_half r.range.end == upper) && are_narrow r
 
+-- whether a range can be stored so
+abbrev pub stores : Width → InlinedFunctionAddress → Bool
+stores (Short upper) r = fits upper r
+stores Whole r = true
+
+-- how one more range is stored after so many, and these with it
+abbrev pub width_after : ℕ → Width → InlinedFunctionAddress → Width
+width_after count w r =
+    if stores w r then w
+    else if (count == 0) && fits (upper_half r.range.begin) r then Short (upper_half r.range.begin)
+    else Whole
+
+-- the ranges that are stored, and how
+pub record StoredRanges : Type 0 where
+  pub ranges : List InlinedFunctionAddress
+  pub width : Width
+
+-- before the first range
+abbrev pub none_stored : StoredRanges
+none_stored = record { ranges = []; width = Short 0 }
+
 -- what is stored stands for these ranges
 abbrev pub whole_ranges : RangeStore → List InlinedFunctionAddress
 whole_ranges (stored.Short upper ranges) = map (range_of_short upper) ranges.items
 whole_ranges (stored.Whole ranges) = ranges.items
 
--- whether a range can be stored as the others are
-abbrev pub stores : RangeStore → InlinedFunctionAddress → Bool
-stores (stored.Short upper ranges) r = fits upper r
-stores (stored.Whole ranges) r = true
+-- how they are stored
+abbrev pub width_of : RangeStore → Width
+width_of (stored.Short upper ranges) = Short upper
+width_of (stored.Whole ranges) = Whole
+
+-- ranges are stored as before, or as one more needs it
+abbrev pub IsWidthFor : InlinedFunctionAddress → StoredRanges → Width → Type 0
+IsWidthFor r old new = (new ≡ old.width) ⊎ (new ≡ width_after (length old.ranges) old.width r)

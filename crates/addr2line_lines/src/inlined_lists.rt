@@ -34,9 +34,9 @@ fn push_range_list<R: Reader>(
 ) -> Result<(), Error>
     ensures gives { ExactlyUnlessOomIf
         (begins_well (ranges_at unit.entry.dwarf.now unit.entry.unit.now offset))
-        (λ _. ranges.new) result (with_inlined_list unit.entry.dwarf.now
-        unit.entry.unit.now offset depth function ranges.old) }
-    ensures kept { IsGrown ranges.old ranges.new }
+        (λ _. ranges.new.ranges) result (with_inlined_list unit.entry.dwarf.now
+        unit.entry.unit.now offset depth function ranges.old.ranges) }
+    ensures kept { IsGrown ranges.old.ranges ranges.new.ranges }
 {
     let mut list = unit.ranges(offset)?;
     while let Some(range) = list.next()? {
@@ -60,9 +60,9 @@ fn push_ranges<R: Reader>(
 ) -> Result<(), Error>
     ensures gives { ExactlyUnlessOomIf
         (gives_a_range unit.entry.dwarf.now unit.entry.unit.now attributes.now)
-        (λ _. ranges.new) result (with_inlined_ranges unit.entry.dwarf.now
-        unit.entry.unit.now attributes.now depth function ranges.old) }
-    ensures kept { IsGrown ranges.old ranges.new }
+        (λ _. ranges.new.ranges) result (with_inlined_ranges unit.entry.dwarf.now
+        unit.entry.unit.now attributes.now depth function ranges.old.ranges) }
+    ensures kept { IsGrown ranges.old.ranges ranges.new.ranges }
 {
     match attributes.ranges_offset {
         Some(offset) => push_range_list(unit, offset, depth, function, ranges),

@@ -1,12 +1,12 @@
 //! The ranges of inlined functions, as they are stored.
 
-ghost use Rattle.std.specs.Prelude.{◌≡◌, ◌≤◌, [], ◌∷◌, ◌++◌, true, false, drop, length, map, take, IfOk, Ok, OnErr, OnOk};
+ghost use Rattle.std.specs.Prelude.{◌≡◌, ◌≤◌, ◌∷◌, ◌++◌, [], true, false, drop, length, map, take, IfOk, Ok, OnErr, OnOk};
 ghost use Rattle.gimli_read.specs.Reading.{ExactlyUnlessOomIf};
 ghost use Rattle.addr2line_lines.specs.CachedDetails.{between};
 ghost use Rattle.addr2line_lines.specs.InOrder.{IsInOrder, in_order};
 ghost use Rattle.addr2line_lines.specs.InlinedOrder.{inlined_sooner, places_chain};
 ghost use Rattle.addr2line_lines.specs.ManyInlined.{are_many};
-ghost use Rattle.addr2line_lines.specs.StoredRanges.{address_of, are_narrow, fits, range_of_short, shortened, stores, upper_half, whole_ranges};
+ghost use Rattle.addr2line_lines.specs.StoredRanges.{IsWidthFor, address_of, are_narrow, fits, none_stored, range_of_short, shortened, stores, upper_half, whole_ranges, width_after, width_of};
 
 use crate::picks::{
     InlinedFunctionAddress, InlinedPlaces, StoredRange, find_chain, sort_inlined_from,
@@ -131,7 +131,7 @@ impl RangeStore {
     // Whether a range can be stored as the others are.
     #[inline(always)]
     fn stores(&self, range: InlinedFunctionAddress) -> bool
-        ensures gives { result ≡ stores self.now range }
+        ensures gives { result ≡ stores (width_of self.now) range }
     {
         match self {
             RangeStore::Short(upper, _) => fits(*upper, range),
@@ -155,9 +155,10 @@ impl RangeStore {
         alloc: Global,
         range: InlinedFunctionAddress,
     ) -> Result<RangeStore, AllocError>
-        requires beyond { stores self.now range ≡ false }
+        requires beyond { stores (width_of self.now) range ≡ false }
         ensures kept { IfOk result (λ s. whole_ranges s ≡ whole_ranges self.now) }
-        ensures stores { IfOk result (λ s. stores s range ≡ true) }
+        ensures width { IfOk result (λ s. width_of s
+            ≡ width_after (length (whole_ranges self.now)) (width_of self.now) range) }
     {
         let upper = upper_half(range.range.begin);
         if self.len() == 0 && fits(upper, range) {
@@ -169,9 +170,11 @@ impl RangeStore {
     // Stores the ranges so that one more can be.
     #[inline(never)]
     fn widen(&mut self, alloc: Global, range: InlinedFunctionAddress) -> Result<(), AllocError>
-        requires beyond { stores self.old range ≡ false }
+        requires beyond { stores (width_of self.old) range ≡ false }
         ensures kept { whole_ranges self.new ≡ whole_ranges self.old }
-        ensures stores { OnOk result (stores self.new range ≡ true) }
+        ensures width { OnOk result (width_of self.new
+            ≡ width_after (length (whole_ranges self.old)) (width_of self.old) range) }
+        ensures refused { OnErr result (self.new ≡ self.old) }
     {
         *self = self.widened(alloc, range)?;
         Ok(())
@@ -180,8 +183,11 @@ impl RangeStore {
     // Stores the ranges so that one more can be, unless they are.
     #[inline(always)]
     fn widen_for(&mut self, alloc: Global, range: InlinedFunctionAddress) -> Result<(), AllocError>
+        ensures stores { OnOk result (stores (width_of self.new) range ≡ true) }
         ensures kept { whole_ranges self.new ≡ whole_ranges self.old }
-        ensures stores { OnOk result (stores self.new range ≡ true) }
+        ensures width { OnOk result (width_of self.new
+            ≡ width_after (length (whole_ranges self.old)) (width_of self.old) range) }
+        ensures refused { OnErr result (self.new ≡ self.old) }
     {
         if self.stores(range) {
             return Ok(());
@@ -192,8 +198,9 @@ impl RangeStore {
     // Adds a range, which can be stored as the others are.
     #[inline(always)]
     fn push(&mut self, range: InlinedFunctionAddress) -> Result<(), AllocError>
-        requires stores { stores self.old range ≡ true }
+        requires stores { stores (width_of self.old) range ≡ true }
         ensures gives { OnOk result (whole_ranges self.new ≡ whole_ranges self.old ++ range ∷ []) }
+        ensures width { width_of self.new ≡ width_of self.old }
         ensures refused { OnErr result (whole_ranges self.new ≡ whole_ranges self.old) }
     {
         match self {
@@ -205,6 +212,7 @@ impl RangeStore {
     // Keeps the first ranges.
     fn truncate(&mut self, len: usize)
         ensures gives { whole_ranges self.new ≡ take len (whole_ranges self.old) }
+        ensures width { width_of self.new ≡ width_of self.old }
     {
         match self {
             RangeStore::Short(_, ranges) => ranges.truncate(len),
@@ -217,6 +225,7 @@ impl RangeStore {
         requires there { start ≤ length (whole_ranges self.old) }
         ensures gives { whole_ranges self.new ≡ take start (whole_ranges self.old)
             ++ in_order inlined_sooner (drop start (whole_ranges self.old)) }
+        ensures width { width_of self.new ≡ width_of self.old }
     {
         match self {
             RangeStore::Short(upper, ranges) => sort_inlined_from(*upper, ranges, start),
@@ -257,19 +266,17 @@ pub(crate) struct InlinedRanges {
 }
 
 impl Model for InlinedRanges {
-    ghost use Rattle.std.specs.Prelude.{List};
-    ghost use Rattle.addr2line_lines.specs.declared.picks.InlinedFunctionAddress.{InlinedFunctionAddress};
-    ghost use Rattle.addr2line_lines.specs.StoredRanges.{whole_ranges};
+    ghost use Rattle.addr2line_lines.specs.StoredRanges.{StoredRanges, whole_ranges, width_of};
 
-    ghost Value = { List InlinedFunctionAddress };
+    ghost Value = { StoredRanges };
 
-    ghost view = { λ r. whole_ranges r.store };
+    ghost view = { λ r. record { ranges = whole_ranges r.store; width = width_of r.store } };
 }
 
 impl InlinedRanges {
     /// No ranges. Takes no memory.
     pub(crate) fn new(alloc: Global) -> InlinedRanges
-        ensures gives { result ≡ [] }
+        ensures gives { result ≡ none_stored }
     {
         InlinedRanges {
             alloc,
@@ -279,16 +286,19 @@ impl InlinedRanges {
 
     /// The number of ranges.
     pub(crate) fn len(&self) -> usize
-        ensures gives { result ≡ length self.now }
+        ensures gives { result ≡ length self.now.ranges }
     {
         self.store.len()
     }
 
-    /// Adds a range. A refused growth adds nothing.
+    /// Adds a range. A refused growth adds nothing, but the ranges may be stored as it needs.
     #[inline(always)]
     pub(crate) fn push(&mut self, range: InlinedFunctionAddress) -> Result<(), AllocError>
-        ensures gives { OnOk result (self.new ≡ self.old ++ range ∷ []) }
-        ensures refused { OnErr result (self.new ≡ self.old) }
+        ensures gives { OnOk result (self.new.ranges ≡ self.old.ranges ++ range ∷ []) }
+        ensures width { OnOk result
+            (self.new.width ≡ width_after (length self.old.ranges) self.old.width range) }
+        ensures refused { OnErr result ((self.new.ranges ≡ self.old.ranges)
+            × IsWidthFor range self.old self.new.width) }
     {
         self.store.widen_for(self.alloc, range)?;
         self.store.push(range)
@@ -296,7 +306,8 @@ impl InlinedRanges {
 
     /// Keeps the first ranges.
     pub(crate) fn truncate(&mut self, len: usize)
-        ensures gives { self.new ≡ take len self.old }
+        ensures gives { self.new.ranges ≡ take len self.old.ranges }
+        ensures width { self.new.width ≡ self.old.width }
     {
         self.store.truncate(len);
     }
@@ -304,9 +315,10 @@ impl InlinedRanges {
     /// Puts the ranges from a place on in order of depth, then begin, then end, then function.
     /// Takes no memory.
     pub(crate) fn sort_from(&mut self, start: usize)
-        requires there { start ≤ length self.old }
-        ensures gives { self.new ≡ take start self.old
-            ++ in_order inlined_sooner (drop start self.old) }
+        requires there { start ≤ length self.old.ranges }
+        ensures gives { self.new.ranges ≡ take start self.old.ranges
+            ++ in_order inlined_sooner (drop start self.old.ranges) }
+        ensures width { self.new.width ≡ self.old.width }
     {
         self.store.sort_from(start);
     }
@@ -323,12 +335,12 @@ impl InlinedRanges {
         probe: u64,
     ) -> Result<InlinedPlaces, Error>
         requires begin { begin ≤ end }
-        requires end { end ≤ length self.now }
-        requires ordered { IsInOrder inlined_sooner (between begin end self.now) }
+        requires end { end ≤ length self.now.ranges }
+        requires ordered { IsInOrder inlined_sooner (between begin end self.now.ranges) }
         ensures gives { ExactlyUnlessOomIf
-            (are_many (places_chain probe (between begin end self.now)))
+            (are_many (places_chain probe (between begin end self.now.ranges)))
             (λ chain. chain.items) result
-            (Ok (places_chain probe (between begin end self.now))) }
+            (Ok (places_chain probe (between begin end self.now.ranges))) }
     {
         self.store.find_chain(alloc, begin, end, probe)
     }

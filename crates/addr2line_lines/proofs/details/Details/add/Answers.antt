@@ -37,7 +37,7 @@ module _ (g : Over) (c : goal.After-len-2 g) where
   abbrev more : CachedDetails
   more = record {
     names = map (option_map g.R.Reader.section) c.push.new.self.items;
-    found = record { entries = listed.entries; ranges = c.sort_from.new.self };
+    found = record { entries = listed.entries; ranges = c.sort_from.new.self.ranges };
     known = seen_names g.R.Reader.section c.read_detail.new.names;
   }
 
@@ -80,7 +80,7 @@ module _ (g : Over) (c : goal.After-len-2 g) where
         ranges_begin = c.len-ranges_begin.ensures.gives;
         ranges_end = c.len-2.ensures.gives;
         entries = refl;
-        listed_is = c.of-listed.ensures;
+        listed_is = ap (λ v. v.ranges) c.of-listed.ensures;
         ranges = c.sort_from.ensures.gives;
       }
 

@@ -68,7 +68,7 @@ pub record AreCachedAt (name : Option Section) (found listed : FoundInlined) (d 
   pub ranges_begin : p.ranges_begin ≡ length found.ranges
   pub ranges_end : p.ranges_end ≡ length d.found.ranges
   pub entries : d.found.entries ≡ listed.entries
-  pub listed_is : p.listed.value.items ≡ listed.ranges
+  pub listed_is : p.listed.value.ranges ≡ listed.ranges
   pub ranges : d.found.ranges ≡ sorted_from p.ranges_begin listed.ranges
 
 module _ (scope : Scope) (u : UnitRecord) (offset : ℕ) (name : Option Section) (found listed : FoundInlined) (read : detail_found_at scope u offset found ≡ Ok (name, listed))
@@ -77,7 +77,7 @@ module _ (scope : Scope) (u : UnitRecord) (offset : ℕ) (name : Option Section)
   agrees = subst (AgreesDetail scope u offset found (detail_at scope u offset)) read (detail_agrees scope u offset found)
 
   run_is : listed_ranges p ≡ drop (length found.ranges) listed.ranges
-  run_is = ap (λ n. drop n p.listed.value.items) at.ranges_begin ∙ ap (λ xs. drop (length found.ranges) xs) at.listed_is
+  run_is = ap (λ n. drop n p.listed.value.ranges) at.ranges_begin ∙ ap (λ xs. drop (length found.ranges) xs) at.listed_is
 
   -- the details that are cached are those of the function
   pub detail_cached : detail_at scope u offset ≡ Ok (detail_of d p)
@@ -235,23 +235,23 @@ module _ (d : CachedDetails) (p : FunctionDetail) (at : IsDetailPlace d p) where
       all_within (λ n. n < length d.found.entries) probe run (subst (AllByRecursion there) (sym at.ordered) (in_order_all inlined_sooner there (listed_ranges p) listed)) (length run) 0
 
   -- what the search in the run gives is the chain of the details
-  module _ (probe : ℕ) (ranges : List InlinedFunctionAddress) (same : ranges ≡ run) {X : Type 0} (items : X → List ℕ) where
+  module _ (probe : ℕ) {X : Type 0} (items : X → List ℕ) where
     abbrev SearchGives : Result X Error → Type 0
-    SearchGives r = ExactlyUnlessOomIf (exceeds_inline_room (places_chain probe ranges)) items r (Ok (places_chain probe ranges))
+    SearchGives r = ExactlyUnlessOomIf (exceeds_inline_room (places_chain probe run)) items r (Ok (places_chain probe run))
 
     pub chain_gives : (r : Result X Error) → SearchGives r
         → ExactlyUnlessOomIf (exceeds_inline_room (inlined_chain probe (detail_of d p).inlined)) (λ x. map (entry_among d.found.entries) (items x)) r (Ok (inlined_chain probe (detail_of d p).inlined))
     chain_gives (Ok x) h =
-        let is : places_chain probe ranges ≡ items x = cc in
-        ap Ok (chain_is probe ∙ ap (λ xs. map (entry_among d.found.entries) (places_chain probe xs)) (sym same) ∙ ap (map (entry_among d.found.entries)) is)
+        let is : places_chain probe run ≡ items x = cc in
+        ap Ok (chain_is probe ∙ ap (map (entry_among d.found.entries)) is)
     chain_gives (Err e) h = λ ne.
-        let long : length (places_chain probe ranges) ≡ length (inlined_chain probe (detail_of d p).inlined) =
-        ap (λ xs. length (places_chain probe xs)) same ∙ sym (length-map (places_chain probe run) (entry_among d.found.entries)) ∙ ap (λ xs. length xs) (sym (chain_is probe)) in
-        let fault : ◌≡◌ {A = Result (List ℕ) Error} (Ok (places_chain probe ranges)) (Err e) = h (λ t. ne (subst (λ n. nat_lt inline_room n ≡ true) long t)) in
+        let long : length (places_chain probe run) ≡ length (inlined_chain probe (detail_of d p).inlined) =
+        sym (length-map (places_chain probe run) (entry_among d.found.entries)) ∙ ap (λ xs. length xs) (sym (chain_is probe)) in
+        let fault : ◌≡◌ {A = Result (List ℕ) Error} (Ok (places_chain probe run)) (Err e) = h (λ t. ne (subst (λ n. nat_lt most_inlined n ≡ true) long t)) in
         absurd cc
 
     pub chain_items : (r : Result X Error) → SearchGives r → IfOk r (λ x. AllByRecursion (λ n. n < length d.found.entries) (items x))
     chain_items (Ok x) h =
-        let is : places_chain probe ranges ≡ items x = cc in
-        subst (AllByRecursion (λ n. n < length d.found.entries)) (ap (places_chain probe) (sym same) ∙ is) (chain_there probe)
+        let is : places_chain probe run ≡ items x = cc in
+        subst (AllByRecursion (λ n. n < length d.found.entries)) is (chain_there probe)
     chain_items (Err e) h = tt

@@ -23,6 +23,7 @@ use Rattle.addr2line_lines.proofs.OrderLemmas.{begins_order, in_order_all, in_or
 use Rattle.addr2line_lines.proofs.OrderPick.{pick_in_order}
 use Rattle.gimli_read.proofs.TopmostLemmas.{filter-filter}
 use Rattle.addr2line_lines.proofs.SeekLemmas.{Up}
+use Rattle.addr2line_lines.proofs.StoredRangeLemmas.{images_sorted}
 
 -- a list in order is one where elements that tie are the same
 module _ {X : Type 0} (lt : X → X → Bool) (o : IsStrictWeakOrder lt) (one : (x y : X) → ties lt x y ≡ true → y ≡ x) where
@@ -61,13 +62,13 @@ ordering_then_assoc Greater y z = refl
 from_left : (x y z w : Ordering) → ordering_then x (ordering_then y (ordering_then z w)) ≡ ordering_then (ordering_then (ordering_then x y) z) w
 from_left x y z w = ordering_then_assoc x y (ordering_then z w) ∙ ordering_then_assoc (ordering_then x y) z w
 
-pub by_tuple : (xs : List InlinedFunctionAddress)
-    → IsSortedByKey key (λ (a b : Key). ordering_then (ordering_then (ordering_then (nat_cmp a.0 b.0) (nat_cmp a.1 b.1)) (nat_cmp a.2 b.2)) (nat_cmp a.3 b.3)) xs
-    → IsSortedBy inlined_sooner xs
-by_tuple xs up = λ k d low high.
-    let a = get_or xs (k + 1) d in
-    let b = get_or xs k d in
-    ap is_lt (from_left (nat_cmp a.depth b.depth) (nat_cmp a.range.begin b.range.begin) (nat_cmp a.range.end b.range.end) (nat_cmp a.function b.function)) ∙ up k d low high
+pub by_tuple : {X : Type 0} (f : X → InlinedFunctionAddress) (xs : List X)
+    → IsSortedByKey (λ x. key (f x)) (λ (a b : Key). ordering_then (ordering_then (ordering_then (nat_cmp a.0 b.0) (nat_cmp a.1 b.1)) (nat_cmp a.2 b.2)) (nat_cmp a.3 b.3)) xs
+    → IsSortedBy inlined_sooner (map f xs)
+by_tuple f xs up = images_sorted f inlined_sooner xs (λ k d low high.
+    let a = f (get_or xs (k + 1) d) in
+    let b = f (get_or xs k d) in
+    ap is_lt (from_left (nat_cmp a.depth b.depth) (nat_cmp a.range.begin b.range.begin) (nat_cmp a.range.end b.range.end) (nat_cmp a.function b.function)) ∙ up k d low high)
 
 -- ranges that tie are the same
 pub one_range : (x y : InlinedFunctionAddress) → ties inlined_sooner x y ≡ true → y ≡ x

@@ -33,6 +33,7 @@ pub mod CachedPlaces
 pub mod ReadPlaces
 pub mod InlinedOrder
 pub mod InlinedPick
+pub mod StoredRangeLemmas
 pub mod WholeEntries
 pub mod ItemsAround
 pub mod NestedInlined

@@ -42,6 +42,7 @@ pub mod FoundRanges
 pub mod FoundAttributes
 pub mod FoundNumbers
 pub mod OpenEntries
+pub mod StoredRanges
 pub mod FoundInlined
 pub mod FoundItems
 pub mod FoundDetails

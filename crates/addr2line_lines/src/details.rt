@@ -15,9 +15,10 @@ ghost use Rattle.addr2line_lines.specs.SeenScope.{seen_scope};
 use crate::detail::read_detail;
 use crate::inlined::InlinedFunction;
 use crate::inlined_lists::InlinedLists;
+use crate::inlined_ranges::InlinedRanges;
 use crate::names::NameCache;
 use crate::nesting::Nesting;
-use crate::picks::{InlinedFunctionAddress, InlinedPlaces, find_chain, sort_inlined_from};
+use crate::picks::InlinedPlaces;
 use crate::references::Scope;
 use gimli::Unit;
 use gimli::read::{Error, Reader, UnitOffset};
@@ -39,7 +40,7 @@ pub(crate) struct FunctionDetail {
     pub(crate) ranges_end: usize,
     /// All ranges before those of this function were put in order, for contracts alone: it has no
     /// bytes.
-    pub(crate) listed: Snapshot<Vec<InlinedFunctionAddress>>,
+    pub(crate) listed: Snapshot<InlinedRanges>,
 }
 
 /// The details of functions: their names, and their inlined entries and the ranges of these, those
@@ -106,7 +107,7 @@ impl<R: Reader> Details<R> {
         )?;
         self.names.push(read)?;
         let listed = Snapshot::of(&self.inlined.ranges);
-        sort_inlined_from(&mut self.inlined.ranges, ranges_begin);
+        self.inlined.ranges.sort_from(ranges_begin);
         Ok(FunctionDetail {
             name,
             inlined_begin,
@@ -193,8 +194,8 @@ impl<R: Reader> Details<R> {
         ensures there { IfOk result (λ chain. AllByRecursion
             (λ n. n < length (seen_details R.section self.now).found.entries) chain.items) }
     {
-        let ranges = &self.inlined.ranges[detail.ranges_begin..detail.ranges_end];
-        find_chain(alloc, ranges, probe)
+        let ranges = &self.inlined.ranges;
+        ranges.find_chain(alloc, detail.ranges_begin, detail.ranges_end, probe)
     }
 
     /// The inlined function of a place; none past the last one. Takes no memory.

@@ -10,6 +10,7 @@ ghost use Rattle.addr2line_lines.specs.RangeAttributes.{begins_well, gives_a_ran
 
 use crate::function::RangeAttributes;
 use crate::inlined::{InlinedAttributes, InlinedFunction};
+use crate::inlined_ranges::InlinedRanges;
 use crate::picks::InlinedFunctionAddress;
 use gimli::UnitRef;
 use gimli::read::{Error, Reader, UnitOffset};
@@ -20,7 +21,7 @@ use std::alloc::Global;
 pub(crate) struct InlinedLists<R: Reader> {
     alloc: Global,
     pub(crate) functions: Vec<InlinedFunction<R>>,
-    pub(crate) ranges: Vec<InlinedFunctionAddress>,
+    pub(crate) ranges: InlinedRanges,
 }
 
 // Adds the ranges of a range list.
@@ -29,13 +30,13 @@ fn push_range_list<R: Reader>(
     offset: u64,
     depth: usize,
     function: usize,
-    ranges: &mut Vec<InlinedFunctionAddress>,
+    ranges: &mut InlinedRanges,
 ) -> Result<(), Error>
     ensures gives { ExactlyUnlessOomIf
         (begins_well (ranges_at unit.entry.dwarf.now unit.entry.unit.now offset))
-        (λ _. ranges.new.items) result (with_inlined_list unit.entry.dwarf.now
-        unit.entry.unit.now offset depth function ranges.old.items) }
-    ensures kept { IsGrown ranges.old.items ranges.new.items }
+        (λ _. ranges.new.ranges) result (with_inlined_list unit.entry.dwarf.now
+        unit.entry.unit.now offset depth function ranges.old.ranges) }
+    ensures kept { IsGrown ranges.old.ranges ranges.new.ranges }
 {
     let mut list = unit.ranges(offset)?;
     while let Some(range) = list.next()? {
@@ -55,13 +56,13 @@ fn push_ranges<R: Reader>(
     attributes: &RangeAttributes,
     depth: usize,
     function: usize,
-    ranges: &mut Vec<InlinedFunctionAddress>,
+    ranges: &mut InlinedRanges,
 ) -> Result<(), Error>
     ensures gives { ExactlyUnlessOomIf
         (gives_a_range unit.entry.dwarf.now unit.entry.unit.now attributes.now)
-        (λ _. ranges.new.items) result (with_inlined_ranges unit.entry.dwarf.now
-        unit.entry.unit.now attributes.now depth function ranges.old.items) }
-    ensures kept { IsGrown ranges.old.items ranges.new.items }
+        (λ _. ranges.new.ranges) result (with_inlined_ranges unit.entry.dwarf.now
+        unit.entry.unit.now attributes.now depth function ranges.old.ranges) }
+    ensures kept { IsGrown ranges.old.ranges ranges.new.ranges }
 {
     match attributes.ranges_offset {
         Some(offset) => push_range_list(unit, offset, depth, function, ranges),
@@ -86,7 +87,7 @@ impl<R: Reader> InlinedLists<R> {
         InlinedLists {
             alloc,
             functions: Vec::new(alloc),
-            ranges: Vec::new(alloc),
+            ranges: InlinedRanges::new(alloc),
         }
     }
 

@@ -10,6 +10,7 @@ mod function;
 mod functions;
 mod inlined;
 mod inlined_lists;
+mod inlined_ranges;
 mod laws;
 mod line;
 mod location;

@@ -27,21 +27,52 @@ pub(crate) struct InlinedFunctionAddress {
     pub function: usize,
 }
 
+/// A range of an inlined function as it is stored, beside the upper half of its addresses.
+pub(crate) trait StoredRange: Copy {
+    ghost use Rattle.addr2line_lines.specs.declared.picks.InlinedFunctionAddress.{InlinedFunctionAddress};
+
+    /// The range that it stands for.
+    ghost whole: { ℕ → Self → InlinedFunctionAddress };
+
+    /// The range that it stands for.
+    fn range(self, upper: u32) -> InlinedFunctionAddress
+        ensures gives { result ≡ whole upper self };
+}
+
+impl StoredRange for InlinedFunctionAddress {
+    ghost whole = { λ _ range. range };
+
+    #[inline(always)]
+    fn range(self, _upper: u32) -> InlinedFunctionAddress {
+        self
+    }
+}
+
 /// Puts ranges in order of depth, then begin, then end, then function. Takes no memory.
-pub(crate) fn sort_inlined(ranges: &mut [InlinedFunctionAddress])
-    ensures gives { ranges.new ≡ in_order inlined_sooner ranges.old }
-    ensures ordered { IsInOrder inlined_sooner ranges.new }
+pub(crate) fn sort_inlined<S: StoredRange>(upper: u32, ranges: &mut [S])
+    ensures gives { map (S.whole upper) ranges.new
+        ≡ in_order inlined_sooner (map (S.whole upper) ranges.old) }
+    ensures ordered { IsInOrder inlined_sooner (map (S.whole upper) ranges.new) }
 {
-    ranges.sort_unstable_by_key(|r| (r.depth, r.range.begin, r.range.end, r.function));
+    ranges.sort_unstable_by_key(|r| {
+        let whole = r.range(upper);
+        (
+            whole.depth,
+            whole.range.begin,
+            whole.range.end,
+            whole.function,
+        )
+    });
 }
 
 /// Puts the ranges from a place on in order. Takes no memory.
-pub(crate) fn sort_inlined_from(ranges: &mut Vec<InlinedFunctionAddress>, start: usize)
+pub(crate) fn sort_inlined_from<S: StoredRange>(upper: u32, ranges: &mut Vec<S>, start: usize)
     requires there { start ≤ length ranges.old.items }
-    ensures gives { ranges.new.items ≡ take start ranges.old.items
-        ++ in_order inlined_sooner (drop start ranges.old.items) }
+    ensures gives { map (S.whole upper) ranges.new.items
+        ≡ take start (map (S.whole upper) ranges.old.items)
+        ++ in_order inlined_sooner (drop start (map (S.whole upper) ranges.old.items)) }
 {
-    sort_inlined(&mut ranges[start..]);
+    sort_inlined(upper, &mut ranges[start..]);
 }
 
 /// The function of a depth that is picked for `probe`, of ranges in order: by the range that begins
@@ -49,21 +80,23 @@ pub(crate) fn sort_inlined_from(ranges: &mut Vec<InlinedFunctionAddress>, start:
 /// where that range doesn't hold `probe`. Takes no memory.
 ///
 /// Source: Own.
-pub(crate) fn find_inlined(
-    ranges: &[InlinedFunctionAddress],
+pub(crate) fn find_inlined<S: StoredRange>(
+    upper: u32,
+    ranges: &[S],
     depth: usize,
     probe: u64,
 ) -> Option<usize>
-    requires ordered { IsInOrder inlined_sooner ranges.now }
-    ensures found { result ≡ place_at probe depth ranges.now }
+    requires ordered { IsInOrder inlined_sooner (map (S.whole upper) ranges.now) }
+    ensures found { result ≡ place_at probe depth (map (S.whole upper) ranges.now) }
 {
     let past = ranges.partition_point(|r| {
-        r.depth < depth || (r.depth == depth && r.range.begin <= probe)
+        let whole = r.range(upper);
+        whole.depth < depth || (whole.depth == depth && whole.range.begin <= probe)
     });
     if past == 0 {
         return None;
     }
-    let range = ranges[past - 1];
+    let range = ranges[past - 1].range(upper);
     if range.depth == depth && probe < range.range.end {
         Some(range.function)
     } else {
@@ -75,22 +108,26 @@ pub(crate) fn find_inlined(
 /// first depth without one, of ranges in order.
 ///
 /// Refused `OutOfMemory` alone, and only where there are more than 16. Source: Own.
-pub(crate) fn find_chain(
+pub(crate) fn find_chain<S: StoredRange>(
     alloc: Global,
-    ranges: &[InlinedFunctionAddress],
+    upper: u32,
+    ranges: &[S],
     probe: u64,
 ) -> Result<InlinedPlaces, Error>
-    requires ordered { IsInOrder inlined_sooner ranges.now }
-    ensures gives { ExactlyUnlessOomIf (exceeds_inline_room (places_chain probe ranges.now))
-        (λ chain. chain.items) result (Ok (places_chain probe ranges.now)) }
+    requires ordered { IsInOrder inlined_sooner (map (S.whole upper) ranges.now) }
+    ensures gives { ExactlyUnlessOomIf
+        (exceeds_inline_room (places_chain probe (map (S.whole upper) ranges.now)))
+        (λ chain. chain.items) result
+        (Ok (places_chain probe (map (S.whole upper) ranges.now))) }
     ensures listed { (listed : List InlinedFunctionAddress) → (entry_of : ℕ → InlinedEntry)
-        → IsNonDecreasingBy place listed → ranges.now ≡ in_order inlined_sooner listed
+        → IsNonDecreasingBy place listed
+        → map (S.whole upper) ranges.now ≡ in_order inlined_sooner listed
         → IfOk result (λ chain. map entry_of chain.items
         ≡ inlined_chain probe (map (inlined_range_of entry_of) listed)) }
 {
     let mut chain = SmallVec::new(alloc);
     for depth in 0..ranges.len() {
-        match find_inlined(ranges, depth, probe) {
+        match find_inlined(upper, ranges, depth, probe) {
             Some(function) => chain.push(function)?,
             None => break,
         }

@@ -8,8 +8,8 @@ use crate::row::Row;
 use std::alloc::{AllocError, Global};
 use std::marker::Model;
 
-// The number of addresses with one upper half.
-const HALF: u64 = 1 << 32;
+/// The number of addresses with one upper half.
+pub(crate) const HALF: u64 = 1 << 32;
 
 // The greatest file index and the greatest column that have 16 bits.
 const GREATEST_NARROW: u16 = 0xffff;
@@ -33,9 +33,9 @@ enum RowStore {
     Whole(Vec<Row>),
 }
 
-// Adds an element.
+/// Adds an element.
 #[inline(always)]
-fn push_one<T: Copy>(list: &mut Vec<T>, element: T) -> Result<(), AllocError>
+pub(crate) fn push_one<T: Copy>(list: &mut Vec<T>, element: T) -> Result<(), AllocError>
     ensures gives { OnOk result (list.new.items ≡ list.old.items ++ element ∷ []) }
     ensures refused { OnErr result (list.new.items ≡ list.old.items) }
 {

@@ -1,11 +1,11 @@
-use Rattle.std.proofs.Common.{◌≡◌, ◌++◌, length, ◌-◌, ◌≤◌}
+use Rattle.std.proofs.Common.{◌≡◌, ◌++◌, length, map, ◌-◌, ◌≤◌}
 use Rattle.addr2line_lines.specs.InlinedOrder.{places_chain, places_within}
 use Rattle.addr2line_lines.proofs.picks.find_chain.Given as goal
 
 abbrev pub invariant-loop-depth : goal.invariant-loop-depth
-invariant-loop-depth l = record {
+invariant-loop-depth g l = record {
   upto : l.depth-end ≡ length l.ranges;
   count : length l.chain.items ≡ l.depth;
   room : 16 ≤ l.chain.capacity;
-  found : l.chain.items ++ places_within (l.depth-end - l.depth) l.probe l.depth l.ranges ≡ places_chain l.probe l.ranges;
+  found : l.chain.items ++ places_within (length (map (g.S.StoredRange.whole l.upper) l.ranges) - l.depth) l.probe l.depth (map (g.S.StoredRange.whole l.upper) l.ranges) ≡ places_chain l.probe (map (g.S.StoredRange.whole l.upper) l.ranges);
 }

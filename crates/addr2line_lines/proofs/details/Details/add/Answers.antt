@@ -37,7 +37,7 @@ module _ (g : Over) (c : goal.After-len-2 g) where
   abbrev more : CachedDetails
   more = record {
     names = map (option_map g.R.Reader.section) c.push.new.self.items;
-    found = record { entries = listed.entries; ranges = c.sort_inlined_from.new.ranges.items };
+    found = record { entries = listed.entries; ranges = c.sort_from.new.self.ranges };
     known = seen_names g.R.Reader.section c.read_detail.new.names;
   }
 
@@ -77,11 +77,11 @@ module _ (g : Over) (c : goal.After-len-2 g) where
         name_there = omega arith;
         inlined_begin = c.len-inlined_begin.ensures ∙ c.args.self.now.inlined.functions.ok.0;
         inlined_end = c.len.ensures ∙ c.read_detail.new.found.functions.ok.0;
-        ranges_begin = c.len-ranges_begin.ensures ∙ c.args.self.now.inlined.ranges.ok.0;
-        ranges_end = c.len-2.ensures ∙ c.sort_inlined_from.new.ranges.ok.0;
+        ranges_begin = c.len-ranges_begin.ensures.gives;
+        ranges_end = c.len-2.ensures.gives;
         entries = refl;
-        listed_is = ap (λ v. v.items) c.of-listed.ensures;
-        ranges = c.sort_inlined_from.ensures.gives;
+        listed_is = ap (λ v. v.ranges) c.of-listed.ensures;
+        ranges = c.sort_from.ensures.gives;
       }
 
 pub returns-clause-gives : goal.returns-clause-gives
@@ -95,7 +95,7 @@ returns-clause-kept g c =
       names = grown_by _ _ _ (ap (λ xs. map see xs) c.in_ok-push.ensures.items ∙ map-append see names (c.in_ok-read.read ∷ []));
       found = record {
         entries = c.in_ok-read.ensures.kept.entries;
-        ranges = subst (IsGrown (old g c).found.ranges) (sym c.sort_inlined_from.ensures.gives) (sorted_more (made g c).ranges_begin (old g c).found.ranges (listed g c).ranges (at g c).ranges_begin c.in_ok-read.ensures.kept.ranges);
+        ranges = subst (IsGrown (old g c).found.ranges) (sym c.sort_from.ensures.gives) (sorted_more (made g c).ranges_begin (old g c).found.ranges (listed g c).ranges (at g c).ranges_begin c.in_ok-read.ensures.kept.ranges);
       };
       known = c.in_ok-read.ensures.names.grown;
     }

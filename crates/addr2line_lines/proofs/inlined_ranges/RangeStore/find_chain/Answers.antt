@@ -1,0 +1,31 @@
+use Rattle.std.proofs.Common.{ℕ, List, Ok, Result, Global, ap, subst, sym, ◌∙◌}
+use Rattle.std.proofs.lemmas.List.{map-id}
+use Rattle.smallvec.specs.declared.small_vec.SmallVec.{SmallVec}
+use Rattle.gimli_read.specs.declared.error.Error.{Error}
+use Rattle.gimli_read.specs.Reading.{ExactlyUnlessOomIf}
+use Rattle.addr2line_lines.specs.declared.picks.InlinedFunctionAddress.{InlinedFunctionAddress}
+use Rattle.addr2line_lines.specs.InOrder.{IsInOrder}
+use Rattle.addr2line_lines.specs.InlinedOrder.{inlined_sooner, places_chain}
+use Rattle.addr2line_lines.specs.InlineRoom.{exceeds_inline_room}
+use Rattle.addr2line_lines.specs.StoredRanges.{range_of_short, whole_ranges}
+use Rattle.addr2line_lines.proofs.StoredRangeLemmas.{images_between}
+use Rattle.addr2line_lines.proofs.inlined_ranges.RangeStore.find_chain.Goals as goal
+
+pub find_chain-requires : goal.find_chain-requires
+find_chain-requires c =
+    let e = images_between (range_of_short c.in-Short.upper) c.args.begin c.args.end _ _ _ c.deref.ensures.value (ap whole_ranges (sym c.in-Short.is)) in
+    record { ordered = subst (IsInOrder inlined_sooner) (sym e) c.requires.ordered }
+
+-- what the search gives of ranges it gives of the same ranges
+abbrev Gives : ℕ → Result (SmallVec ℕ 16 Global) Error → List InlinedFunctionAddress → Type 0
+Gives probe result ranges = ExactlyUnlessOomIf (exceeds_inline_room (places_chain probe ranges)) (λ chain. chain.items) result (Ok (places_chain probe ranges))
+
+pub returns-in-Short : goal.returns-in-Short
+returns-in-Short c =
+    let e = images_between (range_of_short c.in-Short.upper) c.args.begin c.args.end _ _ _ c.deref.ensures.value (ap whole_ranges (sym c.in-Short.is)) in
+    record { gives = subst (Gives c.args.probe c.find_chain.result) e c.find_chain.ensures.gives }
+
+pub returns-in-Whole : goal.returns-in-Whole
+returns-in-Whole c =
+    let e = images_between (λ r. r) c.args.begin c.args.end _ _ _ c.deref-in-Whole.ensures.value (map-id _ ∙ ap whole_ranges (sym c.in-Whole.is)) in
+    record { gives = subst (Gives c.args.probe c.find_chain-in-Whole.result) e c.find_chain-in-Whole.ensures.gives }

@@ -247,7 +247,7 @@ module _ (d : CachedDetails) (p : FunctionDetail) (at : IsDetailPlace d p) where
     chain_gives (Err e) h = λ ne.
         let long : length (places_chain probe run) ≡ length (inlined_chain probe (detail_of d p).inlined) =
         sym (length-map (places_chain probe run) (entry_among d.found.entries)) ∙ ap (λ xs. length xs) (sym (chain_is probe)) in
-        let fault : ◌≡◌ {A = Result (List ℕ) Error} (Ok (places_chain probe run)) (Err e) = h (λ t. ne (subst (λ n. nat_lt most_inlined n ≡ true) long t)) in
+        let fault : ◌≡◌ {A = Result (List ℕ) Error} (Ok (places_chain probe run)) (Err e) = h (λ t. ne (subst (λ n. nat_lt inline_room n ≡ true) long t)) in
         absurd cc
 
     pub chain_items : (r : Result X Error) → SearchGives r → IfOk r (λ x. AllByRecursion (λ n. n < length d.found.entries) (items x))

@@ -19,6 +19,7 @@ use Rattle.addr2line_units.specs.FunctionParses.{AreFirstDecided, AreReadBefore,
 use Rattle.addr2line_units.specs.KnownEntries.{knows_at}
 use Rattle.addr2line_units.specs.Loads.{NoneOpen, forget_result, is_open_at, load_result, loads_along}
 use Rattle.addr2line_units.specs.Located.{all_lines}
+use Rattle.addr2line_units.specs.Parsed.{LeadTo}
 use Rattle.addr2line_units.specs.RangedUnits.{IndexedUnit}
 use Rattle.addr2line_units.specs.StaysKnown.{IsReadyAt, StaysKnown}
 use Rattle.addr2line_units.specs.UnitIndex.{UnitIndex, index_units}
@@ -83,8 +84,14 @@ module _ (ranges : List UnitRange) (u : UnitsState) (i : IsContext ranges u) whe
   pub after_forget : (n : ℕ) (now : UnitsState) → left.AfterForget n u now → AfterForget n (seen_context u) (seen_context now)
   after_forget n now a = record { stays = stays_read now a.stays; answers = a.answers; same = a.same; others = a.others; functions = a.functions }
 
-  pub after_preload : (now : UnitsState) → left.AfterListing u now → AfterPreload (seen_context u) (seen_context now)
-  after_preload now a = record { stays = stays_read now a.stays; answers = a.answers; known = a.known; functions = a.functions }
+  pub after_preload : (probe : ℕ) (now : UnitsState) → left.AfterListing (LeadTo (cover probe ranges)) u now → AfterPreload probe (seen_context u) (seen_context now)
+  after_preload probe now a = record {
+    stays = stays_read now a.stays;
+    answers = a.answers;
+    known = a.known;
+    learns = of_made ranges u i (λ s xs rs. (n : ℕ) → (slice_get now.known n ≡ slice_get u.known n) ⊎ LeadTo (cover probe rs) n) a.learns;
+    functions = a.functions;
+  }
 
   module _ (depth : ReadingDepth) (r : Result (Unit {0}) Error) (now : UnitsState) (a : left.AfterReading depth r u now) where
     pub after_parse : AfterParse depth r (seen_context u) (seen_context now)

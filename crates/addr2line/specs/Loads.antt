@@ -16,6 +16,7 @@ use Rattle.addr2line_units.specs.FunctionParseLaws.{IsReached}
 use Rattle.addr2line_units.specs.FunctionParses.{AreFirstDecided, AreReadBefore, AreReadyFor, ReadsNoMemory, answers_after_parse, read_of_units}
 use Rattle.addr2line_units.specs.KnownEntries.{LearnsNoDetails, LearnsNoFunctions, knows_at}
 use Rattle.addr2line_units.specs.Loads.{NoneOpen, forget_result, forgotten, is_open_at}
+use Rattle.addr2line_units.specs.Parsed.{LeadTo}
 use Rattle.gimli_read.specs.Alike.{WasNotRefused}
 use Rattle.addr2line_units.specs.UnitIndex.{UnitIndex, index_units}
 use Rattle.addr2line_units.specs.RangedUnits.{unit_records}
@@ -87,11 +88,14 @@ pub record AfterForget (n : ℕ) (old new : ContextState) : Type 0 where
   pub others : (k : ℕ) → k ≢ n → slice_get new.known k ≡ slice_get old.known k
   pub functions : LearnsNoFunctions old.known new.known
 
--- after loads were listed nothing is changed but that more may be known, and no function of it
-pub record AfterPreload (old new : ContextState) : Type 0 where
+-- after the loads of an address were listed nothing is changed but that more may be known of units
+-- that cover it, and no function of them
+pub record AfterPreload (probe : ℕ) (old new : ContextState) : Type 0 where
   pub stays : StaysRead old new
   pub answers : new.answers ≡ old.answers
   pub known : StaysKnown old.known new.known
+  pub learns : (m : UnitIndex) → index_units old.sections ≡ Ok m → (n : ℕ)
+      → (slice_get new.known n ≡ slice_get old.known n) ⊎ LeadTo (cover probe m.ranges) n
   pub functions : LearnsNoFunctions old.known new.known
 
 -- all is known that a parse of functions reads of all units

@@ -18,7 +18,7 @@ use std::rc::Rc;
 
 impl<R: Reader> Context<R> {
     /// The loads of the open units that cover an address, each once, in the order in which a lookup
-    /// asks the units. Whether a unit is open is read and cached.
+    /// asks the units. Whether a unit is open is read and cached; nothing is read of others.
     ///
     /// `probe` is an address as the file has it. Refused `OutOfMemory` alone; takes no memory where
     /// no unit that covers the address is open. Where none covers it, as at 2^64 - 1, there are no
@@ -33,7 +33,7 @@ impl<R: Reader> Context<R> {
         ensures last { probe ≡ last_address → IsOkAnd result (λ loads. loads.items ≡ []) }
         ensures uncovered { IsUncovered self.old probe
             → IsOkAnd result (λ loads. loads.items ≡ []) }
-        ensures after { AfterPreload self.old self.new }
+        ensures after { AfterPreload probe self.old self.new }
     {
         self.units.preload(self.ranges.find(probe))
     }

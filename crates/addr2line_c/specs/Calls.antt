@@ -110,7 +110,7 @@ pub record ForgetsAnswer (token : ℕ) (old new : OpenFile) (s : Status) : Type 
 -- the loads of an address were asked for
 pub record PreloadsAt (probe : ℕ) (old new : OpenFile) (s : Status) : Type 0 where
   pub gives : PreloadsAs probe old.context old.loads.loads.items new.loads.loads.items s
-  pub after : AfterPreload old.context new.context
+  pub after : AfterPreload probe old.context new.context
   pub others : ChangesLoads old new
 
 -- the lines and the functions of all units were read

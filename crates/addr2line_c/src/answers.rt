@@ -173,7 +173,7 @@ pub(crate) fn preload<R: Reader>(
 ) -> Status
     ensures gives { PreloadsAs probe context.old loads.old.loads.items loads.new.loads.items
         result }
-    ensures after { AfterPreload context.old context.new }
+    ensures after { AfterPreload probe context.old context.new }
 {
     let wanted = match context.preload_units(probe) {
         Ok(wanted) => wanted,

@@ -1,5 +1,5 @@
 -- Answers to the loads of units, and what is cached of their entries (on specs/CachedEntries.antt).
-use Rattle.std.proofs.Common.{◌≡◌, ◌≢◌, ℕ, zero, suc, ◌<◌, Bool, true, false, List, [], ◌∷◌, length, get_or, slice_get, arith, subst, Option, Some, None, Result, Ok, Err, ap, refl, sym, ◌∙◌}
+use Rattle.std.proofs.Common.{◌≡◌, ◌≢◌, ℕ, zero, suc, ◌<◌, Bool, true, false, List, [], ◌∷◌, length, get_or, slice_get, arith, Option, Some, None, Result, Ok, Err, ap, refl, sym, ◌∙◌}
 use Rattle.std.proofs.Math.ListN.{set}
 use Rattle.std.proofs.lemmas.List.{set-get_or}
 use Rattle.std.specs.Prelude.{IfErr, IfOk, IfSome, OnOk, is_none, is_some, if◌then◌else◌}
@@ -7,7 +7,7 @@ use Rattle.gimli_read.specs.declared.error.Error.{Error}
 use Rattle.gimli_read.specs.declared.error.Error.TheVariants.{OutOfMemory}
 use Rattle.gimli.specs.Sections.{Sections}
 use Rattle.gimli.specs.Unit.{UnitRecord}
-use Rattle.addr2line_lines.specs.References.{FileRecord, Scope}
+use Rattle.addr2line_lines.specs.References.{Scope}
 use Rattle.addr2line_units.specs.declared.functions.LazyFunctions.{LazyFunctions}
 use Rattle.addr2line_units.specs.declared.functions.LazyFunctions.TheVariants as lazy
 use Rattle.addr2line_units.specs.declared.unit_frames.UnitCache.{UnitCache}
@@ -132,13 +132,6 @@ answered_all d us vs n u v w given h k e f new =
   where
     answers_by : Option UnitRecord → FirstAnswers
     answers_by o = elim o [ None ↦ answers_in vs | Some x ↦ set (answers_in vs) n (decided_answer d x (answer_of (answers_in vs) n) given) ]
-
--- where references lead is the same by equal lists of units and equal supplementary files
-pub in_same_scope : {R : Type 0} (d : Sections) (us vs : List UnitRecord) (f h : Option FileRecord) (u : UnitRecord) (v : UnitEntries R) → us ≡ vs → f ≡ h
-    → AreEntriesOf (record { file = record { sections = d; units = us }; sup = f }) u v → AreEntriesOf (record { file = record { sections = d; units = vs }; sup = h }) u v
-in_same_scope {R} d us vs f h u v e k own =
-    subst (λ x. AreEntriesOf {R = R} (record { file = record { sections = d; units = vs }; sup = x }) u v) k
-    (subst (λ xs. AreEntriesOf {R = R} (record { file = record { sections = d; units = xs }; sup = f }) u v) e own)
 
 -- the same after a call that may be refused
 pub answered_if_ok : {R : Type 0} (d : Sections) (us : List UnitRecord) (vs : List (UnitCache R)) (n : ℕ) (u : UnitRecord) (v w : UnitCache R) (given : Option Sections) (r : Result (Unit {0}) Error)

@@ -100,14 +100,6 @@ module _ {R : Type 0} where
   stay_entries [] = tt
   stay_entries (v ∷ vs) = (entries_same v.entries, stay_entries vs)
 
-  pub stay_entries_over : (vs ws xs : List (UnitCache R)) → StayAllEntries vs ws → StayAllEntries ws xs → StayAllEntries vs xs
-  stay_entries_over [] [] [] a b = tt
-  stay_entries_over [] [] (x ∷ xs) a b = absurd b
-  stay_entries_over [] (w ∷ ws) xs a b = absurd a
-  stay_entries_over (v ∷ vs) [] xs a b = absurd a
-  stay_entries_over (v ∷ vs) (w ∷ ws) [] a b = absurd b
-  stay_entries_over (v ∷ vs) (w ∷ ws) (x ∷ xs) a b = (entries_on v.entries w.entries x.entries a.0 b.0, stay_entries_over vs ws xs a.1 b.1)
-
   -- those of one unit are others, which stay
   pub stay_entries_set : (vs : List (UnitCache R)) (n : ℕ) (v w : UnitCache R) → n < length vs → v ≡ get_or vs n v → StayEntries v.entries w.entries → StayAllEntries vs (set vs n w)
   stay_entries_set [] n v w h e k = absurd (omega arith)

@@ -215,7 +215,7 @@ unread_has_none {R = R} s lazy.Unread e = by s
     by (states.Answered a) = of_answer a.unit
 
 -- what is known of a unit is what was, or no function of it is
-abbrev UnitLearnsNone : {R : Type 0} → UnitEntries R → UnitEntries R → Type 0
+abbrev pub UnitLearnsNone : {R : Type 0} → UnitEntries R → UnitEntries R → Type 0
 UnitLearnsNone v w = (known_by w.view.state w.functions ≡ known_by v.view.state v.functions) ⊎ HasNoFunctions (known_by w.view.state w.functions)
 
 decided_or_unread : {R : Type 0} (scope : Scope) (u : UnitRecord) (v w : UnitEntries R) → AreEntriesOf scope u v → w.functions ≡ v.functions → (is_decided v.view.state ≡ true → known_by w.view.state w.functions ≡ known_by v.view.state v.functions) → UnitLearnsNone v w

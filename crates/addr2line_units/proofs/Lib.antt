@@ -44,6 +44,7 @@ pub mod ReadByLemmas
 pub mod StateLemmas
 pub mod LinesAtLemmas
 pub mod LineWalkLemmas
+pub mod ListingLemmas
 pub mod NewUnitsLemmas
 pub mod AskLemmas
 pub mod WalkedLemmas

@@ -12,16 +12,15 @@ use Rattle.gimli_read.specs.Section.{Section}
 use Rattle.gimli.specs.declared.unit.DwoId.{DwoId}
 use Rattle.gimli.specs.Sections.{Sections}
 use Rattle.gimli.specs.Unit.{UnitRecord}
-use Rattle.addr2line_units.specs.declared.index.UnitRange.{UnitRange}
 use Rattle.addr2line_units.specs.declared.unit_frames.UnitCache.{UnitCache}
 use Rattle.addr2line_units.specs.FramesLookup.{answer_of, with_answer}
 use Rattle.addr2line_units.specs.CachedEntries.{first_answer_of}
-use Rattle.addr2line_units.specs.CachedUnits.{StayAllEntries, answers_in, decided_at}
-use Rattle.addr2line_units.specs.CachedViews.{is_decided, parts_or_fault}
+use Rattle.addr2line_units.specs.CachedUnits.{answers_in}
+use Rattle.addr2line_units.specs.CachedViews.{parts_or_fault}
 use Rattle.addr2line_units.specs.ListedLoads.{MarksLoad, MarksUnit, if_new, is_marked, is_new}
-use Rattle.addr2line_units.specs.Loads.{before_others, forget_result, is_of_other, load_of_number, load_result, loads_along, unit_of_token, view_fault}
+use Rattle.addr2line_units.specs.Loads.{before_others, forget_result, is_of_other, load_of_number, load_result, unit_of_token, view_fault}
 use Rattle.addr2line_units.specs.Views.{FirstAnswers, SplitLoad, View, awaited_by, awaited_load, decided_answer, is_open, load_by, load_of_unit, split_name_of, verdict, verdict_by}
-use Rattle.addr2line_units.proofs.AnswerLemmas.{answer_at, decided_was_looked_at}
+use Rattle.addr2line_units.proofs.AnswerLemmas.{answer_at}
 
 -- a view with a unit has no fault
 pub no_view_fault : (w : Option (Result View Error)) (p : Sections × UnitRecord) → IfSome w (λ r. parts_or_fault r ≡ Ok p) → view_fault w ≡ Ok tt
@@ -222,24 +221,3 @@ no_load d us answers n e = by (slice_get us n) e
     by : (o : Option UnitRecord) → o ≡ None → ◌≡◌ {A = Option SplitLoad} (elim o [ None ↦ None | Some x ↦ awaited_load d n x (answer_of answers n) ]) None
     by None k = refl
     by (Some x) k = absurd cc
-
-pub found_same : {L : Type 0} (a b : Option L) → ◌≡◌ {A = Result (Option L) Error} (Ok a) (Ok b) → a ≡ b
-found_same a b e = cc
-
--- one more load along ranges
-pub listed_step : (listed : List SplitLoad) (d : Sections) (us : List UnitRecord) (answers later : FirstAnswers) (r : UnitRange) (old now : List Bool)
-    (rest ranges : List UnitRange) (all : List SplitLoad) (found : Option SplitLoad) → later ≡ answers → ranges ≡ r ∷ rest → found ≡ if_new old (load_of_number d us later r.unit)
-    → MarksLoad (load_of_number d us later r.unit) old now → listed ++ filter (is_new old) (loads_along (load_of_number d us answers) ranges) ≡ all
-    → (listed ++ option_to_list found) ++ filter (is_new now) (loads_along (load_of_number d us answers) rest) ≡ all
-listed_step listed d us answers later r old now rest ranges all found e steps f m h =
-    listed_more listed (load_of_number d us answers r.unit) old now (loads_along (load_of_number d us answers) rest) all found
-    (f ∙ ap (λ a. if_new old (load_of_number d us a r.unit)) e)
-    (subst (λ a. MarksLoad (load_of_number d us a r.unit) old now) e m)
-    (subst (λ rs. listed ++ filter (is_new old) (loads_along (load_of_number d us answers) rs) ≡ all) steps h)
-
--- what was decided is decided where more is cached
-pub decided_stays : {R : Type 0} (vs ws : List (UnitCache R)) (n : ℕ) → StayAllEntries vs ws → decided_at vs n ≡ true → decided_at ws n ≡ true
-decided_stays [] ws n a h = absurd cc
-decided_stays (v ∷ vs) [] n a h = absurd a
-decided_stays (v ∷ vs) (w ∷ ws) zero a h = ap (λ x. is_decided x.state) (a.0.view (decided_was_looked_at v.entries.view.state h)) ∙ h
-decided_stays (v ∷ vs) (w ∷ ws) (suc n) a h = decided_stays vs ws n a.1 h

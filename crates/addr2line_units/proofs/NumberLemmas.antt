@@ -1,7 +1,8 @@
--- What is answered, loaded and forgotten of the unit of a number (on specs/AfterUnits.antt and
--- specs/StoredUnits.antt).
+-- What is answered, loaded, listed and forgotten of the unit of a number (on
+-- specs/AfterUnits.antt and specs/StoredUnits.antt).
 use Rattle.std.proofs.Common.{◌≡◌, inl, inr, ℕ, ◌<◌, ◌≤◌, Bool, true, false, List, length, get_or, slice_get, Option, Some, None, Result, Ok, Err, refl, sym, ap, subst, ◌∙◌, arith}
 use Rattle.std.proofs.Math.ListN.{set}
+use Rattle.std.proofs.lemmas.Bool.{cases_eq}
 use Rattle.std.proofs.lemmas.Option.{get_or_from_slice_get, slice_get_within}
 use Rattle.std.specs.Prelude.{IfErr, OnOk, is_some}
 use Rattle.gimli_read.specs.declared.error.Error.{Error}
@@ -14,7 +15,7 @@ use Rattle.addr2line_units.specs.declared.frames_lookup.FramesStop.{FramesStop}
 use Rattle.addr2line_units.specs.declared.frames_lookup.FramesStop.TheVariants as stops
 use Rattle.addr2line_units.specs.declared.unit_frames.UnitCache.{UnitCache}
 use Rattle.addr2line_units.specs.declared.unit_frames.UnitEntries.{UnitEntries}
-use Rattle.addr2line_units.specs.AfterUnits.{AfterAnswer, AfterForget, AfterLoad}
+use Rattle.addr2line_units.specs.AfterUnits.{AfterAnswer, AfterForget, AfterListing, AfterLoad}
 use Rattle.addr2line_units.specs.CachedEntries.{AreEntriesOf, StayEntries, first_answer_of}
 use Rattle.addr2line_units.specs.CachedFunctions.{were_read}
 use Rattle.addr2line_units.specs.CachedKnown.{known_in}
@@ -23,17 +24,17 @@ use Rattle.addr2line_units.specs.CachedUnits.{HaveEntriesOf, HaveSameLines, answ
 use Rattle.addr2line_units.specs.CachedViews.{is_decided}
 use Rattle.addr2line_units.specs.FramesLookup.{FindsNothing, LookupStop, answer_of}
 use Rattle.addr2line_units.specs.KnownEntries.{LearnsNoFunctions}
-use Rattle.addr2line_units.specs.Loads.{load_result, view_fault}
+use Rattle.addr2line_units.specs.Loads.{is_open_at, load_of_number, load_result, view_fault}
 use Rattle.addr2line_units.specs.StoredUnits.{AreUnits, seen_units}
 use Rattle.addr2line_units.specs.UnitsState.{UnitsState}
-use Rattle.addr2line_units.specs.Views.{decided_answer, is_open, verdict}
+use Rattle.addr2line_units.specs.Views.{awaited_load, decided_answer, is_open, verdict}
 use Rattle.addr2line_units.proofs.AnswerLemmas.{answer_at, answered_if_ok, answers_if_refused, answers_set, decided_there, others_stay, same_set}
-use Rattle.addr2line_units.proofs.CachedUnitLemmas.{as_many_entries, cache_set, entries_at, entries_right, entries_set, lines_right, same_lines_set}
-use Rattle.addr2line_units.proofs.LearnedLemmas.{answered_learns, forgotten_learns, set_learns}
-use Rattle.addr2line_units.proofs.LoadLemmas.{as_many_answers, past_set, slice_get_none, this_unit, unknown_answer, unknown_load}
+use Rattle.addr2line_units.proofs.CachedUnitLemmas.{as_many_entries, cache_set, entries_at, entries_right, entries_set, lines_right, same_lines_set, stay_entries_set}
+use Rattle.addr2line_units.proofs.LearnedLemmas.{UnitLearnsNone, answered_learns, forgotten_learns, set_learns}
+use Rattle.addr2line_units.proofs.LoadLemmas.{as_many_answers, load_there, past_set, slice_get_none, this_unit, unknown_answer, unknown_load}
 use Rattle.addr2line_units.proofs.OpenLemmas.{not_open_there}
 use Rattle.addr2line_units.proofs.UnitsLemmas.{own_at}
-use Rattle.addr2line_units.proofs.StateLemmas.{after_answer, after_forget, after_load}
+use Rattle.addr2line_units.proofs.StateLemmas.{after_answer, after_forget, after_listing, after_load}
 
 -- the unit of a number
 module _ {R : Type 0} (scope : Scope) (held : List (UnitCache R)) (last : FramesStop) (i : AreUnits scope held last) (n : ℕ) where
@@ -116,6 +117,13 @@ module _ {R : Type 0} (scope : Scope) (held : List (UnitCache R)) (last : Frames
           ap (λ r. r >>= λ x. view_fault (verdict d x (decided_answer d x (answer_of (answers_in held) n) given))) (this_unit us n u there)
           ∙ ap (λ a. view_fault (verdict d u (decided_answer d u a given))) answer_is
 
+      -- its load, and whether it is open
+      pub load_listed : load_of_number d us (answers_in held) n ≡ awaited_load d n u (first_answer_of v)
+      load_listed = load_there d us held n u c there in_entries at
+
+      pub shut_there : is_open_at d us (answers_in held) n ≡ false → is_open d u (first_answer_of v) ≡ false
+      shut_there = not_open_there d us held n u c there in_entries at
+
       pub refused_told : (given : Option Sections) (r : Result (Unit {0}) Error) → IfErr r (λ e. view_fault (verdict d u (decided_answer d u (first_answer_of v) given)) ≡ Err e) → IfErr r (λ e. load_result d us (answers_in held) n given ≡ Err e)
       refused_told given (Ok x) h = tt
       refused_told given (Err e) h = load_is given ∙ h
@@ -142,6 +150,12 @@ module _ {R : Type 0} (scope : Scope) (held : List (UnitCache R)) (last : Frames
         pub fault_told : (given : Option Sections) (r : Result (Unit {0}) Error) → r ≡ view_fault (verdict d u (decided_answer d u (first_answer_of v) given)) → r ≡ load_result d us (answers_in held) n given
         fault_told given r e = e ∙ sym (load_is given)
 
+        -- its load was listed
+        pub listed_there : (looks : ℕ) (was : LookupStop) → StayEntries v w → UnitLearnsNone v w → AfterListing (λ k. k ≡ n) (seen_units scope held looks was) (seen_units scope now looks FindsNothing)
+        listed_there looks was stay none = after_listing scope held own_all now same_lines_now looks was (λ k. k ≡ n) (stay_entries_set held n c with_entries in_entries at stay)
+            (λ k. elim (cases_eq k n) [ inl is ↦ inr is | inr ne ↦ inl (others_stay held n k with_entries ne) ])
+            (set_learns held n c with_entries in_entries at none)
+
         module _ (given : Option Sections) (b : Bool) (some : is_some given ≡ b) (looks : ℕ) (was : LookupStop) where
           abbrev old : UnitsState
           old = seen_units scope held looks was
@@ -163,7 +177,7 @@ module _ {R : Type 0} (scope : Scope) (held : List (UnitCache R)) (last : Frames
             answered_there r answer refused shut = after_answer scope held own_all now same_lines_now looks was n (λ k ne. others_stay held n k with_entries ne) same_decided many given r (λ h. some ∙ h)
                 (answered_if_ok d us held n u c with_entries given r within in_entries unit at answer)
                 (answers_if_refused held n c with_entries r (b ≡ true) in_entries at refused) learns
-                (λ h. shut (not_open_there d us held n u c there in_entries at h))
+                (λ h. shut (shut_there h))
 
             -- the answer was given
             pub loaded_there : (r : Result (Unit {0}) Error) → first_answer_of w ≡ decided_answer d u (first_answer_of v) given → r ≡ view_fault (verdict d u (first_answer_of w)) → AfterLoad n given r old new
@@ -178,7 +192,7 @@ module _ {R : Type 0} (scope : Scope) (held : List (UnitCache R)) (last : Frames
             refused_there e refused shut =
                 let r = answers_if_refused held n c with_entries (Err e) (b ≡ true) in_entries at refused in
                 after_load scope held own_all now same_lines_now looks was n (λ k ne. others_stay held n k with_entries ne) same_decided many given (Err e) (λ told. absurd (told refused.0)) (inl r.1) (λ ne. (r.1, r.2))
-                (λ h. absurd (let no = shut (not_open_there d us held n u c there in_entries at h) in cc))
+                (λ h. absurd (let no = shut (shut_there h) in cc))
                 (λ none. absurd (let f : false ≡ true = ap is_some (sym none) ∙ some ∙ refused.2 in cc)) learns
 
         pub forgotten_there : (looks : ℕ) (was : LookupStop) → first_answer_of w ≡ None → (first_answer_of v ≡ None → w ≡ v) → (is_some (first_answer_of v) ≡ true → were_read w.functions ≡ false) → AfterForget n (seen_units scope held looks was) (seen_units scope now looks FindsNothing)

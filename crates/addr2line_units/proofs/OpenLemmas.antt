@@ -1,19 +1,18 @@
 -- Units that aren't open (on specs/Loads.antt).
-use Rattle.std.proofs.Common.{◌≡◌, ℕ, get_or, Bool, true, false, List, ◌∷◌, length, ◌<◌, slice_get, Option, Some, None, sym, subst, ap, ◌∙◌}
+use Rattle.std.proofs.Common.{◌≡◌, ℕ, get_or, Bool, true, false, List, length, ◌<◌, slice_get, Option, Some, None, sym, ap, ◌∙◌}
 use Rattle.std.specs.Prelude.{unwrap_or}
 use Rattle.gimli.specs.Sections.{Sections}
 use Rattle.gimli.specs.Unit.{UnitRecord}
-use Rattle.addr2line_units.specs.declared.index.UnitRange.{UnitRange}
 use Rattle.addr2line_units.specs.declared.unit_frames.UnitCache.{UnitCache}
 use Rattle.addr2line_units.specs.declared.view.UnitView.{UnitView}
 use Rattle.addr2line_units.specs.FramesLookup.{answer_of}
 use Rattle.addr2line_units.specs.CachedEntries.{first_answer_of}
-use Rattle.addr2line_units.specs.CachedUnits.{StayAllEntries, answers_in}
+use Rattle.addr2line_units.specs.CachedUnits.{answers_in}
 use Rattle.addr2line_units.specs.CachedViews.{IsViewOf, seen_first_answer, waits, was_looked_at}
-use Rattle.addr2line_units.specs.Loads.{NoneOpen, is_open_at}
+use Rattle.addr2line_units.specs.Loads.{is_open_at}
 use Rattle.addr2line_units.specs.Views.{is_open}
 use Rattle.addr2line_units.proofs.AnswerLemmas.{open_by_look}
-use Rattle.addr2line_units.proofs.CachedUnitLemmas.{answer_at, same_answers}
+use Rattle.addr2line_units.proofs.CachedUnitLemmas.{answer_at}
 
 -- the unit of a number among those of the context
 pub not_open_there : {R : Type 0} (d : Sections) (us : List UnitRecord) (vs : List (UnitCache R)) (n : ℕ) (u : UnitRecord) (v : UnitCache R) → slice_get us n ≡ Some u → n < length vs → v ≡ get_or vs n v → is_open_at d us (answers_in vs) n ≡ false → is_open d u (first_answer_of v.entries) ≡ false
@@ -28,9 +27,3 @@ pub waits_only_open : {R : Type 0} (d : Sections) (u : UnitRecord) (v w : UnitVi
 waits_only_open d u v w own looked same waiting not_open =
     let f : ◌≡◌ {A = Bool} true false = sym (open_by_look d u v w true own looked same waiting) ∙ not_open in
     cc
-
--- the first unit along ranges, by what is cached later
-pub first_not_open : {R : Type 0} (d : Sections) (us : List UnitRecord) (vs ws : List (UnitCache R)) (ranges : List UnitRange) (r : UnitRange) (rest : List UnitRange) → ranges ≡ r ∷ rest → StayAllEntries vs ws → NoneOpen d us (answers_in vs) ranges
-    → is_open_at d us (answers_in ws) r.unit ≡ false
-first_not_open d us vs ws ranges r rest steps stay all =
-    subst (λ a. is_open_at d us a r.unit ≡ false) (sym (same_answers vs ws stay)) (subst (NoneOpen d us (answers_in vs)) steps all).0

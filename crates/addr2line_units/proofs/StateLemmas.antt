@@ -229,8 +229,14 @@ module _ {R : Type 0} (scope : Scope) (held : List (UnitCache R)) where
       functions = functions;
     }
 
-    pub after_listing : StayAllEntries held entries → LearnsNoFunctions (known_in held) (known_in entries) → AfterListing old new
-    after_listing stay functions = record { stays = only_entries; answers = same_answers held entries stay; known = stays_known held entries stay; functions = functions }
+    pub after_listing : (asks : ℕ → Type 0) → StayAllEntries held entries → ((k : ℕ) → (slice_get entries k ≡ slice_get held k) ⊎ asks k) → LearnsNoFunctions (known_in held) (known_in entries) → AfterListing asks old new
+    after_listing asks stay only functions = record {
+      stays = only_entries;
+      answers = same_answers held entries stay;
+      known = stays_known held entries stay;
+      learns = λ k. elim (only k) [ inl same ↦ inl (known_unchanged held entries k same) | inr q ↦ inr q ];
+      functions = functions;
+    }
 
     pub after_reading : (depth : ReadingDepth) (result : Result (Unit {0}) Error) → HaveEntriesOf scope us entries → (WasNotRefused result → answers_in entries ≡ answers_after_parse depth scope us (answers_in held)) → AreFirstDecided depth scope us (answers_in held) (answers_in entries)
         → StayDecided held entries → ChangesOnly (AreReadBefore depth scope us (answers_in held)) held entries → OnOk result (HaveRead depth entries) → (HaveRead depth held → result ≡ Ok tt)

@@ -159,12 +159,13 @@ pub record AfterForget (n : ℕ) (old new : UnitsState) : Type 0 where
   pub others : (k : ℕ) → k ≢ n → slice_get new.known k ≡ slice_get old.known k
   pub functions : LearnsNoFunctions old.known new.known
 
--- after loads were listed nothing is changed but that more may be known, and no function of it, and
--- that what the last lookup came to is forgotten
-pub record AfterListing (old new : UnitsState) : Type 0 where
+-- after the loads of units were listed nothing is changed but that more may be known of those units,
+-- and no function of them, and that no lookup of frames is stored
+pub record AfterListing (asks : ℕ → Type 0) (old new : UnitsState) : Type 0 where
   pub stays : StayRead old new
   pub answers : new.answers ≡ old.answers
   pub known : StaysKnown old.known new.known
+  pub learns : (n : ℕ) → (slice_get new.known n ≡ slice_get old.known n) ⊎ asks n
   pub functions : LearnsNoFunctions old.known new.known
 
 -- after a parse of all functions open units are decided by none, up to the first fault; where

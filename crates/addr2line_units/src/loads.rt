@@ -1,7 +1,6 @@
 //! Answers to the loads of units that no lookup waits for, and the loads that an address waits for.
 
-ghost use Rattle.std.specs.Prelude.{◌≡◌, ◌⊎◌, ◌++◌, ◌<◌, IfErr, IfOk, IsOk, None, Ok, OnOk, Some, false, length, not, option_map, slice_get, true};
-ghost use Rattle.std.specs.List.{AllByRecursion};
+ghost use Rattle.std.specs.Prelude.{◌≡◌, ◌⊎◌, ◌++◌, ◌<◌, IfErr, IfOk, IsOk, None, Ok, OnOk, false, length, not, option_map, true};
 ghost use Rattle.std.specs.Option.{option_to_list};
 ghost use Rattle.gimli_read.specs.declared.error.Error.TheVariants.{OutOfMemory};
 ghost use Rattle.gimli_read.specs.Reading.{IsUnlessOom};
@@ -9,26 +8,23 @@ ghost use Rattle.addr2line_lines.specs.SeenScope.{seen_scope};
 ghost use Rattle.addr2line_units.specs.AnswerMemory.{answer_takes_memory};
 ghost use Rattle.addr2line_units.specs.AfterUnits.{AfterForget, AfterListing, AfterLoad};
 ghost use Rattle.addr2line_units.specs.CachedEntries.{AreEntriesOf, StayEntries, first_answer_of};
-ghost use Rattle.addr2line_units.specs.CachedUnits.{HaveEntriesOf, HaveSameLines, StayAllEntries, answers_in, decided_at};
-ghost use Rattle.addr2line_units.specs.CachedKnown.{known_by, known_in};
+ghost use Rattle.addr2line_units.specs.CachedKnown.{known_by};
 ghost use Rattle.addr2line_units.specs.CachedViews.{is_decided};
-ghost use Rattle.addr2line_units.specs.KnownEntries.{HasNoFunctions, LearnsNoFunctions};
+ghost use Rattle.addr2line_units.specs.KnownEntries.{HasNoFunctions};
 ghost use Rattle.addr2line_units.specs.ListedLoads.{MarksLoad, MarksUnit, if_new, is_marked};
 ghost use Rattle.addr2line_units.specs.Loads.{NoneOpen, forget_result, is_open_at, load_of_number, load_result, loads_along, view_fault};
+ghost use Rattle.addr2line_units.specs.Parsed.{LeadTo};
 ghost use Rattle.addr2line_units.specs.UnitRangesLeft.{ranges_left};
 ghost use Rattle.addr2line_units.specs.Views.{awaited_load, is_open, verdict};
-ghost use Rattle.addr2line_units.specs.SeenUnit.{scope_in};
 
 use crate::frames_lookup::FramesStop;
 use crate::range_iter::UnitRangeIter;
-use crate::sup::SupUnits;
-use crate::unit_frames::{UnitCache, UnitEntries};
+use crate::unit_frames::UnitEntries;
 use crate::units::Units;
 use crate::view::{SplitDwarfLoad, UnitToken};
-use addr2line_lines::{FileUnits, Scope};
+use addr2line_lines::Scope;
 use gimli::read::{Error, Reader};
 use gimli::{Dwarf, Unit};
-use std::alloc::Global;
 use std::rc::Rc;
 
 impl<R: Reader> UnitEntries<R> {
@@ -131,7 +127,6 @@ impl<R: Reader> UnitEntries<R> {
         ensures marked { OnOk result (MarksLoad
             (awaited_load dwarf.now.value number dw_unit.now (first_answer_of self.old))
             marks.old.items marks.new.items) }
-        ensures decided { is_decided self.old.view.state ≡ true → result ≡ Ok None }
         ensures not_open { is_open dwarf.now.value dw_unit.now (first_answer_of self.old) ≡ false
             → result ≡ Ok None }
         ensures refused { IfErr result (λ e. e ≡ OutOfMemory) }
@@ -153,47 +148,6 @@ impl<R: Reader> UnitEntries<R> {
     }
 }
 
-// The load of the unit of a number, as `UnitEntries::new_load` has it; none where there is no such
-// unit.
-fn new_load_at<R: Reader>(
-    dwarf: &Rc<Dwarf<R>>,
-    dw_units: &[Unit<R>],
-    sup: &SupUnits<R>,
-    caches: &mut Vec<UnitCache<R>>,
-    marks: &mut Vec<bool>,
-    number: usize,
-) -> Result<Option<SplitDwarfLoad<R>>, Error>
-    requires right { HaveEntriesOf (scope_in dwarf.now.value dw_units.now sup.now) dw_units.now
-        caches.old.items }
-    ensures gives { IfOk result (λ load. load ≡ if_new marks.old.items
-        (load_of_number dwarf.now.value dw_units.now (answers_in caches.old.items) number)) }
-    ensures marked { OnOk result (MarksLoad
-        (load_of_number dwarf.now.value dw_units.now (answers_in caches.old.items) number)
-        marks.old.items marks.new.items) }
-    ensures decided { decided_at caches.old.items number ≡ true → result ≡ Ok None }
-    ensures not_open { is_open_at dwarf.now.value dw_units.now (answers_in caches.old.items) number
-        ≡ false → result ≡ Ok None }
-    ensures refused { IfErr result (λ e. e ≡ OutOfMemory) }
-    ensures right { HaveEntriesOf (scope_in dwarf.now.value dw_units.now sup.now) dw_units.now
-        caches.new.items }
-    ensures lines { HaveSameLines caches.old.items caches.new.items }
-    ensures stay { StayAllEntries caches.old.items caches.new.items }
-    ensures functions { LearnsNoFunctions (known_in caches.old.items) (known_in caches.new.items) }
-{
-    let Some(dw_unit) = dw_units.get(number) else {
-        return Ok(None);
-    };
-    let scope = Scope {
-        file: FileUnits {
-            dwarf,
-            units: dw_units,
-        },
-        sup: sup.file(),
-    };
-    let cache = &mut caches[number];
-    cache.entries.new_load(dwarf, scope, dw_unit, marks, number)
-}
-
 // Adds a load, if there is one. Refused `OutOfMemory` alone, and only where there is one.
 fn push_if<R: Reader>(
     loads: &mut Vec<SplitDwarfLoad<R>>,
@@ -209,65 +163,58 @@ fn push_if<R: Reader>(
     Ok(())
 }
 
-// The loads of the open units that ranges lead to, each once, in the order of its first range.
-// Whether a unit is open is read, unless that was done.
-//
-// Refused `OutOfMemory` alone, and not where none of these units is open.
-fn read_loads<R: Reader>(
-    alloc: Global,
-    dwarf: &Rc<Dwarf<R>>,
-    dw_units: &[Unit<R>],
-    sup: &SupUnits<R>,
-    caches: &mut Vec<UnitCache<R>>,
-    mut ranges: UnitRangeIter<'_>,
-) -> Result<Vec<SplitDwarfLoad<R>>, Error>
-    requires right { HaveEntriesOf (scope_in dwarf.now.value dw_units.now sup.now) dw_units.now
-        caches.old.items }
-    ensures gives { IfOk result (λ loads. loads.items ≡ loads_along
-        (load_of_number dwarf.now.value dw_units.now (answers_in caches.old.items))
-        (ranges_left ranges.entry)) }
-    ensures refused { IfErr result (λ e. e ≡ OutOfMemory) }
-    ensures memory { AllByRecursion (λ r. decided_at caches.old.items r.unit ≡ true)
-        (ranges_left ranges.entry) → IsOk result }
-    ensures none_open { NoneOpen dwarf.now.value dw_units.now (answers_in caches.old.items)
-        (ranges_left ranges.entry) → IsOk result }
-    ensures right { HaveEntriesOf (scope_in dwarf.now.value dw_units.now sup.now) dw_units.now
-        caches.new.items }
-    ensures lines { HaveSameLines caches.old.items caches.new.items }
-    ensures stay { StayAllEntries caches.old.items caches.new.items }
-    ensures functions { LearnsNoFunctions (known_in caches.old.items) (known_in caches.new.items) }
-{
-    let mut loads = Vec::new(alloc);
-    let mut marks = Vec::new(alloc);
-    while let Some(range) = ranges.next() {
-        let load = new_load_at(dwarf, dw_units, sup, caches, &mut marks, range.unit)?;
-        push_if(&mut loads, load)?;
-    }
-    Ok(loads)
-}
-
 impl<R: Reader> Units<R> {
+    // The load of the unit of a number, as `UnitEntries::new_load` has it; none where there is no
+    // such unit.
+    fn new_load_at(
+        &mut self,
+        marks: &mut Vec<bool>,
+        number: usize,
+    ) -> Result<Option<SplitDwarfLoad<R>>, Error>
+        ensures gives { IfOk result (λ load. load ≡ if_new marks.old.items (load_of_number
+            self.old.scope.file.sections self.old.scope.file.units self.old.answers number)) }
+        ensures marked { OnOk result (MarksLoad (load_of_number self.old.scope.file.sections
+            self.old.scope.file.units self.old.answers number) marks.old.items marks.new.items) }
+        ensures not_open { is_open_at self.old.scope.file.sections self.old.scope.file.units
+            self.old.answers number ≡ false → result ≡ Ok None }
+        ensures refused { IfErr result (λ e. e ≡ OutOfMemory) }
+        ensures after { AfterListing (λ n. n ≡ number) self.old self.new }
+    {
+        self.stop = FramesStop::FindsNothing;
+        let sources = &self.sources;
+        let scope = sources.scope();
+        let Some(dw_unit) = scope.file.units.get(number) else {
+            return Ok(None);
+        };
+        let cache = &mut self.caches[number];
+        cache
+            .entries
+            .new_load(&sources.dwarf, scope, dw_unit, marks, number)
+    }
+
     /// The loads of the open units that ranges lead to, each once, in the order of its first range.
-    /// Whether a unit is open is read and cached.
+    /// Whether a unit is open is read and cached; nothing is read of others.
     ///
     /// Refused `OutOfMemory` alone, and not where none of these units is open.
-    pub fn preload(&mut self, ranges: UnitRangeIter<'_>) -> Result<Vec<SplitDwarfLoad<R>>, Error>
+    pub fn preload(
+        &mut self,
+        mut ranges: UnitRangeIter<'_>,
+    ) -> Result<Vec<SplitDwarfLoad<R>>, Error>
         ensures gives { IfOk result (λ loads. loads.items ≡ loads_along (load_of_number
             self.old.scope.file.sections self.old.scope.file.units self.old.answers)
             (ranges_left ranges.entry)) }
         ensures refused { IfErr result (λ e. e ≡ OutOfMemory) }
         ensures none_open { NoneOpen self.old.scope.file.sections self.old.scope.file.units
             self.old.answers (ranges_left ranges.entry) → IsOk result }
-        ensures after { AfterListing self.old self.new }
+        ensures after { AfterListing (LeadTo (ranges_left ranges.entry)) self.old self.new }
     {
-        self.stop = FramesStop::FindsNothing;
-        read_loads(
-            self.alloc,
-            &self.sources.dwarf,
-            &self.sources.units,
-            &self.sources.sup,
-            &mut self.caches,
-            ranges,
-        )
+        self.reset();
+        let mut loads = Vec::new(self.alloc);
+        let mut marks = Vec::new(self.alloc);
+        while let Some(range) = ranges.next() {
+            let load = self.new_load_at(&mut marks, range.unit)?;
+            push_if(&mut loads, load)?;
+        }
+        Ok(loads)
     }
 }

@@ -21,7 +21,8 @@ returns-clause-gives g c =
 pub returns-clause-after : goal.returns-clause-after
 returns-clause-after g c =
     let s = c.self.inside in
-    rw (sym c.self.view_is) (after_preload s.ranges s.units c.self.invariant c.preload.new.self c.preload.ensures.after)
+    let e = rw c.find.ensures.gives at c.preload.ensures in
+    rw (sym c.self.view_is) (after_preload s.ranges s.units c.self.invariant c.args.probe c.preload.new.self e.after)
 
 pub returns-clause-memory : goal.returns-clause-memory
 returns-clause-memory g c =

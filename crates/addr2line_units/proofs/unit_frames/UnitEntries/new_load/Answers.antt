@@ -1,8 +1,8 @@
-use Rattle.std.proofs.Common.{◌≡◌, ◌∙◌, None, Some, ap, false, is_some, not, refl, rules, subst, sym, true}
+use Rattle.std.proofs.Common.{◌≡◌, ◌∙◌, None, Some, ap, false, is_some, not, rules, subst, sym, true}
 use Rattle.addr2line_units.specs.CachedEntries.{first_answer_of}
 use Rattle.addr2line_units.specs.ListedLoads.{if_new, is_marked}
 use Rattle.addr2line_units.specs.Views.{awaited_load, is_open}
-use Rattle.addr2line_units.proofs.AnswerLemmas.{never_waits, no_answer, open_by_look}
+use Rattle.addr2line_units.proofs.AnswerLemmas.{no_answer, open_by_look}
 use Rattle.addr2line_units.proofs.LoadLemmas.{awaited_unit, awaits_this, is_new_load, marks_load, marks_none, not_new, open_awaits}
 use Rattle.addr2line_units.proofs.OpenLemmas.{waits_only_open}
 use Rattle.addr2line_lines.specs.SeenScope.{seen_scope}
@@ -77,10 +77,6 @@ returns-clause-marked g c =
     let some : is_some (awaited_load e n u (first_answer_of s)) ≡ true = sym (open_awaits e n u (first_answer_of s)) ∙ subst (λ x. is_open x u (first_answer_of s) ≡ true) c.requires.same was in
     marks_load c.args.marks.now.items n c.mark_unit.new.marks.items (awaited_load e n u (first_answer_of s)) some (awaited_unit e n u (first_answer_of s)) c.in_ok-mark_unit.ensures.marked
 
-pub returns-clause-decided : goal.returns-clause-decided
-returns-clause-decided g c h =
-    absurd (never_waits c.args.self.now c.check_split.new.self true h c.check_split.ensures.same (search rules) refl)
-
 pub returns-in_err-mark_unit-clause-not_open : goal.returns-in_err-mark_unit-clause-not_open
 returns-in_err-mark_unit-clause-not_open g c h =
     absurd (waits_only_open c.args.scope.file.dwarf.now c.args.dw_unit.now c.args.self.now.view c.check_split.new.self.view c.check_split.ensures.right.view c.check_split.ensures.looked c.check_split.ensures.stay.answer (search rules) (subst (λ x. is_open x c.args.dw_unit.now (first_answer_of c.args.self.now) ≡ false) (sym c.requires.same) h))
@@ -92,10 +88,6 @@ returns-in_err-load-clause-not_open g c h =
 pub returns-clause-not_open : goal.returns-clause-not_open
 returns-clause-not_open g c h =
     absurd (waits_only_open c.args.scope.file.dwarf.now c.args.dw_unit.now c.args.self.now.view c.check_split.new.self.view c.check_split.ensures.right.view c.check_split.ensures.looked c.check_split.ensures.stay.answer (search rules) (subst (λ x. is_open x c.args.dw_unit.now (first_answer_of c.args.self.now) ≡ false) (sym c.requires.same) h))
-
-pub returns-in_err-load-clause-decided : goal.returns-in_err-load-clause-decided
-returns-in_err-load-clause-decided g c h =
-    absurd (never_waits c.args.self.now c.check_split.new.self true h c.check_split.ensures.same (search rules) refl)
 
 pub returns-then-not-is_open-clause-functions : goal.returns-then-not-is_open-clause-functions
 returns-then-not-is_open-clause-functions g c =

@@ -1,0 +1,10 @@
+use Rattle.std.proofs.Common.{length}
+use Rattle.addr2line_units.specs.UnitRangesLeft.{ranges_left}
+use Rattle.addr2line_units.proofs.ListingLemmas.{ListedSoFar}
+use Rattle.addr2line_units.proofs.units.Units.preload.Given as goal
+
+abbrev pub invariant-loop-range : goal.invariant-loop-range
+invariant-loop-range g l = ListedSoFar (ranges_left l.fn.ranges) (ranges_left l.ranges) l.marks.items l.loads.items l.fn.self l.self
+
+abbrev pub decreases-loop-range : goal.decreases-loop-range
+decreases-loop-range g l = length (ranges_left l.ranges)

@@ -43,7 +43,7 @@ abbrev pub fits : ℕ → InlinedFunctionAddress → Bool
 fits upper r =
     (upper_half r.range.begin == upper) && (upper_half r.range.end == upper) && are_narrow r
 
--- whether a range can be stored so
+-- whether a range can be stored so: short, beside an upper half, or whole
 abbrev pub stores : Width → InlinedFunctionAddress → Bool
 stores (Short upper) r = fits upper r
 stores Whole r = true

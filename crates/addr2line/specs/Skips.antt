@@ -23,8 +23,8 @@ abbrev pub skipped_answers : OnFault → Sections → ℕ → FirstAnswers → F
 skipped_answers faults d probe answers =
     answers_given faults d probe answers (nones (length (loads_at d answers probe)))
 
--- after a lookup where each load is answered None: the units that waited are decided by none,
--- and stay so; after OutOfMemory some of the first ones. What was known of the others stays, and
+-- after a lookup where each load is answered None: the units that waited are decided by none; after
+-- OutOfMemory some of the first ones. What was known of the others stays, and
 -- nothing is read but what the lookup asks for by the first answers that are left. Memory is
 -- refused only where something is left to read, or more than 16 inlined functions stand there;
 -- where what is left takes none, a refusal is the fault of a unit

@@ -150,8 +150,8 @@ pub record AfterLoad (n : ℕ) (given : Option Sections) (result : Result (Unit 
   pub none : given ≡ None
       → result ≡ load_result old.scope.file.sections old.scope.file.units old.answers n None
 
--- after the unit of a number is forgotten nothing is changed but of that unit, and nothing at all
--- where it had no answer; no function becomes known
+-- after the unit of a number is forgotten nothing is changed but of that unit, and that no lookup of
+-- frames is stored; of the unit nothing where it had no answer; no function becomes known
 pub record AfterForget (n : ℕ) (old new : UnitsState) : Type 0 where
   pub stays : StayRead old new
   pub answers : new.answers ≡ forgotten old.answers n

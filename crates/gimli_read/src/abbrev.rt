@@ -1,6 +1,6 @@
 //! Abbreviation tables.
 
-ghost use Rattle.std.specs.Prelude.{◌≡◌, ◌≢◌, ◌<◌, ◌+◌, ◌^◌, [], ◌∷◌, ◌++◌, None, Some, IfOk, IfErr, OnOk, is_ok, is_some, option_copied};
+ghost use Rattle.std.specs.Prelude.{◌≡◌, ◌≢◌, ◌<◌, ◌+◌, ◌^◌, [], ◌∷◌, ◌++◌, None, Some, IfOk, IfErr, IsOk, OnOk, is_ok, is_some, option_copied};
 ghost use Rattle.std.specs.List.{slice_get};
 ghost use Rattle.std.specs.Ordering.{nat_cmp};
 ghost use Rattle.std.specs.BTreeMap.{get};
@@ -211,6 +211,18 @@ fn read_specification<R: Reader>(input: &mut R) -> Result<Option<AttributeSpecif
     }))
 }
 
+// The same elements in no more room than they need, as a table may have as many abbreviations as it
+// has bytes. Takes no memory where there are none.
+fn fitted<T: Copy>(alloc: Global, list: Vec<T>) -> Result<Vec<T>, AllocError>
+    ensures gives { IfOk result (λ v. v.items ≡ list.items) }
+    ensures none { list.items ≡ [] → IsOk result }
+{
+    if list.is_empty() {
+        return Ok(list);
+    }
+    Vec::from_slice(alloc, list.as_slice())
+}
+
 // The attributes up to the end of their list.
 fn read_specifications<R: Reader>(
     alloc: Global,
@@ -223,9 +235,7 @@ fn read_specifications<R: Reader>(
     while let Some(attribute) = read_specification(input)? {
         attributes.push(attribute)?;
     }
-    // A table may have as many abbreviations as it has bytes.
-    attributes.shrink_to_fit();
-    Ok(attributes)
+    Ok(fitted(alloc, attributes)?)
 }
 
 // Attributes in runs, and how many bytes those after the runs have. Refused `OutOfMemory` alone.
@@ -250,8 +260,7 @@ fn sized_runs(
             }
         }
     }
-    runs.shrink_to_fit();
-    Ok((runs, last))
+    Ok((fitted(alloc, runs)?, last))
 }
 
 // A tag, and whether children follow.

@@ -1,4 +1,4 @@
-use Rattle.std.proofs.Common.{inr, is_ok, refl, ap, sym, Ok, ◌∙◌, append-nil}
+use Rattle.std.proofs.Common.{inl, inr, is_ok, refl, ap, sym, Ok, ◌∙◌, append-nil}
 use Rattle.std.proofs.lemmas.Result.{err_from_is_err_and}
 use Rattle.gimli_read.specs.Abbrev.{specification_at}
 use Rattle.gimli_read.specs.Run.{with_front}
@@ -19,6 +19,7 @@ pub loop-attributes-preserved : goal.loop-attributes-preserved
 loop-attributes-preserved g c = record {
   gives = rw c.in_ok-push.ensures.items (sym (collected-more specification_at specification_takes _ c.in-Some.attribute _ (rw c.in-Some.is at c.in_ok-attribute.ensures.gives) c.loop-attributes.attributes.items) ∙ c.loop-attributes.invariant.gives);
   begun = inr (begun_by specification_at _ _ c.loop-attributes.invariant.begun (ap is_ok c.in_ok-attribute.ensures.gives));
+  filled = inr (begun_by specification_at _ _ c.loop-attributes.invariant.begun (ap is_ok c.in_ok-attribute.ensures.gives));
 }
 
 pub returns-in_err-push : goal.returns-in_err-push
@@ -27,5 +28,16 @@ returns-in_err-push g c =
     let p = err_from_is_err_and c.from_residual-in_err-push.result c.from_residual-in_err-push.ensures.1 in
     record { gives = rw (p.1, p.2) (λ n. absurd (n begun refl)) }
 
+pub returns-in_err-fitted : goal.returns-in_err-fitted
+returns-in_err-fitted g c =
+    let p = err_from_is_err_and c.from_residual-in_err-fitted.result c.from_residual-in_err-fitted.ensures.1 in
+    record { gives = rw (p.1, p.2) (λ n. elim c.loop-attributes.invariant.filled [
+      | inl none ↦ absurd (let ok = c.in_err-fitted.ensures.none none in cc)
+      | inr some ↦ absurd (n some refl)
+    ]) }
+
 pub returns : goal.returns
-returns g c = record { gives = rw c.shrink_to_fit.ensures.items (sym c.loop-attributes.invariant.gives ∙ ap (with_front c.loop-attributes.attributes.items) (collected-end specification_at specification_takes _ _ (rw c.in_default.is at c.in_ok-attribute.ensures.gives)) ∙ ap (λ v. Ok (v, g.R.Reader.section c.read_specification.new.input)) (append-nil c.loop-attributes.attributes.items)) }
+returns g c = record {
+  gives = rw (c.in_ok-fitted.ensures.gives) (sym c.loop-attributes.invariant.gives ∙ ap (with_front c.loop-attributes.attributes.items) (collected-end specification_at specification_takes _ _ (rw c.in_default.is at c.in_ok-attribute.ensures.gives))
+      ∙ ap (λ v. Ok (v, g.R.Reader.section c.read_specification.new.input)) (append-nil c.loop-attributes.attributes.items));
+}

@@ -1,4 +1,4 @@
-use Rattle.std.proofs.Common.{◌≡◌, length}
+use Rattle.std.proofs.Common.{◌≡◌, ◌⊎◌, [], is_ok, length, true}
 use Rattle.gimli_read.specs.Abbrev.{specification_at}
 use Rattle.gimli_read.specs.Run.{collected, run_of, with_front}
 use Rattle.gimli_read.proofs.AbbrevLemmas.{IsBegun}
@@ -10,6 +10,7 @@ invariant-loop-attributes g l =
     record {
       gives : with_front l.attributes.items (collected (run_of specification_at (see l.input))) ≡ collected (run_of specification_at (see l.fn.input));
       begun : IsBegun specification_at (see l.fn.input) (see l.input);
+      filled : (l.attributes.items ≡ []) ⊎ (is_ok (specification_at (see l.fn.input)) ≡ true);
     }
 
 abbrev pub decreases-loop-attributes : goal.decreases-loop-attributes

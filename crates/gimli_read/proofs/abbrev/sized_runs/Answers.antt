@@ -19,4 +19,4 @@ loop-attribute-preserved c = λ e s v. elim c.match-with.branch [
 ]
 
 pub returns-clause-gives : goal.returns-clause-gives
-returns-clause-gives c = λ e s v. rw c.shrink_to_fit.ensures.items (sym (so_far_end e _ _ _ _ s c.loop-attribute-test.false) ∙ c.loop-attribute.invariant e s v)
+returns-clause-gives c = λ e s v. rw (c.in_ok-fitted.ensures.gives) (sym (so_far_end e _ _ _ _ s c.loop-attribute-test.false) ∙ c.loop-attribute.invariant e s v)

@@ -159,8 +159,8 @@ pub record AfterForget (n : ℕ) (old new : UnitsState) : Type 0 where
   pub others : (k : ℕ) → k ≢ n → slice_get new.known k ≡ slice_get old.known k
   pub functions : LearnsNoFunctions old.known new.known
 
--- after the loads of units were listed nothing is changed but that more may be known of those units,
--- and no function of them, and that no lookup of frames is stored
+-- after the loads of units were listed nothing is changed but that more may be known of those
+-- units, and no function of them, and that no lookup of frames is stored
 pub record AfterListing (asks : ℕ → Type 0) (old new : UnitsState) : Type 0 where
   pub stays : StayRead old new
   pub answers : new.answers ≡ old.answers

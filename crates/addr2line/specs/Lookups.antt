@@ -52,8 +52,8 @@ view_found d answers stop = None
 
 -- what a lookup of a kind gives at the probe: a value of what it comes to and of the view in which
 -- it finds something; none where it waits for an answer; or its fault
-abbrev pub found_at : {V : Type 0} → OnFault → (LookupStop → Option View → V) → Sections → FirstAnswers → ℕ
-    → Result (Option V) Error
+abbrev pub found_at : {V : Type 0} → OnFault → (LookupStop → Option View → V) → Sections
+    → FirstAnswers → ℕ → Result (Option V) Error
 found_at faults value_of d answers probe = lookup_stop faults d answers probe >>= λ s.
     Ok (ended_with (value_of s (view_found d answers s)) s)
 

@@ -25,7 +25,8 @@ pub record IsWarm (c : ContextState) : Type 0 where
 -- at most 16 functions are inlined at the probe in each unit that a lookup asks
 abbrev pub IsFewInlined : OnFault → ContextState → ℕ → Type 0
 IsFewInlined faults c probe = (m : UnitIndex) → index_units c.sections ≡ Ok m
-    → holds_along (λ n. not (exceeds_inline_room (inlined_at_number (main_scope c.sections m) m.units c.answers probe n)))
+    → holds_along (λ n. not (exceeds_inline_room
+    (inlined_at_number (main_scope c.sections m) m.units c.answers probe n)))
     (asked_of faults c.sections c.answers probe m) (cover probe m.ranges) ≡ true
 
 -- in a warm context a lookup of frames or of a unit waits for nothing and has no fault; it leaves

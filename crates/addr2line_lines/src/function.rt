@@ -212,8 +212,8 @@ pub(crate) fn is_range_name(name: DwAt) -> bool
     name == DwAt::DW_AT_low_pc || name == DwAt::DW_AT_high_pc || name == DwAt::DW_AT_ranges
 }
 
-/// Whether an attribute's value is mostly an address, or how many there are. Takes no memory. Source:
-/// DWARF 5, section 2.17.
+/// Whether an attribute's value is mostly an address, or how many there are. Takes no memory.
+/// Source: DWARF 5, section 2.17.
 #[inline(always)]
 pub(crate) fn is_address_name(name: DwAt) -> bool
     ensures gives { result ≡ is_address_name name }

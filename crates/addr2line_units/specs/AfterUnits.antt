@@ -78,8 +78,8 @@ pub record WereAsked (asks : ℕ → Type 0) (probe : ℕ) (old new : UnitsState
       new.known
   pub raised : old.looks ≤ new.looks
 
--- after units were asked; the same lookup reads nothing more, but after OutOfMemory, and no lookup of
--- frames is stored where this one was refused
+-- after units were asked; the same lookup reads nothing more, but after OutOfMemory, and no lookup
+-- of frames is stored where this one was refused
 pub record AfterAsking {X : Type 0} (asks : ℕ → Type 0) (probe : ℕ) (all few : UnitsState → Bool)
     (result : Result X Error) (old new : UnitsState) : Type 0 where
   pub asked : WereAsked asks probe old new
@@ -150,8 +150,8 @@ pub record AfterLoad (n : ℕ) (given : Option Sections) (result : Result (Unit 
   pub none : given ≡ None
       → result ≡ load_result old.scope.file.sections old.scope.file.units old.answers n None
 
--- after the unit of a number is forgotten nothing is changed but of that unit, and that no lookup of
--- frames is stored; of the unit nothing where it had no answer; no function becomes known
+-- after the unit of a number is forgotten nothing is changed but of that unit, and that no lookup
+-- of frames is stored; of the unit nothing where it had no answer; no function becomes known
 pub record AfterForget (n : ℕ) (old new : UnitsState) : Type 0 where
   pub stays : StayRead old new
   pub answers : new.answers ≡ forgotten old.answers n

@@ -55,7 +55,8 @@ asked_frames faults scope units answers probe n =
     after_fault faults (frames_of_number scope units answers probe n)
 
 -- the unit of a number waits, or has frames, else the lookup goes on
-abbrev pub or_stop : ℕ → Result LookupStop Error → Option (List FrameRecord) → Result LookupStop Error
+abbrev pub or_stop : ℕ → Result LookupStop Error → Option (List FrameRecord)
+    → Result LookupStop Error
 or_stop n rest None = Ok (Waits n)
 or_stop n rest (Some []) = rest
 or_stop n rest (Some (f ∷ frames)) = Ok (Finds n (f ∷ frames))

@@ -81,7 +81,8 @@ has_all_at probe s n = knows_at s.known probe n
 -- the same, and at most 16 inlined functions stand there
 abbrev pub has_few_at : ℕ → UnitsState → ℕ → Bool
 has_few_at probe s n =
-    has_all_at probe s n && not (exceeds_inline_room (inlined_at_number s.scope s.units s.answers probe n))
+    has_all_at probe s n
+    && not (exceeds_inline_room (inlined_at_number s.scope s.units s.answers probe n))
 
 -- whether a lookup reads nothing in the unit of a number that may take memory: what it asks for is
 -- known, or reading it takes none

@@ -90,11 +90,13 @@ fn find_place<R: Reader>(
     ensures stay { IsTableMore functions.old functions.new }
     ensures alone { ReadsNoOther probe functions.old functions.new }
     ensures ready { result ≢ Err OutOfMemory
-        → table_takes_memory probe functions.new ≡ exceeds_inline_room (cached_inlined_at probe functions.new) }
+        → table_takes_memory probe functions.new
+        ≡ exceeds_inline_room (cached_inlined_at probe functions.new) }
     ensures kept { has_table probe functions.old ≡ true → functions.new ≡ functions.old }
     ensures known { WasNotRefused result → has_table probe functions.new ≡ true }
     ensures memory { has_table probe functions.new ≡ true
-        → exceeds_inline_room (inlined_of_found (function_at (seen_scope scope.entry) view.now probe)) ≡ false
+        → exceeds_inline_room
+        (inlined_of_found (function_at (seen_scope scope.entry) view.now probe)) ≡ false
         → WasNotRefused result }
 {
     let Some(place) = functions.find(probe) else {
@@ -168,7 +170,8 @@ impl<R: Reader> LazyFunctions<R> {
         ensures kept { cached_has_function probe self.old ≡ true → self.new ≡ self.old }
         ensures known { WasNotRefused result → cached_has_function probe self.new ≡ true }
         ensures memory { cached_has_function probe self.new ≡ true
-            → exceeds_inline_room (inlined_of_found (function_at (seen_scope scope.entry) view.now probe)) ≡ false
+            → exceeds_inline_room
+            (inlined_of_found (function_at (seen_scope scope.entry) view.now probe)) ≡ false
             → WasNotRefused result }
     {
         self.cache(alloc, scope, view)?;

@@ -230,7 +230,8 @@ fn read_functions_in<R: Reader>(
         → result ≡ Ok tt }
     ensures ready_for_all { WasNotRefused result
         → IfSome (slice_get caches.new.items number) (λ c. IsReadyUnit depth c.entries) }
-    ensures had_memory { IfSome (slice_get caches.new.items number) (λ c. IsReadyUnit depth c.entries)
+    ensures had_memory { IfSome (slice_get caches.new.items number)
+        (λ c. IsReadyUnit depth c.entries)
         → WasNotRefused result }
     ensures no_memory { parse_of_takes_memory R.shares (seen_scope scope.entry)
         scope.entry.file.units.now (answers_in caches.new.items) number ≡ false

@@ -76,7 +76,8 @@ fn find_in_view<'x, R: Reader>(
     ensures ready { WasNotRefused result
         → has_entries_by probe view.now.state functions.new ≡ true }
     ensures memory { has_entries_by probe view.now.state functions.new ≡ true
-        → exceeds_inline_room (inlined_at (seen_scope scope.entry) dw_unit.now (seen_first_answer view.now) probe) ≡ false
+        → exceeds_inline_room
+        (inlined_at (seen_scope scope.entry) dw_unit.now (seen_first_answer view.now) probe) ≡ false
         → WasNotRefused result }
     ensures no_memory { functions_in_take_memory R.shares (seen_scope scope.entry) dw_unit.now
         (seen_first_answer view.now) ≡ false → IfErr result (λ e. function_in
@@ -137,7 +138,9 @@ impl<R: Reader> UnitEntries<R> {
         ensures only { ReadsEntriesOf probe self.old self.new }
         ensures ready { WasNotRefused result → has_entries probe self.new ≡ true }
         ensures memory { has_entries probe self.new ≡ true
-            → exceeds_inline_room (inlined_at (seen_scope scope.entry) dw_unit.now (first_answer_of self.old) probe) ≡ false
+            → exceeds_inline_room
+            (inlined_at (seen_scope scope.entry) dw_unit.now (first_answer_of self.old) probe)
+            ≡ false
             → WasNotRefused result }
         ensures no_memory { functions_in_take_memory R.shares (seen_scope scope.entry) dw_unit.now
             (first_answer_of self.old) ≡ false → IfErr result (λ e. function_in
@@ -187,7 +190,9 @@ pub(crate) fn find_frames_in<'x, R: Reader>(
         → (asks_lines_in (seen_scope scope.entry) dw_unit.now (first_answer_of entries.old) probe
         ≡ true
         → is_uncached unit.new.lines ≡ false)
-        → exceeds_inline_room (inlined_at (seen_scope scope.entry) dw_unit.now (first_answer_of entries.old) probe) ≡ false
+        → exceeds_inline_room
+        (inlined_at (seen_scope scope.entry) dw_unit.now (first_answer_of entries.old) probe)
+        ≡ false
         → WasNotRefused result }
     ensures no_memory { AsksNoMemoryIn R.shares (seen_scope scope.entry) dw_unit.now
         (first_answer_of entries.old) probe unit.new entries.new → IfErr result (λ e. frames_in

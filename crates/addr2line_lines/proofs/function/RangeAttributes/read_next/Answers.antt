@@ -23,7 +23,7 @@ returns-in-Some-clause-gives g c =
       attribute = r.attribute;
       is = r.is;
       taken = taken_unfaulted (λ x. with_range_attribute d u x r.attribute) c.args.self.now c.take_number.new.self c.args.fault
-        (subst (λ (k : DwAt). with_range_attribute d u c.args.self.now (attribute_of k r.attribute.value) ≡ Ok c.take_number.new.self) name number);
+          (subst (λ (k : DwAt). with_range_attribute d u c.args.self.now (attribute_of k r.attribute.value) ≡ Ok c.take_number.new.self) name number);
     }
 
 pub returns-in_err-attribute-clause-gives : goal.returns-in_err-attribute-clause-gives

@@ -20,11 +20,12 @@ use Rattle.addr2line_lines.specs.InlinedEntries.{InlinedAttributes}
 use Rattle.addr2line_lines.specs.Names.{is_origin, or_referred_name}
 use Rattle.addr2line_lines.specs.References.{Scope}
 
--- whether an attribute's value is mostly a number
+-- whether an attribute is read as a number where its form is a frequent one: of a call, of addresses,
+-- or of the entry that it stems from
 abbrev pub is_number_name : DwAt → Bool
 is_number_name name = is_call name || is_address_name name || is_origin name
 
--- the ranges with a number as low_pc or high_pc
+-- range attributes with a number taken in as low_pc or high_pc; with another name, as they were
 abbrev pub with_range_number : RangeAttributes → DwAt → NumberValue → RangeAttributes
 with_range_number r name number =
     if name.0 == DW_AT_low_pc.0
@@ -51,12 +52,14 @@ IsNumberTaken may view more name number old result =
     (value : AttributeValue Section) → number_of value ≡ Some number
     → IsTakenIn may view (more (record { name = name; value = value })) old result
 
--- a number was read, which was wanted; or none, and nothing was read; or what is given is the fault
+-- a number was read, which was wanted; or none, which was wanted of no value that is one, and nothing
+-- was read; or what is given is the fault
 abbrev pub IsNumberRead : Bool → Section → Section → Result (Option NumberValue) Error
     → Reading (Option NumberValue) → Type 0
 IsNumberRead wanted old left (Ok (Some n)) given =
     (given ≡ Ok (Some n, left)) × (wanted ≡ true)
-IsNumberRead wanted old left (Ok None) given = left ≡ old
+IsNumberRead wanted old left (Ok None) given =
+    (left ≡ old) × (wanted ≡ true → given ≡ Ok (None, left))
 IsNumberRead wanted old left (Err e) given = given ≡ Err e
 
 -- an attribute was read, and taken in
@@ -66,7 +69,8 @@ pub record IsNextTaken {X : Type 0} (Taken : NamedValue → Result X Error → R
   pub is : given ≡ Ok (attribute, left)
   pub taken : Taken attribute old new
 
--- the same, after which there may be a fault of the attribute; or what is given is the fault
+-- the same, after which there may be a fault of the attribute; or what is given is the fault, or
+-- memory was refused, where it may be taken
 abbrev pub IsNextRead : {X : Type 0} → Bool
     → (NamedValue → Result X Error → Result X Error → Type 0) → Section → Reading NamedValue
     → Result X Error → X → Result (Option Error) Error → Type 0

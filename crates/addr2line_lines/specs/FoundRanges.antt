@@ -11,7 +11,7 @@ abbrev pub is_range_name : DwAt → Bool
 is_range_name name =
     name.0 == DW_AT_low_pc.0 || name.0 == DW_AT_high_pc.0 || name.0 == DW_AT_ranges.0
 
--- whether an attribute's value is mostly an address, or how many there are
+-- whether an attribute says where the addresses of an entry begin or end
 abbrev pub is_address_name : DwAt → Bool
 is_address_name name = name.0 == DW_AT_low_pc.0 || name.0 == DW_AT_high_pc.0
 

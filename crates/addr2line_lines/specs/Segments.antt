@@ -40,7 +40,8 @@ as_running a = record { 0 = (a.range.end - a.range.begin, a.function, a.range.en
 abbrev pub running_end : RunningRange → ℕ
 running_end o = o.0.2
 
--- the segment up to an address, of the first running range
+-- the segment up to an address, of the first running range; none where nothing runs, or the walk
+-- stands there already
 abbrev pub segment_to : ℕ → ℕ → List RunningRange → List FunctionAddress
 segment_to until at [] = []
 segment_to until at (o ∷ running) =
@@ -63,12 +64,12 @@ pub record IsOfShortest (addresses : List FunctionAddress) (probe function : ℕ
   pub shorter : All (λ a. address_holds probe a ≡ true
       → IsNoLonger address_begin address_end address_function address a) addresses
 
--- each segment ends before the next one begins
+-- each segment ends no later than any later one begins
 abbrev pub AreApart : List FunctionAddress → Type 0
 AreApart segments = (i j : ℕ) (d : FunctionAddress) → i < j → j < length segments
     → (slice_index_or segments i d).range.end ≤ (slice_index_or segments j d).range.begin
 
--- each range has addresses, and ends before the next one begins
+-- each range has addresses, and ends no later than any later one begins
 pub record AreDisjoint (addresses : List FunctionAddress) : Type 0 where
   pub proper : All (λ a. a.range.begin < a.range.end) addresses
   pub apart : AreApart addresses

@@ -1,7 +1,8 @@
 -- Ranges of inlined entries as they are stored, as the private functions see them.
 -- Own: ranges take sixteen bytes each as long as depths and places have 32 bits and addresses have
--- the upper half of the first range that is stored; where none is stored any more, the next range's
--- takes its place. From the first range on that doesn't fit, all are stored whole.
+-- the upper half of the begin of the first range that is stored. Where none is stored any more, that
+-- of a range that doesn't fit takes its place. From the first range on that doesn't fit beside
+-- others, all are stored whole, and stay so.
 use Rattle.std.specs.Prelude.{ℕ, ◌≡◌, ◌⊎◌, ◌+◌, ◌*◌, ◌^◌, ◌/◌, ◌%◌, ◌==◌, ◌&&◌, Bool, true, List, [], length, map, nat_lt, if◌then◌else◌}
 use Rattle.addr2line_lines.specs.declared.inlined_ranges.RangeStore.{RangeStore}
 use Rattle.addr2line_lines.specs.declared.inlined_ranges.RangeStore.TheVariants as stored

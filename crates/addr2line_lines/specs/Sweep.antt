@@ -9,13 +9,15 @@ use Rattle.addr2line_lines.specs.declared.segments.Sweep.{Sweep}
 use Rattle.addr2line_lines.specs.Segments.{RunningRange, address_begin, address_end, address_function, address_holds, as_running, running_end, AreSegmentsBelow}
 use Rattle.addr2line_lines.specs.Shortest.{IsNoLonger}
 
--- a running range before a longer one
+-- running ranges in the order of the heap: the shorter is greater, of equal lengths the one of the
+-- lesser place, of these the one that ends sooner
 abbrev pub running_cmp : RunningRange → RunningRange → Ordering
 running_cmp x y =
     ordering_then (ordering_then (nat_cmp y.0.0 x.0.0) (nat_cmp y.0.1 x.0.1))
     (nat_cmp y.0.2 x.0.2)
 
--- whether the first running range is no longer than another range, and ends no sooner
+-- whether the first running range is shorter than another range, or as long and of no greater place,
+-- and ends no sooner
 abbrev pub is_outdone : RunningRange → List RunningRange → Bool
 is_outdone range [] = false
 is_outdone range (o ∷ running) =
@@ -40,7 +42,8 @@ pub record IsRunningRange (addresses : List FunctionAddress) (at : ℕ) (running
   pub begun : address.range.begin ≤ at
   pub is : running ≡ as_running address
 
--- a running range that ends past the probe is no longer than a range
+-- a running range that ends past the probe is shorter than a range, or as long and of no greater
+-- place
 pub record SomeIsNoLonger (running : List RunningRange) (probe : ℕ) (address : FunctionAddress)
     : Type 0 where
   pub other : FunctionAddress
@@ -48,8 +51,9 @@ pub record SomeIsNoLonger (running : List RunningRange) (probe : ℕ) (address :
   pub ends_past : probe < other.range.end
   pub no_longer : IsNoLonger address_begin address_end address_function other address
 
--- all below an address is cut into segments; where a range before a place holds an address from
--- there on, one runs that ends past it and is no longer
+-- all below an address is cut into segments; the running ranges are a heap, each of a range that has
+-- begun; where a range before a place holds an address from there on, one runs that ends past it and
+-- is no longer
 pub record IsSwept (addresses : List FunctionAddress) (next at : ℕ) (running : List RunningRange)
     (segments : List FunctionAddress) : Type 0 where
   pub heap : IsHeap running_cmp running

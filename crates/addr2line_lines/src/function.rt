@@ -212,7 +212,7 @@ pub(crate) fn is_range_name(name: DwAt) -> bool
     name == DwAt::DW_AT_low_pc || name == DwAt::DW_AT_high_pc || name == DwAt::DW_AT_ranges
 }
 
-/// Whether an attribute's value is mostly an address, or how many there are. Takes no memory.
+/// Whether an attribute says where the addresses of an entry begin or end. Takes no memory.
 /// Source: DWARF 5, section 2.17.
 #[inline(always)]
 pub(crate) fn is_address_name(name: DwAt) -> bool
@@ -265,7 +265,8 @@ impl WantedNames for RangeWanted {
 }
 
 /// The range attributes among those of specifications. A value that can't be read is a fault before
-/// that of an address's index, so the first of these waits until all values are read.
+/// that of an index, of an address or a range list, so the first of these waits until all values are
+/// read.
 pub(crate) fn read_range_attributes<R: Reader>(
     unit: UnitRef<'_, R>,
     entries: &mut EntriesRaw<'_, R>,

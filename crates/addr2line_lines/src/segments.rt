@@ -67,7 +67,8 @@ impl Sweep {
         }
     }
 
-    // Whether the shortest running range is no longer than another range, and ends no sooner.
+    // Whether the first running range is shorter than another range, or as long and of no greater
+    // place, and ends no sooner.
     fn is_outdone(&self, range: &Reverse<(u64, usize, u64)>) -> bool
         ensures gives { result ≡ is_outdone range.now (heap_items self.now.running) }
     {
@@ -77,7 +78,7 @@ impl Sweep {
         }
     }
 
-    // Goes on to an address, through which no running range begins or ends.
+    // Goes on to an address, up to which the first running range is the shortest.
     //
     // Refused `OutOfMemory` alone.
     fn advance(&mut self, until: u64) -> Result<(), Error>
@@ -137,6 +138,8 @@ impl Sweep {
         ensures few { OnOk result (length self.new.segments.items
             + length (heap_items self.new.running)
             ≤ length self.old.segments.items + length (heap_items self.old.running) + 2) }
+        ensures passed { is_outdone (as_running address) (heap_items self.old.running) ≡ true
+            → (result ≡ Ok tt) × (self.new ≡ self.old) }
         ensures refused { IfErr result (λ e. e ≡ OutOfMemory) }
     {
         let range = as_running(address);
@@ -167,7 +170,7 @@ fn cut(alloc: Global, addresses: &[FunctionAddress]) -> Result<Vec<FunctionAddre
     Ok(sweep.segments)
 }
 
-// Whether each range has addresses, and ends before the next one begins.
+// Whether each range has addresses, and ends no later than any later one begins.
 fn are_disjoint(addresses: &[FunctionAddress]) -> bool
     ensures gives { (result ≡ true) ↔ AreDisjoint addresses.now }
 {

@@ -29,12 +29,12 @@ returns-in-Some-clause-gives g c =
 pub returns-in_err-attribute-clause-gives : goal.returns-in_err-attribute-clause-gives
 returns-in_err-attribute-clause-gives g c =
     let p = err_from_is_err_and c.from_residual-in_err-attribute.result c.from_residual-in_err-attribute.ensures.1 in
-    let none = rw c.in_default.is at c.in_ok-number.ensures.gives in
+    let none = (rw c.in_default.is at c.in_ok-number.ensures.gives).0 in
     let fault = rw (none, c.in_ok-number.ensures.unit) at c.in_err-attribute.ensures.gives in
     rw (p.1, p.2) (λ ne. fault (λ shares _. ne shares))
 
 pub returns-clause-gives : goal.returns-clause-gives
 returns-clause-gives g c =
-    let none = rw c.in_default.is at c.in_ok-number.ensures.gives in
+    let none = (rw c.in_default.is at c.in_ok-number.ensures.gives).0 in
     let read = rw (none, c.in_ok-number.ensures.unit) at c.in_ok-attribute.ensures.gives in
     record { attribute = c.in_ok-attribute.attribute; is = read; taken = c.take_unless.ensures.gives }

@@ -211,42 +211,51 @@ fn read_specification<R: Reader>(input: &mut R) -> Result<Option<AttributeSpecif
     }))
 }
 
-// The same elements in no more room than they need, as a table may have as many abbreviations as it
-// has bytes. Takes no memory where there are none.
-fn fitted<T: Copy>(alloc: Global, list: Vec<T>) -> Result<Vec<T>, AllocError>
-    ensures gives { IfOk result (λ v. v.items ≡ list.items) }
-    ensures none { list.items ≡ [] → IsOk result }
+// Lists that grow while the attributes of an abbreviation are read, here for their memory alone: what
+// an abbreviation keeps is copied from them, without the room that a list which grows has to spare.
+#[derive(Drop)]
+struct Buffers {
+    attributes: Vec<AttributeSpecification>,
+    runs: Vec<SizedRun>,
+}
+
+// The same elements. Takes no memory where there are none.
+fn copied<T: Copy>(alloc: Global, list: &[T]) -> Result<Vec<T>, AllocError>
+    ensures gives { IfOk result (λ v. v.items ≡ list.now) }
+    ensures none { list.now ≡ [] → IsOk result }
 {
     if list.is_empty() {
-        return Ok(list);
+        return Ok(Vec::new(alloc));
     }
-    Vec::from_slice(alloc, list.as_slice())
+    Vec::from_slice(alloc, list)
 }
 
 // The attributes up to the end of their list.
 fn read_specifications<R: Reader>(
     alloc: Global,
     input: &mut R,
+    attributes: &mut Vec<AttributeSpecification>,
 ) -> Result<Vec<AttributeSpecification>, Error>
     ensures gives { ExactlyUnlessOomIf (is_ok (specification_at (R.section input.old)))
         (λ v. (v.items, R.section input.new)) result (specifications_at (R.section input.old)) }
 {
-    let mut attributes = Vec::new(alloc);
+    attributes.clear();
     while let Some(attribute) = read_specification(input)? {
         attributes.push(attribute)?;
     }
-    Ok(fitted(alloc, attributes)?)
+    Ok(copied(alloc, attributes)?)
 }
 
 // Attributes in runs, and how many bytes those after the runs have. Refused `OutOfMemory` alone.
 fn sized_runs(
     alloc: Global,
     attributes: &[AttributeSpecification],
+    runs: &mut Vec<SizedRun>,
 ) -> Result<(Vec<SizedRun>, TotalSize), Error>
     ensures gives { IfOk result (λ r. AreRunsOf attributes.now r.0.items r.1) }
     ensures refused { IfErr result (λ e. e ≡ OutOfMemory) }
 {
-    let mut runs = Vec::new(alloc);
+    runs.clear();
     let mut last = TotalSize::new();
     for attribute in attributes {
         match last.with(attribute.value_size()) {
@@ -260,7 +269,7 @@ fn sized_runs(
             }
         }
     }
-    Ok((fitted(alloc, runs)?, last))
+    Ok((copied(alloc, runs)?, last))
 }
 
 // A tag, and whether children follow.
@@ -286,13 +295,14 @@ fn read_declaration<R: Reader>(
     alloc: Global,
     input: &mut R,
     code: u64,
+    buffers: &mut Buffers,
 ) -> Result<Abbreviation, Error>
     ensures gives { ReadsUnlessOomIf (is_ok (head_and_pair_at (R.section input.old)))
         R.section input.old input.new result (declaration_at code) }
 {
     let (tag, has_children) = read_head(input)?;
-    let attributes = read_specifications(alloc, input)?;
-    let (runs, last) = sized_runs(alloc, &attributes)?;
+    let attributes = read_specifications(alloc, input, &mut buffers.attributes)?;
+    let (runs, last) = sized_runs(alloc, &attributes, &mut buffers.runs)?;
     Ok(Abbreviation {
         code,
         tag,
@@ -382,6 +392,7 @@ impl Abbreviations {
         &self,
         alloc: Global,
         input: &mut R,
+        buffers: &mut Buffers,
     ) -> Result<Option<Abbreviation>, Error>
         ensures gives { ReadsUnlessOomIf (takes_memory (R.section input.old))
             R.section input.old input.new result (abbreviation_at self.now) }
@@ -396,7 +407,7 @@ impl Abbreviations {
         if self.has(code) {
             return Err(Error::BadAbbreviation);
         }
-        Ok(Some(read_declaration(alloc, input, code)?))
+        Ok(Some(read_declaration(alloc, input, code, buffers)?))
     }
 
     /// Reads the table at the front of `.debug_abbrev` from a unit's offset on (DWARF 5, section
@@ -414,7 +425,11 @@ impl Abbreviations {
             entries: Vec::new(alloc),
             displaced: BTreeMap::new(alloc),
         };
-        while let Some(abbreviation) = table.read_next(alloc, &mut input)? {
+        let mut buffers = Buffers {
+            attributes: Vec::new(alloc),
+            runs: Vec::new(alloc),
+        };
+        while let Some(abbreviation) = table.read_next(alloc, &mut input, &mut buffers)? {
             table.push(abbreviation)?;
         }
         Ok(table)

@@ -10,34 +10,34 @@ use Rattle.gimli_read.proofs.abbrev.read_specifications.Goals as goal
 pub returns-in_err-attribute : goal.returns-in_err-attribute
 returns-in_err-attribute g c =
     let p = err_from_is_err_and c.from_residual.result c.from_residual.ensures.1 in
-    record { gives = rw (p.1, p.2) (λ ne. sym c.loop-attributes.invariant.gives ∙ ap (with_front c.loop-attributes.attributes.items) (collected-fault specification_at specification_takes _ _ c.in_err-attribute.ensures.gives)) }
+    record { gives = rw (p.1, p.2) (λ ne. sym c.loop-attribute.invariant.gives ∙ ap (with_front c.loop-attribute.attributes.items) (collected-fault specification_at specification_takes _ _ c.in_err-attribute.ensures.gives)) }
 
-pub loop-attributes-smaller : goal.loop-attributes-smaller
-loop-attributes-smaller g c = shorter_by specification_at specification_takes _ c.in-Some.attribute _ (rw c.in-Some.is at c.in_ok-attribute.ensures.gives)
+pub loop-attribute-smaller : goal.loop-attribute-smaller
+loop-attribute-smaller g c = shorter_by specification_at specification_takes _ c.in-Some.attribute _ (rw c.in-Some.is at c.in_ok-attribute.ensures.gives)
 
-pub loop-attributes-preserved : goal.loop-attributes-preserved
-loop-attributes-preserved g c = record {
-  gives = rw c.in_ok-push.ensures.items (sym (collected-more specification_at specification_takes _ c.in-Some.attribute _ (rw c.in-Some.is at c.in_ok-attribute.ensures.gives) c.loop-attributes.attributes.items) ∙ c.loop-attributes.invariant.gives);
-  begun = inr (begun_by specification_at _ _ c.loop-attributes.invariant.begun (ap is_ok c.in_ok-attribute.ensures.gives));
-  filled = inr (begun_by specification_at _ _ c.loop-attributes.invariant.begun (ap is_ok c.in_ok-attribute.ensures.gives));
+pub loop-attribute-preserved : goal.loop-attribute-preserved
+loop-attribute-preserved g c = record {
+  gives = rw c.in_ok-push.ensures.items (sym (collected-more specification_at specification_takes _ c.in-Some.attribute _ (rw c.in-Some.is at c.in_ok-attribute.ensures.gives) c.loop-attribute.attributes.items) ∙ c.loop-attribute.invariant.gives);
+  begun = inr (begun_by specification_at _ _ c.loop-attribute.invariant.begun (ap is_ok c.in_ok-attribute.ensures.gives));
+  filled = inr (begun_by specification_at _ _ c.loop-attribute.invariant.begun (ap is_ok c.in_ok-attribute.ensures.gives));
 }
 
 pub returns-in_err-push : goal.returns-in_err-push
 returns-in_err-push g c =
-    let begun = begun_by specification_at _ _ c.loop-attributes.invariant.begun (ap is_ok c.in_ok-attribute.ensures.gives) in
+    let begun = begun_by specification_at _ _ c.loop-attribute.invariant.begun (ap is_ok c.in_ok-attribute.ensures.gives) in
     let p = err_from_is_err_and c.from_residual-in_err-push.result c.from_residual-in_err-push.ensures.1 in
     record { gives = rw (p.1, p.2) (λ n. absurd (n begun refl)) }
 
-pub returns-in_err-fitted : goal.returns-in_err-fitted
-returns-in_err-fitted g c =
-    let p = err_from_is_err_and c.from_residual-in_err-fitted.result c.from_residual-in_err-fitted.ensures.1 in
-    record { gives = rw (p.1, p.2) (λ n. elim c.loop-attributes.invariant.filled [
-      | inl none ↦ absurd (let ok = c.in_err-fitted.ensures.none none in cc)
+pub returns-in_err-copied : goal.returns-in_err-copied
+returns-in_err-copied g c =
+    let p = err_from_is_err_and c.from_residual-in_err-copied.result c.from_residual-in_err-copied.ensures.1 in
+    record { gives = rw (p.1, p.2) (λ n. elim c.loop-attribute.invariant.filled [
+      | inl none ↦ absurd (let ok = c.in_err-copied.ensures.none (c.deref.ensures.value ∙ none) in cc)
       | inr some ↦ absurd (n some refl)
     ]) }
 
 pub returns : goal.returns
 returns g c = record {
-  gives = rw (c.in_ok-fitted.ensures.gives) (sym c.loop-attributes.invariant.gives ∙ ap (with_front c.loop-attributes.attributes.items) (collected-end specification_at specification_takes _ _ (rw c.in_default.is at c.in_ok-attribute.ensures.gives))
-      ∙ ap (λ v. Ok (v, g.R.Reader.section c.read_specification.new.input)) (append-nil c.loop-attributes.attributes.items));
+  gives = rw (c.in_ok-copied.ensures.gives ∙ c.deref.ensures.value) (sym c.loop-attribute.invariant.gives ∙ ap (with_front c.loop-attribute.attributes.items) (collected-end specification_at specification_takes _ _ (rw c.in_default.is at c.in_ok-attribute.ensures.gives))
+      ∙ ap (λ v. Ok (v, g.R.Reader.section c.read_specification.new.input)) (append-nil c.loop-attribute.attributes.items));
 }

@@ -4,8 +4,8 @@ use Rattle.gimli_read.specs.Run.{collected, run_of, with_front}
 use Rattle.gimli_read.proofs.AbbrevLemmas.{IsBegun}
 use Rattle.gimli_read.proofs.abbrev.read_specifications.Given as goal
 
-abbrev pub invariant-loop-attributes : goal.invariant-loop-attributes
-invariant-loop-attributes g l =
+abbrev pub invariant-loop-attribute : goal.invariant-loop-attribute
+invariant-loop-attribute g l =
     let see = g.R.Reader.section in
     record {
       gives : with_front l.attributes.items (collected (run_of specification_at (see l.input))) ≡ collected (run_of specification_at (see l.fn.input));
@@ -13,5 +13,5 @@ invariant-loop-attributes g l =
       filled : (l.attributes.items ≡ []) ⊎ (is_ok (specification_at (see l.fn.input)) ≡ true);
     }
 
-abbrev pub decreases-loop-attributes : goal.decreases-loop-attributes
-decreases-loop-attributes g l = length (g.R.Reader.section l.input).bytes
+abbrev pub decreases-loop-attribute : goal.decreases-loop-attribute
+decreases-loop-attribute g l = length (g.R.Reader.section l.input).bytes

@@ -5,7 +5,7 @@ use Rattle.gimli_read.proofs.abbrev.sized_runs.Goals as goal
 use Rattle.gimli_read.proofs.abbrev.sized_runs.Goals.{in-Some, in-None+in_ok-push-in-None}
 
 pub loop-attribute-init : goal.loop-attribute-init
-loop-attribute-init c = λ e s v. rw (c.new-runs.ensures.items, c.new-last.ensures.gives) (so_far_start e no_size c.args.attributes.now s (total_zero e))
+loop-attribute-init c = λ e s v. rw (c.clear.ensures.items, c.new-last.ensures.gives) (so_far_start e no_size c.args.attributes.now s (total_zero e))
 
 pub loop-attribute-preserved : goal.loop-attribute-preserved
 loop-attribute-preserved c = λ e s v. elim c.match-with.branch [
@@ -19,4 +19,4 @@ loop-attribute-preserved c = λ e s v. elim c.match-with.branch [
 ]
 
 pub returns-clause-gives : goal.returns-clause-gives
-returns-clause-gives c = λ e s v. rw (c.in_ok-fitted.ensures.gives) (sym (so_far_end e _ _ _ _ s c.loop-attribute-test.false) ∙ c.loop-attribute.invariant e s v)
+returns-clause-gives c = λ e s v. rw (c.in_ok-copied.ensures.gives ∙ c.deref.ensures.value) (sym (so_far_end e _ _ _ _ s c.loop-attribute-test.false) ∙ c.loop-attribute.invariant e s v)

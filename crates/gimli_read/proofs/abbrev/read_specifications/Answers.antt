@@ -31,10 +31,12 @@ returns-in_err-push g c =
 pub returns-in_err-copied : goal.returns-in_err-copied
 returns-in_err-copied g c =
     let p = err_from_is_err_and c.from_residual-in_err-copied.result c.from_residual-in_err-copied.ensures.1 in
-    record { gives = rw (p.1, p.2) (λ n. elim c.loop-attribute.invariant.filled [
-      | inl none ↦ absurd (let ok = c.in_err-copied.ensures.none (c.deref.ensures.value ∙ none) in cc)
-      | inr some ↦ absurd (n some refl)
-    ]) }
+    record {
+      gives = rw (p.1, p.2) (λ n. elim c.loop-attribute.invariant.filled [
+        | inl none ↦ absurd (let ok = c.in_err-copied.ensures.none (c.deref.ensures.value ∙ none) in cc)
+        | inr some ↦ absurd (n some refl)
+      ]);
+    }
 
 pub returns : goal.returns
 returns g c = record {

@@ -1,6 +1,6 @@
 -- Split files that are kept by their paths.
--- Own: a file is kept with a stamp that was asked for before it was read, at most one for each path,
--- and only where it has answered a load.
+-- Own: a file is kept with a stamp that was asked for before it was read, at most one for each
+-- path, and only where it has answered a load.
 use Rattle.std.specs.Prelude.{◌≡◌, ◌≢◌, ◌⊎◌, ℕ, List, Option, None, Some, Ok, if◌then◌else◌}
 use Rattle.std.specs.BTreeMap.{get_by_text}
 use Rattle.std.specs.Str.{bytes_eq}
@@ -27,8 +27,8 @@ abbrev pub HasAnswered : CompressedSections → SplitLoad → Loading (Option Se
 HasAnswered compressed load answer file = (sections : Sections) × (answer ≡ Ok (Some sections))
     × Answers compressed load file.object sections
 
--- after a load by the file at a path: for other paths the same is kept as before, and a file that is
--- kept for this one was kept before, or gave the answer
+-- after a load by the file at a path: for other paths the same is kept as before, and a file that
+-- is kept for this one was kept before, or gave the answer
 pub record KeepsAnswering (compressed : CompressedSections) (load : SplitLoad) (path : List ℕ)
     (answer : Loading (Option Sections)) (old new : KeptFiles) : Type 0 where
   pub others : (other : List ℕ) → other ≢ path → kept_at new other ≡ kept_at old other

@@ -1,7 +1,7 @@
 -- A loader as callers see it: the files that it reads, its main file, and the context of its
 -- sections.
--- Own: a lookup gives the frames by the first answers to the loads of units, and by the files at that
--- call for units without an answer.
+-- Own: a lookup gives the frames by the first answers to the loads of units, and by the files at
+-- that call for units without an answer.
 use Rattle.std.specs.Prelude.{◌≡◌, ◌≢◌, ℕ, List, Option, IfErr, Result}
 use Rattle.gimli_read.specs.declared.error.Error.{Error}
 use Rattle.gimli_read.specs.Reading.{Exactly}

@@ -38,7 +38,7 @@ filled at len (p ∷ ps) o =
     let before = o.0 in
     (omega (arith, before, after), omega (arith, whole, front, gap, size, before, after))
 
--- the next of the pieces in order stands behind a place and within the file
+-- the next of the pieces in order follows a place, within the file
 pub next_in_order : (at len i : ℕ) (ps : List Piece) (p : Piece) → i < length ps → p ≡ get_or ps i p → AreInOrder at len (drop i ps) → (at ≤ p.start) × (piece_end p ≤ len)
 next_in_order at len i ps p lt is o =
     let Ordered : List Piece → Type 0 = λ (qs : List Piece). AreInOrder at len qs in
@@ -57,7 +57,7 @@ part_of at s n zs own rest start size after begins ends =
     let left = length-drop (s - start) own in
     ap (take n) cut ∙ take-append-le n (drop (s - start) own) rest (omega (arith, left, begins, ends))
 
--- what stands behind a piece
+-- what follows a piece
 behind : (at s : ℕ) (front rest : List ℕ) (end : ℕ) → length front ≡ end - at → at ≤ end → end ≤ s → drop (s - at) (front ++ rest) ≡ drop (s - end) rest
 behind at s front rest end size after begins =
     let place : s - at ≡ length front + (s - end) = omega (arith, size, after, begins) in

@@ -6,7 +6,7 @@ use Rattle.std.proofs.Math.Nat.{min-eq_left}
 use Rattle.std.proofs.Math.Seq.{take-append_seam}
 use Rattle.addr2line_c.specs.Filled.{IsFilled, saturated}
 use Rattle.addr2line_c.specs.Sequence.{EachNames, texts_of_items, written_items}
-use Rattle.addr2line_c.specs.Texts.{joined}
+use Rattle.addr2line_c.specs.Texts.{zero_ended}
 
 module _ {F W : Type 0} (texts : F → List (List ℕ)) (write : List (List ℕ) → F → W) where
   -- one more item
@@ -30,13 +30,13 @@ module _ {F W : Type 0} (texts : F → List (List ℕ)) (write : List (List ℕ)
     pub done : List F
     pub whole : done ++ left ≡ all
     pub items : IsFilled count out (written_items texts write [] done)
-    pub texts_are : IsFilled used buffer (joined (texts_of_items texts done))
+    pub texts_are : IsFilled used buffer (zero_ended (texts_of_items texts done))
 
   -- one more item was written
   pub wrote_one : (all left : List F) (f : F) (count count' : ℕ) (out out' : List W) (used used' : ℕ)
       (buffer buffer' : List ℕ) (w : W) → (so : WroteSome all (f ∷ left) count out used buffer)
       → w ≡ write (texts_of_items texts so.done) f
-      → IsFilled used' buffer' (joined (texts_of_items texts so.done ++ texts f))
+      → IsFilled used' buffer' (zero_ended (texts_of_items texts so.done ++ texts f))
       → IsFilled count' out' (written_items texts write [] so.done ++ w ∷ [])
       → WroteSome all left count' out' used' buffer'
   wrote_one all left f count count' out out' used used' buffer buffer' w so is ts ws = record {
@@ -44,7 +44,7 @@ module _ {F W : Type 0} (texts : F → List (List ℕ)) (write : List (List ℕ)
     whole = append_assoc so.done (f ∷ []) left ∙ so.whole;
     items = subst (IsFilled count' out')
         (ap (λ x. written_items texts write [] so.done ++ x ∷ []) is ∙ sym (written_more [] so.done f)) ws;
-    texts_are = subst (λ t. IsFilled used' buffer' (joined t)) (sym (texts_more so.done f)) ts;
+    texts_are = subst (λ t. IsFilled used' buffer' (zero_ended t)) (sym (texts_more so.done f)) ts;
   }
 
   -- nothing was written yet
@@ -73,9 +73,9 @@ module _ {F W : Type 0} (texts : F → List (List ℕ)) (write : List (List ℕ)
   -- the texts, where nothing is left
   pub wrote_texts : (all left : List F) (count : ℕ) (out : List W) (used : ℕ) (buffer : List ℕ)
       → WroteSome all left count out used buffer → left ≡ []
-      → IsFilled used buffer (joined (texts_of_items texts all))
+      → IsFilled used buffer (zero_ended (texts_of_items texts all))
   wrote_texts all left count out used buffer so none =
-      subst (λ l. IsFilled used buffer (joined (texts_of_items texts l)))
+      subst (λ l. IsFilled used buffer (zero_ended (texts_of_items texts l)))
       (done_all all left count out used buffer so none) so.texts_are
 
   -- as many are written as there are items
@@ -132,9 +132,9 @@ module _ {F W : Type 0} (texts : F → List (List ℕ)) (write : List (List ℕ)
   pub first_texts : (all left : List F) (count : ℕ) (out : List W) (used : ℕ) (buffer : List ℕ)
       → WroteSome all left count out used buffer → (room : ℕ) → room < 2 ^ 64
       → length all ≤ length left + room → (room ≤ count) ⊎ (left ≡ [])
-      → IsFilled used buffer (joined (texts_of_items texts (take room all)))
+      → IsFilled used buffer (zero_ended (texts_of_items texts (take room all)))
   first_texts all left count out used buffer so room small fits ended =
-      subst (λ l. IsFilled used buffer (joined (texts_of_items texts l)))
+      subst (λ l. IsFilled used buffer (zero_ended (texts_of_items texts l)))
       (done_first all left count out used buffer so room small fits ended) so.texts_are
 
   module _ (names : W → F → Type 0) where

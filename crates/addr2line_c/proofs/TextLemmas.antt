@@ -14,13 +14,13 @@ use Rattle.addr2line_c.specs.declared.spans.WrittenSpan.{WrittenSpan}
 use Rattle.addr2line_c.specs.Filled.{IsFilled, saturated}
 use Rattle.addr2line_c.specs.Loads.{NamesLoad, bytes_if, texts_of_load, written_load}
 use Rattle.addr2line_c.specs.Sequence.{EachNames}
-use Rattle.addr2line_c.specs.Texts.{NamesText, given_text, joined, text_after}
-use Rattle.addr2line_c.specs.Written.{NamesFrame, file_of, name_of, texts_of, texts_of_all, written_frame, written_frames}
+use Rattle.addr2line_c.specs.Texts.{NamesText, optional_text, zero_ended, text_after}
+use Rattle.addr2line_c.specs.Written.{NamesFrame, location_file, frame_name, frame_texts, frames_texts, written_frame, written_frames}
 use Rattle.addr2line_c.specs.WrittenSpans.{NamesSpan, texts_of_span, texts_of_spans, written_span, written_spans}
 use Rattle.addr2line_c.proofs.SequenceLemmas.{each_named}
 
 -- texts one after another, joined
-pub joined_append : (xs ys : List (List ℕ)) → joined (xs ++ ys) ≡ joined xs ++ joined ys
+pub joined_append : (xs ys : List (List ℕ)) → zero_ended (xs ++ ys) ≡ zero_ended xs ++ zero_ended ys
 joined_append xs ys = flat_map-append (λ (text : List ℕ). text ++ 0 ∷ []) xs ys
 
 -- what stands at the front of a list is followed by the rest
@@ -42,41 +42,41 @@ part_at out before part after is =
 
 -- where a buffer has room for texts, the part of one among them names it
 pub text_named : (buffer : List ℕ) (whole before after : List (List ℕ)) (t : Option (List ℕ))
-    → length buffer < 2 ^ 64 → length (joined whole) ≤ length buffer
-    → take (length (joined whole)) buffer ≡ joined whole
-    → before ++ (given_text t ++ after) ≡ whole → NamesText buffer (text_after before t) t
+    → length buffer < 2 ^ 64 → length (zero_ended whole) ≤ length buffer
+    → take (length (zero_ended whole)) buffer ≡ zero_ended whole
+    → before ++ (optional_text t ++ after) ≡ whole → NamesText buffer (text_after before t) t
 text_named buffer whole before after None small fits front is = refl
 text_named buffer whole before after (Some text) small fits front is =
     let part = text ++ 0 ∷ [] in
-    let cut : joined whole ≡ joined before ++ (part ++ joined after) =
-    ap joined (sym is) ∙ joined_append before (text ∷ after) in
-    let at = part_at buffer (joined before) part (joined after)
+    let cut : zero_ended whole ≡ zero_ended before ++ (part ++ zero_ended after) =
+    ap zero_ended (sym is) ∙ joined_append before (text ∷ after) in
+    let at = part_at buffer (zero_ended before) part (zero_ended after)
     (subst (λ w. take (length w) buffer ≡ w) cut front) in
-    let long : length (joined whole) ≡ length (joined before) + length (part ++ joined after) =
-    ap length cut ∙ length-append (joined before) (part ++ joined after) in
-    let within : length (joined before) ≤ 2 ^ 64 - 1 = omega (arith, long, fits, small) in
-    let offset : saturated (length (joined before)) ≡ length (joined before) = min-eq_left within in (
+    let long : length (zero_ended whole) ≡ length (zero_ended before) + length (part ++ zero_ended after) =
+    ap length cut ∙ length-append (zero_ended before) (part ++ zero_ended after) in
+    let within : length (zero_ended before) ≤ 2 ^ 64 - 1 = omega (arith, long, fits, small) in
+    let offset : saturated (length (zero_ended before)) ≡ length (zero_ended before) = min-eq_left within in (
       refl,
       refl,
       subst (λ n. take (length text + 1) (drop n buffer) ≡ part) (sym offset)
-          (subst (λ n. take n (drop (length (joined before)) buffer) ≡ part) (length-append text (0 ∷ [])) at),
+          (subst (λ n. take n (drop (length (zero_ended before)) buffer) ≡ part) (length-append text (0 ∷ [])) at),
     )
 
 -- a single text
 pub text_alone : (buffer : List ℕ) (needed : ℕ) (t : Option (List ℕ)) → length buffer < 2 ^ 64
-    → IsFilled needed buffer (joined (given_text t)) → length (joined (given_text t)) ≤ length buffer
+    → IsFilled needed buffer (zero_ended (optional_text t)) → length (zero_ended (optional_text t)) ≤ length buffer
     → NamesText buffer (text_after [] t) t
-text_alone buffer needed t small filled fits = text_named buffer (given_text t) [] [] t small fits
-    (filled.front fits) (append-nil (given_text t))
+text_alone buffer needed t small filled fits = text_named buffer (optional_text t) [] [] t small fits
+    (filled.front fits) (append-nil (optional_text t))
 
 -- the texts of a load
 pub load_named : (buffer : List ℕ) (needed token : ℕ) (load : SplitLoad) → length buffer < 2 ^ 64
-    → IsFilled needed buffer (joined (texts_of_load load))
-    → length (joined (texts_of_load load)) ≤ length buffer
+    → IsFilled needed buffer (zero_ended (texts_of_load load))
+    → length (zero_ended (texts_of_load load)) ≤ length buffer
     → NamesLoad buffer (written_load token load) load
 load_named buffer needed token load small filled fits =
-    let directory = given_text (bytes_if load.comp_dir) in
-    let path = given_text (bytes_if load.path) in (
+    let directory = optional_text (bytes_if load.comp_dir) in
+    let path = optional_text (bytes_if load.path) in (
       text_named buffer (texts_of_load load) [] path (bytes_if load.comp_dir) small fits
           (filled.front fits) refl,
       text_named buffer (texts_of_load load) directory [] (bytes_if load.path) small fits
@@ -87,23 +87,23 @@ load_named buffer needed token load small filled fits =
 pub frames_named : (demangles : Bool) (out : List WrittenFrame) (count : ℕ) (buffer : List ℕ)
     (needed : ℕ) (frames : List FrameRecord) → length buffer < 2 ^ 64
     → IsFilled count out (written_frames demangles frames)
-    → IsFilled needed buffer (joined (texts_of_all demangles frames))
-    → length frames ≤ length out → length (joined (texts_of_all demangles frames)) ≤ length buffer
+    → IsFilled needed buffer (zero_ended (frames_texts demangles frames))
+    → length frames ≤ length out → length (zero_ended (frames_texts demangles frames)) ≤ length buffer
     → EachNames (NamesFrame demangles buffer) out frames
 frames_named d out count buffer needed frames small parts filled room fits =
-    each_named (texts_of d) (written_frame d) (NamesFrame d buffer) count out frames parts room named
+    each_named (frame_texts d) (written_frame d) (NamesFrame d buffer) count out frames parts room named
   where
     named : (before after : List (List ℕ)) (f : FrameRecord)
-        → before ++ (texts_of d f ++ after) ≡ texts_of_all d frames
+        → before ++ (frame_texts d f ++ after) ≡ frames_texts d frames
         → NamesFrame d buffer (written_frame d before f) f
     named before after f is =
-        let name = given_text (name_of d f) in
-        let file = given_text (file_of f.location) in
-        let cut : before ++ (name ++ (file ++ after)) ≡ texts_of_all d frames =
+        let name = optional_text (frame_name d f) in
+        let file = optional_text (location_file f.location) in
+        let cut : before ++ (name ++ (file ++ after)) ≡ frames_texts d frames =
         ap (λ x. before ++ x) (sym (append_assoc name file after)) ∙ is in (
-          text_named buffer (texts_of_all d frames) before (file ++ after) (name_of d f) small fits
+          text_named buffer (frames_texts d frames) before (file ++ after) (frame_name d f) small fits
               (filled.front fits) cut,
-          text_named buffer (texts_of_all d frames) (before ++ name) after (file_of f.location) small
+          text_named buffer (frames_texts d frames) (before ++ name) after (location_file f.location) small
               fits (filled.front fits) (append_assoc before name (file ++ after) ∙ cut),
         )
 
@@ -111,8 +111,8 @@ frames_named d out count buffer needed frames small parts filled room fits =
 pub spans_named : (out : List WrittenSpan) (count : ℕ) (buffer : List ℕ) (needed : ℕ)
     (spans : List (Result LocatedSpan Error)) → length buffer < 2 ^ 64
     → IsFilled count out (written_spans spans)
-    → IsFilled needed buffer (joined (texts_of_spans spans))
-    → length spans ≤ length out → length (joined (texts_of_spans spans)) ≤ length buffer
+    → IsFilled needed buffer (zero_ended (texts_of_spans spans))
+    → length spans ≤ length out → length (zero_ended (texts_of_spans spans)) ≤ length buffer
     → EachNames (NamesSpan buffer) out spans
 spans_named out count buffer needed spans small parts filled room fits =
     each_named texts_of_span written_span (NamesSpan buffer) count out spans parts room named
@@ -121,5 +121,5 @@ spans_named out count buffer needed spans small parts filled room fits =
         → before ++ (texts_of_span s ++ after) ≡ texts_of_spans spans
         → NamesSpan buffer (written_span before s) s
     named before after (Ok s) is = text_named buffer (texts_of_spans spans) before after
-        (file_of (Some s.location)) small fits (filled.front fits) is
+        (location_file (Some s.location)) small fits (filled.front fits) is
     named before after (Err e) is = refl

@@ -31,7 +31,7 @@ use Rattle.addr2line_c.specs.Left.{AsksIfWaiting, LeavesFrames, LeavesLocation, 
 use Rattle.addr2line_c.specs.LoadCalls.{AnswersTokenAs, ForgetsToken, ParsesAllAs, PreloadsAs}
 use Rattle.addr2line_c.specs.Loads.{IsWrittenLoad}
 use Rattle.addr2line_c.specs.Status.{status_number, status_text}
-use Rattle.addr2line_c.specs.Texts.{joined}
+use Rattle.addr2line_c.specs.Texts.{zero_ended}
 use Rattle.addr2line_c.specs.Written.{IsWrittenFrames, IsWrittenLocation}
 use Rattle.addr2line_c.specs.WrittenSpans.{IsWrittenSpans, spans_from}
 use Rattle.addr2line_c.specs.WrittenSymbols.{IsWrittenRange, IsWrittenSymbol}
@@ -156,7 +156,7 @@ OpensFile bytes sup None number = (e : LoaderError) × (number ≡ status_number
 pub record TellsStatus (number : ℕ) (buffer : List ℕ) (needed answer : ℕ) : Type 0 where
   pub status : Status
   pub number_is : number ≡ status_number status
-  pub texts : IsFilled needed buffer (joined (status_text status ∷ []))
+  pub texts : IsFilled needed buffer (zero_ended (status_text status ∷ []))
   pub answer_is : answer ≡ status_number (done_if (nat_le needed (length buffer)))
 
 -- no status has this number, and the answer says so

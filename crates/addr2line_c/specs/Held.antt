@@ -10,16 +10,16 @@ use Rattle.std.specs.declared.alloc.Global.{Global}
 use Rattle.std.specs.contracts.impls.GlobalAllocator.TheImpl.{ghosts}
 use Rattle.std.specs.Box.Ownership.{box_owns}
 
-abbrev pub known : Type 0 → Fml
-known A = fex A (λ _. ftrue)
+abbrev pub pure_fact : Type 0 → Fml
+pure_fact A = fex A (λ _. ftrue)
 
 module _ (R : RattleType) (a : Global) where
   abbrev pub boxed : Ptr → R.Denot → Fml
   boxed = box_owns (ghosts.dealloc_token a) R
 
   abbrev pub opened : Ptr → Option R.Denot → R.Denot → Fml
-  opened p v x = fsep (known (v ≡ Some x)) (fsep (known (Testable p)) (boxed p x))
+  opened p v x = fsep (pure_fact (v ≡ Some x)) (fsep (pure_fact (Testable p)) (boxed p x))
 
   abbrev pub held : Ptr → Option R.Denot → Fml
-  held null_ptr v = known (v ≡ None)
+  held null_ptr v = pure_fact (v ≡ None)
   held (block_ptr b o) v = fex R.Denot (opened (block_ptr b o) v)

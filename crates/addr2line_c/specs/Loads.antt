@@ -5,7 +5,7 @@ use Rattle.gimli_read.specs.Section.{Section}
 use Rattle.addr2line_units.specs.Views.{SplitLoad}
 use Rattle.addr2line_c.specs.declared.loads.WrittenLoad.{WrittenLoad}
 use Rattle.addr2line_c.specs.Filled.{IsFilled}
-use Rattle.addr2line_c.specs.Texts.{NamesText, given_text, joined, text_after}
+use Rattle.addr2line_c.specs.Texts.{NamesText, optional_text, zero_ended, text_after}
 
 -- the bytes of a text that may be there
 abbrev pub bytes_if : Option Section → Option (List ℕ)
@@ -13,7 +13,7 @@ bytes_if text = option_map (λ (s : Section). s.bytes) text
 
 -- the texts of a load
 abbrev pub texts_of_load : SplitLoad → List (List ℕ)
-texts_of_load load = given_text (bytes_if load.comp_dir) ++ given_text (bytes_if load.path)
+texts_of_load load = optional_text (bytes_if load.comp_dir) ++ optional_text (bytes_if load.path)
 
 -- a load with its token
 abbrev pub written_load : ℕ → SplitLoad → WrittenLoad
@@ -21,7 +21,7 @@ written_load token load = record {
   token = token;
   dwo_id = load.dwo_id.0;
   directory = text_after [] (bytes_if load.comp_dir);
-  path = text_after (given_text (bytes_if load.comp_dir)) (bytes_if load.path);
+  path = text_after (optional_text (bytes_if load.comp_dir)) (bytes_if load.path);
 }
 
 -- the parts of a load name its texts in a buffer
@@ -34,6 +34,6 @@ NamesLoad buffer out load =
 pub record IsWrittenLoad (out : WrittenLoad) (buffer : List ℕ) (needed : ℕ) (load : ℕ × SplitLoad)
     : Type 0 where
   pub parts : out ≡ written_load load.0 load.1
-  pub texts : IsFilled needed buffer (joined (texts_of_load load.1))
-  pub named : length (joined (texts_of_load load.1)) ≤ length buffer
+  pub texts : IsFilled needed buffer (zero_ended (texts_of_load load.1))
+  pub named : length (zero_ended (texts_of_load load.1)) ≤ length buffer
       → NamesLoad buffer out load.1

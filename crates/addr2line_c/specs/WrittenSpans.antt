@@ -13,8 +13,8 @@ use Rattle.addr2line_c.specs.declared.status.Status.TheVariants.{Done}
 use Rattle.addr2line_c.specs.Filled.{IsFilled}
 use Rattle.addr2line_c.specs.Sequence.{EachNames, texts_of_items, written_items}
 use Rattle.addr2line_c.specs.Status.{status_number, status_of_error}
-use Rattle.addr2line_c.specs.Texts.{NamesText, given_text, joined}
-use Rattle.addr2line_c.specs.Written.{file_of, written_location}
+use Rattle.addr2line_c.specs.Texts.{NamesText, optional_text, zero_ended}
+use Rattle.addr2line_c.specs.Written.{location_file, written_location}
 
 -- the location of a row; a fault has none
 abbrev pub location_of_span : Result LocatedSpan Error → Option Location
@@ -23,7 +23,7 @@ location_of_span (Err e) = None
 
 -- the texts of a row or a fault
 abbrev pub texts_of_span : Result LocatedSpan Error → List (List ℕ)
-texts_of_span s = given_text (file_of (location_of_span s))
+texts_of_span s = optional_text (location_file (location_of_span s))
 
 -- the row or the fault that follows these texts
 abbrev pub written_span : List (List ℕ) → Result LocatedSpan Error → WrittenSpan
@@ -50,7 +50,7 @@ texts_of_spans spans = texts_of_items texts_of_span spans
 
 -- the part of a row names its text in a buffer
 abbrev pub NamesSpan : List ℕ → WrittenSpan → Result LocatedSpan Error → Type 0
-NamesSpan buffer w s = NamesText buffer w.location.file (file_of (location_of_span s))
+NamesSpan buffer w s = NamesText buffer w.location.file (location_file (location_of_span s))
 
 -- the rows and faults from a place on among those that a range of addresses meets, so many at most
 abbrev pub spans_from : Sections → ℕ → ℕ → ℕ → ℕ
@@ -62,7 +62,7 @@ spans_from d low high first most =
 pub record IsWrittenSpans (out : List WrittenSpan) (count : ℕ) (buffer : List ℕ) (needed : ℕ)
     (spans : List (Result LocatedSpan Error)) : Type 0 where
   pub parts : IsFilled count out (written_spans spans)
-  pub texts : IsFilled needed buffer (joined (texts_of_spans spans))
+  pub texts : IsFilled needed buffer (zero_ended (texts_of_spans spans))
   pub named : length spans ≤ length out
-      → length (joined (texts_of_spans spans)) ≤ length buffer
+      → length (zero_ended (texts_of_spans spans)) ≤ length buffer
       → EachNames (NamesSpan buffer) out spans

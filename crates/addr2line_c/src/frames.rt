@@ -5,8 +5,8 @@ ghost use Rattle.gimli_read.specs.declared.error.Error.TheVariants.{OutOfMemory}
 ghost use Rattle.addr2line_units.specs.FramesLeft.{frames_left};
 ghost use Rattle.addr2line_units.specs.SeenFrame.{seen_frame, seen_name};
 ghost use Rattle.addr2line_c.specs.Filled.{IsFilled};
-ghost use Rattle.addr2line_c.specs.Texts.{given_text, joined, text_after};
-ghost use Rattle.addr2line_c.specs.Written.{chosen_name, name_of, texts_of, texts_of_all, written_frame, written_frames};
+ghost use Rattle.addr2line_c.specs.Texts.{optional_text, zero_ended, text_after};
+ghost use Rattle.addr2line_c.specs.Written.{chosen_name, frame_name, frame_texts, frames_texts, written_frame, written_frames};
 
 use crate::fill::fill;
 use crate::location::{WrittenLocation, put_location};
@@ -36,10 +36,10 @@ fn put_name<R: Reader>(
     buffer: &mut [u8],
     used: &mut usize,
 ) -> Result<TextPart, Error>
-    ensures gives { (before : List (List ℕ)) → IsFilled used.old buffer.old (joined before)
-        → OnOk result (IsFilled used.new buffer.new (joined (before
-        ++ given_text (Some (chosen_name demangles (seen_name R.section name.now)))))) }
-    ensures part { (before : List (List ℕ)) → IsFilled used.old buffer.old (joined before)
+    ensures gives { (before : List (List ℕ)) → IsFilled used.old buffer.old (zero_ended before)
+        → OnOk result (IsFilled used.new buffer.new (zero_ended (before
+        ++ optional_text (Some (chosen_name demangles (seen_name R.section name.now)))))) }
+    ensures part { (before : List (List ℕ)) → IsFilled used.old buffer.old (zero_ended before)
         → IfOk result (λ p. p ≡ text_after before
         (Some (chosen_name demangles (seen_name R.section name.now)))) }
     ensures refused { IfErr result (λ e. e ≡ OutOfMemory) }
@@ -61,12 +61,12 @@ fn put_name_if<R: Reader>(
     buffer: &mut [u8],
     used: &mut usize,
 ) -> Result<TextPart, Error>
-    ensures gives { (before : List (List ℕ)) → IsFilled used.old buffer.old (joined before)
-        → OnOk result (IsFilled used.new buffer.new (joined (before
-        ++ given_text (name_of demangles (seen_frame R.section frame.now))))) }
-    ensures part { (before : List (List ℕ)) → IsFilled used.old buffer.old (joined before)
+    ensures gives { (before : List (List ℕ)) → IsFilled used.old buffer.old (zero_ended before)
+        → OnOk result (IsFilled used.new buffer.new (zero_ended (before
+        ++ optional_text (frame_name demangles (seen_frame R.section frame.now))))) }
+    ensures part { (before : List (List ℕ)) → IsFilled used.old buffer.old (zero_ended before)
         → IfOk result (λ p. p ≡ text_after before
-        (name_of demangles (seen_frame R.section frame.now))) }
+        (frame_name demangles (seen_frame R.section frame.now))) }
     ensures refused { IfErr result (λ e. e ≡ OutOfMemory) }
     ensures memory { demangles ≡ false → IsOk result }
     ensures same { length buffer.new ≡ length buffer.old }
@@ -92,10 +92,10 @@ fn put_frame<R: Reader>(
     buffer: &mut [u8],
     used: &mut usize,
 ) -> Result<WrittenFrame, Error>
-    ensures gives { (before : List (List ℕ)) → IsFilled used.old buffer.old (joined before)
-        → OnOk result (IsFilled used.new buffer.new (joined (before
-        ++ texts_of demangles (seen_frame R.section frame.now)))) }
-    ensures part { (before : List (List ℕ)) → IsFilled used.old buffer.old (joined before)
+    ensures gives { (before : List (List ℕ)) → IsFilled used.old buffer.old (zero_ended before)
+        → OnOk result (IsFilled used.new buffer.new (zero_ended (before
+        ++ frame_texts demangles (seen_frame R.section frame.now)))) }
+    ensures part { (before : List (List ℕ)) → IsFilled used.old buffer.old (zero_ended before)
         → IfOk result (λ p. p ≡ written_frame demangles before (seen_frame R.section frame.now)) }
     ensures refused { IfErr result (λ e. e ≡ OutOfMemory) }
     ensures memory { demangles ≡ false → IsOk result }
@@ -125,7 +125,7 @@ pub(crate) fn put_frames<R: Reader>(
     ensures gives { IfOk result (λ count. IsFilled count out.new
         (written_frames demangles (frames_left frames.entry))) }
     ensures texts { OnOk result (IsFilled needed.new buffer.new
-        (joined (texts_of_all demangles (frames_left frames.entry)))) }
+        (zero_ended (frames_texts demangles (frames_left frames.entry)))) }
     ensures refused { IfErr result (λ e. e ≡ OutOfMemory) }
     ensures memory { demangles ≡ false → IsOk result }
     ensures same { (length out.new ≡ length out.old) × (length buffer.new ≡ length buffer.old) }

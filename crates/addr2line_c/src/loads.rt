@@ -7,7 +7,7 @@ ghost use Rattle.addr2line_c.specs.Answered.{HasMemory, IfNothing, SaysWhatIsThe
 ghost use Rattle.addr2line_c.specs.AskedLoads.{first_waiting, load_of_token, place_of_load, waiting_load, with_load, with_waits};
 ghost use Rattle.addr2line_c.specs.Filled.{IsFilled};
 ghost use Rattle.addr2line_c.specs.Loads.{IsWrittenLoad, bytes_if, texts_of_load, written_load};
-ghost use Rattle.addr2line_c.specs.Texts.{joined};
+ghost use Rattle.addr2line_c.specs.Texts.{zero_ended};
 
 use crate::parts::{TextPart, put_text};
 use crate::status::{Status, done_if};
@@ -60,7 +60,7 @@ pub(crate) fn put_load<R: Reader>(
     used: &mut usize,
 ) -> WrittenLoad
     ensures gives { result ≡ written_load token load.now }
-    ensures texts { IsFilled used.new buffer.new (joined (texts_of_load load.now)) }
+    ensures texts { IsFilled used.new buffer.new (zero_ended (texts_of_load load.now)) }
     ensures same { length buffer.new ≡ length buffer.old }
 {
     *used = 0;

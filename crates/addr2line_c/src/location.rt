@@ -3,8 +3,8 @@
 ghost use Rattle.std.specs.Prelude.{◌≡◌, ◌++◌, ℕ, List, length, option_map};
 ghost use Rattle.addr2line_lines.specs.SeenLocation.{seen_location};
 ghost use Rattle.addr2line_c.specs.Filled.{IsFilled};
-ghost use Rattle.addr2line_c.specs.Texts.{given_text, joined};
-ghost use Rattle.addr2line_c.specs.Written.{column_of, file_of, line_of, written_location};
+ghost use Rattle.addr2line_c.specs.Texts.{optional_text, zero_ended};
+ghost use Rattle.addr2line_c.specs.Written.{location_column, location_file, location_line, written_location};
 
 use crate::parts::{NumberPart, TextPart, number_part, put_text};
 use addr2line::Location;
@@ -22,9 +22,9 @@ pub struct WrittenLocation {
 }
 
 // The bytes of the file of a location.
-fn file_of<'a>(location: Option<Location<'a>>) -> Option<&'a [u8]>
+fn location_file<'a>(location: Option<Location<'a>>) -> Option<&'a [u8]>
     ensures gives { option_map (λ t. t.now) result
-        ≡ file_of (option_map seen_location location.entry) }
+        ≡ location_file (option_map seen_location location.entry) }
 {
     let file = location?.file?;
     Some(file.as_bytes())
@@ -32,14 +32,14 @@ fn file_of<'a>(location: Option<Location<'a>>) -> Option<&'a [u8]>
 
 // The line of a location.
 fn line_of(location: Option<Location<'_>>) -> Option<u32>
-    ensures gives { result ≡ line_of (option_map seen_location location.entry) }
+    ensures gives { result ≡ location_line (option_map seen_location location.entry) }
 {
     location?.line
 }
 
 // The column of a location.
 fn column_of(location: Option<Location<'_>>) -> Option<u32>
-    ensures gives { result ≡ column_of (option_map seen_location location.entry) }
+    ensures gives { result ≡ location_column (option_map seen_location location.entry) }
 {
     location?.column
 }
@@ -50,10 +50,10 @@ pub(crate) fn put_location(
     used: &mut usize,
     location: Option<Location<'_>>,
 ) -> WrittenLocation
-    ensures gives { (before : List (List ℕ)) → IsFilled used.old buffer.old (joined before)
-        → IsFilled used.new buffer.new (joined (before
-        ++ given_text (file_of (option_map seen_location location.entry)))) }
-    ensures part { (before : List (List ℕ)) → IsFilled used.old buffer.old (joined before)
+    ensures gives { (before : List (List ℕ)) → IsFilled used.old buffer.old (zero_ended before)
+        → IsFilled used.new buffer.new (zero_ended (before
+        ++ optional_text (location_file (option_map seen_location location.entry)))) }
+    ensures part { (before : List (List ℕ)) → IsFilled used.old buffer.old (zero_ended before)
         → result ≡ written_location before (option_map seen_location location.entry) }
     ensures same { length buffer.new ≡ length buffer.old }
 {

@@ -3,7 +3,7 @@
 ghost use Rattle.std.specs.Prelude.{◌≡◌, ◌++◌, ℕ, List, length, option_map};
 ghost use Rattle.addr2line_c.specs.Filled.{IsFilled};
 ghost use Rattle.addr2line_c.specs.Parts.{number_part, offset_part};
-ghost use Rattle.addr2line_c.specs.Texts.{given_text, joined, text_after};
+ghost use Rattle.addr2line_c.specs.Texts.{optional_text, zero_ended, text_after};
 
 use crate::fill::fill;
 
@@ -41,10 +41,10 @@ pub struct OffsetPart {
 
 /// Adds a text that may be there after those of the buffer.
 pub(crate) fn put_text(buffer: &mut [u8], used: &mut usize, text: Option<&[u8]>) -> TextPart
-    ensures gives { (before : List (List ℕ)) → IsFilled used.old buffer.old (joined before)
+    ensures gives { (before : List (List ℕ)) → IsFilled used.old buffer.old (zero_ended before)
         → IsFilled used.new buffer.new
-        (joined (before ++ given_text (option_map (λ t. t.now) text.entry))) }
-    ensures part { (before : List (List ℕ)) → IsFilled used.old buffer.old (joined before)
+        (zero_ended (before ++ optional_text (option_map (λ t. t.now) text.entry))) }
+    ensures part { (before : List (List ℕ)) → IsFilled used.old buffer.old (zero_ended before)
         → result ≡ text_after before (option_map (λ t. t.now) text.entry) }
     ensures same { length buffer.new ≡ length buffer.old }
 {

@@ -15,7 +15,7 @@ ghost use Rattle.addr2line_c.specs.Answered.{IfNothing, SaysWhatIsThere, done_if
 ghost use Rattle.addr2line_c.specs.Filled.{IsFilled};
 ghost use Rattle.addr2line_c.specs.Left.{LeavesRange, was_made};
 ghost use Rattle.addr2line_c.specs.Status.{after_reply};
-ghost use Rattle.addr2line_c.specs.Texts.{joined};
+ghost use Rattle.addr2line_c.specs.Texts.{zero_ended};
 ghost use Rattle.addr2line_c.specs.WrittenSpans.{IsWrittenSpans, spans_from, texts_of_span, texts_of_spans, written_span, written_spans};
 
 use crate::fill::fill;
@@ -44,10 +44,10 @@ fn put_span(
     used: &mut usize,
     span: Result<(u64, u64, Location<'_>), Error>,
 ) -> WrittenSpan
-    ensures gives { (before : List (List ℕ)) → IsFilled used.old buffer.old (joined before)
-        → IsFilled used.new buffer.new (joined (before
+    ensures gives { (before : List (List ℕ)) → IsFilled used.old buffer.old (zero_ended before)
+        → IsFilled used.new buffer.new (zero_ended (before
         ++ texts_of_span (result_map seen_located span.entry))) }
-    ensures part { (before : List (List ℕ)) → IsFilled used.old buffer.old (joined before)
+    ensures part { (before : List (List ℕ)) → IsFilled used.old buffer.old (zero_ended before)
         → result ≡ written_span before (result_map seen_located span.entry) }
     ensures same { length buffer.new ≡ length buffer.old }
 {
@@ -91,7 +91,7 @@ fn put_spans<R: Reader>(
     ensures gives { IsFilled result out.new
         (written_spans (take (length out.old) (locations_left spans.old))) }
     ensures texts { IsFilled needed.new buffer.new
-        (joined (texts_of_spans (take (length out.old) (locations_left spans.old)))) }
+        (zero_ended (texts_of_spans (take (length out.old) (locations_left spans.old)))) }
     ensures same { (length out.new ≡ length out.old) × (length buffer.new ≡ length buffer.old) }
 {
     let mut count = 0;

@@ -13,8 +13,8 @@ use Rattle.gimli_read.specs.declared.endian.RunTimeEndian.TheVariants.{Little, B
 use Rattle.gimli_read.specs.Number.{number_of}
 use Rattle.gimli_read.specs.declared.range.Range.{Range}
 use Rattle.elf.specs.declared.image.Piece.{Piece}
-use Rattle.elf.specs.FileImage.{Image, HasPart, IsWhole, AreInOrder, bytes_from, holds, image_bytes, is_held, piece_end, ArePiecesOf, IsPieceOf, Shows, is_range_of, piece_in, pieces_at}
-use Rattle.elf.specs.Layout.{number_at}
+use Rattle.elf.specs.FileImage.{Image, HasPart, IsWhole, ArePiecesInOrder, bytes_from, piece_holds, image_bytes, is_held, piece_end, ArePiecesOf, IsPieceOf, Shows, is_range_of, piece_in, pieces_at}
+use Rattle.elf.specs.Layout.{layout_number_at}
 
 -- where a piece stands that has n bytes at s, behind a place at
 pub record Stands (at s n : ℕ) (p : Piece) : Type 0 where
@@ -22,11 +22,11 @@ pub record Stands (at s n : ℕ) (p : Piece) : Type 0 where
   pub begins : p.start ≤ s
   pub ends : s + n ≤ piece_end p
 
-holds_is : (s n : ℕ) (p : Piece) → holds s n p ≡ true → (p.start ≤ s) × (s + n ≤ piece_end p)
+holds_is : (s n : ℕ) (p : Piece) → piece_holds s n p ≡ true → (p.start ≤ s) × (s + n ≤ piece_end p)
 holds_is s n p h = (grind (arith, nat_tests), grind (arith, nat_tests))
 
 -- the pieces and the gaps between them fill the file
-pub filled : (at len : ℕ) (ps : List Piece) → AreInOrder at len ps → (at ≤ len) × (length (bytes_from at len ps) ≡ len - at)
+pub filled : (at len : ℕ) (ps : List Piece) → ArePiecesInOrder at len ps → (at ≤ len) × (length (bytes_from at len ps) ≡ len - at)
 filled at len [] o = (o, length-replicate {A = ℕ} (len - at) 0)
 filled at len (p ∷ ps) o =
     let rest = filled (piece_end p) len ps o.1 in
@@ -39,9 +39,9 @@ filled at len (p ∷ ps) o =
     (omega (arith, before, after), omega (arith, whole, front, gap, size, before, after))
 
 -- the next of the pieces in order follows a place, within the file
-pub next_in_order : (at len i : ℕ) (ps : List Piece) (p : Piece) → i < length ps → p ≡ get_or ps i p → AreInOrder at len (drop i ps) → (at ≤ p.start) × (piece_end p ≤ len)
+pub next_in_order : (at len i : ℕ) (ps : List Piece) (p : Piece) → i < length ps → p ≡ get_or ps i p → ArePiecesInOrder at len (drop i ps) → (at ≤ p.start) × (piece_end p ≤ len)
 next_in_order at len i ps p lt is o =
-    let Ordered : List Piece → Type 0 = λ (qs : List Piece). AreInOrder at len qs in
+    let Ordered : List Piece → Type 0 = λ (qs : List Piece). ArePiecesInOrder at len qs in
     let here : Ordered (p ∷ drop (i + 1) ps) = subst Ordered (drop_more ps i p lt ∙ ap (λ (q : Piece). q ∷ drop (i + 1) ps) (sym is)) o in
     (here.0, (filled (piece_end p) len (drop (i + 1) ps) here.1).0)
 
@@ -64,12 +64,12 @@ behind at s front rest end size after begins =
     ap (λ k. drop k (front ++ rest)) place ∙ drop-append-add front rest (s - end)
 
 -- the piece that is found has its bytes
-pub found_part : (at len s n : ℕ) (ps : List Piece) (p : Piece) → AreInOrder at len ps → find (holds s n) ps ≡ Some p
+pub found_part : (at len s n : ℕ) (ps : List Piece) (p : Piece) → ArePiecesInOrder at len ps → find (piece_holds s n) ps ≡ Some p
     → Stands at s n p × (take n (drop (s - at) (bytes_from at len ps)) ≡ take n (drop (s - p.start) p.bytes.bytes))
 found_part at len s n [] p o e = absurd cc
-found_part at len s n (q ∷ ps) p o e = by_cases (holds s n q) refl (λ r. found_part (piece_end q) len s n ps p o.1 r)
+found_part at len s n (q ∷ ps) p o e = by_cases (piece_holds s n q) refl (λ r. found_part (piece_end q) len s n ps p o.1 r)
   where
-    by_cases : (b : Bool) → holds s n q ≡ b → (find (holds s n) ps ≡ Some p → Stands (piece_end q) s n p × (take n (drop (s - piece_end q) (bytes_from (piece_end q) len ps)) ≡ take n (drop (s - p.start) p.bytes.bytes)))
+    by_cases : (b : Bool) → piece_holds s n q ≡ b → (find (piece_holds s n) ps ≡ Some p → Stands (piece_end q) s n p × (take n (drop (s - piece_end q) (bytes_from (piece_end q) len ps)) ≡ take n (drop (s - p.start) p.bytes.bytes)))
         → Stands at s n p × (take n (drop (s - at) (bytes_from at len (q ∷ ps))) ≡ take n (drop (s - p.start) p.bytes.bytes))
     by_cases true h next =
         let same : q ≡ p = cc in
@@ -78,7 +78,7 @@ found_part at len s n (q ∷ ps) p o e = by_cases (holds s n q) refl (λ r. foun
         subst (λ x. Stands at s n x × (take n (drop (s - at) (bytes_from at len (q ∷ ps))) ≡ take n (drop (s - x.start) x.bytes.bytes))) same
         (record { after = o.0; begins = held.0; ends = held.1 }, part)
     by_cases false h next =
-        let rest : find (holds s n) ps ≡ Some p = cc in
+        let rest : find (piece_holds s n) ps ≡ Some p = cc in
         let there = next rest in
         let after = there.0.after in
         let begins = there.0.begins in
@@ -94,9 +94,9 @@ zero_at (suc n) zero = refl
 zero_at (suc n) (suc k) = zero_at n k
 
 -- where no piece has a byte, it is zero
-pub zero_outside : (at len s : ℕ) (ps : List Piece) → AreInOrder at len ps → at ≤ s → find (holds s 1) ps ≡ None → get_or (bytes_from at len ps) (s - at) 0 ≡ 0
+pub zero_outside : (at len s : ℕ) (ps : List Piece) → ArePiecesInOrder at len ps → at ≤ s → find (piece_holds s 1) ps ≡ None → get_or (bytes_from at len ps) (s - at) 0 ≡ 0
 zero_outside at len s [] o begins e = zero_at (len - at) (s - at)
-zero_outside at len s (q ∷ ps) o begins e = by_cases (holds s 1 q) refl (λ r b. zero_outside (piece_end q) len s ps o.1 b r)
+zero_outside at len s (q ∷ ps) o begins e = by_cases (piece_holds s 1 q) refl (λ r b. zero_outside (piece_end q) len s ps o.1 b r)
   where
     zeros : List ℕ
     zeros = replicate (q.start - at) 0
@@ -104,7 +104,7 @@ zero_outside at len s (q ∷ ps) o begins e = by_cases (holds s 1 q) refl (λ r 
     rest : List ℕ
     rest = bytes_from (piece_end q) len ps
 
-    by_place : (find (holds s 1) ps ≡ None) → holds s 1 q ≡ false → (find (holds s 1) ps ≡ None → piece_end q ≤ s → get_or rest (s - piece_end q) 0 ≡ 0)
+    by_place : (find (piece_holds s 1) ps ≡ None) → piece_holds s 1 q ≡ false → (find (piece_holds s 1) ps ≡ None → piece_end q ≤ s → get_or rest (s - piece_end q) 0 ≡ 0)
         → (s < q.start) ⊎ (q.start ≤ s) → get_or ((zeros ++ q.bytes.bytes) ++ rest) (s - at) 0 ≡ 0
     by_place none h next (inl l) =
         let gap = length-replicate {A = ℕ} (q.start - at) 0 in
@@ -118,20 +118,20 @@ zero_outside at len s (q ∷ ps) o begins e = by_cases (holds s 1 q) refl (λ r 
         let place : (s - at) - (piece_end q - at) ≡ s - piece_end q = omega (arith, past, before) in
         get_or-append_right (zeros ++ q.bytes.bytes) rest (piece_end q - at) (s - at) 0 (omega (arith, gap, front, before)) (omega (arith, past, before)) ∙ ap (λ k. get_or rest k 0) place ∙ next none past
 
-    by_cases : (b : Bool) → holds s 1 q ≡ b → (find (holds s 1) ps ≡ None → piece_end q ≤ s → get_or rest (s - piece_end q) 0 ≡ 0)
+    by_cases : (b : Bool) → piece_holds s 1 q ≡ b → (find (piece_holds s 1) ps ≡ None → piece_end q ≤ s → get_or rest (s - piece_end q) 0 ≡ 0)
         → get_or ((zeros ++ q.bytes.bytes) ++ rest) (s - at) 0 ≡ 0
     by_cases true h next = absurd cc
-    by_cases false h next = by_place (ap (λ (b : Bool). cond b (Some q) (find (holds s 1) ps)) (sym h) ∙ e) h next (cases_lt s q.start)
+    by_cases false h next = by_place (ap (λ (b : Bool). cond b (Some q) (find (piece_holds s 1) ps)) (sym h) ∙ e) h next (cases_lt s q.start)
 
 -- the bytes of a file are as many as its length says
-pub bytes_length : (i : Image) → AreInOrder 0 i.len i.pieces → length (image_bytes i) ≡ i.len
+pub bytes_length : (i : Image) → ArePiecesInOrder 0 i.len i.pieces → length (image_bytes i) ≡ i.len
 unfolding image_bytes
 bytes_length i o =
     let same : i.len - 0 ≡ i.len = omega arith in
     (filled 0 i.len i.pieces o).1 ∙ same
 
 -- the piece that is found has its bytes
-pub has_part : (i : Image) (s n : ℕ) (p : Piece) → AreInOrder 0 i.len i.pieces → find (holds s n) i.pieces ≡ Some p → HasPart s n i p
+pub has_part : (i : Image) (s n : ℕ) (p : Piece) → ArePiecesInOrder 0 i.len i.pieces → find (piece_holds s n) i.pieces ≡ Some p → HasPart s n i p
 unfolding image_bytes
 has_part i s n p o e =
     let there = found_part 0 i.len s n i.pieces p o e in
@@ -147,7 +147,7 @@ has_part i s n p o e =
     }
 
 -- a byte that no piece has
-pub not_held : (i : Image) (s : ℕ) → AreInOrder 0 i.len i.pieces → find (holds s 1) i.pieces ≡ None → get_or (image_bytes i) s 0 ≡ 0
+pub not_held : (i : Image) (s : ℕ) → ArePiecesInOrder 0 i.len i.pieces → find (piece_holds s 1) i.pieces ≡ None → get_or (image_bytes i) s 0 ≡ 0
 unfolding image_bytes
 not_held i s o e =
     let same : s ≡ s - 0 = omega arith in
@@ -166,17 +166,17 @@ whole_image p len start size =
   where
     held : (at n : ℕ) → at + n ≤ length p.bytes.bytes → is_held at n (record { len = len; pieces = p ∷ [] }) ≡ true
     held at n h =
-        let t : holds at n p ≡ true = grind (arith, nat_tests) in
+        let t : piece_holds at n p ≡ true = grind (arith, nat_tests) in
         ap (λ (b : Bool). is_some (cond b (Some p) None)) t
 
 -- what the answer to the search for a piece says
-pub piece_found : {X : Type 0} (see : X → Piece) (i : Image) (s n : ℕ) (r : Option X) → AreInOrder 0 i.len i.pieces → option_map see r ≡ find (holds s n) i.pieces
+pub piece_found : {X : Type 0} (see : X → Piece) (i : Image) (s n : ℕ) (r : Option X) → ArePiecesInOrder 0 i.len i.pieces → option_map see r ≡ find (piece_holds s n) i.pieces
     → IfSome r (λ p. HasPart s n i (see p)) × (is_some r ≡ is_held s n i) × (r ≡ None → n ≡ 1 → get_or (image_bytes i) s 0 ≡ 0)
 piece_found see i s n None o e = (
   tt,
   ap is_some e,
   λ none one.
-      let N : ℕ → Type 0 = λ k. None ≡ find (holds s k) i.pieces in
+      let N : ℕ → Type 0 = λ k. None ≡ find (piece_holds s k) i.pieces in
       not_held i s o (sym (subst N one e)),
 )
 piece_found see i s n (Some x) o e = (has_part i s n (see x) o (sym e), ap is_some e, λ none one. absurd cc)
@@ -188,8 +188,8 @@ number_of_shown Big n xs ys e = sym (big_from-take 0 n n xs (omega arith)) ∙ a
 
 -- the number at a place of a file, by bytes that begin as those of the file do there
 pub number_shown : (o : RunTimeEndian) (base at n start : ℕ) (shown bytes : List ℕ) → start ≡ base + at → take n shown ≡ take n (drop start bytes)
-    → number_at o 0 n shown ≡ number_at o at n (drop base bytes)
-unfolding number_at
+    → layout_number_at o 0 n shown ≡ layout_number_at o at n (drop base bytes)
+unfolding layout_number_at
 number_shown o base at n start shown bytes place e =
     let there = ap (λ k. take n (drop k bytes)) place ∙ sym (ap (take n) (drop-drop at base bytes)) in
     number_of_shown o n shown (drop at (drop base bytes)) (e ∙ there)
@@ -203,11 +203,11 @@ one_more shown bytes start i b place room inside at is e =
     take_more_set shown i b room ∙ ap (λ xs. xs ++ b ∷ []) e ∙ ap (λ x. take i (drop start bytes) ++ x ∷ []) there ∙ sym (take_more (drop start bytes) i 0 (omega (arith, inside, left)))
 
 -- the piece that is found is one of them
-found_of : (bytes : List ℕ) (s n : ℕ) (ps : List Piece) (p : Piece) → ArePiecesOf bytes ps → find (holds s n) ps ≡ Some p → IsPieceOf bytes p
+found_of : (bytes : List ℕ) (s n : ℕ) (ps : List Piece) (p : Piece) → ArePiecesOf bytes ps → find (piece_holds s n) ps ≡ Some p → IsPieceOf bytes p
 found_of bytes s n [] p h e = absurd cc
-found_of bytes s n (q ∷ ps) p h e = by_cases (holds s n q) refl (λ r. found_of bytes s n ps p h.1 r)
+found_of bytes s n (q ∷ ps) p h e = by_cases (piece_holds s n q) refl (λ r. found_of bytes s n ps p h.1 r)
   where
-    by_cases : (b : Bool) → holds s n q ≡ b → (find (holds s n) ps ≡ Some p → IsPieceOf bytes p) → IsPieceOf bytes p
+    by_cases : (b : Bool) → piece_holds s n q ≡ b → (find (piece_holds s n) ps ≡ Some p → IsPieceOf bytes p) → IsPieceOf bytes p
     by_cases true t next = let same : q ≡ p = cc in subst (IsPieceOf bytes) same h.0
     by_cases false t next = next cc
 
@@ -223,12 +223,12 @@ part_same bytes own start s n is begins ends =
     ap (take n) cut ∙ take-take n (m - k) (drop s bytes) (omega (arith, begins, ends))
 
 -- pieces of a file show it
-pub pieces_show : (len : ℕ) (ps : List Piece) (bytes : List ℕ) → AreInOrder 0 len ps → len ≡ length bytes → ArePiecesOf bytes ps → Shows (record { len = len; pieces = ps }) bytes
+pub pieces_show : (len : ℕ) (ps : List Piece) (bytes : List ℕ) → ArePiecesInOrder 0 len ps → len ≡ length bytes → ArePiecesOf bytes ps → Shows (record { len = len; pieces = ps }) bytes
 pieces_show len ps bytes o size are =
     let i : Image = record { len = len; pieces = ps } in
-    record { len = bytes_length i o ∙ size; same = λ s n h. by_search i s n (find (holds s n) ps) refl h }
+    record { len = bytes_length i o ∙ size; same = λ s n h. by_search i s n (find (piece_holds s n) ps) refl h }
   where
-    by_search : (i : Image) (s n : ℕ) (r : Option Piece) → find (holds s n) ps ≡ r → is_some (find (holds s n) ps) ≡ true
+    by_search : (i : Image) (s n : ℕ) (r : Option Piece) → find (piece_holds s n) ps ≡ r → is_some (find (piece_holds s n) ps) ≡ true
         → take n (drop s (image_bytes (record { len = len; pieces = ps }))) ≡ take n (drop s bytes)
     by_search i s n None e h = absurd cc
     by_search i s n (Some p) e h =

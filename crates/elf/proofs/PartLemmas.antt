@@ -18,7 +18,7 @@ use Rattle.elf.specs.declared.layout.Class.TheVariants.{Elf32, Elf64}
 use Rattle.elf.specs.declared.layout.Layout.{Layout}
 use Rattle.elf.specs.FileImage.{AreRangesOf, Image, Shows, image_bytes, image_in, is_held, piece_in}
 use Rattle.elf.specs.Header.{magic, has_magic, class_of, endian_of, headers_in, ident_in, header_in, section_in, sections_in}
-use Rattle.elf.specs.Layout.{FieldsInHeader, FieldsInSection, layout_of, number_at}
+use Rattle.elf.specs.Layout.{FieldsInHeader, FieldsInSection, layout_of, layout_number_at}
 use Rattle.elf.specs.Loading.{Loading}
 use Rattle.elf.proofs.ImageLemmas.{number_of_shown}
 
@@ -32,8 +32,8 @@ part_alike n k m xs ys e h = sym (cut xs) ∙ ap (λ zs. take m (drop k zs)) e �
         ap (λ j. take m (drop k (take j zs))) fits ∙ ap (take m) (drop-take k (n - k) zs) ∙ take-take m (n - k) (drop k zs) (omega (arith, h))
 
 -- and the same number
-pub number_alike : (o : RunTimeEndian) (n k m : ℕ) (xs ys : List ℕ) → take n xs ≡ take n ys → k + m ≤ n → number_at o k m xs ≡ number_at o k m ys
-unfolding number_at
+pub number_alike : (o : RunTimeEndian) (n k m : ℕ) (xs ys : List ℕ) → take n xs ≡ take n ys → k + m ≤ n → layout_number_at o k m xs ≡ layout_number_at o k m ys
+unfolding layout_number_at
 number_alike o n k m xs ys e h = number_of_shown o m (drop k xs) (drop k ys) (part_alike n k m xs ys e h)
 
 -- and the same byte
@@ -98,11 +98,11 @@ ident_alike xs ys len e =
 
 -- where the section headers begin
 abbrev pub start_in : RunTimeEndian → Layout → List ℕ → ℕ
-start_in o l bytes = number_at o l.e_shoff l.address_size bytes
+start_in o l bytes = layout_number_at o l.e_shoff l.address_size bytes
 
 -- the size of a section header at a place
 abbrev pub size_at : RunTimeEndian → Layout → ℕ → List ℕ → ℕ
-size_at o l at bytes = number_at o l.sh_size l.address_size (drop at bytes)
+size_at o l at bytes = layout_number_at o l.sh_size l.address_size (drop at bytes)
 
 -- a header of these parts
 abbrev header_with : Bool → ℕ → ℕ → ℕ → FileHeader
@@ -117,7 +117,7 @@ header_by l len kind start entry count index size = cond (nat_lt len l.header_si
     cond (nat_lt len (start + n * l.section_size)) (Err BadElf) (Ok (header_with (kind == ET_REL) start n index)))))
 
 header_is : (o : RunTimeEndian) (l : Layout) (xs : List ℕ)
-    → header_in o l xs ≡ header_by l (length xs) (number_at o l.e_type HALF_SIZE xs) (start_in o l xs) (number_at o l.e_shentsize HALF_SIZE xs) (number_at o l.e_shnum HALF_SIZE xs) (number_at o l.e_shstrndx HALF_SIZE xs) (size_at o l (start_in o l xs) xs)
+    → header_in o l xs ≡ header_by l (length xs) (layout_number_at o l.e_type HALF_SIZE xs) (start_in o l xs) (layout_number_at o l.e_shentsize HALF_SIZE xs) (layout_number_at o l.e_shnum HALF_SIZE xs) (layout_number_at o l.e_shstrndx HALF_SIZE xs) (size_at o l (start_in o l xs) xs)
 unfolding header_in header_by
 header_is o l xs = refl
 

@@ -8,7 +8,7 @@ use Rattle.gimli_read.specs.Reading.{◌>>=◌}
 use Rattle.gimli_read.specs.Section.{Section}
 use Rattle.elf.specs.declared.error.LoaderError.TheVariants.{BadElf, CompressedSection, RelocationsNeeded}
 use Rattle.elf.specs.declared.section.SectionHeader.{SectionHeader}
-use Rattle.elf.specs.Compressed.{Packed, decompressed_at, decompressed_of, first_zdebug, missing_decompressed, packed_in, unpacked_contents, zdebug_of, zdebug_packed_in}
+use Rattle.elf.specs.Compressed.{PackedSection, decompressed_at, decompressed_of, first_zdebug, missing_decompressed, packed_in, unpacked_contents, zdebug_of, zdebug_packed_in}
 use Rattle.elf.specs.DecompressionMemory.{contents_take_memory, decompression_takes_memory, missing_takes_memory, packed_takes_memory, zdebug_takes_memory}
 use Rattle.elf.specs.FileImage.{Image, Shows, image_bytes, is_held}
 use Rattle.elf.specs.ImageLaws.{AnswersAlike}
@@ -109,12 +109,12 @@ module _ (image : Image) (bytes : List ℕ) (shows : Shows image bytes) (f : Obj
       (λ x e. contents_same x.0 x.1 (first_shown all name x wanted e))
 
   -- ---- what a section has that is decompressed
-  unpacked_same : (n : ℕ) (r : Loading Packed) → (r >>= unpacked_contents of_image n) ≡ (r >>= unpacked_contents of_bytes n)
+  unpacked_same : (n : ℕ) (r : Loading PackedSection) → (r >>= unpacked_contents of_image n) ≡ (r >>= unpacked_contents of_bytes n)
   unfolding unpacked_contents
   unpacked_same n (Ok p) = refl
   unpacked_same n (Err e) = refl
 
-  abbrev packed_by : List ℕ → Loading Packed
+  abbrev packed_by : List ℕ → Loading PackedSection
   packed_by own = packed_in f.endian (layout_of f.class).address_size own
 
   decompressed_same : (n : ℕ) (s : SectionHeader) → is_shown image s ≡ true → decompressed_of of_image n s ≡ decompressed_of of_bytes n s
@@ -147,7 +147,7 @@ module _ (image : Image) (bytes : List ℕ) (shows : Shows image bytes) (f : Obj
       (missing_decompressed_same t all name wanted) (λ x e. decompressed_same x.0 x.1 (first_shown all name x wanted e))
 
   -- ---- where that takes memory
-  stream_same : (n : ℕ) (r : Loading Packed) → packed_takes_memory of_image n r ≡ packed_takes_memory of_bytes n r
+  stream_same : (n : ℕ) (r : Loading PackedSection) → packed_takes_memory of_image n r ≡ packed_takes_memory of_bytes n r
   stream_same n (Ok p) = refl
   stream_same n (Err e) = refl
 

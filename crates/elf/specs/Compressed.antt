@@ -18,29 +18,29 @@ use Rattle.inflate.specs.Stream.{inflated}
 use Rattle.elf.specs.declared.constants.TheConstants.{WORD_SIZE, ELFCOMPRESS_ZLIB, ZLIB_SIZE, ZLIB_HEADER_SIZE}
 use Rattle.elf.specs.declared.error.LoaderError.TheVariants.{BadElf, CompressedSection, RelocationsNeeded}
 use Rattle.elf.specs.declared.section.SectionHeader.{SectionHeader}
-use Rattle.elf.specs.Layout.{number_at, layout_of}
+use Rattle.elf.specs.Layout.{layout_number_at, layout_of}
 use Rattle.elf.specs.Loading.{Loading}
 use Rattle.elf.specs.ObjectFile.{ObjectFile}
 use Rattle.elf.specs.SectionBytes.{bytes_at, is_nobits, is_outside, section_bytes_in}
 use Rattle.elf.specs.Sections.{section_names_of, first_named, is_zdebug, is_compressed, is_relocated, empty_contents, contents_of}
 
 -- the size that a stream is to have, and the stream
-abbrev pub Packed : Type 0
-Packed = ℕ × List ℕ
+abbrev pub PackedSection : Type 0
+PackedSection = ℕ × List ℕ
 
 -- behind a compression header of three addresses' size: ch_type, ch_size, ch_addralign
-unfoldable pub packed_in : RunTimeEndian → ℕ → List ℕ → Loading Packed
+unfoldable pub packed_in : RunTimeEndian → ℕ → List ℕ → Loading PackedSection
 packed_in endian size bytes =
     if nat_lt (length bytes) (3 * size) then Err BadElf
-    else if not (number_at endian 0 WORD_SIZE bytes == ELFCOMPRESS_ZLIB) then Err CompressedSection
-    else Ok (number_at endian size size bytes, drop (3 * size) bytes)
+    else if not (layout_number_at endian 0 WORD_SIZE bytes == ELFCOMPRESS_ZLIB) then Err CompressedSection
+    else Ok (layout_number_at endian size size bytes, drop (3 * size) bytes)
 
 -- behind "ZLIB" and the size in eight bytes, the highest first
-unfoldable pub zdebug_packed_in : List ℕ → Loading Packed
+unfoldable pub zdebug_packed_in : List ℕ → Loading PackedSection
 zdebug_packed_in bytes =
     if not (starts_with nat_eq bytes (codes "ZLIB")) then Err BadElf
     else if nat_lt (length bytes) ZLIB_HEADER_SIZE then Err BadElf
-    else Ok (number_at Big 4 ZLIB_SIZE bytes, drop ZLIB_HEADER_SIZE bytes)
+    else Ok (layout_number_at Big 4 ZLIB_SIZE bytes, drop ZLIB_HEADER_SIZE bytes)
 
 -- what a stream gave, if it has the size
 abbrev pub of_size : ℕ → OrFault (List ℕ) → Loading (List ℕ)
@@ -48,13 +48,13 @@ of_size size (Ok bytes) = if length bytes == size then Ok bytes else Err BadElf
 of_size size (Err e) = Err BadElf
 
 -- what a stream inflates to, if it has the size
-unfoldable pub unpacked : Packed → Loading (List ℕ)
-unpacked p = of_size p.0 (inflated p.0 p.1)
+unfoldable pub unpacked_section : PackedSection → Loading (List ℕ)
+unpacked_section p = of_size p.0 (inflated p.0 p.1)
 
 -- the bytes of section n in a file's order, which a stream has
-unfoldable pub unpacked_contents : ObjectFile → ℕ → Packed → Loading Section
+unfoldable pub unpacked_contents : ObjectFile → ℕ → PackedSection → Loading Section
 unpacked_contents file n p = if is_relocated file n then Err RelocationsNeeded
-    else unpacked p >>= λ bytes. Ok (record { bytes = bytes; endian = file.endian })
+    else unpacked_section p >>= λ bytes. Ok (record { bytes = bytes; endian = file.endian })
 
 -- the bytes of section n, decompressed where they are compressed
 unfoldable pub decompressed_of : ObjectFile → ℕ → SectionHeader → Loading Section

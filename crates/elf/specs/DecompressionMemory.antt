@@ -5,7 +5,7 @@ use Rattle.std.specs.Prelude.{ℕ, ◌&&◌, ◌||◌, Bool, false, not, List, O
 use Rattle.std.specs.Option.{option_map_or}
 use Rattle.inflate.specs.Memory.{stream_takes_memory}
 use Rattle.elf.specs.declared.section.SectionHeader.{SectionHeader}
-use Rattle.elf.specs.Compressed.{Packed, packed_in, zdebug_packed_in, first_zdebug}
+use Rattle.elf.specs.Compressed.{PackedSection, packed_in, zdebug_packed_in, first_zdebug}
 use Rattle.elf.specs.Layout.{layout_of}
 use Rattle.elf.specs.Loading.{Loading}
 use Rattle.elf.specs.ObjectFile.{ObjectFile}
@@ -13,11 +13,11 @@ use Rattle.elf.specs.SectionBytes.{bytes_at, is_nobits, is_outside, section_byte
 use Rattle.elf.specs.Sections.{contents_of, first_named, gives_bytes_of_file, is_compressed, is_relocated}
 
 -- whether the stream in section n takes memory, if relocations don't refuse it
-abbrev pub unpacking_takes_memory : ObjectFile → ℕ → Packed → Bool
+abbrev pub unpacking_takes_memory : ObjectFile → ℕ → PackedSection → Bool
 unpacking_takes_memory file n p = not (is_relocated file n) && stream_takes_memory p.0 p.1
 
 -- the same of a stream behind a header, if that is right
-abbrev pub packed_takes_memory : ObjectFile → ℕ → Loading Packed → Bool
+abbrev pub packed_takes_memory : ObjectFile → ℕ → Loading PackedSection → Bool
 packed_takes_memory file n (Ok p) = unpacking_takes_memory file n p
 packed_takes_memory file n (Err e) = false
 

@@ -23,27 +23,27 @@ bytes_from at len (p ∷ pieces) =
     (replicate (p.start - at) 0 ++ p.bytes.bytes) ++ bytes_from (piece_end p) len pieces
 
 -- the pieces stand one after another from a place on, and none passes the file's end
-abbrev pub AreInOrder : ℕ → ℕ → List Piece → Type 0
-AreInOrder at len [] = at ≤ len
-AreInOrder at len (p ∷ pieces) = (at ≤ p.start) × AreInOrder (piece_end p) len pieces
+abbrev pub ArePiecesInOrder : ℕ → ℕ → List Piece → Type 0
+ArePiecesInOrder at len [] = at ≤ len
+ArePiecesInOrder at len (p ∷ pieces) = (at ≤ p.start) × ArePiecesInOrder (piece_end p) len pieces
 
 -- the bytes of the file
 unfoldable pub image_bytes : Image → List ℕ
 image_bytes image = bytes_from 0 image.len image.pieces
 
 -- whether a piece has the n bytes at a place
-abbrev pub holds : ℕ → ℕ → Piece → Bool
-holds at n p = nat_le p.start at && nat_le (at + n) (piece_end p)
+abbrev pub piece_holds : ℕ → ℕ → Piece → Bool
+piece_holds at n p = nat_le p.start at && nat_le (at + n) (piece_end p)
 
 -- a piece has the n bytes of a file at a place
 pub record HasPart (at n : ℕ) (image : Image) (p : Piece) : Type 0 where
-  pub held : holds at n p ≡ true
+  pub held : piece_holds at n p ≡ true
   pub part : take n (drop (at - p.start) p.bytes.bytes) ≡ take n (drop at (image_bytes image))
   pub len : length (take n (drop at (image_bytes image))) ≡ n
 
 -- whether one piece has the n bytes at a place
 abbrev pub is_held : ℕ → ℕ → Image → Bool
-is_held at n image = is_some (find (holds at n) image.pieces)
+is_held at n image = is_some (find (piece_holds at n) image.pieces)
 
 -- one piece has any bytes of the file that stand side by side
 abbrev pub IsWhole : Image → Type 0
@@ -95,4 +95,4 @@ image_in bytes rs = record { len = length bytes; pieces = map (piece_in bytes) r
 pub record AreRangesOf (bytes : List ℕ) (rs : List Range) : Type 0 where
   pub some : 1 ≤ length rs
   pub within : list_all (is_range_of bytes) rs ≡ true
-  pub in_order : AreInOrder 0 (length bytes) (map (piece_in bytes) rs)
+  pub in_order : ArePiecesInOrder 0 (length bytes) (map (piece_in bytes) rs)

@@ -16,7 +16,7 @@ use Rattle.elf.specs.declared.layout.Layout.{Layout}
 use Rattle.elf.specs.declared.header.Ident.{Ident}
 use Rattle.elf.specs.declared.header.FileHeader.{FileHeader}
 use Rattle.elf.specs.declared.section.SectionHeader.{SectionHeader}
-use Rattle.elf.specs.Layout.{layout_of, number_at}
+use Rattle.elf.specs.Layout.{layout_of, layout_number_at}
 use Rattle.elf.specs.Loading.{Loading}
 
 -- the bytes that an ELF file begins with
@@ -47,43 +47,43 @@ ident_in bytes = if not (has_magic bytes) then Err NotElf
 
 -- the number of section headers from a place on; where e_shnum is 0, it is the size of section 0
 abbrev pub count_in : RunTimeEndian → Layout → ℕ → List ℕ → Loading ℕ
-count_in endian l at bytes = if not (number_at endian l.e_shnum HALF_SIZE bytes == 0)
-    then Ok (number_at endian l.e_shnum HALF_SIZE bytes)
+count_in endian l at bytes = if not (layout_number_at endian l.e_shnum HALF_SIZE bytes == 0)
+    then Ok (layout_number_at endian l.e_shnum HALF_SIZE bytes)
     else if nat_lt (length bytes) (at + l.section_size) then Err BadElf
-    else Ok (number_at endian l.sh_size l.address_size (drop at bytes))
+    else Ok (layout_number_at endian l.sh_size l.address_size (drop at bytes))
 
 -- whether the file is relocatable: one that was not linked yet
 abbrev pub is_relocatable_in : RunTimeEndian → Layout → List ℕ → Bool
-is_relocatable_in endian l bytes = number_at endian l.e_type HALF_SIZE bytes == ET_REL
+is_relocatable_in endian l bytes = layout_number_at endian l.e_type HALF_SIZE bytes == ET_REL
 
 -- the file's header; without section headers its other fields about them aren't looked at
 unfoldable pub header_in : RunTimeEndian → Layout → List ℕ → Loading FileHeader
 header_in endian l bytes = if nat_lt (length bytes) l.header_size then Err BadElf
-    else (let start = number_at endian l.e_shoff l.address_size bytes in
+    else (let start = layout_number_at endian l.e_shoff l.address_size bytes in
     let is_relocatable = is_relocatable_in endian l bytes in
     if start == 0
     then Ok (record { is_relocatable = is_relocatable; start = 0; count = 0; name_index = 0 })
-    else if not (number_at endian l.e_shentsize HALF_SIZE bytes == l.section_size) then Err BadElf
+    else if not (layout_number_at endian l.e_shentsize HALF_SIZE bytes == l.section_size) then Err BadElf
     else (count_in endian l start bytes >>= λ count.
     if nat_lt (length bytes) (start + count * l.section_size) then Err BadElf
     else Ok (record {
       is_relocatable = is_relocatable;
       start = start;
       count = count;
-      name_index = number_at endian l.e_shstrndx HALF_SIZE bytes;
+      name_index = layout_number_at endian l.e_shstrndx HALF_SIZE bytes;
     })))
 
 -- the section header at the front
 abbrev pub section_in : RunTimeEndian → Layout → List ℕ → SectionHeader
 section_in endian l bytes = record {
-  name = number_at endian l.sh_name WORD_SIZE bytes;
-  kind = number_at endian l.sh_type WORD_SIZE bytes;
-  flags = number_at endian l.sh_flags l.address_size bytes;
-  address = number_at endian l.sh_addr l.address_size bytes;
-  offset = number_at endian l.sh_offset l.address_size bytes;
-  size = number_at endian l.sh_size l.address_size bytes;
-  link = number_at endian l.sh_link WORD_SIZE bytes;
-  info = number_at endian l.sh_info WORD_SIZE bytes;
+  name = layout_number_at endian l.sh_name WORD_SIZE bytes;
+  kind = layout_number_at endian l.sh_type WORD_SIZE bytes;
+  flags = layout_number_at endian l.sh_flags l.address_size bytes;
+  address = layout_number_at endian l.sh_addr l.address_size bytes;
+  offset = layout_number_at endian l.sh_offset l.address_size bytes;
+  size = layout_number_at endian l.sh_size l.address_size bytes;
+  link = layout_number_at endian l.sh_link WORD_SIZE bytes;
+  info = layout_number_at endian l.sh_info WORD_SIZE bytes;
 }
 
 -- the n section headers at the front

@@ -9,8 +9,8 @@ use Rattle.elf.specs.declared.layout.Class.TheVariants.{Elf32, Elf64}
 use Rattle.elf.specs.declared.layout.Layout.{Layout}
 
 -- the number in the n bytes at a place
-unfoldable pub number_at : RunTimeEndian → ℕ → ℕ → List ℕ → ℕ
-number_at endian at n bytes = number_of endian n (drop at bytes)
+unfoldable pub layout_number_at : RunTimeEndian → ℕ → ℕ → List ℕ → ℕ
+layout_number_at endian at n bytes = number_of endian n (drop at bytes)
 
 -- the offsets and sizes of a class
 abbrev pub layout_of : Class → Layout

@@ -17,7 +17,7 @@ use Rattle.elf.specs.declared.layout.Layout.{Layout}
 use Rattle.elf.specs.declared.section.SectionHeader.{SectionHeader}
 use Rattle.elf.specs.declared.symbol.SymbolEntry.{SymbolEntry}
 use Rattle.elf.specs.declared.symbol.Symbol.{Symbol}
-use Rattle.elf.specs.Layout.{number_at, layout_of}
+use Rattle.elf.specs.Layout.{layout_number_at, layout_of}
 use Rattle.elf.specs.SectionBytes.{section_bytes_in, string_table_in, table_text_at}
 use Rattle.elf.specs.ObjectFile.{ObjectFile}
 
@@ -52,11 +52,11 @@ symbol_names_of file = string_table_in file.bytes file.sections (symbol_names_nu
 -- the entry at the front
 abbrev pub symbol_entry_in : RunTimeEndian → Layout → List ℕ → SymbolEntry
 symbol_entry_in endian l bytes = record {
-  name = number_at endian l.st_name WORD_SIZE bytes;
+  name = layout_number_at endian l.st_name WORD_SIZE bytes;
   info = slice_index bytes l.st_info;
-  section = number_at endian l.st_shndx HALF_SIZE bytes;
-  address = number_at endian l.st_value l.address_size bytes;
-  size = number_at endian l.st_size l.address_size bytes;
+  section = layout_number_at endian l.st_shndx HALF_SIZE bytes;
+  address = layout_number_at endian l.st_value l.address_size bytes;
+  size = layout_number_at endian l.st_size l.address_size bytes;
 }
 
 -- the n entries at the front

@@ -5,7 +5,7 @@ ghost use Rattle.gimli_read.specs.Reading.{result_map};
 ghost use Rattle.elf.specs.Layout.{layout_of};
 ghost use Rattle.inflate.specs.Memory.{stream_takes_memory};
 ghost use Rattle.elf.specs.Loading.{LoadsUnlessOomIf};
-ghost use Rattle.elf.specs.Compressed.{packed_in, zdebug_packed_in, unpacked};
+ghost use Rattle.elf.specs.Compressed.{packed_in, zdebug_packed_in, unpacked_section};
 
 use crate::constants::{ELFCOMPRESS_ZLIB, WORD_SIZE, ZLIB_HEADER_SIZE, ZLIB_SIZE};
 use crate::error::LoaderError;
@@ -54,10 +54,10 @@ pub(crate) fn zdebug_packed(bytes: &[u8]) -> Result<(u64, &[u8]), LoaderError>
 }
 
 /// What a stream inflates to, if it has this size. Takes memory where `inflate` does.
-#[tactic(auto, unfolding(crate::specs::Compressed::unpacked))]
+#[tactic(auto, unfolding(crate::specs::Compressed::unpacked_section))]
 pub(crate) fn unpacked(alloc: Global, size: u64, text: &[u8]) -> Result<Vec<u8>, LoaderError>
     ensures gives { LoadsUnlessOomIf (stream_takes_memory size text.now) (λ v. v.items) result
-        (unpacked (size, text.now)) }
+        (unpacked_section (size, text.now)) }
     ensures some { IfOk result (λ v. 0 < length v.items
         → stream_takes_memory size text.now ≡ true) }
 {

@@ -79,7 +79,7 @@ pub(crate) fn read_ident(file: &FileImage) -> Result<Ident, LoaderError>
 
 // The number of section headers from place `at` on; where e_shnum is 0, it is the size of section
 // 0.
-#[tactic(auto, unfolding(crate::specs::Layout::number_at))]
+#[tactic(auto, unfolding(crate::specs::Layout::layout_number_at))]
 fn count_of(file: &FileImage, at: u64, ident: Ident) -> Result<u64, LoaderError>
     requires whole { (layout_of ident.class).header_size ≤ length (image_bytes file.now) }
     ensures gives { result

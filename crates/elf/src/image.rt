@@ -2,10 +2,10 @@
 
 ghost use Rattle.std.specs.Prelude.{◌≡◌, ◌≤◌, ◌+◌, ◌-◌, ℕ, List, ◌∷◌, length, take, drop, get_or, is_some, option_map, IfErr, IfOk, IfSome, None, Ok, true};
 ghost use Rattle.std.specs.List.{find};
-ghost use Rattle.elf.specs.FileImage.{AreInOrder, ArePiecesOf, HasPart, IsWhole, Shows, holds, image_bytes, is_held};
+ghost use Rattle.elf.specs.FileImage.{ArePiecesInOrder, ArePiecesOf, HasPart, IsWhole, Shows, piece_holds, image_bytes, is_held};
 ghost use Rattle.elf.specs.declared.layout.Class.TheVariants as class;
 ghost use Rattle.elf.specs.declared.error.LoaderError.TheVariants.{OutOfMemory};
-ghost use Rattle.elf.specs.Layout.{layout_of, number_at};
+ghost use Rattle.elf.specs.Layout.{layout_of, layout_number_at};
 ghost use Rattle.elf.specs.Loading.{LoadsUnlessOom, LoadsUnlessOomFor};
 ghost use Rattle.elf.specs.Sections.{gives_bytes_of_file};
 
@@ -26,7 +26,7 @@ pub(crate) struct Piece {
 impl Piece {
     // Whether the piece has the `len` bytes from a place.
     fn holds(&self, start: u64, len: u64) -> bool
-        ensures gives { result ≡ holds start len self.now }
+        ensures gives { result ≡ piece_holds start len self.now }
     {
         let own = self.bytes.len();
         if start < self.start || len > own {
@@ -37,7 +37,7 @@ impl Piece {
 
     // The `len` bytes from a place.
     fn part(&self, start: u64, len: u64) -> &[u8]
-        requires held { holds start len self.now ≡ true }
+        requires held { piece_holds start len self.now ≡ true }
         ensures gives { result.now ≡ take len (drop (start - self.now.start) self.now.bytes.bytes) }
     {
         let (_, rest) = self
@@ -50,7 +50,7 @@ impl Piece {
 
     // The same, shared with the piece.
     fn share(&self, start: u64, len: u64, endian: RunTimeEndian) -> Result<EndianBytes, LoaderError>
-        requires held { holds start len self.now ≡ true }
+        requires held { piece_holds start len self.now ≡ true }
         ensures gives { LoadsUnlessOom (λ b. b) result (Ok (record {
           bytes = take len (drop (start - self.now.start) self.now.bytes.bytes);
           endian = endian;
@@ -65,7 +65,7 @@ impl Piece {
 // The piece that has the `len` bytes from a place.
 fn find_piece<'a>(first: &'a Piece, others: &'a [Piece], start: u64, len: u64) -> Option<&'a Piece>
     ensures gives { option_map (λ p. p.now) result
-        ≡ find (holds start len) (first.now ∷ others.now) }
+        ≡ find (piece_holds start len) (first.now ∷ others.now) }
 {
     if first.holds(start, len) {
         return Some(first);
@@ -80,8 +80,8 @@ fn find_piece<'a>(first: &'a Piece, others: &'a [Piece], start: u64, len: u64) -
 
 // Whether pieces stand in order in a file of `len` bytes.
 fn are_in_order(pieces: &[Piece], len: u64) -> bool
-    ensures in_order { result ≡ true → AreInOrder 0 len pieces.now }
-    ensures found { AreInOrder 0 len pieces.now → result ≡ true }
+    ensures in_order { result ≡ true → ArePiecesInOrder 0 len pieces.now }
+    ensures found { ArePiecesInOrder 0 len pieces.now → result ≡ true }
 {
     let mut end = 0;
     for piece in pieces {
@@ -106,13 +106,13 @@ pub struct FileImage {
 
 impl Model for FileImage {
     ghost use Rattle.std.specs.Prelude.{◌∷◌};
-    ghost use Rattle.elf.specs.FileImage.{Image, AreInOrder};
+    ghost use Rattle.elf.specs.FileImage.{Image, ArePiecesInOrder};
 
     ghost Value = { Image };
 
     ghost view = { λ f. record { len = f.len; pieces = f.first ∷ f.others.items } };
 
-    ghost invariant = { λ f. AreInOrder 0 f.len (f.first ∷ f.others.items) };
+    ghost invariant = { λ f. ArePiecesInOrder 0 f.len (f.first ∷ f.others.items) };
 }
 
 impl FileImage {
@@ -135,7 +135,7 @@ impl FileImage {
             → ArePiecesOf bytes pieces.items → Shows image bytes) }
         ensures gives { IfSome result (λ image.
             image ≡ record { len = len; pieces = pieces.items }) }
-        ensures found { 1 ≤ length pieces.items → AreInOrder 0 len pieces.items
+        ensures found { 1 ≤ length pieces.items → ArePiecesInOrder 0 len pieces.items
             → is_some result ≡ true }
     {
         if pieces.is_empty() || !are_in_order(&pieces, len) {
@@ -222,7 +222,7 @@ impl FileImage {
         requires within { base + at + size ≤ length (image_bytes self.now) }
         requires some { 1 ≤ size }
         requires small { size ≤ (layout_of class.Elf64).address_size }
-        ensures gives { result ≡ number_at endian at size (drop base (image_bytes self.now)) }
+        ensures gives { result ≡ layout_number_at endian at size (drop base (image_bytes self.now)) }
     {
         let start = self.place(base, at as u64);
         match self.slice(start, size as u64) {

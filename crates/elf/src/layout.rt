@@ -3,7 +3,7 @@
 ghost use Rattle.std.specs.Prelude.{◌≡◌, ◌≤◌, ◌+◌, length};
 ghost use Rattle.elf.specs.declared.constants.TheConstants.{HALF_SIZE, WORD_SIZE};
 ghost use Rattle.elf.specs.declared.layout.Class.TheVariants as class;
-ghost use Rattle.elf.specs.Layout.{number_at, layout_of, AddressSizeBounds, FieldsInHeader, FieldsInSection, FieldsInSymbol};
+ghost use Rattle.elf.specs.Layout.{layout_number_at, layout_of, AddressSizeBounds, FieldsInHeader, FieldsInSection, FieldsInSymbol};
 
 use byteorder::{BigEndian, ByteOrder, LittleEndian};
 use gimli_read::RunTimeEndian;
@@ -112,12 +112,12 @@ impl Class {
 }
 
 /// The number in the `size` bytes from a place.
-#[tactic(auto, unfolding(crate::specs::Layout::number_at))]
+#[tactic(auto, unfolding(crate::specs::Layout::layout_number_at))]
 pub(crate) fn number(bytes: &[u8], at: usize, size: usize, endian: RunTimeEndian) -> u64
     requires within { at + size ≤ length bytes.now }
     requires some { 1 ≤ size }
     requires small { size ≤ (layout_of class.Elf64).address_size }
-    ensures gives { result ≡ number_at endian at size bytes.now }
+    ensures gives { result ≡ layout_number_at endian at size bytes.now }
 {
     let (_, rest) = bytes.split_at(at);
     match endian {
@@ -127,10 +127,10 @@ pub(crate) fn number(bytes: &[u8], at: usize, size: usize, endian: RunTimeEndian
 }
 
 /// The number in the four bytes from a place.
-#[tactic(auto, unfolding(crate::specs::Layout::number_at))]
+#[tactic(auto, unfolding(crate::specs::Layout::layout_number_at))]
 pub(crate) fn word(bytes: &[u8], at: usize, endian: RunTimeEndian) -> u32
     requires within { at + WORD_SIZE ≤ length bytes.now }
-    ensures gives { result ≡ number_at endian at WORD_SIZE bytes.now }
+    ensures gives { result ≡ layout_number_at endian at WORD_SIZE bytes.now }
 {
     let (_, rest) = bytes.split_at(at);
     match endian {
@@ -140,10 +140,10 @@ pub(crate) fn word(bytes: &[u8], at: usize, endian: RunTimeEndian) -> u32
 }
 
 /// The number in the two bytes from a place.
-#[tactic(auto, unfolding(crate::specs::Layout::number_at))]
+#[tactic(auto, unfolding(crate::specs::Layout::layout_number_at))]
 pub(crate) fn half(bytes: &[u8], at: usize, endian: RunTimeEndian) -> u16
     requires within { at + HALF_SIZE ≤ length bytes.now }
-    ensures gives { result ≡ number_at endian at HALF_SIZE bytes.now }
+    ensures gives { result ≡ layout_number_at endian at HALF_SIZE bytes.now }
 {
     let (_, rest) = bytes.split_at(at);
     match endian {

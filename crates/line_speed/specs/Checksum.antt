@@ -24,14 +24,14 @@ abbrev pub marks : LineRow → ℕ
 marks row = bit row.end_sequence + 2 * bit row.dropped
 
 -- the fields of a row, each times a number of its own
-abbrev pub fields : LineRow → ℕ
-fields row =
+abbrev pub weighted_fields : LineRow → ℕ
+weighted_fields row =
     wrapped (wrapped (wrapped (wrapped (row.address + wrapped (row.line * 3))
     + wrapped (row.column * 5)) + wrapped (row.file_index * 7)) + wrapped (marks row * 11))
 
 -- a sum with one row more
 abbrev pub with_row_sum : ℕ → LineRow → ℕ
-with_row_sum sum row = wrapped (wrapped (sum * 31) + fields row)
+with_row_sum sum row = wrapped (wrapped (sum * 31) + weighted_fields row)
 
 -- a sum with the rows of a list, or the fault after them
 unfoldable pub with_rows : ℕ → List (Result LineRow Error) → Result ℕ Error

@@ -2,14 +2,14 @@ use Rattle.std.proofs.Common.{◌++◌, subst}
 use Rattle.std.proofs.lemmas.List.{append_assoc}
 use Rattle.addr2line_units.specs.SeenFrame.{seen_frame}
 use Rattle.addr2line_c.specs.Filled.{IsFilled}
-use Rattle.addr2line_c.specs.Texts.{given_text, joined}
-use Rattle.addr2line_c.specs.Written.{file_of, name_of}
+use Rattle.addr2line_c.specs.Texts.{optional_text, zero_ended}
+use Rattle.addr2line_c.specs.Written.{location_file, frame_name}
 use Rattle.addr2line_c.proofs.frames.put_frame.Goals as goal
 
 pub returns-clause-gives : goal.returns-clause-gives
 returns-clause-gives g c before filled =
     let f = seen_frame g.R.Reader.section c.args.frame.now in
-    let name = given_text (name_of c.args.demangles f) in
+    let name = optional_text (frame_name c.args.demangles f) in
     let new = c.put_location-location.new in
-    subst (λ t. IsFilled new.used new.buffer (joined t)) (append_assoc before name (given_text (file_of f.location)))
+    subst (λ t. IsFilled new.used new.buffer (zero_ended t)) (append_assoc before name (optional_text (location_file f.location)))
     (c.put_location-location.ensures.gives (before ++ name) (c.in_ok-function.ensures.gives before filled))

@@ -2,7 +2,7 @@ use Rattle.std.proofs.Common.{rules, ◌≡◌, ◌∷◌, ◌∙◌, [], subst}
 use Rattle.addr2line_units.specs.FramesLeft.{frames_left}
 use Rattle.addr2line_units.specs.SeenFrame.{seen_frame}
 use Rattle.addr2line_c.specs.Sequence.{texts_of_items, written_items}
-use Rattle.addr2line_c.specs.Written.{texts_of, written_frame}
+use Rattle.addr2line_c.specs.Written.{frame_texts, written_frame}
 use Rattle.addr2line_c.proofs.SequenceLemmas.{WroteSome, wrote_one}
 use Rattle.addr2line_c.proofs.frames.put_frames.Goals as goal
 
@@ -14,12 +14,12 @@ loop-frame-preserved g c =
     let left = frames_left c.next.new.self in
     let old = c.loop-frame in
     let yields : frames_left old.frames ≡ f ∷ left = search rules in
-    let so = subst (λ l. WroteSome (texts_of d) (written_frame d) all l old.count old.out old.needed old.buffer) yields old.invariant.so in
-    let before = texts_of_items (texts_of d) so.done in
+    let so = subst (λ l. WroteSome (frame_texts d) (written_frame d) all l old.count old.out old.needed old.buffer) yields old.invariant.so in
+    let before = texts_of_items (frame_texts d) so.done in
     record {
-      so = wrote_one (texts_of d) (written_frame d) all left f old.count c.fill-count.result old.out c.fill-count.new.out old.needed c.put_frame.new.used old.buffer c.put_frame.new.buffer c.in_ok-written.written so
+      so = wrote_one (frame_texts d) (written_frame d) all left f old.count c.fill-count.result old.out c.fill-count.new.out old.needed c.put_frame.new.used old.buffer c.put_frame.new.buffer c.in_ok-written.written so
           (c.in_ok-written.ensures.part before so.texts_are) (c.in_ok-written.ensures.gives before so.texts_are)
-          (c.fill-count.ensures.gives (written_items (texts_of d) (written_frame d) [] so.done) so.items);
+          (c.fill-count.ensures.gives (written_items (frame_texts d) (written_frame d) [] so.done) so.items);
       out = c.fill-count.ensures.same ∙ old.invariant.out;
       buffer = c.put_frame.ensures.same ∙ old.invariant.buffer;
     }

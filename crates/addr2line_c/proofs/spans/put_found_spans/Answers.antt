@@ -5,7 +5,7 @@ use Rattle.addr2line_units.specs.Located.{spans_of}
 use Rattle.addr2line_units.specs.LocationsLeft.{locations_left}
 use Rattle.addr2line.specs.SplitFiles.{of_file}
 use Rattle.addr2line_c.specs.Filled.{IsFilled}
-use Rattle.addr2line_c.specs.Texts.{joined}
+use Rattle.addr2line_c.specs.Texts.{zero_ended}
 use Rattle.addr2line_c.specs.WrittenSpans.{IsWrittenSpans, spans_from, texts_of_spans, written_spans}
 use Rattle.addr2line_c.proofs.AnswerLemmas.{says_there}
 use Rattle.addr2line_c.proofs.TextLemmas.{spans_named}
@@ -23,7 +23,7 @@ returns-in-Ok-clause-gives g c = λ d low high told refused.
     let is : spans_of d low high ≡ Ok all = subst (λ r. IfOk r (λ spans. spans_of d low high ≡ Ok (locations_left spans))) found told in
     let given : of_file (spans_from d low high c.args.first most) ≡ Ok (Some chosen) = ap of_file (ap (λ r. r >>= λ spans. Ok (Some (take most (drop c.args.first spans)))) is) in
     let parts : IsFilled count new.out (written_spans chosen) = subst (λ l. IsFilled count new.out (written_spans (take most l))) c.skip_spans.ensures.gives c.put_spans.ensures.gives in
-    let texts : IsFilled new.needed new.buffer (joined (texts_of_spans chosen)) = subst (λ l. IsFilled new.needed new.buffer (joined (texts_of_spans (take most l)))) c.skip_spans.ensures.gives c.put_spans.ensures.texts in
+    let texts : IsFilled new.needed new.buffer (zero_ended (texts_of_spans chosen)) = subst (λ l. IsFilled new.needed new.buffer (zero_ended (texts_of_spans (take most l)))) c.skip_spans.ensures.gives c.put_spans.ensures.texts in
     says_there (of_file (spans_from d low high c.args.first most)) (IsWrittenSpans new.out count new.buffer new.needed) (nat_le new.needed (length new.buffer)) c.done_if.result c.done_if.ensures.gives (
       chosen,
       given,

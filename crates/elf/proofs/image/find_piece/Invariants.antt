@@ -1,7 +1,7 @@
 use Rattle.std.proofs.Common.{◌≡◌, drop}
 use Rattle.std.specs.List.{find}
-use Rattle.elf.specs.FileImage.{holds}
+use Rattle.elf.specs.FileImage.{piece_holds}
 use Rattle.elf.proofs.image.find_piece.Given as goal
 
 abbrev pub invariant-loop-piece : goal.invariant-loop-piece
-invariant-loop-piece l = find (holds l.start l.len) (drop l.piece-index l.others) ≡ find (holds l.start l.len) l.others
+invariant-loop-piece l = find (piece_holds l.start l.len) (drop l.piece-index l.others) ≡ find (piece_holds l.start l.len) l.others

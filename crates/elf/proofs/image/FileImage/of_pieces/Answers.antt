@@ -1,7 +1,7 @@
 use Rattle.std.proofs.Common.{◌≡◌, ◌∙◌, ◌<◌, ◌∷◌, List, ap, arith, length, refl, sym, subst}
 use Rattle.std.proofs.lemmas.Bool.Decides.{nat_tests}
 use Rattle.elf.specs.declared.image.Piece.{Piece}
-use Rattle.elf.specs.FileImage.{AreInOrder, Image, Shows}
+use Rattle.elf.specs.FileImage.{ArePiecesInOrder, Image, Shows}
 use Rattle.elf.proofs.ImageLemmas.{first_and_rest, pieces_show}
 use Rattle.elf.proofs.image.FileImage.of_pieces.Goals as goal
 
@@ -13,7 +13,7 @@ returns c =
     let test = c.is_empty.ensures in
     let some : 0 < length ps = grind (arith, nat_tests) in
     let all : first ∷ c.remove-first.new.self.items ≡ ps = ap (λ (qs : List Piece). first ∷ qs) c.remove-first.ensures.items ∙ first_and_rest ps first c.remove-first.ensures.value some in
-    let Ordered : List Piece → Type 0 = λ (qs : List Piece). AreInOrder 0 c.args.len qs in
+    let Ordered : List Piece → Type 0 = λ (qs : List Piece). ArePiecesInOrder 0 c.args.len qs in
     let ordered : Ordered ps = subst Ordered c.deref.ensures.value (c.are_in_order.ensures.in_order c.if-not-are_in_order.false) in
     let image : List Piece → Image = λ (qs : List Piece). record { len = c.args.len; pieces = qs } in
     record {

@@ -2,7 +2,7 @@ use Rattle.std.proofs.Common.{◌≡◌, ◌∙◌, ◌∷◌, List, None, Bor, 
 use Rattle.std.specs.Prelude.{IfSome}
 use Rattle.std.specs.List.{find}
 use Rattle.elf.specs.declared.image.Piece.{Piece}
-use Rattle.elf.specs.FileImage.{Image, HasPart, holds, image_bytes, is_held}
+use Rattle.elf.specs.FileImage.{Image, HasPart, piece_holds, image_bytes, is_held}
 use Rattle.elf.proofs.ImageLemmas.{piece_found}
 use Rattle.elf.proofs.image.FileImage.piece.Goals as goal
 
@@ -13,8 +13,8 @@ returns c =
     let start = c.args.start in
     let len = c.args.len in
     let r = c.find_piece.result in
-    let search_is : option_map (λ (p : Bor Piece). p.now) r ≡ find (holds start len) i.pieces =
-    c.find_piece.ensures.gives ∙ ap (λ (ps : List Piece). find (holds start len) (f.first ∷ ps)) c.deref.ensures.value in
+    let search_is : option_map (λ (p : Bor Piece). p.now) r ≡ find (piece_holds start len) i.pieces =
+    c.find_piece.ensures.gives ∙ ap (λ (ps : List Piece). find (piece_holds start len) (f.first ∷ ps)) c.deref.ensures.value in
     let all = piece_found (λ (p : Bor Piece). p.now) i start len r c.self.invariant search_is in
     let P : Image → Type 0 = λ (v : Image). IfSome r (λ p. HasPart start len v p.now) × (is_some r ≡ is_held start len v) × (r ≡ None → len ≡ 1 → get_or (image_bytes v) start 0 ≡ 0) in
     let seen = subst P c.self.view_is all in

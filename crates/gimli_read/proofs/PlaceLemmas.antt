@@ -1,6 +1,7 @@
 -- An abbreviation is found by its place or by its pair (on specs/AbbreviationPlaces.antt).
-use Rattle.std.proofs.Common.{◌≡◌, ◌≢◌, ℕ, zero, suc, ◌+◌, ◌-◌, List, [], ◌∷◌, ◌++◌, length, Option, Some, None, Bool, true, false, cond, ◌==◌, ◌⊎◌, inl, inr, refl, ap, sym, ◌∙◌, arith}
+use Rattle.std.proofs.Common.{◌≡◌, ◌≢◌, ℕ, zero, suc, List, [], ◌∷◌, ◌++◌, length, Option, Some, None, Bool, true, false, cond, ◌==◌, ◌⊎◌, inl, inr, refl, ap, sym, ◌∙◌, arith}
 use Rattle.std.proofs.lemmas.Bool.Decides.{nat_tests}
+use Rattle.std.specs.Int.{abs_diff}
 use Rattle.std.specs.List.{slice_get}
 use Rattle.std.specs.Ordering.{nat_cmp, is_eq}
 use Rattle.std.specs.declared.cmp.Ordering.{Ordering}
@@ -8,7 +9,7 @@ use Rattle.std.specs.declared.cmp.Ordering.TheVariants.{Less, Equal, Greater}
 use Rattle.std.proofs.lemmas.Map.Lookups.{exact_unsigned}
 use Rattle.std.specs.BTreeMap.{BTreeMap, get}
 use Rattle.gimli_read.specs.Abbreviations.{Abbrev, with_code, HasDistinctCodes}
-use Rattle.gimli_read.specs.AbbreviationPlaces.{if_coded, IsPlaced, IsSameApart}
+use Rattle.gimli_read.specs.AbbreviationPlaces.{if_coded, first_code_with, IsPlaced, IsSameApart}
 
 same : (m n : ℕ) → (m == n) ≡ true → m ≡ n
 same m n e = grind (arith, nat_tests)
@@ -48,9 +49,9 @@ abbrev pub led_to : ℕ → List Abbrev → Option ℕ → Option Abbrev
 led_to code table None = None
 led_to code table (Some i) = if_coded code (slice_get table i)
 
--- an abbreviation that stands not at its place is where the map leads to
-pub displaced_found : (table : List Abbrev) (displaced : BTreeMap ℕ ℕ) → HasDistinctCodes table → IsPlaced table displaced → (code place : ℕ) → place ≡ code - 1 → if_coded code (slice_get table place) ≡ None → led_to code table (get nat_cmp displaced code) ≡ with_code code table
-displaced_found table displaced d p code place is h = by_cases (with_code code table) refl
+-- an abbreviation that stands not where its code says is where the map leads to
+pub displaced_found : (table : List Abbrev) (first : ℕ) (displaced : BTreeMap ℕ ℕ) → HasDistinctCodes table → IsPlaced table first displaced → (code : ℕ) → if_coded code (slice_get table (abs_diff first code)) ≡ None → led_to code table (get nat_cmp displaced code) ≡ with_code code table
+displaced_found table first displaced d p code h = by_cases (with_code code table) refl
   where
     nowhere : with_code code table ≡ None → (i : ℕ) (o : Option Abbrev) → if_coded code (slice_get table i) ≡ o → if_coded code (slice_get table i) ≡ None
     nowhere e i None k = k
@@ -60,9 +61,10 @@ displaced_found table displaced d p code place is h = by_cases (with_code code t
     none e None = refl
     none e (Some i) = nowhere e i (if_coded code (slice_get table i)) refl
 
-    not_there : (a : Abbrev) (i : ℕ) → slice_get table i ≡ Some a → a.code ≡ code → a.code ≡ i + 1 → ⊥
+    not_there : (a : Abbrev) (i : ℕ) → slice_get table i ≡ Some a → a.code ≡ code → abs_diff first a.code ≡ i → ⊥
     not_there a i s c e =
-        let at : place ≡ i = omega arith in
+        let place = abs_diff first code in
+        let at : place ≡ i = ap (abs_diff first) (sym c) ∙ e in
         let there : slice_get table place ≡ Some a = ap (slice_get table) at ∙ s in
         let held : if_coded code (slice_get table place) ≡ Some a = ap (λ n. if_coded n (slice_get table place)) (sym c) ∙ coded_itself (slice_get table place) a there in
         let clash : None ≡ Some a = sym h ∙ held in
@@ -105,14 +107,22 @@ apart_cmp m n ne = at (nat_cmp m n) refl
     at Equal e = absurd (ne (sym (exact_unsigned m n e)))
     at Greater e = refl
 
--- where a new code leads says nothing of what stands
-pub placed_apart : (table : List Abbrev) (old new : BTreeMap ℕ ℕ) (code : ℕ) → HasDistinctCodes table → IsPlaced table old → with_code code table ≡ None → IsSameApart code old new → IsPlaced table new
-placed_apart table old new code d p n same = λ i x s ne. same x.code (λ e. not_among table d code n i x s (sym e)) ∙ p i x s ne
-
--- one more abbreviation, at its place or paired
-pub placed-push : (table : List Abbrev) (displaced : BTreeMap ℕ ℕ) (a : Abbrev) → IsPlaced table displaced → (a.code ≢ length table + 1 → get nat_cmp displaced a.code ≡ Some (length table)) → IsPlaced (table ++ a ∷ []) displaced
-placed-push table displaced a p q = λ i x s ne. at i x ne (pushed table a x i s)
+-- the first code of a table that is to have one more, of which `seen` is a copy
+pub placed_first : (table seen : List Abbrev) (first code new : ℕ) (displaced : BTreeMap ℕ ℕ) → seen ≡ table → new ≡ first_code_with seen first code → IsPlaced table first displaced → IsPlaced table new displaced
+placed_first table seen first code new displaced e is p = rw (is, e) (with table p)
   where
-    at : (i : ℕ) (x : Abbrev) → x.code ≢ i + 1 → (slice_get table i ≡ Some x) ⊎ ((i ≡ length table) × (a ≡ x)) → get nat_cmp displaced x.code ≡ Some i
+    with : (table : List Abbrev) → IsPlaced table first displaced → IsPlaced table (first_code_with table first code) displaced
+    with [] p = λ i x s ne. absurd cc
+    with (a ∷ table) p = p
+
+-- where a new code leads says nothing of what stands
+pub placed_apart : (table : List Abbrev) (first : ℕ) (old new : BTreeMap ℕ ℕ) (code : ℕ) → HasDistinctCodes table → IsPlaced table first old → with_code code table ≡ None → IsSameApart code old new → IsPlaced table first new
+placed_apart table first old new code d p n same = λ i x s ne. same x.code (λ e. not_among table d code n i x s (sym e)) ∙ p i x s ne
+
+-- one more abbreviation, where its code says or paired
+pub placed-push : (table : List Abbrev) (first : ℕ) (displaced : BTreeMap ℕ ℕ) (a : Abbrev) → IsPlaced table first displaced → (abs_diff first a.code ≢ length table → get nat_cmp displaced a.code ≡ Some (length table)) → IsPlaced (table ++ a ∷ []) first displaced
+placed-push table first displaced a p q = λ i x s ne. at i x ne (pushed table a x i s)
+  where
+    at : (i : ℕ) (x : Abbrev) → abs_diff first x.code ≢ i → (slice_get table i ≡ Some x) ⊎ ((i ≡ length table) × (a ≡ x)) → get nat_cmp displaced x.code ≡ Some i
     at i x ne (inl s) = p i x s ne
-    at i x ne (inr k) = rw (sym k.1, k.0) (q (λ e. ne (ap (λ (y : Abbrev). y.code) (sym k.1) ∙ e ∙ ap (λ n. n + 1) (sym k.0))))
+    at i x ne (inr k) = rw (sym k.1, k.0) (q (λ e. ne (ap (λ (y : Abbrev). abs_diff first y.code) (sym k.1) ∙ e ∙ sym k.0)))

@@ -1,5 +1,6 @@
 -- Where the abbreviations of a table stand, as the private functions see it.
-use Rattle.std.specs.Prelude.{◌≡◌, ◌≢◌, ℕ, ◌+◌, ◌==◌, List, Option, Some, None, if◌then◌else◌}
+use Rattle.std.specs.Prelude.{◌≡◌, ◌≢◌, ℕ, ◌==◌, List, [], ◌∷◌, Option, Some, None, if◌then◌else◌}
+use Rattle.std.specs.Int.{abs_diff}
 use Rattle.std.specs.List.{slice_get}
 use Rattle.std.specs.Ordering.{nat_cmp}
 use Rattle.std.specs.BTreeMap.{BTreeMap, get}
@@ -10,10 +11,15 @@ abbrev pub if_coded : ℕ → Option Abbrev → Option Abbrev
 if_coded code None = None
 if_coded code (Some a) = if a.code == code then Some a else None
 
--- each abbreviation whose code is not its place, counted from 1, is found by its code
-abbrev pub IsPlaced : List Abbrev → BTreeMap ℕ ℕ → Type 0
-IsPlaced table displaced =
-    (index : ℕ) (a : Abbrev) → slice_get table index ≡ Some a → a.code ≢ index + 1
+-- the first code of a table to which one is added, where `first` is that of a table with codes
+abbrev pub first_code_with : List Abbrev → ℕ → ℕ → ℕ
+first_code_with [] first code = code
+first_code_with (a ∷ table) first code = first
+
+-- each abbreviation whose index is not how far its code is from the first is found by its code
+abbrev pub IsPlaced : List Abbrev → ℕ → BTreeMap ℕ ℕ → Type 0
+IsPlaced table first displaced =
+    (index : ℕ) (a : Abbrev) → slice_get table index ≡ Some a → abs_diff first a.code ≢ index
     → get nat_cmp displaced a.code ≡ Some index
 
 -- the maps lead to the same places from each other code

@@ -20,6 +20,7 @@ pub mod Value
 pub mod ValueLaws
 pub mod Alike
 pub mod Abbreviations
+pub mod StoredAttributes
 pub mod AbbreviationPlaces
 pub mod Abbrev
 pub mod FaultLaws

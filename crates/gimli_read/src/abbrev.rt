@@ -1,14 +1,15 @@
 //! Abbreviation tables.
 
-ghost use Rattle.std.specs.Prelude.{◌≡◌, ◌≢◌, ◌<◌, ◌+◌, ◌^◌, [], ◌∷◌, ◌++◌, None, Some, IfOk, IfErr, IsOk, OnOk, is_ok, is_some, option_copied};
+ghost use Rattle.std.specs.Prelude.{◌≡◌, ◌≢◌, [], ◌∷◌, ◌++◌, None, Some, IfOk, IfErr, IsOk, OnOk, is_ok, is_some, option_copied};
 ghost use Rattle.std.specs.List.{slice_get};
 ghost use Rattle.std.specs.Ordering.{nat_cmp};
 ghost use Rattle.std.specs.BTreeMap.{get};
 ghost use Rattle.gimli_read.specs.Reading.{ExactlyUnlessOomIf, Reads, ReadsUnlessOomIf};
 ghost use Rattle.gimli_read.specs.Abbreviations.{with_code};
-ghost use Rattle.gimli_read.specs.AbbreviationPlaces.{if_coded, IsSameApart};
+ghost use Rattle.gimli_read.specs.AbbreviationPlaces.{if_coded, first_code_with, IsSameApart};
 ghost use Rattle.gimli_read.specs.declared.error.Error.TheVariants.{OutOfMemory};
 ghost use Rattle.gimli_read.specs.SizedRuns.{AreRunsOf};
+ghost use Rattle.gimli_read.specs.StoredAttributes.{attributes_of};
 ghost use Rattle.gimli_read.specs.ValueSize.{value_size_of, attribute_size};
 ghost use Rattle.gimli_read.specs.Abbrev.{specification_at, specifications_at, declaration_head_at, declaration_at, head_and_pair_at, abbreviation_at, takes_memory, table_at};
 
@@ -20,6 +21,7 @@ use crate::size::{TotalSize, ValueSize, size_of_form};
 use std::alloc::{AllocError, Global};
 use std::collections::BTreeMap;
 use std::marker::Model;
+use std::slice;
 
 /// An attribute that the entries of an abbreviation have (DWARF 5, section 7.5.3).
 #[derive(Clone, Copy, Debug, PartialEq, Eq)]
@@ -96,13 +98,34 @@ pub struct SizedRun {
     pub(crate) next: AttributeSpecification,
 }
 
+// The attributes of an abbreviation.
+#[derive(Drop)]
+enum StoredAttributes {
+    // Only one, which takes no memory of its own.
+    One(AttributeSpecification),
+    // None or more.
+    Listed(Vec<AttributeSpecification>),
+}
+
+impl StoredAttributes {
+    #[inline(always)]
+    fn as_slice(&self) -> &[AttributeSpecification]
+        ensures gives { result.now ≡ attributes_of self.now }
+    {
+        match self {
+            StoredAttributes::One(attribute) => slice::from_ref(attribute),
+            StoredAttributes::Listed(attributes) => attributes.as_slice(),
+        }
+    }
+}
+
 /// What the entries of a code are: their tag, whether they have children, and their attributes.
 #[derive(Drop)]
 pub struct Abbreviation {
     code: u64,
     tag: DwTag,
     has_children: bool,
-    attributes: Vec<AttributeSpecification>,
+    attributes: StoredAttributes,
     // The attributes again, those of known sizes together.
     runs: Vec<SizedRun>,
     // How many bytes the attributes after the runs have.
@@ -112,6 +135,7 @@ pub struct Abbreviation {
 impl Model for Abbreviation {
     ghost use Rattle.gimli_read.specs.Abbreviations.{Abbrev};
     ghost use Rattle.gimli_read.specs.SizedRuns.{AreRunsOf};
+    ghost use Rattle.gimli_read.specs.StoredAttributes.{attributes_of};
 
     ghost Value = { Abbrev };
 
@@ -119,10 +143,10 @@ impl Model for Abbreviation {
       code = a.code;
       tag = a.tag;
       has_children = a.has_children;
-      attributes = a.attributes.items;
+      attributes = attributes_of a.attributes;
     } };
 
-    ghost invariant = { λ a. AreRunsOf a.attributes.items a.runs.items a.last };
+    ghost invariant = { λ a. AreRunsOf (attributes_of a.attributes) a.runs.items a.last };
 }
 
 impl Abbreviation {
@@ -166,8 +190,11 @@ impl Abbreviation {
 #[derive(Drop)]
 pub struct Abbreviations {
     entries: Vec<Abbreviation>,
-    // By code, where an abbreviation stands whose code isn't its place, counted from 1. Codes are
-    // mostly 1, 2, 3, ..: then nothing stands here.
+    // The code of the first abbreviation, once there is one.
+    first: u64,
+    // By code, where an abbreviation stands whose index isn't how far its code is from the first.
+    // Codes mostly go up by one, as 1, 2, 3, ..: then nothing stands here, nor where they go down
+    // by one.
     displaced: BTreeMap<u64, usize>,
 }
 
@@ -181,7 +208,7 @@ impl Model for Abbreviations {
     ghost view = { λ t. t.entries.items };
 
     ghost invariant = { λ t. HasDistinctCodes t.entries.items
-        × IsPlaced t.entries.items t.displaced };
+        × IsPlaced t.entries.items t.first t.displaced };
 }
 
 // The next attribute, or none at the end of the list.
@@ -230,20 +257,35 @@ fn copied<T: Copy>(alloc: Global, list: &[T]) -> Result<Vec<T>, AllocError>
     Vec::from_slice(alloc, list)
 }
 
+// The same attributes. Takes no memory where there are none.
+fn stored(
+    alloc: Global,
+    attributes: &[AttributeSpecification],
+) -> Result<StoredAttributes, AllocError>
+    ensures gives { IfOk result (λ a. attributes_of a ≡ attributes.now) }
+    ensures none { attributes.now ≡ [] → IsOk result }
+{
+    if let [attribute] = attributes {
+        return Ok(StoredAttributes::One(*attribute));
+    }
+    Ok(StoredAttributes::Listed(copied(alloc, attributes)?))
+}
+
 // The attributes up to the end of their list.
 fn read_specifications<R: Reader>(
     alloc: Global,
     input: &mut R,
     attributes: &mut Vec<AttributeSpecification>,
-) -> Result<Vec<AttributeSpecification>, Error>
+) -> Result<StoredAttributes, Error>
     ensures gives { ExactlyUnlessOomIf (is_ok (specification_at (R.section input.old)))
-        (λ v. (v.items, R.section input.new)) result (specifications_at (R.section input.old)) }
+        (λ a. (attributes_of a, R.section input.new)) result
+        (specifications_at (R.section input.old)) }
 {
     attributes.clear();
     while let Some(attribute) = read_specification(input)? {
         attributes.push(attribute)?;
     }
-    Ok(copied(alloc, attributes)?)
+    Ok(stored(alloc, attributes)?)
 }
 
 // Attributes in runs, and how many bytes those after the runs have. Refused `OutOfMemory` alone.
@@ -302,7 +344,7 @@ fn read_declaration<R: Reader>(
 {
     let (tag, has_children) = read_head(input)?;
     let attributes = read_specifications(alloc, input, &mut buffers.attributes)?;
-    let (runs, last) = sized_runs(alloc, &attributes, &mut buffers.runs)?;
+    let (runs, last) = sized_runs(alloc, attributes.as_slice(), &mut buffers.runs)?;
     Ok(Abbreviation {
         code,
         tag,
@@ -329,18 +371,28 @@ fn coded_at(table: &[Abbreviation], code: u64, index: usize) -> Option<&Abbrevia
     }
 }
 
-// Notes the index of an abbreviation, where its code isn't its place, counted from 1.
+// The first code of a table to which this code is added; `first` is that of a table with codes.
+fn first_code_with(table: &[Abbreviation], first: u64, code: u64) -> u64
+    ensures gives { result ≡ first_code_with table.now first code }
+{
+    match table {
+        [] => code,
+        _ => first,
+    }
+}
+
+// Notes the index of an abbreviation, where its code says another place.
 #[tactic(auto, using(crate::proofs::PlaceLemmas::apart_cmp))]
 fn note_place(
     displaced: &mut BTreeMap<u64, usize>,
     code: u64,
+    place: u64,
     index: usize,
 ) -> Result<(), AllocError>
-    requires in_range { index < 2 ^ 63 }
-    ensures noted { OnOk result (code ≢ index + 1 → get nat_cmp displaced.new code ≡ Some index) }
+    ensures noted { OnOk result (place ≢ index → get nat_cmp displaced.new code ≡ Some index) }
     ensures others { IsSameApart code displaced.old displaced.new }
 {
-    if code != index as u64 + 1 {
+    if place != index as u64 {
         displaced.insert(code, index)?;
     }
     Ok(())
@@ -351,7 +403,8 @@ impl Abbreviations {
     pub fn get(&self, code: u64) -> Option<&Abbreviation>
         ensures found { option_copied result ≡ with_code code self.now }
     {
-        if let Some(abbreviation) = coded_at(&self.entries, code, code.saturating_sub(1) as usize) {
+        let place = self.first.abs_diff(code) as usize;
+        if let Some(abbreviation) = coded_at(&self.entries, code, place) {
             return Some(abbreviation);
         }
         match self.displaced.get(&code) {
@@ -379,9 +432,11 @@ impl Abbreviations {
         requires new { with_code abbreviation.code self.old ≡ None }
         ensures gives { OnOk result (self.new ≡ self.old ++ abbreviation ∷ []) }
     {
+        let code = abbreviation.code;
+        self.first = first_code_with(&self.entries, self.first, code);
         // Before the entry: where that finds no memory, the pair leads to no abbreviation.
         let index = self.entries.as_slice().len();
-        note_place(&mut self.displaced, abbreviation.code, index)?;
+        note_place(&mut self.displaced, code, self.first.abs_diff(code), index)?;
         self.entries.push(abbreviation)?;
         Ok(())
     }
@@ -423,6 +478,7 @@ impl Abbreviations {
         let mut input = input;
         let mut table = Abbreviations {
             entries: Vec::new(alloc),
+            first: 0,
             displaced: BTreeMap::new(alloc),
         };
         let mut buffers = Buffers {

@@ -17,7 +17,7 @@ const TABLE: [u8; 23] = [
     1, 0x11, 1, 0x10, 0x17, 0x1b, 8, 0x11, 1, 0x12, 6, 3, 8, 0, 0, 2, 0x2e, 0, 3, 8, 0, 0, 0,
 ];
 
-// The codes 9 and 300 stand at no place of theirs, so their table takes memory for them too.
+// The code 300 isn't one past or before 9, so the table takes memory for it too.
 const SPARSE: [u8; 12] = [9, 0x11, 1, 0, 0, 0xac, 2, 0x1d, 0, 0, 0, 0];
 
 // The bytes of a part that is taken, or its fault, and those that are left then.

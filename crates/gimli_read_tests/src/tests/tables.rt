@@ -53,9 +53,14 @@ const SPARSE: [u8; 21] = [
     9, 0x11, 1, 0, 0, 1, 0x2e, 0, 0, 0, 0xac, 2, 0x1d, 0, 0, 0, 2, 0x3c, 0, 0, 0,
 ];
 
+// Codes that go down by one from the first on, but for the last: 7, 6, 5, 8.
+const FALLING: [u8; 22] = [
+    7, 0x11, 1, 0, 0, 6, 0x2e, 0, 3, 8, 0, 0, 5, 0x1d, 0, 0, 0, 8, 0x3c, 0, 0, 0,
+];
+
 #[test]
 fn a_table_is_read_by_code(rt: HostRuntime) {
-    let cases: [(&[u8], u64, u128); 19] = [
+    let cases: [(&[u8], u64, u128); 26] = [
         (&INLINED, 0, 0),
         (&INLINED, 1, 0x1114),
         (&INLINED, 2, 0x2e13),
@@ -74,6 +79,13 @@ fn a_table_is_read_by_code(rt: HostRuntime) {
         (&SPARSE, 299, 0),
         (&SPARSE, 301, 0),
         (&SPARSE, u64::MAX, 0),
+        (&FALLING, 7, 0x1110),
+        (&FALLING, 6, 0x2e01),
+        (&FALLING, 5, 0x1d00),
+        (&FALLING, 8, 0x3c00),
+        (&FALLING, 4, 0),
+        (&FALLING, 9, 0),
+        (&FALLING, 10, 0),
         (&PLAIN, 1, 0x1104),
     ];
     for (bytes, code, want) in cases {
@@ -124,9 +136,10 @@ fn attributes_stand_in_order(rt: HostRuntime) {
 
 #[test]
 fn faults_of_a_table_are_refused(rt: HostRuntime) {
-    let cases: [(&[u8], u128); 12] = [
+    let cases: [(&[u8], u128); 13] = [
         (&[], 0),
         (&[0], 0),
+        (&[5, 0x11, 0, 0, 0, 4, 0x2e, 0, 0, 0, 5], BAD),
         (&[1, 0x11, 0, 0, 0, 1, 0x2e, 0, 0, 0, 0], BAD),
         (&[1, 0x11, 0, 0, 0, 1], BAD),
         (&[1, 0, 0, 0, 0, 0], BAD),

@@ -28,18 +28,18 @@ returns-in_err-push g c =
     let p = err_from_is_err_and c.from_residual-in_err-push.result c.from_residual-in_err-push.ensures.1 in
     record { gives = rw (p.1, p.2) (λ n. absurd (n begun refl)) }
 
-pub returns-in_err-copied : goal.returns-in_err-copied
-returns-in_err-copied g c =
-    let p = err_from_is_err_and c.from_residual-in_err-copied.result c.from_residual-in_err-copied.ensures.1 in
+pub returns-in_err-stored : goal.returns-in_err-stored
+returns-in_err-stored g c =
+    let p = err_from_is_err_and c.from_residual-in_err-stored.result c.from_residual-in_err-stored.ensures.1 in
     record {
       gives = rw (p.1, p.2) (λ n. elim c.loop-attribute.invariant.filled [
-        | inl none ↦ absurd (let ok = c.in_err-copied.ensures.none (c.deref.ensures.value ∙ none) in cc)
+        | inl none ↦ absurd (let ok = c.in_err-stored.ensures.none (c.deref.ensures.value ∙ none) in cc)
         | inr some ↦ absurd (n some refl)
       ]);
     }
 
 pub returns : goal.returns
 returns g c = record {
-  gives = rw (c.in_ok-copied.ensures.gives ∙ c.deref.ensures.value) (sym c.loop-attribute.invariant.gives ∙ ap (with_front c.loop-attribute.attributes.items) (collected-end specification_at specification_takes _ _ (rw c.in_default.is at c.in_ok-attribute.ensures.gives))
+  gives = rw (c.in_ok-stored.ensures.gives ∙ c.deref.ensures.value) (sym c.loop-attribute.invariant.gives ∙ ap (with_front c.loop-attribute.attributes.items) (collected-end specification_at specification_takes _ _ (rw c.in_default.is at c.in_ok-attribute.ensures.gives))
       ∙ ap (λ v. Ok (v, g.R.Reader.section c.read_specification.new.input)) (append-nil c.loop-attribute.attributes.items));
 }

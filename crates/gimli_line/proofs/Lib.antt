@@ -13,3 +13,4 @@ pub mod Rising
 pub mod ShortNumbers
 pub mod FirstOpcode
 pub mod Passing
+pub mod InPlace

@@ -1,5 +1,5 @@
 -- Rows that go to a sink one after another (DWARF 5, section 6.2.5: opcodes append rows in turn).
-use Rattle.std.specs.Prelude.{◌≡◌, ℕ, ◌≤◌, ◌<◌, List, [], ◌∷◌, Result, Ok, Err, Option, Some, None, false, drop, fold}
+use Rattle.std.specs.Prelude.{◌≡◌, ℕ, ◌≤◌, ◌<◌, List, [], ◌∷◌, Result, Ok, Err, Option, Some, None, false, drop, fold, if◌then◌else◌}
 use Rattle.gimli_read.specs.declared.error.Error.{Error}
 use Rattle.gimli_read.specs.declared.endian.RunTimeEndian.{RunTimeEndian}
 use Rattle.gimli_read.specs.Section.{Section}
@@ -55,6 +55,10 @@ abbrev pub TakesOpcode : LineEncoding → Registers → Opcode → ℕ → Frequ
 TakesOpcode e r op len Other q = q ≡ r
 TakesOpcode e r op len (Quiet n) q = (n ≡ len) × (executed e r op ≡ Ok (None, q))
 TakesOpcode e r op len (Shows n) q = (n ≡ len) × (executed e r op ≡ Ok (Some (row q false), q))
+
+-- what an opcode of so many bytes that appends a row comes to: while dropping it appends none
+abbrev pub shown : Registers → ℕ → Frequent
+shown r len = if r.dropping then Quiet len else Shows len
 
 -- the opcode at the front of the bytes was taken in, or nothing changed
 abbrev pub TakesFirst : Header → Registers → List ℕ → Frequent → Registers → Type 0

@@ -5,9 +5,9 @@ ghost use Rattle.gimli_read.specs.declared.endian.RunTimeEndian.{RunTimeEndian};
 ghost use Rattle.gimli_read.specs.declared.error.Error.{Error};
 ghost use Rattle.gimli_read.specs.Leb128.{uleb128_in, sleb128_in};
 ghost use Rattle.gimli_line.specs.Left.{rows_left};
-ghost use Rattle.gimli_line.specs.Rows.{is_end};
+ghost use Rattle.gimli_line.specs.declared.opcode.Opcode.TheVariants.{AdvancePc, Special};
 ghost use Rattle.gimli_line.specs.Steps.{IsRunning};
-ghost use Rattle.gimli_line.specs.Taking.{IsShort, Passes, TakesFirst, TakesOpcode};
+ghost use Rattle.gimli_line.specs.Taking.{IsShort, Passes, TakesFirst, TakesOpcode, shown};
 
 use crate::constants::{
     DW_LNS_advance_line, DW_LNS_advance_pc, DW_LNS_const_add_pc, DW_LNS_copy, DW_LNS_negate_stmt,
@@ -15,9 +15,8 @@ use crate::constants::{
     DW_LNS_set_prologue_end,
 };
 use crate::header::LineProgramHeader;
-use crate::opcode::Opcode;
 use crate::parameters::LineParameters;
-use crate::registers::{Registers, shows};
+use crate::registers::{Registers, const_advance, move_line, special_advance};
 use crate::sink::RowSink;
 use gimli_read::Reader;
 use std::alloc::AllocError;
@@ -79,33 +78,68 @@ fn short_signed(first: u8, second: u8) -> Option<(i64, usize)>
     None
 }
 
-// Takes in an opcode of so many bytes; where it has a fault nothing changes.
+// What an opcode of so many bytes that appends a row comes to: while dropping it appends none.
 #[inline(always)]
-#[tactic(auto, unfolding(crate::specs::Steps::executed))]
-fn take_opcode(
+fn shown(registers: &Registers, len: usize) -> Frequent
+    ensures gives { result ≡ shown registers.now len }
+{
+    if registers.dropping {
+        return Frequent::Quiet(len);
+    }
+    Frequent::Shows(len)
+}
+
+// Takes in a special opcode, less the opcode base; where it has a fault nothing changes.
+#[inline(always)]
+fn take_special(parameters: &LineParameters, registers: &mut Registers, n: u8) -> Frequent
+    requires single { parameters.now.encoding.maximum_operations_per_instruction ≡ 1 }
+    requires running { IsRunning parameters.now.encoding registers.old }
+    ensures gives { TakesOpcode parameters.now.encoding registers.old (Special n) 1 result
+        registers.new }
+    ensures short { IsShort result }
+    ensures running { IsRunning parameters.now.encoding registers.new }
+{
+    let line = move_line(registers.line, special_advance(parameters, n));
+    if registers.dropping {
+        registers.line = line;
+        return Frequent::Quiet(1);
+    }
+    let instructions = u64::from(parameters.quotient(n));
+    if registers
+        .add_instructions(parameters, instructions)
+        .is_err()
+    {
+        return Frequent::Other;
+    }
+    registers.line = line;
+    Frequent::Shows(1)
+}
+
+// Takes in an advance by operations, in so many bytes; where it has a fault nothing changes.
+#[inline(always)]
+fn take_advance(
     parameters: &LineParameters,
     registers: &mut Registers,
-    opcode: Opcode,
+    operations: u64,
     len: usize,
 ) -> Frequent
+    requires single { parameters.now.encoding.maximum_operations_per_instruction ≡ 1 }
     requires running { IsRunning parameters.now.encoding registers.old }
-    requires no_end { is_end opcode ≡ false }
-    ensures gives { TakesOpcode parameters.now.encoding registers.old opcode len
+    ensures gives { TakesOpcode parameters.now.encoding registers.old (AdvancePc operations) len
         result registers.new }
     ensures running { IsRunning parameters.now.encoding registers.new }
 {
-    let mut next = *registers;
-    if next.step(parameters, opcode).is_err() {
-        return Frequent::Other;
+    if registers.dropping {
+        return Frequent::Quiet(len);
     }
-    *registers = next;
-    if shows(opcode) && !next.dropping {
-        return Frequent::Shows(len);
+    if registers.add_instructions(parameters, operations).is_err() {
+        return Frequent::Other;
     }
     Frequent::Quiet(len)
 }
 
-// Takes in the opcode at the front of the bytes, if it is a frequent one.
+// Takes in the opcode at the front of the bytes, if it is a frequent one. Each changes the
+// registers in place.
 #[inline(always)]
 fn take_first<R: Reader>(
     header: &LineProgramHeader<R>,
@@ -116,6 +150,7 @@ fn take_first<R: Reader>(
     second: u8,
 ) -> Frequent
     requires same { parameters.now.encoding ≡ header.now.line_encoding }
+    requires single { parameters.now.encoding.maximum_operations_per_instruction ≡ 1 }
     requires running { IsRunning header.now.line_encoding registers.old }
     ensures gives { (rest : List ℕ) → TakesFirst header.now registers.old
         (code ∷ first ∷ second ∷ rest) result registers.new }
@@ -125,38 +160,51 @@ fn take_first<R: Reader>(
     // Code 0 is that of extended opcodes, also where it isn't below the base.
     let base = parameters.encoding.opcode_base.max(1);
     if code >= base {
-        let special = Opcode::Special(code - parameters.encoding.opcode_base);
-        return take_opcode(parameters, registers, special, 1);
+        return take_special(
+            parameters,
+            registers,
+            code - parameters.encoding.opcode_base,
+        );
     }
     match code {
-        DW_LNS_copy => take_opcode(parameters, registers, Opcode::Copy, 1),
+        DW_LNS_copy => shown(registers, 1),
         DW_LNS_advance_pc => match short_unsigned(first, second) {
-            Some((n, len)) => take_opcode(parameters, registers, Opcode::AdvancePc(n), len),
+            Some((n, len)) => take_advance(parameters, registers, n, len),
             None => Frequent::Other,
         },
         DW_LNS_advance_line => match short_signed(first, second) {
-            Some((z, len)) => take_opcode(parameters, registers, Opcode::AdvanceLine(z), len),
+            Some((by, len)) => {
+                registers.line = move_line(registers.line, by);
+                Frequent::Quiet(len)
+            }
             None => Frequent::Other,
         },
         DW_LNS_set_file => match short_unsigned(first, second) {
-            Some((n, len)) => take_opcode(parameters, registers, Opcode::SetFile(n), len),
+            Some((n, len)) => {
+                registers.file_index = n;
+                Frequent::Quiet(len)
+            }
             None => Frequent::Other,
         },
         DW_LNS_set_column => match short_unsigned(first, second) {
-            Some((n, len)) => take_opcode(parameters, registers, Opcode::SetColumn(n), len),
+            Some((n, len)) => {
+                registers.column = n;
+                Frequent::Quiet(len)
+            }
             None => Frequent::Other,
         },
-        DW_LNS_negate_stmt => take_opcode(parameters, registers, Opcode::Other, 1),
-        DW_LNS_set_basic_block => take_opcode(parameters, registers, Opcode::Other, 1),
-        DW_LNS_const_add_pc => take_opcode(parameters, registers, Opcode::ConstAddPc, 1),
-        DW_LNS_set_prologue_end => take_opcode(parameters, registers, Opcode::Other, 1),
-        DW_LNS_set_epilogue_begin => take_opcode(parameters, registers, Opcode::Other, 1),
+        DW_LNS_negate_stmt => Frequent::Quiet(1),
+        DW_LNS_set_basic_block => Frequent::Quiet(1),
+        DW_LNS_const_add_pc => take_advance(parameters, registers, const_advance(parameters), 1),
+        DW_LNS_set_prologue_end => Frequent::Quiet(1),
+        DW_LNS_set_epilogue_begin => Frequent::Quiet(1),
         _ => Frequent::Other,
     }
 }
 
 /// Takes in frequent opcodes from the front of the bytes on, up to the first that isn't one, and
-/// gives their rows to the sink; the number of their bytes. Fails only where the sink does.
+/// gives their rows to the sink; the number of their bytes. None where an instruction may have more
+/// than one operation, as no usual processor's has. Fails only where the sink does.
 pub(crate) fn run_frequent<R: Reader, S: RowSink>(
     header: &LineProgramHeader<R>,
     registers: &mut Registers,
@@ -175,6 +223,9 @@ pub(crate) fn run_frequent<R: Reader, S: RowSink>(
 {
     // A copy, which no store to the sink can change: so its numbers stay in registers.
     let parameters = header.parameters;
+    if parameters.encoding.maximum_operations_per_instruction != 1 {
+        return Ok(0);
+    }
     let mut now = *registers;
     let mut at = 0;
     let end = bytes.len().saturating_sub(FREQUENT_LEN - 1);

@@ -1,10 +1,11 @@
 //! The registers of a line program.
 
-ghost use Rattle.std.specs.Prelude.{◌≡◌, ◌+◌, ◌/◌, ◌%◌, ◌^◌, ◌*◌, ◌<◌, ◌≤◌, true, ◌||◌, ◌&&◌, not, nat_lt, pos, ◌+ℤ◌, IfOk, OnOk};
+ghost use Rattle.std.specs.Prelude.{◌≡◌, ◌+◌, ◌/◌, ◌%◌, ◌^◌, ◌*◌, ◌<◌, ◌≤◌, true, ◌||◌, ◌&&◌, not, nat_lt, pos, ◌+ℤ◌, IfOk, OnErr, OnOk};
 ghost use Rattle.gimli_read.specs.Reading.{Exactly};
+ghost use Rattle.gimli_line.specs.declared.opcode.Opcode.TheVariants.{ConstAddPc};
 ghost use Rattle.gimli_line.specs.Encoding.{limit};
 ghost use Rattle.gimli_line.specs.AddressSize.{is_tombstone};
-ghost use Rattle.gimli_line.specs.Rows.{moved, line_advance, is_end, makes_row};
+ghost use Rattle.gimli_line.specs.Rows.{advance, moved, line_advance, is_end, makes_row};
 ghost use Rattle.gimli_line.specs.Steps.{IsRunning, start, advanced, placed, fixed_advanced, step, fitting, row, row_of, next, executed};
 
 use crate::constants::LAST_SPECIAL_OPCODE;
@@ -31,7 +32,8 @@ pub struct Registers {
 }
 
 // A line that is moved.
-fn move_line(line: u64, by: i64) -> u64
+#[inline(always)]
+pub(crate) fn move_line(line: u64, by: i64) -> u64
     ensures gives { result ≡ moved line by }
 {
     if by >= 0 {
@@ -42,10 +44,20 @@ fn move_line(line: u64, by: i64) -> u64
 }
 
 // By how many lines a special opcode moves the line.
-fn special_advance(parameters: &LineParameters, n: u8) -> i64
+#[inline(always)]
+pub(crate) fn special_advance(parameters: &LineParameters, n: u8) -> i64
     ensures gives { result ≡ line_advance parameters.now.encoding n }
 {
     i64::from(parameters.encoding.line_base) + i64::from(parameters.remainder(n))
+}
+
+// The operations of DW_LNS_const_add_pc: those of the last special opcode.
+#[inline(always)]
+pub(crate) fn const_advance(parameters: &LineParameters) -> u64
+    ensures gives { result ≡ advance parameters.now.encoding ConstAddPc }
+{
+    let last = LAST_SPECIAL_OPCODE - parameters.encoding.opcode_base;
+    u64::from(parameters.quotient(last))
 }
 
 // The full instructions in operations, and the operations that are left over.
@@ -79,7 +91,7 @@ fn ends(opcode: Opcode) -> bool
     matches!(opcode, Opcode::EndSequence)
 }
 
-pub(crate) fn shows(opcode: Opcode) -> bool
+fn shows(opcode: Opcode) -> bool
     ensures gives { result ≡ makes_row opcode }
 {
     matches!(opcode, Opcode::Special(_) | Opcode::Copy)
@@ -100,20 +112,41 @@ impl Registers {
         }
     }
 
-    // Adds bytes to the address.
-    fn add(&mut self, parameters: &LineParameters, bytes: u64, op_index: u8) -> Result<(), Error>
+    // Adds bytes to the address; where it would pass the greatest one nothing changes.
+    #[inline(always)]
+    fn add(&mut self, parameters: &LineParameters, bytes: u64) -> Result<(), Error>
+        requires running { IsRunning parameters.now.encoding self.old }
         ensures gives { Exactly (λ _. self.new) result (fitting parameters.now.encoding
-            (record self.old { address = self.old.address + bytes; op_index = op_index })) }
+            (record self.old { address = self.old.address + bytes })) }
+        ensures refused { OnErr result (self.new ≡ self.old) }
     {
-        let Some(address) = self.address.checked_add(bytes) else {
-            return Err(Error::AddressOverflow);
-        };
-        if address > parameters.greatest {
+        if bytes > parameters.greatest - self.address {
             return Err(Error::AddressOverflow);
         }
-        self.address = address;
-        self.op_index = op_index;
+        self.address += bytes;
         Ok(())
+    }
+
+    // Advances by whole instructions, also while dropping; where the address would pass the
+    // greatest one nothing changes.
+    #[inline(always)]
+    pub(crate) fn add_instructions(
+        &mut self,
+        parameters: &LineParameters,
+        count: u64,
+    ) -> Result<(), Error>
+        requires running { IsRunning parameters.now.encoding self.old }
+        ensures gives { Exactly (λ _. self.new) result (fitting parameters.now.encoding
+            (record self.old {
+              address = self.old.address
+                  + parameters.now.encoding.minimum_instruction_length * count;
+            })) }
+        ensures refused { OnErr result (self.new ≡ self.old) }
+    {
+        match count.checked_mul(u64::from(parameters.encoding.minimum_instruction_length)) {
+            None => Err(Error::AddressOverflow),
+            Some(bytes) => self.add(parameters, bytes),
+        }
     }
 
     // Advances by operations.
@@ -128,10 +161,9 @@ impl Registers {
             return Ok(());
         }
         let (full, left) = instructions(parameters, self.op_index, operations);
-        match full.checked_mul(u64::from(parameters.encoding.minimum_instruction_length)) {
-            None => Err(Error::AddressOverflow),
-            Some(bytes) => self.add(parameters, bytes, left),
-        }
+        self.add_instructions(parameters, full)?;
+        self.op_index = left;
+        Ok(())
     }
 
     // Advances by bytes.
@@ -143,7 +175,9 @@ impl Registers {
         if self.dropping {
             return Ok(());
         }
-        self.add(parameters, u64::from(bytes), 0)
+        self.add(parameters, u64::from(bytes))?;
+        self.op_index = 0;
+        Ok(())
     }
 
     // Sets the address.
@@ -173,10 +207,7 @@ impl Registers {
                 return self.advance(parameters, u64::from(parameters.quotient(n)));
             }
             Opcode::AdvancePc(n) => return self.advance(parameters, n),
-            Opcode::ConstAddPc => {
-                let last = LAST_SPECIAL_OPCODE - parameters.encoding.opcode_base;
-                return self.advance(parameters, u64::from(parameters.quotient(last)));
-            }
+            Opcode::ConstAddPc => return self.advance(parameters, const_advance(parameters)),
             Opcode::FixedAdvancePc(n) => return self.fixed_advance(parameters, n),
             Opcode::AdvanceLine(by) => self.line = move_line(self.line, by),
             Opcode::SetFile(n) => self.file_index = n,

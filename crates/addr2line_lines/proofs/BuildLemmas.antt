@@ -1,11 +1,11 @@
 -- Rows taken one after another make the sequences of the rows (on specs/Building.antt).
-use Rattle.std.proofs.Common.{ℕ, ◌≡◌, ◌+◌, ◌-◌, ◌<◌, ◌≤◌, ◌==◌, ◌⊎◌, Bool, true, false, cond, List, [], ◌∷◌, ◌++◌, Option, Some, None, map, length, take, drop, get_or, arith, inl, inr, ◌∙◌, ap, sym, subst, refl, append_assoc, append-nil, fold, Result, Ok, Err, IfOk}
+use Rattle.std.proofs.Common.{ℕ, ◌≡◌, ◌+◌, ◌-◌, ◌*◌, ◌^◌, ◌<◌, ◌≤◌, ◌==◌, ◌⊎◌, Bool, true, false, cond, List, [], ◌∷◌, ◌++◌, Option, Some, None, map, length, take, drop, get_or, arith, inl, inr, ◌∙◌, ap, sym, subst, refl, append_assoc, append-nil, fold, Result, Ok, Err, IfOk}
 use Rattle.std.specs.List.{AllByRecursion, cons_option}
 use Rattle.std.proofs.lemmas.List.Sums.{sum_by_push}
 use Rattle.std.specs.Option.{option_to_list}
 use Rattle.std.proofs.lemmas.Bool.{cases_lt}
 use Rattle.std.proofs.lemmas.Bool.Decides.{nat_tests}
-use Rattle.std.proofs.lemmas.List.{drop-append-le, drop-take, drop_all, get_or-drop, length_push, length-drop, length-take-le, map_push, take-append-le, take-take, take_at}
+use Rattle.std.proofs.lemmas.List.{drop-append-le, drop-take, drop_all, get_or-drop, get_or-map, length_push, length-drop, length-map, length-take-le, map_push, take-append-le, take-take, take_at}
 use Rattle.std.proofs.lemmas.Option.{slice_get-get_or}
 use Rattle.gimli_read.specs.declared.error.Error.{Error}
 use Rattle.gimli_read.specs.Topmost.{last}
@@ -17,7 +17,10 @@ use Rattle.gimli_read.specs.Reading.{result_map}
 use Rattle.addr2line_lines.specs.Rows.{read_all}
 use Rattle.addr2line_lines.specs.Sequences.{Sequence, stored_row, sequence_of, sequences_of}
 use Rattle.addr2line_lines.specs.declared.sequence.LineSequence.{LineSequence}
-use Rattle.addr2line_lines.specs.Building.{Built, IsBuilder, StoredBuilt, stored_rows, stored_taken, all_taken, built, closed, built_ended, has_address, nothing_built, row_taken, with_row, without_last}
+use Rattle.addr2line_lines.specs.Building.{Built, IsBuilder, StoredBuilt, stored_rows, stored_taken, all_taken, built, closed, built_ended, has_address, nothing_built, row_taken, with_row, without_last, without_last_from}
+use Rattle.addr2line_lines.specs.declared.rows.ShortRow.{ShortRow}
+use Rattle.addr2line_lines.specs.StoredRows.{fits, row_of_short, shortened}
+use Rattle.addr2line_lines.proofs.StoredRowLemmas.{short_is}
 use Rattle.addr2line_lines.specs.Packed.{RowsEndBy, row_address_at, packed_rows_in, unpacked}
 use Rattle.addr2line_lines.proofs.PackedLemmas.{all_push, all_same, all_within, rows_in_is}
 use Rattle.addr2line_lines.proofs.SeekLemmas.{last_is}
@@ -207,8 +210,29 @@ ends_at_is rows first n x a len l is =
     ap (λ (r : Row). r.address) (get_or-drop first rows (length (drop first rows) - 1) none) ∙ ap (row_address_at rows) place in
     ap (λ y. y == a) (is ∙ sym row) ∙ sym (ap (has_address a) at)
 
+same_more : (k x y : ℕ) → (x == y) ≡ (k + x == k + y)
+same_more k x y = grind (arith, nat_tests)
+
+-- the same by lower halves, of a row that fits beside the upper half
+pub ends_at_short : (upper : ℕ) (rows : List ShortRow) (first n : ℕ) (x s : ShortRow) (r : Row) → fits upper r ≡ true → s ≡ shortened r
+    → n ≡ length rows → first < n → x ≡ get_or rows (n - 1) x → (x.address == s.address) ≡ has_address r.address (last (drop first (map (row_of_short upper) rows)))
+ends_at_short upper rows first n x s r fit short len l read =
+    let none : Row = record { address = 0; file_index = 0; line = 0; column = 0 } in
+    let whole : List Row = map (row_of_short upper) rows in
+    let at : upper * 2 ^ 32 + x.address ≡ row_address_at whole (n - 1) =
+    sym (ap (λ (y : Row). y.address) (get_or-map (row_of_short upper) rows (n - 1) x none (omega arith) ∙ ap (row_of_short upper) (sym read))) in
+    let is : upper * 2 ^ 32 + s.address ≡ r.address = ap (λ (y : ShortRow). upper * 2 ^ 32 + y.address) short ∙ ap (λ (y : Row). y.address) (short_is upper r fit) in
+    same_more (upper * 2 ^ 32) x.address s.address ∙ ap (λ k. upper * 2 ^ 32 + x.address == k) is
+    ∙ ends_at_is whole first n (upper * 2 ^ 32 + x.address) r.address (len ∙ sym (length-map rows (row_of_short upper))) l at
+
 pub without_is : (rows : List Row) (a : ℕ) → has_address a (last rows) ≡ true → without_last a rows ≡ take (length rows - 1) rows
 without_is rows a e = ap (λ b. cond b (take (length rows - 1) rows) rows) e
+
+pub same_is : (rows : List Row) (first a : ℕ) → has_address a (last (drop first rows)) ≡ true → without_last_from first a rows ≡ take (length rows - 1) rows
+same_is rows first a e = ap (λ b. cond b (take (length rows - 1) rows) rows) e
+
+pub same_none : (rows : List Row) (first a : ℕ) → has_address a (last (drop first rows)) ≡ false → without_last_from first a rows ≡ rows
+same_none rows first a e = ap (λ b. cond b (take (length rows - 1) rows) rows) e
 
 pub without_none : (rows : List Row) (a : ℕ) → has_address a (last rows) ≡ false → without_last a rows ≡ rows
 without_none rows a e = ap (λ b. cond b (take (length rows - 1) rows) rows) e
@@ -219,6 +243,22 @@ ends_inside rows first a e =
       | inl lt ↦ lt
       | inr ge ↦ (let f : has_address a (last (drop first rows)) ≡ false = ap (λ xs. has_address a (last xs)) (drop_all first rows ge) in absurd cc)
     ]
+
+-- a row in the place of the last one, or after it
+module _ (rows : List Row) (ss : List LineSequence) (first : ℕ) (is : IsBuilder rows ss first) (new : List Row) (r : Row) (e : new ≡ without_last_from first r.address rows ++ r ∷ []) where
+  pub built_put : built new ss first ≡ record { sequences = map (unpacked rows) ss; pending = without_last r.address (drop first rows) ++ r ∷ [] }
+  built_put = by_test (has_address r.address (last (drop first rows))) refl
+    where
+      with_pending : List Row → Built
+      with_pending p = record { sequences = map (unpacked rows) ss; pending = p ++ r ∷ [] }
+
+      by_test : (b : Bool) → has_address r.address (last (drop first rows)) ≡ b → built new ss first ≡ with_pending (without_last r.address (drop first rows))
+      by_test true t =
+          built_replaced rows ss first is new r (ends_inside rows first r.address t) (e ∙ ap (λ (xs : List Row). xs ++ r ∷ []) (same_is rows first r.address t))
+          ∙ ap with_pending (sym (without_is (drop first rows) r.address t))
+      by_test false t =
+          built_push rows ss first is new r (e ∙ ap (λ (xs : List Row). xs ++ r ∷ []) (same_none rows first r.address t))
+          ∙ ap with_pending (sym (without_none (drop first rows) r.address t))
 
 -- one sequence more, of all rows after the others
 pub closes_is : (rows : List Row) (ss : List LineSequence) (first : ℕ) → IsBuilder rows ss first → (s : LineSequence) → s.first ≡ first → s.first + s.len ≡ length rows

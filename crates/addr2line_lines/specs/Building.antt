@@ -31,6 +31,11 @@ abbrev pub without_last : ℕ → List Row → List Row
 without_last a rows =
     if has_address a (last rows) then take (length rows - 1) rows else rows
 
+-- the rows without the last one, if that is at place first or after it and has the address
+abbrev pub without_last_from : ℕ → ℕ → List Row → List Row
+without_last_from first a rows =
+    if has_address a (last (drop first rows)) then take (length rows - 1) rows else rows
+
 -- a row after others; it replaces the last one, if that has its address
 abbrev pub with_row : List Row → LineRow → List Row
 with_row rows r = without_last r.address rows ++ stored_row r ∷ []

@@ -1,6 +1,8 @@
 //! The rows of a unit, as they are stored.
 
-ghost use Rattle.std.specs.Prelude.{◌≡◌, ◌+◌, ◌-◌, ◌<◌, true, false, [], ◌∷◌, ◌++◌, length, map, slice_get, take, vec_len, IfOk, OnOk, OnErr, Some};
+ghost use Rattle.std.specs.Prelude.{◌≡◌, ◌+◌, ◌-◌, ◌<◌, true, false, [], ◌∷◌, ◌++◌, drop, length, map, slice_get, take, vec_len, IfOk, OnOk, OnErr, Some};
+ghost use Rattle.gimli_read.specs.Topmost.{last};
+ghost use Rattle.addr2line_lines.specs.Building.{has_address, without_last_from};
 ghost use Rattle.addr2line_lines.specs.Packed.{row_address_at};
 ghost use Rattle.addr2line_lines.specs.StoredRows.{IsWidthFor, are_narrow, fits, none_stored, row_of_short, shortened, stores, upper_of, whole_rows, width_after, width_of};
 
@@ -190,6 +192,25 @@ impl RowStore {
         self.widen(alloc, row)
     }
 
+    // Whether the last row, if one is at place `first` or after it, has the address of a row, which
+    // can be stored as the others are: then lower halves are enough.
+    #[inline(always)]
+    fn ends_at(&self, first: usize, row: Row) -> bool
+        requires stores { stores (width_of self.now) row ≡ true }
+        ensures gives { result ≡ has_address row.address (last (drop first (whole_rows self.now))) }
+    {
+        match self {
+            RowStore::Short(_, rows) => {
+                let len = rows.len();
+                len > first && rows[len - 1].address == shortened(row).address
+            }
+            RowStore::Whole(rows) => {
+                let len = rows.len();
+                len > first && rows[len - 1].address == row.address
+            }
+        }
+    }
+
     // Adds a row, which can be stored as the others are.
     #[inline(always)]
     fn push(&mut self, row: Row) -> Result<(), AllocError>
@@ -299,35 +320,27 @@ impl Rows {
         self.row(place).address
     }
 
-    /// Adds a row. A refused growth keeps nothing of it, but the rows may be stored as it needs.
+    /// Takes a row in: it replaces the last one, if that is at place `first` or after it and has
+    /// its address, or follows it. To replace one grows only where it can't be stored as the others
+    /// are. A refused growth keeps nothing of it, but the rows may be stored as it needs.
     #[inline(always)]
-    pub(crate) fn push(&mut self, alloc: Global, row: Row) -> Result<(), AllocError>
-        ensures gives { OnOk result (self.new.rows ≡ self.old.rows ++ row ∷ []) }
+    pub(crate) fn put(&mut self, alloc: Global, first: usize, row: Row) -> Result<(), AllocError>
+        ensures gives { OnOk result
+            (self.new.rows ≡ without_last_from first row.address self.old.rows ++ row ∷ []) }
         ensures width { OnOk result
             (self.new.width ≡ width_after (length self.old.rows) self.old.width row) }
+        ensures memory { OnErr result (has_address row.address (last (drop first self.old.rows))
+            ≡ true → (stores self.old.width row ≡ false) × (self.new ≡ self.old)) }
         ensures refused { OnErr result ((self.new.rows ≡ self.old.rows)
             × IsWidthFor row self.old self.new.width) }
     {
         self.store.widen_for(alloc, row)?;
+        if self.store.ends_at(first, row) {
+            let last = self.store.len() - 1;
+            self.store.set_last(last, row);
+            return Ok(());
+        }
         self.store.push(row)
-    }
-
-    /// Puts a row in the place of the last one. Grows only where it can't be stored as the others
-    /// are. A refused growth changes nothing.
-    #[inline(always)]
-    pub(crate) fn set_last(&mut self, alloc: Global, row: Row) -> Result<(), AllocError>
-        requires some { 0 < length self.old.rows }
-        ensures gives { OnOk result
-            (self.new.rows ≡ take (length self.old.rows - 1) self.old.rows ++ row ∷ []) }
-        ensures width { OnOk result
-            (self.new.width ≡ width_after (length self.old.rows) self.old.width row) }
-        ensures memory { OnErr result (stores self.old.width row ≡ false) }
-        ensures refused { OnErr result (self.new ≡ self.old) }
-    {
-        let last = self.store.len() - 1;
-        self.store.widen_for(alloc, row)?;
-        self.store.set_last(last, row);
-        Ok(())
     }
 
     /// Keeps the first rows.

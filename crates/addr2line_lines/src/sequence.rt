@@ -32,14 +32,6 @@ pub struct LineSequence {
     pub len: usize,
 }
 
-// Whether the last row, if one is at place `first` or after it, has the address.
-fn ends_at(rows: &Rows, first: usize, address: u64) -> bool
-    ensures gives { result ≡ has_address address (last (drop first rows.now.rows)) }
-{
-    let len = rows.len();
-    len > first && rows.address(len - 1) == address
-}
-
 // The sequence of the rows from place `first` on with their end row, if they are one.
 fn closed(rows: &Rows, first: usize, end: LineRow) -> Option<LineSequence>
     ensures gives { option_map (unpacked rows.now.rows) result ≡
@@ -125,10 +117,7 @@ impl Builder {
         ensures memory { OnErr result (has_address row.address (last self.old.built.pending) ≡ true
             → stores self.old.width row ≡ false) }
     {
-        if ends_at(&self.rows, self.first, row.address) {
-            return self.rows.set_last(self.alloc, row);
-        }
-        self.rows.push(self.alloc, row)
+        self.rows.put(self.alloc, self.first, row)
     }
 
     // The rows and the sequences, without the rows that no end row follows.

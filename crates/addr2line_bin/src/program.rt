@@ -20,6 +20,7 @@ use crate::printing::{print_addresses, print_lines, print_words};
 use crate::stream::{Stream, tell_both};
 use addr2line::{LoaderError, Range};
 use std::alloc::Global;
+use std::mem;
 
 // Writes that a section isn't there.
 #[tactic(auto, using(crate::proofs::Parts::sends_on))]
@@ -177,7 +178,7 @@ fn run_over<L: Lookups + Drop, I: Input, W: Stream, E: Stream>(
         (E.state err.old) (E.state err.new) result }
 {
     let mut lookups = lookups;
-    match section_of(&options.section, &lookups) {
+    let exit = match section_of(&options.section, &lookups) {
         Ok(section) => run_asked(
             &run_context(alloc, options, section),
             &options.probes,
@@ -187,7 +188,11 @@ fn run_over<L: Lookups + Drop, I: Input, W: Stream, E: Stream>(
             err,
         ),
         Err(name) => tell_no_section(options.name.as_str(), name, err),
-    }
+    };
+    // The program ends here, and with it all of its memory goes back at once: giving back each list
+    // of each unit before that would only take time.
+    mem::forget(lookups);
+    exit
 }
 
 /// Prints what is asked of a file, or why its debug information can't be loaded.

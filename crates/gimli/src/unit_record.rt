@@ -1,7 +1,7 @@
 //! Units: headers with what their root entry says.
 
-ghost use Rattle.std.specs.Prelude.{◌≡◌, Ok, box_value, is_some, option_map};
-ghost use Rattle.gimli_read.specs.Reading.{Exactly, ExactlyUnlessOomFor, ExactlyUnlessOomIf};
+ghost use Rattle.std.specs.Prelude.{◌≡◌, Ok, Some, box_value, is_some, option_map};
+ghost use Rattle.gimli_read.specs.Reading.{Exactly, ExactlyUnlessOom, ExactlyUnlessOomFor, ExactlyUnlessOomIf};
 ghost use Rattle.gimli_read.specs.Form.{seen_value};
 ghost use Rattle.gimli.specs.Split.{dwo_name_fault, dwo_name_of, relocated};
 ghost use Rattle.gimli.specs.Unit.{first_base, low_pc_of, line_program_of, name_and_directory_of, program_and_low_pc_of, readable_string, dwo_id_of, completed_record, unit_record_of};
@@ -109,6 +109,23 @@ fn read_low_pc<R: Reader>(
     }
 }
 
+// The line program at an offset. A call of its own, so that a unit without one doesn't clear what
+// it is stored in.
+#[inline(never)]
+fn read_program_at<R: Reader>(
+    alloc: Global,
+    dwarf: &Dwarf<R>,
+    encoding: Encoding,
+    offset: u64,
+) -> Result<Option<Box<IncompleteLineProgram<R>>>, Error>
+    ensures gives { ExactlyUnlessOom (option_map box_value) result
+        (line_program_of dwarf.now encoding (Some offset)) }
+{
+    let rest = read_from(&dwarf.debug_line.section, offset)?;
+    let program = read_line_program(alloc, rest, encoding.address_size)?;
+    Ok(Some(Box::new(alloc, program)?))
+}
+
 // The line program at the offset that stmt_list gives, if it gives one. Else takes no memory.
 fn read_program<R: Reader>(
     alloc: Global,
@@ -119,12 +136,10 @@ fn read_program<R: Reader>(
     ensures gives { ExactlyUnlessOomIf (is_some stmt_list) (option_map box_value) result
         (line_program_of dwarf.now encoding stmt_list) }
 {
-    let Some(offset) = stmt_list else {
-        return Ok(None);
-    };
-    let rest = read_from(&dwarf.debug_line.section, offset)?;
-    let program = read_line_program(alloc, rest, encoding.address_size)?;
-    Ok(Some(Box::new(alloc, program)?))
+    match stmt_list {
+        Some(offset) => read_program_at(alloc, dwarf, encoding, offset),
+        None => Ok(None),
+    }
 }
 
 // The string of a value, none where it can't be read. Refused `OutOfMemory` alone.

@@ -68,7 +68,7 @@ pub record AreCachedAt (name : Option Section) (found listed : FoundInlined) (d 
   pub ranges_begin : p.ranges_begin ≡ length found.ranges
   pub ranges_end : p.ranges_end ≡ length d.found.ranges
   pub entries : d.found.entries ≡ listed.entries
-  pub listed_is : p.listed.value.ranges ≡ listed.ranges
+  pub listed_is : p.listed.value.elements ≡ listed.ranges
   pub ranges : d.found.ranges ≡ sorted_from p.ranges_begin listed.ranges
 
 module _ (scope : Scope) (u : UnitRecord) (offset : ℕ) (name : Option Section) (found listed : FoundInlined) (read : detail_found_at scope u offset found ≡ Ok (name, listed))
@@ -77,7 +77,7 @@ module _ (scope : Scope) (u : UnitRecord) (offset : ℕ) (name : Option Section)
   agrees = subst (AgreesDetail scope u offset found (detail_at scope u offset)) read (detail_agrees scope u offset found)
 
   run_is : listed_ranges p ≡ drop (length found.ranges) listed.ranges
-  run_is = ap (λ n. drop n p.listed.value.ranges) at.ranges_begin ∙ ap (λ xs. drop (length found.ranges) xs) at.listed_is
+  run_is = ap (λ n. drop n p.listed.value.elements) at.ranges_begin ∙ ap (λ xs. drop (length found.ranges) xs) at.listed_is
 
   -- the details that are cached are those of the function
   pub detail_cached : detail_at scope u offset ≡ Ok (detail_of d p)

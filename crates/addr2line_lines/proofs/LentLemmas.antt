@@ -1,6 +1,7 @@
 -- What a slice lends of the element of a place.
 use Rattle.std.proofs.Common.{◌≡◌, ℕ, ◌<◌, ◌≤◌, List, Option, Some, None, Bor, get_or, length, map, option_map, slice_get, refl, ap, sym, ◌∙◌, rules}
 use Rattle.std.proofs.lemmas.Option.{slice_get-map, slice_get_past, slice_get_read}
+use Rattle.std.specs.Option.{option_copied}
 use Rattle.std.specs.Slice.{IsItemAt}
 
 -- the element that is lent is that of the list there
@@ -12,6 +13,11 @@ lent_item xs n (Some x) h =
     let there : n < length xs = search rules in
     let is : x.now ≡ get_or xs n x.now = search rules in
     sym (slice_get_read xs (length xs) n x.now refl there is)
+
+-- what is seen of what is lent is what is seen of its copy
+pub lent_copied : {X Y : Type 0} (see : X → Y) (r : Option (Bor X)) → option_map (λ (x : Bor X). see x.now) r ≡ option_map see (option_copied r)
+lent_copied see None = refl
+lent_copied see (Some x) = refl
 
 -- what is seen of the element that is lent is what is seen of the list there
 pub lent_is : {X Y : Type 0} (see : X → Y) (xs : List X) (n : ℕ) (r : Option (Bor X)) → IsItemAt xs n r → option_map (λ (x : Bor X). see x.now) r ≡ slice_get (map see xs) n

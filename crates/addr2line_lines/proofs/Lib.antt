@@ -34,6 +34,7 @@ pub mod ReadPlaces
 pub mod InlinedOrder
 pub mod InlinedPick
 pub mod StoredRangeLemmas
+pub mod StoredInlinedLemmas
 pub mod WholeEntries
 pub mod ItemsAround
 pub mod NestedInlined

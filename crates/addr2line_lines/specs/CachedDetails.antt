@@ -32,7 +32,7 @@ seen_details see d = record {
 
 -- the ranges of a place, in the order of their entries
 abbrev pub listed_ranges : FunctionDetail → List InlinedFunctionAddress
-listed_ranges p = drop p.ranges_begin p.listed.value.ranges
+listed_ranges p = drop p.ranges_begin p.listed.value.elements
 
 -- the elements from a place up to another
 abbrev pub between : {X : Type 0} → ℕ → ℕ → List X → List X

@@ -40,7 +40,7 @@ first_found functions ranges found =
 
 -- what was found
 abbrev pub seen_lists : {R : Type 0} → InlinedLists R → FoundInlined
-seen_lists l = record { entries = l.functions.items; ranges = l.ranges.ranges }
+seen_lists l = record { entries = l.functions.entries; ranges = l.ranges.elements }
 
 -- no inlined entry
 abbrev pub no_inlined : InlinedEntry

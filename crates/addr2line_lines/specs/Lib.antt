@@ -42,7 +42,10 @@ pub mod FoundRanges
 pub mod FoundAttributes
 pub mod FoundNumbers
 pub mod OpenEntries
+pub mod ShortLists
 pub mod StoredRanges
+pub mod StoredInlined
+pub mod SeenInlined
 pub mod FoundInlined
 pub mod FoundItems
 pub mod FoundDetails

@@ -10,10 +10,11 @@ ghost use Rattle.addr2line_lines.specs.CachedNames.{AreNamesMore, AreNamesOf};
 ghost use Rattle.addr2line_lines.specs.CachedDetails.{AreDetailsMore, IsDetailPlace, IsNextPlace, detail_of, seen_details};
 ghost use Rattle.addr2line_lines.specs.InlineRoom.{exceeds_inline_room};
 ghost use Rattle.addr2line_lines.specs.References.{IsScope};
+ghost use Rattle.addr2line_lines.specs.SeenInlined.{seen_inlined};
 ghost use Rattle.addr2line_lines.specs.SeenScope.{seen_scope};
 
 use crate::detail::read_detail;
-use crate::inlined::InlinedFunction;
+use crate::inlined_functions::InlinedFunction;
 use crate::inlined_lists::InlinedLists;
 use crate::inlined_ranges::InlinedRanges;
 use crate::names::NameCache;
@@ -199,8 +200,8 @@ impl<R: Reader> Details<R> {
     }
 
     /// The inlined function of a place; none past the last one. Takes no memory.
-    pub(crate) fn inlined(&self, function: usize) -> Option<&InlinedFunction<R>>
-        ensures gives { option_map (λ r. r.now) result ≡
+    pub(crate) fn inlined(&self, function: usize) -> Option<InlinedFunction<'_, R>>
+        ensures gives { option_map (seen_inlined R.section) result ≡
             slice_get (seen_details R.section self.now).found.entries function }
     {
         self.inlined.functions.get(function)

@@ -16,12 +16,13 @@ ghost use Rattle.addr2line_lines.specs.InlineRoom.{exceeds_inline_room};
 ghost use Rattle.gimli.specs.Ranges.{ranges_at};
 ghost use Rattle.addr2line_lines.specs.RangeAttributes.{begins_well, gives_a_range};
 ghost use Rattle.addr2line_lines.specs.References.{IsScope};
+ghost use Rattle.addr2line_lines.specs.SeenInlined.{seen_inlined};
 ghost use Rattle.addr2line_lines.specs.SeenScope.{seen_scope};
 ghost use Rattle.addr2line_lines.specs.FoundFunctions.{AreFoundUnread, found_at, found_in, item_takes_memory, none_found, seen_functions, with_attributes, with_range_list, with_ranges};
 
 use crate::details::{Details, FunctionDetail};
 use crate::function::{RangeAttributes, has_range_attribute, read_range_attributes};
-use crate::inlined::InlinedFunction;
+use crate::inlined_functions::InlinedFunction;
 use crate::picks::InlinedPlaces;
 use crate::references::Scope;
 use crate::segments::{FunctionAddress, Segments};
@@ -420,8 +421,9 @@ impl<R: Reader> Functions<R> {
 
     /// The inlined function of a place, as `find_inlined_functions` gives it; none past the last
     /// one. Takes no memory.
-    pub fn inlined(&self, function: usize) -> Option<&InlinedFunction<R>>
-        ensures gives { option_map (λ r. r.now) result ≡ slice_get self.now.inlined function }
+    pub fn inlined(&self, function: usize) -> Option<InlinedFunction<'_, R>>
+        ensures gives { option_map (seen_inlined R.section) result
+            ≡ slice_get self.now.inlined function }
     {
         self.details.inlined(function)
     }

@@ -1,6 +1,6 @@
 //! Inlined entries: what their attributes say.
 
-ghost use Rattle.std.specs.Prelude.{◌≡◌, Ok, OnOk, option_and_then, option_map, true};
+ghost use Rattle.std.specs.Prelude.{◌≡◌, Ok, OnOk, option_and_then, true};
 ghost use Rattle.std.specs.Option.{option_or};
 ghost use Rattle.gimli_read.specs.Form.{attribute_at, rest_of};
 ghost use Rattle.gimli_read.specs.Reading.{ExactlyUnlessOomIf};
@@ -22,8 +22,6 @@ use gimli::read::{
     Attribute, AttributeSpecification, DWARF_5, DwAt, Error, NumberValue, Reader, UnitOffset,
 };
 use gimli::{EntriesRaw, Unit, UnitRef, WantedNames, split_at_wanted};
-use std::marker::Model;
-use std::rc::Rc;
 
 /// Where a function was called that is inlined.
 #[derive(Clone, Copy)]
@@ -34,44 +32,6 @@ pub struct CallSite {
     pub line: u32,
     /// The low 32 bits of the column; 0 where there is none.
     pub column: u32,
-}
-
-/// An inlined entry: an entry of a function that is inlined in another one.
-#[derive(Drop)]
-pub struct InlinedFunction<R: Reader> {
-    /// Where the entry begins, in bytes from the start of the unit's length.
-    pub dw_die_offset: UnitOffset,
-    // The name, where there is one that can be read. A reader takes more bytes than a pointer to one,
-    // and most entries have a name that others have as well.
-    pub(crate) name: Rc<Option<R>>,
-    /// The index of the file of the call, if there is one that counts.
-    pub call_file: Option<u64>,
-    /// The low 32 bits of the line of the call; 0 where there is none.
-    pub call_line: u32,
-    /// The low 32 bits of the column of the call; 0 where there is none.
-    pub call_column: u32,
-}
-
-impl<R: Reader> Model for InlinedFunction<R> {
-    ghost use Rattle.std.specs.Prelude.{option_map};
-    ghost use Rattle.addr2line_lines.specs.InlinedEntries.{InlinedEntry};
-
-    ghost Value = { InlinedEntry };
-
-    ghost view = { λ f. record {
-      offset = f.dw_die_offset.0;
-      name = option_map R.section f.name.value;
-      call = record { file = f.call_file; line = f.call_line; column = f.call_column };
-    } };
-}
-
-impl<R: Reader> InlinedFunction<R> {
-    /// The name, where there is one that can be read. Takes no memory.
-    pub fn name(&self) -> Option<&R>
-        ensures gives { option_map (λ r. R.section r.now) result ≡ self.now.name }
-    {
-        self.name.as_ref().as_ref()
-    }
 }
 
 // The index of a file, if it counts in a version.

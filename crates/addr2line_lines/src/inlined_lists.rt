@@ -9,7 +9,8 @@ ghost use Rattle.addr2line_lines.specs.FoundAttributes.{seen_attributes};
 ghost use Rattle.addr2line_lines.specs.RangeAttributes.{begins_well, gives_a_range};
 
 use crate::function::RangeAttributes;
-use crate::inlined::{InlinedAttributes, InlinedFunction};
+use crate::inlined::InlinedAttributes;
+use crate::inlined_functions::{InlinedCall, InlinedFunctions};
 use crate::inlined_ranges::InlinedRanges;
 use crate::picks::InlinedFunctionAddress;
 use gimli::UnitRef;
@@ -20,7 +21,7 @@ use std::alloc::Global;
 #[derive(Drop)]
 pub(crate) struct InlinedLists<R: Reader> {
     alloc: Global,
-    pub(crate) functions: Vec<InlinedFunction<R>>,
+    pub(crate) functions: InlinedFunctions<R>,
     pub(crate) ranges: InlinedRanges,
 }
 
@@ -34,9 +35,9 @@ fn push_range_list<R: Reader>(
 ) -> Result<(), Error>
     ensures gives { ExactlyUnlessOomIf
         (begins_well (ranges_at unit.entry.dwarf.now unit.entry.unit.now offset))
-        (λ _. ranges.new.ranges) result (with_inlined_list unit.entry.dwarf.now
-        unit.entry.unit.now offset depth function ranges.old.ranges) }
-    ensures kept { IsGrown ranges.old.ranges ranges.new.ranges }
+        (λ _. ranges.new.elements) result (with_inlined_list unit.entry.dwarf.now
+        unit.entry.unit.now offset depth function ranges.old.elements) }
+    ensures kept { IsGrown ranges.old.elements ranges.new.elements }
 {
     let mut list = unit.ranges(offset)?;
     while let Some(range) = list.next()? {
@@ -60,9 +61,9 @@ fn push_ranges<R: Reader>(
 ) -> Result<(), Error>
     ensures gives { ExactlyUnlessOomIf
         (gives_a_range unit.entry.dwarf.now unit.entry.unit.now attributes.now)
-        (λ _. ranges.new.ranges) result (with_inlined_ranges unit.entry.dwarf.now
-        unit.entry.unit.now attributes.now depth function ranges.old.ranges) }
-    ensures kept { IsGrown ranges.old.ranges ranges.new.ranges }
+        (λ _. ranges.new.elements) result (with_inlined_ranges unit.entry.dwarf.now
+        unit.entry.unit.now attributes.now depth function ranges.old.elements) }
+    ensures kept { IsGrown ranges.old.elements ranges.new.elements }
 {
     match attributes.ranges_offset {
         Some(offset) => push_range_list(unit, offset, depth, function, ranges),
@@ -86,7 +87,7 @@ impl<R: Reader> InlinedLists<R> {
     {
         InlinedLists {
             alloc,
-            functions: Vec::new(alloc),
+            functions: InlinedFunctions::new(alloc),
             ranges: InlinedRanges::new(alloc),
         }
     }
@@ -122,13 +123,7 @@ impl<R: Reader> InlinedLists<R> {
         push_ranges(unit, &ranges, depth, function, &mut self.ranges)?;
         if self.ranges.len() > before {
             let name = name.share(self.alloc)?;
-            self.functions.push(InlinedFunction {
-                dw_die_offset: offset,
-                name,
-                call_file: call.file,
-                call_line: call.line,
-                call_column: call.column,
-            })?;
+            self.functions.push(name, InlinedCall { offset, call })?;
         }
         Ok(())
     }

@@ -9,6 +9,7 @@ mod found_name;
 mod function;
 mod functions;
 mod inlined;
+mod inlined_functions;
 mod inlined_lists;
 mod inlined_ranges;
 mod laws;
@@ -27,12 +28,14 @@ mod rows;
 mod search;
 mod segments;
 mod sequence;
+mod short_list;
 mod spans;
 
 pub use crate::count::Count;
 pub use crate::function::{RangeAttributes, read_ranges};
 pub use crate::functions::Functions;
-pub use crate::inlined::{CallSite, InlinedFunction};
+pub use crate::inlined::CallSite;
+pub use crate::inlined_functions::InlinedFunction;
 pub use crate::laws::{
     cached_details_stay, each_address_has_a_row, fault_laws, inlined_are_nested,
     inlined_chain_is_whole, listed_functions_stay, lone_is_picked, lone_is_shortest, name_chains,

@@ -9,6 +9,7 @@ ghost use Rattle.addr2line_lines.specs.InlinedChain.{inlined_chain};
 ghost use Rattle.addr2line_lines.specs.InlinedOrder.{inlined_range_of, inlined_sooner, place, place_at, places_chain};
 ghost use Rattle.addr2line_lines.specs.InlineRoom.{exceeds_inline_room};
 
+use crate::short_list::Stored;
 use gimli::read::{Error, Range};
 use smallvec::SmallVec;
 use std::alloc::Global;
@@ -27,35 +28,25 @@ pub(crate) struct InlinedFunctionAddress {
     pub function: usize,
 }
 
-/// A range of an inlined function as it is stored, beside the upper half of its addresses.
-pub(crate) trait StoredRange: Copy {
-    ghost use Rattle.addr2line_lines.specs.declared.picks.InlinedFunctionAddress.{InlinedFunctionAddress};
+impl Stored for InlinedFunctionAddress {
+    type Whole = InlinedFunctionAddress;
 
-    /// The range that it stands for.
-    ghost whole: { ℕ → Self → InlinedFunctionAddress };
-
-    /// The range that it stands for.
-    fn range(self, upper: u32) -> InlinedFunctionAddress
-        ensures gives { result ≡ whole upper self };
-}
-
-impl StoredRange for InlinedFunctionAddress {
     ghost whole = { λ _ range. range };
 
     #[inline(always)]
-    fn range(self, _upper: u32) -> InlinedFunctionAddress {
+    fn whole(self, _base: u32) -> InlinedFunctionAddress {
         self
     }
 }
 
 /// Puts ranges in order of depth, then begin, then end, then function. Takes no memory.
-pub(crate) fn sort_inlined<S: StoredRange>(upper: u32, ranges: &mut [S])
+pub(crate) fn sort_inlined<S: Stored<Whole = InlinedFunctionAddress>>(upper: u32, ranges: &mut [S])
     ensures gives { map (S.whole upper) ranges.new
         ≡ in_order inlined_sooner (map (S.whole upper) ranges.old) }
     ensures ordered { IsInOrder inlined_sooner (map (S.whole upper) ranges.new) }
 {
     ranges.sort_unstable_by_key(|r| {
-        let whole = r.range(upper);
+        let whole = r.whole(upper);
         (
             whole.depth,
             whole.range.begin,
@@ -66,7 +57,11 @@ pub(crate) fn sort_inlined<S: StoredRange>(upper: u32, ranges: &mut [S])
 }
 
 /// Puts the ranges from a place on in order. Takes no memory.
-pub(crate) fn sort_inlined_from<S: StoredRange>(upper: u32, ranges: &mut Vec<S>, start: usize)
+pub(crate) fn sort_inlined_from<S: Stored<Whole = InlinedFunctionAddress>>(
+    upper: u32,
+    ranges: &mut Vec<S>,
+    start: usize,
+)
     requires there { start ≤ length ranges.old.items }
     ensures gives { map (S.whole upper) ranges.new.items
         ≡ take start (map (S.whole upper) ranges.old.items)
@@ -80,7 +75,7 @@ pub(crate) fn sort_inlined_from<S: StoredRange>(upper: u32, ranges: &mut Vec<S>,
 /// where that range doesn't hold `probe`. Takes no memory.
 ///
 /// Source: Own.
-pub(crate) fn find_inlined<S: StoredRange>(
+pub(crate) fn find_inlined<S: Stored<Whole = InlinedFunctionAddress>>(
     upper: u32,
     ranges: &[S],
     depth: usize,
@@ -90,13 +85,13 @@ pub(crate) fn find_inlined<S: StoredRange>(
     ensures found { result ≡ place_at probe depth (map (S.whole upper) ranges.now) }
 {
     let past = ranges.partition_point(|r| {
-        let whole = r.range(upper);
+        let whole = r.whole(upper);
         whole.depth < depth || (whole.depth == depth && whole.range.begin <= probe)
     });
     if past == 0 {
         return None;
     }
-    let range = ranges[past - 1].range(upper);
+    let range = ranges[past - 1].whole(upper);
     if range.depth == depth && probe < range.range.end {
         Some(range.function)
     } else {
@@ -108,7 +103,7 @@ pub(crate) fn find_inlined<S: StoredRange>(
 /// first depth without one, of ranges in order.
 ///
 /// Refused `OutOfMemory` alone, and only where there are more than 16. Source: Own.
-pub(crate) fn find_chain<S: StoredRange>(
+pub(crate) fn find_chain<S: Stored<Whole = InlinedFunctionAddress>>(
     alloc: Global,
     upper: u32,
     ranges: &[S],

@@ -9,6 +9,7 @@ ghost use Rattle.std.specs.Str.{IsUtf8};
 ghost use Rattle.gimli_read.specs.declared.constants.TheConstants.DwLang.{DW_LANG_Rust};
 ghost use Rattle.gimli_read.specs.declared.error.Error.TheVariants.{OutOfMemory};
 ghost use Rattle.addr2line_lines.specs.FoundInlined.{entry_among};
+ghost use Rattle.addr2line_lines.specs.SeenInlined.{seen_inlined};
 ghost use Rattle.addr2line_lines.specs.FunctionTable.{cached_name, cached_offset_at};
 ghost use Rattle.gimli_read.specs.Reading.{result_map};
 ghost use Rattle.addr2line_lines.specs.SeenLocation.{seen_location};
@@ -153,9 +154,10 @@ fn call_file<'ctx>(lines: Option<&'ctx Lines>, index: Option<u64>) -> Option<&'c
 // Where an inlined function was called.
 fn call_location<'ctx, R: Reader>(
     lines: Option<&'ctx Lines>,
-    entry: &InlinedFunction<R>,
+    entry: InlinedFunction<'_, R>,
 ) -> Location<'ctx>
-    ensures gives { seen_location result ≡ call_location (files_if lines.entry) entry.now.call }
+    ensures gives { seen_location result
+        ≡ call_location (files_if lines.entry) (seen_inlined R.section entry.entry).call }
 {
     Location {
         file: call_file(lines, entry.call_file),
@@ -201,9 +203,10 @@ impl<'ctx, R: Reader> FunctionFrames<'ctx, R> {
     }
 
     // The frame of an inlined function; without one a frame with neither offset nor function.
-    fn inlined_frame(&self, entry: Option<&'ctx InlinedFunction<R>>) -> Frame<'ctx, R>
+    fn inlined_frame(&self, entry: Option<InlinedFunction<'ctx, R>>) -> Frame<'ctx, R>
         ensures gives { seen_frame R.section result ≡ entry_frame self.now.language
-            (option_map (λ e. e.now) entry.entry) (option_map seen_location self.now.location) }
+            (option_map (seen_inlined R.section) entry.entry)
+            (option_map seen_location self.now.location) }
     {
         match entry {
             Some(entry) => Frame {
@@ -220,9 +223,10 @@ impl<'ctx, R: Reader> FunctionFrames<'ctx, R> {
     }
 
     // Where an inlined function was called.
-    fn call_of(&self, entry: Option<&'ctx InlinedFunction<R>>) -> Option<Location<'ctx>>
+    fn call_of(&self, entry: Option<InlinedFunction<'ctx, R>>) -> Option<Location<'ctx>>
         ensures gives { option_map seen_location result ≡ option_map
-            (λ e. call_location (files_if self.now.lines) e.now.call) entry.entry }
+            (λ e. call_location (files_if self.now.lines) (seen_inlined R.section e).call)
+            entry.entry }
     {
         Some(call_location(self.lines, entry?))
     }

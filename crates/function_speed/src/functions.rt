@@ -72,7 +72,7 @@ fn with_names<R: Reader>(sum: u64, functions: &Functions<R>) -> u64 {
 }
 
 // What the fields of an inlined entry count.
-fn fields_of<R: Reader>(inlined: &InlinedFunction<R>) -> u64 {
+fn fields_of<R: Reader>(inlined: InlinedFunction<'_, R>) -> u64 {
     u64::from(inlined.call_line)
         .wrapping_mul(3)
         .wrapping_add(u64::from(inlined.call_column).wrapping_mul(5))

@@ -26,7 +26,7 @@ returns-in_err-range g c =
     let p = err_from_is_err_and c.from_residual-in_err-range.result c.from_residual-in_err-range.ensures.1 in
     let i = c.loop-range.invariant in
     let read = ap all_ranges i.list ∙ read_after i.read c.loop-range.list in
-    record { gives = rw (p.1, p.2) (λ _. ap (added c.args.ranges.now.ranges c.args.depth c.args.function) (read ∙ ap (with_front i.read) (fault_left _ _ _ c.in_err-range.ensures.gives))); kept = grown_by _ _ _ i.added }
+    record { gives = rw (p.1, p.2) (λ _. ap (added c.args.ranges.now.elements c.args.depth c.args.function) (read ∙ ap (with_front i.read) (fault_left _ _ _ c.in_err-range.ensures.gives))); kept = grown_by _ _ _ i.added }
 
 pub returns-in_err-push-clause-gives : goal.returns-in_err-push-clause-gives
 returns-in_err-push-clause-gives g c =
@@ -44,7 +44,7 @@ loop-range-preserved g c =
     record {
       read = i.read ++ range ∷ [];
       list = i.list ∙ ap (after i.read) (one_left _ _ _ one) ∙ ap Ok (one_read Ok i.read range c.next.new.self);
-      added = c.in_ok-push.ensures.gives ∙ ap (λ xs. xs ++ inlined_address c.args.depth c.args.function range ∷ []) i.added ∙ one_added (inlined_address c.args.depth c.args.function) c.args.ranges.now.ranges i.read range;
+      added = c.in_ok-push.ensures.gives ∙ ap (λ xs. xs ++ inlined_address c.args.depth c.args.function range ∷ []) i.added ∙ one_added (inlined_address c.args.depth c.args.function) c.args.ranges.now.elements i.read range;
     }
 
 pub returns : goal.returns
@@ -53,4 +53,4 @@ returns g c =
     let none = rw c.in_default.is at c.in_ok-range.ensures.gives in
     let read = ap all_ranges i.list ∙ read_after i.read c.loop-range.list in
     let end = ap (λ rest. with_front i.read (read_all rest)) (none_left _ _ none) in
-    record { gives = ap (added c.args.ranges.now.ranges c.args.depth c.args.function) (read ∙ end ∙ ap Ok (append-nil i.read)) ∙ ap Ok (sym i.added); kept = grown_by _ _ _ i.added }
+    record { gives = ap (added c.args.ranges.now.elements c.args.depth c.args.function) (read ∙ end ∙ ap Ok (append-nil i.read)) ∙ ap Ok (sym i.added); kept = grown_by _ _ _ i.added }

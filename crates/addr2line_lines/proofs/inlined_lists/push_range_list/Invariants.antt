@@ -8,7 +8,7 @@ abbrev pub invariant-loop-range : goal.invariant-loop-range
 invariant-loop-range g l = record {
   read : List Range;
   list : ranges_at l.fn.unit.dwarf.now l.fn.unit.unit.now l.fn.offset ≡ Ok (map Ok read ++ l.list);
-  added : l.ranges.ranges ≡ l.fn.ranges.ranges ++ map (inlined_address l.fn.depth l.fn.function) read;
+  added : l.ranges.elements ≡ l.fn.ranges.elements ++ map (inlined_address l.fn.depth l.fn.function) read;
 }
 
 abbrev pub decreases-loop-range : goal.decreases-loop-range

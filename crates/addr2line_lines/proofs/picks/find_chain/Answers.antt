@@ -9,9 +9,9 @@ use Rattle.addr2line_lines.proofs.picks.find_chain.Goals.{else-loop-depth-test, 
 pub loop-depth-preserved : goal.loop-depth-preserved
 loop-depth-preserved g c =
     let i = c.loop-depth.invariant in
-    let all = map (g.S.StoredRange.whole c.args.upper) c.args.ranges.now in
+    let all = map (g.S.Stored.whole c.args.upper) c.args.ranges.now in
     let depth = c.loop-depth.depth in
-    let long = length-map c.args.ranges.now (g.S.StoredRange.whole c.args.upper) in
+    let long = length-map c.args.ranges.now (g.S.Stored.whole c.args.upper) in
     let n = length all - (depth + 1) in
     let next : length all - depth ≡ suc n = (let t = c.loop-depth-test.true in omega arith) in
     let e : c.push.new.self.items ≡ c.loop-depth.chain.items ++ c.in-Some.function ∷ [] = c.in_ok-push-in-Some.ensures.ok in
@@ -32,11 +32,11 @@ loop-depth-preserved g c =
 pub returns-clause-listed : goal.returns-clause-listed
 returns-clause-listed g c =
     let i = c.loop-depth.invariant in
-    let all = map (g.S.StoredRange.whole c.args.upper) c.args.ranges.now in
+    let all = map (g.S.Stored.whole c.args.upper) c.args.ranges.now in
     let items = c.loop-depth.chain.items in
     let depth = c.loop-depth.depth in
     let left = places_within (length all - depth) c.args.probe depth all in
-    let long = length-map c.args.ranges.now (g.S.StoredRange.whole c.args.upper) in
+    let long = length-map c.args.ranges.now (g.S.Stored.whole c.args.upper) in
     let done : left ≡ [] = elim c.loop-depth-test.branch [
       | else-loop-depth-test w ↦ (let n : length all - depth ≡ 0 = (let t = w.loop-depth-test.false in omega arith) in ap (λ k. places_within k c.args.probe depth all) n)
       | then-loop-depth-test+in-None w ↦ within_none (length all - depth) c.args.probe depth all (sym w.in-None.ensures.found)

@@ -37,7 +37,7 @@ module _ (g : Over) (c : goal.After-len-2 g) where
   abbrev more : CachedDetails
   more = record {
     names = map (option_map g.R.Reader.section) c.push.new.self.items;
-    found = record { entries = listed.entries; ranges = c.sort_from.new.self.ranges };
+    found = record { entries = listed.entries; ranges = c.sort_from.new.self.elements };
     known = seen_names g.R.Reader.section c.read_detail.new.names;
   }
 
@@ -75,12 +75,12 @@ module _ (g : Over) (c : goal.After-len-2 g) where
             ∙ ap (λ n. slice_index_or (map see (names ++ c.in_ok-read.read ∷ [])) n None) (c.len-name.ensures ∙ c.args.self.now.names.ok.0)
             ∙ last_name see names c.in_ok-read.read None;
         name_there = omega arith;
-        inlined_begin = c.len-inlined_begin.ensures ∙ c.args.self.now.inlined.functions.ok.0;
-        inlined_end = c.len.ensures ∙ c.read_detail.new.found.functions.ok.0;
+        inlined_begin = c.len-inlined_begin.ensures.gives;
+        inlined_end = c.len.ensures.gives;
         ranges_begin = c.len-ranges_begin.ensures.gives;
         ranges_end = c.len-2.ensures.gives;
         entries = refl;
-        listed_is = ap (λ v. v.ranges) c.of-listed.ensures;
+        listed_is = ap (λ v. v.elements) c.of-listed.ensures;
         ranges = c.sort_from.ensures.gives;
       }
 

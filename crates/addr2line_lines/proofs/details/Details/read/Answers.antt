@@ -12,7 +12,7 @@ pub returns-in-Err-clause-refused : goal.returns-in-Err-clause-refused
 returns-in-Err-clause-refused g c =
     let made : List (Option Section) → FoundInlined → List CachedName → CachedDetails = λ xs f ns. record { names = xs; found = f; known = ns } in
     let old = seen_details g.R.Reader.section c.args.self.now in
-    let entries : c.len-functions.result ≡ length old.found.entries = c.len-functions.ensures ∙ c.args.self.now.inlined.functions.ok.0 in
+    let entries : c.len-functions.result ≡ length old.found.entries = c.len-functions.ensures.gives in
     let found = first_is c.len-functions.result c.len-ranges.result old.found (seen_lists c.add.new.self.inlined) c.in-Err.ensures.kept.found entries c.len-ranges.ensures.gives in
     let known = first_names c.len-known.result old.known (seen_names g.R.Reader.section c.add.new.self.known) c.in-Err.ensures.known.grown c.len-known.ensures.gives in
     let names = seen_names g.R.Reader.section c.truncate-in-Err.new.self in

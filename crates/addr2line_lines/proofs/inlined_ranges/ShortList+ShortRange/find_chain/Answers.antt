@@ -7,13 +7,18 @@ use Rattle.addr2line_lines.specs.declared.picks.InlinedFunctionAddress.{InlinedF
 use Rattle.addr2line_lines.specs.InOrder.{IsInOrder}
 use Rattle.addr2line_lines.specs.InlinedOrder.{inlined_sooner, places_chain}
 use Rattle.addr2line_lines.specs.InlineRoom.{exceeds_inline_room}
-use Rattle.addr2line_lines.specs.StoredRanges.{range_of_short, whole_ranges}
+use Rattle.addr2line_lines.specs.ShortLists.{StoredList, whole_elements}
+use Rattle.addr2line_lines.specs.StoredRanges.{range_of_short}
 use Rattle.addr2line_lines.proofs.StoredRangeLemmas.{images_between}
-use Rattle.addr2line_lines.proofs.inlined_ranges.RangeStore.find_chain.Goals as goal
+use Rattle.addr2line_lines.proofs.inlined_ranges.ShortList+ShortRange.find_chain.Goals as goal
+
+-- the ranges of a list
+abbrev ranges_of : StoredList InlinedFunctionAddress → List InlinedFunctionAddress
+ranges_of l = l.elements
 
 pub find_chain-requires : goal.find_chain-requires
 find_chain-requires c =
-    let e = images_between (range_of_short c.in-Short.upper) c.args.begin c.args.end _ _ _ c.deref.ensures.value (ap whole_ranges (sym c.in-Short.is)) in
+    let e = images_between (range_of_short c.in-Short.upper) c.args.begin c.args.end _ _ _ c.deref.ensures.value (ap (whole_elements range_of_short) (sym c.in-Short.is) ∙ ap ranges_of c.self.view_is) in
     record { ordered = subst (IsInOrder inlined_sooner) (sym e) c.requires.ordered }
 
 -- what the search gives of ranges it gives of the same ranges
@@ -22,10 +27,10 @@ Gives probe result ranges = ExactlyUnlessOomIf (exceeds_inline_room (places_chai
 
 pub returns-in-Short : goal.returns-in-Short
 returns-in-Short c =
-    let e = images_between (range_of_short c.in-Short.upper) c.args.begin c.args.end _ _ _ c.deref.ensures.value (ap whole_ranges (sym c.in-Short.is)) in
+    let e = images_between (range_of_short c.in-Short.upper) c.args.begin c.args.end _ _ _ c.deref.ensures.value (ap (whole_elements range_of_short) (sym c.in-Short.is) ∙ ap ranges_of c.self.view_is) in
     record { gives = subst (Gives c.args.probe c.find_chain.result) e c.find_chain.ensures.gives }
 
 pub returns-in-Whole : goal.returns-in-Whole
 returns-in-Whole c =
-    let e = images_between (λ r. r) c.args.begin c.args.end _ _ _ c.deref-in-Whole.ensures.value (map-id _ ∙ ap whole_ranges (sym c.in-Whole.is)) in
+    let e = images_between (λ r. r) c.args.begin c.args.end _ _ _ c.deref-in-Whole.ensures.value (map-id _ ∙ ap (whole_elements range_of_short) (sym c.in-Whole.is) ∙ ap ranges_of c.self.view_is) in
     record { gives = subst (Gives c.args.probe c.find_chain-in-Whole.result) e c.find_chain-in-Whole.ensures.gives }

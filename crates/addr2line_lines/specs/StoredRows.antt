@@ -48,12 +48,15 @@ abbrev pub stores : Width → Row → Bool
 stores (Short upper) r = fits upper r
 stores Whole r = true
 
+-- how so many rows are stored anew, so that one more can be: its address has this upper half, and it
+-- is narrow or not
+abbrev pub width_anew : ℕ → ℕ → Bool → Width
+width_anew count upper narrow = if (count == 0) && narrow then Short upper else Whole
+
 -- how one more row is stored after so many, and these with it
 abbrev pub width_after : ℕ → Width → Row → Width
 width_after count w r =
-    if stores w r then w
-    else if (count == 0) && are_narrow r then Short (upper_of r)
-    else Whole
+    if stores w r then w else width_anew count (upper_of r) (are_narrow r)
 
 -- the rows that are stored, and how
 pub record StoredRows : Type 0 where

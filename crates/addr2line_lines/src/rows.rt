@@ -4,7 +4,7 @@ ghost use Rattle.std.specs.Prelude.{◌≡◌, ◌+◌, ◌-◌, ◌<◌, true, 
 ghost use Rattle.gimli_read.specs.Topmost.{last};
 ghost use Rattle.addr2line_lines.specs.Building.{has_address, without_last_from};
 ghost use Rattle.addr2line_lines.specs.Packed.{row_address_at};
-ghost use Rattle.addr2line_lines.specs.StoredRows.{IsWidthFor, are_narrow, fits, none_stored, row_of_short, shortened, stores, upper_of, whole_rows, width_after, width_of};
+ghost use Rattle.addr2line_lines.specs.StoredRows.{IsWidthFor, are_narrow, fits, none_stored, row_of_short, shortened, stores, upper_of, whole_rows, width_after, width_anew, width_of};
 
 use crate::row::Row;
 use std::alloc::{AllocError, Global};
@@ -150,29 +150,29 @@ impl RowStore {
         }
     }
 
-    // The same rows, stored so that one more can be, which couldn't.
-    fn widened(&self, alloc: Global, row: Row) -> Result<RowStore, AllocError>
-        requires beyond { stores (width_of self.now) row ≡ false }
+    // The same rows, stored so that one more can be, which couldn't: of it the upper half of its
+    // address is asked, and whether it is narrow.
+    fn widened(&self, alloc: Global, upper: u32, narrow: bool) -> Result<RowStore, AllocError>
         ensures kept { IfOk result (λ s. whole_rows s ≡ whole_rows self.now) }
         ensures width { IfOk result (λ s.
-            width_of s ≡ width_after (length (whole_rows self.now)) (width_of self.now) row) }
+            width_of s ≡ width_anew (length (whole_rows self.now)) upper narrow) }
     {
-        if self.len() == 0 && are_narrow(row) {
-            return Ok(RowStore::Short(upper_of(row), Vec::new(alloc)));
+        if self.len() == 0 && narrow {
+            return Ok(RowStore::Short(upper, Vec::new(alloc)));
         }
         Ok(RowStore::Whole(self.wholes(alloc)?))
     }
 
-    // Stores the rows so that one more can be.
+    // Stores the rows so that one more can be. It isn't given the row, which would then have to
+    // stand in memory each time.
     #[inline(never)]
-    fn widen(&mut self, alloc: Global, row: Row) -> Result<(), AllocError>
-        requires beyond { stores (width_of self.old) row ≡ false }
+    fn widen(&mut self, alloc: Global, upper: u32, narrow: bool) -> Result<(), AllocError>
         ensures kept { whole_rows self.new ≡ whole_rows self.old }
         ensures width { OnOk result (width_of self.new
-            ≡ width_after (length (whole_rows self.old)) (width_of self.old) row) }
+            ≡ width_anew (length (whole_rows self.old)) upper narrow) }
         ensures refused { OnErr result (self.new ≡ self.old) }
     {
-        *self = self.widened(alloc, row)?;
+        *self = self.widened(alloc, upper, narrow)?;
         Ok(())
     }
 
@@ -189,7 +189,7 @@ impl RowStore {
         if self.stores(row) {
             return Ok(());
         }
-        self.widen(alloc, row)
+        self.widen(alloc, upper_of(row), are_narrow(row))
     }
 
     // Whether the last row, if one is at place `first` or after it, has the address of a row, which

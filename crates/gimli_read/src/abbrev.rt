@@ -124,12 +124,13 @@ impl StoredAttributes {
 pub struct Abbreviation {
     code: u64,
     tag: DwTag,
-    has_children: bool,
     attributes: StoredAttributes,
     // The attributes again, those of known sizes together.
     runs: Vec<SizedRun>,
     // How many bytes the attributes after the runs have.
     last: TotalSize,
+    // After the others, where it takes no room to align what follows.
+    has_children: bool,
 }
 
 impl Model for Abbreviation {
@@ -348,10 +349,10 @@ fn read_declaration<R: Reader>(
     Ok(Abbreviation {
         code,
         tag,
-        has_children,
         attributes,
         runs,
         last,
+        has_children,
     })
 }
 

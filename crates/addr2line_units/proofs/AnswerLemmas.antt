@@ -8,10 +8,10 @@ use Rattle.gimli_read.specs.declared.error.Error.TheVariants.{OutOfMemory}
 use Rattle.gimli.specs.Sections.{Sections}
 use Rattle.gimli.specs.Unit.{UnitRecord}
 use Rattle.addr2line_lines.specs.References.{Scope}
-use Rattle.addr2line_units.specs.declared.functions.LazyFunctions.{LazyFunctions}
-use Rattle.addr2line_units.specs.declared.functions.LazyFunctions.TheVariants as lazy
-use Rattle.addr2line_units.specs.declared.unit_frames.UnitCache.{UnitCache}
-use Rattle.addr2line_units.specs.declared.unit_frames.UnitEntries.{UnitEntries}
+use Rattle.addr2line_units.specs.declared.entries.LazyFunctions.{LazyFunctions}
+use Rattle.addr2line_units.specs.declared.entries.LazyFunctions.TheVariants as lazy
+use Rattle.addr2line_units.specs.declared.entries.UnitCache.{UnitCache}
+use Rattle.addr2line_units.specs.declared.entries.UnitEntries.{UnitEntries}
 use Rattle.addr2line_units.specs.declared.view.UnitView.{UnitView}
 use Rattle.addr2line_units.specs.declared.view.ViewState.{ViewState}
 use Rattle.addr2line_units.specs.declared.view.ViewState.TheVariants as states

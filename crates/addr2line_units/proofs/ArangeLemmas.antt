@@ -11,7 +11,7 @@ use Rattle.std.proofs.lemmas.List.Elements.{filter_agree}
 use Rattle.addr2line_lines.specs.InOrder.{in_order, IsInOrder}
 use Rattle.addr2line_lines.proofs.OrderLemmas.{in_order_ties}
 use Rattle.addr2line_lines.proofs.SeekLemmas.{Up}
-use Rattle.addr2line_units.specs.declared.aranges.UnitArange.{UnitArange}
+use Rattle.addr2line_units.specs.declared.index.UnitArange.{UnitArange}
 use Rattle.addr2line_units.specs.UnitAranges.{is_arange_of, offset_sooner}
 
 -- by the offset of the unit is an order

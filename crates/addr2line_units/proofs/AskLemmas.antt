@@ -2,7 +2,6 @@
 -- specs/StoredUnits.antt).
 use Rattle.std.proofs.Common.{◌≡◌, ◌≢◌, ◌⊎◌, inl, inr, ℕ, ◌<◌, ◌≤◌, ◌&&◌, ◌||◌, Bool, true, false, not, List, [], ◌∷◌, length, get_or, slice_get, Option, Some, None, Result, Ok, Err, refl, sym, ap, subst, ◌∙◌, arith}
 use Rattle.std.proofs.Math.ListN.{set}
-use Rattle.std.proofs.lemmas.Option.{get_or_from_slice_get, slice_get_within}
 use Rattle.std.specs.Prelude.{IfErr, IfOk, unwrap_or}
 use Rattle.gimli_read.specs.declared.error.Error.{Error}
 use Rattle.gimli_read.specs.declared.error.Error.TheVariants.{OutOfMemory}
@@ -16,13 +15,13 @@ use Rattle.addr2line_units.specs.declared.frames_lookup.OnFault.{OnFault}
 use Rattle.addr2line_units.specs.declared.frames_lookup.FramesStop.{FramesStop}
 use Rattle.addr2line_units.specs.declared.frames_lookup.FramesStop.TheVariants as stops
 use Rattle.addr2line_units.specs.declared.index.UnitRange.{UnitRange}
-use Rattle.addr2line_units.specs.declared.unit_frames.UnitCache.{UnitCache}
-use Rattle.addr2line_units.specs.declared.unit_frames.UnitFrames.{UnitFrames}
+use Rattle.addr2line_units.specs.declared.entries.UnitCache.{UnitCache}
+use Rattle.addr2line_units.specs.declared.entries.UnitFrames.{UnitFrames}
 use Rattle.addr2line_units.specs.AskedUnits.{AfterAsk, found_stop, stop_at}
 use Rattle.addr2line_units.specs.AskMemory.{functions_in_take_memory, lines_of_take_memory, lines_take_memory}
 use Rattle.addr2line_units.specs.CachedEntries.{AreEntriesOf, AreFramesIn, AsksNoMemoryIn, ReadsEntriesOf, StayEntries, first_answer_of, frames_of_place, has_entries}
 use Rattle.addr2line_units.specs.CachedFrames.{AreFoundAt, IsLendable, IsStopIn, found_after_fault, frames_found_at, has_frames_at, seen_stop, stop_of_found}
-use Rattle.addr2line_units.specs.CachedLines.{AreLinesOf, StaysUnit, StayUnits, indexed_unit, indexed_units, is_uncached, parsed_units}
+use Rattle.addr2line_units.specs.CachedLines.{StaysUnit, StayUnits, indexed_unit, indexed_units, is_uncached, parsed_units}
 use Rattle.addr2line_units.specs.CachedUnits.{HaveEntriesOf, StayAllEntries, answers_in, has_entries_at}
 use Rattle.addr2line_units.specs.FramesLookup.{FindsNothing, LookupStop, after_fault, asks_lines_of, ends_lookup, function_offset_of, functions_of_take_memory, inlined_at_number, or_stop}
 use Rattle.addr2line_units.specs.CachedKnown.{known_in}
@@ -31,14 +30,15 @@ use Rattle.addr2line_units.specs.Parsed.{has_parsed}
 use Rattle.addr2line_units.specs.StoredUnits.{AreUnits, seen_units}
 use Rattle.addr2line_units.specs.UnitFrames.{FramesResult, asks_lines_in, frames_in, inlined_at}
 use Rattle.addr2line_units.specs.UnitsState.{IsFaultAt, UnitsState, asked_by, asks_no_memory_at, has_all_at, reads_no_memory_at}
-use Rattle.addr2line_units.proofs.CachedUnitLemmas.{as_many_entries, cache_set, entries_at, entries_right, entries_set, lines_right, reads_set, same_answers, stay_entries_set}
+use Rattle.addr2line_units.proofs.CachedUnitLemmas.{entries_set, reads_set, same_answers, stay_entries_set}
 use Rattle.addr2line_units.proofs.FoundLemmas.{lendable_if_told}
 use Rattle.addr2line_units.proofs.FramesLookupLemmas.{gives_after, no_stop, oom_before, refused_before, stop_is, stop_there, there_after}
 use Rattle.addr2line_units.proofs.KnownLemmas.{known_is, known_unchanged}
 use Rattle.addr2line_units.proofs.LearnedLemmas.{detail_at, detail_set, detail_unchanged, entries_learn}
 use Rattle.addr2line_units.proofs.NumberedFrames.{asks_are, frames_are, frames_given, functions_take, known_then, lines_only, lines_take, many_are, none_known, none_past, nothing_at, offset_is, places_there, then_known, then_no_memory}
 use Rattle.addr2line_units.proofs.StayLemmas.{stays_known}
-use Rattle.addr2line_units.proofs.UnitsLemmas.{own_at, stay_indexed, stay_parsed, stay_set}
+use Rattle.addr2line_units.proofs.UnitAtLemmas.{all_entries, as_many, cache_within, its_entries, unit_is}
+use Rattle.addr2line_units.proofs.UnitsLemmas.{stay_indexed, stay_parsed, stay_set}
 use Rattle.addr2line_units.proofs.WalkLemmas.{and_first, and_not}
 
 -- a range of the unit of a number
@@ -53,15 +53,12 @@ holds_alone h x e = by (ends_lookup x) h e
     by false true e = refl
     by b false e = cc
 
-module _ {R : Type 0} (scope : Scope) (cs : List (UnitCache R)) (last : FramesStop) (i : AreUnits scope cs last) (probe n looks : ℕ) (was : LookupStop) where
+module _ {R : Type 0} {scope : Scope} {cs : List (UnitCache R)} {last : FramesStop} (i : AreUnits scope cs last) (probe n : ℕ) (looks : ℕ) (was : LookupStop) where
   abbrev us : List UnitRecord
   us = scope.file.units
 
   abbrev d : Sections
   d = scope.file.sections
-
-  own : HaveEntriesOf scope us cs
-  own = entries_right scope us cs i.caches
 
   abbrev old : UnitsState
   old = seen_units scope cs looks was
@@ -69,7 +66,7 @@ module _ {R : Type 0} (scope : Scope) (cs : List (UnitCache R)) (last : FramesSt
   -- there is no unit of that number
   module _ (none : slice_get us n ≡ None) where
     past : length cs ≤ n
-    past = subst (λ m. m ≤ n) (as_many_entries scope us cs own) (none_past us n none)
+    past = subst (λ m. m ≤ n) (as_many i) (none_past us n none)
 
     of_faults : (faults : OnFault) (r : FramesResult) → r ≡ Ok (Some []) → (after_fault faults r >>= or_stop n (Ok FindsNothing)) ≡ Ok FindsNothing
     of_faults faults r e = ap (λ x. after_fault faults x >>= or_stop n (Ok FindsNothing)) e
@@ -85,39 +82,25 @@ module _ {R : Type 0} (scope : Scope) (cs : List (UnitCache R)) (last : FramesSt
       stop = tt;
     }
 
-  module _ (u : UnitRecord) (there : slice_get us n ≡ Some u) where
-    unit : u ≡ get_or us n u
-    unit = sym (get_or_from_slice_get us n u u there)
+  module _ {u : UnitRecord} (there : slice_get us n ≡ Some u) where
+    module _ {c : UnitCache R} (at : c ≡ get_or cs n c) where
+      within : n < length cs
+      within = cache_within i n there
 
-    within : n < length us
-    within = slice_get_within us n u there
+      unit : u ≡ get_or us n u
+      unit = unit_is i n there
 
-    pub in_caches : n < length cs
-    in_caches = subst (λ m. n < m) (as_many_entries scope us cs own) within
-
-    module _ (c : UnitCache R) (at : c ≡ get_or cs n c) where
-      pub right_lines : AreLinesOf d u c.lines.lines
-      right_lines = own_at d us cs n u c in_caches unit at (lines_right scope us cs i.caches)
-
-      pub right_entries : AreEntriesOf scope u c.entries
-      right_entries = entries_at scope us cs n u c in_caches unit at own
+      own : HaveEntriesOf scope us cs
+      own = all_entries i
 
       module _ (w : UnitCache R) where
         abbrev now_cs : List (UnitCache R)
         now_cs = set cs n w
 
-        -- what is cached stays right
-        pub still_asked : AreLinesOf d u w.lines.lines → AreEntriesOf scope u w.entries → (stop : FramesStop) → IsLendable now_cs stop → AreUnits scope now_cs stop
-        still_asked lines entries stop lendable = record {
-          in_order = i.in_order;
-          caches = cache_set scope us cs n u w unit i.caches (record { lines = lines; entries = entries });
-          stop = lendable;
-        }
-
         module _ (faults : OnFault) (result : Result UnitFrames Error) (gives : ExactlyUnlessOom (frames_of_place w.lines w.entries) result (frames_in scope (indexed_unit u c.lines) (first_answer_of c.entries) probe)) where
           given : ExactlyUnlessOom (frames_found_at now_cs n) (found_after_fault faults result) (asked_by faults probe old n)
           given = gives_after faults (frames_found_at now_cs n) result _ refl
-              (frames_given scope probe us cs n own in_caches u c w unit at result gives)
+              (frames_given scope probe us cs n own within u c w unit at result gives)
 
           of_found : (f : UnitFrames) → or_stop n (Ok FindsNothing) (frames_found_at now_cs n f) ≡ Ok (seen_stop now_cs (found_stop n f))
           of_found f = by (stop_of_found n f) refl
@@ -137,7 +120,7 @@ module _ {R : Type 0} (scope : Scope) (cs : List (UnitCache R)) (last : FramesSt
           stop_right ok f e = by (stop_of_found n f) refl
             where
               places : IfOk result (AreFoundAt now_cs n)
-              places = places_there scope probe us cs n own in_caches u c w unit at result ok
+              places = places_there scope probe us cs n own within u c w unit at result ok
 
               found : AreFoundAt now_cs n f
               found = subst (λ q. IfOk q (AreFoundAt now_cs n)) e (there_after faults now_cs n result places)
@@ -153,10 +136,10 @@ module _ {R : Type 0} (scope : Scope) (cs : List (UnitCache R)) (last : FramesSt
               (parsed : WasNotRefused result → asks_lines_in scope u (first_answer_of c.entries) probe ≡ true → is_uncached w.lines.lines ≡ false)
               (memory : has_entries probe w.entries ≡ true → (asks_lines_in scope u (first_answer_of c.entries) probe ≡ true → is_uncached w.lines.lines ≡ false) → exceeds_inline_room (inlined_at scope u (first_answer_of c.entries) probe) ≡ false → WasNotRefused result) where
             stay_lines : StayUnits cs now_cs
-            stay_lines = stay_set cs n c w in_caches at stays
+            stay_lines = stay_set cs n c w within at stays
 
             stay_entries : StayAllEntries cs now_cs
-            stay_entries = stay_entries_set cs n c w in_caches at stay
+            stay_entries = stay_entries_set cs n c w within at stay
 
             units_same : indexed_units us now_cs ≡ indexed_units us cs
             units_same = stay_indexed us cs now_cs stay_lines
@@ -168,7 +151,7 @@ module _ {R : Type 0} (scope : Scope) (cs : List (UnitCache R)) (last : FramesSt
             asks m = asks_lines_of scope (indexed_units us cs) (answers_in cs) probe m
 
             known_there : WasNotRefused result → has_frames_at asks probe now_cs n ≡ true
-            known_there told = known_then scope probe us cs n own in_caches u c w unit at (ready told) (parsed told)
+            known_there told = known_then scope probe us cs n own within u c w unit at (ready told) (parsed told)
 
             -- what is stored can be lent
             pub stop_lendable : AreEntriesOf scope u w.entries → IfOk result (AreFramesIn w.lines w.entries) → (f : UnitFrames) → found_after_fault faults result ≡ Ok f → IsLendable now_cs (found_stop n f)
@@ -191,15 +174,15 @@ module _ {R : Type 0} (scope : Scope) (cs : List (UnitCache R)) (last : FramesSt
               many_is =
                   ap (λ xs. exceeds_inline_room (inlined_at_number scope xs (answers_in now_cs) probe n)) units_same
                   ∙ ap (λ a. exceeds_inline_room (inlined_at_number scope (indexed_units us cs) a probe n)) answers_same
-                  ∙ many_are scope probe us cs n own in_caches u c w unit at
+                  ∙ many_are scope probe us cs n own within u c w unit at
 
               -- where the lookup takes no memory there, a refusal is the fault of the unit
               pub refused_alone : (shares : Bool) → (AsksNoMemoryIn shares scope u (first_answer_of c.entries) probe w.lines w.entries → IfErr result (λ e. frames_in scope (indexed_unit u c.lines) (first_answer_of c.entries) probe ≡ Err e))
                   → (x : Error) → found_after_fault faults result ≡ Err x → asks_no_memory_at shares probe new n ≡ true → IsFaultAt probe old n x
               refused_alone shares alone x e none =
-                  frames_are scope probe us cs n own in_caches u c w unit at
+                  frames_are scope probe us cs n own within u c w unit at
                   ∙ subst (λ q. IfErr q (λ y. frames_in scope (indexed_unit u c.lines) (first_answer_of c.entries) probe ≡ Err y)) (refused_before faults result x e)
-                  (alone (then_no_memory scope probe us cs n own in_caches u c w unit at shares (sym none_is ∙ and_first _ _ none) (sym many_is ∙ and_not _ _ none)))
+                  (alone (then_no_memory scope probe us cs n own within u c w unit at shares (sym none_is ∙ and_first _ _ none) (sym many_is ∙ and_not _ _ none)))
                 where
                   none_is : reads_no_memory_at shares probe new n ≡ ((has_entries_at probe now_cs n || not (functions_in_take_memory shares scope u (first_answer_of c.entries)))
                       && (not (asks_lines_in scope u (first_answer_of c.entries) probe) || (has_parsed (parsed_units now_cs) n || not (lines_take_memory shares u))))
@@ -207,14 +190,14 @@ module _ {R : Type 0} (scope : Scope) (cs : List (UnitCache R)) (last : FramesSt
                       ap (λ b. (b || not (functions_of_take_memory shares scope (indexed_units us now_cs) (answers_in now_cs) n)) && (not (asks_lines_of scope (indexed_units us now_cs) (answers_in now_cs) probe n) || (has_parsed (parsed_units now_cs) n || not (lines_of_take_memory shares (indexed_units us now_cs) n)))) (known_is probe now_cs n)
                       ∙ ap (λ xs. (has_entries_at probe now_cs n || not (functions_of_take_memory shares scope xs (answers_in now_cs) n)) && (not (asks_lines_of scope xs (answers_in now_cs) probe n) || (has_parsed (parsed_units now_cs) n || not (lines_of_take_memory shares xs n)))) units_same
                       ∙ ap (λ a. (has_entries_at probe now_cs n || not (functions_of_take_memory shares scope (indexed_units us cs) a n)) && (not (asks_lines_of scope (indexed_units us cs) a probe n) || (has_parsed (parsed_units now_cs) n || not (lines_of_take_memory shares (indexed_units us cs) n)))) answers_same
-                      ∙ ap (λ b. (has_entries_at probe now_cs n || not b) && (not (asks n) || (has_parsed (parsed_units now_cs) n || not (lines_of_take_memory shares (indexed_units us cs) n)))) (functions_take scope probe us cs n own in_caches u c w unit at shares)
-                      ∙ ap (λ b. (has_entries_at probe now_cs n || not (functions_in_take_memory shares scope u (first_answer_of c.entries))) && (not b || (has_parsed (parsed_units now_cs) n || not (lines_of_take_memory shares (indexed_units us cs) n)))) (asks_are scope probe us cs n own in_caches u c w unit at)
-                      ∙ ap (λ b. (has_entries_at probe now_cs n || not (functions_in_take_memory shares scope u (first_answer_of c.entries))) && (not (asks_lines_in scope u (first_answer_of c.entries) probe) || (has_parsed (parsed_units now_cs) n || not b))) (lines_take scope probe us cs n own in_caches u c w unit at shares)
+                      ∙ ap (λ b. (has_entries_at probe now_cs n || not b) && (not (asks n) || (has_parsed (parsed_units now_cs) n || not (lines_of_take_memory shares (indexed_units us cs) n)))) (functions_take scope probe us cs n own within u c w unit at shares)
+                      ∙ ap (λ b. (has_entries_at probe now_cs n || not (functions_in_take_memory shares scope u (first_answer_of c.entries))) && (not b || (has_parsed (parsed_units now_cs) n || not (lines_of_take_memory shares (indexed_units us cs) n)))) (asks_are scope probe us cs n own within u c w unit at)
+                      ∙ ap (λ b. (has_entries_at probe now_cs n || not (functions_in_take_memory shares scope u (first_answer_of c.entries))) && (not (asks_lines_in scope u (first_answer_of c.entries) probe) || (has_parsed (parsed_units now_cs) n || not b))) (lines_take scope probe us cs n own within u c w unit at shares)
 
               details_there : AreEntriesOf scope u w.entries → (m : ℕ) → m ≡ n → (offset : ℕ) → knows_detail_at (known_in now_cs) offset m ≡ true → (knows_detail_at (known_in cs) offset m ≡ true) ⊎ (function_offset_of scope (indexed_units us cs) (answers_in cs) probe m ≡ Some offset)
-              details_there right m is offset e = elim (entries_learn scope u probe offset c.entries w.entries right_entries right stay only.alone (sym (detail_set cs n c w in_caches at offset m is) ∙ e)) [
-                | inl h ↦ inl (detail_at cs n c w in_caches at offset m is ∙ h)
-                | inr h ↦ inr (ap (function_offset_of scope (indexed_units us cs) (answers_in cs) probe) is ∙ offset_is scope probe us cs n own in_caches u c w unit at ∙ h)
+              details_there right m is offset e = elim (entries_learn scope u probe offset c.entries w.entries (its_entries i n there at) right stay only.alone (sym (detail_set cs n c w within at offset m is) ∙ e)) [
+                | inl h ↦ inl (detail_at cs n c w within at offset m is ∙ h)
+                | inr h ↦ inr (ap (function_offset_of scope (indexed_units us cs) (answers_in cs) probe) is ∙ offset_is scope probe us cs n own within u c w unit at ∙ h)
               ]
 
               pub after_asked : {X : Type 0} (q : Result X Error) → AreEntriesOf scope u w.entries → (WasNotRefused q → WasNotRefused result) → (WasNotRefused result → WasNotRefused q) → IfErr q (λ _. stop ≡ FindsNothing) → AfterAsk n probe q old new
@@ -225,7 +208,7 @@ module _ {R : Type 0} (scope : Scope) (cs : List (UnitCache R)) (last : FramesSt
                   answers = answers_same;
                   parsed = stay_parsed cs now_cs stay_lines;
                   known = stays_known cs now_cs stay_entries;
-                  only = lines_only scope probe us cs n own in_caches u c w unit at lines;
+                  only = lines_only scope probe us cs n own within u c w unit at lines;
                   learns = λ m. elim (reads_set probe cs n c w at only m) [
                     | inl e ↦ inl (known_unchanged cs now_cs m e)
                     | inr x ↦ inr x.0
@@ -239,6 +222,6 @@ module _ {R : Type 0} (scope : Scope) (cs : List (UnitCache R)) (last : FramesSt
                 stop = stored;
                 ready = λ told. all_is ∙ known_there (before told);
                 memory = λ few.
-                    let both = then_known scope probe us cs n own in_caches u c w unit at (sym all_is ∙ and_first _ _ few) in
+                    let both = then_known scope probe us cs n own within u c w unit at (sym all_is ∙ and_first _ _ few) in
                     then (memory both.0 both.1 (sym many_is ∙ and_not _ _ few));
               }

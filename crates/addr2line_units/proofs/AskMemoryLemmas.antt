@@ -17,8 +17,8 @@ use Rattle.addr2line_lines.specs.Location.{LineTable, line_table_of}
 use Rattle.addr2line_lines.specs.References.{Scope}
 use Rattle.addr2line_lines.specs.Rows.{read_all}
 use Rattle.addr2line_lines.specs.UnitLines.{IsFaultAtOnce, lines_in, program_lines, unit_lines}
-use Rattle.addr2line_units.specs.declared.functions.LazyFunctions.{LazyFunctions}
-use Rattle.addr2line_units.specs.declared.functions.LazyFunctions.TheVariants as lazy
+use Rattle.addr2line_units.specs.declared.entries.LazyFunctions.{LazyFunctions}
+use Rattle.addr2line_units.specs.declared.entries.LazyFunctions.TheVariants as lazy
 use Rattle.addr2line_units.specs.AskMemory.{any_program_takes_memory, is_fault_at_once, lines_take_memory}
 use Rattle.addr2line_units.specs.CachedFunctions.{AreFunctionsOf, find_takes_memory, reading_takes_memory, table_takes_memory}
 use Rattle.addr2line_units.specs.CachedLines.{lines_result}

@@ -24,9 +24,9 @@ use Rattle.addr2line_lines.specs.References.{Scope}
 use Rattle.addr2line_lines.proofs.ListedFunctions.{more_listed}
 use Rattle.addr2line_lines.proofs.PlaceLemmas.{all_at, get_set_other, some_at}
 use Rattle.addr2line_lines.proofs.ReadLemmas.{read_more, read_right, unread_right}
-use Rattle.addr2line_units.specs.declared.functions.FunctionPlace.{FunctionPlace}
-use Rattle.addr2line_units.specs.declared.functions.LazyFunctions.{LazyFunctions}
-use Rattle.addr2line_units.specs.declared.functions.LazyFunctions.TheVariants as lazy
+use Rattle.addr2line_units.specs.declared.entries.FunctionPlace.{FunctionPlace}
+use Rattle.addr2line_units.specs.declared.entries.LazyFunctions.{LazyFunctions}
+use Rattle.addr2line_units.specs.declared.entries.LazyFunctions.TheVariants as lazy
 use Rattle.addr2line_units.specs.Frames.{FrameRecord, found_frames, found_function, frames_from, function_at, function_from}
 use Rattle.addr2line_units.proofs.FunctionMemoryLemmas.{details_take, place_takes}
 use Rattle.addr2line_units.specs.CachedFunctions.{ArePlacesIn, IsTableOf, ReadsNoOther, StayFunctions, cached_inlined_at, cached_detail_takes_memory, details_at, find_takes_memory, function_of_place, functions_fault, cached_functions, place_takes_memory, reading_takes_memory, table_takes_memory, were_read}

@@ -14,8 +14,8 @@ use Rattle.addr2line_lines.specs.InlineRoom.{exceeds_inline_room}
 use Rattle.addr2line_lines.specs.References.{Scope}
 use Rattle.addr2line_lines.proofs.PlaceLemmas.{all_at}
 use Rattle.addr2line_lines.proofs.ReadLemmas.{read_more}
-use Rattle.addr2line_units.specs.declared.functions.LazyFunctions.{LazyFunctions}
-use Rattle.addr2line_units.specs.declared.functions.LazyFunctions.TheVariants as lazy
+use Rattle.addr2line_units.specs.declared.entries.LazyFunctions.{LazyFunctions}
+use Rattle.addr2line_units.specs.declared.entries.LazyFunctions.TheVariants as lazy
 use Rattle.addr2line_units.specs.Frames.{function_at}
 use Rattle.addr2line_units.specs.CachedFunctions.{IsTableOf, has_detail, cached_has_function, has_place, has_table, is_cached_fault, were_read}
 use Rattle.addr2line_units.specs.UnitFrames.{inlined_of_found}

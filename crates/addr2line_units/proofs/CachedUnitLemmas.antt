@@ -11,17 +11,16 @@ use Rattle.addr2line_lines.specs.FunctionTable.{CachedFunction, FunctionTable, c
 use Rattle.addr2line_lines.specs.FunctionDetails.{IsFunctionMore, IsTableMore}
 use Rattle.addr2line_lines.specs.References.{Scope}
 use Rattle.addr2line_lines.proofs.NestingLemmas.{grown_not, grown_on}
-use Rattle.addr2line_units.specs.declared.functions.LazyFunctions.{LazyFunctions}
-use Rattle.addr2line_units.specs.declared.functions.LazyFunctions.TheVariants as lazy
-use Rattle.addr2line_units.specs.declared.unit.UnitLines.{UnitLines}
-use Rattle.addr2line_units.specs.declared.unit_frames.UnitCache.{UnitCache}
-use Rattle.addr2line_units.specs.declared.unit_frames.UnitEntries.{UnitEntries}
+use Rattle.addr2line_units.specs.declared.entries.LazyFunctions.{LazyFunctions}
+use Rattle.addr2line_units.specs.declared.entries.LazyFunctions.TheVariants as lazy
+use Rattle.addr2line_units.specs.declared.entries.UnitCache.{UnitCache}
+use Rattle.addr2line_units.specs.declared.entries.UnitEntries.{UnitEntries}
 use Rattle.addr2line_units.specs.declared.view.ViewState.{ViewState}
 use Rattle.addr2line_units.specs.declared.view.ViewState.TheVariants as states
 use Rattle.addr2line_units.specs.CachedEntries.{AreEntriesOf, ReadsEntriesOf, StayEntries, has_answered, has_entries, has_entries_by, first_answer_of}
 use Rattle.addr2line_units.specs.CachedFunctions.{StayFunctions, has_detail, cached_has_function, has_place, cached_functions, no_functions}
 use Rattle.addr2line_units.specs.CachedKnown.{known_by, known_in}
-use Rattle.addr2line_units.specs.CachedLines.{AreLinesOf, HaveLinesOf, HaveSameEntries, indexed_unit, indexed_units, is_parsed, parsed_units}
+use Rattle.addr2line_units.specs.CachedLines.{HaveLinesOf, HaveSameEntries, indexed_unit, indexed_units, is_parsed, parsed_units}
 use Rattle.addr2line_units.specs.CachedUnits.{HaveCachesOf, HaveEntriesOf, HaveSameLines, IsCacheOf, ReadsOnly, StayAllEntries, answers_in, has_entries_at}
 use Rattle.addr2line_units.specs.CachedViews.{was_looked_at}
 use Rattle.addr2line_units.proofs.CachedFunctionLemmas.{place_stays}
@@ -74,27 +73,8 @@ module _ {R : Type 0} where
   stays_same (lazy.Read t) = record { ranges = refl; functions = functions_same t.value.functions; inlined = grown_not t.value.inlined; names = grown_not t.value.names }
   stays_same (lazy.Faulty e) = refl
 
-  stays_on : (f g h : LazyFunctions R) → StayFunctions f g → StayFunctions g h → StayFunctions f h
-  stays_on lazy.Unread g h a b = tt
-  stays_on lazy.Absent g h a b = subst (λ x. StayFunctions x h) a b ∙ refl
-  stays_on (lazy.Read t) (lazy.Read u) (lazy.Read v) a b = table_over t.value u.value v.value a b
-  stays_on (lazy.Read t) (lazy.Read u) lazy.Unread a b = absurd b
-  stays_on (lazy.Read t) (lazy.Read u) lazy.Absent a b = absurd b
-  stays_on (lazy.Read t) (lazy.Read u) (lazy.Faulty e) a b = absurd b
-  stays_on (lazy.Read t) lazy.Unread h a b = absurd a
-  stays_on (lazy.Read t) lazy.Absent h a b = absurd a
-  stays_on (lazy.Read t) (lazy.Faulty e) h a b = absurd a
-  stays_on (lazy.Faulty e) g h a b = subst (λ x. StayFunctions x h) a b ∙ refl
-
   pub entries_same : (v : UnitEntries R) → StayEntries v v
   entries_same v = record { answer = refl; view = λ e. refl; functions = stays_same v.functions }
-
-  pub entries_on : (v w x : UnitEntries R) → StayEntries v w → StayEntries w x → StayEntries v x
-  entries_on v w x a b = record {
-    answer = b.answer ∙ a.answer;
-    view = λ e. b.view (ap (λ y. was_looked_at y.state) (a.view e) ∙ e) ∙ a.view e;
-    functions = stays_on v.functions w.functions x.functions a.functions b.functions;
-  }
 
   pub stay_entries : (vs : List (UnitCache R)) → StayAllEntries vs vs
   stay_entries [] = tt
@@ -262,42 +242,10 @@ module _ {R : Type 0} where
   cache_set scope (x ∷ us) (y ∷ cs) zero u c e own h = (subst (λ (a : UnitRecord). IsCacheOf scope a c) e h, own.1)
   cache_set scope (x ∷ us) (y ∷ cs) (suc n) u c e own h = (own.0, cache_set scope us cs n u c e own.1 h)
 
-  -- where the entries are the same, and the lines right
-  pub caches_with_lines : (scope : Scope) (us : List UnitRecord) (cs ds : List (UnitCache R)) → HaveCachesOf scope us cs → HaveSameEntries cs ds → HaveLinesOf scope.file.sections us ds → HaveCachesOf scope us ds
-  caches_with_lines scope [] [] [] own same lines = tt
-  caches_with_lines scope [] [] (d ∷ ds) own same lines = absurd same
-  caches_with_lines scope [] (c ∷ cs) ds own same lines = absurd own
-  caches_with_lines scope (u ∷ us) [] ds own same lines = absurd own
-  caches_with_lines scope (u ∷ us) (c ∷ cs) [] own same lines = absurd same
-  caches_with_lines scope (u ∷ us) (c ∷ cs) (d ∷ ds) own same lines = (
-    record { lines = lines.0; entries = subst (λ v. AreEntriesOf scope u v) (sym same.0) own.0.entries },
-    caches_with_lines scope us cs ds own.1 same.1 lines.1,
-  )
-
-  -- where the lines are the same, and the entries right
-  pub caches_with_entries : (scope : Scope) (us : List UnitRecord) (cs ds : List (UnitCache R)) → HaveCachesOf scope us cs → HaveSameLines cs ds → HaveEntriesOf scope us ds → HaveCachesOf scope us ds
-  caches_with_entries scope [] [] [] own same entries = tt
-  caches_with_entries scope [] [] (d ∷ ds) own same entries = absurd same
-  caches_with_entries scope [] (c ∷ cs) ds own same entries = absurd own
-  caches_with_entries scope (u ∷ us) [] ds own same entries = absurd own
-  caches_with_entries scope (u ∷ us) (c ∷ cs) [] own same entries = absurd same
-  caches_with_entries scope (u ∷ us) (c ∷ cs) (d ∷ ds) own same entries = (
-    record { lines = subst (λ (l : UnitLines). AreLinesOf scope.file.sections u l.lines) (sym same.0) own.0.lines; entries = entries.0 },
-    caches_with_entries scope us cs ds own.1 same.1 entries.1,
-  )
-
   -- lines that are the same, one step after another
   pub same_lines : (cs : List (UnitCache R)) → HaveSameLines cs cs
   same_lines [] = tt
   same_lines (c ∷ cs) = (refl, same_lines cs)
-
-  pub same_lines_over : (cs ds es : List (UnitCache R)) → HaveSameLines cs ds → HaveSameLines ds es → HaveSameLines cs es
-  same_lines_over [] [] [] a b = tt
-  same_lines_over [] [] (e ∷ es) a b = absurd b
-  same_lines_over [] (d ∷ ds) es a b = absurd a
-  same_lines_over (c ∷ cs) [] es a b = absurd a
-  same_lines_over (c ∷ cs) (d ∷ ds) [] a b = absurd b
-  same_lines_over (c ∷ cs) (d ∷ ds) (e ∷ es) a b = (b.0 ∙ a.0, same_lines_over cs ds es a.1 b.1)
 
   pub same_lines_set : (cs : List (UnitCache R)) (n : ℕ) (c d : UnitCache R) → c ≡ get_or cs n c → d.lines ≡ c.lines → HaveSameLines cs (set cs n d)
   same_lines_set [] n c d e k = tt

@@ -10,9 +10,9 @@ use Rattle.addr2line_lines.specs.Functions.{functions_take_memory}
 use Rattle.addr2line_lines.specs.InlineRoom.{exceeds_inline_room}
 use Rattle.addr2line_lines.specs.References.{Scope}
 use Rattle.addr2line_lines.proofs.ReadLemmas.{table_same}
-use Rattle.addr2line_units.specs.declared.functions.LazyFunctions.{LazyFunctions}
-use Rattle.addr2line_units.specs.declared.functions.LazyFunctions.TheVariants as lazy
-use Rattle.addr2line_units.specs.declared.unit_frames.UnitEntries.{UnitEntries}
+use Rattle.addr2line_units.specs.declared.entries.LazyFunctions.{LazyFunctions}
+use Rattle.addr2line_units.specs.declared.entries.LazyFunctions.TheVariants as lazy
+use Rattle.addr2line_units.specs.declared.entries.UnitEntries.{UnitEntries}
 use Rattle.addr2line_units.specs.declared.view.UnitView.{UnitView}
 use Rattle.addr2line_units.specs.declared.view.ViewState.{ViewState}
 use Rattle.addr2line_units.specs.declared.view.ViewState.TheVariants as states

@@ -13,7 +13,7 @@ use Rattle.addr2line_units.specs.declared.frames_lookup.OnFault.TheVariants.{Sto
 use Rattle.addr2line_units.specs.declared.frames_lookup.FramesStop.{FramesStop}
 use Rattle.addr2line_units.specs.declared.frames_lookup.FramesStop.TheVariants as stops
 use Rattle.addr2line_units.specs.declared.index.UnitRange.{UnitRange}
-use Rattle.addr2line_units.specs.declared.unit_frames.UnitCache.{UnitCache}
+use Rattle.addr2line_units.specs.declared.entries.UnitCache.{UnitCache}
 use Rattle.addr2line_units.specs.declared.view.ViewState.{ViewState}
 use Rattle.addr2line_units.specs.declared.view.ViewState.TheVariants as states
 use Rattle.addr2line_units.specs.CachedLines.{indexed_units}

@@ -13,9 +13,9 @@ use Rattle.addr2line_units.specs.declared.frames_lookup.OnFault.TheVariants.{Sto
 use Rattle.addr2line_units.specs.declared.frames_lookup.FramesStop.{FramesStop}
 use Rattle.addr2line_units.specs.declared.frames_lookup.FramesStop.TheVariants as stops
 use Rattle.addr2line_units.specs.declared.index.UnitRange.{UnitRange}
-use Rattle.addr2line_units.specs.declared.unit_frames.UnitCache.{UnitCache}
-use Rattle.addr2line_units.specs.declared.unit_frames.UnitFrames.{UnitFrames}
-use Rattle.addr2line_units.specs.declared.unit_frames.UnitFrames.TheVariants as found
+use Rattle.addr2line_units.specs.declared.entries.UnitCache.{UnitCache}
+use Rattle.addr2line_units.specs.declared.entries.UnitFrames.{UnitFrames}
+use Rattle.addr2line_units.specs.declared.entries.UnitFrames.TheVariants as found
 use Rattle.addr2line_units.specs.Frames.{FrameRecord, frames_from}
 use Rattle.addr2line_units.specs.FramesLookup.{LookupStop, Finds, after_fault, ends_lookup, holds_along, or_stop, stop_along}
 use Rattle.addr2line_units.specs.CachedFrames.{AreFoundAt, IsStopIn, found_after_fault, frames_found_at, seen_stop, stop_of_found}

@@ -17,10 +17,10 @@ use Rattle.addr2line_lines.specs.FunctionTable.{CachedFunction, FunctionTable, c
 use Rattle.addr2line_lines.specs.Functions.{function_offset_at}
 use Rattle.addr2line_lines.specs.References.{Scope}
 use Rattle.addr2line_lines.proofs.PlaceLemmas.{some_at}
-use Rattle.addr2line_units.specs.declared.functions.LazyFunctions.{LazyFunctions}
-use Rattle.addr2line_units.specs.declared.functions.LazyFunctions.TheVariants as lazy
-use Rattle.addr2line_units.specs.declared.unit_frames.UnitCache.{UnitCache}
-use Rattle.addr2line_units.specs.declared.unit_frames.UnitEntries.{UnitEntries}
+use Rattle.addr2line_units.specs.declared.entries.LazyFunctions.{LazyFunctions}
+use Rattle.addr2line_units.specs.declared.entries.LazyFunctions.TheVariants as lazy
+use Rattle.addr2line_units.specs.declared.entries.UnitCache.{UnitCache}
+use Rattle.addr2line_units.specs.declared.entries.UnitEntries.{UnitEntries}
 use Rattle.addr2line_units.specs.declared.view.ViewState.{ViewState}
 use Rattle.addr2line_units.specs.declared.view.ViewState.TheVariants as states
 use Rattle.addr2line_units.specs.CachedEntries.{AreEntriesOf, StayEntries, first_answer_of}

@@ -48,3 +48,7 @@ pub mod ListingLemmas
 pub mod NewUnitsLemmas
 pub mod AskLemmas
 pub mod WalkedLemmas
+pub mod AfterParseLemmas
+pub mod ParseAtLemmas
+pub mod ParseWalkLemmas
+pub mod UnitAtLemmas

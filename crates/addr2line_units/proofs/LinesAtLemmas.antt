@@ -2,7 +2,6 @@
 use Rattle.std.proofs.Common.{◌≡◌, inl, ℕ, ◌+◌, ◌<◌, ◌≤◌, Bool, true, false, List, length, get_or, slice_get, Option, Some, None, option_map, Result, Ok, Err, refl, sym, ap, subst, ◌∙◌, arith}
 use Rattle.std.proofs.Math.ListN.{set}
 use Rattle.std.proofs.lemmas.Bool.{false≢true}
-use Rattle.std.proofs.lemmas.Option.{get_or_from_slice_get, slice_get_within}
 use Rattle.std.specs.Prelude.{IfErr}
 use Rattle.gimli_read.specs.declared.error.Error.{Error}
 use Rattle.gimli_read.specs.Alike.{WasNotRefused}
@@ -13,25 +12,25 @@ use Rattle.addr2line_lines.specs.declared.row.Row.{Row}
 use Rattle.addr2line_lines.specs.Location.{LineTable, location_of_row}
 use Rattle.addr2line_lines.specs.References.{Scope}
 use Rattle.addr2line_units.specs.declared.frames_lookup.FramesStop.{FramesStop}
-use Rattle.addr2line_units.specs.declared.frames_lookup.FramesStop.TheVariants as stops
 use Rattle.addr2line_units.specs.declared.unit.UnitLines.{UnitLines}
-use Rattle.addr2line_units.specs.declared.unit_frames.UnitCache.{UnitCache}
+use Rattle.addr2line_units.specs.declared.entries.UnitCache.{UnitCache}
 use Rattle.addr2line_units.specs.AfterUnits.{AfterLines}
 use Rattle.addr2line_units.specs.AskedUnits.{AfterCachingAt, AfterRowAt}
 use Rattle.addr2line_units.specs.AskMemory.{any_lines_take_memory, lines_of_take_memory, lines_take_memory}
-use Rattle.addr2line_units.specs.CachedLines.{AreLinesOf, CachesResult, HaveLinesOf, StaysUnit, StayUnits, cached_files, indexed_unit, is_uncached, lines_result, lines_result_at, parsed_units, unit_row}
+use Rattle.addr2line_units.specs.CachedLines.{AreLinesOf, CachesResult, StaysUnit, StayUnits, cached_files, indexed_unit, is_uncached, lines_result, lines_result_at, parsed_units, unit_row}
 use Rattle.addr2line_units.specs.FramesLookup.{FindsNothing, LookupStop}
 use Rattle.addr2line_units.specs.Located.{is_found, location_in, looks_in}
 use Rattle.addr2line_units.specs.Parsed.{has_parsed}
 use Rattle.addr2line_units.specs.StoredUnits.{AreUnits, seen_units}
 use Rattle.addr2line_units.specs.UnitsState.{UnitsState, files_of, row_location}
 use Rattle.addr2line_units.proofs.AskMemoryLemmas.{either_none, none_refused}
-use Rattle.addr2line_units.proofs.CachedUnitLemmas.{caches_with_lines, lines_right, same_entries_set}
+use Rattle.addr2line_units.proofs.CachedUnitLemmas.{same_entries_set}
 use Rattle.addr2line_units.proofs.NumberedFrames.{none_past}
 use Rattle.addr2line_units.proofs.StateLemmas.{after_lines, files_are}
-use Rattle.addr2line_units.proofs.UnitsLemmas.{answer_cached, as_many, lines_read, lines_set, no_parsed, no_unit, only_set, own_at, own_set, parsed_set, set_parsed, stay_indexed, stay_set, unit_at}
+use Rattle.addr2line_units.proofs.UnitAtLemmas.{all_lines, as_many, cache_within, unit_is, unit_within}
+use Rattle.addr2line_units.proofs.UnitsLemmas.{answer_cached, lines_read, lines_set, no_parsed, no_unit, only_set, own_set, parsed_set, set_parsed, stay_indexed, stay_set, unit_at}
 
-module _ {R : Type 0} (scope : Scope) (cs : List (UnitCache R)) (last : FramesStop) (i : AreUnits scope cs last) (n looks : ℕ) (was : LookupStop) where
+module _ {R : Type 0} {scope : Scope} {cs : List (UnitCache R)} {last : FramesStop} (i : AreUnits scope cs last) (n : ℕ) (looks : ℕ) (was : LookupStop) where
   abbrev d : Sections
   d = scope.file.sections
 
@@ -41,13 +40,10 @@ module _ {R : Type 0} (scope : Scope) (cs : List (UnitCache R)) (last : FramesSt
   abbrev old : UnitsState
   old = seen_units scope cs looks was
 
-  own : HaveLinesOf d us cs
-  own = lines_right scope us cs i.caches
-
   -- there is no unit of that number
   module _ (none : slice_get us n ≡ None) where
     past : length cs ≤ n
-    past = subst (λ m. m ≤ n) (as_many d us cs own) (none_past us n none)
+    past = subst (λ m. m ≤ n) (as_many i) (none_past us n none)
 
     pub none_row : (probe : ℕ) → location_in d probe (slice_get old.units n) ≡ Ok None
     none_row probe = ap (location_in d probe) (no_unit us cs n past)
@@ -71,25 +67,16 @@ module _ {R : Type 0} (scope : Scope) (cs : List (UnitCache R)) (last : FramesSt
     pub none_after_caching : (shares : Bool) → AfterCachingAt {X = Unit {0}} shares n (Ok tt) old (seen_units scope cs looks FindsNothing)
     none_after_caching shares = record { lines = none_lines; looks = refl; ready = λ told. no_parsed cs n past; memory = λ none. tt }
 
-  module _ (u : UnitRecord) (there : slice_get us n ≡ Some u) where
-    unit : u ≡ get_or us n u
-    unit = sym (get_or_from_slice_get us n u u there)
+  module _ {u : UnitRecord} (there : slice_get us n ≡ Some u) where
+    module _ {c : UnitCache R} (at : c ≡ get_or cs n c) where
+      within : n < length cs
+      within = cache_within i n there
 
-    within : n < length us
-    within = slice_get_within us n u there
-
-    pub in_lines : n < length cs
-    in_lines = subst (λ m. n < m) (as_many d us cs own) within
-
-    module _ (c : UnitCache R) (at : c ≡ get_or cs n c) where
-      pub lines_there : AreLinesOf d u c.lines.lines
-      lines_there = own_at d us cs n u c in_lines unit at own
-
-      unit_is : slice_get old.units n ≡ Some (indexed_unit u c.lines)
-      unit_is = unit_at us cs n u c within in_lines unit at
+      indexed : slice_get old.units n ≡ Some (indexed_unit u c.lines)
+      indexed = unit_at us cs n u c (unit_within i n there) within (unit_is i n there) at
 
       takes_is : (shares : Bool) → lines_of_take_memory shares old.units n ≡ lines_take_memory shares u
-      takes_is shares = ap (any_lines_take_memory shares) unit_is
+      takes_is shares = ap (any_lines_take_memory shares) indexed
 
       module _ (l : UnitLines) where
         abbrev with_lines : UnitCache R
@@ -98,16 +85,9 @@ module _ {R : Type 0} (scope : Scope) (cs : List (UnitCache R)) (last : FramesSt
         abbrev now : List (UnitCache R)
         now = set cs n with_lines
 
-        pub still_lines : AreLinesOf d u l.lines → AreUnits scope now stops.FindsNothing
-        still_lines right = record {
-          in_order = i.in_order;
-          caches = caches_with_lines scope us cs now i.caches (same_entries_set cs n c with_lines at refl) (own_set d us cs n u with_lines unit own right);
-          stop = tt;
-        }
-
         module _ (stays : StaysUnit c.lines l) where
           stay : StayUnits cs now
-          stay = stay_set cs n c with_lines in_lines at stays
+          stay = stay_set cs n c with_lines within at stays
 
           lines_after : (later : ℕ) → AfterLines (λ k. k ≡ n) old (seen_units scope now later FindsNothing)
           lines_after later = after_lines scope cs now stay (same_entries_set cs n c with_lines at refl) looks later was (λ k. k ≡ n) (only_set cs n with_lines)
@@ -116,44 +96,44 @@ module _ {R : Type 0} (scope : Scope) (cs : List (UnitCache R)) (last : FramesSt
           pub row_there : (probe : ℕ) (result : Result (Option Row) Error) → AreLinesOf d u l.lines → CachesResult c.lines.lines result l.lines
               → ExactlyUnlessOom (option_map (location_of_row (cached_files l.lines))) result (location_in d probe (Some (indexed_unit u c.lines)))
               → ExactlyUnlessOom (option_map (λ row. row_location old (unit_row n row))) result (location_in d probe (slice_get old.units n))
-          row_there probe (Err e) right caches gives = λ ne. ap (location_in d probe) unit_is ∙ gives ne
-          row_there probe (Ok None) right caches gives = ap (location_in d probe) unit_is ∙ gives
+          row_there probe (Err e) right caches gives = λ ne. ap (location_in d probe) indexed ∙ gives ne
+          row_there probe (Ok None) right caches gives = ap (location_in d probe) indexed ∙ gives
           row_there probe (Ok (Some row)) right caches gives =
-              ap (location_in d probe) unit_is ∙ gives ∙ ap (λ files. Ok (Some (location_of_row files row))) (sym files)
+              ap (location_in d probe) indexed ∙ gives ∙ ap (λ files. Ok (Some (location_of_row files row))) (sym files)
             where
               files : files_of d (slice_get old.units n) ≡ cached_files l.lines
               files =
                   sym (ap (λ xs. files_of d (slice_get xs n)) (stay_indexed us cs now stay))
-                  ∙ files_are d us now n (own_set d us cs n u with_lines unit own right) (parsed_set cs n with_lines in_lines caches)
-                  ∙ ap cached_files (lines_set cs n with_lines in_lines)
+                  ∙ files_are d us now n (own_set d us cs n u with_lines (unit_is i n there) (all_lines i) right) (parsed_set cs n with_lines within caches)
+                  ∙ ap cached_files (lines_set cs n with_lines within)
 
           pub row_after : (result : Result (Option Row) Error) (later : ℕ) → CachesResult c.lines.lines result l.lines → (is_uncached l.lines ≡ false → WasNotRefused result) → looks ≤ later → (is_found result ≡ true → looks < later)
               → later ≤ looks + looks_in d (Some (indexed_unit u c.lines)) → AfterRowAt n result old (seen_units scope now later FindsNothing)
           row_after result later caches memory raised counted cost = record {
             lines = lines_after later;
-            ready = λ told. parsed_set cs n with_lines in_lines (answer_cached c.lines.lines result l.lines caches told);
-            memory = λ parsed. memory (set_parsed cs n with_lines in_lines parsed);
+            ready = λ told. parsed_set cs n with_lines within (answer_cached c.lines.lines result l.lines caches told);
+            memory = λ parsed. memory (set_parsed cs n with_lines within parsed);
             raised = raised;
             counted = counted;
-            cost = subst (λ o. later ≤ looks + looks_in d o) (sym unit_is) cost;
+            cost = subst (λ o. later ≤ looks + looks_in d o) (sym indexed) cost;
           }
 
           pub row_alone : (shares : Bool) (probe : ℕ) (result : Result (Option Row) Error) → (lines_take_memory shares u ≡ false → IfErr result (λ e. location_in d probe (Some (indexed_unit u c.lines)) ≡ Err e))
               → lines_of_take_memory shares old.units n ≡ false → IfErr result (λ e. location_in d probe (slice_get old.units n) ≡ Err e)
           row_alone shares probe (Ok x) alone none = tt
-          row_alone shares probe (Err e) alone none = ap (location_in d probe) unit_is ∙ alone (sym (takes_is shares) ∙ none)
+          row_alone shares probe (Err e) alone none = ap (location_in d probe) indexed ∙ alone (sym (takes_is shares) ∙ none)
 
           -- the lines alone
           pub read_there : (lines : Option LineTable) (result : Result (Unit {0}) Error) → ExactlyUnlessOom (λ _. lines) result (lines_result d u) → ExactlyUnlessOom (λ x. x) result (lines_result_at d (slice_get old.units n))
-          read_there lines result gives = lines_read d us cs n u c lines result own in_lines unit at gives
+          read_there lines result gives = lines_read d us cs n u c lines result (all_lines i) within (unit_is i n there) at gives
 
           pub caching_after : (shares : Bool) (result : Result (Unit {0}) Error) → (WasNotRefused result → is_uncached l.lines ≡ false) → (is_uncached l.lines ≡ false → WasNotRefused result)
               → (lines_take_memory shares u ≡ false → IfErr result (λ e. lines_result d u ≡ Err e)) → AfterCachingAt shares n result old (seen_units scope now looks FindsNothing)
           caching_after shares result ready memory alone = record {
             lines = lines_after looks;
             looks = refl;
-            ready = λ told. parsed_set cs n with_lines in_lines (ready told);
+            ready = λ told. parsed_set cs n with_lines within (ready told);
             memory = λ none. either_none (has_parsed (parsed_units now) n) (lines_of_take_memory shares old.units n) result none
-                (λ parsed. memory (set_parsed cs n with_lines in_lines parsed))
+                (λ parsed. memory (set_parsed cs n with_lines within parsed))
                 (λ takes. none_refused shares d u result alone (sym (takes_is shares) ∙ takes));
           }

@@ -12,7 +12,7 @@ use Rattle.gimli_read.specs.Section.{Section}
 use Rattle.gimli.specs.declared.unit.DwoId.{DwoId}
 use Rattle.gimli.specs.Sections.{Sections}
 use Rattle.gimli.specs.Unit.{UnitRecord}
-use Rattle.addr2line_units.specs.declared.unit_frames.UnitCache.{UnitCache}
+use Rattle.addr2line_units.specs.declared.entries.UnitCache.{UnitCache}
 use Rattle.addr2line_units.specs.FramesLookup.{answer_of, with_answer}
 use Rattle.addr2line_units.specs.CachedEntries.{first_answer_of}
 use Rattle.addr2line_units.specs.CachedUnits.{answers_in}

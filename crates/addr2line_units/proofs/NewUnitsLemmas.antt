@@ -9,7 +9,7 @@ use Rattle.addr2line_lines.specs.References.{FileRecord, IsScope, Scope}
 use Rattle.addr2line_units.specs.declared.frames_lookup.FramesStop.TheVariants as stops
 use Rattle.addr2line_units.specs.declared.index.UnitRange.{UnitRange}
 use Rattle.addr2line_units.specs.declared.sup.SupUnits.{SupUnits}
-use Rattle.addr2line_units.specs.declared.unit_frames.UnitCache.{UnitCache}
+use Rattle.addr2line_units.specs.declared.entries.UnitCache.{UnitCache}
 use Rattle.addr2line_units.specs.CachedLines.{HaveLinesOf, indexed_units, parsed_units}
 use Rattle.addr2line_units.specs.CachedUnits.{AreFreshOf, answers_in}
 use Rattle.addr2line_units.specs.FramesLookup.{FindsNothing, main_scope}

@@ -1,9 +1,8 @@
 -- What is answered, loaded, listed and forgotten of the unit of a number (on
 -- specs/AfterUnits.antt and specs/StoredUnits.antt).
-use Rattle.std.proofs.Common.{◌≡◌, inl, inr, ℕ, ◌<◌, ◌≤◌, Bool, true, false, List, length, get_or, slice_get, Option, Some, None, Result, Ok, Err, refl, sym, ap, subst, ◌∙◌, arith}
+use Rattle.std.proofs.Common.{◌≡◌, inl, inr, ℕ, ◌<◌, ◌≤◌, Bool, true, false, List, length, get_or, slice_get, Option, Some, None, Result, Ok, Err, refl, sym, ap, ◌∙◌, arith}
 use Rattle.std.proofs.Math.ListN.{set}
 use Rattle.std.proofs.lemmas.Bool.{cases_eq}
-use Rattle.std.proofs.lemmas.Option.{get_or_from_slice_get, slice_get_within}
 use Rattle.std.specs.Prelude.{IfErr, OnOk, is_some}
 use Rattle.gimli_read.specs.declared.error.Error.{Error}
 use Rattle.gimli_read.specs.declared.error.Error.TheVariants.{OutOfMemory, UnknownToken}
@@ -12,15 +11,13 @@ use Rattle.gimli.specs.Sections.{Sections}
 use Rattle.gimli.specs.Unit.{UnitRecord}
 use Rattle.addr2line_lines.specs.References.{Scope}
 use Rattle.addr2line_units.specs.declared.frames_lookup.FramesStop.{FramesStop}
-use Rattle.addr2line_units.specs.declared.frames_lookup.FramesStop.TheVariants as stops
-use Rattle.addr2line_units.specs.declared.unit_frames.UnitCache.{UnitCache}
-use Rattle.addr2line_units.specs.declared.unit_frames.UnitEntries.{UnitEntries}
+use Rattle.addr2line_units.specs.declared.entries.UnitCache.{UnitCache}
+use Rattle.addr2line_units.specs.declared.entries.UnitEntries.{UnitEntries}
 use Rattle.addr2line_units.specs.AfterUnits.{AfterAnswer, AfterForget, AfterListing, AfterLoad}
 use Rattle.addr2line_units.specs.CachedEntries.{AreEntriesOf, StayEntries, first_answer_of}
 use Rattle.addr2line_units.specs.CachedFunctions.{were_read}
 use Rattle.addr2line_units.specs.CachedKnown.{known_in}
-use Rattle.addr2line_units.specs.CachedLines.{AreLinesOf}
-use Rattle.addr2line_units.specs.CachedUnits.{HaveEntriesOf, HaveSameLines, answers_in, decided_at}
+use Rattle.addr2line_units.specs.CachedUnits.{HaveSameLines, answers_in, decided_at}
 use Rattle.addr2line_units.specs.CachedViews.{is_decided}
 use Rattle.addr2line_units.specs.FramesLookup.{FindsNothing, LookupStop, answer_of}
 use Rattle.addr2line_units.specs.KnownEntries.{LearnsNoFunctions}
@@ -29,23 +26,20 @@ use Rattle.addr2line_units.specs.StoredUnits.{AreUnits, seen_units}
 use Rattle.addr2line_units.specs.UnitsState.{UnitsState}
 use Rattle.addr2line_units.specs.Views.{awaited_load, decided_answer, is_open, verdict}
 use Rattle.addr2line_units.proofs.AnswerLemmas.{answer_at, answered_if_ok, answers_if_refused, answers_set, decided_there, others_stay, same_set}
-use Rattle.addr2line_units.proofs.CachedUnitLemmas.{as_many_entries, cache_set, entries_at, entries_right, entries_set, lines_right, same_lines_set, stay_entries_set}
+use Rattle.addr2line_units.proofs.CachedUnitLemmas.{as_many_entries, entries_set, same_lines_set, stay_entries_set}
 use Rattle.addr2line_units.proofs.LearnedLemmas.{UnitLearnsNone, answered_learns, forgotten_learns, set_learns}
 use Rattle.addr2line_units.proofs.LoadLemmas.{as_many_answers, load_there, past_set, slice_get_none, this_unit, unknown_answer, unknown_load}
 use Rattle.addr2line_units.proofs.OpenLemmas.{not_open_there}
-use Rattle.addr2line_units.proofs.UnitsLemmas.{own_at}
+use Rattle.addr2line_units.proofs.UnitAtLemmas.{all_entries, as_many, cache_within, its_entries, unit_is, unit_within}
 use Rattle.addr2line_units.proofs.StateLemmas.{after_answer, after_forget, after_listing, after_load}
 
 -- the unit of a number
-module _ {R : Type 0} (scope : Scope) (held : List (UnitCache R)) (last : FramesStop) (i : AreUnits scope held last) (n : ℕ) where
+module _ {R : Type 0} {scope : Scope} {held : List (UnitCache R)} {last : FramesStop} (i : AreUnits scope held last) (n : ℕ) where
   abbrev d : Sections
   d = scope.file.sections
 
   abbrev us : List UnitRecord
   us = scope.file.units
-
-  own_all : HaveEntriesOf scope us held
-  own_all = entries_right scope us held i.caches
 
   -- there is none
   module _ (none : slice_get us n ≡ None) (given : Option Sections) (looks : ℕ) (was : LookupStop) where
@@ -59,7 +53,7 @@ module _ {R : Type 0} (scope : Scope) (held : List (UnitCache R)) (last : Frames
       known = λ shut k. record { at = λ probe q. q; whole = λ kind q. q };
       same = λ one e. refl;
       not_open = λ shut. refl;
-      beside = as_many_entries scope us held own_all ∙ sym (as_many_answers held);
+      beside = as_many i ∙ sym (as_many_answers held);
     }
 
     pub none_loaded : AfterLoad n given (Err UnknownToken) (seen_units scope held looks was) (seen_units scope held looks FindsNothing)
@@ -88,29 +82,20 @@ module _ {R : Type 0} (scope : Scope) (held : List (UnitCache R)) (last : Frames
         past : length (answers_in held) ≤ n
         past =
             let a = slice_get_none us n none in
-            let b = as_many_entries scope us held own_all in
+            let b = as_many i in
             let c = as_many_answers held in
             omega (arith, a, b, c)
 
-  module _ (u : UnitRecord) (there : slice_get us n ≡ Some u) where
-    unit : u ≡ get_or us n u
-    unit = sym (get_or_from_slice_get us n u u there)
-
-    within : n < length us
-    within = slice_get_within us n u there
-
-    pub in_entries : n < length held
-    in_entries = subst (λ m. n < m) (as_many_entries scope us held own_all) within
-
-    module _ (c : UnitCache R) (at : c ≡ get_or held n c) where
+  module _ {u : UnitRecord} (there : slice_get us n ≡ Some u) where
+    module _ {c : UnitCache R} (at : c ≡ get_or held n c) where
       abbrev v : UnitEntries R
       v = c.entries
 
-      pub right_there : AreEntriesOf scope u c.entries
-      right_there = entries_at scope us held n u c in_entries unit at own_all
+      within : n < length held
+      within = cache_within i n there
 
       answer_is : answer_of (answers_in held) n ≡ first_answer_of v
-      answer_is = answer_at held n c in_entries at
+      answer_is = answer_at held n c within at
 
       load_is : (given : Option Sections) → load_result d us (answers_in held) n given ≡ view_fault (verdict d u (decided_answer d u (first_answer_of v) given))
       load_is given =
@@ -119,10 +104,10 @@ module _ {R : Type 0} (scope : Scope) (held : List (UnitCache R)) (last : Frames
 
       -- its load, and whether it is open
       pub load_listed : load_of_number d us (answers_in held) n ≡ awaited_load d n u (first_answer_of v)
-      load_listed = load_there d us held n u c there in_entries at
+      load_listed = load_there d us held n u c there within at
 
       pub shut_there : is_open_at d us (answers_in held) n ≡ false → is_open d u (first_answer_of v) ≡ false
-      shut_there = not_open_there d us held n u c there in_entries at
+      shut_there = not_open_there d us held n u c there within at
 
       pub refused_told : (given : Option Sections) (r : Result (Unit {0}) Error) → IfErr r (λ e. view_fault (verdict d u (decided_answer d u (first_answer_of v) given)) ≡ Err e) → IfErr r (λ e. load_result d us (answers_in held) n given ≡ Err e)
       refused_told given (Ok x) h = tt
@@ -135,14 +120,8 @@ module _ {R : Type 0} (scope : Scope) (held : List (UnitCache R)) (last : Frames
         abbrev now : List (UnitCache R)
         now = set held n with_entries
 
-        lines : AreLinesOf d u c.lines.lines
-        lines = own_at d us held n u c in_entries unit at (lines_right scope us held i.caches)
-
         same_lines_now : HaveSameLines held now
         same_lines_now = same_lines_set held n c with_entries at refl
-
-        pub still_units : AreEntriesOf scope u w → AreUnits scope now stops.FindsNothing
-        still_units own = record { in_order = i.in_order; caches = cache_set scope us held n u with_entries unit i.caches (record { lines = lines; entries = own }); stop = tt }
 
         pub load_told : (given : Option Sections) (r : Result (Unit {0}) Error) → first_answer_of w ≡ decided_answer d u (first_answer_of v) given → r ≡ view_fault (verdict d u (first_answer_of w)) → r ≡ load_result d us (answers_in held) n given
         load_told given r same e = e ∙ ap (λ a. view_fault (verdict d u a)) same ∙ sym (load_is given)
@@ -152,9 +131,9 @@ module _ {R : Type 0} (scope : Scope) (held : List (UnitCache R)) (last : Frames
 
         -- its load was listed
         pub listed_there : (looks : ℕ) (was : LookupStop) → StayEntries v w → UnitLearnsNone v w → AfterListing (λ k. k ≡ n) (seen_units scope held looks was) (seen_units scope now looks FindsNothing)
-        listed_there looks was stay none = after_listing scope held own_all now same_lines_now looks was (λ k. k ≡ n) (stay_entries_set held n c with_entries in_entries at stay)
+        listed_there looks was stay none = after_listing scope held (all_entries i) now same_lines_now looks was (λ k. k ≡ n) (stay_entries_set held n c with_entries within at stay)
             (λ k. elim (cases_eq k n) [ inl is ↦ inr is | inr ne ↦ inl (others_stay held n k with_entries ne) ])
-            (set_learns held n c with_entries in_entries at none)
+            (set_learns held n c with_entries within at none)
 
         module _ (given : Option Sections) (b : Bool) (some : is_some given ≡ b) (looks : ℕ) (was : LookupStop) where
           abbrev old : UnitsState
@@ -168,35 +147,35 @@ module _ {R : Type 0} (scope : Scope) (held : List (UnitCache R)) (last : Frames
             same_decided h = same_set held n c with_entries at (ap (λ e. record c { entries = e }) (same (decided_there held n c at h)))
 
             many : length us ≡ length now
-            many = as_many_entries scope us now (entries_set scope us held n u with_entries unit own_all own)
+            many = as_many_entries scope us now (entries_set scope us held n u with_entries (unit_is i n there) (all_entries i) own)
 
             learns : LearnsNoFunctions (known_in held) (known_in now)
-            learns = set_learns held n c with_entries in_entries at (answered_learns scope u v w right_there functions same)
+            learns = set_learns held n c with_entries within at (answered_learns scope u v w (its_entries i n there at) functions same)
 
             pub answered_there : (r : Result (Unit {0}) Error) → OnOk r (first_answer_of w ≡ decided_answer d u (first_answer_of v) given) → IfErr r (λ e. (e ≡ OutOfMemory) × StayEntries v w × (b ≡ true)) → (is_open d u (first_answer_of v) ≡ false → r ≡ Ok tt) → AfterAnswer n given r old new
-            answered_there r answer refused shut = after_answer scope held own_all now same_lines_now looks was n (λ k ne. others_stay held n k with_entries ne) same_decided many given r (λ h. some ∙ h)
-                (answered_if_ok d us held n u c with_entries given r within in_entries unit at answer)
-                (answers_if_refused held n c with_entries r (b ≡ true) in_entries at refused) learns
+            answered_there r answer refused shut = after_answer scope held (all_entries i) now same_lines_now looks was n (λ k ne. others_stay held n k with_entries ne) same_decided many given r (λ h. some ∙ h)
+                (answered_if_ok d us held n u c with_entries given r (unit_within i n there) within (unit_is i n there) at answer)
+                (answers_if_refused held n c with_entries r (b ≡ true) within at refused) learns
                 (λ h. shut (shut_there h))
 
             -- the answer was given
             pub loaded_there : (r : Result (Unit {0}) Error) → first_answer_of w ≡ decided_answer d u (first_answer_of v) given → r ≡ view_fault (verdict d u (first_answer_of w)) → AfterLoad n given r old new
             loaded_there r answer fault =
                 let told = load_told given r answer fault in
-                let answers = answered_if_ok d us held n u c with_entries given (Ok tt) within in_entries unit at answer in
-                after_load scope held own_all now same_lines_now looks was n (λ k ne. others_stay held n k with_entries ne) same_decided many given r (λ h. answers) (inr answers) (λ ne. absurd (ne told)) (λ shut. told)
+                let answers = answered_if_ok d us held n u c with_entries given (Ok tt) (unit_within i n there) within (unit_is i n there) at answer in
+                after_load scope held (all_entries i) now same_lines_now looks was n (λ k ne. others_stay held n k with_entries ne) same_decided many given r (λ h. answers) (inr answers) (λ ne. absurd (ne told)) (λ shut. told)
                 (λ e. told ∙ ap (load_result d us (answers_in held) n) e) learns
 
             -- memory was refused
             pub refused_there : (e : Error) → (e ≡ OutOfMemory) × StayEntries v w × (b ≡ true) → (is_open d u (first_answer_of v) ≡ false → ◌≡◌ {A = Result (Unit {0}) Error} (Err e) (Ok tt)) → AfterLoad n given (Err e) old new
             refused_there e refused shut =
-                let r = answers_if_refused held n c with_entries (Err e) (b ≡ true) in_entries at refused in
-                after_load scope held own_all now same_lines_now looks was n (λ k ne. others_stay held n k with_entries ne) same_decided many given (Err e) (λ told. absurd (told refused.0)) (inl r.1) (λ ne. (r.1, r.2))
+                let r = answers_if_refused held n c with_entries (Err e) (b ≡ true) within at refused in
+                after_load scope held (all_entries i) now same_lines_now looks was n (λ k ne. others_stay held n k with_entries ne) same_decided many given (Err e) (λ told. absurd (told refused.0)) (inl r.1) (λ ne. (r.1, r.2))
                 (λ h. absurd (let no = shut (shut_there h) in cc))
                 (λ none. absurd (let f : false ≡ true = ap is_some (sym none) ∙ some ∙ refused.2 in cc)) learns
 
         pub forgotten_there : (looks : ℕ) (was : LookupStop) → first_answer_of w ≡ None → (first_answer_of v ≡ None → w ≡ v) → (is_some (first_answer_of v) ≡ true → were_read w.functions ≡ false) → AfterForget n (seen_units scope held looks was) (seen_units scope now looks FindsNothing)
-        forgotten_there looks was none same unread = after_forget scope held own_all now same_lines_now looks was n
+        forgotten_there looks was none same unread = after_forget scope held (all_entries i) now same_lines_now looks was n
             (answers_set held n with_entries ∙ ap (λ a. set (answers_in held) n a) none)
             (λ h. same_set held n c with_entries at (ap (λ e. record c { entries = e }) (same (sym answer_is ∙ h)))) (λ k ne. others_stay held n k with_entries ne)
-            (set_learns held n c with_entries in_entries at (forgotten_learns v w same unread))
+            (set_learns held n c with_entries within at (forgotten_learns v w same unread))

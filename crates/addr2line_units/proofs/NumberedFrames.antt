@@ -9,9 +9,9 @@ use Rattle.gimli_read.specs.Reading.{ExactlyUnlessOom}
 use Rattle.gimli.specs.Unit.{UnitRecord}
 use Rattle.addr2line_lines.specs.InlineRoom.{exceeds_inline_room}
 use Rattle.addr2line_lines.specs.References.{Scope}
-use Rattle.addr2line_units.specs.declared.unit_frames.UnitCache.{UnitCache}
-use Rattle.addr2line_units.specs.declared.unit_frames.UnitFrames.{UnitFrames}
-use Rattle.addr2line_units.specs.declared.unit_frames.UnitFrames.TheVariants as found
+use Rattle.addr2line_units.specs.declared.entries.UnitCache.{UnitCache}
+use Rattle.addr2line_units.specs.declared.entries.UnitFrames.{UnitFrames}
+use Rattle.addr2line_units.specs.declared.entries.UnitFrames.TheVariants as found
 use Rattle.addr2line_units.specs.AskMemory.{any_lines_take_memory, functions_in_take_memory, lines_of_take_memory, lines_take_memory}
 use Rattle.addr2line_units.specs.CachedLines.{indexed_unit, indexed_units, is_uncached, parsed_units}
 use Rattle.addr2line_units.specs.FramesLookup.{asks_lines_of, frames_of_number, function_offset_of, functions_of_take_memory, inlined_at_number}

@@ -10,6 +10,7 @@ use Rattle.addr2line_lines.specs.References.{Scope}
 use Rattle.addr2line_units.specs.declared.parses.ReadingDepth.{ReadingDepth}
 use Rattle.addr2line_units.specs.FramesLookup.{answer_of, with_answer}
 use Rattle.addr2line_units.specs.FunctionParses.{AreReadBefore, answers_after_parse, first_decided, read_of_number, read_of_unit, read_of_units, read_of_view, unless_fault}
+use Rattle.addr2line_units.specs.Loads.{is_open_at}
 use Rattle.addr2line_units.specs.Views.{FirstAnswers, SplitLoad, View, decided_answer, is_open, load_of_unit, verdict, verdict_by}
 
 -- one of two numbers is not above the other
@@ -43,12 +44,18 @@ module _ (d : Sections) where
       with_more d (slice_get us n) (decided_answer d u a None) (first_decided d n us answers) n
       ∙ ap (λ (xs : FirstAnswers). decided_answer d u a None ∷ xs) (decided_more us answers n (omega arith) (omega arith))
 
-  -- the units behind are as they were
+  -- the units behind are as they were, and those before are decided
   decided_at : (us : List UnitRecord) (answers : FirstAnswers) (n : ℕ) → answer_of (first_decided d n us answers) n ≡ answer_of answers n
   decided_at us answers zero = refl
   decided_at [] answers (suc n) = refl
   decided_at (u ∷ us) [] (suc n) = refl
   decided_at (u ∷ us) (a ∷ answers) (suc n) = decided_at us answers n
+
+  pub open_behind : (us : List UnitRecord) (answers : FirstAnswers) (n : ℕ) → is_open_at d us (first_decided d n us answers) n ≡ is_open_at d us answers n
+  open_behind us answers n = ap (λ (a : Option (Option Sections)). by_answer a) (decided_at us answers n)
+    where
+      by_answer : Option (Option Sections) → Bool
+      by_answer a = elim (slice_get us n) [ None ↦ false | Some u ↦ is_open d u a ]
 
 module _ (depth : ReadingDepth) (scope : Scope) where
   -- what is read of a unit is the same where those before it are decided
@@ -124,11 +131,21 @@ module _ (d : Sections) (u : UnitRecord) where
       by_open true e = by_load (load_of_unit d 0 u)
       by_open false e = of_verdict (verdict d u answer) e
 
+  pub decided_shut : (answer : Option (Option Sections)) → is_open d u (decided_answer d u answer None) ≡ false
+  decided_shut answer = ap (λ (o : Option (Result View Error)). is_none o) (decided_verdict answer).1
+
   -- and stays so
   pub decided_again : (answer : Option (Option Sections)) → decided_answer d u (decided_answer d u answer None) None ≡ decided_answer d u answer None
   decided_again answer =
       let v = decided_verdict answer in
       ap (λ (o : Option (Result View Error)). if is_none o then Some None else decided_answer d u answer None) v.1
+
+pub shut_before : (d : Sections) (us : List UnitRecord) (answers : FirstAnswers) (k n : ℕ) → n < k → length us ≡ length answers → is_open_at d us (first_decided d k us answers) n ≡ false
+shut_before d us answers zero n h many = absurd (omega (arith, h))
+shut_before d [] answers (suc k) n h many = refl
+shut_before d (u ∷ us) [] (suc k) n h many = absurd (omega (arith, many))
+shut_before d (u ∷ us) (a ∷ answers) (suc k) zero h many = decided_shut d u a
+shut_before d (u ∷ us) (a ∷ answers) (suc k) (suc n) h many = shut_before d us answers k n (omega (arith, h)) (omega (arith, many))
 
 -- a parse after a parse
 module _ (depth : ReadingDepth) (scope : Scope) where

@@ -17,20 +17,18 @@ use Rattle.addr2line_units.specs.declared.frames_lookup.FramesStop.{FramesStop}
 use Rattle.addr2line_units.specs.declared.frames_lookup.FramesStop.TheVariants as stops
 use Rattle.addr2line_units.specs.declared.index.UnitRange.{UnitRange}
 use Rattle.addr2line_units.specs.declared.parses.ReadingDepth.{ReadingDepth}
-use Rattle.addr2line_units.specs.declared.parses.ReadingDepth.TheVariants as depths
 use Rattle.addr2line_units.specs.declared.unit.LazyLines.{LazyLines}
 use Rattle.addr2line_units.specs.declared.unit.LazyLines.TheVariants.{Absent, Faulty, Read, Unread}
-use Rattle.addr2line_units.specs.declared.unit_frames.UnitCache.{UnitCache}
-use Rattle.addr2line_units.specs.AfterUnits.{AfterAnswer, AfterForget, AfterLines, AfterListing, AfterLoad, AfterReading}
+use Rattle.addr2line_units.specs.declared.entries.UnitCache.{UnitCache}
+use Rattle.addr2line_units.specs.AfterUnits.{AfterAnswer, AfterForget, AfterLines, AfterListing, AfterLoad}
 use Rattle.addr2line_units.specs.CachedEntries.{has_entries}
 use Rattle.addr2line_units.specs.CachedFrames.{IsLendable, seen_stop}
 use Rattle.addr2line_units.specs.CachedLines.{AreLinesOf, HaveLinesOf, HaveSameEntries, StayUnits, cached_files, cached_spans, indexed_units, is_parsed, is_uncached, lines_at, parsed_units}
-use Rattle.addr2line_units.specs.CachedParses.{AreReadyUnits, ChangesOnly, HaveRead, StayDecided}
 use Rattle.addr2line_units.specs.CachedUnits.{HaveEntriesOf, HaveSameLines, StayAllEntries, answers_in, decided_at, has_entries_at, waits_at}
 use Rattle.addr2line_units.specs.FramesLookup.{FindsNothing, LookupStop, Waits, answer_of, ends_lookup, holds_along, with_answer}
-use Rattle.addr2line_units.specs.FunctionParses.{AreFirstDecided, AreReadBefore, IsReadyFor, answers_after_parse, read_of_units}
+use Rattle.addr2line_units.specs.FunctionParses.{IsReadyFor}
 use Rattle.addr2line_units.specs.CachedKnown.{known_in}
-use Rattle.addr2line_units.specs.KnownEntries.{KnownEntries, LearnsNoDetails, LearnsNoFunctions, knows_at}
+use Rattle.addr2line_units.specs.KnownEntries.{KnownEntries, LearnsNoFunctions}
 use Rattle.addr2line_units.specs.Loads.{forgotten, is_open_at, load_result}
 use Rattle.addr2line_units.specs.Located.{spans_along, spans_in, spans_or_fault}
 use Rattle.addr2line_units.specs.Parsed.{AreParsed, ParsesOnly, has_parsed}
@@ -42,13 +40,11 @@ use Rattle.addr2line_units.specs.UnitFrames.{FramesResult}
 use Rattle.addr2line_units.specs.UnitsState.{UnitsState, files_in, files_of}
 use Rattle.addr2line_units.specs.Views.{FirstAnswers, SplitLoad, load_of_unit}
 use Rattle.addr2line_units.proofs.AnswerLemmas.{got_unit}
-use Rattle.addr2line_units.proofs.CachedParseLemmas.{found_if_ok}
 use Rattle.addr2line_units.proofs.CachedUnitLemmas.{answers_by_entries, as_many_entries, known_by_entries, parsed_by_lines, same_answers, units_by_lines}
 use Rattle.addr2line_units.proofs.KnownLemmas.{known_is, known_unchanged}
 use Rattle.addr2line_units.proofs.LoadLemmas.{as_many_answers}
-use Rattle.addr2line_units.proofs.ReadByLemmas.{answered_is_decided, decided_more, known_is_decided, none_asked, read_after, read_before}
-use Rattle.addr2line_units.proofs.ReadyLemmas.{ready_after, ready_before}
-use Rattle.addr2line_units.proofs.StayLemmas.{none_whole, stays_known, whole_decided, whole_is_decided}
+use Rattle.addr2line_units.proofs.ReadByLemmas.{answered_is_decided, known_is_decided, none_asked}
+use Rattle.addr2line_units.proofs.StayLemmas.{none_whole, stays_known, whole_is_decided}
 use Rattle.addr2line_units.proofs.UnitsLemmas.{stay_indexed, stay_length, stay_parsed}
 
 pub some_given : {X Y : Type 0} (f : X → Y) (o : Option X) → is_some (option_map f o) ≡ is_some o
@@ -154,7 +150,8 @@ module _ {R : Type 0} (scope : Scope) (held : List (UnitCache R)) where
     abbrev with_lines : List IndexedUnit → List Bool → UnitsState
     with_lines xs bs = record { scope = scope; units = xs; answers = answers_in entries; parsed = bs; known = known_in entries; looks = looks; stop = FindsNothing }
 
-    only_entries : new ≡ record old { answers = answers_in entries; known = known_in entries; stop = FindsNothing }
+    -- nothing is changed but answers and what is known
+    pub only_entries : new ≡ record old { answers = answers_in entries; known = known_in entries; stop = FindsNothing }
     only_entries = ap (λ xs. with_lines xs (parsed_units entries)) (units_by_lines us held entries lines) ∙ ap (with_lines (indexed_units us held)) (parsed_by_lines held entries lines)
 
     beside : length us ≡ length (answers_in held)
@@ -237,29 +234,3 @@ module _ {R : Type 0} (scope : Scope) (held : List (UnitCache R)) where
       learns = λ k. elim (only k) [ inl same ↦ inl (known_unchanged held entries k same) | inr q ↦ inr q ];
       functions = functions;
     }
-
-    pub after_reading : (depth : ReadingDepth) (result : Result (Unit {0}) Error) → HaveEntriesOf scope us entries → (WasNotRefused result → answers_in entries ≡ answers_after_parse depth scope us (answers_in held)) → AreFirstDecided depth scope us (answers_in held) (answers_in entries)
-        → StayDecided held entries → ChangesOnly (AreReadBefore depth scope us (answers_in held)) held entries → OnOk result (HaveRead depth entries) → (HaveRead depth held → result ≡ Ok tt)
-        → (WasNotRefused result → AreReadyUnits depth scope us (answers_in held) entries) → (AreReadyUnits depth scope us (answers_in entries) entries → WasNotRefused result) → (AreReadyUnits depth scope us (answers_in held) held → result ≡ read_of_units depth scope us (answers_in held))
-        → (AreReadyUnits depth scope us (answers_in held) held → entries ≡ held) → (depth ≡ depths.Functions → LearnsNoDetails (known_in held) (known_in entries)) → AfterReading depth result old new
-    after_reading depth result right answers begun stay only read whole ready memory exact unchanged details = record {
-      stays = only_entries;
-      answers = answers;
-      begun = begun;
-      known = λ probe n shut k. known_is probe entries n ∙ decided_more scope probe us held entries n own stay shut (sym (known_is probe held n) ∙ k);
-      whole = λ kind n shut k. whole_decided kind scope us held entries n own stay shut k;
-      only = λ n. elim (only n) [ inl k ↦ inl (known_unchanged held entries n k) | inr q ↦ inr q ];
-      details = details;
-      read = read_after depth result entries read;
-      whole_known = λ all. whole (read_before depth held all);
-      ready = λ told. ready_after depth scope us (answers_in held) entries right (answers told) (ready told);
-      memory = λ known. memory (ready_before depth scope us entries right known);
-      exact = λ known. exact (ready_before depth scope us held own known);
-      same = λ known. let e = unchanged (ready_before depth scope us held own known) in (ap answers_in e, ap known_in e);
-      all = λ is. all_known result (found_if_ok depth result entries is read);
-      beside = beside;
-    }
-      where
-        all_known : (r : Result (Unit {0}) Error) → OnOk r ((probe n : ℕ) → has_entries_at probe entries n ≡ true) → OnOk r ((probe n : ℕ) → knows_at (known_in entries) probe n ≡ true)
-        all_known (Ok x) h = λ probe n. known_is probe entries n ∙ h probe n
-        all_known (Err e) h = tt

@@ -8,19 +8,18 @@ use Rattle.addr2line_lines.specs.Details.{Detail}
 use Rattle.addr2line_lines.specs.FunctionDetails.{AreCachedToFault, IsCachedToFault, IsFunctionMore, IsTableMore}
 use Rattle.addr2line_lines.specs.FunctionTable.{CachedFunction, FunctionTable}
 use Rattle.addr2line_lines.specs.References.{Scope}
-use Rattle.addr2line_units.specs.declared.functions.LazyFunctions.{LazyFunctions}
-use Rattle.addr2line_units.specs.declared.functions.LazyFunctions.TheVariants as lazy
+use Rattle.addr2line_units.specs.declared.entries.LazyFunctions.{LazyFunctions}
+use Rattle.addr2line_units.specs.declared.entries.LazyFunctions.TheVariants as lazy
 use Rattle.addr2line_units.specs.declared.parses.ReadingDepth.{ReadingDepth}
 use Rattle.addr2line_units.specs.declared.parses.ReadingDepth.TheVariants as depths
-use Rattle.addr2line_units.specs.declared.unit_frames.UnitCache.{UnitCache}
-use Rattle.addr2line_units.specs.declared.unit_frames.UnitEntries.{UnitEntries}
+use Rattle.addr2line_units.specs.declared.entries.UnitCache.{UnitCache}
+use Rattle.addr2line_units.specs.declared.entries.UnitEntries.{UnitEntries}
 use Rattle.addr2line_units.specs.declared.view.ViewState.{ViewState}
 use Rattle.addr2line_units.specs.declared.view.ViewState.TheVariants as states
 use Rattle.addr2line_units.specs.FunctionParses.{IsReadyFor}
 use Rattle.addr2line_units.specs.CachedEntries.{StayEntries}
 use Rattle.addr2line_units.specs.CachedFunctions.{StayFunctions}
 use Rattle.addr2line_units.specs.CachedUnits.{HaveEntriesOf, StayAllEntries, answers_in, decided_at}
-use Rattle.addr2line_units.specs.CachedParses.{StayDecided}
 use Rattle.addr2line_units.specs.CachedViews.{was_looked_at}
 use Rattle.addr2line_units.specs.CachedKnown.{known_answer, known_by, known_functions, known_in, known_table}
 use Rattle.addr2line_units.specs.KnownEntries.{KnownEntries, is_known_at}
@@ -85,14 +84,14 @@ module _ {R : Type 0} where
   view_whole r (states.Unnamed x) f g a h = h
   view_whole r (states.Answered x) f g a h = answer_whole r x.unit f g a h
 
-  whole_was_looked_at : (r : ReadingDepth) (s : ViewState R) (f : LazyFunctions R) → IsReadyFor r (known_by s f) → was_looked_at s ≡ true
+  pub whole_was_looked_at : (r : ReadingDepth) (s : ViewState R) (f : LazyFunctions R) → IsReadyFor r (known_by s f) → was_looked_at s ≡ true
   whole_was_looked_at r states.Undecided f h = absurd h
   whole_was_looked_at r states.Open f h = refl
   whole_was_looked_at r states.Main f h = refl
   whole_was_looked_at r (states.Unnamed x) f h = refl
   whole_was_looked_at r (states.Answered x) f h = refl
 
-  entries_whole : (r : ReadingDepth) (v w : UnitEntries R) → StayEntries v w → IsReadyFor r (known_by v.view.state v.functions) → IsReadyFor r (known_by w.view.state w.functions)
+  pub entries_whole : (r : ReadingDepth) (v w : UnitEntries R) → StayEntries v w → IsReadyFor r (known_by v.view.state v.functions) → IsReadyFor r (known_by w.view.state w.functions)
   entries_whole r v w a h =
       subst (λ y. IsReadyFor r (known_by y.state w.functions)) (sym (a.view (whole_was_looked_at r v.view.state v.functions h)))
       (view_whole r v.view.state v.functions w.functions a.functions h)
@@ -111,19 +110,7 @@ module _ {R : Type 0} where
     whole = λ r h. all_whole r vs ws a n h;
   }
 
-  -- the same of units that aren't open
-  pub whole_decided : (r : ReadingDepth) (scope : Scope) (us : List UnitRecord) (vs ws : List (UnitCache R)) (n : ℕ) → HaveEntriesOf scope us vs → StayDecided vs ws → is_open_at scope.file.sections us (answers_in vs) n ≡ false
-      → IsReadyAt r (known_in vs) n → IsReadyAt r (known_in ws) n
-  whole_decided r scope [] [] [] n own stay shut h = h
-  whole_decided r scope [] [] (w ∷ ws) n own stay shut h = absurd stay
-  whole_decided r scope [] (v ∷ vs) ws n own stay shut h = absurd own
-  whole_decided r scope (u ∷ us) [] ws n own stay shut h = absurd own
-  whole_decided r scope (u ∷ us) (v ∷ vs) [] n own stay shut h = absurd stay
-  whole_decided r scope (u ∷ us) (v ∷ vs) (w ∷ ws) zero own stay shut h =
-      let looked = whole_was_looked_at r v.entries.view.state v.entries.functions h in
-      entries_whole r v.entries w.entries (stay.0 (looked_is_decided v.entries.view.state looked (looked_waits scope.file.sections u v.entries.view own.0.view looked ∙ shut))) h
-  whole_decided r scope (u ∷ us) (v ∷ vs) (w ∷ ws) (suc n) own stay shut h = whole_decided r scope us vs ws n own.1 stay.1 shut h
-
+  -- a unit that isn't open, and of which all is known, is decided
   pub whole_is_decided : (r : ReadingDepth) (scope : Scope) (us : List UnitRecord) (vs : List (UnitCache R)) (n : ℕ) → HaveEntriesOf scope us vs → is_open_at scope.file.sections us (answers_in vs) n ≡ false
       → IsReadyAt r (known_in vs) n → (decided_at vs n ≡ true) ⊎ (length us ≤ n)
   whole_is_decided r scope [] [] n own shut h = inr (omega arith)

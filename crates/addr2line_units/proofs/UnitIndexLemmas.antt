@@ -20,7 +20,7 @@ use Rattle.gimli.specs.Unit.{UnitRecord, unit_by, unit_record_of}
 use Rattle.gimli.specs.UnitsLeft.{all_headers}
 use Rattle.addr2line_lines.specs.RangeAttributes.{begins_well}
 use Rattle.addr2line_lines.specs.Rows.{read_all}
-use Rattle.addr2line_units.specs.declared.aranges.UnitArange.{UnitArange}
+use Rattle.addr2line_units.specs.declared.index.UnitArange.{UnitArange}
 use Rattle.addr2line_units.specs.declared.index.UnitRange.{UnitRange}
 use Rattle.addr2line_units.specs.Indexed.{IndexState, appended, has_abbreviations, index_of, index_takes_memory, indexed, indexed_with, or_with_ranged, some_take_memory, indexed_unit_takes_memory, units_take_memory, with_header, with_ranged}
 use Rattle.addr2line_units.specs.UnitIndex.{sup_unit_of_header}

@@ -1,18 +1,26 @@
 -- What a lookup comes to in one unit after another, as the private functions see it.
-use Rattle.std.specs.Prelude.{◌≡◌, ◌+◌, ◌<◌, ◌≤◌, ℕ, Bool, true, false, slice_get, Option, unwrap_or, Result, Ok}
+use Rattle.std.specs.Prelude.{◌≡◌, ◌+◌, ◌<◌, ◌≤◌, ℕ, Bool, true, false, length, slice_get, Option, unwrap_or, Result, Ok}
 use Rattle.gimli_read.specs.declared.error.Error.{Error}
 use Rattle.gimli_read.specs.Alike.{WasNotRefused}
 use Rattle.gimli_read.specs.Reading.{◌>>=◌}
 use Rattle.addr2line_units.specs.declared.frames_lookup.OnFault.{OnFault}
 use Rattle.addr2line_units.specs.declared.frames_lookup.FramesStop.{FramesStop}
 use Rattle.addr2line_units.specs.declared.frames_lookup.FramesStop.TheVariants as stops
-use Rattle.addr2line_units.specs.declared.unit_frames.UnitFrames.{UnitFrames}
+use Rattle.addr2line_units.specs.declared.entries.UnitFrames.{UnitFrames}
 use Rattle.addr2line_units.specs.AfterUnits.{AfterAsking, AfterLines}
 use Rattle.addr2line_units.specs.CachedFrames.{stop_of_found}
 use Rattle.addr2line_units.specs.FramesLookup.{Finds, FindsNothing, LookupStop, Waits, or_stop}
 use Rattle.addr2line_units.specs.Located.{is_found, looks_in}
 use Rattle.addr2line_units.specs.Parsed.{has_parsed, parses_no_memory}
 use Rattle.addr2line_units.specs.UnitsState.{UnitsState, asked_by, has_all_at, has_few_at}
+
+-- so many units there are, by all that is listed of them
+pub record CountsUnits (count : ℕ) (s : UnitsState) : Type 0 where
+  pub records : count ≡ length s.scope.file.units
+  pub units : count ≡ length s.units
+  pub answers : count ≡ length s.answers
+  pub parsed : count ≡ length s.parsed
+  pub known : count ≡ length s.known
 
 -- what a lookup comes to in the unit of a number alone
 abbrev pub stop_at : OnFault → ℕ → UnitsState → ℕ → Result LookupStop Error

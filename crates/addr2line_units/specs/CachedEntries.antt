@@ -10,13 +10,13 @@ use Rattle.gimli.specs.Unit.{UnitRecord}
 use Rattle.addr2line_lines.specs.InlineRoom.{exceeds_inline_room}
 use Rattle.addr2line_lines.specs.Location.{location_of_row}
 use Rattle.addr2line_lines.specs.References.{Scope}
-use Rattle.addr2line_units.specs.declared.functions.LazyFunctions.{LazyFunctions}
+use Rattle.addr2line_units.specs.declared.entries.LazyFunctions.{LazyFunctions}
 use Rattle.addr2line_units.specs.declared.unit.LazyLines.{LazyLines}
 use Rattle.addr2line_units.specs.declared.unit.LazyLines.TheVariants as lines
 use Rattle.addr2line_units.specs.declared.unit.UnitLines.{UnitLines}
-use Rattle.addr2line_units.specs.declared.unit_frames.UnitEntries.{UnitEntries}
-use Rattle.addr2line_units.specs.declared.unit_frames.UnitFrames.{UnitFrames}
-use Rattle.addr2line_units.specs.declared.unit_frames.UnitFrames.TheVariants as found
+use Rattle.addr2line_units.specs.declared.entries.UnitEntries.{UnitEntries}
+use Rattle.addr2line_units.specs.declared.entries.UnitFrames.{UnitFrames}
+use Rattle.addr2line_units.specs.declared.entries.UnitFrames.TheVariants as found
 use Rattle.addr2line_units.specs.declared.view.ViewState.{ViewState}
 use Rattle.addr2line_units.specs.declared.view.ViewState.TheVariants as states
 use Rattle.addr2line_units.specs.AskMemory.{functions_in_take_memory, lines_take_memory}

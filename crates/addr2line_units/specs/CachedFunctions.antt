@@ -17,9 +17,9 @@ use Rattle.addr2line_lines.specs.Functions.{entries_of, functions_of, functions_
 use Rattle.addr2line_lines.specs.InlineRoom.{exceeds_inline_room}
 use Rattle.addr2line_lines.specs.InlinedEntries.{InlinedEntry}
 use Rattle.addr2line_lines.specs.References.{Scope}
-use Rattle.addr2line_units.specs.declared.functions.FunctionPlace.{FunctionPlace}
-use Rattle.addr2line_units.specs.declared.functions.LazyFunctions.{LazyFunctions}
-use Rattle.addr2line_units.specs.declared.functions.LazyFunctions.TheVariants as lazy
+use Rattle.addr2line_units.specs.declared.entries.FunctionPlace.{FunctionPlace}
+use Rattle.addr2line_units.specs.declared.entries.LazyFunctions.{LazyFunctions}
+use Rattle.addr2line_units.specs.declared.entries.LazyFunctions.TheVariants as lazy
 use Rattle.addr2line_units.specs.Frames.{FoundFunction}
 
 -- functions are those of a view whose references lead where the scope says, what is cached of each
@@ -50,6 +50,11 @@ no_functions = record { ranges = []; functions = []; inlined = []; names = [] }
 abbrev pub cached_functions : {R : Type 0} → LazyFunctions R → FunctionTable
 cached_functions (lazy.Read t) = box_value t
 cached_functions _ = no_functions
+
+-- their fault, if it is cached
+abbrev pub cached_fault : {R : Type 0} → LazyFunctions R → Result (Unit {0}) Error
+cached_fault (lazy.Faulty e) = Err e
+cached_fault _ = Ok tt
 
 -- what is cached stays, and more details may be
 abbrev pub StayFunctions : {R : Type 0} → LazyFunctions R → LazyFunctions R → Type 0

@@ -3,9 +3,9 @@ use Rattle.std.specs.Prelude.{List, map, Option, Some, None, Result, Ok, Err, bo
 use Rattle.gimli_read.specs.declared.error.Error.{Error}
 use Rattle.addr2line_lines.specs.Details.{Detail}
 use Rattle.addr2line_lines.specs.FunctionTable.{CachedFunction, FunctionTable}
-use Rattle.addr2line_units.specs.declared.functions.LazyFunctions.{LazyFunctions}
-use Rattle.addr2line_units.specs.declared.functions.LazyFunctions.TheVariants as lazy
-use Rattle.addr2line_units.specs.declared.unit_frames.UnitCache.{UnitCache}
+use Rattle.addr2line_units.specs.declared.entries.LazyFunctions.{LazyFunctions}
+use Rattle.addr2line_units.specs.declared.entries.LazyFunctions.TheVariants as lazy
+use Rattle.addr2line_units.specs.declared.entries.UnitCache.{UnitCache}
 use Rattle.addr2line_units.specs.declared.view.ViewState.{ViewState}
 use Rattle.addr2line_units.specs.declared.view.ViewState.TheVariants as states
 use Rattle.addr2line_units.specs.CachedFunctions.{is_cached_fault, no_functions}

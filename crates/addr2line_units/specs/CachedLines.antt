@@ -16,11 +16,11 @@ use Rattle.addr2line_lines.specs.RangeLocations.{LocatedSpan, locations_in_range
 use Rattle.addr2line_lines.specs.Counts.{most_looks_in}
 use Rattle.addr2line_lines.specs.Spans.{row_at}
 use Rattle.addr2line_lines.specs.UnitLines.{unit_lines}
-use Rattle.addr2line_units.specs.declared.unit_row.UnitRow.{UnitRow}
+use Rattle.addr2line_units.specs.declared.units.UnitRow.{UnitRow}
 use Rattle.addr2line_units.specs.declared.unit.LazyLines.{LazyLines}
 use Rattle.addr2line_units.specs.declared.unit.LazyLines.TheVariants.{Unread, Absent, Read, Faulty}
 use Rattle.addr2line_units.specs.declared.unit.UnitLines.{UnitLines}
-use Rattle.addr2line_units.specs.declared.unit_frames.UnitCache.{UnitCache}
+use Rattle.addr2line_units.specs.declared.entries.UnitCache.{UnitCache}
 use Rattle.addr2line_units.specs.RangedUnits.{IndexedUnit}
 use Rattle.addr2line_units.specs.Located.{all_read}
 

@@ -5,7 +5,7 @@ use Rattle.std.specs.List.{AllZip}
 use Rattle.gimli.specs.Sections.{Sections}
 use Rattle.gimli.specs.Unit.{UnitRecord}
 use Rattle.addr2line_lines.specs.References.{Scope}
-use Rattle.addr2line_units.specs.declared.unit_frames.UnitCache.{UnitCache}
+use Rattle.addr2line_units.specs.declared.entries.UnitCache.{UnitCache}
 use Rattle.addr2line_units.specs.CachedViews.{IsViewOf, is_decided, waits}
 use Rattle.addr2line_units.specs.CachedLines.{AreLinesOf}
 use Rattle.addr2line_units.specs.CachedEntries.{AreEntriesOf, AreFresh, ReadsEntriesOf, StayEntries, has_entries, first_answer_of}

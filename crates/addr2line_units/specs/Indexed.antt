@@ -9,7 +9,7 @@ use Rattle.gimli.specs.Sections.{Sections, SupSections}
 use Rattle.gimli.specs.Text.{from_offset}
 use Rattle.gimli.specs.Unit.{UnitRecord}
 use Rattle.gimli.specs.UnitsLeft.{all_headers}
-use Rattle.addr2line_units.specs.declared.aranges.UnitArange.{UnitArange}
+use Rattle.addr2line_units.specs.declared.index.UnitArange.{UnitArange}
 use Rattle.addr2line_units.specs.declared.index.UnitRange.{UnitRange}
 use Rattle.addr2line_units.specs.declared.unit.UnitLines.{UnitLines}
 use Rattle.addr2line_units.specs.declared.units.Index.{Index}

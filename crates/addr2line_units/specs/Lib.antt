@@ -38,7 +38,7 @@ pub mod Loads
 pub mod ListedLoads
 pub mod LoadLaws
 pub mod FunctionParses
-pub mod CachedParses
+pub mod AfterParses
 pub mod FunctionParseLaws
 pub mod Suspended
 pub mod StaysKnown

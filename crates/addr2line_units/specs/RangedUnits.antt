@@ -23,7 +23,7 @@ use Rattle.addr2line_lines.specs.RangeAttributes.{attribute_ranges}
 use Rattle.addr2line_lines.specs.RangeLocations.{sequence_ranges}
 use Rattle.addr2line_lines.specs.Rows.{read_all}
 use Rattle.addr2line_lines.specs.UnitLines.{unit_lines}
-use Rattle.addr2line_units.specs.declared.aranges.UnitArange.{UnitArange}
+use Rattle.addr2line_units.specs.declared.index.UnitArange.{UnitArange}
 use Rattle.addr2line_units.specs.declared.index.UnitRange.{UnitRange}
 use Rattle.addr2line_units.specs.UnitAranges.{aranges_at, aranges_in}
 use Rattle.addr2line_units.specs.UnitAttributes.{unit_attributes}

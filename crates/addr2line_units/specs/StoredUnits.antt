@@ -2,7 +2,7 @@
 use Rattle.std.specs.Prelude.{ℕ, List}
 use Rattle.addr2line_lines.specs.References.{IsScope, Scope}
 use Rattle.addr2line_units.specs.declared.frames_lookup.FramesStop.{FramesStop}
-use Rattle.addr2line_units.specs.declared.unit_frames.UnitCache.{UnitCache}
+use Rattle.addr2line_units.specs.declared.entries.UnitCache.{UnitCache}
 use Rattle.addr2line_units.specs.declared.units.Sources.{Sources}
 use Rattle.addr2line_units.specs.CachedFrames.{IsLendable}
 use Rattle.addr2line_units.specs.CachedLines.{indexed_units, parsed_units}

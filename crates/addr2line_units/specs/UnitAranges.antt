@@ -8,7 +8,7 @@ use Rattle.gimli_read.specs.Section.{Section}
 use Rattle.gimli_read.specs.Reading.{◌>>=◌}
 use Rattle.gimli.specs.Aranges.{ArangeSet, arange_sets_of, aranges_of}
 use Rattle.addr2line_lines.specs.Rows.{read_all}
-use Rattle.addr2line_units.specs.declared.aranges.UnitArange.{UnitArange}
+use Rattle.addr2line_units.specs.declared.index.UnitArange.{UnitArange}
 
 -- a range of the unit at an offset
 abbrev pub unit_arange : DebugInfoOffset → Range → UnitArange

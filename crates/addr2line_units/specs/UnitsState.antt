@@ -12,7 +12,7 @@ use Rattle.addr2line_lines.specs.Location.{LineTable, Location, location_of_row}
 use Rattle.addr2line_lines.specs.References.{Scope}
 use Rattle.addr2line_units.specs.declared.frames_lookup.OnFault.{OnFault}
 use Rattle.addr2line_units.specs.declared.index.UnitRange.{UnitRange}
-use Rattle.addr2line_units.specs.declared.unit_row.UnitRow.{UnitRow}
+use Rattle.addr2line_units.specs.declared.units.UnitRow.{UnitRow}
 use Rattle.addr2line_units.specs.AskMemory.{lines_of_take_memory}
 use Rattle.addr2line_units.specs.FramesLookup.{FindsNothing, LookupStop, Waits, asked_frames, asks_lines_of, frames_of_number, functions_of_take_memory, inlined_at_number, main_scope, stop_along}
 use Rattle.addr2line_units.specs.KnownEntries.{KnownEntries, NothingKnown, knows_at}

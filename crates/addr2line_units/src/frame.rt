@@ -19,7 +19,7 @@ ghost use Rattle.addr2line_units.specs.CachedFunctions.{ArePlacesIn, function_of
 ghost use Rattle.addr2line_units.specs.LegacyText.{demangled, demangled_auto};
 ghost use Rattle.addr2line_units.specs.SeenFrame.{YieldsFrame, language_text, name_text, raw_text, seen_frame, seen_name};
 
-use crate::functions::{FunctionPlace, LazyFunctions};
+use crate::entries::{FunctionPlace, LazyFunctions};
 use crate::legacy::LegacyName;
 use addr2line_lines::{Functions, InlinedFunction, Lines, Location};
 use gimli_read::{DwLang, Error, Reader, UnitOffset};

@@ -1,20 +1,40 @@
-//! Lookups of frames and of a unit among units.
+//! Lookups of frames and of a unit among units: what the last one has come to, what is lent of it,
+//! and an answer to its load.
 
-ghost use Rattle.std.specs.Prelude.{◌≡◌, IfErr, true};
+ghost use Rattle.std.specs.Prelude.{◌≡◌, IfErr, true, Err, IfOk, IfSome, Ok, Some, false, option_map, slice_get};
 ghost use Rattle.gimli_read.specs.Reading.{ExactlyUnlessOom};
-ghost use Rattle.addr2line_units.specs.AfterUnits.{AfterWalk, IsFaultAlong};
+ghost use Rattle.gimli_read.specs.declared.error.Error.TheVariants.{OutOfMemory};
+ghost use Rattle.addr2line_lines.specs.Location.{location_of_row};
+ghost use Rattle.addr2line_lines.specs.SeenScope.{seen_file};
+ghost use Rattle.addr2line_units.specs.AfterUnits.{AfterWalk, IsFaultAlong, AfterAnswer};
 ghost use Rattle.addr2line_units.specs.AskedUnits.{AfterAsk, found_stop, has_stopped, stop_at};
 ghost use Rattle.addr2line_units.specs.CachedFrames.{found_after_fault};
-ghost use Rattle.addr2line_units.specs.FramesLookup.{FindsNothing, holds_along};
+ghost use Rattle.addr2line_units.specs.FramesLookup.{FindsNothing, holds_along, Waits, frames_found, unit_found};
 ghost use Rattle.addr2line_units.specs.UnitRangesLeft.{ranges_left};
-ghost use Rattle.addr2line_units.specs.UnitsState.{IsFaultAt, asked_by, asks_no_memory_at, stop_of};
+ghost use Rattle.addr2line_units.specs.UnitsState.{IsFaultAt, asked_by, asks_no_memory_at, stop_of, waiting_unit};
+ghost use Rattle.addr2line_units.specs.AnswerMemory.{answer_takes_memory};
+ghost use Rattle.addr2line_units.specs.CachedEntries.{AreRead};
+ghost use Rattle.addr2line_units.specs.CachedFunctions.{ArePlacesIn, function_of_place, cached_functions};
+ghost use Rattle.addr2line_units.specs.CachedLines.{cached_files};
+ghost use Rattle.addr2line_units.specs.Frames.{found_frames};
+ghost use Rattle.addr2line_units.specs.FramesLeft.{frames_left};
+ghost use Rattle.addr2line_units.specs.Loads.{load_result};
+ghost use Rattle.addr2line_units.specs.SeenUnit.{seen_unit, sup_file};
+ghost use Rattle.addr2line_units.specs.Views.{load_of_unit};
 
-use crate::functions::FunctionPlace;
+use crate::entries::{FunctionPlace, UnitCache, UnitFrames, find_frames_in};
+use crate::frame::{FrameIter, frames_of};
+use crate::lookup::location_of;
 use crate::range_iter::UnitRangeIter;
-use crate::unit_frames::{UnitCache, UnitFrames, find_frames_in};
+use crate::sup::SupUnits;
+use crate::unit::LazyLines;
 use crate::units::Units;
-use addr2line_lines::Row;
+use crate::view::SplitDwarfLoad;
+use addr2line_lines::{FileUnits, Row, Scope};
 use gimli::read::{Error, Reader};
+use gimli::{Dwarf, UnitRef};
+use std::alloc::Global;
+use std::rc::Rc;
 
 /// What becomes of a fault of a unit that a lookup asks.
 #[derive(Clone, Copy)]
@@ -143,5 +163,130 @@ impl<R: Reader> Units<R> {
             }
         }
         Ok(())
+    }
+}
+
+impl<R: Reader> SupUnits<R> {
+    // Where references to the supplementary file lead, if there is one. Takes no memory.
+    pub(crate) fn file(&self) -> Option<FileUnits<'_, R>>
+        ensures gives { option_map seen_file result ≡ sup_file self.now }
+    {
+        match &self.dwarf {
+            Some(dwarf) => Some(FileUnits {
+                dwarf,
+                units: &self.units,
+            }),
+            None => None,
+        }
+    }
+}
+
+// The frames of the function and the row at an address in a unit, by what is cached. Takes no
+// memory.
+fn frames_in_unit<'ctx, R: Reader>(
+    cache: &'ctx UnitCache<R>,
+    function: &'ctx Option<FunctionPlace>,
+    row: Option<Row>,
+) -> FrameIter<'ctx, R>
+    requires function { IfSome function.now
+        (ArePlacesIn (cached_functions cache.now.entries.functions)) }
+    requires read { AreRead cache.now.lines.lines }
+    ensures gives { frames_left result
+        ≡ found_frames (cached_files cache.now.lines.lines) cache.now.lines.lang
+        (option_map (function_of_place (cached_functions cache.now.entries.functions)) function.now)
+        (option_map (location_of_row (cached_files cache.now.lines.lines)) row) }
+{
+    let lines = match &cache.lines.lines {
+        LazyLines::Read(lines) => Some(&**lines),
+        LazyLines::Absent => None,
+        LazyLines::Faulty(_) | LazyLines::Unread => return FrameIter::new_empty(),
+    };
+    let location = match row {
+        Some(row) => Some(location_of(&cache.lines.lines, row)),
+        None => None,
+    };
+    frames_of(
+        &cache.entries.functions,
+        function,
+        lines,
+        cache.lines.lang,
+        location,
+    )
+}
+
+impl<R: Reader> Units<R> {
+    /// The unit that the last lookup waits for, if it waits for one.
+    pub fn waits_for(&self) -> Option<usize>
+        ensures gives { result ≡ waiting_unit self.now.stop }
+    {
+        match &self.stop {
+            FramesStop::Waits(number) => Some(*number),
+            FramesStop::Finds(_) | FramesStop::FindsNothing => None,
+        }
+    }
+
+    /// The load of the unit that the last lookup waits for. Refused `OutOfMemory` alone.
+    pub fn load(&self, number: usize) -> Result<SplitDwarfLoad<R>, Error>
+        requires waits { self.now.stop ≡ Waits number }
+        ensures gives { IfOk result (λ l. option_map
+            (load_of_unit self.now.scope.file.sections number)
+            (slice_get self.now.scope.file.units number) ≡ Some (Ok (Some l))) }
+        ensures refused { IfErr result (λ e. e ≡ OutOfMemory) }
+    {
+        let dw_unit = &self.sources.units[number];
+        let cache = &self.caches[number];
+        cache.entries.load(&self.sources.dwarf, dw_unit, number)
+    }
+
+    /// The frames that the last lookup has found, none where it waits or has found nothing. Takes
+    /// no memory.
+    pub fn frames(&self) -> FrameIter<'_, R>
+        ensures gives { frames_left result ≡ frames_found self.now.stop }
+    {
+        let FramesStop::Finds(place) = &self.stop else {
+            return FrameIter::new_empty();
+        };
+        frames_in_unit(&self.caches[place.unit], &place.function, place.row)
+    }
+
+    /// The sections and the unit of the view of the unit in which the last lookup has found
+    /// something, none where it waits or has found nothing, or where the view has a fault. Takes no
+    /// memory.
+    pub fn unit(&self) -> Option<UnitRef<'_, R>>
+        ensures gives { option_map seen_unit result ≡ unit_found self.now.scope.file.sections
+            self.now.scope.file.units self.now.answers self.now.stop }
+    {
+        let FramesStop::Finds(place) = &self.stop else {
+            return None;
+        };
+        let dw_unit = &self.sources.units[place.unit];
+        let cache = &self.caches[place.unit];
+        cache
+            .entries
+            .view
+            .unit_ref(&self.sources.dwarf, dw_unit)
+            .ok()
+    }
+
+    /// Decides the unit of a number by an answer to its load if it is open, and else leaves it as
+    /// it is.
+    ///
+    /// Refused `OutOfMemory` alone, and only where sections are given, whose bytes are shared or
+    /// the header of whose first unit can be read.
+    pub fn answer(&mut self, number: usize, sections: Option<Rc<Dwarf<R>>>) -> Result<(), Error>
+        ensures after { AfterAnswer number (option_map (λ d. d.value) sections) result self.old
+            self.new }
+        ensures no_memory { answer_takes_memory R.shares (option_map (λ d. d.value) sections)
+            ≡ false → IfErr result (λ e. load_result self.old.scope.file.sections
+            self.old.scope.file.units self.old.answers number (option_map (λ d. d.value) sections)
+            ≡ Err e) }
+    {
+        self.stop = FramesStop::FindsNothing;
+        let scope = self.sources.scope();
+        let Some(dw_unit) = scope.file.units.get(number) else {
+            return Ok(());
+        };
+        let cache = &mut self.caches[number];
+        cache.entries.answer(self.alloc, scope, dw_unit, sections)
     }
 }

@@ -1,12 +1,12 @@
 //! Lookups of addresses among units, by their lines.
 
-ghost use Rattle.std.specs.Prelude.{◌≡◌, false, true, Err, IfErr, IfOk, IfSome, Ok, length, option_map, slice_get};
+ghost use Rattle.std.specs.Prelude.{◌≡◌, false, true, Err, IfErr, IfOk, IfSome, Ok, option_map, slice_get};
 ghost use Rattle.gimli_read.specs.declared.error.Error.TheVariants.{OutOfMemory};
 ghost use Rattle.gimli_read.specs.Reading.{ExactlyUnlessOom, IsUnlessOom, fault_of};
 ghost use Rattle.addr2line_lines.specs.Location.{location_of_row};
 ghost use Rattle.addr2line_lines.specs.SeenLocation.{seen_location};
 ghost use Rattle.addr2line_units.specs.AskMemory.{lines_of_take_memory};
-ghost use Rattle.addr2line_units.specs.AskedUnits.{AfterCachingAt, AfterRowAt};
+ghost use Rattle.addr2line_units.specs.AskedUnits.{AfterCachingAt, AfterRowAt, CountsUnits};
 ghost use Rattle.addr2line_units.specs.AfterUnits.{AfterCaching, AfterLineParse, AfterRow};
 ghost use Rattle.addr2line_units.specs.CachedLines.{cached_files, lines_result_at, unit_row};
 ghost use Rattle.addr2line_units.specs.Located.{all_lines, along, location_in, spans_along};
@@ -19,8 +19,7 @@ use crate::frames_lookup::FramesStop;
 use crate::range::LocationRangeIter;
 use crate::range_iter::UnitRangeIter;
 use crate::unit::LazyLines;
-use crate::unit_row::UnitRow;
-use crate::units::Units;
+use crate::units::{UnitRow, Units};
 use addr2line_lines::{Location, Row};
 use gimli::read::{Error, Reader};
 
@@ -38,9 +37,8 @@ pub(crate) fn location_of(lines: &LazyLines, row: Row) -> Location<'_>
 
 impl<R: Reader> Units<R> {
     // How many units there are.
-    fn len(&self) -> usize
-        ensures units { result ≡ length self.now.units }
-        ensures parsed { result ≡ length self.now.parsed }
+    pub(crate) fn len(&self) -> usize
+        ensures gives { CountsUnits result self.now }
     {
         self.caches.len()
     }

@@ -8,10 +8,10 @@ ghost use Rattle.addr2line_units.specs.LocationsLeft.{locations_left};
 ghost use Rattle.addr2line_units.specs.RangeLookup.{YieldsOn, YieldsRow, cached_along, rows_or_fault};
 ghost use Rattle.addr2line_units.specs.UnitRangesLeft.{ranges_left};
 
+use crate::entries::UnitCache;
 use crate::index::UnitRange;
 use crate::range_iter::UnitRangeIter;
 use crate::unit::LazyLines;
-use crate::unit_frames::UnitCache;
 use addr2line_lines::{LineLocationRangeIter, Location};
 use gimli::read::{Error, Range, Reader};
 

@@ -13,8 +13,8 @@ ghost use Rattle.addr2line_units.specs.CachedLines.{AreLinesOf, IsUnparsed, Line
 ghost use Rattle.addr2line_units.specs.Indexed.{ranged_seen};
 ghost use Rattle.gimli_read.specs.Alike.{WasNotRefused};
 
-use crate::aranges::{UnitArange, UnitAranges};
 use crate::attributes::read_unit_attributes;
+use crate::index::{UnitArange, UnitAranges};
 use addr2line_lines::{Count, Lines, RangeAttributes, Row, read_ranges};
 use gimli::read::{DwLang, Error, Range, Reader};
 use gimli::{Dwarf, Unit, UnitRef, UnitType};

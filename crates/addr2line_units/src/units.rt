@@ -11,13 +11,12 @@ ghost use Rattle.addr2line_units.specs.RangedUnits.{range_of_unit, unit_of_heade
 ghost use Rattle.addr2line_units.specs.StoredUnits.{scope_of};
 ghost use Rattle.addr2line_units.specs.UnitsState.{new_units};
 
-use crate::aranges::UnitAranges;
+use crate::entries::{UnitCache, UnitEntries};
 use crate::frames_lookup::FramesStop;
-use crate::index::{UnitRange, UnitRanges};
+use crate::index::{UnitAranges, UnitRange, UnitRanges};
 use crate::sup::SupUnits;
 use crate::unit::{UnitLines, is_type_unit, read_ranged_unit};
-use crate::unit_frames::{UnitCache, UnitEntries};
-use addr2line_lines::{Count, FileUnits, Scope};
+use addr2line_lines::{Count, FileUnits, Row, Scope};
 use gimli::read::{Error, Range, Reader};
 use gimli::{AbbreviationsCache, Dwarf, Unit, UnitHeader};
 use std::alloc::Global;
@@ -292,4 +291,13 @@ impl<R: Reader> Units<R> {
         };
         Ok((units, ranges))
     }
+}
+
+/// A row of the lines of a unit.
+#[derive(Clone, Copy)]
+pub struct UnitRow {
+    /// The place of the unit in the list of units.
+    pub unit: usize,
+    /// The row.
+    pub row: Row,
 }

@@ -1,70 +1,42 @@
-use Rattle.std.proofs.Common.{None, Some, ap, arith, ltb-false, ltb-true, option_map, refl, slice_get, subst, sym, ◌≡◌}
-use Rattle.std.proofs.lemmas.Option.{slice_get_past, slice_get_read}
-use Rattle.addr2line_lines.specs.References.{Scope}
-use Rattle.addr2line_units.specs.CachedFrames.{seen_stop}
+use Rattle.std.proofs.Common.{arith, option_map, subst, sym}
 use Rattle.addr2line_units.specs.CachedEntries.{AreEntriesOf}
-use Rattle.addr2line_units.proofs.NumberLemmas.{answered_there, in_entries, none_answered, refused_told, right_there, still_units}
+use Rattle.addr2line_units.specs.CachedFrames.{seen_stop}
+use Rattle.addr2line_units.proofs.NumberLemmas.{answered_there, none_answered, refused_told}
 use Rattle.addr2line_units.proofs.StateLemmas.{some_given}
-use Rattle.addr2line_units.specs.StoredUnits.{scope_of}
+use Rattle.addr2line_units.proofs.UnitAtLemmas.{cache_within, its_entries, none_got, sections_seen, unit_got, units_with_entries}
 use Rattle.addr2line_units.proofs.units.Units.answer.Goals as goal
 
 pub returns-in_default : goal.returns-in_default
 returns-in_default g c =
     let s = c.self.inside in
-    let n = c.args.number in
-    let scope = c.scope-scope.result in
-    let units_is : scope.file.units.now ≡ s.sources.units.items = ap (λ (x : Scope). x.file.units) c.scope-scope.ensures.gives in
-    let none : slice_get s.sources.units.items n ≡ None = subst (λ xs. slice_get xs n ≡ None) units_is (slice_get_past scope.file.units.now n (ltb-false _ _ (sym c.in_default.ensures.lookup.0))) in
-    rw (sym c.self.view_is) (record { after = none_answered (scope_of s.sources) s.caches.items s.stop c.self.invariant n none (option_map (λ x. x.value) c.args.sections) s.looks (seen_stop s.caches.items s.stop); no_memory = λ none. tt })
+    let none = none_got c.scope-scope.ensures.gives c.args.number c.in_default.ensures.lookup.0 in
+    rw (sym c.self.view_is) (record { after = none_answered c.self.invariant c.args.number none (option_map (λ x. x.value) c.args.sections) s.looks (seen_stop s.caches.items s.stop); no_memory = λ none. tt })
 
 pub index_mut-cache-requires : goal.index_mut-cache-requires
 index_mut-cache-requires g c =
-    let s = c.self.inside in
-    let n = c.args.number in
-    let scope = c.scope-scope.result in
-    let units_is : scope.file.units.now ≡ s.sources.units.items = ap (λ (x : Scope). x.file.units) c.scope-scope.ensures.gives in
-    let u = c.in-Some.dw_unit.now in
-    let there : slice_get s.sources.units.items n ≡ Some u = subst (λ xs. slice_get xs n ≡ Some u) units_is (slice_get_read scope.file.units.now _ n u refl (ltb-true _ _ (sym c.in-Some.ensures.lookup.0)) c.in-Some.ensures.lookup.1) in
-    let h = in_entries (scope_of s.sources) s.caches.items s.stop c.self.invariant n u there in omega (arith, h)
+    let within = cache_within c.self.invariant c.args.number (unit_got c.scope-scope.ensures.gives c.args.number c.in-Some.ensures.lookup.0 c.in-Some.ensures.lookup.1) in
+    omega (arith, within)
 
 pub answer-requires : goal.answer-requires
 answer-requires g c =
-    let s = c.self.inside in
-    let n = c.args.number in
-    let scope = c.scope-scope.result in
-    let units_is : scope.file.units.now ≡ s.sources.units.items = ap (λ (x : Scope). x.file.units) c.scope-scope.ensures.gives in
-    let u = c.in-Some.dw_unit.now in
-    let there : slice_get s.sources.units.items n ≡ Some u = subst (λ xs. slice_get xs n ≡ Some u) units_is (slice_get_read scope.file.units.now _ n u refl (ltb-true _ _ (sym c.in-Some.ensures.lookup.0)) c.in-Some.ensures.lookup.1) in
-    let v = c.index_mut-cache.result.now in
-    let at = c.index_mut-cache.ensures.value in
-    record { right = subst (λ S. AreEntriesOf S u v.entries) (sym c.scope-scope.ensures.gives) (right_there (scope_of s.sources) s.caches.items s.stop c.self.invariant n u there v at) }
+    let there = unit_got c.scope-scope.ensures.gives c.args.number c.in-Some.ensures.lookup.0 c.in-Some.ensures.lookup.1 in
+    record { right = subst (λ S. AreEntriesOf S c.in-Some.dw_unit.now c.index_mut-cache.result.now.entries) (sym c.scope-scope.ensures.gives) (its_entries c.self.invariant c.args.number there c.index_mut-cache.ensures.value) }
 
 pub invariant_of-self-2 : goal.invariant_of-self-2
 invariant_of-self-2 g c =
-    let s = c.self.inside in
-    let n = c.args.number in
-    let scope = c.scope-scope.result in
-    let units_is : scope.file.units.now ≡ s.sources.units.items = ap (λ (x : Scope). x.file.units) c.scope-scope.ensures.gives in
-    let u = c.in-Some.dw_unit.now in
-    let there : slice_get s.sources.units.items n ≡ Some u = subst (λ xs. slice_get xs n ≡ Some u) units_is (slice_get_read scope.file.units.now _ n u refl (ltb-true _ _ (sym c.in-Some.ensures.lookup.0)) c.in-Some.ensures.lookup.1) in
-    let v = c.index_mut-cache.result.now in
-    let at = c.index_mut-cache.ensures.value in
-    let w = c.answer.new.self in
-    still_units (scope_of s.sources) s.caches.items s.stop c.self.invariant n u there v at w (subst (λ S. AreEntriesOf S u w) c.scope-scope.ensures.gives c.answer.ensures.right)
+    let there = unit_got c.scope-scope.ensures.gives c.args.number c.in-Some.ensures.lookup.0 c.in-Some.ensures.lookup.1 in
+    units_with_entries c.self.invariant c.args.number there c.index_mut-cache.ensures.value _
+    (subst (λ S. AreEntriesOf S c.in-Some.dw_unit.now c.answer.new.self) c.scope-scope.ensures.gives c.answer.ensures.right)
 
 pub returns : goal.returns
 returns g c =
     let s = c.self.inside in
-    let n = c.args.number in
-    let scope = c.scope-scope.result in
-    let units_is : scope.file.units.now ≡ s.sources.units.items = ap (λ (x : Scope). x.file.units) c.scope-scope.ensures.gives in
-    let sections_is : scope.file.dwarf.now ≡ s.sources.dwarf.value = ap (λ (x : Scope). x.file.sections) c.scope-scope.ensures.gives in
-    let u = c.in-Some.dw_unit.now in
-    let there : slice_get s.sources.units.items n ≡ Some u = subst (λ xs. slice_get xs n ≡ Some u) units_is (slice_get_read scope.file.units.now _ n u refl (ltb-true _ _ (sym c.in-Some.ensures.lookup.0)) c.in-Some.ensures.lookup.1) in
-    let v = c.index_mut-cache.result.now in
+    let i = c.self.invariant in
+    let there = unit_got c.scope-scope.ensures.gives c.args.number c.in-Some.ensures.lookup.0 c.in-Some.ensures.lookup.1 in
     let at = c.index_mut-cache.ensures.value in
-    let e = rw (c.scope-scope.ensures.gives, sections_is) at c.answer.ensures in
+    let given = option_map (λ x. x.value) c.args.sections in
+    let e = rw (c.scope-scope.ensures.gives, sections_seen c.scope-scope.ensures.gives) at c.answer.ensures in
     rw (sym c.self.view_is) (record {
-      after = answered_there (scope_of s.sources) s.caches.items s.stop c.self.invariant n u there v at c.answer.new.self (option_map (λ x. x.value) c.args.sections) _ (some_given _ c.args.sections) s.looks (seen_stop s.caches.items s.stop) e.right e.functions (λ h. (e.same h).0) c.answer.result e.answer e.refused e.not_open;
-      no_memory = λ none. refused_told (scope_of s.sources) s.caches.items s.stop c.self.invariant n u there v at (option_map (λ x. x.value) c.args.sections) c.answer.result (e.exact none);
+      after = answered_there i c.args.number there at c.answer.new.self given _ (some_given _ c.args.sections) s.looks (seen_stop s.caches.items s.stop) e.right e.functions (λ h. (e.same h).0) c.answer.result e.answer e.refused e.not_open;
+      no_memory = λ none. refused_told i c.args.number there at given c.answer.result (e.exact none);
     })

@@ -1,10 +1,10 @@
-use Rattle.std.proofs.Common.{length, ◌≡◌}
+use Rattle.addr2line_units.specs.AskedUnits.{CountsUnits}
+use Rattle.addr2line_units.specs.FramesLookup.{FindsNothing}
 use Rattle.addr2line_units.proofs.LineWalkLemmas.{ParsedSoFar}
 use Rattle.addr2line_units.proofs.units.Units.parse_lines.Given as goal
 
 abbrev pub invariant-loop-number : goal.invariant-loop-number
 invariant-loop-number g l = record {
   so_far : ParsedSoFar l.number l.fn.self l.self;
-  units : l.count ≡ length l.fn.self.units;
-  parsed : l.count ≡ length l.fn.self.parsed;
+  counts : CountsUnits l.count (record l.fn.self { stop = FindsNothing });
 }

@@ -1,104 +1,58 @@
-use Rattle.std.proofs.Common.{Err, None, Ok, Some, ap, arith, false, ltb-false, ltb-true, refl, slice_get, subst, sym, ◌≡◌}
-use Rattle.std.proofs.lemmas.Option.{slice_get_past, slice_get_read}
+use Rattle.std.proofs.Common.{Err, Ok, arith, false, slice_get, subst, sym, ◌≡◌}
 use Rattle.std.specs.Prelude.{IfErr}
 use Rattle.gimli_read.specs.Reading.{ExactlyUnlessOom}
-use Rattle.gimli.specs.Sections.{Sections}
-use Rattle.addr2line_lines.specs.References.{Scope}
 use Rattle.addr2line_units.specs.AskMemory.{lines_take_memory}
 use Rattle.addr2line_units.specs.CachedFrames.{seen_stop}
 use Rattle.addr2line_units.specs.CachedLines.{AreLinesOf, cached_lines, lines_result, lines_result_at}
-use Rattle.addr2line_units.specs.StoredUnits.{scope_of}
 use Rattle.addr2line_units.specs.UnitsState.{UnitsState}
-use Rattle.addr2line_units.proofs.LinesAtLemmas.{caching_after, in_lines, lines_there, none_after_caching, none_read, read_there, still_lines}
+use Rattle.addr2line_units.proofs.LinesAtLemmas.{caching_after, none_after_caching, none_read, read_there}
+use Rattle.addr2line_units.proofs.UnitAtLemmas.{cache_within, its_lines, none_got, sections_seen, unit_got, units_with_lines}
 use Rattle.addr2line_units.proofs.UnitsLemmas.{answer_cached}
 use Rattle.addr2line_units.proofs.units.Units.read_lines_in.Goals as goal
 
 pub returns-in_default : goal.returns-in_default
 returns-in_default g c =
     let s = c.self.inside in
-    let n = c.args.number in
     let i = c.self.invariant in
-    let S = scope_of s.sources in
-    let cs = s.caches.items in
-    let was = seen_stop cs s.stop in
-    let scope = c.scope-scope.result in
-    let units_is : scope.file.units.now ≡ s.sources.units.items = ap (λ (x : Scope). x.file.units) c.scope-scope.ensures.gives in
-    let none : slice_get s.sources.units.items n ≡ None = subst (λ xs. slice_get xs n ≡ None) units_is (slice_get_past scope.file.units.now n (ltb-false _ _ (sym c.in_default.ensures.lookup.0))) in
+    let was = seen_stop s.caches.items s.stop in
+    let none = none_got c.scope-scope.ensures.gives c.args.number c.in_default.ensures.lookup.0 in
     record {
-      gives = subst (λ (y : UnitsState). lines_result_at y.scope.file.sections (slice_get y.units n) ≡ Ok tt) c.self.view_is (none_read S cs s.stop i n s.looks was none);
-      after = rw (sym c.self.view_is) (none_after_caching S cs s.stop i n s.looks was none g.R.Reader.shares);
+      gives = subst (λ (y : UnitsState). lines_result_at y.scope.file.sections (slice_get y.units c.args.number) ≡ Ok tt) c.self.view_is (none_read i c.args.number s.looks was none);
+      after = rw (sym c.self.view_is) (none_after_caching i c.args.number s.looks was none g.R.Reader.shares);
     }
 
 pub index_mut-cache-requires : goal.index_mut-cache-requires
 index_mut-cache-requires g c =
-    let s = c.self.inside in
-    let n = c.args.number in
-    let i = c.self.invariant in
-    let S = scope_of s.sources in
-    let cs = s.caches.items in
-    let was = seen_stop cs s.stop in
-    let scope = c.scope-scope.result in
-    let units_is : scope.file.units.now ≡ s.sources.units.items = ap (λ (x : Scope). x.file.units) c.scope-scope.ensures.gives in
-    let u = c.in-Some.dw_unit.now in
-    let there : slice_get s.sources.units.items n ≡ Some u = subst (λ xs. slice_get xs n ≡ Some u) units_is (slice_get_read scope.file.units.now _ n u refl (ltb-true _ _ (sym c.in-Some.ensures.lookup.0)) c.in-Some.ensures.lookup.1) in
-    let h = in_lines S cs s.stop i n s.looks was u there in omega (arith, h)
+    let within = cache_within c.self.invariant c.args.number (unit_got c.scope-scope.ensures.gives c.args.number c.in-Some.ensures.lookup.0 c.in-Some.ensures.lookup.1) in
+    omega (arith, within)
 
 pub read_lines-requires : goal.read_lines-requires
 read_lines-requires g c =
-    let s = c.self.inside in
-    let n = c.args.number in
-    let i = c.self.invariant in
-    let S = scope_of s.sources in
-    let cs = s.caches.items in
-    let was = seen_stop cs s.stop in
-    let scope = c.scope-scope.result in
-    let units_is : scope.file.units.now ≡ s.sources.units.items = ap (λ (x : Scope). x.file.units) c.scope-scope.ensures.gives in
-    let u = c.in-Some.dw_unit.now in
-    let there : slice_get s.sources.units.items n ≡ Some u = subst (λ xs. slice_get xs n ≡ Some u) units_is (slice_get_read scope.file.units.now _ n u refl (ltb-true _ _ (sym c.in-Some.ensures.lookup.0)) c.in-Some.ensures.lookup.1) in
-    let v = c.index_mut-cache.result.now in
-    let at = c.index_mut-cache.ensures.value in
-    record { read = subst (λ (y : Scope). AreLinesOf y.file.sections u v.lines.lines) (sym c.scope-scope.ensures.gives) (lines_there S cs s.stop i n s.looks was u there v at) }
+    let there = unit_got c.scope-scope.ensures.gives c.args.number c.in-Some.ensures.lookup.0 c.in-Some.ensures.lookup.1 in
+    record { read = subst (λ y. AreLinesOf y c.in-Some.dw_unit.now c.index_mut-cache.result.now.lines.lines) (sym (sections_seen c.scope-scope.ensures.gives)) (its_lines c.self.invariant c.args.number there c.index_mut-cache.ensures.value) }
 
 pub invariant_of-self-2 : goal.invariant_of-self-2
 invariant_of-self-2 g c =
-    let s = c.self.inside in
-    let n = c.args.number in
-    let i = c.self.invariant in
-    let S = scope_of s.sources in
-    let cs = s.caches.items in
-    let was = seen_stop cs s.stop in
-    let scope = c.scope-scope.result in
-    let units_is : scope.file.units.now ≡ s.sources.units.items = ap (λ (x : Scope). x.file.units) c.scope-scope.ensures.gives in
-    let u = c.in-Some.dw_unit.now in
-    let there : slice_get s.sources.units.items n ≡ Some u = subst (λ xs. slice_get xs n ≡ Some u) units_is (slice_get_read scope.file.units.now _ n u refl (ltb-true _ _ (sym c.in-Some.ensures.lookup.0)) c.in-Some.ensures.lookup.1) in
-    let v = c.index_mut-cache.result.now in
-    let at = c.index_mut-cache.ensures.value in
-    let l = c.read_lines.new.self in
-    let sections_is : scope.file.dwarf.now ≡ s.sources.dwarf.value = ap (λ (x : Scope). x.file.sections) c.scope-scope.ensures.gives in
-    let e = c.read_lines.ensures in
-    let read = subst (λ (d : Sections). AreLinesOf d u l.lines) sections_is e.read in
-    still_lines S cs s.stop i n s.looks was u there v at l read
+    let there = unit_got c.scope-scope.ensures.gives c.args.number c.in-Some.ensures.lookup.0 c.in-Some.ensures.lookup.1 in
+    units_with_lines c.self.invariant c.args.number there c.index_mut-cache.ensures.value _
+    (subst (λ y. AreLinesOf y c.in-Some.dw_unit.now c.read_lines.new.self.lines) (sections_seen c.scope-scope.ensures.gives) c.read_lines.ensures.read)
 
 pub returns : goal.returns
 returns g c =
     let s = c.self.inside in
-    let n = c.args.number in
     let i = c.self.invariant in
-    let S = scope_of s.sources in
-    let cs = s.caches.items in
-    let was = seen_stop cs s.stop in
-    let scope = c.scope-scope.result in
-    let units_is : scope.file.units.now ≡ s.sources.units.items = ap (λ (x : Scope). x.file.units) c.scope-scope.ensures.gives in
-    let u = c.in-Some.dw_unit.now in
-    let there : slice_get s.sources.units.items n ≡ Some u = subst (λ xs. slice_get xs n ≡ Some u) units_is (slice_get_read scope.file.units.now _ n u refl (ltb-true _ _ (sym c.in-Some.ensures.lookup.0)) c.in-Some.ensures.lookup.1) in
-    let v = c.index_mut-cache.result.now in
+    let was = seen_stop s.caches.items s.stop in
+    let there = unit_got c.scope-scope.ensures.gives c.args.number c.in-Some.ensures.lookup.0 c.in-Some.ensures.lookup.1 in
     let at = c.index_mut-cache.ensures.value in
+    let u = c.in-Some.dw_unit.now in
+    let v = c.index_mut-cache.result.now in
+    let r = c.read_lines.result in
     let l = c.read_lines.new.self in
-    let sections_is : scope.file.dwarf.now ≡ s.sources.dwarf.value = ap (λ (x : Scope). x.file.sections) c.scope-scope.ensures.gives in
     let e = c.read_lines.ensures in
-    let read = subst (λ (d : Sections). AreLinesOf d u l.lines) sections_is e.read in
+    let is = sections_seen c.scope-scope.ensures.gives in
+    let told = subst (λ d. ExactlyUnlessOom (λ _. cached_lines l.lines) r (lines_result d u)) is e.gives in
+    let alone = subst (λ d. lines_take_memory g.R.Reader.shares u ≡ false → IfErr r (λ x. lines_result d u ≡ Err x)) is e.no_memory in
     record {
-      gives = subst (λ (y : UnitsState). ExactlyUnlessOom (λ x. x) c.read_lines.result (lines_result_at y.scope.file.sections (slice_get y.units n))) c.self.view_is (read_there S cs s.stop i n s.looks was u there v at l (record { language = e.lang; lines = e.stays }) (cached_lines l.lines) c.read_lines.result (subst (λ (d : Sections). ExactlyUnlessOom (λ _. cached_lines l.lines) c.read_lines.result (lines_result d u)) sections_is e.gives));
-      after = rw (sym c.self.view_is) (caching_after S cs s.stop i n s.looks was u there v at l (record { language = e.lang; lines = e.stays }) g.R.Reader.shares c.read_lines.result
-          (answer_cached v.lines.lines c.read_lines.result l.lines e.caches) e.memory (subst (λ (d : Sections). lines_take_memory g.R.Reader.shares u ≡ false → IfErr c.read_lines.result (λ e. lines_result d u ≡ Err e)) sections_is e.no_memory));
+      gives = subst (λ (y : UnitsState). ExactlyUnlessOom (λ x. x) r (lines_result_at y.scope.file.sections (slice_get y.units c.args.number))) c.self.view_is (read_there i c.args.number s.looks was there at l (record { language = e.lang; lines = e.stays }) (cached_lines l.lines) r told);
+      after = rw (sym c.self.view_is) (caching_after i c.args.number s.looks was there at l (record { language = e.lang; lines = e.stays }) g.R.Reader.shares r (answer_cached v.lines.lines r l.lines e.caches) e.memory alone);
     }

@@ -1,0 +1,11 @@
+use Rattle.std.proofs.Common.{ap}
+use Rattle.addr2line_units.proofs.EntryLemmas.{looked_decides}
+use Rattle.addr2line_units.proofs.entries.UnitEntries.find_function.Goals as goal
+
+pub find_in_view-requires-clause-decided : goal.find_in_view-requires-clause-decided
+find_in_view-requires-clause-decided g c =
+    looked_decides c.args.self.now.view.state c.requires.looked c.requires.decided
+
+pub returns-clause-only : goal.returns-clause-only
+returns-clause-only g c =
+    record { alone = c.find_in_view.ensures.alone; kept = λ has. ap (λ fs. record { view = c.args.self.now.view; functions = fs }) (c.find_in_view.ensures.same has) }

@@ -1,0 +1,21 @@
+use Rattle.std.proofs.Common.{subst}
+use Rattle.gimli_read.specs.Reading.{ExactlyUnlessOom}
+use Rattle.addr2line_lines.specs.SeenScope.{seen_scope}
+use Rattle.addr2line_units.specs.FunctionParses.{read_of_view}
+use Rattle.addr2line_units.specs.Views.{verdict}
+use Rattle.addr2line_units.proofs.AfterParseLemmas.{unit_after}
+use Rattle.addr2line_units.proofs.entries.UnitEntries.read.Goals as goal
+
+pub returns-in_err-answer : goal.returns-in_err-answer
+returns-in_err-answer g c = absurd (let no = c.in_err-answer.ensures.refused.2 in cc)
+
+pub returns : goal.returns
+returns g c =
+    let scope = seen_scope c.args.scope in
+    let u = c.args.dw_unit.now in
+    let e = c.in_ok-answer.ensures in
+    let r = c.read_in_view in
+    record {
+      gives = subst (λ a. ExactlyUnlessOom (λ y. y) r.result (read_of_view c.args.depth scope (verdict scope.file.sections u a))) e.answer r.ensures.gives;
+      after = unit_after g.R.Reader.shares c.args.depth scope u c.args.self.now c.answer.new.self r.new.functions c.requires.right e.functions (λ h. (e.same h).0) e.answer e.decided r.result r.ensures.after;
+    }

@@ -1,0 +1,13 @@
+use Rattle.std.proofs.Common.{rules, ℕ}
+use Rattle.std.proofs.lemmas.List.Sorted.{answers_always}
+use Rattle.std.proofs.lemmas.Result.{on_ok_weaker}
+use Rattle.addr2line_units.specs.declared.index.UnitArange.{UnitArange}
+use Rattle.addr2line_units.specs.UnitAranges.{offset_sooner}
+use Rattle.addr2line_lines.proofs.OrderLemmas.{sorted_is}
+use Rattle.addr2line_units.proofs.ArangeLemmas.{offset_order}
+use Rattle.addr2line_units.proofs.index.sort_by_unit.Goals as goal
+
+pub returns-clause-gives : goal.returns-clause-gives
+returns-clause-gives c =
+    let key : UnitArange → ℕ = λ a. a.unit_offset.0 in
+    on_ok_weaker _ (λ up. sorted_is offset_sooner offset_order _ _ (up key (answers_always _ _ _ (λ f a r g h. search rules))) (c.sort_by_key.ensures.stable key (answers_always _ _ _ (λ f a r g h. search rules)))) c.sort_by_key.ensures.sorted

@@ -19,7 +19,7 @@ use Rattle.addr2line_units.specs.UnitIndex.{UnitIndex}
 use Rattle.addr2line_units.specs.UnitsState.{UnitsState}
 use Rattle.addr2line_units.specs.Views.{FirstAnswers}
 use Rattle.addr2line_units.proofs.LoadLawLemmas.{fewer_left, waits_listed}
-use Rattle.addr2line.specs.Answers.{AfterAnswer, answered, load_reply}
+use Rattle.addr2line.specs.Answers.{AfterAnswering, answered, load_reply}
 use Rattle.addr2line.specs.Context.{IsContext, seen_context}
 use Rattle.addr2line.specs.Lookups.{loads_at, lookup_stop, stop_in, waits_for}
 use Rattle.addr2line.proofs.ContextLemmas.{at_made, by_made, or_made, still_context}
@@ -58,7 +58,7 @@ module _ (ranges : List UnitRange) (u : UnitsState) (i : IsContext ranges u) whe
     read_context = still_context ranges u i now scope_same units_same
 
   module _ (n : ℕ) (given : Option Sections) (r : Result (Unit {0}) Error) (now : UnitsState) (a : left.AfterAnswer n given r u now) where
-    pub after_answer : AfterAnswer n given r (seen_context u) (seen_context now)
+    pub after_answer : AfterAnswering n given r (seen_context u) (seen_context now)
     after_answer = record {
       sections = ap (λ (x : UnitsState). x.scope.file.sections) a.stays;
       parsed = ap (λ (x : UnitsState). x.parsed) a.stays;

@@ -27,7 +27,7 @@ use Rattle.addr2line_units.proofs.LearnedLemmas.{learns_no_details}
 use Rattle.addr2line_units.proofs.LoadLawLemmas.{waits_listed}
 use Rattle.addr2line_units.proofs.WaitLemmas.{same_number}
 use Rattle.addr2line.proofs.FilesLookupLemmas.{none_if_open}
-use Rattle.addr2line.specs.Answers.{AfterAnswer, answered}
+use Rattle.addr2line.specs.Answers.{AfterAnswering, answered}
 use Rattle.addr2line.specs.Context.{ContextState}
 use Rattle.addr2line.specs.AfterLookups.{AfterFrames, ReadsAsked}
 use Rattle.addr2line.specs.Lookups.{asked_of, lookup_stop, stop_in}
@@ -207,7 +207,7 @@ module _ (faults : OnFault) (probe : ℕ) where
         ])
         (λ m e k offset known. elim (h.details m e k offset (learns k offset known)) [ inl before ↦ inl before | inr here ↦ inr (there m e k offset here) ])
 
-    pub reads_answered : (given : Option Sections) (r : Result (Unit {0}) Error) → AfterAnswer n given r mid new → ReadsAsked faults probe first new
+    pub reads_answered : (given : Option Sections) (r : Result (Unit {0}) Error) → AfterAnswering n given r mid new → ReadsAsked faults probe first new
     reads_answered given (Ok x) a = by_answers (answered mid.sections mid.answers n given) a.sections a.answers a.parsed a.others
         (λ m e k q. subst (λ x. Asks mid.sections x m k) (sym (now_is m e)) (still_asked faults (main_scope mid.sections m) m.units mid.answers n (opens m e) given probe (cover probe m.ranges) k q))
         (λ m e k q. subst (λ x. asks_lines_of (main_scope mid.sections m) m.units x probe k ≡ true) (sym (now_is m e)) (still_lines faults (main_scope mid.sections m) m.units mid.answers n (opens m e) given probe k q))

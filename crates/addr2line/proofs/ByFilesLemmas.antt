@@ -15,7 +15,7 @@ use Rattle.addr2line_units.specs.FramesLookup.{Waits, answer_of, is_waiting}
 use Rattle.gimli_read.specs.Alike.{WasNotRefused}
 use Rattle.addr2line_units.specs.Parsed.{has_parsed}
 use Rattle.addr2line_units.specs.Views.{FirstAnswers, SplitLoad}
-use Rattle.addr2line.specs.Answers.{AfterAnswer, answered}
+use Rattle.addr2line.specs.Answers.{AfterAnswering, answered}
 use Rattle.addr2line.specs.Context.{ContextState}
 use Rattle.addr2line.specs.Files.{ReadFiles}
 use Rattle.addr2line.specs.FramesByFiles.{ended_frames_of, frames_by_files, stop_frames}
@@ -95,7 +95,7 @@ module _ (files : Option ReadFiles) where
 
   module _ (probe n : ℕ) (load : SplitLoad) (old : ContextState) (waits : lookup_stop Stop old.sections old.answers probe ≡ Ok (Waits n)) (is : IsLoadOf old.sections n load) where
     -- the load was answered by a file, or memory was refused for it
-    pub answered_by_file : (given : Option Sections) → IfSome files (λ held. given_by_files held load ≡ Ok given) → (r : Result (Unit {0}) Error) (new : ContextState) → AfterAnswer n given r old new
+    pub answered_by_file : (given : Option Sections) → IfSome files (λ held. given_by_files held load ≡ Ok given) → (r : Result (Unit {0}) Error) (new : ContextState) → AfterAnswering n given r old new
         → OnOk r (length (loads_at new.sections new.answers probe) < length (loads_at old.sections old.answers probe)) → AfterAnswers files old new
     answered_by_file given h (Ok x) new a fewer = record {
       sections = a.sections;
@@ -129,12 +129,12 @@ module _ (files : Option ReadFiles) where
     refused_by_file e h = if_some_map files h (λ held k ne. refused_frames old.sections old.answers probe n load waits is (given_by_files held) e (k ne))
 
 -- of a load one answer is given at most
-pub one_answered : (n : ℕ) (given : Option Sections) (r : Result (Unit {0}) Error) (old new : ContextState) → AfterAnswer n given r old new → AnswersOne n old new
+pub one_answered : (n : ℕ) (given : Option Sections) (r : Result (Unit {0}) Error) (old new : ContextState) → AfterAnswering n given r old new → AnswersOne n old new
 one_answered n given (Ok x) old new a = inr (given, a.answers)
 one_answered n given (Err e) old new a = inl a.refused.1
 
 -- a lookup that was refused an answer still waits
-pub waits_still : (probe n : ℕ) (given : Option Sections) (r : Result (Unit {0}) Error) (old new : ContextState) → lookup_stop Stop old.sections old.answers probe ≡ Ok (Waits n) → AfterAnswer n given r old new → OnErr r (lookup_stop Stop new.sections new.answers probe ≡ Ok (Waits n))
+pub waits_still : (probe n : ℕ) (given : Option Sections) (r : Result (Unit {0}) Error) (old new : ContextState) → lookup_stop Stop old.sections old.answers probe ≡ Ok (Waits n) → AfterAnswering n given r old new → OnErr r (lookup_stop Stop new.sections new.answers probe ≡ Ok (Waits n))
 waits_still probe n given (Ok x) old new waits a = tt
 waits_still probe n given (Err e) old new waits a = ap (λ d. lookup_stop Stop d new.answers probe) a.sections ∙ ap (λ x. lookup_stop Stop old.sections x probe) a.refused.1 ∙ waits
 

@@ -27,7 +27,7 @@ use Rattle.addr2line_units.specs.UnitsState.{UnitsState}
 use Rattle.addr2line_units.specs.Views.{SplitLoad}
 use Rattle.addr2line_units.proofs.ReachedLemmas.{reached_all}
 use Rattle.addr2line.specs.Context.{IsContext, lines_of_all, seen_context}
-use Rattle.addr2line.specs.Loads.{AfterForget, AfterLoad, AfterParse, AfterPreload, IsAllKnown, IsNotOpen, NoneOpenAt, ReachesAllOf, ReadsFunctionsNoMemory, StaysRead, forget_reply, load_reply, parse_reply, parsed_answers}
+use Rattle.addr2line.specs.Loads.{AfterForgetting, AfterLoading, AfterParse, AfterPreload, IsAllKnown, IsNotOpen, NoneOpenAt, ReachesAllOf, ReadsFunctionsNoMemory, StaysRead, forget_reply, load_reply, parse_reply, parsed_answers}
 use Rattle.addr2line.specs.Lookups.{lookup_stop}
 use Rattle.addr2line.proofs.AnsweredLemmas.{answers_are, scope_same, units_same}
 use Rattle.addr2line.proofs.ContextLemmas.{at_made, at_now, by_made, of_made, of_now, or_made}
@@ -69,7 +69,7 @@ module _ (ranges : List UnitRange) (u : UnitsState) (i : IsContext ranges u) whe
     looks = ap (λ (x : UnitsState). x.looks) stays;
   }
 
-  pub after_load : (n : ℕ) (given : Option Sections) (r : Result (Unit {0}) Error) (now : UnitsState) → left.AfterLoad n given r u now → AfterLoad n given r (seen_context u) (seen_context now)
+  pub after_load : (n : ℕ) (given : Option Sections) (r : Result (Unit {0}) Error) (now : UnitsState) → left.AfterLoad n given r u now → AfterLoading n given r (seen_context u) (seen_context now)
   after_load n given r now a = record {
     stays = stays_read now a.stays;
     answers = λ told. a.answers told ∙ sym (answers_are ranges u i n given);
@@ -81,7 +81,7 @@ module _ (ranges : List UnitRange) (u : UnitsState) (i : IsContext ranges u) whe
     functions = a.functions;
   }
 
-  pub after_forget : (n : ℕ) (now : UnitsState) → left.AfterForget n u now → AfterForget n (seen_context u) (seen_context now)
+  pub after_forget : (n : ℕ) (now : UnitsState) → left.AfterForget n u now → AfterForgetting n (seen_context u) (seen_context now)
   after_forget n now a = record { stays = stays_read now a.stays; answers = a.answers; same = a.same; others = a.others; functions = a.functions }
 
   pub after_preload : (probe : ℕ) (now : UnitsState) → left.AfterListing (LeadTo (cover probe ranges)) u now → AfterPreload probe (seen_context u) (seen_context now)

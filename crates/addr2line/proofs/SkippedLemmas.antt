@@ -20,7 +20,7 @@ use Rattle.addr2line_units.proofs.LoadLawLemmas.{waits_listed}
 use Rattle.addr2line_units.proofs.StayLemmas.{known_of_twice, same_stays_known}
 use Rattle.addr2line.proofs.AskedLemmas.{other_answers, reads_answered, reads_more, reads_nothing}
 use Rattle.addr2line.proofs.HistoryLemmas.{HasGiven, given_all, given_ended, given_more}
-use Rattle.addr2line.specs.Answers.{AfterAnswer, answered}
+use Rattle.addr2line.specs.Answers.{AfterAnswering, answered}
 use Rattle.addr2line.specs.Context.{ContextState}
 use Rattle.addr2line.specs.History.{Given, Answered, answers_given}
 use Rattle.addr2line.specs.AfterLookups.{AfterFrames, IsKnown, IsKnownFew, NeedsNoMemory, ReadsAsked}
@@ -140,7 +140,7 @@ module _ (faults : OnFault) (probe : ℕ) (first : ContextState) where
         same_left n s e = ap (λ d. length (loads_at d n.answers probe)) s ∙ ap (λ x. length (loads_at now.sections x probe)) e
 
     -- none is the answer to one more load
-    pub skipped_more : (n : ℕ) (new : ContextState) → lookup_stop faults now.sections now.answers probe ≡ Ok (Waits n) → AfterAnswer n None (Ok tt) now new
+    pub skipped_more : (n : ℕ) (new : ContextState) → lookup_stop faults now.sections now.answers probe ≡ Ok (Waits n) → AfterAnswering n None (Ok tt) now new
         → length (loads_at new.sections new.answers probe) < length (loads_at now.sections now.answers probe) → HasSkipped faults probe first new
     skipped_more n new waits a fewer = record {
       sections = a.sections ∙ so.sections;
@@ -156,7 +156,7 @@ module _ (faults : OnFault) (probe : ℕ) (first : ContextState) where
     }
 
     -- none could not be given
-    pub skipped_refused : (n : ℕ) (e : Error) (new : ContextState) → lookup_stop faults now.sections now.answers probe ≡ Ok (Waits n) → AfterAnswer n None (Err e) now new → HasSkipped faults probe first new
+    pub skipped_refused : (n : ℕ) (e : Error) (new : ContextState) → lookup_stop faults now.sections now.answers probe ≡ Ok (Waits n) → AfterAnswering n None (Err e) now new → HasSkipped faults probe first new
     skipped_refused n e new waits a = record {
       sections = a.sections ∙ so.sections;
       count = so.count;

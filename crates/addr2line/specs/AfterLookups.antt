@@ -59,27 +59,27 @@ NeedsNoMemory shares faults c probe = (m : UnitIndex) → index_units c.sections
     (asked_of faults c.sections c.answers probe m) (cover probe m.ranges) ≡ true
 
 -- a lookup of the probe asks the unit of a number
-abbrev pub AsksUnit : OnFault → ContextState → ℕ → UnitIndex → ℕ → Type 0
-AsksUnit faults c probe m n =
+abbrev pub AsksOneUnit : OnFault → ContextState → ℕ → UnitIndex → ℕ → Type 0
+AsksOneUnit faults c probe m n =
     LookupAsks (asked_of faults c.sections c.answers probe m) (cover probe m.ranges) n
 
 -- a lookup of the probe asks a unit of which not all is known that it asks for, or in which more
 -- than 16 inlined functions stand there
 abbrev pub TakesMemory : OnFault → ContextState → ℕ → Type 0
 TakesMemory faults c probe = (m : UnitIndex) × (index_units c.sections ≡ Ok m)
-    × ((n : ℕ) × AsksUnit faults c probe m n × (has_few_of c probe m n ≡ false))
+    × ((n : ℕ) × AsksOneUnit faults c probe m n × (has_few_of c probe m n ≡ false))
 
 -- no lines are parsed but those that a lookup asks for in this context
 abbrev pub ParsesAsked : OnFault → ℕ → ContextState → ContextState → ContextState → Type 0
 ParsesAsked faults probe c old new = (m : UnitIndex) → index_units c.sections ≡ Ok m
-    → ParsesOnly (λ n. AsksUnit faults c probe m n
+    → ParsesOnly (λ n. AsksOneUnit faults c probe m n
     × (asks_lines_of (main_scope c.sections m) m.units c.answers probe n ≡ true))
     old.parsed new.parsed
 
 -- nothing is read of the entries of a unit that a lookup doesn't ask in this context
 abbrev pub LearnsAsked : OnFault → ℕ → ContextState → ContextState → ContextState → Type 0
 LearnsAsked faults probe c old new = (m : UnitIndex) → index_units c.sections ≡ Ok m
-    → (n : ℕ) → (slice_get new.known n ≡ slice_get old.known n) ⊎ AsksUnit faults c probe m n
+    → (n : ℕ) → (slice_get new.known n ≡ slice_get old.known n) ⊎ AsksOneUnit faults c probe m n
 
 -- no detail of a function becomes known but that of the one at the probe, in this context
 abbrev pub LearnsDetails : ℕ → ContextState → ContextState → ContextState → Type 0

@@ -32,7 +32,7 @@ load_reply d answers n given =
 -- after an answer to the load of the unit of a number, or after OutOfMemory in the place of given
 -- sections, nothing is changed but of that unit, and no function becomes known; after OutOfMemory
 -- all first answers are as before, and what was known stays known
-pub record AfterAnswer (n : ℕ) (given : Option Sections) (result : Result (Unit {0}) Error)
+pub record AfterAnswering (n : ℕ) (given : Option Sections) (result : Result (Unit {0}) Error)
     (old new : ContextState) : Type 0 where
   pub sections : new.sections ≡ old.sections
   pub parsed : new.parsed ≡ old.parsed
@@ -48,9 +48,9 @@ pub record AfterAnswer (n : ℕ) (given : Option Sections) (result : Result (Uni
 abbrev pub AfterResume : {X : Type 0} → Bool → OnFault → ℕ → ℕ → Option Sections → Result X Error
     → ContextState → ContextState → Type 0
 AfterResume shares faults probe n given result old new =
-    ((mid : ContextState) × AfterAnswer n given (Ok tt) old mid
+    ((mid : ContextState) × AfterAnswering n given (Ok tt) old mid
     × AfterFramesOver shares faults probe result mid new)
-    ⊎ ((result ≡ Err OutOfMemory) × AfterAnswer n given (Err OutOfMemory) old new
+    ⊎ ((result ≡ Err OutOfMemory) × AfterAnswering n given (Err OutOfMemory) old new
     × (answer_takes_memory shares given ≡ false
     → load_reply old.sections old.answers n given ≡ Err OutOfMemory))
 
@@ -58,5 +58,5 @@ AfterResume shares faults probe n given result old new =
 abbrev pub SuspendsAgain : OnFault → ℕ → ℕ → Option Sections → ℕ → SplitLoad → ContextState
     → ContextState → Type 0
 SuspendsAgain faults probe n given number load old new =
-    (mid : ContextState) × AfterAnswer n given (Ok tt) old mid
+    (mid : ContextState) × AfterAnswering n given (Ok tt) old mid
     × Suspends faults probe number load mid new

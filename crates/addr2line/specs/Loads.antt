@@ -63,7 +63,7 @@ pub record StaysRead (old new : ContextState) : Type 0 where
 -- what was known stays unless it was open, and nothing is changed where it had an answer; no
 -- function becomes known; where memory was refused in place of it, all first answers are as before,
 -- and what was known stays
-pub record AfterLoad (n : ℕ) (given : Option Sections) (result : Result (Unit {0}) Error)
+pub record AfterLoading (n : ℕ) (given : Option Sections) (result : Result (Unit {0}) Error)
     (old new : ContextState) : Type 0 where
   pub stays : StaysRead old new
   pub answers : WasNotRefused result → new.answers ≡ answered old.sections old.answers n given
@@ -81,7 +81,7 @@ pub record AfterLoad (n : ℕ) (given : Option Sections) (result : Result (Unit 
 
 -- after the unit of a number is forgotten nothing is changed but of that unit, and nothing at all
 -- where it had no answer; no function becomes known
-pub record AfterForget (n : ℕ) (old new : ContextState) : Type 0 where
+pub record AfterForgetting (n : ℕ) (old new : ContextState) : Type 0 where
   pub stays : StaysRead old new
   pub answers : new.answers ≡ forgotten old.answers n
   pub same : answer_of old.answers n ≡ None → new.known ≡ old.known

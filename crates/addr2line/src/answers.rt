@@ -3,7 +3,7 @@
 ghost use Rattle.std.specs.Prelude.{◌≡◌, ◌<◌, ℕ, Err, IfErr, OnOk, false, option_map, true};
 ghost use Rattle.addr2line_units.specs.AnswerMemory.{answer_takes_memory};
 ghost use Rattle.addr2line_units.specs.declared.frames_lookup.OnFault.{OnFault};
-ghost use Rattle.addr2line.specs.Answers.{AfterAnswer, load_reply};
+ghost use Rattle.addr2line.specs.Answers.{AfterAnswering, load_reply};
 ghost use Rattle.addr2line.specs.Lookups.{lookup_stop, waits_for};
 ghost use Rattle.addr2line.specs.WaitingLookups.{count_loads};
 
@@ -20,7 +20,7 @@ impl<R: Reader> Context<R> {
         number: usize,
         sections: Option<Rc<Dwarf<R>>>,
     ) -> Result<(), Error>
-        ensures after { AfterAnswer number (option_map (λ d. d.value) sections) result self.old
+        ensures after { AfterAnswering number (option_map (λ d. d.value) sections) result self.old
             self.new }
         ensures no_memory { answer_takes_memory R.shares (option_map (λ d. d.value) sections)
             ≡ false → IfErr result (λ e. load_reply self.old.sections self.old.answers number

@@ -7,7 +7,7 @@ ghost use Rattle.addr2line_lines.specs.LastAddress.{last_address};
 ghost use Rattle.addr2line_units.specs.AnswerMemory.{answer_takes_memory};
 ghost use Rattle.addr2line_units.specs.Loads.{token_number};
 ghost use Rattle.addr2line.specs.Context.{IsUncovered};
-ghost use Rattle.addr2line.specs.Loads.{AfterForget, AfterLoad, AfterPreload, IsNotOpen, NoneOpenAt, forget_reply, load_reply};
+ghost use Rattle.addr2line.specs.Loads.{AfterForgetting, AfterLoading, AfterPreload, IsNotOpen, NoneOpenAt, forget_reply, load_reply};
 ghost use Rattle.addr2line.specs.Lookups.{loads_at};
 
 use crate::context::Context;
@@ -64,7 +64,7 @@ impl<R: Reader> Context<R> {
         ensures exact { answer_takes_memory R.shares (option_map (λ d. d.value) sections) ≡ false
             → result ≡ load_reply self.old.sections self.old.answers (token_number unit)
             (option_map (λ d. d.value) sections) }
-        ensures after { AfterLoad (token_number unit) (option_map (λ d. d.value) sections) result
+        ensures after { AfterLoading (token_number unit) (option_map (λ d. d.value) sections) result
             self.old self.new }
     {
         self.units.load_unit(unit, sections)
@@ -77,7 +77,7 @@ impl<R: Reader> Context<R> {
     /// that is decided without an answer, and one that is open, stay as they are. Source: own.
     pub fn forget(&mut self, unit: UnitToken) -> Result<(), Error>
         ensures gives { result ≡ forget_reply self.old.sections (token_number unit) }
-        ensures after { AfterForget (token_number unit) self.old self.new }
+        ensures after { AfterForgetting (token_number unit) self.old self.new }
     {
         self.units.forget(unit)
     }

@@ -4,7 +4,7 @@ use Rattle.std.proofs.lemmas.Grind.{flat_map-append}
 use Rattle.std.proofs.lemmas.List.{length-append}
 use Rattle.std.specs.declared.io.ErrorKind.{ErrorKind}
 use Rattle.addr2line_bin.specs.Put.{StreamState, plus, has_fault}
-use Rattle.addr2line_bin.specs.Stopped.{Stops, stop_of}
+use Rattle.addr2line_bin.specs.Stopped.{Stops, reason_of}
 use Rattle.addr2line_bin.specs.Print.{ProbeText, outs, errs, Prints}
 use Rattle.addr2line_bin.specs.declared.stream.StopReason.{StopReason}
 use Rattle.addr2line_bin.specs.declared.stream.StopReason.TheVariants as stop
@@ -47,6 +47,6 @@ prints_more oo om on eo em en xs ys p q = record {
 }
 
 -- a fault of a stream is no refused growth
-pub no_refused_growth : (f : Option ErrorKind) → option_map stop_of f ≡ Some stop.OutOfMemory → ⊥
+pub no_refused_growth : (f : Option ErrorKind) → option_map reason_of f ≡ Some stop.OutOfMemory → ⊥
 no_refused_growth None e = absurd (cc)
 no_refused_growth (Some kind) e = absurd (cc)

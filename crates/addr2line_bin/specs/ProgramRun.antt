@@ -68,9 +68,9 @@ section_or_name name None = Err name
 section_or_name name (Some range) = Ok (Some range)
 
 -- the same of the section that is named, and no addresses where none is named
-abbrev pub section_by : FileAnswers → Option (List ℕ) → Result (Option Range) (List ℕ)
-section_by answers None = Ok None
-section_by answers (Some name) = section_or_name name (answers.section_at name)
+abbrev pub section_asked : FileAnswers → Option (List ℕ) → Result (Option Range) (List ℕ)
+section_asked answers None = Ok None
+section_asked answers (Some name) = section_or_name name (answers.section_at name)
 
 -- what is the same for each address: the name and the style that options have, and the section's
 -- addresses
@@ -91,7 +91,7 @@ RunsBy (Ok section) answers o io inn oo on eo en e = (c : RunContext)
 abbrev pub RunsOver : FileAnswers → Options → InputState → InputState → StreamState → StreamState
     → StreamState → StreamState → Exit → Type 0
 RunsOver answers o io inn oo on eo en e =
-    RunsBy (section_by answers (option_map string_bytes o.section)) answers o io inn oo on eo en e
+    RunsBy (section_asked answers (option_map string_bytes o.section)) answers o io inn oo on eo en e
 
 -- the same, or the fault of its loading is told
 abbrev pub IsRun : {L : Type 0} → (L → FileAnswers) → Loading L → Options → InputState → InputState

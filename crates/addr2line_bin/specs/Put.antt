@@ -26,9 +26,9 @@ with_kind (Ok x) = Ok x
 with_kind (Err e) = Err (error_kind e)
 
 -- the last fault, after a call with this answer
-abbrev pub fault_after : {A : Type 0} → Option ErrorKind → Result A ErrorKind → Option ErrorKind
-fault_after before (Ok _) = before
-fault_after before (Err kind) = Some kind
+abbrev pub last_fault_after : {A : Type 0} → Option ErrorKind → Result A ErrorKind → Option ErrorKind
+last_fault_after before (Ok _) = before
+last_fault_after before (Err kind) = Some kind
 
 -- a known count, and n more
 abbrev pub plus : Option ℕ → ℕ → Option ℕ

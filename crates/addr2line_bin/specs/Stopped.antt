@@ -13,12 +13,12 @@ is_broken_pipe BrokenPipe = true
 is_broken_pipe _ = false
 
 -- what a fault of the output makes of a run
-abbrev pub stop_of : ErrorKind → StopReason
-stop_of kind = stop.Output (is_broken_pipe kind)
+abbrev pub reason_of : ErrorKind → StopReason
+reason_of kind = stop.Output (is_broken_pipe kind)
 
 -- it stops for the fault of the stream's last call
 abbrev pub IsFault : StreamState → StopReason → Type 0
-IsFault new why = (new.is_failing ≡ true) × (option_map stop_of new.fault ≡ Some why)
+IsFault new why = (new.is_failing ≡ true) × (option_map reason_of new.fault ≡ Some why)
 
 -- a run stops for a refused growth, and its output hasn't failed and is flushed if it was before;
 -- or for the fault of the output's last call

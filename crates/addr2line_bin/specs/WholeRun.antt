@@ -30,9 +30,9 @@ use Rattle.addr2line_bin.specs.declared.stream.StopReason.TheVariants as stop
 
 -- a loader over the files, or the fault of its loading: what they say, where they are known, as
 -- they are read for the request
-abbrev pub IsLoaded : {F : Type 0} → (F → Option Files) → F → Request → Loading (LoaderOver F)
+abbrev pub IsLoadedFor : {F : Type 0} → (F → Option Files) → F → Request → Loading (LoaderOver F)
     → Type 0
-IsLoaded known files request loader =
+IsLoadedFor known files request loader =
     IfSome (known files) (λ held. LoadsUnlessOom (λ l. (l.object, l.context)) loader
     (loaded (as_read request.compressed held) (string_bytes request.exe)
     (option_map string_bytes request.sup)))
@@ -43,7 +43,7 @@ IsLoaded known files request loader =
 abbrev pub RunsRequest : {F : Type 0} → (F → Option Files) → F → Request → InputState → InputState
     → StreamState → StreamState → StreamState → StreamState → Exit → Type 0
 RunsRequest {F} known files request io inn oo on eo en e = (loader : Loading (LoaderOver F))
-    × IsLoaded known files request loader
+    × IsLoadedFor known files request loader
     × IsRun (λ l. loader_answers (seen_loader known l)) loader request.options io inn oo on eo en e
 
 -- the same with an input, where there is memory for one; the input isn't seen afterwards

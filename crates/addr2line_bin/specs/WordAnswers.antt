@@ -34,10 +34,10 @@ ShowsText name text oo on eo en status =
     × Reports eo en (last_text name why) × (status ≡ status_at (exit_at why)))
 
 -- whether the text of a kind of fault is the help or the version
-abbrev pub is_shown : ErrorKind → Bool
-is_shown kind.DisplayHelp = true
-is_shown kind.DisplayVersion = true
-is_shown _ = false
+abbrev pub is_help_or_version : ErrorKind → Bool
+is_help_or_version kind.DisplayHelp = true
+is_help_or_version kind.DisplayVersion = true
+is_help_or_version _ = false
 
 -- a text that is shown goes out, another is told
 abbrev pub AnswersText : List ℕ → Bool → List ℕ → StreamState → StreamState → StreamState
@@ -49,15 +49,15 @@ AnswersText name false text oo on eo en status =
 -- some text is shown or told so, or memory was refused for it
 abbrev pub AnswersWords : List ℕ → Bool → StreamState → StreamState → StreamState → StreamState → ℕ
     → Type 0
-AnswersWords name is_shown oo on eo en status =
-    ((text : List ℕ) × AnswersText name is_shown text oo on eo en status)
+AnswersWords name is_help_or_version oo on eo en status =
+    ((text : List ℕ) × AnswersText name is_help_or_version text oo on eo en status)
     ⊎ TellsNoMemory name oo on eo en status
 
 -- what is told of words that ask for nothing, or the help or the version that they ask for
 abbrev pub AnswersFault : List ℕ → WordFault → StreamState → StreamState → StreamState
     → StreamState → ℕ → Type 0
 AnswersFault name (fault.Clap e) oo on eo en status =
-    AnswersWords name (is_shown (kind_of e)) oo on eo en status
+    AnswersWords name (is_help_or_version (kind_of e)) oo on eo en status
 AnswersFault name fault.Usage oo on eo en status =
     OnlyReports oo on eo en (usage_text name) × (status ≡ USAGE_STATUS)
 AnswersFault name fault.OutOfMemory oo on eo en status = TellsNoMemory name oo on eo en status

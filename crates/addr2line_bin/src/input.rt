@@ -14,7 +14,7 @@ use std::io::{BufRead, ErrorKind};
 pub trait Input {
     ghost use Rattle.std.specs.Prelude.{◌≡◌, IfOk, OnErr};
     ghost use Rattle.addr2line_bin.specs.InputLines.{InputState, TakesLine, TakesPart};
-    ghost use Rattle.addr2line_bin.specs.Put.{fault_after, plus};
+    ghost use Rattle.addr2line_bin.specs.Put.{last_fault_after, plus};
 
     /// The bytes that are left, how often a line was asked for, and the last fault of a read.
     ghost state: { Self → InputState };
@@ -25,7 +25,7 @@ pub trait Input {
             TakesLine is_read (state self.old).bytes (state self.new).bytes line.new.items) }
         ensures refused { OnErr result (TakesPart (state self.old).bytes (state self.new).bytes) }
         ensures reads { (state self.new).reads ≡ plus (state self.old).reads 1 }
-        ensures fault { (state self.new).fault ≡ fault_after (state self.old).fault result };
+        ensures fault { (state self.new).fault ≡ last_fault_after (state self.old).fault result };
 }
 
 /// Reads the next line as `read_line` does, once. There is none where the read fails.

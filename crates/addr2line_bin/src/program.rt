@@ -4,7 +4,7 @@ ghost use Rattle.std.specs.Prelude.{◌≡◌, map, Ok, Err, Option, Some, optio
 ghost use Rattle.addr2line_bin.specs.Printing.{PrintsRun};
 ghost use Rattle.addr2line_bin.specs.ProbeTexts.{IsText};
 ghost use Rattle.addr2line_bin.specs.ProgramRun.{IsRun, IsRunContext, PrintsAllRows, PrintsAsked};
-ghost use Rattle.addr2line_bin.specs.ProgramRun.{PrintsLines, RunsOver, section_by};
+ghost use Rattle.addr2line_bin.specs.ProgramRun.{PrintsLines, RunsOver, section_asked};
 ghost use Rattle.addr2line_bin.specs.Put.{Reports};
 ghost use Rattle.addr2line_bin.specs.Address.{probes_in};
 ghost use Rattle.addr2line_bin.specs.Told.{addresses_fault_text, section_fault_text};
@@ -141,7 +141,7 @@ fn section_of<'a, L: Lookups>(
     lookups: &L,
 ) -> Result<Option<Range>, &'a str>
     ensures gives { result_map_both (λ r. r) (λ name. name.now) result
-        ≡ section_by (L.answers lookups.now) (option_map string_bytes section.entry.now) }
+        ≡ section_asked (L.answers lookups.now) (option_map string_bytes section.entry.now) }
 {
     let Some(name) = section else {
         return Ok(None);

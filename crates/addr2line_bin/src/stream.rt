@@ -2,8 +2,8 @@
 
 ghost use Rattle.std.specs.Prelude.{◌≡◌, ◌++◌, OnOk, IfErr, MatchResult, None, false, is_err, true};
 ghost use Rattle.std.specs.Io.KnownBytes.{Appends};
-ghost use Rattle.addr2line_bin.specs.Put.{WritesPrefix, Reports, fault_after, with_kind, plus};
-ghost use Rattle.addr2line_bin.specs.Stopped.{IsFault, stop_of};
+ghost use Rattle.addr2line_bin.specs.Put.{WritesPrefix, Reports, last_fault_after, with_kind, plus};
+ghost use Rattle.addr2line_bin.specs.Stopped.{IsFault, reason_of};
 ghost use Rattle.addr2line_bin.specs.declared.stream.StopReason.TheVariants as stop;
 
 use std::alloc::AllocError;
@@ -30,7 +30,7 @@ impl From<AllocError> for StopReason {
 }
 
 impl From<ErrorKind> for StopReason {
-    ghost from_gives = { λ kind e. e ≡ stop_of kind };
+    ghost from_gives = { λ kind e. e ≡ reason_of kind };
 
     fn from(kind: ErrorKind) -> StopReason {
         StopReason::Output {
@@ -43,7 +43,7 @@ impl From<ErrorKind> for StopReason {
 pub trait Stream {
     ghost use Rattle.std.specs.Prelude.{◌≡◌, MatchResult, OnOk, is_err, true};
     ghost use Rattle.std.specs.Io.KnownBytes.{Appends, Keeps};
-    ghost use Rattle.addr2line_bin.specs.Put.{StreamState, WritesPrefix, fault_after};
+    ghost use Rattle.addr2line_bin.specs.Put.{StreamState, WritesPrefix, last_fault_after};
     ghost use Rattle.addr2line_bin.specs.Put.{flushes_after, has_fault};
 
     /// Its bytes, its flushes, its last fault, and whether its last call had that.
@@ -59,7 +59,7 @@ pub trait Stream {
             (λ _. Appends (state self.old).contents (state self.new).contents bytes.now)
             (λ _. WritesPrefix (state self.old).contents (state self.new).contents bytes.now) }
         ensures flushes { (state self.new).flushes ≡ (state self.old).flushes }
-        ensures fault { (state self.new).fault ≡ fault_after (state self.old).fault result }
+        ensures fault { (state self.new).fault ≡ last_fault_after (state self.old).fault result }
         ensures failing { (state self.new).is_failing ≡ is_err result };
 
     /// Hands on what was written.
@@ -68,7 +68,7 @@ pub trait Stream {
         ensures flushes { (state self.new).flushes
             ≡ flushes_after (state self.old).flushes result }
         ensures flushed { OnOk result ((state self.new).is_flushed ≡ true) }
-        ensures fault { (state self.new).fault ≡ fault_after (state self.old).fault result }
+        ensures fault { (state self.new).fault ≡ last_fault_after (state self.old).fault result }
         ensures failing { (state self.new).is_failing ≡ is_err result };
 }
 
@@ -125,7 +125,7 @@ fn noted(
     answer: io::Result<()>,
 ) -> Result<(), ErrorKind>
     ensures gives { result ≡ with_kind answer }
-    ensures fault { fault.new ≡ fault_after fault.old (with_kind answer) }
+    ensures fault { fault.new ≡ last_fault_after fault.old (with_kind answer) }
     ensures failing { is_failing.new ≡ is_err (with_kind answer) }
 {
     match answer {

@@ -6,7 +6,7 @@ ghost use Rattle.clap.specs.Values.{kind_of};
 ghost use Rattle.addr2line_bin.specs.declared.exit.TheConstants.{USAGE_STATUS};
 ghost use Rattle.addr2line_bin.specs.Put.{Reports};
 ghost use Rattle.addr2line_bin.specs.Told.{usage_text};
-ghost use Rattle.addr2line_bin.specs.WordAnswers.{AnswersFault, AnswersWords, ShowsText, is_shown};
+ghost use Rattle.addr2line_bin.specs.WordAnswers.{AnswersFault, AnswersWords, ShowsText, is_help_or_version};
 
 use crate::command_line::WordFault;
 use crate::exit::{DONE_STATUS, USAGE_STATUS, status_of, tell_last, tell_usage};
@@ -37,7 +37,7 @@ fn show_text<W: Stream, E: Stream>(name: &str, text: &str, out: &mut W, err: &mu
 
 // Whether the text of a fault is the help or the version.
 fn is_shown(error: &clap::Error) -> bool
-    ensures gives { result ≡ is_shown (kind_of error.now) }
+    ensures gives { result ≡ is_help_or_version (kind_of error.now) }
 {
     matches!(
         error.kind(),
@@ -53,7 +53,7 @@ fn answer_words<W: Stream, E: Stream>(
     out: &mut W,
     err: &mut E,
 ) -> ExitCode
-    ensures gives { AnswersWords name.now (is_shown (kind_of error.now))
+    ensures gives { AnswersWords name.now (is_help_or_version (kind_of error.now))
         (W.state out.old) (W.state out.new) (E.state err.old) (E.state err.new)
         (exit_status result) }
 {

@@ -11,7 +11,7 @@ use Rattle.elf.specs.Loading.{Loading, LoadsUnlessOom}
 use Rattle.addr2line_units.specs.Parsed.{AreAllParsed}
 use Rattle.addr2line_units.specs.Views.{SplitLoad}
 use Rattle.addr2line.specs.Context.{ContextState, lines_of_all}
-use Rattle.addr2line.specs.Loads.{AfterLoad, IsAllKnown, ReachesAllOf, load_reply}
+use Rattle.addr2line.specs.Loads.{AfterLoading, IsAllKnown, ReachesAllOf, load_reply}
 use Rattle.addr2line.specs.SplitFiles.{or_none}
 use Rattle.addr2line_units.proofs.StayLemmas.{same_stays_known}
 use Rattle.addr2line_c.specs.declared.loads.AskedLoad.{AskedLoad}
@@ -33,7 +33,7 @@ found_status false b (Some d) is = refl
 
 -- where memory is refused before a load is answered, nothing is changed
 pub no_answer : (n : ℕ) (given : Option Sections) (c : ContextState)
-    → AfterLoad n given (Err reading.OutOfMemory) c c
+    → AfterLoading n given (Err reading.OutOfMemory) c c
 no_answer n given c = record {
   stays = record { sections = refl; parsed = refl; looks = refl };
   answers = λ had. absurd (had refl);
@@ -49,7 +49,7 @@ no_answer n given c = record {
 pub answers_as : (has_file : Bool) (given read : Loading (Option Sections)) (n : ℕ) (s : Status)
     (old new : ContextState) (reply : Result (Unit {0}) Error) → given ≡ read
     → IsUnlessOom reply (load_reply old.sections old.answers n (or_none read))
-    → s ≡ after_reply reply (status_of_answer has_file read) → AfterLoad n (or_none read) reply old new
+    → s ≡ after_reply reply (status_of_answer has_file read) → AfterLoading n (or_none read) reply old new
     → AnswersLoadAs has_file given n s old new
 answers_as has_file given read n s old new reply is told status after =
     subst (λ g. AnswersLoadAs has_file g n s old new) (sym is)
@@ -92,7 +92,7 @@ pub none_given : (has_file : Bool) (given : Loading (Option Sections)) (n : ℕ)
     → refused ≡ Refused e → is_out_of_memory refused ≡ false
     → (e ≢ loading.OutOfMemory → given ≡ Err e)
     → IsUnlessOom reply (load_reply old.sections old.answers n None)
-    → s ≡ after_reply reply refused → AfterLoad n None reply old new
+    → s ≡ after_reply reply refused → AfterLoading n None reply old new
     → AnswersLoadAs has_file given n s old new
 none_given has_file given n e s refused old new reply is out told gives status after =
     answers_as has_file given (Err e) n s old new reply

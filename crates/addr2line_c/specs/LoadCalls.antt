@@ -14,7 +14,7 @@ use Rattle.addr2line_units.specs.declared.parses.ReadingDepth.TheVariants.{Detai
 use Rattle.addr2line_units.specs.Views.{SplitLoad}
 use Rattle.addr2line.specs.declared.compressed.CompressedSections.TheVariants as compressed
 use Rattle.addr2line.specs.Context.{ContextState, IsReadyForAll, ParsesToFault, Stays, lines_of_all}
-use Rattle.addr2line.specs.Loads.{AfterForget, AfterLoad, AfterParse, forget_reply, load_reply, parse_reply}
+use Rattle.addr2line.specs.Loads.{AfterForgetting, AfterLoading, AfterParse, forget_reply, load_reply, parse_reply}
 use Rattle.addr2line.specs.Lookups.{loads_at}
 use Rattle.addr2line.specs.SplitFiles.{or_none, split_of}
 use Rattle.addr2line_c.specs.declared.loads.AskedLoad.{AskedLoad}
@@ -51,7 +51,7 @@ pub record AnswersLoadAs (has_file : Bool) (given : Loading (Option Sections)) (
   pub reply : Result (Unit {0}) Error
   pub gives : IsUnlessOom reply (load_reply old.sections old.answers n (or_none given))
   pub status : s ≡ after_reply reply (status_of_answer has_file given)
-  pub after : AfterLoad n (or_none given) reply old new
+  pub after : AfterLoading n (or_none given) reply old new
 
 module _ {R : Type 0} where
   -- nothing was done, since no load has this token
@@ -81,7 +81,7 @@ module _ {R : Type 0} where
   ForgetsToken token s old new asked left = elim (load_of_token asked token) [
     | None ↦ RefusesToken s old new asked left
     | Some load ↦ (s ≡ after_reply (forget_reply old.sections load.unit) Done)
-        × AfterForget load.unit old new × (left ≡ with_waits false asked token)
+        × AfterForgetting load.unit old new × (left ≡ with_waits false asked token)
   ]
 
   -- some of the loads were asked for, the first ones
@@ -104,7 +104,7 @@ module _ {R : Type 0} where
       AsksForAll (loads_at c.sections c.answers probe) asked left s
 
 -- the lines of all units were read, up to the first fault
-pub record AfterLines (result : Result (Unit {0}) Error) (old new : ContextState) : Type 0 where
+pub record AfterLinesCall (result : Result (Unit {0}) Error) (old new : ContextState) : Type 0 where
   pub stays : Stays old new
   pub only : ParsesToFault old new
   pub ready : WasNotRefused result → IsReadyForAll new
@@ -118,5 +118,5 @@ pub record ParsesAllAs (s : Status) (old new : ContextState) : Type 0 where
   pub lines_are : IsUnlessOom lines (lines_of_all old.sections)
   pub functions_are : IsUnlessOom functions (parse_reply Details old.sections old.answers)
   pub between : ContextState
-  pub after_lines : AfterLines lines old between
+  pub after_lines : AfterLinesCall lines old between
   pub after_functions : AfterParse Details functions between new

@@ -17,7 +17,7 @@ use Rattle.gimli_read.specs.Reading.{result_map}
 use Rattle.addr2line_lines.specs.Rows.{read_all}
 use Rattle.addr2line_lines.specs.Sequences.{Sequence, stored_row, sequence_of, sequences_of}
 use Rattle.addr2line_lines.specs.declared.sequence.LineSequence.{LineSequence}
-use Rattle.addr2line_lines.specs.Building.{Built, IsBuilder, StoredBuilt, stored_rows, stored_taken, all_taken, built, closed, built_ended, has_address, nothing_built, row_taken, with_row, without_last, without_last_from}
+use Rattle.addr2line_lines.specs.Building.{Built, IsBuilder, StoredBuilt, stored_rows, stored_taken, all_built, built, closed, built_ended, has_address, nothing_built, row_taken, with_row, without_last, without_last_from}
 use Rattle.addr2line_lines.specs.declared.rows.ShortRow.{ShortRow}
 use Rattle.addr2line_lines.specs.StoredRows.{fits, row_of_short, shortened}
 use Rattle.addr2line_lines.proofs.StoredRowLemmas.{short_is}
@@ -114,29 +114,29 @@ pub takes_row : (b : Built) (r : LineRow) → r.end_sequence ≡ false → row_t
 takes_row b r e = ap (λ t. cond t (built_ended b r) (record { sequences = b.sequences; pending = with_row b.pending r })) e
 
 makes_more : (r : LineRow) (rows : List LineRow) (b : Bool) → r.end_sequence ≡ b
-    → ((ss : List Sequence) (p : List LineRow) → IsPending p → NeverFalls (p ++ rows) → (all_taken (going ss p) rows).sequences ≡ ss ++ sequences_of (p ++ rows))
-    → (ss : List Sequence) (p : List LineRow) → IsPending p → NeverFalls (p ++ r ∷ rows) → (all_taken (going ss p) (r ∷ rows)).sequences ≡ ss ++ sequences_of (p ++ r ∷ rows)
+    → ((ss : List Sequence) (p : List LineRow) → IsPending p → NeverFalls (p ++ rows) → (all_built (going ss p) rows).sequences ≡ ss ++ sequences_of (p ++ rows))
+    → (ss : List Sequence) (p : List LineRow) → IsPending p → NeverFalls (p ++ r ∷ rows) → (all_built (going ss p) (r ∷ rows)).sequences ≡ ss ++ sequences_of (p ++ r ∷ rows)
 makes_more r rows true e again ss p h n =
     let new : List Sequence = option_to_list (closed (map stored_row p) r) in
-    ap (λ b. (all_taken b rows).sequences) (takes_end (going ss p) r e)
+    ap (λ b. (all_built b rows).sequences) (takes_end (going ss p) r e)
     ∙ again (ss ++ new) [] (record { open_ended = tt; apart = tt }) (falls_back p rows r n)
     ∙ append_assoc ss new (sequences_of rows)
     ∙ ap (λ xs. ss ++ xs) (ap (λ o. option_to_list o ++ sequences_of rows) (closed_is p r) ∙ option_first (sequence_of p r) (sequences_of rows) ∙ sym (ended_is p rows r h e n))
 makes_more r rows false e again ss p h n =
     let g = goes_on r rows e p h n in
-    ap (λ b. (all_taken b rows).sequences) (takes_row (going ss p) r e ∙ ap (λ xs. record { sequences = ss; pending = xs }) g.is)
+    ap (λ b. (all_built b rows).sequences) (takes_row (going ss p) r e ∙ ap (λ xs. record { sequences = ss; pending = xs }) g.is)
     ∙ again ss g.new g.pending g.falls
     ∙ ap (λ xs. ss ++ xs) g.same
 
-makes : (rows : List LineRow) (ss : List Sequence) (p : List LineRow) → IsPending p → NeverFalls (p ++ rows) → (all_taken (going ss p) rows).sequences ≡ ss ++ sequences_of (p ++ rows)
+makes : (rows : List LineRow) (ss : List Sequence) (p : List LineRow) → IsPending p → NeverFalls (p ++ rows) → (all_built (going ss p) rows).sequences ≡ ss ++ sequences_of (p ++ rows)
 makes [] ss p h n = sym (ap (λ xs. ss ++ xs) (none_open p h) ∙ append_none ss)
 makes (r ∷ rows) ss p h n = makes_more r rows r.end_sequence refl (makes rows) ss p h n
 
-pub all_taken_is : (rows : List LineRow) → NeverFalls rows → (all_taken nothing_built rows).sequences ≡ sequences_of rows
+pub all_taken_is : (rows : List LineRow) → NeverFalls rows → (all_built nothing_built rows).sequences ≡ sequences_of rows
 all_taken_is rows n = makes rows [] [] (record { open_ended = tt; apart = tt }) n
 
 -- the same of rows that can be read
-pub taken_all : {E : Type 0} (r : Result (List LineRow) E) → IfOk r NeverFalls → result_map (λ rows. (all_taken nothing_built rows).sequences) r ≡ result_map sequences_of r
+pub taken_all : {E : Type 0} (r : Result (List LineRow) E) → IfOk r NeverFalls → result_map (λ rows. (all_built nothing_built rows).sequences) r ≡ result_map sequences_of r
 taken_all (Ok rows) n = ap Ok (all_taken_is rows n)
 taken_all (Err e) n = refl
 
@@ -285,7 +285,7 @@ read_whole (Ok x ∷ rest) h = ap (result_map (λ xs. x ∷ xs)) (read_whole res
 read_whole (Err d ∷ rest) h = absurd (cc (h))
 
 -- what is built of rows doesn't depend on how they are stored
-pub stored_sequences : (b : StoredBuilt) (rows : List LineRow) → (fold stored_taken b rows).built.sequences ≡ (all_taken b.built rows).sequences
+pub stored_sequences : (b : StoredBuilt) (rows : List LineRow) → (fold stored_taken b rows).built.sequences ≡ (all_built b.built rows).sequences
 stored_sequences b [] = refl
 stored_sequences b (r ∷ rows) = stored_sequences (stored_taken b r) rows
 

@@ -7,7 +7,7 @@ use Rattle.gimli_read.specs.declared.value.AttributeValue.TheVariants as values
 use Rattle.gimli_read.specs.declared.value.UnitOffset.{UnitOffset}
 use Rattle.gimli.specs.Unit.{UnitRecord}
 use Rattle.gimli_read.specs.Section.{Section}
-use Rattle.addr2line_lines.specs.CachedNames.{AreNamesMore, AreNamesOf, CachedName, IsKnownAs, IsNameOf, IsOneMoreAtMost, seen_name}
+use Rattle.addr2line_lines.specs.CachedNames.{AreNamesMore, AreNamesOf, CachedName, IsKnownAs, IsNameOf, IsOneMoreAtMost, seen_cached_name}
 use Rattle.addr2line_lines.specs.Grown.{IsGrown}
 use Rattle.addr2line_lines.specs.declared.names.CachedName as declared_name
 use Rattle.addr2line_lines.specs.Names.{referred_name}
@@ -43,7 +43,7 @@ known_shared see value names name None offset h known = tt
 known_shared see value names name (Some shared) offset h known = subst (λ n. IsKnownAs offset (option_map see n) names) (sym h) known
 
 -- what stands at a place is known, where its offset is
-pub known_at : {R : Type 0} (see : R → Section) (xs : List (declared_name.CachedName R)) (n : ℕ) (x : declared_name.CachedName R) (offset : UnitOffset) → slice_get xs n ≡ Some x → x.offset ≡ offset → IsKnownAs offset (option_map see x.name.value) (map (seen_name see) xs)
+pub known_at : {R : Type 0} (see : R → Section) (xs : List (declared_name.CachedName R)) (n : ℕ) (x : declared_name.CachedName R) (offset : UnitOffset) → slice_get xs n ≡ Some x → x.offset ≡ offset → IsKnownAs offset (option_map see x.name.value) (map (seen_cached_name see) xs)
 known_at see xs n x offset at e = λ scope u all.
     subst (λ o. referred_name scope u (values.UnitRef o) ≡ Ok (option_map see x.name.value)) e
-    (all_at (IsNameOf scope u) (map (seen_name see) xs) n (seen_name see x) all (slice_get-map (seen_name see) xs n ∙ ap (option_map (seen_name see)) at))
+    (all_at (IsNameOf scope u) (map (seen_cached_name see) xs) n (seen_cached_name see x) all (slice_get-map (seen_cached_name see) xs n ∙ ap (option_map (seen_cached_name see)) at))

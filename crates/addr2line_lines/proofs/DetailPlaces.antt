@@ -18,7 +18,7 @@ use Rattle.addr2line_lines.specs.InlinedChain.{inlined_chain}
 use Rattle.addr2line_lines.specs.FoundInlined.{FoundInlined, IsFoundMore, entry_among, first_found, range_among}
 use Rattle.addr2line_lines.specs.Grown.{IsGrown}
 use Rattle.addr2line_lines.specs.FoundDetails.{detail_found_at}
-use Rattle.addr2line_lines.specs.InlinedOrder.{inlined_sooner, place, place_begin, place_end, places_chain, places_of_depth, places_within}
+use Rattle.addr2line_lines.specs.InlinedOrder.{inlined_sooner, inlined_place, place_begin, place_end, places_chain, places_of_depth, places_within}
 use Rattle.addr2line_lines.specs.InOrder.{IsInOrder, in_order}
 use Rattle.addr2line_lines.specs.CachedDetails.{AreDetailsMore, IsDetailPlace, IsOfEntryBetween, CachedDetails, between, detail_of, listed_ranges}
 use Rattle.addr2line_lines.specs.InlineRoom.{exceeds_inline_room, inline_room}
@@ -109,7 +109,7 @@ module _ (scope : Scope) (u : UnitRecord) (offset : ℕ) (name : Option Section)
         ranges_begin = omega arith;
         ranges_end = omega arith;
         places = subst (All Between) (sym run_is) (All-weaker Found Between (λ a k. let f = k.0 in let g = k.1 in (omega arith, omega arith)) run agrees.1.places);
-        rising = subst (IsNonDecreasingBy place) (sym run_is) (non_decreasing place run agrees.1.rising);
+        rising = subst (IsNonDecreasingBy inlined_place) (sym run_is) (non_decreasing inlined_place run agrees.1.rising);
         ordered = ap (λ xs. between p.ranges_begin p.ranges_end xs) at.ranges ∙ between_sorted p.ranges_begin p.ranges_end listed.ranges start (omega arith)
             ∙ ap (λ xs. in_order inlined_sooner (drop p.ranges_begin xs)) (sym at.listed_is);
       }
@@ -203,7 +203,7 @@ picked_in probe xs z e = by_candidate (candidate place_begin place_end probe xs)
         subst (λ w. In w xs) (by_end (nat_lt probe (place_end y)) y e) f.0
 
 -- what holds of the place of each range holds of the chain
-module _ (P : ℕ → Type 0) (probe : ℕ) (xs : List InlinedFunctionAddress) (all : AllByRecursion (λ x. P (place x)) xs) where
+module _ (P : ℕ → Type 0) (probe : ℕ) (xs : List InlinedFunctionAddress) (all : AllByRecursion (λ x. P (inlined_place x)) xs) where
   pub all_within : (n depth : ℕ) → AllByRecursion P (places_within n probe depth xs)
   all_within zero depth = tt
   all_within (suc n) depth = by_cases (pick place_begin place_end probe (places_of_depth depth xs)) refl (all_within n (depth + 1))
@@ -211,11 +211,11 @@ module _ (P : ℕ → Type 0) (probe : ℕ) (xs : List InlinedFunctionAddress) (
       rest : List ℕ
       rest = places_within n probe (depth + 1) xs
 
-      by_cases : (o : Option InlinedFunctionAddress) → pick place_begin place_end probe (places_of_depth depth xs) ≡ o → AllByRecursion P rest → AllByRecursion P (elim (option_map place o) [ None ↦ [] | Some x ↦ x ∷ rest ])
+      by_cases : (o : Option InlinedFunctionAddress) → pick place_begin place_end probe (places_of_depth depth xs) ≡ o → AllByRecursion P rest → AllByRecursion P (elim (option_map inlined_place o) [ None ↦ [] | Some x ↦ x ∷ rest ])
       by_cases None e r = tt
       by_cases (Some z) e r =
           let i = In-filter (λ x. x.depth == depth) xs z (picked_in probe (places_of_depth depth xs) z e) in
-          (All-in (λ x. P (place x)) xs z all i.0, r)
+          (All-in (λ x. P (inlined_place x)) xs z all i.0, r)
 
 -- the run of a place, and the chain of an address in it
 module _ (d : CachedDetails) (p : FunctionDetail) (at : IsDetailPlace d p) where
@@ -230,7 +230,7 @@ module _ (d : CachedDetails) (p : FunctionDetail) (at : IsDetailPlace d p) where
 
   pub chain_there : (probe : ℕ) → AllByRecursion (λ n. n < length d.found.entries) (places_chain probe run)
   chain_there probe =
-      let there : InlinedFunctionAddress → Type 0 = λ x. place x < length d.found.entries in
+      let there : InlinedFunctionAddress → Type 0 = λ x. inlined_place x < length d.found.entries in
       let listed = recursion_from_All there (listed_ranges p) (among p.inlined_begin p.inlined_end d.found.entries (listed_ranges p) at.inlined_end at.places) in
       all_within (λ n. n < length d.found.entries) probe run (subst (AllByRecursion there) (sym at.ordered) (in_order_all inlined_sooner there (listed_ranges p) listed)) (length run) 0
 

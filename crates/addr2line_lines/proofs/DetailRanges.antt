@@ -8,7 +8,7 @@ use Rattle.gimli_read.specs.declared.range.Range.{Range}
 use Rattle.addr2line_lines.specs.declared.picks.InlinedFunctionAddress.{InlinedFunctionAddress}
 use Rattle.addr2line_lines.specs.InlinedEntries.{InlinedEntry, InlinedRange}
 use Rattle.addr2line_lines.specs.FoundInlined.{FoundInlined, IsPlaceAmong, inlined_address, inlined_more, range_among, no_inlined, found_ranges_from}
-use Rattle.addr2line_lines.specs.InlinedOrder.{place}
+use Rattle.addr2line_lines.specs.InlinedOrder.{inlined_place}
 use Rattle.addr2line_lines.specs.CachedDetails.{IsOfEntryBetween}
 use Rattle.addr2line_lines.proofs.SeekLemmas.{Up}
 
@@ -46,26 +46,26 @@ pub record AreFrom (before n : ℕ) (found : FoundInlined) : Type 0 where
   pub within : n ≤ length found.ranges
   pub past : before ≤ length found.entries
   pub places : All (IsOfEntryBetween before (length found.entries)) (drop n found.ranges)
-  pub rising : Up place (drop n found.ranges)
+  pub rising : Up inlined_place (drop n found.ranges)
 
 pub among : (begin end : ℕ) (entries : List InlinedEntry) (xs : List InlinedFunctionAddress) → end ≤ length entries → All (IsOfEntryBetween begin end) xs → All (IsPlaceAmong entries) xs
 among begin end entries xs l all = All-weaker (IsOfEntryBetween begin end) (IsPlaceAmong entries) (λ a k. let h = k.1 in omega arith) xs all
 
 -- ranges of a place after ranges of places that are not above it
 module _ (m depth : ℕ) where
-  new_after : (x : InlinedFunctionAddress) (ranges : List Range) → place x ≤ m → AllByRecursion (λ y. place x ≤ place y) (map (inlined_address depth m) ranges)
+  new_after : (x : InlinedFunctionAddress) (ranges : List Range) → inlined_place x ≤ m → AllByRecursion (λ y. inlined_place x ≤ inlined_place y) (map (inlined_address depth m) ranges)
   new_after x [] l = tt
   new_after x (r ∷ ranges) l = (l, new_after x ranges l)
 
-  all_after : (x : InlinedFunctionAddress) (xs : List InlinedFunctionAddress) (ranges : List Range) → place x ≤ m → AllByRecursion (λ y. place x ≤ place y) xs → AllByRecursion (λ y. place x ≤ place y) (xs ++ map (inlined_address depth m) ranges)
+  all_after : (x : InlinedFunctionAddress) (xs : List InlinedFunctionAddress) (ranges : List Range) → inlined_place x ≤ m → AllByRecursion (λ y. inlined_place x ≤ inlined_place y) xs → AllByRecursion (λ y. inlined_place x ≤ inlined_place y) (xs ++ map (inlined_address depth m) ranges)
   all_after x [] ranges l all = new_after x ranges l
   all_after x (y ∷ xs) ranges l all = (all.0, all_after x xs ranges l all.1)
 
-  new_up : (ranges : List Range) → Up place (map (inlined_address depth m) ranges)
+  new_up : (ranges : List Range) → Up inlined_place (map (inlined_address depth m) ranges)
   new_up [] = tt
   new_up (r ∷ ranges) = (new_after (inlined_address depth m r) ranges (omega arith), new_up ranges)
 
-  up_after : (xs : List InlinedFunctionAddress) (ranges : List Range) → AllByRecursion (λ x. place x ≤ m) xs → Up place xs → Up place (xs ++ map (inlined_address depth m) ranges)
+  up_after : (xs : List InlinedFunctionAddress) (ranges : List Range) → AllByRecursion (λ x. inlined_place x ≤ m) xs → Up inlined_place xs → Up inlined_place (xs ++ map (inlined_address depth m) ranges)
   up_after [] ranges all up = new_up ranges
   up_after (x ∷ xs) ranges all up = (all_after x xs ranges all.0 up.0, up_after xs ranges all.1 up.1)
 
@@ -96,9 +96,9 @@ more_places before n found e depth (r ∷ ranges) all =
           (All-append Between (drop n found.ranges) added
           (All-weaker (IsOfEntryBetween before m) Between (λ a k. let h = k.1 in (k.0, omega arith)) (drop n found.ranges) all.places)
           (All-map Between (inlined_address depth m) (r ∷ ranges) (λ k d j. (p, omega arith))));
-      rising = subst (Up place) (sym is)
+      rising = subst (Up inlined_place) (sym is)
           (up_after m depth (drop n found.ranges) (r ∷ ranges)
-          (recursion_from_All (λ x. place x ≤ m) (drop n found.ranges) (All-weaker (IsOfEntryBetween before m) (λ x. place x ≤ m) (λ a k. let h = k.1 in omega arith) (drop n found.ranges) all.places))
+          (recursion_from_All (λ x. inlined_place x ≤ m) (drop n found.ranges) (All-weaker (IsOfEntryBetween before m) (λ x. inlined_place x ≤ m) (λ a k. let h = k.1 in omega arith) (drop n found.ranges) all.places))
           all.rising);
     }
 
@@ -107,5 +107,5 @@ none_from found = record {
   within = omega arith;
   past = omega arith;
   places = subst (All (IsOfEntryBetween (length found.entries) (length found.entries))) (sym (drop-length found.ranges)) (λ k d l. absurd (omega arith));
-  rising = subst (Up place) (sym (drop-length found.ranges)) tt;
+  rising = subst (Up inlined_place) (sym (drop-length found.ranges)) tt;
 }

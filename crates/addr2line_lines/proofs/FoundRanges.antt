@@ -15,7 +15,7 @@ use Rattle.gimli.specs.Unit.{UnitRecord}
 use Rattle.gimli.specs.WantedAttributes.{HasNoWanted}
 use Rattle.gimli.proofs.WantedLemmas.{PassesOver, fold_passes, wanted_end}
 use Rattle.addr2line_lines.specs.declared.function.RangeAttributes.{RangeAttributes}
-use Rattle.addr2line_lines.specs.FoundFunctions.{FoundFunctions, found_at}
+use Rattle.addr2line_lines.specs.FoundFunctions.{FoundFunctions, next_found_at}
 use Rattle.addr2line_lines.specs.FoundRanges.{is_function, is_range_specification, is_range_name}
 use Rattle.addr2line_lines.specs.Functions.{is_subprogram}
 use Rattle.addr2line_lines.specs.RangeAttributes.{no_range_attributes, or_with_range_attribute, range_attributes_after, with_range_attribute}
@@ -59,13 +59,13 @@ module _ (d : Sections) (u : UnitRecord) (e : Encoding) where
 -- an entry whose abbreviation isn't that of functions with ranges is passed over
 module _ (d : Sections) (u : UnitRecord) (unit : EntryUnit) where
   pub no_function_found : (may : Bool) (c t s : EntryCursor) (found : FoundFunctions) (a : Abbrev) (e : Encoding) (r : Result (Unit {0}) Error) → (length c.left.bytes == 0) ≡ false → entry_abbreviation_at unit.abbreviations c ≡ Ok (Some a, t) → e ≡ unit.encoding → is_function a ≡ false
-      → s.depth ≡ t.depth → Exactly (λ _. s.left) r (rest_of (attributes_at e a.attributes t.left)) → ExactlyUnlessOomIf may (λ _. (found, s)) r (found_at d u unit c found)
+      → s.depth ≡ t.depth → Exactly (λ _. s.left) r (rest_of (attributes_at e a.attributes t.left)) → ExactlyUnlessOomIf may (λ _. (found, s)) r (next_found_at d u unit c found)
   no_function_found may c t s found a e r h k q n m g = by_kind (is_subprogram a) refl n r g
     where
       none : HasNoWanted is_range_name a.attributes → (left : Result Section Error) → rest_of (attributes_at e a.attributes t.left) ≡ left → range_attributes_after d u (Ok no_range_attributes) (attributes_at e a.attributes t.left) ≡ (left >>= λ z. Ok no_range_attributes)
       none rangeless left g = wanted_end (range_passes d u e (Ok no_range_attributes)) rangeless g
 
-      by_kind : (b : Bool) → is_subprogram a ≡ b → (b && list_any is_range_specification a.attributes) ≡ false → (r : Result (Unit {0}) Error) → Exactly (λ _. s.left) r (rest_of (attributes_at e a.attributes t.left)) → ExactlyUnlessOomIf may (λ _. (found, s)) r (found_at d u unit c found)
+      by_kind : (b : Bool) → is_subprogram a ≡ b → (b && list_any is_range_specification a.attributes) ≡ false → (r : Result (Unit {0}) Error) → Exactly (λ _. s.left) r (rest_of (attributes_at e a.attributes t.left)) → ExactlyUnlessOomIf may (λ _. (found, s)) r (next_found_at d u unit c found)
       by_kind false is n r g = other_found d u unit may c t s found a e r h k q is m g
       by_kind true is n (Ok z) g = function_found d u unit c t s found a e no_range_attributes (next_offset_of unit c) h k q is (none (none_holds is_range_specification a.attributes n) (Ok s.left) g) g m refl
       by_kind true is n (Err f) g = λ ne. function_fault d u unit c t found a e f h k q is (none (none_holds is_range_specification a.attributes n) (Err f) g)

@@ -21,7 +21,7 @@ use Rattle.addr2line_lines.specs.declared.function.RangeAttributes.{RangeAttribu
 use Rattle.addr2line_lines.specs.declared.segments.FunctionAddress.{FunctionAddress}
 use Rattle.addr2line_lines.specs.RangeAttributes.{attribute_ranges, gives_a_range, no_range_attributes, range_attributes_after, range_attributes_of}
 use Rattle.addr2line_lines.specs.Functions.{is_subprogram}
-use Rattle.addr2line_lines.specs.FoundFunctions.{FoundFunctions, found_at, found_from, found_more, function_address, item_has_function, with_attributes, with_found, with_ranges}
+use Rattle.addr2line_lines.specs.FoundFunctions.{FoundFunctions, next_found_at, found_from, found_more, function_address, item_has_function, with_attributes, with_found, with_ranges}
 
 -- lists with one more element
 pub one_read : {X Y : Type 0} (f : X → Y) (read : List X) (x : X) (rest : List Y) → map f read ++ f x ∷ rest ≡ map f (read ++ x ∷ []) ++ rest
@@ -67,20 +67,20 @@ module _ (d : Sections) (u : UnitRecord) (unit : EntryUnit) where
   coded : (c : EntryCursor) → (length c.left.bytes == 0) ≡ false → next_item_at unit c ≡ (entry_abbreviation_at unit.abbreviations c >>= λ x. item_from unit c x)
   coded c h = item_is unit c ∙ ap (λ b. cond b (Ok (None, c)) (entry_abbreviation_at unit.abbreviations c >>= λ x. item_from unit c x)) h
 
-  at_code : (c : EntryCursor) (found : FoundFunctions) (r : Result (Option Abbrev × EntryCursor) Error) → (length c.left.bytes == 0) ≡ false → entry_abbreviation_at unit.abbreviations c ≡ r → found_at d u unit c found ≡ found_after found (r >>= λ x. item_from unit c x)
+  at_code : (c : EntryCursor) (found : FoundFunctions) (r : Result (Option Abbrev × EntryCursor) Error) → (length c.left.bytes == 0) ≡ false → entry_abbreviation_at unit.abbreviations c ≡ r → next_found_at d u unit c found ≡ found_after found (r >>= λ x. item_from unit c x)
   at_code c found r h k = ap (found_after found) (coded c h ∙ ap (λ s. s >>= λ x. item_from unit c x) k)
 
-  pub code_fault : (c : EntryCursor) (found : FoundFunctions) (e : Error) → (length c.left.bytes == 0) ≡ false → entry_abbreviation_at unit.abbreviations c ≡ Err e → found_at d u unit c found ≡ Err e
+  pub code_fault : (c : EntryCursor) (found : FoundFunctions) (e : Error) → (length c.left.bytes == 0) ≡ false → entry_abbreviation_at unit.abbreviations c ≡ Err e → next_found_at d u unit c found ≡ Err e
   code_fault c found e h k = at_code c found (Err e) h k
 
-  pub closing_found : (c t : EntryCursor) (found : FoundFunctions) → (length c.left.bytes == 0) ≡ false → entry_abbreviation_at unit.abbreviations c ≡ Ok (None, t) → found_at d u unit c found ≡ Ok (found, t)
+  pub closing_found : (c t : EntryCursor) (found : FoundFunctions) → (length c.left.bytes == 0) ≡ false → entry_abbreviation_at unit.abbreviations c ≡ Ok (None, t) → next_found_at d u unit c found ≡ Ok (found, t)
   closing_found c t found h k = at_code c found (Ok (None, t)) h k
 
   -- what is found at an entry whose attributes are read
   abbrev found_entry : EntryCursor → EntryCursor → FoundFunctions → Abbrev → Reading (List NamedValue) → Result (FoundFunctions × EntryCursor) Error
   found_entry c t found a read = found_after found (read >>= λ x. Ok (Some (item_here unit c (Some (record { abbreviation = a; attributes = x.0 }))), record { left = x.1; depth = t.depth }))
 
-  at_entry : (c t : EntryCursor) (found : FoundFunctions) (a : Abbrev) (e : Encoding) → (length c.left.bytes == 0) ≡ false → entry_abbreviation_at unit.abbreviations c ≡ Ok (Some a, t) → e ≡ unit.encoding → found_at d u unit c found ≡ found_entry c t found a (attributes_at e a.attributes t.left)
+  at_entry : (c t : EntryCursor) (found : FoundFunctions) (a : Abbrev) (e : Encoding) → (length c.left.bytes == 0) ≡ false → entry_abbreviation_at unit.abbreviations c ≡ Ok (Some a, t) → e ≡ unit.encoding → next_found_at d u unit c found ≡ found_entry c t found a (attributes_at e a.attributes t.left)
   at_entry c t found a e h k q = at_code c found (Ok (Some a, t)) h k ∙ ap (λ f. found_entry c t found a (attributes_at f a.attributes t.left)) (sym q)
 
   -- no function's entry
@@ -90,7 +90,7 @@ module _ (d : Sections) (u : UnitRecord) (unit : EntryUnit) where
       ap (λ b. ending (record { left = x.1; depth = t.depth }) (cond {A = Result FoundFunctions Error} b (range_attributes_of d u x.0 >>= λ r. with_attributes d u r (next_offset_of unit c) found) (Ok found))) h
 
   pub other_found : (may : Bool) (c t s : EntryCursor) (found : FoundFunctions) (a : Abbrev) (e : Encoding) (r : Result (Unit {0}) Error) → (length c.left.bytes == 0) ≡ false → entry_abbreviation_at unit.abbreviations c ≡ Ok (Some a, t) → e ≡ unit.encoding → is_subprogram a ≡ false
-      → s.depth ≡ t.depth → Exactly (λ _. s.left) r (rest_of (attributes_at e a.attributes t.left)) → ExactlyUnlessOomIf may (λ _. (found, s)) r (found_at d u unit c found)
+      → s.depth ≡ t.depth → Exactly (λ _. s.left) r (rest_of (attributes_at e a.attributes t.left)) → ExactlyUnlessOomIf may (λ _. (found, s)) r (next_found_at d u unit c found)
   other_found may c t s found a e (Ok z) h k q n m g =
       at_entry c t found a e h k q ∙ not_function c t found a n (attributes_at e a.attributes t.left)
       ∙ ap (λ v. v >>= λ s'. Ok (found, record { left = s'; depth = t.depth })) g
@@ -113,7 +113,7 @@ module _ (d : Sections) (u : UnitRecord) (unit : EntryUnit) where
       nested (Err e) = refl
 
   pub function_fault : (c t : EntryCursor) (found : FoundFunctions) (a : Abbrev) (e : Encoding) (f : Error) → (length c.left.bytes == 0) ≡ false → entry_abbreviation_at unit.abbreviations c ≡ Ok (Some a, t) → e ≡ unit.encoding → is_subprogram a ≡ true
-      → range_attributes_after d u (Ok no_range_attributes) (attributes_at e a.attributes t.left) ≡ Err f → found_at d u unit c found ≡ Err f
+      → range_attributes_after d u (Ok no_range_attributes) (attributes_at e a.attributes t.left) ≡ Err f → next_found_at d u unit c found ≡ Err f
   function_fault c t found a e f h k q n m = at_entry c t found a e h k q ∙ function_is c t found a n (attributes_at e a.attributes t.left) ∙ faulty (attributes_at e a.attributes t.left) m
     where
       faulty : (read : Reading (List NamedValue)) → range_attributes_after d u (Ok no_range_attributes) read ≡ Err f → (read >>= λ x. range_attributes_of d u x.0 >>= λ r. ending (record { left = x.1; depth = t.depth }) (with_attributes d u r (next_offset_of unit c) found)) ≡ Err f
@@ -122,7 +122,7 @@ module _ (d : Sections) (u : UnitRecord) (unit : EntryUnit) where
 
   pub function_found : (c t s : EntryCursor) (found : FoundFunctions) (a : Abbrev) (e : Encoding) (r : RangeAttributes) (offset : ℕ) → (length c.left.bytes == 0) ≡ false → entry_abbreviation_at unit.abbreviations c ≡ Ok (Some a, t) → e ≡ unit.encoding → is_subprogram a ≡ true
       → range_attributes_after d u (Ok no_range_attributes) (attributes_at e a.attributes t.left) ≡ Ok r → rest_of (attributes_at e a.attributes t.left) ≡ Ok s.left → s.depth ≡ t.depth → offset ≡ next_offset_of unit c
-      → found_at d u unit c found ≡ ending s (with_attributes d u r offset found)
+      → next_found_at d u unit c found ≡ ending s (with_attributes d u r offset found)
   function_found c t s found a e r offset h k q n m l z o = at_entry c t found a e h k q ∙ function_is c t found a n (attributes_at e a.attributes t.left) ∙ whole (attributes_at e a.attributes t.left) m l
     where
       whole : (read : Reading (List NamedValue)) → range_attributes_after d u (Ok no_range_attributes) read ≡ Ok r → rest_of read ≡ Ok s.left
@@ -202,7 +202,7 @@ module _ (d : Sections) (u : UnitRecord) (unit : EntryUnit) where
       nested (Ok v) = refl
       nested (Err e) = refl
 
-  pub found_step : (c s : EntryCursor) (found more : FoundFunctions) → (length c.left.bytes == 0) ≡ false → found_at d u unit c found ≡ Ok (more, s) → found_from d u unit c found ≡ found_from d u unit s more
+  pub found_step : (c s : EntryCursor) (found more : FoundFunctions) → (length c.left.bytes == 0) ≡ false → next_found_at d u unit c found ≡ Ok (more, s) → found_from d u unit c found ≡ found_from d u unit s more
   found_step c s found more h k = by_cases (next_item_at unit c) refl k
     where
       by_cases : (r : Result (Option Item × EntryCursor) Error) → next_item_at unit c ≡ r → found_after found r ≡ Ok (more, s) → found_from d u unit c found ≡ found_from d u unit s more
@@ -213,7 +213,7 @@ module _ (d : Sections) (u : UnitRecord) (unit : EntryUnit) where
           ap (found_run found) (items_more unit c t x q) ∙ found_with found x (items_left unit t)
           ∙ ap (λ r. r >>= λ v. found_run v (items_left unit t)) one.0 ∙ ap (λ v. found_run more (items_left unit v)) one.1
 
-  pub found_fault : (c : EntryCursor) (found : FoundFunctions) (e : Error) → (length c.left.bytes == 0) ≡ false → found_at d u unit c found ≡ Err e → found_from d u unit c found ≡ Err e
+  pub found_fault : (c : EntryCursor) (found : FoundFunctions) (e : Error) → (length c.left.bytes == 0) ≡ false → next_found_at d u unit c found ≡ Err e → found_from d u unit c found ≡ Err e
   unfolding fold_run
   found_fault c found e h k = by_cases (next_item_at unit c) refl k
     where

@@ -16,7 +16,7 @@ use Rattle.addr2line_lines.specs.declared.function.RangeAttributes.{RangeAttribu
 use Rattle.addr2line_lines.specs.declared.segments.FunctionAddress.{FunctionAddress}
 use Rattle.addr2line_lines.specs.RangeAttributes.{all_ranges, attribute_ranges, begins_well, gives_a_range, range_attributes_of, range_list_of}
 use Rattle.addr2line_lines.specs.Functions.{FunctionRange, entry_gives_a_range, entry_ranges, has_function, have_function, is_subprogram, with_function}
-use Rattle.addr2line_lines.specs.FoundFunctions.{FoundFunctions, function_address, found_at, found_in, found_more, item_has_function, item_takes_memory, none_found, with_attributes, with_found, with_ranges}
+use Rattle.addr2line_lines.specs.FoundFunctions.{FoundFunctions, function_address, next_found_at, found_in, found_more, item_has_function, item_takes_memory, none_found, with_attributes, with_found, with_ranges}
 use Rattle.addr2line_lines.proofs.FunctionLemmas.{found_after, one_found, or_first, or_more, or_second, some_item}
 
 module _ (d : Sections) (u : UnitRecord) where
@@ -59,7 +59,7 @@ module _ (d : Sections) (u : UnitRecord) where
 
 module _ (d : Sections) (u : UnitRecord) (unit : EntryUnit) where
   -- where the items that are left have a function, so have those before
-  pub have_step : (c s : EntryCursor) (found more : FoundFunctions) → (length c.left.bytes == 0) ≡ false → found_at d u unit c found ≡ Ok (more, s) → have_function d u (items_left unit s).items ≡ true → have_function d u (items_left unit c).items ≡ true
+  pub have_step : (c s : EntryCursor) (found more : FoundFunctions) → (length c.left.bytes == 0) ≡ false → next_found_at d u unit c found ≡ Ok (more, s) → have_function d u (items_left unit s).items ≡ true → have_function d u (items_left unit c).items ≡ true
   have_step c s found more h k left = by_cases (next_item_at unit c) refl k
     where
       by_cases : (r : Result (Option Item × EntryCursor) Error) → next_item_at unit c ≡ r → found_after d u unit found r ≡ Ok (more, s) → have_function d u (items_left unit c).items ≡ true

@@ -15,7 +15,7 @@ use Rattle.gimli_read.specs.Topmost.{greatest, last, topmost}
 use Rattle.addr2line_lines.specs.declared.picks.InlinedFunctionAddress.{InlinedFunctionAddress}
 use Rattle.addr2line_lines.specs.InlinedEntries.{InlinedEntry}
 use Rattle.addr2line_lines.specs.InlinedChain.{inlined_at, inlined_begin, inlined_chain, inlined_end, inlined_within}
-use Rattle.addr2line_lines.specs.InlinedOrder.{inlined_range_of, inlined_sooner, place, place_at, place_begin, place_end, places_chain, places_of_depth, places_within}
+use Rattle.addr2line_lines.specs.InlinedOrder.{inlined_range_of, inlined_sooner, inlined_place, place_at, place_begin, place_end, places_chain, places_of_depth, places_within}
 use Rattle.addr2line_lines.specs.InOrder.{begins_sooner, in_order, put}
 use Rattle.addr2line_lines.specs.Pick.{at_or_below, candidate, if_past, pick}
 use Rattle.addr2line_lines.proofs.InlinedPick.{depth_ordered}
@@ -133,7 +133,7 @@ module _ (depth : ℕ) where
   abbrev of_it : InlinedFunctionAddress → Bool
   of_it x = x.depth == depth
 
-  none_sooner : (z : InlinedFunctionAddress) (xs : List InlinedFunctionAddress) → Up place xs → NoneSooner inlined_sooner (λ x. of_it x && ties begins z x) xs
+  none_sooner : (z : InlinedFunctionAddress) (xs : List InlinedFunctionAddress) → Up inlined_place xs → NoneSooner inlined_sooner (λ x. of_it x && ties begins z x) xs
   none_sooner z [] up = tt
   none_sooner z (x ∷ xs) up = (each xs up.0, none_sooner z xs up.1)
     where
@@ -143,7 +143,7 @@ module _ (depth : ℕ) where
       of_numbers : (p a b n q c e m : ℕ) → q ≡ p → c ≡ a → e ≡ b → n ≤ m → is_lt (ordering_then (nat_cmp q p) (ordering_then (nat_cmp c a) (ordering_then (nat_cmp e b) (nat_cmp m n)))) ≡ false
       of_numbers p a b n q c e m f g h l = grind (arith, nat_tests)
 
-      each : (ys : List InlinedFunctionAddress) → AllByRecursion (λ y. place x ≤ place y) ys → AllByRecursion (λ y. (of_it x && ties begins z x) ≡ true → (of_it y && ties begins z y) ≡ true → inlined_sooner y x ≡ false) ys
+      each : (ys : List InlinedFunctionAddress) → AllByRecursion (λ y. inlined_place x ≤ inlined_place y) ys → AllByRecursion (λ y. (of_it x && ties begins z x) ≡ true → (of_it y && ties begins z y) ≡ true → inlined_sooner y x ≡ false) ys
       each [] all = tt
       each (y ∷ ys) all = (
         (λ e f.
@@ -153,24 +153,24 @@ module _ (depth : ℕ) where
         each ys all.1,
       )
 
-  depth_in_order : (xs : List InlinedFunctionAddress) → IsNonDecreasingBy place xs → places_of_depth depth (in_order inlined_sooner xs) ≡ in_order begins (places_of_depth depth xs)
+  depth_in_order : (xs : List InlinedFunctionAddress) → IsNonDecreasingBy inlined_place xs → places_of_depth depth (in_order inlined_sooner xs) ≡ in_order begins (places_of_depth depth xs)
   depth_in_order xs up =
       let o = begins_order place_begin place_end in
       one_order begins o _ _ (depth_ordered depth (in_order inlined_sooner xs) (in_order_ordered inlined_sooner inlined_order xs)) (in_order_ordered begins o (places_of_depth depth xs))
-      (λ z. filter-filter of_it (ties begins z) (in_order inlined_sooner xs) ∙ in_order_keeps inlined_sooner (λ x. of_it x && ties begins z x) xs (none_sooner z xs (rising_up place xs up))
+      (λ z. filter-filter of_it (ties begins z) (in_order inlined_sooner xs) ∙ in_order_keeps inlined_sooner (λ x. of_it x && ties begins z x) xs (none_sooner z xs (rising_up inlined_place xs up))
       ∙ sym (filter-filter of_it (ties begins z) xs) ∙ sym (in_order_ties begins o z (places_of_depth depth xs)))
 
-  pub place_in_order : (probe : ℕ) (xs : List InlinedFunctionAddress) → IsNonDecreasingBy place xs → place_at probe depth (in_order inlined_sooner xs) ≡ place_at probe depth xs
-  place_in_order probe xs up = ap (λ ys. option_map place (pick place_begin place_end probe ys)) (depth_in_order xs up) ∙ ap (option_map place) (pick_in_order place_begin place_end probe (places_of_depth depth xs))
+  pub place_in_order : (probe : ℕ) (xs : List InlinedFunctionAddress) → IsNonDecreasingBy inlined_place xs → place_at probe depth (in_order inlined_sooner xs) ≡ place_at probe depth xs
+  place_in_order probe xs up = ap (λ ys. option_map inlined_place (pick place_begin place_end probe ys)) (depth_in_order xs up) ∙ ap (option_map inlined_place) (pick_in_order place_begin place_end probe (places_of_depth depth xs))
 
 -- so they give the same chain
-pub within_in_order : (n probe depth : ℕ) (xs : List InlinedFunctionAddress) → IsNonDecreasingBy place xs → places_within n probe depth (in_order inlined_sooner xs) ≡ places_within n probe depth xs
+pub within_in_order : (n probe depth : ℕ) (xs : List InlinedFunctionAddress) → IsNonDecreasingBy inlined_place xs → places_within n probe depth (in_order inlined_sooner xs) ≡ places_within n probe depth xs
 within_in_order zero probe depth xs up = refl
 within_in_order (suc n) probe depth xs up =
     ap (λ (o : Option ℕ). elim o [ None ↦ [] | Some x ↦ x ∷ places_within n probe (depth + 1) (in_order inlined_sooner xs) ]) (place_in_order depth probe xs up)
     ∙ ap (λ (rest : List ℕ). elim (place_at probe depth xs) [ None ↦ [] | Some x ↦ x ∷ rest ]) (within_in_order n probe (depth + 1) xs up)
 
-pub chain_in_order : (probe : ℕ) (xs : List InlinedFunctionAddress) → IsNonDecreasingBy place xs → places_chain probe (in_order inlined_sooner xs) ≡ places_chain probe xs
+pub chain_in_order : (probe : ℕ) (xs : List InlinedFunctionAddress) → IsNonDecreasingBy inlined_place xs → places_chain probe (in_order inlined_sooner xs) ≡ places_chain probe xs
 chain_in_order probe xs up = ap (λ n. places_within n probe 0 (in_order inlined_sooner xs)) (length_in_order inlined_sooner xs) ∙ within_in_order (length xs) probe 0 xs up
 
 -- what is picked of images is the image of what is picked
@@ -227,7 +227,7 @@ module _ (entry_of : ℕ → InlinedEntry) (probe : ℕ) (xs : List InlinedFunct
     where
       by_cases : inlined_within n probe (depth + 1) (map (inlined_range_of entry_of) xs) ≡ map entry_of (places_within n probe (depth + 1) xs) → (o : Option InlinedFunctionAddress)
           → elim (option_map (inlined_range_of entry_of) o) [ None ↦ [] | Some x ↦ x.entry ∷ inlined_within n probe (depth + 1) (map (inlined_range_of entry_of) xs) ]
-          ≡ map entry_of (elim (option_map place o) [ None ↦ [] | Some x ↦ x ∷ places_within n probe (depth + 1) xs ])
+          ≡ map entry_of (elim (option_map inlined_place o) [ None ↦ [] | Some x ↦ x ∷ places_within n probe (depth + 1) xs ])
       by_cases e None = refl
       by_cases e (Some x) = ap (λ rest. entry_of x.function ∷ rest) e
 
@@ -239,7 +239,7 @@ module _ (entry_of : ℕ → InlinedEntry) (probe : ℕ) (xs : List InlinedFunct
   chain_by_entries = ap (λ n. inlined_within n probe 0 (map (inlined_range_of entry_of) xs)) (length_by_entries xs) ∙ within_by_entries (length xs) 0
 
 -- the chain of ranges as they are listed, by those in order
-pub listed_chain : (entry_of : ℕ → InlinedEntry) (probe : ℕ) (listed ranges : List InlinedFunctionAddress) → IsNonDecreasingBy place listed → ranges ≡ in_order inlined_sooner listed
+pub listed_chain : (entry_of : ℕ → InlinedEntry) (probe : ℕ) (listed ranges : List InlinedFunctionAddress) → IsNonDecreasingBy inlined_place listed → ranges ≡ in_order inlined_sooner listed
     → map entry_of (places_chain probe ranges) ≡ inlined_chain probe (map (inlined_range_of entry_of) listed)
 listed_chain entry_of probe listed ranges up e =
     ap (λ ys. map entry_of (places_chain probe ys)) e ∙ ap (map entry_of) (chain_in_order probe listed up) ∙ sym (chain_by_entries entry_of probe listed)

@@ -10,7 +10,7 @@ use Rattle.std.proofs.lemmas.List.Elements.{All-from_recursion}
 use Rattle.gimli_read.specs.Topmost.{last}
 use Rattle.addr2line_lines.specs.declared.picks.InlinedFunctionAddress.{InlinedFunctionAddress}
 use Rattle.addr2line_lines.specs.InOrder.{IsInOrder, begins_sooner}
-use Rattle.addr2line_lines.specs.InlinedOrder.{inlined_sooner, place, place_at, place_begin, place_end, places_of_depth, places_within}
+use Rattle.addr2line_lines.specs.InlinedOrder.{inlined_sooner, inlined_place, place_at, place_begin, place_end, places_of_depth, places_within}
 use Rattle.addr2line_lines.specs.Pick.{candidate, if_past}
 use Rattle.addr2line_lines.proofs.OrderPick.{candidate_ordered}
 use Rattle.gimli_read.proofs.TopmostLemmas.{filter-filter}
@@ -76,8 +76,8 @@ module _ (depth probe : ℕ) (ys : List InlinedFunctionAddress) (up : IsInOrder 
   counting_last =
       candidate_ordered place_begin place_end probe (places_of_depth depth ys) (depth_ordered depth ys up) ∙ ap last (filter-filter (λ (x : InlinedFunctionAddress). x.depth == depth) (λ x. nat_le x.range.begin probe) ys)
 
-  place_is : (o : Option InlinedFunctionAddress) → last (filter counts ys) ≡ o → place_at probe depth ys ≡ option_map place (option_and_then (if_past place_end probe) o)
-  place_is o e = ap (λ x. option_map place (option_and_then (if_past place_end probe) x)) (counting_last ∙ e)
+  place_is : (o : Option InlinedFunctionAddress) → last (filter counts ys) ≡ o → place_at probe depth ys ≡ option_map inlined_place (option_and_then (if_past place_end probe) o)
+  place_is o e = ap (λ x. option_map inlined_place (option_and_then (if_past place_end probe) x)) (counting_last ∙ e)
 
   module _ (past : ℕ) (point : IsPlacePast depth probe ys past) where
     -- no range past the place counts
@@ -112,7 +112,7 @@ module _ (depth probe : ℕ) (ys : List InlinedFunctionAddress) (up : IsInOrder 
         by_place k d high true e = before k d (grind (arith, nat_tests)) (nat_lt k (past - 1)) refl
 
     -- the last range before the place counts where it is of the depth
-    last_counts : (d : InlinedFunctionAddress) → 0 < past → past ≤ length ys → ((get_or ys (past - 1) d).depth == depth) ≡ true → place_at probe depth ys ≡ option_map place (if_past place_end probe (get_or ys (past - 1) d))
+    last_counts : (d : InlinedFunctionAddress) → 0 < past → past ≤ length ys → ((get_or ys (past - 1) d).depth == depth) ≡ true → place_at probe depth ys ≡ option_map inlined_place (if_past place_end probe (get_or ys (past - 1) d))
     last_counts d some bound e =
         let y = get_or ys (past - 1) d in
         let next : past - 1 + 1 ≡ past = omega arith in
@@ -124,7 +124,7 @@ module _ (depth probe : ℕ) (ys : List InlinedFunctionAddress) (up : IsInOrder 
     pub it_counts : (d : InlinedFunctionAddress) → 0 < past → past ≤ length ys → (get_or ys (past - 1) d).depth ≡ depth → probe < (get_or ys (past - 1) d).range.end → place_at probe depth ys ≡ Some (get_or ys (past - 1) d).function
     it_counts d some bound e l =
         let y = get_or ys (past - 1) d in
-        last_counts d some bound (grind (arith, nat_tests)) ∙ ap (λ b. option_map place (cond b (Some y) None)) (below y.range.end l)
+        last_counts d some bound (grind (arith, nat_tests)) ∙ ap (λ b. option_map inlined_place (cond b (Some y) None)) (below y.range.end l)
       where
         below : (b : ℕ) → probe < b → nat_lt probe b ≡ true
         below b h = grind (arith, nat_tests)
@@ -132,7 +132,7 @@ module _ (depth probe : ℕ) (ys : List InlinedFunctionAddress) (up : IsInOrder 
     pub it_ends : (d : InlinedFunctionAddress) → 0 < past → past ≤ length ys → (get_or ys (past - 1) d).depth ≡ depth → (get_or ys (past - 1) d).range.end ≤ probe → place_at probe depth ys ≡ None
     it_ends d some bound e l =
         let y = get_or ys (past - 1) d in
-        last_counts d some bound (grind (arith, nat_tests)) ∙ ap (λ b. option_map place (cond b (Some y) None)) (above y.range.end l)
+        last_counts d some bound (grind (arith, nat_tests)) ∙ ap (λ b. option_map inlined_place (cond b (Some y) None)) (above y.range.end l)
       where
         above : (b : ℕ) → b ≤ probe → nat_lt probe b ≡ false
         above b h = grind (arith, nat_tests)

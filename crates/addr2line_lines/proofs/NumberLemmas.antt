@@ -13,7 +13,7 @@ use Rattle.gimli_read.specs.declared.value.AttributeValue.TheVariants as values
 use Rattle.gimli_read.specs.declared.value.UnitOffset.{UnitOffset}
 use Rattle.gimli_read.specs.Abbreviations.{Specification}
 use Rattle.gimli_read.specs.Form.{NamedValue, attribute_at, constant_of, implicit_of, named_value, value_at}
-use Rattle.gimli_read.specs.NumberValue.{implicit_number, is_number_form, number_address, number_at, number_constant, number_of}
+use Rattle.gimli_read.specs.NumberValue.{implicit_number, is_number_form, number_address, number_at, number_constant, number_if}
 use Rattle.gimli_read.specs.Reading.{Reading, ◌>>=◌, ExactlyUnlessOomIf}
 use Rattle.gimli_read.specs.Section.{Section}
 use Rattle.gimli.specs.Sections.{Sections}
@@ -31,7 +31,7 @@ use Rattle.addr2line_lines.proofs.NameLemmas.{within_none}
 
 -- what holds of each value that is a number
 by_number : (P : AttributeValue Section → NumberValue → Type 0) → ((x : ℕ) → P (values.Addr x) (numbers.Address x)) → ((x : ℕ) → P (values.Data1 x) (numbers.Constant x)) → ((x : ℕ) → P (values.Data2 x) (numbers.Constant x)) → ((x : ℕ) → P (values.Data4 x) (numbers.Constant x))
-    → ((x : ℕ) → P (values.Data8 x) (numbers.Constant x)) → ((x : ℕ) → P (values.Udata x) (numbers.Constant x)) → ((x : ℕ) → P (values.Sdata (pos x)) (numbers.Constant x)) → ((x : UnitOffset) → P (values.UnitRef x) (numbers.UnitRef x)) → (v : AttributeValue Section) (n : NumberValue) → number_of v ≡ Some n → P v n
+    → ((x : ℕ) → P (values.Data8 x) (numbers.Constant x)) → ((x : ℕ) → P (values.Udata x) (numbers.Constant x)) → ((x : ℕ) → P (values.Sdata (pos x)) (numbers.Constant x)) → ((x : UnitOffset) → P (values.UnitRef x) (numbers.UnitRef x)) → (v : AttributeValue Section) (n : NumberValue) → number_if v ≡ Some n → P v n
 by_number P a b c d e f g o (values.Addr x) n h = subst (P (values.Addr x)) (let same : numbers.Address x ≡ n = cc in same) (a x)
 by_number P a b c d e f g o (values.Data1 x) n h = subst (P (values.Data1 x)) (let same : numbers.Constant x ≡ n = cc in same) (b x)
 by_number P a b c d e f g o (values.Data2 x) n h = subst (P (values.Data2 x)) (let same : numbers.Constant x ≡ n = cc in same) (c x)
@@ -59,11 +59,11 @@ by_number P a b c d e f g o (values.DebugLineStrRef x) n h = absurd cc
 by_number P a b c d e f g o (values.String x) n h = absurd cc
 
 -- the constant that the value is
-pub as_constant : (v : AttributeValue Section) (n : NumberValue) → number_of v ≡ Some n → constant_of v ≡ number_constant n
+pub as_constant : (v : AttributeValue Section) (n : NumberValue) → number_if v ≡ Some n → constant_of v ≡ number_constant n
 as_constant v n h = by_number (λ w m. constant_of w ≡ number_constant m) (λ x. refl) (λ x. refl) (λ x. refl) (λ x. refl) (λ x. refl) (λ x. refl) (λ x. refl) (λ x. refl) v n h
 
 -- the address that it is
-as_address : (d : Sections) (u : UnitRecord) (v : AttributeValue Section) (n : NumberValue) → number_of v ≡ Some n → attr_address d u v ≡ Ok (number_address n)
+as_address : (d : Sections) (u : UnitRecord) (v : AttributeValue Section) (n : NumberValue) → number_if v ≡ Some n → attr_address d u v ≡ Ok (number_address n)
 as_address d u v n h = by_number (λ w m. attr_address d u w ≡ Ok (number_address m)) (λ x. refl) (λ x. refl) (λ x. refl) (λ x. refl) (λ x. refl) (λ x. refl) (λ x. refl) (λ x. refl) v n h
 
 -- the name by it, where it is a reference
@@ -76,7 +76,7 @@ unreferred : (scope : Scope) (u : UnitRecord) (found : Option Section) (v : Attr
 unreferred scope u (Some name) v h = refl
 unreferred scope u None v h = within_none 16 15 scope u v refl h
 
-as_reference : (scope : Scope) (u : UnitRecord) (found : Option Section) (v : AttributeValue Section) (n : NumberValue) → number_of v ≡ Some n → or_referred_name scope u found v ≡ name_by_number scope u found n
+as_reference : (scope : Scope) (u : UnitRecord) (found : Option Section) (v : AttributeValue Section) (n : NumberValue) → number_if v ≡ Some n → or_referred_name scope u found v ≡ name_by_number scope u found n
 as_reference scope u found v n h =
     by_number (λ w m. or_referred_name scope u found w ≡ name_by_number scope u found m) (λ x. unreferred scope u found (values.Addr x) refl) (λ x. unreferred scope u found (values.Data1 x) refl) (λ x. unreferred scope u found (values.Data2 x) refl) (λ x. unreferred scope u found (values.Data4 x) refl)
     (λ x. unreferred scope u found (values.Data8 x) refl) (λ x. unreferred scope u found (values.Udata x) refl) (λ x. unreferred scope u found (values.Sdata (pos x)) refl) (λ x. refl) v n h
@@ -92,7 +92,7 @@ twice false true h = refl
 twice false false h = absurd cc
 
 -- low_pc or high_pc
-pub address_number : (d : Sections) (u : UnitRecord) (r : RangeAttributes) (name : DwAt) (v : AttributeValue Section) (n : NumberValue) → number_of v ≡ Some n → is_address_name name ≡ true → with_range_attribute d u r (attribute_of name v) ≡ Ok (with_range_number r name n)
+pub address_number : (d : Sections) (u : UnitRecord) (r : RangeAttributes) (name : DwAt) (v : AttributeValue Section) (n : NumberValue) → number_if v ≡ Some n → is_address_name name ≡ true → with_range_attribute d u r (attribute_of name v) ≡ Ok (with_range_number r name n)
 unfolding with_range_attribute
 address_number d u r name v n h is =
     by_one_of DW_AT_low_pc DW_AT_high_pc DW_AT_high_pc (λ k. with_range_attribute d u r (attribute_of k v) ≡ Ok (with_range_number r k n)) (ap with_low address) high high name (twice (name.0 == DW_AT_low_pc.0) (name.0 == DW_AT_high_pc.0) is)
@@ -109,7 +109,7 @@ address_number d u r name v n h is =
     high : with_range_attribute d u r (attribute_of DW_AT_high_pc v) ≡ Ok (with_range_number r DW_AT_high_pc n)
     high = ap (with_high (constant_of v)) address ∙ ap (λ c. with_high c (Ok (number_address n))) (as_constant v n h)
 
-range_number : (d : Sections) (u : UnitRecord) (r : RangeAttributes) (name : DwAt) (v : AttributeValue Section) (n : NumberValue) → number_of v ≡ Some n → is_range_name name ≡ true → is_number_name name ≡ true → with_range_attribute d u r (attribute_of name v) ≡ Ok (with_range_number r name n)
+range_number : (d : Sections) (u : UnitRecord) (r : RangeAttributes) (name : DwAt) (v : AttributeValue Section) (n : NumberValue) → number_if v ≡ Some n → is_range_name name ≡ true → is_number_name name ≡ true → with_range_attribute d u r (attribute_of name v) ≡ Ok (with_range_number r name n)
 range_number d u r name v n h is number =
     by_range_name (λ k. is_number_name k ≡ true → with_range_attribute d u r (attribute_of k v) ≡ Ok (with_range_number r k n)) (λ _. address_number d u r DW_AT_low_pc v n h refl) (λ _. address_number d u r DW_AT_high_pc v n h refl) (λ no. absurd cc) name is number
 
@@ -131,7 +131,7 @@ unfolding with_name
 origin_name scope u found name v is =
     by_one_of DW_AT_abstract_origin DW_AT_specification DW_AT_specification (λ k. with_name scope u found (attribute_of k v) ≡ or_referred_name scope u found v) refl refl refl name (twice (name.0 == DW_AT_abstract_origin.0) (name.0 == DW_AT_specification.0) is)
 
-module _ (scope : Scope) (u : UnitRecord) (x : InlinedAttributes) (name : DwAt) (v : AttributeValue Section) (n : NumberValue) (is : number_of v ≡ Some n) where
+module _ (scope : Scope) (u : UnitRecord) (x : InlinedAttributes) (name : DwAt) (v : AttributeValue Section) (n : NumberValue) (is : number_if v ≡ Some n) where
   -- a number of a call
   pub call_number : is_call name ≡ true → with_inlined_attribute scope u x (attribute_of name v) ≡ Ok (record { ranges = x.ranges; name = x.name; call = with_call_constant u.header.encoding.version x.call name (number_constant n) })
   call_number c = call_taken scope u x (attribute_of name v) c ∙ ap (λ k. Ok (record { ranges = x.ranges; name = x.name; call = with_call_constant u.header.encoding.version x.call name k })) (as_constant v n is)
@@ -171,7 +171,7 @@ none_is_some n s t h = ap (λ (y : Option NumberValue × Section). y.0) (let sam
 pub record ReadAsNumber (given : Reading NamedValue) (left : Section) (n : NumberValue) : Type 0 where
   pub attribute : NamedValue
   pub is : given ≡ Ok (attribute, left)
-  pub number : number_of attribute.value ≡ Some n
+  pub number : number_if attribute.value ≡ Some n
 
 pub number_read : (e : Encoding) (x : Specification) (s t : Section) (n : NumberValue) → number_at e x s ≡ Ok (Some n, t) → ReadAsNumber (attribute_at e x s) t n
 unfolding attribute_at
@@ -187,13 +187,13 @@ number_read e x s t n h = by_form (x.form.0 == DW_FORM_implicit_const.0) refl (i
         record { attribute = named_value x (values.Sdata (pos m)); is = is ∙ ap (λ (y : Option NumberValue × Section). Ok (named_value x (values.Sdata (pos m)), y.1)) same; number = ap (λ (y : Option NumberValue × Section). y.0) same }
     by_constant (Some (negsuc m)) is h = absurd (let no = none_is_some n s t h in cc)
 
-    read : (r : Reading NamedValue) → attribute_at e x s ≡ r → ◌≡◌ {A = Reading (Option NumberValue)} (r >>= λ a. Ok (number_of a.0.value, a.1)) (Ok (Some n, t)) → ReadAsNumber (attribute_at e x s) t n
+    read : (r : Reading NamedValue) → attribute_at e x s ≡ r → ◌≡◌ {A = Reading (Option NumberValue)} (r >>= λ a. Ok (number_if a.0.value, a.1)) (Ok (Some n, t)) → ReadAsNumber (attribute_at e x s) t n
     read (Ok a) is h =
-        let same : ◌≡◌ {A = Option NumberValue × Section} (number_of a.0.value, a.1) (Some n, t) = cc in
+        let same : ◌≡◌ {A = Option NumberValue × Section} (number_if a.0.value, a.1) (Some n, t) = cc in
         record { attribute = a.0; is = is ∙ ap (λ (y : Option NumberValue × Section). Ok (a.0, y.1)) same; number = ap (λ (y : Option NumberValue × Section). y.0) same }
     read (Err f) is h = absurd cc
 
-    by_form : (b : Bool) → (x.form.0 == DW_FORM_implicit_const.0) ≡ b → (c : Bool) → ◌≡◌ {A = Reading (Option NumberValue)} (cond b (Ok (implicit_number x.constant, s)) (cond c (attribute_at e x s >>= λ a. Ok (number_of a.0.value, a.1)) (Ok (None, s)))) (Ok (Some n, t))
+    by_form : (b : Bool) → (x.form.0 == DW_FORM_implicit_const.0) ≡ b → (c : Bool) → ◌≡◌ {A = Reading (Option NumberValue)} (cond b (Ok (implicit_number x.constant, s)) (cond c (attribute_at e x s >>= λ a. Ok (number_if a.0.value, a.1)) (Ok (None, s)))) (Ok (Some n, t))
         → ReadAsNumber (attribute_at e x s) t n
     by_form true is c h = by_constant x.constant (ap (λ b. cond b (named_constant x.constant) (value_at e x.form.0 s >>= λ v. Ok (named_value x v.0, v.1))) is) h
     by_form false is true h = read (attribute_at e x s) refl h
@@ -203,11 +203,11 @@ number_read e x s t n h = by_form (x.form.0 == DW_FORM_implicit_const.0) refl (i
 pub number_fault : (e : Encoding) (x : Specification) (s : Section) (f : Error) → number_at e x s ≡ Err f → attribute_at e x s ≡ Err f
 number_fault e x s f h = by_form (x.form.0 == DW_FORM_implicit_const.0) (is_number_form x.form) h
   where
-    read : (r : Reading NamedValue) → ◌≡◌ {A = Reading (Option NumberValue)} (r >>= λ a. Ok (number_of a.0.value, a.1)) (Err f) → r ≡ Err f
+    read : (r : Reading NamedValue) → ◌≡◌ {A = Reading (Option NumberValue)} (r >>= λ a. Ok (number_if a.0.value, a.1)) (Err f) → r ≡ Err f
     read (Ok a) h = absurd cc
     read (Err g) h = let same : g ≡ f = cc in ap Err same
 
-    by_form : (b c : Bool) → ◌≡◌ {A = Reading (Option NumberValue)} (cond b (Ok (implicit_number x.constant, s)) (cond c (attribute_at e x s >>= λ a. Ok (number_of a.0.value, a.1)) (Ok (None, s)))) (Err f) → attribute_at e x s ≡ Err f
+    by_form : (b c : Bool) → ◌≡◌ {A = Reading (Option NumberValue)} (cond b (Ok (implicit_number x.constant, s)) (cond c (attribute_at e x s >>= λ a. Ok (number_if a.0.value, a.1)) (Ok (None, s)))) (Err f) → attribute_at e x s ≡ Err f
     by_form true c h = absurd cc
     by_form false true h = read (attribute_at e x s) h
     by_form false false h = absurd cc

@@ -65,8 +65,8 @@ row_taken b r =
     else record { sequences = b.sequences; pending = with_row b.pending r }
 
 -- what rows make of what there is
-abbrev pub all_taken : Built → List LineRow → Built
-all_taken b rows = fold row_taken b rows
+abbrev pub all_built : Built → List LineRow → Built
+all_built b rows = fold row_taken b rows
 
 -- how many rows are stored
 abbrev pub stored_rows : Built → ℕ

@@ -14,7 +14,7 @@ use Rattle.addr2line_lines.specs.Details.{Detail}
 use Rattle.addr2line_lines.specs.FoundInlined.{FoundInlined, IsFoundMore, range_among, seen_lists}
 use Rattle.addr2line_lines.specs.Grown.{IsGrown}
 use Rattle.addr2line_lines.specs.InOrder.{in_order}
-use Rattle.addr2line_lines.specs.InlinedOrder.{inlined_sooner, place}
+use Rattle.addr2line_lines.specs.InlinedOrder.{inlined_sooner, inlined_place}
 
 -- names, inlined entries and ranges, and the names of entries that are referred to
 pub record CachedDetails : Type 0 where
@@ -63,7 +63,7 @@ pub record IsDetailPlace (d : CachedDetails) (p : FunctionDetail) : Type 0 where
   pub ranges_begin : p.ranges_begin ≤ p.ranges_end
   pub ranges_end : p.ranges_end ≤ length d.found.ranges
   pub places : All (IsOfEntryBetween p.inlined_begin p.inlined_end) (listed_ranges p)
-  pub rising : IsNonDecreasingBy place (listed_ranges p)
+  pub rising : IsNonDecreasingBy inlined_place (listed_ranges p)
   pub ordered : between p.ranges_begin p.ranges_end d.found.ranges
       ≡ in_order inlined_sooner (listed_ranges p)
 

@@ -20,12 +20,12 @@ pub record CachedName : Type 0 where
   pub name : Option Section
 
 -- a name that is cached
-abbrev pub seen_name : {R : Type 0} → (R → Section) → declared_name.CachedName R → CachedName
-seen_name see n = record { offset = n.offset; name = option_map see n.name.value }
+abbrev pub seen_cached_name : {R : Type 0} → (R → Section) → declared_name.CachedName R → CachedName
+seen_cached_name see n = record { offset = n.offset; name = option_map see n.name.value }
 
 -- the names that are cached
 abbrev pub seen_names : {R : Type 0} → (R → Section) → NameCache R → List CachedName
-seen_names see c = map (seen_name see) c.names.items
+seen_names see c = map (seen_cached_name see) c.names.items
 
 -- the name is that which a reference to the entry gives
 abbrev pub IsNameOf : Scope → UnitRecord → CachedName → Type 0

@@ -71,9 +71,9 @@ with_found d u found x = elim x.entry [
 ]
 
 -- those of the next item, and where it ends
-abbrev pub found_at : Sections → UnitRecord → EntryUnit → EntryCursor → FoundFunctions
+abbrev pub next_found_at : Sections → UnitRecord → EntryUnit → EntryCursor → FoundFunctions
     → Result (FoundFunctions × EntryCursor) Error
-found_at d u unit cursor found = next_item_at unit cursor >>= λ x. elim x.0 [
+next_found_at d u unit cursor found = next_item_at unit cursor >>= λ x. elim x.0 [
   | None ↦ Ok (found, x.1)
   | Some item ↦ with_found d u found item >>= λ more. Ok (more, x.1)
 ]

@@ -9,7 +9,7 @@ use Rattle.gimli_read.specs.declared.value.AttributeValue.{AttributeValue}
 use Rattle.gimli_read.specs.declared.value.AttributeValue.TheVariants as values
 use Rattle.gimli_read.specs.declared.value.UnitOffset.{UnitOffset}
 use Rattle.gimli_read.specs.Form.{NamedValue}
-use Rattle.gimli_read.specs.NumberValue.{number_address, number_constant, number_of}
+use Rattle.gimli_read.specs.NumberValue.{number_address, number_constant, number_if}
 use Rattle.gimli_read.specs.Reading.{Reading, ◌>>=◌, ExactlyUnlessOomIf}
 use Rattle.gimli_read.specs.Section.{Section}
 use Rattle.gimli.specs.Unit.{UnitRecord}
@@ -49,7 +49,7 @@ with_origin_name scope u x offset =
 abbrev pub IsNumberTaken : {X Y : Type 0} → Bool → (X → Y) → (NamedValue → Y → Result Y Error)
     → DwAt → NumberValue → Result X Error → Result X Error → Type 0
 IsNumberTaken may view more name number old result =
-    (value : AttributeValue Section) → number_of value ≡ Some number
+    (value : AttributeValue Section) → number_if value ≡ Some number
     → IsTakenIn may view (more (record { name = name; value = value })) old result
 
 -- a number was read, which was wanted; or none, which was wanted of no value that is one, and nothing

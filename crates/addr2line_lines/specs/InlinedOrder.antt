@@ -16,8 +16,8 @@ abbrev pub place_end : InlinedFunctionAddress → ℕ
 place_end x = x.range.end
 
 -- the place of the entry
-abbrev pub place : InlinedFunctionAddress → ℕ
-place x = x.function
+abbrev pub inlined_place : InlinedFunctionAddress → ℕ
+inlined_place x = x.function
 
 -- by depth, then by begin, then by end, then by place
 abbrev pub inlined_sooner : InlinedFunctionAddress → InlinedFunctionAddress → Bool
@@ -32,7 +32,7 @@ places_of_depth depth ranges = filter (λ (x : InlinedFunctionAddress). x.depth 
 -- the place of the entry whose range of a depth is picked for the probe
 abbrev pub place_at : ℕ → ℕ → List InlinedFunctionAddress → Option ℕ
 place_at probe depth ranges =
-    option_map place (pick place_begin place_end probe (places_of_depth depth ranges))
+    option_map inlined_place (pick place_begin place_end probe (places_of_depth depth ranges))
 
 -- the places that are picked from a depth on, at most n, up to the first depth without one
 abbrev pub places_within : ℕ → ℕ → ℕ → List InlinedFunctionAddress → List ℕ

@@ -9,9 +9,9 @@ use Rattle.addr2line_lines.specs.declared.short_list.ListStore.TheVariants as st
 use Rattle.addr2line_lines.specs.StoredRows.{Width, Short, Whole}
 
 -- whether an element can be stored so: short, beside a base, or whole
-abbrev pub stores : {X : Type 0} → (ℕ → X → Bool) → Width → X → Bool
-stores fits (Short base) x = fits base x
-stores fits Whole x = true
+abbrev pub can_store : {X : Type 0} → (ℕ → X → Bool) → Width → X → Bool
+can_store fits (Short base) x = fits base x
+can_store fits Whole x = true
 
 -- the elements that are stored, and how
 pub record StoredList (X : Type 0) : Type 0 where
@@ -19,20 +19,20 @@ pub record StoredList (X : Type 0) : Type 0 where
   pub width : Width
 
 -- before the first element
-abbrev pub none_stored : {X : Type 0} → StoredList X
-none_stored = record { elements = []; width = Short 0 }
+abbrev pub no_elements : {X : Type 0} → StoredList X
+no_elements = record { elements = []; width = Short 0 }
 
 module _ {X : Type 0} (fits : ℕ → X → Bool) (base_of : X → ℕ) where
   -- how one more element is stored after so many, and these with it
-  abbrev pub width_after : ℕ → Width → X → Width
-  width_after count w x =
-      if stores fits w x then w
+  abbrev pub width_with : ℕ → Width → X → Width
+  width_with count w x =
+      if can_store fits w x then w
       else if (count == 0) && fits (base_of x) x then Short (base_of x)
       else Whole
 
   -- so many elements are stored as before, or as one more needs it
-  abbrev pub IsWidthFor : X → ℕ → Width → Width → Type 0
-  IsWidthFor x count old new = (new ≡ old) ⊎ (new ≡ width_after count old x)
+  abbrev pub IsWidthWith : X → ℕ → Width → Width → Type 0
+  IsWidthWith x count old new = (new ≡ old) ⊎ (new ≡ width_with count old x)
 
 -- what is stored stands for these elements
 abbrev pub whole_elements : {S X : Type 0} → (ℕ → S → X) → ListStore S X → List X
@@ -40,6 +40,6 @@ whole_elements whole (stored.Short base list) = map (whole base) list.items
 whole_elements whole (stored.Whole list) = list.items
 
 -- how they are stored
-abbrev pub width_of : {S X : Type 0} → ListStore S X → Width
-width_of (stored.Short base list) = Short base
-width_of (stored.Whole list) = Whole
+abbrev pub store_width : {S X : Type 0} → ListStore S X → Width
+store_width (stored.Short base list) = Short base
+store_width (stored.Whole list) = Whole

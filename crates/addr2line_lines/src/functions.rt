@@ -18,7 +18,7 @@ ghost use Rattle.addr2line_lines.specs.RangeAttributes.{begins_well, gives_a_ran
 ghost use Rattle.addr2line_lines.specs.References.{IsScope};
 ghost use Rattle.addr2line_lines.specs.SeenInlined.{seen_inlined};
 ghost use Rattle.addr2line_lines.specs.SeenScope.{seen_scope};
-ghost use Rattle.addr2line_lines.specs.FoundFunctions.{AreFoundUnread, found_at, found_in, item_takes_memory, none_found, seen_functions, with_attributes, with_range_list, with_ranges};
+ghost use Rattle.addr2line_lines.specs.FoundFunctions.{AreFoundUnread, next_found_at, found_in, item_takes_memory, none_found, seen_functions, with_attributes, with_range_list, with_ranges};
 
 use crate::details::{Details, FunctionDetail};
 use crate::function::{RangeAttributes, has_range_attribute, read_range_attributes};
@@ -160,7 +160,7 @@ fn read_item<R: Reader>(
     ensures gives { ExactlyUnlessOomIf (item_takes_memory R.shares unit.entry.dwarf.now
         unit.entry.unit.now entries.old.unit entries.old.cursor)
         (λ _. (seen_functions found.new, entries.new.cursor)) result
-        (found_at unit.entry.dwarf.now unit.entry.unit.now entries.old.unit entries.old.cursor
+        (next_found_at unit.entry.dwarf.now unit.entry.unit.now entries.old.unit entries.old.cursor
         (seen_functions found.old)) }
     ensures unread { AreFoundUnread found.old → AreFoundUnread found.new }
     ensures unit { entries.new.unit ≡ entries.old.unit }

@@ -2,7 +2,7 @@
 
 ghost use Rattle.std.specs.Prelude.{◌≡◌, ◌∷◌, ◌++◌, [], true, length, option_map, slice_get, take, OnErr, OnOk};
 ghost use Rattle.addr2line_lines.specs.SeenInlined.{seen_inlined};
-ghost use Rattle.addr2line_lines.specs.ShortLists.{IsWidthFor, width_after};
+ghost use Rattle.addr2line_lines.specs.ShortLists.{IsWidthWith, width_with};
 ghost use Rattle.addr2line_lines.specs.StoredInlined.{call_fits, call_of_short, entry_of_call, file_fits, file_of_short, no_base, no_inlined_stored, short_file, stored_name};
 
 use crate::inlined::CallSite;
@@ -211,9 +211,9 @@ impl<R: Reader> InlinedFunctions<R> {
         ensures gives { OnOk result (self.new.entries ≡ self.old.entries
             ++ entry_of_call (stored_name R.section name) call ∷ []) }
         ensures width { OnOk result (self.new.width
-            ≡ width_after call_fits no_base (length self.old.entries) self.old.width call) }
+            ≡ width_with call_fits no_base (length self.old.entries) self.old.width call) }
         ensures refused { OnErr result ((self.new.entries ≡ self.old.entries)
-            × IsWidthFor call_fits no_base call (length self.old.entries)
+            × IsWidthWith call_fits no_base call (length self.old.entries)
             self.old.width self.new.width) }
     {
         let before = self.names.len();

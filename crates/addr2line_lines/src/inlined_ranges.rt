@@ -6,7 +6,7 @@ ghost use Rattle.addr2line_lines.specs.CachedDetails.{between};
 ghost use Rattle.addr2line_lines.specs.InOrder.{IsInOrder, in_order};
 ghost use Rattle.addr2line_lines.specs.InlinedOrder.{inlined_sooner, places_chain};
 ghost use Rattle.addr2line_lines.specs.InlineRoom.{exceeds_inline_room};
-ghost use Rattle.addr2line_lines.specs.StoredRanges.{address_of, are_narrow, range_fits, range_of_short, upper_half, upper_of_range};
+ghost use Rattle.addr2line_lines.specs.StoredRanges.{address_of_halves, is_narrow_range, range_fits, range_of_short, upper_half, upper_of_range};
 
 use crate::picks::{InlinedFunctionAddress, InlinedPlaces, find_chain, sort_inlined_from};
 use crate::rows::HALF;
@@ -38,7 +38,7 @@ fn upper_half(address: u64) -> u32
 // The address of two halves.
 #[inline(always)]
 fn address_of(upper: u32, lower: u32) -> u64
-    ensures gives { result ≡ address_of upper lower }
+    ensures gives { result ≡ address_of_halves upper lower }
 {
     u64::from(upper) * HALF + u64::from(lower)
 }
@@ -46,7 +46,7 @@ fn address_of(upper: u32, lower: u32) -> u64
 // Whether a depth and a place have 32 bits.
 #[inline(always)]
 fn are_narrow(range: InlinedFunctionAddress) -> bool
-    ensures gives { result ≡ are_narrow range }
+    ensures gives { result ≡ is_narrow_range range }
 {
     range.depth <= GREATEST_NARROW && range.function <= GREATEST_NARROW
 }

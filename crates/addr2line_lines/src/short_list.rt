@@ -1,7 +1,7 @@
 //! Lists in few bytes an element, as long as each fits.
 
 ghost use Rattle.std.specs.Prelude.{◌≡◌, ◌∷◌, ◌++◌, [], true, false, length, map, slice_get, take, IfOk, OnErr, OnOk};
-ghost use Rattle.addr2line_lines.specs.ShortLists.{IsWidthFor, none_stored, stores, whole_elements, width_after, width_of};
+ghost use Rattle.addr2line_lines.specs.ShortLists.{IsWidthWith, no_elements, can_store, whole_elements, width_with, store_width};
 
 use crate::rows::push_one;
 use std::alloc::{AllocError, Global};
@@ -80,7 +80,7 @@ impl<S: Short> ListStore<S> {
     // Whether an element can be stored as the others are.
     #[inline(always)]
     fn stores(&self, element: S::Whole) -> bool
-        ensures gives { result ≡ stores S.fits (width_of self.now) element }
+        ensures gives { result ≡ can_store S.fits (store_width self.now) element }
     {
         match self {
             ListStore::Short(base, _) => S::fits(*base, element),
@@ -100,11 +100,11 @@ impl<S: Short> ListStore<S> {
 
     // The same elements, stored so that one more can be, which couldn't.
     fn widened(&self, alloc: Global, element: S::Whole) -> Result<ListStore<S>, AllocError>
-        requires beyond { stores S.fits (width_of self.now) element ≡ false }
+        requires beyond { can_store S.fits (store_width self.now) element ≡ false }
         ensures kept { IfOk result (λ s.
             whole_elements S.whole s ≡ whole_elements S.whole self.now) }
-        ensures width { IfOk result (λ s. width_of s ≡ width_after S.fits S.base_of
-            (length (whole_elements S.whole self.now)) (width_of self.now) element) }
+        ensures width { IfOk result (λ s. store_width s ≡ width_with S.fits S.base_of
+            (length (whole_elements S.whole self.now)) (store_width self.now) element) }
     {
         let base = S::base_of(element);
         if self.len() == 0 && S::fits(base, element) {
@@ -116,10 +116,10 @@ impl<S: Short> ListStore<S> {
     // Stores the elements so that one more can be.
     #[inline(never)]
     fn widen(&mut self, alloc: Global, element: S::Whole) -> Result<(), AllocError>
-        requires beyond { stores S.fits (width_of self.old) element ≡ false }
+        requires beyond { can_store S.fits (store_width self.old) element ≡ false }
         ensures kept { whole_elements S.whole self.new ≡ whole_elements S.whole self.old }
-        ensures width { OnOk result (width_of self.new ≡ width_after S.fits S.base_of
-            (length (whole_elements S.whole self.old)) (width_of self.old) element) }
+        ensures width { OnOk result (store_width self.new ≡ width_with S.fits S.base_of
+            (length (whole_elements S.whole self.old)) (store_width self.old) element) }
         ensures refused { OnErr result (self.new ≡ self.old) }
     {
         *self = self.widened(alloc, element)?;
@@ -129,10 +129,10 @@ impl<S: Short> ListStore<S> {
     // Stores the elements so that one more can be, unless they are.
     #[inline(always)]
     fn widen_for(&mut self, alloc: Global, element: S::Whole) -> Result<(), AllocError>
-        ensures stores { OnOk result (stores S.fits (width_of self.new) element ≡ true) }
+        ensures stores { OnOk result (can_store S.fits (store_width self.new) element ≡ true) }
         ensures kept { whole_elements S.whole self.new ≡ whole_elements S.whole self.old }
-        ensures width { OnOk result (width_of self.new ≡ width_after S.fits S.base_of
-            (length (whole_elements S.whole self.old)) (width_of self.old) element) }
+        ensures width { OnOk result (store_width self.new ≡ width_with S.fits S.base_of
+            (length (whole_elements S.whole self.old)) (store_width self.old) element) }
         ensures refused { OnErr result (self.new ≡ self.old) }
     {
         if self.stores(element) {
@@ -144,10 +144,10 @@ impl<S: Short> ListStore<S> {
     // Adds an element, which can be stored as the others are.
     #[inline(always)]
     fn push(&mut self, element: S::Whole) -> Result<(), AllocError>
-        requires stores { stores S.fits (width_of self.old) element ≡ true }
+        requires stores { can_store S.fits (store_width self.old) element ≡ true }
         ensures gives { OnOk result (whole_elements S.whole self.new
             ≡ whole_elements S.whole self.old ++ element ∷ []) }
-        ensures width { width_of self.new ≡ width_of self.old }
+        ensures width { store_width self.new ≡ store_width self.old }
         ensures refused { OnErr result
             (whole_elements S.whole self.new ≡ whole_elements S.whole self.old) }
     {
@@ -161,7 +161,7 @@ impl<S: Short> ListStore<S> {
     fn truncate(&mut self, len: usize)
         ensures gives { whole_elements S.whole self.new
             ≡ take len (whole_elements S.whole self.old) }
-        ensures width { width_of self.new ≡ width_of self.old }
+        ensures width { store_width self.new ≡ store_width self.old }
     {
         match self {
             ListStore::Short(_, list) => list.truncate(len),
@@ -189,20 +189,20 @@ pub(crate) struct ShortList<S: Short> {
 }
 
 impl<S: Short> Model for ShortList<S> {
-    ghost use Rattle.addr2line_lines.specs.ShortLists.{StoredList, whole_elements, width_of};
+    ghost use Rattle.addr2line_lines.specs.ShortLists.{StoredList, whole_elements, store_width};
 
     ghost Value = { StoredList S.Whole };
 
     ghost view = { λ l. record {
       elements = whole_elements S.whole l.store;
-      width = width_of l.store;
+      width = store_width l.store;
     } };
 }
 
 impl<S: Short> ShortList<S> {
     /// No elements. Takes no memory.
     pub(crate) fn new(alloc: Global) -> ShortList<S>
-        ensures gives { result ≡ none_stored }
+        ensures gives { result ≡ no_elements }
     {
         ShortList {
             alloc,
@@ -230,9 +230,9 @@ impl<S: Short> ShortList<S> {
     pub(crate) fn push(&mut self, element: S::Whole) -> Result<(), AllocError>
         ensures gives { OnOk result (self.new.elements ≡ self.old.elements ++ element ∷ []) }
         ensures width { OnOk result (self.new.width
-            ≡ width_after S.fits S.base_of (length self.old.elements) self.old.width element) }
+            ≡ width_with S.fits S.base_of (length self.old.elements) self.old.width element) }
         ensures refused { OnErr result ((self.new.elements ≡ self.old.elements)
-            × IsWidthFor S.fits S.base_of element (length self.old.elements)
+            × IsWidthWith S.fits S.base_of element (length self.old.elements)
             self.old.width self.new.width) }
     {
         self.store.widen_for(self.alloc, element)?;

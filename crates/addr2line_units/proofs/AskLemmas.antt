@@ -28,7 +28,7 @@ use Rattle.addr2line_units.specs.CachedKnown.{known_in}
 use Rattle.addr2line_units.specs.KnownEntries.{knows_detail_at}
 use Rattle.addr2line_units.specs.Parsed.{has_parsed}
 use Rattle.addr2line_units.specs.StoredUnits.{AreUnits, seen_units}
-use Rattle.addr2line_units.specs.UnitFrames.{FramesResult, asks_lines_in, frames_in, inlined_at}
+use Rattle.addr2line_units.specs.UnitFrames.{FramesResult, asks_lines_in, frames_in, inlined_of_unit}
 use Rattle.addr2line_units.specs.UnitsState.{IsFaultAt, UnitsState, asked_by, asks_no_memory_at, has_all_at, reads_no_memory_at}
 use Rattle.addr2line_units.proofs.CachedUnitLemmas.{entries_set, reads_set, same_answers, stay_entries_set}
 use Rattle.addr2line_units.proofs.FoundLemmas.{lendable_if_told}
@@ -134,7 +134,7 @@ module _ {R : Type 0} {scope : Scope} {cs : List (UnitCache R)} {last : FramesSt
               (lines : asks_lines_in scope u (first_answer_of c.entries) probe ≡ false → w.lines ≡ c.lines)
               (ready : WasNotRefused result → has_entries probe w.entries ≡ true)
               (parsed : WasNotRefused result → asks_lines_in scope u (first_answer_of c.entries) probe ≡ true → is_uncached w.lines.lines ≡ false)
-              (memory : has_entries probe w.entries ≡ true → (asks_lines_in scope u (first_answer_of c.entries) probe ≡ true → is_uncached w.lines.lines ≡ false) → exceeds_inline_room (inlined_at scope u (first_answer_of c.entries) probe) ≡ false → WasNotRefused result) where
+              (memory : has_entries probe w.entries ≡ true → (asks_lines_in scope u (first_answer_of c.entries) probe ≡ true → is_uncached w.lines.lines ≡ false) → exceeds_inline_room (inlined_of_unit scope u (first_answer_of c.entries) probe) ≡ false → WasNotRefused result) where
             stay_lines : StayUnits cs now_cs
             stay_lines = stay_set cs n c w within at stays
 
@@ -170,7 +170,7 @@ module _ {R : Type 0} {scope : Scope} {cs : List (UnitCache R)} {last : FramesSt
                   ∙ ap (λ xs. has_entries_at probe now_cs n && (not (asks_lines_of scope xs (answers_in now_cs) probe n) || has_parsed (parsed_units now_cs) n)) units_same
                   ∙ ap (λ a. has_entries_at probe now_cs n && (not (asks_lines_of scope (indexed_units us cs) a probe n) || has_parsed (parsed_units now_cs) n)) answers_same
 
-              many_is : exceeds_inline_room (inlined_at_number scope (indexed_units us now_cs) (answers_in now_cs) probe n) ≡ exceeds_inline_room (inlined_at scope u (first_answer_of c.entries) probe)
+              many_is : exceeds_inline_room (inlined_at_number scope (indexed_units us now_cs) (answers_in now_cs) probe n) ≡ exceeds_inline_room (inlined_of_unit scope u (first_answer_of c.entries) probe)
               many_is =
                   ap (λ xs. exceeds_inline_room (inlined_at_number scope xs (answers_in now_cs) probe n)) units_same
                   ∙ ap (λ a. exceeds_inline_room (inlined_at_number scope (indexed_units us cs) a probe n)) answers_same

@@ -21,7 +21,7 @@ use Rattle.addr2line_units.specs.Frames.{function_at}
 use Rattle.addr2line_units.specs.CachedEntries.{AreEntriesOf, StayEntries, has_answered, has_entries_by, first_answer_of}
 use Rattle.addr2line_units.specs.CachedFunctions.{AreFunctionsOf, StayFunctions, cached_has_function, is_cached_fault, were_read}
 use Rattle.addr2line_units.specs.CachedViews.{IsViewOf, is_decided, parts_or_fault, seen_first_answer, seen_sections, unboxed, verdict_in, view_by, waits, was_looked_at}
-use Rattle.addr2line_units.specs.UnitFrames.{function_by, function_in, inlined_at, inlined_of_found}
+use Rattle.addr2line_units.specs.UnitFrames.{function_by, function_in, inlined_of_unit, inlined_of_found}
 use Rattle.addr2line_units.specs.Views.{View, is_open, parts_of, verdict, view_scope}
 
 -- functions stay what they are
@@ -147,8 +147,8 @@ module _ {R : Type 0} (scope : Scope) (u : UnitRecord) (probe : ℕ) (old : Unit
     unfolding functions_in_take_memory
     functions_take_in shares none = moved (λ s y. functions_take_memory shares s.file.sections y ≡ false) (sym (ap (view_takes_memory shares scope) v.is) ∙ none)
 
-    pub few_in : exceeds_inline_room (inlined_at scope u (first_answer_of old) probe) ≡ false → exceeds_inline_room (inlined_of_found (function_at inner unit probe)) ≡ false
-    unfolding inlined_at
+    pub few_in : exceeds_inline_room (inlined_of_unit scope u (first_answer_of old) probe) ≡ false → exceeds_inline_room (inlined_of_found (function_at inner unit probe)) ≡ false
+    unfolding inlined_of_unit
     few_in few = sym (ap (λ f. exceeds_inline_room (inlined_of_found f)) function_is_in) ∙ few
 
     -- the unit stays right where other functions of its view are cached

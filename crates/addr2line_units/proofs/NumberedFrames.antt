@@ -19,7 +19,7 @@ use Rattle.addr2line_units.specs.CachedEntries.{AreFramesIn, AsksNoMemoryIn, fra
 use Rattle.addr2line_units.specs.CachedFrames.{AreFoundAt, frames_found_at, functions_at, has_frames_at, language_at}
 use Rattle.addr2line_units.specs.CachedUnits.{HaveEntriesOf, answers_in, has_entries_at}
 use Rattle.addr2line_units.specs.Parsed.{ParsesOnly, has_parsed}
-use Rattle.addr2line_units.specs.UnitFrames.{asks_lines_in, frames_in, function_offset_in, inlined_at}
+use Rattle.addr2line_units.specs.UnitFrames.{asks_lines_in, frames_in, function_offset_in, inlined_of_unit}
 use Rattle.addr2line_units.proofs.UnitsLemmas.{no_parsed, no_unit, only_set, parsed_set, set_parsed, unit_at}
 use Rattle.addr2line_units.proofs.CachedUnitLemmas.{answer_at, as_many_entries, parsed_by_lines, same_lines_set}
 use Rattle.addr2line_units.proofs.WalkLemmas.{and_first}
@@ -69,7 +69,7 @@ module _ {R : Type 0} (scope : Scope) (probe : ℕ) (us : List UnitRecord) (cs :
     pub asks_are : asks n ≡ asks_lines_in scope u (first_answer_of c.entries) probe
     asks_are = rw (unit_is, asks_lines_of, answer_is) refl
 
-    pub many_are : exceeds_inline_room (inlined_at_number scope (indexed_units us cs) (answers_in cs) probe n) ≡ exceeds_inline_room (inlined_at scope u (first_answer_of c.entries) probe)
+    pub many_are : exceeds_inline_room (inlined_at_number scope (indexed_units us cs) (answers_in cs) probe n) ≡ exceeds_inline_room (inlined_of_unit scope u (first_answer_of c.entries) probe)
     many_are = rw (unit_is, inlined_at_number, answer_is) refl
 
     pub offset_is : function_offset_of scope (indexed_units us cs) (answers_in cs) probe n ≡ function_offset_in scope u (first_answer_of c.entries) probe
@@ -135,7 +135,7 @@ module _ {R : Type 0} (scope : Scope) (probe : ℕ) (us : List UnitRecord) (cs :
     -- a lookup takes no memory in the unit, by what is cached of it
     pub then_no_memory : (shares : Bool) → ((has_entries_at probe (set cs n w) n || not (functions_in_take_memory shares scope u (first_answer_of c.entries)))
         && (not (asks_lines_in scope u (first_answer_of c.entries) probe) || (has_parsed (parsed_units (set cs n w)) n || not (lines_take_memory shares u)))) ≡ true
-        → exceeds_inline_room (inlined_at scope u (first_answer_of c.entries) probe) ≡ false → AsksNoMemoryIn shares scope u (first_answer_of c.entries) probe w.lines w.entries
+        → exceeds_inline_room (inlined_of_unit scope u (first_answer_of c.entries) probe) ≡ false → AsksNoMemoryIn shares scope u (first_answer_of c.entries) probe w.lines w.entries
     then_no_memory shares none few = record {
       functions = λ takes. sym entries_there ∙ or_not (has_entries_at probe (set cs n w) n) (functions_in_take_memory shares scope u (first_answer_of c.entries)) (and_first _ _ none) takes;
       lines = λ asked takes. set_parsed cs n w h (or_not (has_parsed (parsed_units (set cs n w)) n) (lines_take_memory shares u) (not_or (asks_lines_in scope u (first_answer_of c.entries) probe) _ (and_second _ _ none) asked) takes);

@@ -37,7 +37,7 @@ use Rattle.addr2line_units.specs.RangeLookup.{cached_along}
 use Rattle.addr2line_units.specs.StaysKnown.{IsReadyAt, StaysKnown}
 use Rattle.addr2line_units.specs.StoredUnits.{seen_units}
 use Rattle.addr2line_units.specs.UnitFrames.{FramesResult}
-use Rattle.addr2line_units.specs.UnitsState.{UnitsState, files_in, files_of}
+use Rattle.addr2line_units.specs.UnitsState.{UnitsState, table_files, files_of}
 use Rattle.addr2line_units.specs.Views.{FirstAnswers, SplitLoad, load_of_unit}
 use Rattle.addr2line_units.proofs.AnswerLemmas.{got_unit}
 use Rattle.addr2line_units.proofs.CachedUnitLemmas.{answers_by_entries, as_many_entries, known_by_entries, parsed_by_lines, same_answers, units_by_lines}
@@ -76,11 +76,11 @@ files_are d [] (r ∷ rs) n own e = absurd own
 files_are d (u ∷ us) [] n own e = absurd own
 files_are d (u ∷ us) (r ∷ rs) zero own e = of_lines r.lines.lines own.0 e
   where
-    of_lines : (l : LazyLines) → AreLinesOf d u l → not (is_uncached l) ≡ true → files_in (unit_lines d u) ≡ cached_files l
+    of_lines : (l : LazyLines) → AreLinesOf d u l → not (is_uncached l) ≡ true → table_files (unit_lines d u) ≡ cached_files l
     of_lines Unread h k = absurd (let f : false ≡ true = k in cc)
-    of_lines Absent h k = ap files_in h
-    of_lines (Read lines) h k = ap files_in h
-    of_lines (Faulty f) h k = ap files_in h.0
+    of_lines Absent h k = ap table_files h
+    of_lines (Read lines) h k = ap table_files h
+    of_lines (Faulty f) h k = ap table_files h.0
 files_are d (u ∷ us) (r ∷ rs) (suc n) own e = files_are d us rs n own.1 e
 
 -- what cached lines have in ranges is what the lines of the units have

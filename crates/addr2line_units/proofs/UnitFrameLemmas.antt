@@ -26,7 +26,7 @@ use Rattle.addr2line_units.specs.CachedEntries.{AreRead, AsksNoMemoryIn, ReadsEn
 use Rattle.addr2line_units.specs.CachedFunctions.{StayFunctions, cached_functions}
 use Rattle.addr2line_units.specs.CachedViews.{IsViewOf, answer_in, seen_first_answer, waits, was_looked_at}
 use Rattle.addr2line_units.specs.Located.{LocationResult, location_in}
-use Rattle.addr2line_units.specs.UnitFrames.{asks_lines_in, frames_by, frames_in, function_in, inlined_at}
+use Rattle.addr2line_units.specs.UnitFrames.{asks_lines_in, frames_by, frames_in, function_in, inlined_of_unit}
 use Rattle.addr2line_units.specs.RangedUnits.{IndexedUnit}
 use Rattle.addr2line_units.specs.Views.{is_open}
 use Rattle.addr2line_units.proofs.ViewLemmas.{waiting_is_open}
@@ -130,7 +130,7 @@ module _ (scope : Scope) (x : IndexedUnit) (answer : Option (Option Sections)) (
 
 -- where a lookup takes no memory in a unit, its refusal is the fault of the function
 pub function_alone : {R : Type 0} (shares : Bool) (scope : Scope) (u : UnitRecord) (answer : Option (Option Sections)) (probe : ℕ) (r : UnitLines) (v : UnitEntries R) (e : Error) → AsksNoMemoryIn shares scope u answer probe r v
-    → (has_entries probe v ≡ true → exceeds_inline_room (inlined_at scope u answer probe) ≡ false → e ≢ OutOfMemory) → (e ≢ OutOfMemory → function_in scope u answer probe ≡ Err e)
+    → (has_entries probe v ≡ true → exceeds_inline_room (inlined_of_unit scope u answer probe) ≡ false → e ≢ OutOfMemory) → (e ≢ OutOfMemory → function_in scope u answer probe ≡ Err e)
     → (functions_in_take_memory shares scope u answer ≡ false → function_in scope u answer probe ≡ Err e) → function_in scope u answer probe ≡ Err e
 function_alone shares scope u answer probe r v e h known gives alone = by_test (functions_in_take_memory shares scope u answer) refl
   where

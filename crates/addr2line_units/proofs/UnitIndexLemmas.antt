@@ -22,7 +22,7 @@ use Rattle.addr2line_lines.specs.RangeAttributes.{begins_well}
 use Rattle.addr2line_lines.specs.Rows.{read_all}
 use Rattle.addr2line_units.specs.declared.index.UnitArange.{UnitArange}
 use Rattle.addr2line_units.specs.declared.index.UnitRange.{UnitRange}
-use Rattle.addr2line_units.specs.Indexed.{IndexState, appended, has_abbreviations, index_of, index_takes_memory, indexed, indexed_with, or_with_ranged, some_take_memory, indexed_unit_takes_memory, units_take_memory, with_header, with_ranged}
+use Rattle.addr2line_units.specs.Indexed.{IndexState, appended, has_abbreviations, index_of, index_takes_memory, index_read, indexed_with, or_with_ranged, some_take_memory, indexed_unit_takes_memory, units_take_memory, with_header, with_ranged}
 use Rattle.addr2line_units.specs.UnitIndex.{sup_unit_of_header}
 use Rattle.addr2line_units.specs.RangedUnits.{IndexedUnit, indexed_of, RangedUnit, has_lines, is_type_unit, range_of_unit, ranged_unit, unit_ranges_from, unit_of_header, unit_ranges, units_of, unless_faulty}
 use Rattle.addr2line_units.specs.UnitAranges.{aranges_in, lists_aranges, set_aranges, some_lists}
@@ -398,5 +398,5 @@ module _ (d : Sections) (aranges : List UnitArange) where
           false_true : nat_lt 0 0 ≡ true → ⊥
           false_true l = cc
 
-  pub indexed_by : aranges_in d.debug_aranges ≡ Ok aranges → indexed d ≡ indexed_with d aranges
+  pub indexed_by : aranges_in d.debug_aranges ≡ Ok aranges → index_read d ≡ indexed_with d aranges
   indexed_by e = ap (λ r. (r >>= λ a. units_of (unit_of_header d a) (all_headers d.debug_info)) >>= λ units. Ok (index_of d units)) e

@@ -24,7 +24,7 @@ use Rattle.addr2line_units.specs.CachedLines.{cached_files, is_uncached}
 use Rattle.addr2line_units.specs.Frames.{FrameRecord, found_frames}
 use Rattle.addr2line_units.specs.CachedFunctions.{AreFunctionsOf, ArePlacesIn, ReadsNoOther, StayFunctions, function_of_place, cached_has_function, is_cached_fault, cached_functions, were_read}
 use Rattle.addr2line_units.specs.CachedViews.{IsViewOf, is_decided, seen_first_answer, was_looked_at}
-use Rattle.addr2line_units.specs.UnitFrames.{asks_lines_in, inlined_at}
+use Rattle.addr2line_units.specs.UnitFrames.{asks_lines_in, inlined_of_unit}
 use Rattle.addr2line_units.specs.Views.{verdict, view_scope}
 
 -- the first answer of a unit
@@ -107,4 +107,4 @@ pub record AsksNoMemoryIn {R : Type 0} (shares : Bool) (scope : Scope) (dw_unit 
       → has_entries probe v ≡ true
   pub lines : asks_lines_in scope dw_unit answer probe ≡ true
       → lines_take_memory shares dw_unit ≡ true → is_uncached u.lines ≡ false
-  pub few : exceeds_inline_room (inlined_at scope dw_unit answer probe) ≡ false
+  pub few : exceeds_inline_room (inlined_of_unit scope dw_unit answer probe) ≡ false

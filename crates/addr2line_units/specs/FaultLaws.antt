@@ -30,7 +30,7 @@ use Rattle.addr2line_units.specs.UnitsState.{UnitsState, new_units, stop_of}
 use Rattle.addr2line_units.specs.Views.{FirstAnswers, answered_view, first_unit, load_of_unit, split_name_of, verdict}
 
 -- no unit of a file is, nor what its root entry says, nor all that a context is made of
-pub record UnitsAreNotRefused : Type 0 where
+pub record IndexIsNotRefused : Type 0 where
   pub aranges : (s : Section) → WasNotRefused (aranges_in s)
   pub attributes : (d : Sections) (u : UnitRecord) → WasNotRefused (unit_attributes d u)
   pub unit : (d : Sections) (aranges : List UnitArange) (header : UnitHeaderFields)
@@ -41,7 +41,7 @@ pub record UnitsAreNotRefused : Type 0 where
   pub state : (d : Sections) → WasNotRefused (new_units d)
 
 -- no lines are, nor a location, nor a row that a range of addresses meets
-pub record LinesAreNotRefused : Type 0 where
+pub record CachedLinesAreNotRefused : Type 0 where
   pub unit : (d : Sections) (u : IndexedUnit) → WasNotRefused (lines_of_unit d u)
   pub all : (d : Sections) (units : List IndexedUnit) → WasNotRefused (all_lines d units)
   pub location : (d : Sections) (probe : ℕ) (u : Option IndexedUnit)

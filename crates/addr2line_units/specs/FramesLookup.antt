@@ -14,7 +14,7 @@ use Rattle.addr2line_units.specs.declared.frames_lookup.OnFault.TheVariants.{Sto
 use Rattle.addr2line_units.specs.AskMemory.{functions_in_take_memory}
 use Rattle.addr2line_units.specs.Cover.{ComesTo, holds_until}
 use Rattle.addr2line_units.specs.Frames.{FrameRecord}
-use Rattle.addr2line_units.specs.UnitFrames.{FramesResult, asks_lines_in, frames_in, inlined_at, function_offset_in}
+use Rattle.addr2line_units.specs.UnitFrames.{FramesResult, asks_lines_in, frames_in, inlined_of_unit, function_offset_in}
 use Rattle.addr2line_units.specs.UnitIndex.{UnitIndex, sup_sections}
 use Rattle.addr2line_units.specs.RangedUnits.{IndexedUnit, unit_records}
 use Rattle.addr2line_units.specs.Views.{FirstAnswers, View, decided_answer, parts_of, verdict}
@@ -124,7 +124,7 @@ function_offset_of scope units answers probe n = elim (slice_get units n)
 -- the inlined functions at the probe in the unit of a number
 abbrev pub inlined_at_number : Scope → List IndexedUnit → FirstAnswers → ℕ → ℕ → List InlinedEntry
 inlined_at_number scope units answers probe n = elim (slice_get units n)
-    [ None ↦ [] | Some u ↦ inlined_at scope u.unit (answer_of answers n) probe ]
+    [ None ↦ [] | Some u ↦ inlined_of_unit scope u.unit (answer_of answers n) probe ]
 
 -- whether memory may be taken to read the functions in the view of the unit of a number
 abbrev pub functions_of_take_memory : Bool → Scope → List IndexedUnit → FirstAnswers → ℕ → Bool

@@ -44,8 +44,8 @@ indexed_with d aranges =
     >>= λ units. Ok (index_of d units)
 
 -- the units of the sections, or the first fault
-abbrev pub indexed : Sections → Result IndexState Error
-indexed d = ranged_units d >>= λ units. Ok (index_of d units)
+abbrev pub index_read : Sections → Result IndexState Error
+index_read d = ranged_units d >>= λ units. Ok (index_of d units)
 
 -- one more unit
 abbrev pub with_ranged : Sections → IndexState → RangedUnit → IndexState

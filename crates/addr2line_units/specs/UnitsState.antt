@@ -98,14 +98,14 @@ asks_no_memory_at shares probe s n = reads_no_memory_at shares probe s n
     && not (exceeds_inline_room (inlined_at_number s.scope s.units s.answers probe n))
 
 -- the texts of the files of lines, none where these can't be read
-abbrev pub files_in : Result LineTable Error → List (List ℕ)
-files_in (Ok lines) = lines.files
-files_in (Err e) = []
+abbrev pub table_files : Result LineTable Error → List (List ℕ)
+table_files (Ok lines) = lines.files
+table_files (Err e) = []
 
 -- those of the lines of a unit, none where there is no unit
 abbrev pub files_of : Sections → Option IndexedUnit → List (List ℕ)
 files_of d None = []
-files_of d (Some u) = files_in (lines_of_unit d u)
+files_of d (Some u) = table_files (lines_of_unit d u)
 
 -- the location of a row in the lines of a unit
 abbrev pub row_location : UnitsState → UnitRow → Location

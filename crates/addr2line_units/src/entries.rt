@@ -14,7 +14,7 @@ ghost use Rattle.addr2line_units.specs.Frames.{function_at};
 ghost use Rattle.addr2line_units.specs.FunctionParses.{IsReadyFor};
 ghost use Rattle.addr2line_units.specs.CachedFunctions.{AreFunctionsOf, ArePlacesIn, IsTableOf, ReadsNoOther, StayFunctions, cached_inlined_at, find_takes_memory, function_of_place, functions_fault, cached_has_function, has_table, cached_functions, reading_takes_memory, table_takes_memory, were_read};
 ghost use Rattle.addr2line_units.specs.CachedKnown.{known_functions};
-ghost use Rattle.addr2line_units.specs.UnitFrames.{inlined_of_found, asks_lines_in, frames_in, function_in, inlined_at};
+ghost use Rattle.addr2line_units.specs.UnitFrames.{inlined_of_found, asks_lines_in, frames_in, function_in, inlined_of_unit};
 ghost use Rattle.addr2line_units.specs.CachedLines.{AreLinesOf, StaysUnit, indexed_unit, is_uncached};
 ghost use Rattle.addr2line_units.specs.AskMemory.{functions_in_take_memory};
 ghost use Rattle.addr2line_units.specs.CachedEntries.{AreEntriesOf, AreFramesIn, AsksNoMemoryIn, AreFresh, ReadsEntriesOf, StayEntries, frames_of_place, has_entries, has_entries_by, first_answer_of};
@@ -290,7 +290,7 @@ fn find_in_view<'x, R: Reader>(
         → has_entries_by probe view.now.state functions.new ≡ true }
     ensures memory { has_entries_by probe view.now.state functions.new ≡ true
         → exceeds_inline_room
-        (inlined_at (seen_scope scope.entry) dw_unit.now (seen_first_answer view.now) probe) ≡ false
+        (inlined_of_unit (seen_scope scope.entry) dw_unit.now (seen_first_answer view.now) probe) ≡ false
         → WasNotRefused result }
     ensures no_memory { functions_in_take_memory R.shares (seen_scope scope.entry) dw_unit.now
         (seen_first_answer view.now) ≡ false → IfErr result (λ e. function_in
@@ -352,7 +352,7 @@ impl<R: Reader> UnitEntries<R> {
         ensures ready { WasNotRefused result → has_entries probe self.new ≡ true }
         ensures memory { has_entries probe self.new ≡ true
             → exceeds_inline_room
-            (inlined_at (seen_scope scope.entry) dw_unit.now (first_answer_of self.old) probe)
+            (inlined_of_unit (seen_scope scope.entry) dw_unit.now (first_answer_of self.old) probe)
             ≡ false
             → WasNotRefused result }
         ensures no_memory { functions_in_take_memory R.shares (seen_scope scope.entry) dw_unit.now
@@ -404,7 +404,7 @@ pub(crate) fn find_frames_in<'x, R: Reader>(
         ≡ true
         → is_uncached unit.new.lines ≡ false)
         → exceeds_inline_room
-        (inlined_at (seen_scope scope.entry) dw_unit.now (first_answer_of entries.old) probe)
+        (inlined_of_unit (seen_scope scope.entry) dw_unit.now (first_answer_of entries.old) probe)
         ≡ false
         → WasNotRefused result }
     ensures no_memory { AsksNoMemoryIn R.shares (seen_scope scope.entry) dw_unit.now

@@ -1,7 +1,7 @@
 //! Laws of legacy names, of the units of a context, of their views and loads, of parses of all
 //! functions, and of faults, with no code.
 
-ghost use Rattle.addr2line_units.specs.FaultLaws.{FramesAreNotRefused, LinesAreNotRefused, ParsesAreNotRefused, UnitsAreNotRefused, ViewsAreNotRefused};
+ghost use Rattle.addr2line_units.specs.FaultLaws.{FramesAreNotRefused, CachedLinesAreNotRefused, ParsesAreNotRefused, IndexIsNotRefused, ViewsAreNotRefused};
 ghost use Rattle.addr2line_units.specs.FunctionParseLaws.{ReachesAll, ReadsAgain};
 ghost use Rattle.addr2line_units.specs.LegacyLaws.{FindsLegacyNames, FindsOnlyLegacyNames, HasOneText};
 ghost use Rattle.addr2line_units.specs.LoadLaws.{LeaveFewer, LeaveOthers, NeedLoadsToWait, WaitForListed};
@@ -52,8 +52,8 @@ pub fn function_parse_laws()
 /// address are: units, lines, locations, views, loads, functions and frames are values or other
 /// faults. So an answer `OutOfMemory` of a call is never what the sections give.
 pub fn fault_laws()
-    ensures units { UnitsAreNotRefused }
-    ensures lines { LinesAreNotRefused }
+    ensures units { IndexIsNotRefused }
+    ensures lines { CachedLinesAreNotRefused }
     ensures views { ViewsAreNotRefused }
     ensures frames { FramesAreNotRefused }
     ensures parses { ParsesAreNotRefused }

@@ -6,7 +6,7 @@ ghost use Rattle.gimli_read.specs.Reading.{ExactlyUnlessOomIf};
 ghost use Rattle.addr2line_lines.specs.SeenScope.{seen_scope};
 ghost use Rattle.addr2line_units.specs.CachedLines.{HaveLinesOf, IsUnparsed};
 ghost use Rattle.addr2line_units.specs.CachedUnits.{AreFreshOf};
-ghost use Rattle.addr2line_units.specs.Indexed.{context_takes_memory, index_seen, index_takes_memory, indexed, indexed_with, no_index, ranged_seen, indexed_unit_takes_memory, units_seen, units_take_memory, with_header, with_ranged};
+ghost use Rattle.addr2line_units.specs.Indexed.{context_takes_memory, index_seen, index_takes_memory, index_read, indexed_with, no_index, ranged_seen, indexed_unit_takes_memory, units_seen, units_take_memory, with_header, with_ranged};
 ghost use Rattle.addr2line_units.specs.RangedUnits.{range_of_unit, unit_of_header};
 ghost use Rattle.addr2line_units.specs.StoredUnits.{scope_of};
 ghost use Rattle.addr2line_units.specs.UnitsState.{new_units};
@@ -217,7 +217,7 @@ impl<R: Reader> IndexedUnits<R> {
     // `Units::parse` reads them.
     fn parse(alloc: Global, dwarf: &Dwarf<R>) -> Result<IndexedUnits<R>, Error>
         ensures gives { ExactlyUnlessOomIf (index_takes_memory R.shares dwarf.now) units_seen result
-            (indexed dwarf.now) }
+            (index_read dwarf.now) }
         ensures read { IfOk result (λ u. HaveLinesOf dwarf.now u.dw_units.items u.caches.items) }
         ensures fresh { IfOk result (λ u. AreFreshOf u.dw_units.items u.caches.items) }
     {

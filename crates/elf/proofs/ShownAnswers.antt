@@ -18,7 +18,7 @@ use Rattle.elf.specs.ObjectFile.{ObjectFile}
 use Rattle.elf.specs.SectionBytes.{bytes_at, is_nobits, is_outside, section_bytes_in}
 use Rattle.elf.specs.Sections.{addresses_of, contents_of, empty_contents, first_named, gives_bytes_of_file, is_compressed, is_named, is_zdebug, missing_section, relocates, section_at, section_names_of, section_range_at}
 use Rattle.elf.specs.Symbols.{NamedAddress, covers, nearest_symbol, symbol_at, symbol_bytes, symbol_entry_name, symbol_names_number, symbol_names_of, symbol_table, usable_in}
-use Rattle.elf.specs.Wanted.{is_shown, is_shown_at, is_wanted, is_wanted_text, shows_sections, shows_tables}
+use Rattle.elf.specs.Wanted.{shows_section, is_shown_at, is_wanted_section, is_wanted_text, shows_sections, shows_tables}
 use Rattle.elf.proofs.ShownLemmas.{choose, choose_either, found_in, found_shown, held_same, named_wanted, outside_same, section_same, symbols_same, table_same, zdebug_named_wanted}
 
 -- the file of other bytes
@@ -42,7 +42,7 @@ module _ (image : Image) (bytes : List ℕ) (shows : Shows image bytes) (f : Obj
   tables_same : TablesShown → (section_names_of of_image ≡ section_names_of of_bytes) × (symbol_names_of of_image ≡ symbol_names_of of_bytes) × (symbol_bytes (image_bytes image) f.sections ≡ symbol_bytes bytes f.sections)
   tables_same t =
       let number = symbol_names_number f.sections in
-      let table = option_map_or (is_shown image) (symbol_table f.sections) true in
+      let table = option_map_or (shows_section image) (symbol_table f.sections) true in
       let p = and_parts (is_shown_at image f.sections f.name_table) (is_shown_at image f.sections number && table) t in
       let q = and_parts (is_shown_at image f.sections number) table p.1 in
       (table_same image bytes shows f.sections f.name_table p.0, table_same image bytes shows f.sections number q.0, symbols_same image bytes shows f.sections q.1)
@@ -72,22 +72,22 @@ module _ (image : Image) (bytes : List ℕ) (shows : Shows image bytes) (f : Obj
   range_same t name = ap (λ (o : Option (ℕ × SectionHeader)). option_and_then (λ found. addresses_of found.1) o) (first_same t name)
 
   -- the first section of a wanted name is shown
-  first_shown : SectionsShown → (name : List ℕ) (x : ℕ × SectionHeader) → is_wanted_text name ≡ true → first_named name of_image ≡ Some x → is_shown image x.1 ≡ true
+  first_shown : SectionsShown → (name : List ℕ) (x : ℕ × SectionHeader) → is_wanted_text name ≡ true → first_named name of_image ≡ Some x → shows_section image x.1 ≡ true
   first_shown all name x wanted e =
       let names = section_names_of of_image in
-      found_shown (is_named names name) (is_wanted names) (is_shown image) f.sections x all (λ s. named_wanted names name s wanted) e
+      found_shown (is_named names name) (is_wanted_section names) (shows_section image) f.sections x all (λ s. named_wanted names name s wanted) e
 
-  zdebug_first_shown : SectionsShown → (name : List ℕ) (x : ℕ × SectionHeader) → is_wanted_text name ≡ true → first_zdebug name of_image ≡ Some x → is_shown image x.1 ≡ true
+  zdebug_first_shown : SectionsShown → (name : List ℕ) (x : ℕ × SectionHeader) → is_wanted_text name ≡ true → first_zdebug name of_image ≡ Some x → shows_section image x.1 ≡ true
   zdebug_first_shown all name x wanted e =
       let names = section_names_of of_image in
-      found_shown (is_zdebug names name) (is_wanted names) (is_shown image) f.sections x all (λ s. zdebug_named_wanted names name s wanted) e
+      found_shown (is_zdebug names name) (is_wanted_section names) (shows_section image) f.sections x all (λ s. zdebug_named_wanted names name s wanted) e
 
   -- ---- what a section has
   -- the answer for a section in the file, by its bytes
   abbrev contents_by : ℕ → SectionHeader → List ℕ → Loading Section
   contents_by n s own = cond (is_compressed s) (Err CompressedSection) (cond (f.is_relocatable && list_any (relocates n) f.sections) (Err RelocationsNeeded) (Ok (record { bytes = own; endian = f.endian })))
 
-  contents_same : (n : ℕ) (s : SectionHeader) → is_shown image s ≡ true → contents_of of_image n s ≡ contents_of of_bytes n s
+  contents_same : (n : ℕ) (s : SectionHeader) → shows_section image s ≡ true → contents_of of_image n s ≡ contents_of of_bytes n s
   unfolding contents_of
   contents_same n s h =
       choose {A = Loading Section} (is_nobits s) (is_outside (image_bytes image) s) (is_held s.offset s.size image) (Ok (empty_contents f)) (Err BadElf) (contents_by n s (bytes_at (image_bytes image) s)) (contents_by n s (bytes_at bytes s)) h (λ k. ap (contents_by n s) (held_same image bytes shows s k))
@@ -117,7 +117,7 @@ module _ (image : Image) (bytes : List ℕ) (shows : Shows image bytes) (f : Obj
   abbrev packed_by : List ℕ → Loading PackedSection
   packed_by own = packed_in f.endian (layout_of f.class).address_size own
 
-  decompressed_same : (n : ℕ) (s : SectionHeader) → is_shown image s ≡ true → decompressed_of of_image n s ≡ decompressed_of of_bytes n s
+  decompressed_same : (n : ℕ) (s : SectionHeader) → shows_section image s ≡ true → decompressed_of of_image n s ≡ decompressed_of of_bytes n s
   unfolding decompressed_of
   decompressed_same n s h =
       choose_either {A = Loading Section} (is_nobits s) (is_outside (image_bytes image) s) (is_held s.offset s.size image) (not (is_compressed s)) (contents_of of_image n s) (contents_of of_bytes n s)
@@ -125,7 +125,7 @@ module _ (image : Image) (bytes : List ℕ) (shows : Shows image bytes) (f : Obj
       (λ k. ap (λ (own : List ℕ). packed_by own >>= unpacked_contents of_image n) (held_same image bytes shows s k) ∙ unpacked_same n (packed_by (bytes_at bytes s)))
       ∙ ap (λ (b : Bool). cond {A = Loading Section} (is_nobits s || (b || not (is_compressed s))) (contents_of of_bytes n s) (packed_by (bytes_at bytes s) >>= unpacked_contents of_bytes n)) (outside_same image bytes shows s)
 
-  zdebug_same : (n : ℕ) (s : SectionHeader) → is_shown image s ≡ true → zdebug_of of_image n s ≡ zdebug_of of_bytes n s
+  zdebug_same : (n : ℕ) (s : SectionHeader) → shows_section image s ≡ true → zdebug_of of_image n s ≡ zdebug_of of_bytes n s
   unfolding zdebug_of
   zdebug_same n s h =
       ap (λ (o : Option (List ℕ)). option_map_or (λ own. zdebug_packed_in own >>= unpacked_contents of_image n) o (Err BadElf)) (section_same image bytes shows s h) ∙ each (section_bytes_in bytes s)
@@ -151,14 +151,14 @@ module _ (image : Image) (bytes : List ℕ) (shows : Shows image bytes) (f : Obj
   stream_same n (Ok p) = refl
   stream_same n (Err e) = refl
 
-  contents_memory_same : (n : ℕ) (s : SectionHeader) → is_shown image s ≡ true → contents_take_memory of_image n s ≡ contents_take_memory of_bytes n s
+  contents_memory_same : (n : ℕ) (s : SectionHeader) → shows_section image s ≡ true → contents_take_memory of_image n s ≡ contents_take_memory of_bytes n s
   contents_memory_same n s h =
       choose_either {A = Bool} (is_nobits s) (is_outside (image_bytes image) s) (is_held s.offset s.size image) (not (is_compressed s)) (gives_bytes_of_file (contents_of of_image n s)) (gives_bytes_of_file (contents_of of_bytes n s))
       (packed_takes_memory of_image n (packed_by (bytes_at (image_bytes image) s))) (packed_takes_memory of_bytes n (packed_by (bytes_at bytes s))) h (ap gives_bytes_of_file (contents_same n s h))
       (λ k. ap (λ (own : List ℕ). packed_takes_memory of_image n (packed_by own)) (held_same image bytes shows s k) ∙ stream_same n (packed_by (bytes_at bytes s)))
       ∙ ap (λ (b : Bool). cond {A = Bool} (is_nobits s || (b || not (is_compressed s))) (gives_bytes_of_file (contents_of of_bytes n s)) (packed_takes_memory of_bytes n (packed_by (bytes_at bytes s)))) (outside_same image bytes shows s)
 
-  zdebug_memory_same : (n : ℕ) (s : SectionHeader) → is_shown image s ≡ true → zdebug_takes_memory of_image n s ≡ zdebug_takes_memory of_bytes n s
+  zdebug_memory_same : (n : ℕ) (s : SectionHeader) → shows_section image s ≡ true → zdebug_takes_memory of_image n s ≡ zdebug_takes_memory of_bytes n s
   zdebug_memory_same n s h =
       ap (λ (o : Option (List ℕ)). option_map_or (λ own. packed_takes_memory of_image n (zdebug_packed_in own)) o false) (section_same image bytes shows s h) ∙ each (section_bytes_in bytes s)
     where

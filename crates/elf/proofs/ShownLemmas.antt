@@ -15,7 +15,7 @@ use Rattle.elf.specs.FileImage.{Image, Shows, image_bytes, is_held}
 use Rattle.elf.specs.SectionBytes.{bytes_at, is_nobits, is_outside, section_bytes_in, string_table_in, table_text_at}
 use Rattle.elf.specs.Sections.{debug_prefix, is_named, is_zdebug, is_zdebug_text, zdebug_prefix}
 use Rattle.elf.specs.Symbols.{symbol_bytes, symbol_table}
-use Rattle.elf.specs.Wanted.{is_shown, is_shown_at, is_wanted, is_wanted_stem, is_wanted_text}
+use Rattle.elf.specs.Wanted.{shows_section, is_shown_at, is_wanted_section, is_wanted_stem, is_wanted_text}
 use Rattle.elf.proofs.FileTableLemmas.{all_at}
 
 -- ---- tests
@@ -74,14 +74,14 @@ zdebug_wanted name text wanted is =
     second false false s p q = absurd cc
 
 -- a section of a wanted name is wanted
-pub named_wanted : (names name : List ℕ) (s : SectionHeader) → is_wanted_text name ≡ true → is_named names name s ≡ true → is_wanted names s ≡ true
+pub named_wanted : (names name : List ℕ) (s : SectionHeader) → is_wanted_text name ≡ true → is_named names name s ≡ true → is_wanted_section names s ≡ true
 named_wanted names name s wanted is = by_text (table_text_at names s.name) is
   where
     by_text : (o : Option (List ℕ)) → option_map_or (λ t. bytes_eq t name) o false ≡ true → option_map_or is_wanted_text o false ≡ true
     by_text None e = absurd cc
     by_text (Some t) e = ap is_wanted_text ((bytes_eq-Decides t name).0 e) ∙ wanted
 
-pub zdebug_named_wanted : (names name : List ℕ) (s : SectionHeader) → is_wanted_text name ≡ true → is_zdebug names name s ≡ true → is_wanted names s ≡ true
+pub zdebug_named_wanted : (names name : List ℕ) (s : SectionHeader) → is_wanted_text name ≡ true → is_zdebug names name s ≡ true → is_wanted_section names s ≡ true
 zdebug_named_wanted names name s wanted is = by_text (table_text_at names s.name) is
   where
     by_text : (o : Option (List ℕ)) → option_map_or (is_zdebug_text name) o false ≡ true → option_map_or is_wanted_text o false ≡ true
@@ -132,12 +132,12 @@ module _ (image : Image) (bytes : List ℕ) (shows : Shows image bytes) where
   held_same s h = shows.same s.offset s.size h
 
   -- a section that is shown has the same bytes, or none in both
-  pub section_same : (s : SectionHeader) → is_shown image s ≡ true → section_bytes_in (image_bytes image) s ≡ section_bytes_in bytes s
+  pub section_same : (s : SectionHeader) → shows_section image s ≡ true → section_bytes_in (image_bytes image) s ≡ section_bytes_in bytes s
   section_same s h =
       choose {A = Option (List ℕ)} (is_nobits s) (is_outside (image_bytes image) s) (is_held s.offset s.size image) (Some []) None (Some (bytes_at (image_bytes image) s)) (Some (bytes_at bytes s)) h (λ k. ap Some (held_same s k))
       ∙ ap (λ (b : Bool). cond {A = Option (List ℕ)} (is_nobits s) (Some []) (cond b None (Some (bytes_at bytes s)))) (outside_same s)
 
-  maybe_same : (o : Option SectionHeader) → option_map_or (is_shown image) o true ≡ true → option_and_then (section_bytes_in (image_bytes image)) o ≡ option_and_then (section_bytes_in bytes) o
+  maybe_same : (o : Option SectionHeader) → option_map_or (shows_section image) o true ≡ true → option_and_then (section_bytes_in (image_bytes image)) o ≡ option_and_then (section_bytes_in bytes) o
   maybe_same None h = refl
   maybe_same (Some s) h = section_same s h
 
@@ -146,5 +146,5 @@ module _ (image : Image) (bytes : List ℕ) (shows : Shows image bytes) where
   table_same sections n h = ap (λ (o : Option (List ℕ)). cond (n == SHN_UNDEF) [] (option_map_or (λ t. t) o [])) (maybe_same (slice_get sections n) h)
 
   -- a symbol table that is shown
-  pub symbols_same : (sections : List SectionHeader) → option_map_or (is_shown image) (symbol_table sections) true ≡ true → symbol_bytes (image_bytes image) sections ≡ symbol_bytes bytes sections
+  pub symbols_same : (sections : List SectionHeader) → option_map_or (shows_section image) (symbol_table sections) true ≡ true → symbol_bytes (image_bytes image) sections ≡ symbol_bytes bytes sections
   symbols_same sections h = ap (λ (o : Option (List ℕ)). option_map_or (λ t. t) o []) (maybe_same (symbol_table sections) h)

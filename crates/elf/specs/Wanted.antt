@@ -49,29 +49,29 @@ is_wanted_text text =
     || (starts_with nat_eq text zdebug_prefix && is_wanted_stem (drop (length zdebug_prefix) text))
 
 -- whether a section has such a name
-abbrev pub is_wanted : List ℕ → SectionHeader → Bool
-is_wanted names s = option_map_or is_wanted_text (table_text_at names s.name) false
+abbrev pub is_wanted_section : List ℕ → SectionHeader → Bool
+is_wanted_section names s = option_map_or is_wanted_text (table_text_at names s.name) false
 
 -- whether one piece has the bytes of a section that isn't NOBITS, if they are in the file; where it
 -- has no bytes, a piece still has to have its place in it or at its end
-abbrev pub is_shown : Image → SectionHeader → Bool
-is_shown image s = is_nobits s
+abbrev pub shows_section : Image → SectionHeader → Bool
+shows_section image s = is_nobits s
     || (is_outside (image_bytes image) s || is_held s.offset s.size image)
 
 -- the same of the section of a number, if there is one
 abbrev pub is_shown_at : Image → List SectionHeader → ℕ → Bool
-is_shown_at image sections n = option_map_or (is_shown image) (slice_get sections n) true
+is_shown_at image sections n = option_map_or (shows_section image) (slice_get sections n) true
 
 -- the same of the names of the sections, and of the symbols with their names
 abbrev pub shows_tables : Image → ObjectFile → Bool
 shows_tables image file = is_shown_at image file.sections file.name_table
     && (is_shown_at image file.sections (symbol_names_number file.sections)
-    && option_map_or (is_shown image) (symbol_table file.sections) true)
+    && option_map_or (shows_section image) (symbol_table file.sections) true)
 
 -- the same of the sections of debug information
 abbrev pub shows_sections : Image → ObjectFile → Bool
 shows_sections image file = list_all (λ s.
-    not (is_wanted (section_names_of file) s) || is_shown image s) file.sections
+    not (is_wanted_section (section_names_of file) s) || shows_section image s) file.sections
 
 -- whether pieces have the section headers, and what is wanted of the sections
 abbrev pub shows_all : Image → Ident → FileHeader → Bool

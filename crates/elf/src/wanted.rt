@@ -10,7 +10,7 @@ ghost use Rattle.elf.specs.Header.{headers_in};
 ghost use Rattle.elf.specs.Layout.{layout_of};
 ghost use Rattle.elf.specs.SectionBytes.{string_table_in};
 ghost use Rattle.elf.specs.Symbols.{symbol_names_number, symbol_table};
-ghost use Rattle.elf.specs.Wanted.{HasWanted, has_wanted, is_shown, is_shown_at, is_stem_text, is_table_stem, is_unit_stem, is_wanted, is_wanted_stem, is_wanted_text, shows_all};
+ghost use Rattle.elf.specs.Wanted.{HasWanted, has_wanted, shows_section, is_shown_at, is_stem_text, is_table_stem, is_unit_stem, is_wanted_section, is_wanted_stem, is_wanted_text, shows_all};
 
 use crate::constants::{EHDR_SIZE_MAX, SHN_UNDEF};
 use crate::file::name_table_in;
@@ -78,7 +78,7 @@ fn is_wanted_text(text: &[u8]) -> bool
 
 // Whether a section has such a name.
 fn is_wanted(section: &SectionHeader, names: &[u8]) -> bool
-    ensures gives { result ≡ is_wanted names.now section.now }
+    ensures gives { result ≡ is_wanted_section names.now section.now }
 {
     match section::text_at(names, section.name) {
         Some(text) => is_wanted_text(text),
@@ -89,7 +89,7 @@ fn is_wanted(section: &SectionHeader, names: &[u8]) -> bool
 // Whether one piece has the bytes of a section that isn't NOBITS, if they are in the file. One of
 // no bytes needs a piece at its place too.
 fn is_shown(section: &SectionHeader, file: &FileImage) -> bool
-    ensures gives { result ≡ is_shown file.now section.now }
+    ensures gives { result ≡ shows_section file.now section.now }
 {
     section.is_nobits() || (section.is_outside(file) || file.is_held(section.offset, section.size))
 }
@@ -106,7 +106,7 @@ fn is_shown_at(sections: &[SectionHeader], number: u64, file: &FileImage) -> boo
 
 // The same of the symbol table, if there is one.
 fn is_table_shown(sections: &[SectionHeader], file: &FileImage) -> bool
-    ensures gives { result ≡ option_map_or (is_shown file.now) (symbol_table sections.now) true }
+    ensures gives { result ≡ option_map_or (shows_section file.now) (symbol_table sections.now) true }
 {
     match symbol::table_in(sections) {
         Some(section) => is_shown(&section, file),
@@ -116,7 +116,7 @@ fn is_table_shown(sections: &[SectionHeader], file: &FileImage) -> bool
 
 // The same of each section of debug information.
 fn are_shown(sections: &[SectionHeader], names: &[u8], file: &FileImage) -> bool
-    ensures gives { result ≡ list_all (λ s. not (is_wanted names.now s) || is_shown file.now s)
+    ensures gives { result ≡ list_all (λ s. not (is_wanted_section names.now s) || shows_section file.now s)
         sections.now }
 {
     sections.iter().all(|section| !is_wanted(section, names) || is_shown(section, file))
@@ -143,7 +143,7 @@ fn names_in<'a>(file: &'a FileImage, sections: &[SectionHeader], number: u64) ->
 fn shows_tables(file: &FileImage, sections: &[SectionHeader], name_table: u64) -> bool
     ensures gives { result ≡ (is_shown_at file.now sections.now name_table
         && (is_shown_at file.now sections.now (symbol_names_number sections.now)
-        && option_map_or (is_shown file.now) (symbol_table sections.now) true)) }
+        && option_map_or (shows_section file.now) (symbol_table sections.now) true)) }
 {
     is_shown_at(sections, name_table, file)
         && (is_shown_at(sections, symbol::names_number(sections), file)
@@ -154,8 +154,8 @@ fn shows_tables(file: &FileImage, sections: &[SectionHeader], name_table: u64) -
 fn shows_sections(file: &FileImage, sections: &[SectionHeader], name_table: u64) -> bool
     requires names { is_shown_at file.now sections.now name_table ≡ true }
     ensures gives { result ≡ list_all (λ s.
-        not (is_wanted (string_table_in (image_bytes file.now) sections.now name_table) s)
-        || is_shown file.now s) sections.now }
+        not (is_wanted_section (string_table_in (image_bytes file.now) sections.now name_table) s)
+        || shows_section file.now s) sections.now }
 {
     match names_in(file, sections, name_table) {
         Some(names) => are_shown(sections, names, file),

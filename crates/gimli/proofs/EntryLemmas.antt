@@ -12,7 +12,7 @@ use Rattle.gimli_read.specs.Section.{Section}
 use Rattle.gimli_read.specs.Reading.{Exactly, Reading, ◌>>=◌}
 use Rattle.gimli_read.specs.Leb128.{uleb128_at}
 use Rattle.gimli_read.specs.Form.{NamedValue, attribute_at, rest_of}
-use Rattle.gimli_read.specs.NumberValue.{implicit_number, is_number_form, number_at, number_of}
+use Rattle.gimli_read.specs.NumberValue.{implicit_number, is_number_form, number_at, number_if}
 use Rattle.gimli_read.specs.declared.constants.TheConstants.DwForm.{DW_FORM_implicit_const}
 use Rattle.gimli_read.specs.declared.number_value.NumberValue.{NumberValue}
 use Rattle.gimli_read.proofs.Shorter.{Shorter, shorter_at, uleb128-shorter}
@@ -69,14 +69,14 @@ number_leaves e x s t n h = by_form (x.form.0 == DW_FORM_implicit_const.0) (is_n
     nothing_read : (o : Option NumberValue) → ◌≡◌ {A = Reading (Option NumberValue)} (Ok (o, s)) (Ok (n, t)) → length t.bytes ≤ length s.bytes
     nothing_read o h = let same : ◌≡◌ {A = Option NumberValue × Section} (o, s) (n, t) = cc in let left : length s.bytes ≡ length t.bytes = ap (λ (y : Option NumberValue × Section). length y.1.bytes) same in omega (arith, left)
 
-    read : (r : Reading NamedValue) → attribute_at e x s ≡ r → ◌≡◌ {A = Reading (Option NumberValue)} (r >>= λ a. Ok (number_of a.0.value, a.1)) (Ok (n, t)) → length t.bytes ≤ length s.bytes
+    read : (r : Reading NamedValue) → attribute_at e x s ≡ r → ◌≡◌ {A = Reading (Option NumberValue)} (r >>= λ a. Ok (number_if a.0.value, a.1)) (Ok (n, t)) → length t.bytes ≤ length s.bytes
     read (Ok a) is h =
-        let same : ◌≡◌ {A = Option NumberValue × Section} (number_of a.0.value, a.1) (n, t) = cc in
+        let same : ◌≡◌ {A = Option NumberValue × Section} (number_if a.0.value, a.1) (n, t) = cc in
         let left : length a.1.bytes ≡ length t.bytes = ap (λ (y : Option NumberValue × Section). length y.1.bytes) same in
         omega (arith, left, attribute_leaves e x s a.1 a.0 is)
     read (Err f) is h = absurd cc
 
-    by_form : (b c : Bool) → ◌≡◌ {A = Reading (Option NumberValue)} (cond b (Ok (implicit_number x.constant, s)) (cond c (attribute_at e x s >>= λ a. Ok (number_of a.0.value, a.1)) (Ok (None, s)))) (Ok (n, t)) → length t.bytes ≤ length s.bytes
+    by_form : (b c : Bool) → ◌≡◌ {A = Reading (Option NumberValue)} (cond b (Ok (implicit_number x.constant, s)) (cond c (attribute_at e x s >>= λ a. Ok (number_if a.0.value, a.1)) (Ok (None, s)))) (Ok (n, t)) → length t.bytes ≤ length s.bytes
     by_form true c h = nothing_read (implicit_number x.constant) h
     by_form false true h = read (attribute_at e x s) refl h
     by_form false false h = nothing_read None h

@@ -22,12 +22,12 @@ use Rattle.gimli_line.specs.declared.row.LineRow.{LineRow}
 use Rattle.gimli_line.specs.Encoding.{limit}
 use Rattle.gimli_line.specs.Header.{Header, Program}
 use Rattle.gimli_line.specs.Opcode.{file_with_path_at, file_entry_at, numbers_skipped, standard_at, operand_at, defines, extended_in, extended_at, coded_instruction_at, instruction_at, instructions_of, opcodes_in}
-use Rattle.gimli_line.specs.EntryTables.{times, format_at, formats_at, is_sound_format, EntryValues, no_entry, with_value, values_at, filed, entry_at, entry_front_at, entry_table_at}
+use Rattle.gimli_line.specs.EntryTables.{times, format_at, formats_at, is_sound_format, EntryValues, no_entry, with_value, values_at, filed, formatted_entry_at, entry_front_at, entry_table_at}
 use Rattle.gimli_line.specs.Tables.{directory_at, file_at, old_tables_at, new_tables_at, tables_at}
 use Rattle.gimli_line.specs.Program.{program_address_size_at, nonzero_at, operations_at, numbers_at, unit_fields_at, line_header_fields_at, line_program_at}
 use Rattle.gimli_line.specs.Rows.{address_after, address_state, is_end, makes_row, row_after, row_from, past_after, ended, rows_after}
 use Rattle.gimli_line.specs.Lines.{lines_of}
-use Rattle.gimli_line.specs.Steps.{step as step_of, fitting, executed}
+use Rattle.gimli_line.specs.Steps.{step_registers as step_of, fitting, executed}
 use Rattle.gimli_line.specs.Taking.{fault_after}
 
 -- ---- instructions
@@ -151,8 +151,8 @@ filed_is : (path : Option (AttributeValue Section)) (index : ℕ) → IsByBytes 
 filed_is None index = fault BadLineHeader (λ p. cc)
 filed_is (Some path) index = value
 
-pub entry_is : (e : Encoding) (formats : List EntryFormat) (s : Section) → IsByBytes (entry_at e formats s)
-unfolding entry_at
+pub entry_is : (e : Encoding) (formats : List EntryFormat) (s : Section) → IsByBytes (formatted_entry_at e formats s)
+unfolding formatted_entry_at
 entry_is e formats s =
     step (values_are e formats no_entry s) (λ entry. step (filed_is entry.0.path_name entry.0.directory_index) (λ file. value))
 

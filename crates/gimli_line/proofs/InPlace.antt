@@ -18,7 +18,7 @@ use Rattle.gimli_line.specs.Header.{Header}
 use Rattle.gimli_line.specs.Rows.{advance, moved, line_advance, is_end, makes_row}
 use Rattle.gimli_line.specs.Taking.{TakesOpcode, shown}
 use Rattle.gimli_read.proofs.Steps.{done}
-use Rattle.gimli_line.specs.Steps.{IsRunning, start, advanced, fitting, step, row, row_of, next, executed}
+use Rattle.gimli_line.specs.Steps.{IsRunning, start_registers, advanced, fitting, step_registers, shown_row, row_of, registers_after, executed}
 
 abbrev pub Executed : Type 0
 Executed = Option LineRow × Registers
@@ -72,36 +72,36 @@ advanced_single e n r single running counts =
     ∙ ap (λ k. record r { address = r.address + e.minimum_instruction_length * n; op_index = k }) left
 
 -- an opcode that appends no row
-pub quiet : (e : LineEncoding) (r q : Registers) (op : Opcode) → is_end op ≡ false → makes_row op ≡ false → fitting e (step e r op) ≡ Ok q → executed e r op ≡ Ok (None, q)
+pub quiet : (e : LineEncoding) (r q : Registers) (op : Opcode) → is_end op ≡ false → makes_row op ≡ false → fitting e (step_registers e r op) ≡ Ok q → executed e r op ≡ Ok (None, q)
 unfolding executed
-quiet e r q op a b h = ap (λ (x : Result Registers Error). x >>= λ s. done {A = Executed} (row_of op s, next op s)) h ∙ by_tests (is_end op) (makes_row op) a b
+quiet e r q op a b h = ap (λ (x : Result Registers Error). x >>= λ s. done {A = Executed} (row_of op s, registers_after op s)) h ∙ by_tests (is_end op) (makes_row op) a b
   where
     by_tests : (b c : Bool) → b ≡ false → c ≡ false
-        → done {A = Executed} (cond b (Some (row q true)) (cond (c && not q.dropping) (Some (row q false)) None), cond b start q) ≡ done {A = Executed} (None, q)
+        → done {A = Executed} (cond b (Some (shown_row q true)) (cond (c && not q.dropping) (Some (shown_row q false)) None), cond b start_registers q) ≡ done {A = Executed} (None, q)
     by_tests true c e f = absurd (cc (e))
     by_tests false true e f = absurd (cc (f))
     by_tests false false e f = refl
 
 -- one that does, but while dropping
-hidden : (e : LineEncoding) (r q : Registers) (op : Opcode) → is_end op ≡ false → q.dropping ≡ true → fitting e (step e r op) ≡ Ok q → executed e r op ≡ Ok (None, q)
+hidden : (e : LineEncoding) (r q : Registers) (op : Opcode) → is_end op ≡ false → q.dropping ≡ true → fitting e (step_registers e r op) ≡ Ok q → executed e r op ≡ Ok (None, q)
 unfolding executed
-hidden e r q op a b h = ap (λ (x : Result Registers Error). x >>= λ s. done {A = Executed} (row_of op s, next op s)) h ∙ by_tests (is_end op) (makes_row op) q.dropping a b
+hidden e r q op a b h = ap (λ (x : Result Registers Error). x >>= λ s. done {A = Executed} (row_of op s, registers_after op s)) h ∙ by_tests (is_end op) (makes_row op) q.dropping a b
   where
     by_tests : (b c d : Bool) → b ≡ false → d ≡ true
-        → done {A = Executed} (cond b (Some (row q true)) (cond (c && not d) (Some (row q false)) None), cond b start q) ≡ done {A = Executed} (None, q)
+        → done {A = Executed} (cond b (Some (shown_row q true)) (cond (c && not d) (Some (shown_row q false)) None), cond b start_registers q) ≡ done {A = Executed} (None, q)
     by_tests true c d e f = absurd (cc (e))
     by_tests false c false e f = absurd (cc (f))
     by_tests false true true e f = refl
     by_tests false false true e f = refl
 
 -- and not while dropping
-seen : (e : LineEncoding) (r q : Registers) (op : Opcode) → is_end op ≡ false → makes_row op ≡ true → q.dropping ≡ false → fitting e (step e r op) ≡ Ok q
-    → executed e r op ≡ Ok (Some (row q false), q)
+seen : (e : LineEncoding) (r q : Registers) (op : Opcode) → is_end op ≡ false → makes_row op ≡ true → q.dropping ≡ false → fitting e (step_registers e r op) ≡ Ok q
+    → executed e r op ≡ Ok (Some (shown_row q false), q)
 unfolding executed
-seen e r q op a b c h = ap (λ (x : Result Registers Error). x >>= λ s. done {A = Executed} (row_of op s, next op s)) h ∙ by_tests (is_end op) (makes_row op) q.dropping a b c
+seen e r q op a b c h = ap (λ (x : Result Registers Error). x >>= λ s. done {A = Executed} (row_of op s, registers_after op s)) h ∙ by_tests (is_end op) (makes_row op) q.dropping a b c
   where
     by_tests : (b c d : Bool) → b ≡ false → c ≡ true → d ≡ false
-        → done {A = Executed} (cond b (Some (row q true)) (cond (c && not d) (Some (row q false)) None), cond b start q) ≡ done {A = Executed} (Some (row q false), q)
+        → done {A = Executed} (cond b (Some (shown_row q true)) (cond (c && not d) (Some (shown_row q false)) None), cond b start_registers q) ≡ done {A = Executed} (Some (shown_row q false), q)
     by_tests true c d e f g = absurd (cc (e))
     by_tests false false d e f g = absurd (cc (f))
     by_tests false true true e f g = absurd (cc (g))
@@ -147,7 +147,7 @@ special_dropped e r n line is h d =
 pub special_counted : (e : LineEncoding) (r q : Registers) (n count line : ℕ) → line ≡ moved r.line (line_advance e n) → count ≡ n / e.line_range
     → e.maximum_operations_per_instruction ≡ 1 → IsRunning e r → r.dropping ≡ false
     → fitting e (record r { address = r.address + e.minimum_instruction_length * count }) ≡ Ok q
-    → executed e r (Special n) ≡ Ok (Some (row (record q { line = line }) false), record q { line = line })
+    → executed e r (Special n) ≡ Ok (Some (shown_row (record q { line = line }) false), record q { line = line })
 special_counted e r q n count line is times single running d h =
     let there : Registers = record r { line = moved r.line (line_advance e n) } in
     let goes : IsRunning e there = record { index = running.index; fits = running.fits } in

@@ -13,7 +13,7 @@ use Rattle.gimli_line.specs.Encoding.{limit}
 use Rattle.gimli_line.specs.Opcode.{opcodes_in}
 use Rattle.gimli_line.specs.AddressSize.{is_tombstone}
 use Rattle.gimli_line.specs.Rows.{line_advance, moved, is_end, makes_row, ended}
-use Rattle.gimli_line.specs.Steps.{start, advanced, placed, fixed_advanced, step, fitting, row, row_of, next, executed}
+use Rattle.gimli_line.specs.Steps.{start_registers, advanced, placed, fixed_advanced, step_registers, fitting, shown_row, row_of, registers_after, executed}
 use Rattle.gimli_line.specs.Left.{with_row_first, continued_rows, rows_from}
 use Rattle.gimli_line.specs.Rises.{rows_before, NeverFalls, RowsRise}
 use Rattle.gimli_line.proofs.ClosedForm.{rows_of-start}
@@ -50,7 +50,7 @@ placed_grows e a r = by_cases (is_tombstone e.address_size a || nat_lt a r.addre
     by_cases true k = omega arith
     by_cases false k = reaches (not_below (is_tombstone e.address_size a) _ k)
 
-step_grows : (e : LineEncoding) (r : Registers) (op : Opcode) → r.address ≤ (step e r op).address
+step_grows : (e : LineEncoding) (r : Registers) (op : Opcode) → r.address ≤ (step_registers e r op).address
 step_grows e r (Special n) = advanced_grows e (n / e.line_range) (record r { line = moved r.line (line_advance e n) })
 step_grows e r Copy = omega arith
 step_grows e r (AdvancePc n) = advanced_grows e n r
@@ -88,20 +88,20 @@ add m n r rows l same h = record { falls = by_list rows h.falls h.next; next = l
     by_list (s ∷ xs) f k = ((λ o. let e = same o in omega arith), f)
 
 module _ {Z : Type 0} (e : LineEncoding) (op : Opcode) (ops : List Opcode) (end : Result Z Error) where
-  emits : (m : ℕ) (r : Registers) → m ≤ r.address → Climbs 0 (rows_before (rows_from e start ops end)) → Climbs r.address (rows_before (rows_from e r ops end))
-      → Climbs m (rows_before (with_row_first (row_of op r) (rows_from e (next op r) ops end)))
+  emits : (m : ℕ) (r : Registers) → m ≤ r.address → Climbs 0 (rows_before (rows_from e start_registers ops end)) → Climbs r.address (rows_before (rows_from e r ops end))
+      → Climbs m (rows_before (with_row_first (row_of op r) (rows_from e (registers_after op r) ops end)))
   emits m r l anew on = at (is_end op) (makes_row op && not r.dropping)
     where
-      at : (b d : Bool) → Climbs m (rows_before (with_row_first (cond b (Some (row r true)) (cond d (Some (row r false)) None)) (rows_from e (cond b start r) ops end)))
-      at true d = add m 0 (row r true) (rows_before (rows_from e start ops end)) l (λ k. cc) anew
-      at false true = add m r.address (row r false) (rows_before (rows_from e r ops end)) l (λ k. refl) on
+      at : (b d : Bool) → Climbs m (rows_before (with_row_first (cond b (Some (shown_row r true)) (cond d (Some (shown_row r false)) None)) (rows_from e (cond b start_registers r) ops end)))
+      at true d = add m 0 (shown_row r true) (rows_before (rows_from e start_registers ops end)) l (λ k. cc) anew
+      at false true = add m r.address (shown_row r false) (rows_before (rows_from e r ops end)) l (λ k. refl) on
       at false false = weaker m r.address (rows_before (rows_from e r ops end)) l on
 
-  executes : (m : ℕ) (r : Registers) → m ≤ r.address → Climbs 0 (rows_before (rows_from e start ops end)) → Climbs r.address (rows_before (rows_from e r ops end))
-      → Climbs m (rows_before (continued_rows (λ q. rows_from e q ops end) (fitting e r >>= λ q. Ok (row_of op q, next op q))))
+  executes : (m : ℕ) (r : Registers) → m ≤ r.address → Climbs 0 (rows_before (rows_from e start_registers ops end)) → Climbs r.address (rows_before (rows_from e r ops end))
+      → Climbs m (rows_before (continued_rows (λ q. rows_from e q ops end) (fitting e r >>= λ q. Ok (row_of op q, registers_after op q))))
   executes m r l anew on = by_test (nat_lt r.address (limit e))
     where
-      by_test : (b : Bool) → Climbs m (rows_before (continued_rows (λ q. rows_from e q ops end) (cond b (Ok r) (Err AddressOverflow) >>= λ q. Ok (row_of op q, next op q))))
+      by_test : (b : Bool) → Climbs m (rows_before (continued_rows (λ q. rows_from e q ops end) (cond b (Ok r) (Err AddressOverflow) >>= λ q. Ok (row_of op q, registers_after op q))))
       by_test true = emits m r l anew on
       by_test false = record { falls = tt; next = tt }
 
@@ -112,7 +112,7 @@ none_left m (Err d) = record { falls = tt; next = tt }
 climbs : {Z : Type 0} (e : LineEncoding) (ops : List Opcode) (end : Result Z Error) (r : Registers) → Climbs r.address (rows_before (rows_from e r ops end))
 unfolding rows_from executed
 climbs e [] end r = none_left r.address end
-climbs e (op ∷ ops) end r = executes e op ops end r.address (step e r op) (step_grows e r op) (climbs e ops end start) (climbs e ops end (step e r op))
+climbs e (op ∷ ops) end r = executes e op ops end r.address (step_registers e r op) (step_grows e r op) (climbs e ops end start_registers) (climbs e ops end (step_registers e r op))
 
 pub never_falls : {Z : Type 0} (e : LineEncoding) (ops : List Opcode) (end : Result Z Error) (r : Registers) → NeverFalls (rows_before (rows_from e r ops end))
 never_falls e ops end r = (climbs e ops end r).falls
@@ -120,4 +120,4 @@ never_falls e ops end r = (climbs e ops end r).falls
 pub rows_rise : RowsRise
 rows_rise e run some =
     let P : List (Result LineRow Error) → Type 0 = λ rows. NeverFalls (rows_before rows) in
-    subst P (rows_of-start e some (opcodes_in run.items) run.end) (never_falls e (opcodes_in run.items) run.end start)
+    subst P (rows_of-start e some (opcodes_in run.items) run.end) (never_falls e (opcodes_in run.items) run.end start_registers)

@@ -19,7 +19,7 @@ use Rattle.gimli_line.specs.declared.row.LineRow.{LineRow}
 use Rattle.gimli_line.specs.Header.{File, Header}
 use Rattle.gimli_line.specs.Opcode.{instruction_at, coded_instruction_at, extended_at, extended_in, standard_at, instructions_of, opcodes_in, files_in}
 use Rattle.gimli_line.specs.Steps.{executed, taken, step_instruction, step_standard}
-use Rattle.gimli_line.specs.Left.{rows_from, continued_rows, with_row_first, rows_left, files_left, DefinesOn, Finds}
+use Rattle.gimli_line.specs.Left.{rows_from, continued_rows, with_row_first, rows_left, files_left, DefinesOn, FindsRow}
 use Rattle.gimli_line.specs.Lines.{YieldsUnlessOom}
 use Rattle.gimli_line.proofs.Shortening.{instruction-takes}
 
@@ -221,6 +221,6 @@ pub left_none : (h : Header) (r : Registers) (s : Section) → s.bytes ≡ [] �
 left_none h r s e = left_end h r s s (at_end h s e)
 
 -- after a refusal
-pub stopped : (old : List (Result LineRow Error)) (r : Result (Option LineRow) Error) (left new : List (Result LineRow Error)) → is_err r ≡ true → Finds old r left → new ≡ [] → YieldsUnlessOom old r new
+pub stopped : (old : List (Result LineRow Error)) (r : Result (Option LineRow) Error) (left new : List (Result LineRow Error)) → is_err r ≡ true → FindsRow old r left → new ≡ [] → YieldsUnlessOom old r new
 stopped old (Ok x) left new e f n = absurd (cc (e))
 stopped old (Err d) left new e f n = (n, f)

@@ -8,7 +8,7 @@ use Rattle.gimli_line.specs.declared.opcode.Opcode.TheVariants.{Special, Copy, A
 use Rattle.gimli_line.specs.declared.registers.Registers.{Registers}
 use Rattle.gimli_line.specs.AddressSize.{is_tombstone}
 use Rattle.gimli_line.specs.Rows.{AddressState, address_state, based, address_of, address_after, advance, line_advance, moved, line_after, file_after, column_after}
-use Rattle.gimli_line.specs.Steps.{start, advanced, placed, fixed_advanced, step}
+use Rattle.gimli_line.specs.Steps.{start_registers, advanced, placed, fixed_advanced, step_registers}
 use Rattle.gimli_line.proofs.Division.{div_sum, mod_sum}
 
 -- the registers hold what the opcodes before make
@@ -48,7 +48,7 @@ address_of-based e a some = ap (λ k. a + e.minimum_instruction_length * k) (div
 index_of-based : (e : LineEncoding) (a : ℕ) → 0 < e.maximum_operations_per_instruction → sum_by (advance e) (based a).counting % e.maximum_operations_per_instruction ≡ 0
 index_of-based e a some = mod-eq_of_lt some
 
-pub start_stands : (e : LineEncoding) → 0 < e.maximum_operations_per_instruction → StandsFor e start []
+pub start_stands : (e : LineEncoding) → 0 < e.maximum_operations_per_instruction → StandsFor e start_registers []
 start_stands e some = record {
   address = sym (address_of-based e 0 some);
   op_index = sym (index_of-based e 0 some);
@@ -175,7 +175,7 @@ module _ (e : LineEncoding) (past : List Opcode) (r : Registers) (s : StandsFor 
           ap (λ k. cond k (address_state e past) (based (address_of e (address_state e past) + n))) (sym s.dropping ∙ t) ∙ ap (λ k. based (k + n)) (sym s.address) in
           based_stands (FixedAdvancePc n) (r.address + n) same (record r { address = r.address + n; op_index = 0 }) refl refl t s.file s.line s.column
 
-  pub step_stands : (op : Opcode) → StandsFor e (step e r op) (op ∷ past)
+  pub step_stands : (op : Opcode) → StandsFor e (step_registers e r op) (op ∷ past)
   step_stands (Special n) = passes (Special n) refl (record r { line = moved r.line (line_advance e n) }) (n / e.line_range) refl refl refl refl s.file (ap (λ l. moved l (line_advance e n)) s.line) s.column
   step_stands Copy = quiet Copy refl r refl refl refl refl s.file s.line s.column
   step_stands (AdvancePc n) = passes (AdvancePc n) refl r n refl refl refl refl s.file s.line s.column

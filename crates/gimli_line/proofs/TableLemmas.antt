@@ -13,7 +13,7 @@ use Rattle.gimli_read.specs.Leb128.{uleb128_at}
 use Rattle.gimli_read.proofs.Steps.{bind_ok, guard_ok, same_value}
 use Rattle.gimli_read.specs.Form.{value_at}
 use Rattle.gimli_line.specs.declared.entry_tables.EntryFormat.{EntryFormat}
-use Rattle.gimli_line.specs.EntryTables.{EntryFront, EntryValues, entry_at, entry_front_at, entry_table_at, format_at, formats_at, is_sound_format, times, values_at, with_value}
+use Rattle.gimli_line.specs.EntryTables.{EntryFront, EntryValues, formatted_entry_at, entry_front_at, entry_table_at, format_at, formats_at, is_sound_format, times, values_at, with_value}
 use Rattle.gimli_line.specs.Tables.{new_tables_at}
 use Rattle.gimli_line.specs.Header.{File}
 use Rattle.gimli_line.specs.TableMemory.{gives_one, gives_first, takes_memory_after, formats_take_memory, new_tables_take_memory}
@@ -110,19 +110,19 @@ some_first true is h = absurd cc
 
 -- an answer that read the entries read the table
 pub table_as : {X : Type 0} (shares : Bool) (e : Encoding) (s t : Section) (x : EntryFront) (view : X → List File × Section) (r : Result X Error) → entry_front_at s ≡ Ok (x, t)
-    → ExactlyUnlessOomIf (shares || gives_first (entry_at e x.formats) x.count t) view r (times (entry_at e x.formats) x.count t) → ExactlyUnlessOomIf (shares || formats_take_memory s) view r (entry_table_at e s)
+    → ExactlyUnlessOomIf (shares || gives_first (formatted_entry_at e x.formats) x.count t) view r (times (formatted_entry_at e x.formats) x.count t) → ExactlyUnlessOomIf (shares || formats_take_memory s) view r (entry_table_at e s)
 unfolding entry_table_at
-table_as shares e s t x view (Ok y) h k = ap (λ r. r >>= λ front. times (entry_at e front.0.formats) front.0.count front.1) h ∙ k
+table_as shares e s t x view (Ok y) h k = ap (λ r. r >>= λ front. times (formatted_entry_at e front.0.formats) front.0.count front.1) h ∙ k
 table_as shares e s t x view (Err d) h k = λ n.
-    ap (λ r. r >>= λ front. times (entry_at e front.0.formats) front.0.count front.1) h
-    ∙ k (λ m. n (or_more shares (gives_first (entry_at e x.formats) x.count t) (formats_take_memory s) (λ f. front_takes s t x h (some_first (x.count == 0) (is_ok (entry_at e x.formats t)) f)) m))
+    ap (λ r. r >>= λ front. times (formatted_entry_at e front.0.formats) front.0.count front.1) h
+    ∙ k (λ m. n (or_more shares (gives_first (formatted_entry_at e x.formats) x.count t) (formats_take_memory s) (λ f. front_takes s t x h (some_first (x.count == 0) (is_ok (formatted_entry_at e x.formats t)) f)) m))
 
 -- where a table has an entry, a format was read
 entries_take : (e : Encoding) (s t : Section) (x : File) (xs : List File) → entry_table_at e s ≡ Ok (x ∷ xs, t) → formats_take_memory s ≡ true
 unfolding entry_table_at
 entries_take e s t x xs h =
     let a = bind_ok (entry_front_at s) _ (x ∷ xs, t) h in
-    front_takes s a.0.1 a.0.0 a.1 (some_first (a.0.0.count == 0) (is_ok (entry_at e a.0.0.formats a.0.1)) (times_first (entry_at e a.0.0.formats) a.0.0.count a.0.1 t x xs a.2))
+    front_takes s a.0.1 a.0.0 a.1 (some_first (a.0.0.count == 0) (is_ok (formatted_entry_at e a.0.0.formats a.0.1)) (times_first (formatted_entry_at e a.0.0.formats) a.0.0.count a.0.1 t x xs a.2))
 
 -- memory for the paths of directories is memory for the tables
 pub paths_take : (shares : Bool) (e : Encoding) (s t : Section) (xs : List File) → entry_table_at e s ≡ Ok (xs, t) → not (length xs == 0) ≡ true → (shares || new_tables_take_memory e s) ≡ true

@@ -80,8 +80,8 @@ filed None index = Err BadLineHeader
 filed (Some path) index = Ok (record { path_name = path; directory_index = index })
 
 -- an entry of a table
-unfoldable pub entry_at : Encoding → List EntryFormat → Section → Reading File
-entry_at e formats s = do
+unfoldable pub formatted_entry_at : Encoding → List EntryFormat → Section → Reading File
+formatted_entry_at e formats s = do
   entry ← values_at e formats no_entry s
   file ← filed entry.0.path_name entry.0.directory_index
   Ok (file, entry.1)
@@ -103,4 +103,4 @@ entry_front_at s = do
 unfoldable pub entry_table_at : Encoding → Section → Reading (List File)
 entry_table_at e s = do
   front ← entry_front_at s
-  times (entry_at e front.0.formats) front.0.count front.1
+  times (formatted_entry_at e front.0.formats) front.0.count front.1

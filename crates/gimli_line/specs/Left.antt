@@ -61,11 +61,11 @@ abbrev pub ahead_left : Header → Registers → Section → List File
 ahead_left h r s = ahead_from h.line_encoding r (instructions_of h s).items
 
 -- what a search for a row found of the rows that were left, and which are left after it
-abbrev pub Finds : List (Result LineRow Error) → Result (Option LineRow) Error
+abbrev pub FindsRow : List (Result LineRow Error) → Result (Option LineRow) Error
     → List (Result LineRow Error) → Type 0
-Finds old (Ok None) new = (old ≡ []) × (new ≡ [])
-Finds old (Ok (Some x)) new = old ≡ Ok x ∷ new
-Finds old (Err e) new = e ≢ OutOfMemory → old ≡ Err e ∷ []
+FindsRow old (Ok None) new = (old ≡ []) × (new ≡ [])
+FindsRow old (Ok (Some x)) new = old ≡ Ok x ∷ new
+FindsRow old (Err e) new = e ≢ OutOfMemory → old ≡ Err e ∷ []
 
 -- the files so far and those that are left to define stay the same, and so does the rest of the
 -- header

@@ -20,8 +20,8 @@ use Rattle.gimli_line.specs.Opcode.{standard_at, extended_at}
 use Rattle.gimli_line.specs.Rows.{advance, line_advance, moved, is_end, makes_row}
 
 -- the registers at the start of a sequence
-abbrev pub start : Registers
-start = record { address = 0; op_index = 0; file_index = 1; line = 1; column = 0; dropping = false }
+abbrev pub start_registers : Registers
+start_registers = record { address = 0; op_index = 0; file_index = 1; line = 1; column = 0; dropping = false }
 
 -- the registers that an instruction finds: the operation lies inside its instruction, and the
 -- address fits
@@ -51,27 +51,27 @@ abbrev pub fixed_advanced : ℕ → Registers → Registers
 fixed_advanced n r = if r.dropping then r else record r { address = r.address + n; op_index = 0 }
 
 -- the registers after an opcode
-abbrev pub step : LineEncoding → Registers → Opcode → Registers
-step e r (Special n) =
+abbrev pub step_registers : LineEncoding → Registers → Opcode → Registers
+step_registers e r (Special n) =
     advanced e (n / e.line_range) (record r { line = moved r.line (line_advance e n) })
-step e r Copy = r
-step e r (AdvancePc n) = advanced e n r
-step e r (AdvanceLine z) = record r { line = moved r.line z }
-step e r (SetFile n) = record r { file_index = n }
-step e r (SetColumn n) = record r { column = n }
-step e r ConstAddPc = advanced e (advance e ConstAddPc) r
-step e r (FixedAdvancePc n) = fixed_advanced n r
-step e r EndSequence = r
-step e r (SetAddress a) = placed e a r
-step e r Other = r
+step_registers e r Copy = r
+step_registers e r (AdvancePc n) = advanced e n r
+step_registers e r (AdvanceLine z) = record r { line = moved r.line z }
+step_registers e r (SetFile n) = record r { file_index = n }
+step_registers e r (SetColumn n) = record r { column = n }
+step_registers e r ConstAddPc = advanced e (advance e ConstAddPc) r
+step_registers e r (FixedAdvancePc n) = fixed_advanced n r
+step_registers e r EndSequence = r
+step_registers e r (SetAddress a) = placed e a r
+step_registers e r Other = r
 
 -- registers whose address fits the address size
 abbrev pub fitting : LineEncoding → Registers → Result Registers Error
 fitting e r = if nat_lt r.address (limit e) then Ok r else Err AddressOverflow
 
 -- the row that the registers show
-abbrev pub row : Registers → Bool → LineRow
-row r end = record {
+abbrev pub shown_row : Registers → Bool → LineRow
+shown_row r end = record {
   address = r.address;
   file_index = r.file_index;
   line = r.line;
@@ -83,17 +83,17 @@ row r end = record {
 -- the row that an opcode appends, after its step
 abbrev pub row_of : Opcode → Registers → Option LineRow
 row_of op r =
-    if is_end op then Some (row r true)
-    else (if makes_row op && not r.dropping then Some (row r false) else None)
+    if is_end op then Some (shown_row r true)
+    else (if makes_row op && not r.dropping then Some (shown_row r false) else None)
 
 -- the registers of the next opcode
-abbrev pub next : Opcode → Registers → Registers
-next op r = if is_end op then start else r
+abbrev pub registers_after : Opcode → Registers → Registers
+registers_after op r = if is_end op then start_registers else r
 
 -- the row that an opcode appends, and the registers of the next one
 unfoldable pub executed : LineEncoding → Registers → Opcode
     → Result (Option LineRow × Registers) Error
-executed e r op = fitting e (step e r op) >>= λ s. Ok (row_of op s, next op s)
+executed e r op = fitting e (step_registers e r op) >>= λ s. Ok (row_of op s, registers_after op s)
 
 -- the row that an instruction appends, the registers of the next one, and the header with its files
 unfoldable pub taken : Header → Registers → LineInstruction File

@@ -14,7 +14,7 @@ use Rattle.gimli_line.specs.Header.{Header}
 use Rattle.gimli_line.specs.Opcode.{instruction_at}
 use Rattle.gimli_line.specs.Left.{rows_left, ahead_left, DefinesOn}
 use Rattle.gimli_line.specs.Rises.{rows_before}
-use Rattle.gimli_line.specs.Steps.{executed, row}
+use Rattle.gimli_line.specs.Steps.{executed, shown_row}
 
 -- the fault after the rows, if there is one
 abbrev pub fault_after : {X : Type 0} → List (Result X Error) → Result (Unit {0}) Error
@@ -54,7 +54,7 @@ pub record Executes (h : Header) (r : Registers) (bytes : List ℕ) (len : ℕ)
 abbrev pub TakesOpcode : LineEncoding → Registers → Opcode → ℕ → Frequent → Registers → Type 0
 TakesOpcode e r op len Other q = q ≡ r
 TakesOpcode e r op len (Quiet n) q = (n ≡ len) × (executed e r op ≡ Ok (None, q))
-TakesOpcode e r op len (Shows n) q = (n ≡ len) × (executed e r op ≡ Ok (Some (row q false), q))
+TakesOpcode e r op len (Shows n) q = (n ≡ len) × (executed e r op ≡ Ok (Some (shown_row q false), q))
 
 -- what an opcode of so many bytes that appends a row comes to: while dropping it appends none
 abbrev pub shown : Registers → ℕ → Frequent
@@ -64,7 +64,7 @@ shown r len = if r.dropping then Quiet len else Shows len
 abbrev pub TakesFirst : Header → Registers → List ℕ → Frequent → Registers → Type 0
 TakesFirst h r bytes Other q = q ≡ r
 TakesFirst h r bytes (Quiet n) q = Executes h r bytes n None q
-TakesFirst h r bytes (Shows n) q = Executes h r bytes n (Some (row q false)) q
+TakesFirst h r bytes (Shows n) q = Executes h r bytes n (Some (shown_row q false)) q
 
 -- an opcode has a byte at least, and three at most
 abbrev pub IsShort : Frequent → Type 0

@@ -3,7 +3,7 @@
 ghost use Rattle.std.specs.Prelude.{◌≡◌, ◌==◌, ◌&&◌, ◌||◌, not, count_by, length, map, Ok};
 ghost use Rattle.gimli_read.specs.Reading.{ExactlyUnlessOomIf, ReadsUnlessOomIf, Reads};
 ghost use Rattle.gimli_read.specs.Form.{seen_value};
-ghost use Rattle.gimli_line.specs.EntryTables.{times, format_at, formats_at, is_path, is_bad_path, is_sound_format, no_entry, with_value, values_at, entry_at, entry_front_at, entry_table_at};
+ghost use Rattle.gimli_line.specs.EntryTables.{times, format_at, formats_at, is_path, is_bad_path, is_sound_format, no_entry, with_value, values_at, formatted_entry_at, entry_front_at, entry_table_at};
 ghost use Rattle.gimli_line.specs.TableMemory.{gives_first, formats_take_memory};
 
 use crate::constants::{DW_LNCT_directory_index, DW_LNCT_path};
@@ -144,14 +144,14 @@ fn read_values<R: Reader>(
 }
 
 // An entry of a table of version 5.
-#[tactic(auto, unfolding(crate::specs::EntryTables::entry_at))]
+#[tactic(auto, unfolding(crate::specs::EntryTables::formatted_entry_at))]
 fn read_entry<R: Reader>(
     encoding: Encoding,
     formats: &[EntryFormat],
     input: &mut R,
 ) -> Result<FileEntry<R>, Error>
     ensures gives { ReadsUnlessOomIf R.shares R.section input.old input.new result
-        (entry_at encoding formats.now) }
+        (formatted_entry_at encoding formats.now) }
 {
     let EntryValues {
         path_name,
@@ -175,9 +175,9 @@ fn read_entries<R: Reader>(
     input: &mut R,
 ) -> Result<Vec<FileEntry<R>>, Error>
     ensures gives { ExactlyUnlessOomIf
-        (R.shares || gives_first (entry_at encoding formats.now) count (R.section input.old))
+        (R.shares || gives_first (formatted_entry_at encoding formats.now) count (R.section input.old))
         (λ v. (v.items, R.section input.new)) result
-        (times (entry_at encoding formats.now) count (R.section input.old)) }
+        (times (formatted_entry_at encoding formats.now) count (R.section input.old)) }
 {
     let mut files = Vec::new(alloc);
     for _ in 0..count {

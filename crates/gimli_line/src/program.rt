@@ -8,7 +8,7 @@ ghost use Rattle.gimli_line.specs.Header.{header_copy_takes_memory};
 ghost use Rattle.gimli_line.specs.Lines.{lines_of, YieldsUnlessOom, KeepsFiles, DefinesAhead, IsOver};
 ghost use Rattle.gimli_line.specs.Opcode.{is_file, gives_file, coded_instruction_at};
 ghost use Rattle.gimli_line.specs.Steps.{IsRunning, taken, step_instruction};
-ghost use Rattle.gimli_line.specs.Left.{rows_left, files_left, ahead_left, DefinesOn, Finds};
+ghost use Rattle.gimli_line.specs.Left.{rows_left, files_left, ahead_left, DefinesOn, FindsRow};
 ghost use Rattle.gimli_line.specs.Taking.{Passes, all_taken, fault_after};
 
 use crate::constants::DW_LNS_extended_op;
@@ -222,7 +222,7 @@ fn find_row<R: Reader>(
     program: &mut R,
 ) -> Result<Option<LineRow>, Error>
     requires running { IsRunning header.old.line_encoding registers.old }
-    ensures gives { Finds (rows_left header.old registers.old (R.section program.old)) result
+    ensures gives { FindsRow (rows_left header.old registers.old (R.section program.old)) result
         (rows_left header.new registers.new (R.section program.new)) }
     ensures memory { IfErr result (λ e.
         ahead_left header.old registers.old (R.section program.old) ≡ []

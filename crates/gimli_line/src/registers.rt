@@ -6,7 +6,7 @@ ghost use Rattle.gimli_line.specs.declared.opcode.Opcode.TheVariants.{ConstAddPc
 ghost use Rattle.gimli_line.specs.Encoding.{limit};
 ghost use Rattle.gimli_line.specs.AddressSize.{is_tombstone};
 ghost use Rattle.gimli_line.specs.Rows.{advance, moved, line_advance, is_end, makes_row};
-ghost use Rattle.gimli_line.specs.Steps.{IsRunning, start, advanced, placed, fixed_advanced, step, fitting, row, row_of, next, executed};
+ghost use Rattle.gimli_line.specs.Steps.{IsRunning, start_registers, advanced, placed, fixed_advanced, step_registers, fitting, shown_row, row_of, registers_after, executed};
 
 use crate::constants::LAST_SPECIAL_OPCODE;
 use crate::opcode::Opcode;
@@ -100,7 +100,7 @@ fn shows(opcode: Opcode) -> bool
 impl Registers {
     /// The registers at the start of a sequence.
     pub(crate) fn start() -> Registers
-        ensures gives { result ≡ start }
+        ensures gives { result ≡ start_registers }
     {
         Registers {
             address: 0,
@@ -199,7 +199,7 @@ impl Registers {
     pub(crate) fn step(&mut self, parameters: &LineParameters, opcode: Opcode) -> Result<(), Error>
         requires running { IsRunning parameters.now.encoding self.old }
         ensures gives { Exactly (λ _. self.new) result
-            (fitting parameters.now.encoding (step parameters.now.encoding self.old opcode)) }
+            (fitting parameters.now.encoding (step_registers parameters.now.encoding self.old opcode)) }
     {
         match opcode {
             Opcode::Special(n) => {
@@ -220,7 +220,7 @@ impl Registers {
 
     // The row that the registers show.
     pub(crate) fn row(&self, end_sequence: bool) -> LineRow
-        ensures gives { result ≡ row self.now end_sequence }
+        ensures gives { result ≡ shown_row self.now end_sequence }
     {
         LineRow {
             address: self.address,

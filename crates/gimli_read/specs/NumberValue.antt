@@ -14,16 +14,16 @@ use Rattle.gimli_read.specs.Reading.{Reading, mapped}
 use Rattle.gimli_read.specs.Section.{Section}
 
 -- a value as a number: an address, a constant that isn't negative, a reference in the unit
-abbrev pub number_of : {R : Type 0} → AttributeValue R → Option NumberValue
-number_of (values.Addr n) = Some (numbers.Address n)
-number_of (values.Data1 n) = Some (numbers.Constant n)
-number_of (values.Data2 n) = Some (numbers.Constant n)
-number_of (values.Data4 n) = Some (numbers.Constant n)
-number_of (values.Data8 n) = Some (numbers.Constant n)
-number_of (values.Udata n) = Some (numbers.Constant n)
-number_of (values.Sdata z) = option_map numbers.Constant (unsigned_of z)
-number_of (values.UnitRef o) = Some (numbers.UnitRef o)
-number_of _ = None
+abbrev pub number_if : {R : Type 0} → AttributeValue R → Option NumberValue
+number_if (values.Addr n) = Some (numbers.Address n)
+number_if (values.Data1 n) = Some (numbers.Constant n)
+number_if (values.Data2 n) = Some (numbers.Constant n)
+number_if (values.Data4 n) = Some (numbers.Constant n)
+number_if (values.Data8 n) = Some (numbers.Constant n)
+number_if (values.Udata n) = Some (numbers.Constant n)
+number_if (values.Sdata z) = option_map numbers.Constant (unsigned_of z)
+number_if (values.UnitRef o) = Some (numbers.UnitRef o)
+number_if _ = None
 
 -- whether a form is a frequent one of numbers
 abbrev pub is_number_form : DwForm → Bool
@@ -42,7 +42,7 @@ abbrev pub number_at : Encoding → Specification → Section → Reading (Optio
 number_at encoding x s =
     if x.form.0 == DW_FORM_implicit_const.0 then Ok (implicit_number x.constant, s)
     else if is_number_form x.form
-    then mapped (λ a. number_of a.value) (attribute_at encoding x s)
+    then mapped (λ a. number_if a.value) (attribute_at encoding x s)
     else Ok (None, s)
 
 -- the number as a constant

@@ -2,7 +2,7 @@ use Rattle.std.proofs.Common.{Ok, ◌∙◌, ap, fold, sym}
 use Rattle.std.proofs.lemmas.Result.{err_from_is_err_and}
 use Rattle.gimli_line.specs.Rises.{rows_before}
 use Rattle.gimli_read.specs.Reading.{result_map}
-use Rattle.addr2line_lines.specs.Building.{StoredBuilt, all_taken, need_width, nothing_built, nothing_stored, stored_taken}
+use Rattle.addr2line_lines.specs.Building.{StoredBuilt, all_built, need_width, nothing_built, nothing_stored, stored_taken}
 use Rattle.addr2line_lines.specs.Rows.{read_all}
 use Rattle.addr2line_lines.specs.Sequences.{sequences_of}
 use Rattle.addr2line_lines.proofs.BuildLemmas.{taken_all, read_fault, read_whole, stored_sequences}
@@ -19,7 +19,7 @@ pub returns-clause-gives : goal.returns-clause-gives
 returns-clause-gives g c =
     let left = c.args.rows.now.left in
     sym (taken_all (read_all left) c.never_falls.ensures.law)
-    ∙ ap (result_map (λ rows. (all_taken nothing_built rows).sequences)) (read_whole left c.in_ok-take_rows.ensures.gives)
+    ∙ ap (result_map (λ rows. (all_built nothing_built rows).sequences)) (read_whole left c.in_ok-take_rows.ensures.gives)
     ∙ ap Ok (sym (stored_sequences nothing_stored (rows_before left)))
     ∙ ap (λ (b : StoredBuilt). Ok (fold stored_taken b (rows_before left)).built.sequences) (sym c.new-builder.ensures.gives)
     ∙ ap (λ (b : StoredBuilt). Ok b.built.sequences) (sym c.in_ok-take_rows.ensures.taken)

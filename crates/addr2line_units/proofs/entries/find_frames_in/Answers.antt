@@ -8,7 +8,7 @@ use Rattle.addr2line_units.specs.Frames.{found_frames}
 use Rattle.addr2line_units.specs.CachedEntries.{AsksNoMemoryIn, first_answer_of}
 use Rattle.addr2line_units.specs.CachedFunctions.{function_of_place, cached_functions}
 use Rattle.addr2line_units.specs.Located.{location_in}
-use Rattle.addr2line_units.specs.UnitFrames.{function_in, inlined_at}
+use Rattle.addr2line_units.specs.UnitFrames.{function_in, inlined_of_unit}
 use Rattle.addr2line_units.specs.Views.{is_open}
 use Rattle.addr2line_units.proofs.EntryLemmas.{looked_decides, not_open}
 use Rattle.addr2line_units.proofs.UnitFrameLemmas.{closed_asks, fault_frames, function_alone, lines_alone, lines_fault_frames, lines_frames, look_only, only_after, open_asks, open_frames, stay_after, waiting_entries, waiting_stays_open}
@@ -256,7 +256,7 @@ returns-in_err-function-clause-ready g c =
 pub returns-in_err-function-clause-memory : goal.returns-in_err-function-clause-memory
 returns-in_err-function-clause-memory g c =
     let p = err_from_is_err_and c.from_residual.result c.from_residual.ensures.1 in
-    rw (p.1, p.2) (λ has. λ parsed. λ few. c.in_err-function.ensures.memory has (ap (λ a. exceeds_inline_room (inlined_at (seen_scope c.args.scope) c.args.dw_unit.now a c.args.probe)) c.check_split.ensures.stay.answer ∙ few))
+    rw (p.1, p.2) (λ has. λ parsed. λ few. c.in_err-function.ensures.memory has (ap (λ a. exceeds_inline_room (inlined_of_unit (seen_scope c.args.scope) c.args.dw_unit.now a c.args.probe)) c.check_split.ensures.stay.answer ∙ few))
 
 pub returns-in_err-row-clause-ready : goal.returns-in_err-row-clause-ready
 returns-in_err-row-clause-ready g c =

@@ -8,7 +8,7 @@ use Rattle.elf.specs.Layout.{layout_of}
 use Rattle.elf.specs.ObjectFile.{name_table_of, object_file_with}
 use Rattle.elf.specs.SectionBytes.{string_table_in}
 use Rattle.elf.specs.Symbols.{symbol_names_number, symbol_table}
-use Rattle.elf.specs.Wanted.{is_shown, is_shown_at, is_wanted, shows_sections, shows_tables}
+use Rattle.elf.specs.Wanted.{shows_section, is_shown_at, is_wanted_section, shows_sections, shows_tables}
 use Rattle.elf.proofs.wanted.shows_all.Goals as goal
 
 pub returns : goal.returns
@@ -28,8 +28,8 @@ returns c =
     let names_are : c.name_table_in-name_table.result ≡ f.name_table =
     c.name_table_in-name_table.ensures.gives ∙ ap (name_table_of h.name_index) (c.deref.ensures.value ∙ sections_are) in
     let nt = c.name_table_in-name_table.result in
-    let by_tables : List SectionHeader → ℕ → Bool = λ ss n. is_shown_at image ss n && (is_shown_at image ss (symbol_names_number ss) && option_map_or (is_shown image) (symbol_table ss) true) in
-    let by_sections : List SectionHeader → ℕ → Bool = λ ss n. list_all (λ s. not (is_wanted (string_table_in bytes ss n) s) || is_shown image s) ss in
+    let by_tables : List SectionHeader → ℕ → Bool = λ ss n. is_shown_at image ss n && (is_shown_at image ss (symbol_names_number ss) && option_map_or (shows_section image) (symbol_table ss) true) in
+    let by_sections : List SectionHeader → ℕ → Bool = λ ss n. list_all (λ s. not (is_wanted_section (string_table_in bytes ss n) s) || shows_section image s) ss in
     let tables : shows_tables image f ≡ true =
     sym (c.shows_tables.ensures.gives ∙ ap (λ (ss : List SectionHeader). by_tables ss nt) (c.deref-2.ensures.value ∙ sections_are) ∙ ap (by_tables f.sections) names_are) ∙ c.if-not-shows_tables.false in
     let sections : c.shows_sections.result ≡ shows_sections image f =

@@ -1,9 +1,9 @@
 use Rattle.std.proofs.Common.{map, sym, ap, ◌∙◌}
 use Rattle.std.proofs.lemmas.List.{take-map}
-use Rattle.addr2line_lines.specs.CachedNames.{seen_name}
+use Rattle.addr2line_lines.specs.CachedNames.{seen_cached_name}
 use Rattle.addr2line_lines.proofs.names.NameCache.truncate.Goals as goal
 
 pub returns : goal.returns
 returns g c =
-    let see = seen_name g.R.Reader.section in
+    let see = seen_cached_name g.R.Reader.section in
     record { gives = ap (map see) c.truncate.ensures.items ∙ sym (take-map see c.args.names c.args.self.now.names.items) }

@@ -85,7 +85,7 @@ impl TextStarts {
 fn is_ascii(bytes: &[u8]) -> bool
     ensures gives { result ≡ list_all is_ascii bytes.now }
 {
-    bytes.iter().all(|byte| byte.is_ascii())
+    bytes.is_ascii()
 }
 
 // Whether a table is ASCII alone and its last byte is zero.

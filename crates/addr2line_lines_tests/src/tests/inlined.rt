@@ -105,3 +105,60 @@ fn inlined_functions_are_picked_from_the_outside_in(rt: HostRuntime) {
         assert_eq!(rt; chain_at(rt.alloc(), info, probe), want);
     }
 }
+
+// The same as the function and its inlined functions above, but these with DW_AT_call_file as a
+// LEB128 number before the line, and without children.
+const FILES_ABBREV: &[u8] = b"\x01\x11\x01\0\0\x02\x2e\x01\x11\x01\x12\x0b\0\0\
+    \x03\x1d\0\x11\x01\x12\x0b\x58\x0f\x59\x0b\0\0\0";
+
+// Calls whose files have the indexes 1, 2^32 - 2, 2^32 - 1, 2^32 and 2^64 - 1.
+const FILES: &[u8] = b"\x41\0\0\0\x04\0\0\0\0\0\x02\x01\x02\0\0\x30\
+    \x03\0\0\x01\x01\x01\x03\x01\0\x01\xfe\xff\xff\xff\x0f\x02\
+    \x03\x02\0\x01\xff\xff\xff\xff\x0f\x03\x03\x03\0\x01\x80\x80\x80\x80\x10\x04\
+    \x03\x04\0\x01\xff\xff\xff\xff\xff\xff\xff\xff\xff\x01\x05\0\0";
+
+// The indexes of files of the calls of the first function, and the lines; zeros for a fault.
+fn calls_by<'a>(
+    functions: Functions<EndianSlice<'a>>,
+    dwarf: &Dwarf<EndianSlice<'a>>,
+    unit: &Unit<EndianSlice<'a>>,
+) -> [(u64, u32); 5]
+    requires names { AreNamesOf (sup_scope (record { sections = dwarf.now; units = [] }))
+        unit.now functions.names }
+{
+    let mut functions = functions;
+    let mut calls = [(0, 0); 5];
+    let file = FileUnits { dwarf, units: &[] };
+    if functions.read(Scope { file, sup: None }, unit, 0).is_err() {
+        return calls;
+    }
+    for place in 0..5 {
+        if let Some(inlined) = functions.inlined(place) {
+            calls[place] = (inlined.call_file.unwrap_or(0), inlined.call_line);
+        }
+    }
+    calls
+}
+
+fn calls_of(alloc: Global, abbrev: &[u8], info: &[u8]) -> [(u64, u32); 5] {
+    let dwarf = dwarf_of(abbrev, info, &[]);
+    let Ok(unit) = first_unit(alloc, &dwarf) else {
+        return [(0, 0); 5];
+    };
+    match Functions::parse(alloc, UnitRef::new(&dwarf, &unit)) {
+        Ok(functions) => calls_by(functions, &dwarf, &unit),
+        Err(_) => [(0, 0); 5],
+    }
+}
+
+#[test]
+fn the_file_of_a_call_may_have_any_index(rt: HostRuntime) {
+    let want = [
+        (1, 1),
+        (0xffff_fffe, 2),
+        (0xffff_ffff, 3),
+        (0x1_0000_0000, 4),
+        (u64::MAX, 5),
+    ];
+    assert_eq!(rt; calls_of(rt.alloc(), FILES_ABBREV, FILES), want);
+}

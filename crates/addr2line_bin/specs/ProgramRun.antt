@@ -91,7 +91,8 @@ RunsBy (Ok section) answers o io inn oo on eo en e = (c : RunContext)
 abbrev pub RunsOver : FileAnswers → Options → InputState → InputState → StreamState → StreamState
     → StreamState → StreamState → Exit → Type 0
 RunsOver answers o io inn oo on eo en e =
-    RunsBy (section_asked answers (option_map string_bytes o.section)) answers o io inn oo on eo en e
+    RunsBy (section_asked answers (option_map string_bytes o.section)) answers o io inn oo on eo en
+    e
 
 -- the same, or the fault of its loading is told
 abbrev pub IsRun : {L : Type 0} → (L → FileAnswers) → Loading L → Options → InputState → InputState

@@ -26,7 +26,8 @@ with_kind (Ok x) = Ok x
 with_kind (Err e) = Err (error_kind e)
 
 -- the last fault, after a call with this answer
-abbrev pub last_fault_after : {A : Type 0} → Option ErrorKind → Result A ErrorKind → Option ErrorKind
+abbrev pub last_fault_after : {A : Type 0} → Option ErrorKind → Result A ErrorKind
+    → Option ErrorKind
 last_fault_after before (Ok _) = before
 last_fault_after before (Err kind) = Some kind
 

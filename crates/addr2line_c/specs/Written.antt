@@ -41,7 +41,8 @@ frame_name demangles f = option_map (chosen_name demangles) f.function
 
 -- the texts of a frame
 abbrev pub frame_texts : Bool → FrameRecord → List (List ℕ)
-frame_texts demangles f = optional_text (frame_name demangles f) ++ optional_text (location_file f.location)
+frame_texts demangles f =
+    optional_text (frame_name demangles f) ++ optional_text (location_file f.location)
 
 -- the frame that follows these texts
 abbrev pub written_frame : Bool → List (List ℕ) → FrameRecord → WrittenFrame

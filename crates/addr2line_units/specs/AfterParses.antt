@@ -1,5 +1,5 @@
--- What a parse of functions leaves of a view, of a unit, and of the unit of a number, as the private
--- functions see it (DWARF 5, section 3.3: entries of subprograms and of inlined functions).
+-- What a parse of functions leaves of a view, of a unit, and of the unit of a number, as the
+-- private functions see it (DWARF 5, section 3.3: entries of subprograms and of inlined functions).
 use Rattle.std.specs.Prelude.{◌≡◌, ◌≢◌, ◌⊎◌, ℕ, Bool, true, false, IfErr, IfSome, OnOk, slice_get, None, Result, Ok, Err}
 use Rattle.gimli_read.specs.declared.error.Error.{Error}
 use Rattle.gimli_read.specs.Alike.{WasNotRefused}

@@ -75,5 +75,6 @@ inlined_of_found (Ok (Some f)) = f.inlined
 inlined_of_found _ = []
 
 -- the inlined functions at the probe in the view of a unit
-unfoldable pub inlined_of_unit : Scope → UnitRecord → Option (Option Sections) → ℕ → List InlinedEntry
+unfoldable pub inlined_of_unit : Scope → UnitRecord → Option (Option Sections) → ℕ
+    → List InlinedEntry
 inlined_of_unit scope u answer probe = inlined_of_found (function_in scope u answer probe)

@@ -290,7 +290,8 @@ fn find_in_view<'x, R: Reader>(
         → has_entries_by probe view.now.state functions.new ≡ true }
     ensures memory { has_entries_by probe view.now.state functions.new ≡ true
         → exceeds_inline_room
-        (inlined_of_unit (seen_scope scope.entry) dw_unit.now (seen_first_answer view.now) probe) ≡ false
+        (inlined_of_unit (seen_scope scope.entry) dw_unit.now (seen_first_answer view.now) probe)
+        ≡ false
         → WasNotRefused result }
     ensures no_memory { functions_in_take_memory R.shares (seen_scope scope.entry) dw_unit.now
         (seen_first_answer view.now) ≡ false → IfErr result (λ e. function_in

@@ -32,7 +32,8 @@ PackedSection = ℕ × List ℕ
 unfoldable pub packed_in : RunTimeEndian → ℕ → List ℕ → Loading PackedSection
 packed_in endian size bytes =
     if nat_lt (length bytes) (3 * size) then Err BadElf
-    else if not (layout_number_at endian 0 WORD_SIZE bytes == ELFCOMPRESS_ZLIB) then Err CompressedSection
+    else if not (layout_number_at endian 0 WORD_SIZE bytes == ELFCOMPRESS_ZLIB)
+    then Err CompressedSection
     else Ok (layout_number_at endian size size bytes, drop (3 * size) bytes)
 
 -- behind "ZLIB" and the size in eight bytes, the highest first

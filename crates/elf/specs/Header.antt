@@ -63,7 +63,8 @@ header_in endian l bytes = if nat_lt (length bytes) l.header_size then Err BadEl
     let is_relocatable = is_relocatable_in endian l bytes in
     if start == 0
     then Ok (record { is_relocatable = is_relocatable; start = 0; count = 0; name_index = 0 })
-    else if not (layout_number_at endian l.e_shentsize HALF_SIZE bytes == l.section_size) then Err BadElf
+    else if not (layout_number_at endian l.e_shentsize HALF_SIZE bytes == l.section_size)
+    then Err BadElf
     else (count_in endian l start bytes >>= λ count.
     if nat_lt (length bytes) (start + count * l.section_size) then Err BadElf
     else Ok (record {

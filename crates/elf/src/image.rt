@@ -222,7 +222,8 @@ impl FileImage {
         requires within { base + at + size ≤ length (image_bytes self.now) }
         requires some { 1 ≤ size }
         requires small { size ≤ (layout_of class.Elf64).address_size }
-        ensures gives { result ≡ layout_number_at endian at size (drop base (image_bytes self.now)) }
+        ensures gives { result
+            ≡ layout_number_at endian at size (drop base (image_bytes self.now)) }
     {
         let start = self.place(base, at as u64);
         match self.slice(start, size as u64) {

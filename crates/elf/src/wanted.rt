@@ -106,7 +106,8 @@ fn is_shown_at(sections: &[SectionHeader], number: u64, file: &FileImage) -> boo
 
 // The same of the symbol table, if there is one.
 fn is_table_shown(sections: &[SectionHeader], file: &FileImage) -> bool
-    ensures gives { result ≡ option_map_or (shows_section file.now) (symbol_table sections.now) true }
+    ensures gives { result
+        ≡ option_map_or (shows_section file.now) (symbol_table sections.now) true }
 {
     match symbol::table_in(sections) {
         Some(section) => is_shown(&section, file),
@@ -116,7 +117,8 @@ fn is_table_shown(sections: &[SectionHeader], file: &FileImage) -> bool
 
 // The same of each section of debug information.
 fn are_shown(sections: &[SectionHeader], names: &[u8], file: &FileImage) -> bool
-    ensures gives { result ≡ list_all (λ s. not (is_wanted_section names.now s) || shows_section file.now s)
+    ensures gives { result
+        ≡ list_all (λ s. not (is_wanted_section names.now s) || shows_section file.now s)
         sections.now }
 {
     sections.iter().all(|section| !is_wanted(section, names) || is_shown(section, file))

@@ -133,8 +133,8 @@ impl<R: Reader> RootAttributes<R> {
         }
     }
 
-    // Takes one more attribute in. A call of its own, so that a root without such attributes doesn't
-    // clear what it stores values in.
+    // Takes one more attribute in. A call of its own, so that a root without such attributes
+    // doesn't clear what it stores values in.
     #[inline(never)]
     pub(crate) fn take(&mut self, encoding: Encoding, attribute: Attribute<R>)
         ensures gives { self.new ≡ with_root_attribute encoding self.old attribute }

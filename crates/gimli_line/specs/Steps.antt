@@ -21,7 +21,14 @@ use Rattle.gimli_line.specs.Rows.{advance, line_advance, moved, is_end, makes_ro
 
 -- the registers at the start of a sequence
 abbrev pub start_registers : Registers
-start_registers = record { address = 0; op_index = 0; file_index = 1; line = 1; column = 0; dropping = false }
+start_registers = record {
+  address = 0;
+  op_index = 0;
+  file_index = 1;
+  line = 1;
+  column = 0;
+  dropping = false;
+}
 
 -- the registers that an instruction finds: the operation lies inside its instruction, and the
 -- address fits

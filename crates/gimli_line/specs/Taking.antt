@@ -54,7 +54,8 @@ pub record Executes (h : Header) (r : Registers) (bytes : List ℕ) (len : ℕ)
 abbrev pub TakesOpcode : LineEncoding → Registers → Opcode → ℕ → Frequent → Registers → Type 0
 TakesOpcode e r op len Other q = q ≡ r
 TakesOpcode e r op len (Quiet n) q = (n ≡ len) × (executed e r op ≡ Ok (None, q))
-TakesOpcode e r op len (Shows n) q = (n ≡ len) × (executed e r op ≡ Ok (Some (shown_row q false), q))
+TakesOpcode e r op len (Shows n) q =
+    (n ≡ len) × (executed e r op ≡ Ok (Some (shown_row q false), q))
 
 -- what an opcode of so many bytes that appends a row comes to: while dropping it appends none
 abbrev pub shown : Registers → ℕ → Frequent

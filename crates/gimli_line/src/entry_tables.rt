@@ -175,7 +175,8 @@ fn read_entries<R: Reader>(
     input: &mut R,
 ) -> Result<Vec<FileEntry<R>>, Error>
     ensures gives { ExactlyUnlessOomIf
-        (R.shares || gives_first (formatted_entry_at encoding formats.now) count (R.section input.old))
+        (R.shares
+        || gives_first (formatted_entry_at encoding formats.now) count (R.section input.old))
         (λ v. (v.items, R.section input.new)) result
         (times (formatted_entry_at encoding formats.now) count (R.section input.old)) }
 {

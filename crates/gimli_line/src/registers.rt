@@ -199,7 +199,8 @@ impl Registers {
     pub(crate) fn step(&mut self, parameters: &LineParameters, opcode: Opcode) -> Result<(), Error>
         requires running { IsRunning parameters.now.encoding self.old }
         ensures gives { Exactly (λ _. self.new) result
-            (fitting parameters.now.encoding (step_registers parameters.now.encoding self.old opcode)) }
+            (fitting parameters.now.encoding
+            (step_registers parameters.now.encoding self.old opcode)) }
     {
         match opcode {
             Opcode::Special(n) => {

@@ -48,8 +48,8 @@ abbrev pub stores : Width → Row → Bool
 stores (Short upper) r = fits upper r
 stores Whole r = true
 
--- how so many rows are stored anew, so that one more can be: its address has this upper half, and
--- it is narrow or not
+-- how so many rows are stored anew for one more with this upper half of its address, narrow or not:
+-- in twelve bytes only where there is none yet and it is narrow, else whole
 abbrev pub width_anew : ℕ → ℕ → Bool → Width
 width_anew count upper narrow = if (count == 0) && narrow then Short upper else Whole
 

@@ -150,8 +150,7 @@ impl RowStore {
         }
     }
 
-    // The same rows, stored so that one more can be, which couldn't: of it the upper half of its
-    // address is asked, and whether it is narrow.
+    // The same rows, stored anew for one more with this upper half of its address, narrow or not.
     fn widened(&self, alloc: Global, upper: u32, narrow: bool) -> Result<RowStore, AllocError>
         ensures kept { IfOk result (λ s. whole_rows s ≡ whole_rows self.now) }
         ensures width { IfOk result (λ s.
@@ -192,8 +191,8 @@ impl RowStore {
         self.widen(alloc, upper_of(row), are_narrow(row))
     }
 
-    // Whether the last row, if one is at place `first` or after it, has the address of a row, which
-    // can be stored as the others are: then lower halves are enough.
+    // Whether the last row, if one is at place `first` or after it, has the address of a row. That
+    // row can be stored as the others are, so lower halves are enough.
     #[inline(always)]
     fn ends_at(&self, first: usize, row: Row) -> bool
         requires stores { stores (width_of self.now) row ≡ true }
@@ -321,8 +320,9 @@ impl Rows {
     }
 
     /// Takes a row in: it replaces the last one, if that is at place `first` or after it and has
-    /// its address, or follows it. To replace one grows only where it can't be stored as the others
-    /// are. A refused growth keeps nothing of it, but the rows may be stored as it needs.
+    /// its address, or follows it. To replace one is refused only where it can't be stored as the
+    /// others are, and changes nothing then. Else a refused growth keeps nothing of it, but the rows
+    /// may be stored as it needs.
     #[inline(always)]
     pub(crate) fn put(&mut self, alloc: Global, first: usize, row: Row) -> Result<(), AllocError>
         ensures gives { OnOk result

@@ -105,7 +105,7 @@ impl Builder {
         Ok(())
     }
 
-    // Takes a row of the sequence that goes on: it replaces the last one, or follows it. To replace
+    // Takes a row of the sequence that goes on: it replaces the last one of its address, or follows. To replace
     // one grows only where it can't be stored as the others are.
     #[inline(always)]
     fn put(&mut self, row: Row) -> Result<(), AllocError>

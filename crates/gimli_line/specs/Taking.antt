@@ -50,7 +50,7 @@ pub record Executes (h : Header) (r : Registers) (bytes : List ℕ) (len : ℕ)
       ≡ Ok (Some (Changes opcode), record { bytes = drop len bytes; endian = endian })
   pub does : executed h.line_encoding r opcode ≡ Ok (row, q)
 
--- an opcode of so many bytes was taken in, or it has a fault and changed nothing
+-- an opcode of so many bytes was taken in, or nothing changed
 abbrev pub TakesOpcode : LineEncoding → Registers → Opcode → ℕ → Frequent → Registers → Type 0
 TakesOpcode e r op len Other q = q ≡ r
 TakesOpcode e r op len (Quiet n) q = (n ≡ len) × (executed e r op ≡ Ok (None, q))

@@ -27,7 +27,7 @@ const FREQUENT_LEN: usize = 3;
 /// What taking in the opcode at the front of some bytes came to.
 #[derive(Clone, Copy)]
 pub enum Frequent {
-    /// It isn't a frequent one, or has a fault.
+    /// It wasn't taken in: it isn't a frequent one, or has a fault.
     Other,
     /// It has so many bytes, and appends no row.
     Quiet(usize),
@@ -89,7 +89,8 @@ fn shown(registers: &Registers, len: usize) -> Frequent
     Frequent::Shows(len)
 }
 
-// Takes in a special opcode, less the opcode base; where it has a fault nothing changes.
+// Takes in the special opcode of a number, its code less the opcode base; where it has a fault
+// nothing changes.
 #[inline(always)]
 fn take_special(parameters: &LineParameters, registers: &mut Registers, n: u8) -> Frequent
     requires single { parameters.now.encoding.maximum_operations_per_instruction ≡ 1 }
@@ -202,9 +203,8 @@ fn take_first<R: Reader>(
     }
 }
 
-/// Takes in frequent opcodes from the front of the bytes on, up to the first that isn't one, and
-/// gives their rows to the sink; the number of their bytes. None where an instruction may have more
-/// than one operation, as no usual processor's has. Fails only where the sink does.
+/// Takes in some frequent opcodes from the front of the bytes on, and gives their rows to the sink;
+/// the number of their bytes. Fails only where the sink does.
 pub(crate) fn run_frequent<R: Reader, S: RowSink>(
     header: &LineProgramHeader<R>,
     registers: &mut Registers,
@@ -223,6 +223,8 @@ pub(crate) fn run_frequent<R: Reader, S: RowSink>(
 {
     // A copy, which no store to the sink can change: so its numbers stay in registers.
     let parameters = header.parameters;
+    // With more than one operation for an instruction, as only VLIW processors have it, the loop
+    // would have a place inside an instruction to keep: all opcodes go the long way there.
     if parameters.encoding.maximum_operations_per_instruction != 1 {
         return Ok(0);
     }

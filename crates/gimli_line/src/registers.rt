@@ -51,7 +51,7 @@ pub(crate) fn special_advance(parameters: &LineParameters, n: u8) -> i64
     i64::from(parameters.encoding.line_base) + i64::from(parameters.remainder(n))
 }
 
-// The operations of DW_LNS_const_add_pc: those of the last special opcode.
+// The operations of DW_LNS_const_add_pc: those of opcode 255, the last special one.
 #[inline(always)]
 pub(crate) fn const_advance(parameters: &LineParameters) -> u64
     ensures gives { result ≡ advance parameters.now.encoding ConstAddPc }
@@ -127,7 +127,7 @@ impl Registers {
         Ok(())
     }
 
-    // Advances by whole instructions, also while dropping; where the address would pass the
+    // Advances by whole instructions, whether dropping or not; where the address would pass the
     // greatest one nothing changes.
     #[inline(always)]
     pub(crate) fn add_instructions(

@@ -11,12 +11,13 @@ abbrev pub if_coded : ℕ → Option Abbrev → Option Abbrev
 if_coded code None = None
 if_coded code (Some a) = if a.code == code then Some a else None
 
--- the first code of a table to which one is added, where `first` is that of a table with codes
+-- the first code of a table with one code more: that code where the table is empty, else `first`
 abbrev pub first_code_with : List Abbrev → ℕ → ℕ → ℕ
 first_code_with [] first code = code
 first_code_with (a ∷ table) first code = first
 
--- each abbreviation whose index is not how far its code is from the first is found by its code
+-- each abbreviation whose index is not how far its code is from `first` has its index under its code
+-- in the map
 abbrev pub IsPlaced : List Abbrev → ℕ → BTreeMap ℕ ℕ → Type 0
 IsPlaced table first displaced =
     (index : ℕ) (a : Abbrev) → slice_get table index ≡ Some a → abs_diff first a.code ≢ index

@@ -1,6 +1,6 @@
 //! Abbreviation tables.
 
-ghost use Rattle.std.specs.Prelude.{◌≡◌, ◌≢◌, [], ◌∷◌, ◌++◌, None, Some, IfOk, IfErr, IsOk, OnOk, is_ok, is_some, option_copied};
+ghost use Rattle.std.specs.Prelude.{◌≡◌, ◌≢◌, [], ◌∷◌, ◌++◌, None, Some, IfOk, IfErr, IsOk, OnErr, OnOk, is_ok, is_some, length, option_copied};
 ghost use Rattle.std.specs.List.{slice_get};
 ghost use Rattle.std.specs.Ordering.{nat_cmp};
 ghost use Rattle.std.specs.BTreeMap.{get};
@@ -258,13 +258,14 @@ fn copied<T: Copy>(alloc: Global, list: &[T]) -> Result<Vec<T>, AllocError>
     Vec::from_slice(alloc, list)
 }
 
-// The same attributes. Takes no memory where there are none.
+// The same attributes. Takes no memory where there is one at most.
 fn stored(
     alloc: Global,
     attributes: &[AttributeSpecification],
 ) -> Result<StoredAttributes, AllocError>
     ensures gives { IfOk result (λ a. attributes_of a ≡ attributes.now) }
     ensures none { attributes.now ≡ [] → IsOk result }
+    ensures one { length attributes.now ≡ 1 → IsOk result }
 {
     if let [attribute] = attributes {
         return Ok(StoredAttributes::One(*attribute));
@@ -372,7 +373,8 @@ fn coded_at(table: &[Abbreviation], code: u64, index: usize) -> Option<&Abbrevia
     }
 }
 
-// The first code of a table to which this code is added; `first` is that of a table with codes.
+// The first code of a table to which this code is added: that code where the table is empty, else
+// `first`.
 fn first_code_with(table: &[Abbreviation], first: u64, code: u64) -> u64
     ensures gives { result ≡ first_code_with table.now first code }
 {
@@ -391,6 +393,8 @@ fn note_place(
     index: usize,
 ) -> Result<(), AllocError>
     ensures noted { OnOk result (place ≢ index → get nat_cmp displaced.new code ≡ Some index) }
+    ensures same { place ≡ index → displaced.new ≡ displaced.old }
+    ensures refused { OnErr result (place ≢ index) }
     ensures others { IsSameApart code displaced.old displaced.new }
 {
     if place != index as u64 {

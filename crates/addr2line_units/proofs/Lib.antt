@@ -47,6 +47,7 @@ pub mod LineWalkLemmas
 pub mod ListingLemmas
 pub mod NewUnitsLemmas
 pub mod AskLemmas
+pub mod EmptyUnitLemmas
 pub mod WalkedLemmas
 pub mod AfterParseLemmas
 pub mod ParseAtLemmas

@@ -46,4 +46,5 @@ pub mod UnitsState
 pub mod AfterUnits
 pub mod StoredUnits
 pub mod AskedUnits
+pub mod EmptyUnits
 pub mod FaultLaws

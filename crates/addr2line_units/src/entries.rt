@@ -18,11 +18,12 @@ ghost use Rattle.addr2line_units.specs.UnitFrames.{inlined_of_found, asks_lines_
 ghost use Rattle.addr2line_units.specs.CachedLines.{AreLinesOf, StaysUnit, indexed_unit, is_uncached};
 ghost use Rattle.addr2line_units.specs.AskMemory.{functions_in_take_memory};
 ghost use Rattle.addr2line_units.specs.CachedEntries.{AreEntriesOf, AreFramesIn, AsksNoMemoryIn, AreFresh, ReadsEntriesOf, StayEntries, frames_of_place, has_entries, has_entries_by, first_answer_of};
+ghost use Rattle.addr2line_units.specs.EmptyUnits.{has_nothing};
 ghost use Rattle.addr2line_units.specs.CachedViews.{is_decided, seen_first_answer, waits, was_looked_at};
 ghost use Rattle.addr2line_units.specs.Views.{is_open};
 ghost use Rattle.addr2line_units.specs.declared.parses.ReadingDepth.TheVariants as depths;
 
-use crate::unit::UnitLines;
+use crate::unit::{LazyLines, UnitLines};
 use crate::view::UnitView;
 use addr2line_lines::{Count, Functions, InlinedPlaces, Row, Scope};
 use gimli::read::{Error, Reader};
@@ -247,6 +248,18 @@ pub(crate) struct UnitEntries<R: Reader> {
 pub(crate) struct UnitCache<R: Reader> {
     pub(crate) lines: UnitLines,
     pub(crate) entries: UnitEntries<R>,
+}
+
+impl<R: Reader> UnitCache<R> {
+    // Whether it is known that the unit has nothing at any address: neither functions, in a view
+    // that has no fault, nor lines.
+    pub(crate) fn has_nothing(&self) -> bool
+        ensures gives { result ≡ has_nothing self.now }
+    {
+        matches!(self.entries.functions, LazyFunctions::Absent)
+            && matches!(self.lines.lines, LazyLines::Absent)
+            && self.entries.view.has_view()
+    }
 }
 
 // What a unit has at an address.

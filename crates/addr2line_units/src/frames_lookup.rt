@@ -8,6 +8,7 @@ ghost use Rattle.addr2line_lines.specs.Location.{location_of_row};
 ghost use Rattle.addr2line_lines.specs.SeenScope.{seen_file};
 ghost use Rattle.addr2line_units.specs.AfterUnits.{AfterWalk, IsFaultAlong, AfterAnswer};
 ghost use Rattle.addr2line_units.specs.AskedUnits.{AfterAsk, found_stop, has_stopped, stop_at};
+ghost use Rattle.addr2line_units.specs.EmptyUnits.{HasNothingAt};
 ghost use Rattle.addr2line_units.specs.CachedFrames.{found_after_fault};
 ghost use Rattle.addr2line_units.specs.FramesLookup.{FindsNothing, holds_along, Waits, frames_found, unit_found};
 ghost use Rattle.addr2line_units.specs.UnitRangesLeft.{ranges_left};
@@ -110,9 +111,37 @@ impl<R: Reader> Units<R> {
         !matches!(self.stop, FramesStop::FindsNothing)
     }
 
+    // Whether it is known that no lookup finds anything in the unit of a number.
+    fn has_nothing(&self, number: usize) -> bool
+        ensures nothing { result ≡ true → HasNothingAt self.now number }
+    {
+        match self.caches.get(number) {
+            Some(cache) => cache.has_nothing(),
+            None => false,
+        }
+    }
+
     // Asks the unit of a number, and stores what the lookup comes to there. What is read of the
-    // unit is cached, its fault too.
+    // unit is cached, its fault too. A unit of which it is known that it has nothing at any address
+    // is passed by one test.
     fn ask(&mut self, number: usize, probe: u64, faults: OnFault) -> Result<(), Error>
+        ensures gives { ExactlyUnlessOom (λ _. self.new.stop) result
+            (stop_at faults probe self.old number) }
+        ensures after { AfterAsk number probe result self.old self.new }
+        ensures no_memory { asks_no_memory_at R.shares probe self.new number ≡ true
+            → IfErr result (IsFaultAt probe self.old number) }
+    {
+        if self.has_nothing(number) {
+            self.reset();
+            return Ok(());
+        }
+        self.ask_unit(number, probe, faults)
+    }
+
+    // Asks the unit of a number, as `ask` has it. It is a call of its own, so that a unit that is
+    // passed doesn't pay for the room that what is found takes.
+    #[inline(never)]
+    fn ask_unit(&mut self, number: usize, probe: u64, faults: OnFault) -> Result<(), Error>
         ensures gives { ExactlyUnlessOom (λ _. self.new.stop) result
             (stop_at faults probe self.old number) }
         ensures after { AfterAsk number probe result self.old self.new }

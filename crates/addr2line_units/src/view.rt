@@ -9,6 +9,7 @@ ghost use Rattle.addr2line_lines.specs.References.{IsScope};
 ghost use Rattle.addr2line_lines.specs.SeenScope.{seen_scope};
 ghost use Rattle.addr2line_units.specs.AnswerMemory.{answer_takes_memory};
 ghost use Rattle.addr2line_units.specs.CachedViews.{IsViewOf, answer_in, is_decided, parts_or_fault, seen_first_answer, seen_sections, split_file_by, split_file_in, split_unit, unboxed, verdict_in, view_in, waits, was_looked_at};
+ghost use Rattle.addr2line_units.specs.EmptyUnits.{has_view};
 ghost use Rattle.addr2line_units.specs.Views.{answered_view, first_unit, first_unit_takes_memory, load_of_unit, split_name_of, verdict, view_scope};
 
 use addr2line_lines::{FileUnits, Scope};
@@ -242,6 +243,17 @@ impl<R: Reader> UnitView<R> {
         ensures gives { result ≡ waits self.now.state }
     {
         matches!(self.state, ViewState::Open)
+    }
+
+    // Whether the view is known, and has no fault.
+    pub(crate) fn has_view(&self) -> bool
+        ensures gives { result ≡ has_view self.now.state }
+    {
+        match &self.state {
+            ViewState::Main => true,
+            ViewState::Answered(answer) => answer.unit.is_ok(),
+            ViewState::Undecided | ViewState::Open | ViewState::Unnamed(_) => false,
+        }
     }
 
     // Whether the unit has an answer.

@@ -12,7 +12,7 @@ use Rattle.addr2line_units.specs.UnitsState.{IsFaultAt}
 use Rattle.addr2line_units.proofs.AskLemmas.{after_asked, asked_err, asked_ok, none_after, none_gives, refused_alone, stop_lendable}
 use Rattle.addr2line_units.proofs.FramesLookupLemmas.{oom_after, oom_before}
 use Rattle.addr2line_units.proofs.UnitAtLemmas.{cache_within, its_entries, its_lines, none_got, sections_seen, unit_got, units_with}
-use Rattle.addr2line_units.proofs.units.Units.ask.Goals as goal
+use Rattle.addr2line_units.proofs.units.Units.ask_unit.Goals as goal
 
 pub returns-in_default-clause-gives : goal.returns-in_default-clause-gives
 returns-in_default-clause-gives g c =

@@ -1,0 +1,15 @@
+use Rattle.std.proofs.Common.{ltb-true, subst, sym, ◌∙◌}
+use Rattle.addr2line_units.specs.CachedFrames.{seen_stop}
+use Rattle.addr2line_units.specs.EmptyUnits.{HasNothingAt}
+use Rattle.addr2line_units.proofs.EmptyUnitLemmas.{nothing_there}
+use Rattle.addr2line_units.proofs.units.Units.has_nothing.Goals as goal
+
+pub returns-in-Some : goal.returns-in-Some
+returns-in-Some g c =
+    let s = c.self.inside in
+    let lookup = rw c.deref.ensures.value at c.in-Some.ensures.lookup in
+    let within = ltb-true _ _ (sym lookup.0) in
+    record {
+      nothing = λ known. subst (λ y. HasNothingAt y c.args.number) c.self.view_is
+          (nothing_there c.self.invariant c.args.number s.looks (seen_stop s.caches.items s.stop) within lookup.1 (sym c.has_nothing.ensures.gives ∙ known));
+    }

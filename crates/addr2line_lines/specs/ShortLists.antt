@@ -1,8 +1,9 @@
--- Lists whose elements are stored in few bytes each as long as each fits, as the private functions
+-- Lists whose elements are stored in few bytes each until one doesn't fit, as the private functions
 -- see them.
 -- Own: what short elements have in common, as the upper half of addresses, is stored once, as their
 -- base. Where none is stored any more, that of an element that doesn't fit takes its place. From
--- the first element on that doesn't fit beside others, all are stored whole, and stay so.
+-- the first element on that fits neither beside the base nor, where none is stored, beside its own,
+-- all are stored whole, and stay so.
 use Rattle.std.specs.Prelude.{ℕ, ◌≡◌, ◌⊎◌, ◌==◌, ◌&&◌, Bool, true, List, [], map, if◌then◌else◌}
 use Rattle.addr2line_lines.specs.declared.short_list.ListStore.{ListStore}
 use Rattle.addr2line_lines.specs.declared.short_list.ListStore.TheVariants as stored

@@ -1,6 +1,6 @@
 -- Inlined entries as they are stored, as the private functions see them: their names, and beside
 -- each the call with where the entry begins.
--- Own: a call takes sixteen bytes where the entry's offset has 32 bits, and the index of the file,
+-- Own: a call fits in sixteen bytes where the entry's offset has 32 bits, and the index of the file,
 -- if there is one, is below the greatest number of 32 bits, which stands for none.
 use Rattle.std.specs.Prelude.{ℕ, ◌-◌, ◌^◌, ◌==◌, ◌&&◌, Bool, true, List, [], map, nat_lt, Option, Some, None, option_map, if◌then◌else◌}
 use Rattle.std.specs.List.{zip}
@@ -21,23 +21,23 @@ abbrev pub file_fits : Option ℕ → Bool
 file_fits None = true
 file_fits (Some n) = nat_lt n no_file
 
--- the index of a file in four bytes
+-- the index of a file in four bytes, or what stands for none
 abbrev pub short_file : Option ℕ → ℕ
 short_file None = no_file
 short_file (Some n) = n
 
--- the index of a file that four bytes stand for
+-- the index of a file that four bytes stand for, if they stand for one
 abbrev pub file_of_short : ℕ → Option ℕ
 file_of_short n = if n == no_file then None else Some n
 
--- the call that sixteen bytes stand for; they need no base
+-- where an entry begins and the call, for which sixteen bytes stand; they need no base
 abbrev pub call_of_short : ℕ → ShortCall → InlinedCall
 call_of_short base c = record {
   offset = record { 0 = c.offset };
   call = record { file = file_of_short c.file; line = c.line; column = c.column };
 }
 
--- whether a call fits in sixteen bytes
+-- whether where an entry begins and the call fit in sixteen bytes
 abbrev pub call_fits : ℕ → InlinedCall → Bool
 call_fits base c = nat_lt c.offset.0 (2 ^ 32) && file_fits c.call.file
 

@@ -1,6 +1,6 @@
 -- Ranges of inlined entries as they are stored, as the private functions see them.
--- Own: a range takes sixteen bytes where its depth and its place have 32 bits and its addresses
--- have the upper half of the begin of the first range that is stored.
+-- Own: a range fits in sixteen bytes, beside an upper half, where its depth and its place have 32
+-- bits and both its addresses have that upper half.
 use Rattle.std.specs.Prelude.{ℕ, ◌+◌, ◌*◌, ◌^◌, ◌/◌, ◌==◌, ◌&&◌, Bool, nat_lt}
 use Rattle.addr2line_lines.specs.declared.inlined_ranges.ShortRange.{ShortRange}
 use Rattle.addr2line_lines.specs.declared.picks.InlinedFunctionAddress.{InlinedFunctionAddress}

@@ -38,7 +38,8 @@ are_narrow r = nat_lt r.file_index (2 ^ 16) && nat_lt r.column (2 ^ 16)
 abbrev pub fits : ℕ → Row → Bool
 fits upper r = (upper_of r == upper) && are_narrow r
 
--- how rows are stored: in twelve bytes each beside the upper half of their addresses, or whole
+-- how elements are stored: in few bytes each beside a base, as rows beside the upper half of their
+-- addresses, or whole
 pub data Width : Type 0 where
   Short : ℕ → Width
   Whole : Width

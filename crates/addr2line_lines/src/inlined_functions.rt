@@ -146,7 +146,8 @@ impl Short for ShortCall {
     }
 }
 
-/// Inlined functions, in 24 bytes each as long as each call fits in sixteen.
+/// Inlined functions, in 24 bytes each, beside those of their names, until a call doesn't fit in
+/// sixteen.
 #[derive(Drop)]
 pub(crate) struct InlinedFunctions<R: Reader> {
     // The name of each, where there is one that can be read. A reader takes more bytes than a

@@ -97,7 +97,7 @@ impl Short for ShortRange {
     }
 }
 
-/// Ranges of inlined functions, in sixteen bytes each as long as each fits.
+/// Ranges of inlined functions, in sixteen bytes each until one doesn't fit.
 pub(crate) type InlinedRanges = ShortList<ShortRange>;
 
 impl ShortList<ShortRange> {

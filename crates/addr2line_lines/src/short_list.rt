@@ -1,4 +1,4 @@
-//! Lists in few bytes an element, as long as each fits.
+//! Lists in few bytes an element, until one doesn't fit.
 
 ghost use Rattle.std.specs.Prelude.{◌≡◌, ◌∷◌, ◌++◌, [], true, false, length, map, slice_get, take, IfOk, OnErr, OnOk};
 ghost use Rattle.addr2line_lines.specs.ShortLists.{IsWidthWith, no_elements, can_store, whole_elements, width_with, store_width};
@@ -51,7 +51,7 @@ pub(crate) trait Short: Stored {
 pub(crate) enum ListStore<S: Short> {
     /// Elements that fit, and their base.
     Short(u32, Vec<S>),
-    /// Elements of which one doesn't fit.
+    /// Elements, whole, since one didn't fit.
     Whole(Vec<S::Whole>),
 }
 
@@ -181,7 +181,7 @@ impl<S: Short> ListStore<S> {
     }
 }
 
-/// A list whose elements are stored in few bytes each as long as each fits.
+/// A list whose elements are stored in few bytes each until one doesn't fit.
 #[derive(Drop)]
 pub(crate) struct ShortList<S: Short> {
     alloc: Global,

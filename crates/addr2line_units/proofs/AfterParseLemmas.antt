@@ -20,7 +20,7 @@ use Rattle.addr2line_units.specs.declared.parses.ReadingDepth.{ReadingDepth}
 use Rattle.addr2line_units.specs.declared.parses.ReadingDepth.TheVariants as depths
 use Rattle.addr2line_units.specs.declared.entries.UnitEntries.{UnitEntries}
 use Rattle.addr2line_units.specs.declared.view.UnitView.{UnitView}
-use Rattle.addr2line_units.specs.AfterParses.{AfterReadingFunctions, AfterReadingOf, AfterReadingUnit, AfterReadingView, IsReadyUnlessOpen}
+use Rattle.addr2line_units.specs.AfterParses.{AfterReadingFunctions, AfterReadingOf, AfterReadingUnit, AfterReadingView, IsDecidedAndReady}
 use Rattle.addr2line_units.specs.AskMemory.{functions_in_take_memory}
 use Rattle.addr2line_units.specs.CachedEntries.{AreEntriesOf, first_answer_of}
 use Rattle.addr2line_units.specs.CachedFunctions.{AreFunctionsOf, StayFunctions, cached_fault, cached_functions, functions_fault, is_cached_fault, reading_takes_memory, were_read}
@@ -200,12 +200,12 @@ module _ {R : Type 0} (shares : Bool) (depth : ReadingDepth) (scope : Scope) (u 
   shut_now = not_open scope u 0 new a.right decided
 
   -- of what was known of a unit that wasn't open
-  was_decided : IsReadyUnlessOpen depth (is_open d u (first_answer_of old)) (known_by old.view.state old.functions) → is_decided old.view.state ≡ true
+  was_decided : IsDecidedAndReady depth (is_open d u (first_answer_of old)) (known_by old.view.state old.functions) → is_decided old.view.state ≡ true
   was_decided k =
       let looked = whole_was_looked_at depth old.view.state old.functions k.1 in
       looked_is_decided old.view.state looked (looked_waits d u old.view before.view looked ∙ k.0)
 
-  still_ready : IsReadyUnlessOpen depth (is_open d u (first_answer_of old)) (known_by old.view.state old.functions) → IsReadyUnlessOpen depth false (known_by mid.view.state mid.functions)
+  still_ready : IsDecidedAndReady depth (is_open d u (first_answer_of old)) (known_by old.view.state old.functions) → IsDecidedAndReady depth false (known_by mid.view.state mid.functions)
   still_ready k = (refl, subst (λ (v : UnitEntries R). IsReadyFor depth (known_by v.view.state v.functions)) (sym (same (was_decided k))) k.1)
 
   pub unit_after : AfterReadingUnit shares depth scope u result old new

@@ -25,23 +25,26 @@ use Rattle.addr2line_units.specs.StaysKnown.{IsReadBy, StaysKnownOf}
 use Rattle.addr2line_units.specs.UnitsState.{UnitsState}
 use Rattle.addr2line_units.specs.Views.{decided_answer, is_open, verdict}
 
--- what a parse reads is known of a unit that isn't open
-abbrev pub IsReadyUnlessOpen : ReadingDepth → Bool → KnownEntries → Type 0
-IsReadyUnlessOpen depth waits known = (waits ≡ false) × IsReadyFor depth known
+-- a unit isn't open, and all is known that a parse reads of it
+abbrev pub IsDecidedAndReady : ReadingDepth → Bool → KnownEntries → Type 0
+IsDecidedAndReady depth waits known = (waits ≡ false) × IsReadyFor depth known
 
--- after entries were read to a depth, which may have waited for an answer: unless memory was
--- refused all is known that is read of them, and where it is, none was refused; where it was
--- before, the fault is what is read, and no more is known
+-- after the entries of a unit, which may have waited for an answer, were read to a depth: where that
+-- gave no fault all of them are read; unless memory was refused the unit isn't open and all is known
+-- that is read of it, and where that is so, none was refused; where it was so before, the result is
+-- that of the reading, and no more is known
 pub record AfterReadingOf (depth : ReadingDepth) (reading result : Result (Unit {0}) Error)
     (waited : Bool) (old : KnownEntries) (waits : Bool) (new : KnownEntries) : Type 0 where
   pub read : OnOk result (IsReadBy depth new)
   pub whole : IsReadBy depth old → result ≡ Ok tt
-  pub ready : WasNotRefused result → IsReadyUnlessOpen depth waits new
-  pub memory : IsReadyUnlessOpen depth waits new → WasNotRefused result
-  pub exact : IsReadyUnlessOpen depth waited old → result ≡ reading
-  pub same : IsReadyUnlessOpen depth waited old → new ≡ old
+  pub ready : WasNotRefused result → IsDecidedAndReady depth waits new
+  pub memory : IsDecidedAndReady depth waits new → WasNotRefused result
+  pub exact : IsDecidedAndReady depth waited old → result ≡ reading
+  pub same : IsDecidedAndReady depth waited old → new ≡ old
 
--- after the functions of a view were read, over readers that share their bytes or don't
+-- after the functions of a view were read, over readers that share their bytes or don't: what is
+-- cached is right, and stays; no detail is read where functions alone are; where functions take no
+-- memory, a refusal is their first fault
 pub record AfterReadingFunctions {R : Type 0} (shares : Bool) (depth : ReadingDepth)
     (scope : Scope) (view : UnitRecord) (result : Result (Unit {0}) Error)
     (old new : LazyFunctions R) : Type 0 where
@@ -89,7 +92,8 @@ pub record AfterReadingUnit {R : Type 0} (shares : Bool) (depth : ReadingDepth)
   pub no_memory : parse_takes_memory shares scope u (first_answer_of new) ≡ false
       → IfErr result (λ e. read_of_unit depth scope u (first_answer_of old) ≡ Err e)
 
--- the same of the unit of a number; of the others nothing is changed
+-- the same of the unit of a number, if there is one; of the others nothing is changed, and no lookup
+-- is stored any more
 pub record AfterReadingAt (shares : Bool) (depth : ReadingDepth) (number : ℕ)
     (result : Result (Unit {0}) Error) (old new : UnitsState) : Type 0 where
   pub stays : StayRead old new

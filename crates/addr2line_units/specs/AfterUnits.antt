@@ -171,8 +171,9 @@ pub record AfterListing (asks : ℕ → Type 0) (old new : UnitsState) : Type 0 
 -- after a parse of all functions open units are decided by none, up to the first fault; where
 -- memory was refused, some of the first ones. What was known of the others stays, and where
 -- functions alone are read no detail becomes known. Unless memory was refused all is known that the
--- parse reads, and where it is, none was refused; where it was before, nothing is changed of what
--- is known and answered
+-- parse reads, and where it is, none was refused; where it was before, the result is that of the
+-- reading, and nothing is changed of what is known and answered. Without a fault all is read; of
+-- units behind the first fault nothing becomes known
 pub record AfterReading (depth : ReadingDepth) (result : Result (Unit {0}) Error)
     (old new : UnitsState) : Type 0 where
   pub stays : StayRead old new

@@ -122,7 +122,7 @@ answers_after_parse depth scope (u ∷ us) (answer ∷ answers) =
     (answers_after_parse depth scope us answers) answers
 answers_after_parse depth scope _ answers = answers
 
--- the first answers where those of the first units that were open, so many, are decided by none
+-- the first answers once each of the first units, so many, that was open is decided by none
 abbrev pub first_decided : Sections → ℕ → List UnitRecord → FirstAnswers → FirstAnswers
 first_decided d zero us answers = answers
 first_decided d (suc n) (u ∷ us) (answer ∷ answers) =

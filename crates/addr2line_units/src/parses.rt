@@ -44,7 +44,7 @@ impl<R: Reader> LazyFunctions<R> {
 
     // Reads the functions of a view, unless they were read, and caches them, or their fault.
     // Refused by that fault; may fail with `OutOfMemory` instead, only where they were not read and
-    // take memory. Changes nothing where they were, or their fault is cached.
+    // take memory. Nothing more is known then where they were, or their fault is cached.
     fn read_alone(
         &mut self,
         alloc: Global,
@@ -113,7 +113,7 @@ impl<R: Reader> UnitEntries<R> {
     //
     // Refused by the first fault of the view, its functions and the details; may fail with
     // `OutOfMemory` instead, only where something of these isn't cached, and the functions take
-    // memory. Changes nothing where the view and what is read of it are cached, up to the first
+    // memory. Nothing more is known where the view and what is read of it are cached, up to the first
     // fault.
     fn read<'x>(
         &mut self,
@@ -137,7 +137,7 @@ impl<R: Reader> UnitEntries<R> {
 
 impl<R: Reader> Units<R> {
     // Reads the functions of the unit of a number, as `UnitEntries::read` does; nothing where there
-    // is no such unit.
+    // is no such unit. No lookup is stored any more.
     fn read_functions_in(&mut self, number: usize, depth: ReadingDepth) -> Result<(), Error>
         ensures gives { IsUnlessOom result (read_of_number depth self.old.scope
             self.old.scope.file.units self.old.answers number) }

@@ -81,8 +81,8 @@ fn chain_in<'a>(
     }
 }
 
-fn chain_at(alloc: Global, info: &[u8], probe: u64) -> u64 {
-    let dwarf = dwarf_of(ABBREV, info, &[]);
+fn chain_at(alloc: Global, abbrev: &[u8], info: &[u8], probe: u64) -> u64 {
+    let dwarf = dwarf_of(abbrev, info, &[]);
     match first_unit(alloc, &dwarf) {
         Ok(unit) => chain_in(alloc, &dwarf, &unit, probe),
         Err(_) => 0,
@@ -102,7 +102,25 @@ fn inlined_functions_are_picked_from_the_outside_in(rt: HostRuntime) {
         (NONE, u64::MAX, 1),
     ];
     for (info, probe, want) in cases {
-        assert_eq!(rt; chain_at(rt.alloc(), info, probe), want);
+        assert_eq!(rt; chain_at(rt.alloc(), ABBREV, info, probe), want);
+    }
+}
+
+// The same as the function and its inlined functions above, but that with DW_AT_high_pc as a LEB128
+// number, and these without children.
+const WIDE_ABBREV: &[u8] = b"\x01\x11\x01\0\0\x02\x2e\x01\x11\x01\x12\x0f\0\0\
+    \x03\x1d\0\x11\x01\x12\x0b\x59\x0b\0\0\0";
+
+// In the function [0, 2^33) the inlined functions, by the lines of their calls: 1 [1, 2) and
+// 2 [2^32 + 1, 2^32 + 2).
+const WIDE: &[u8] = b"\x2e\0\0\0\x04\0\0\0\0\0\x08\x01\
+    \x02\0\0\0\0\0\0\0\0\x80\x80\x80\x80\x20\
+    \x03\x01\0\0\0\0\0\0\0\x01\x01\x03\x01\0\0\0\x01\0\0\0\x01\x02\0\0";
+
+#[test]
+fn inlined_functions_may_be_far_apart(rt: HostRuntime) {
+    for (probe, want) in [(1, 11), (2, 1), (0x1_0000_0001, 12)] {
+        assert_eq!(rt; chain_at(rt.alloc(), WIDE_ABBREV, WIDE, probe), want);
     }
 }
 

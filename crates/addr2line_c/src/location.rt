@@ -31,14 +31,14 @@ fn location_file<'a>(location: Option<Location<'a>>) -> Option<&'a [u8]>
 }
 
 // The line of a location.
-fn line_of(location: Option<Location<'_>>) -> Option<u32>
+fn location_line(location: Option<Location<'_>>) -> Option<u32>
     ensures gives { result ≡ location_line (option_map seen_location location.entry) }
 {
     location?.line
 }
 
 // The column of a location.
-fn column_of(location: Option<Location<'_>>) -> Option<u32>
+fn location_column(location: Option<Location<'_>>) -> Option<u32>
     ensures gives { result ≡ location_column (option_map seen_location location.entry) }
 {
     location?.column
@@ -57,10 +57,10 @@ pub(crate) fn put_location(
         → result ≡ written_location before (option_map seen_location location.entry) }
     ensures same { length buffer.new ≡ length buffer.old }
 {
-    let file = put_text(buffer, used, file_of(location));
+    let file = put_text(buffer, used, location_file(location));
     WrittenLocation {
         file,
-        line: number_part(line_of(location)),
-        column: number_part(column_of(location)),
+        line: number_part(location_line(location)),
+        column: number_part(location_column(location)),
     }
 }

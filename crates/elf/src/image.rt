@@ -99,7 +99,7 @@ fn are_in_order(pieces: &[Piece], len: u64) -> bool
 pub struct FileImage {
     alloc: Global,
     len: u64,
-    // The others stand behind it, in order.
+    // The others follow it, in order.
     first: Piece,
     others: Vec<Piece>,
 }

@@ -1,7 +1,7 @@
 -- Inlined entries as they are stored, as the private functions see them: their names, and beside
 -- each the call with where the entry begins.
--- Own: a call fits in sixteen bytes where the entry's offset has 32 bits, and the index of the file,
--- if there is one, is below the greatest number of 32 bits, which stands for none.
+-- Own: a call fits in sixteen bytes where the entry's offset has 32 bits, and the index of the
+-- file, if there is one, is below the greatest number of 32 bits, which stands for none.
 use Rattle.std.specs.Prelude.{ℕ, ◌-◌, ◌^◌, ◌==◌, ◌&&◌, Bool, true, List, [], map, nat_lt, Option, Some, None, option_map, if◌then◌else◌}
 use Rattle.std.specs.List.{zip}
 use Rattle.std.specs.declared.alloc.Global.{Global}

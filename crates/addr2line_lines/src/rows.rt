@@ -321,8 +321,8 @@ impl Rows {
 
     /// Takes a row in: it replaces the last one, if that is at place `first` or after it and has
     /// its address, or follows it. To replace one is refused only where it can't be stored as the
-    /// others are, and changes nothing then. Else a refused growth keeps nothing of it, but the rows
-    /// may be stored as it needs.
+    /// others are, and changes nothing then. Else a refused growth keeps nothing of it, but the
+    /// rows may be stored as it needs.
     #[inline(always)]
     pub(crate) fn put(&mut self, alloc: Global, first: usize, row: Row) -> Result<(), AllocError>
         ensures gives { OnOk result

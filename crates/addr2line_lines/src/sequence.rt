@@ -105,8 +105,8 @@ impl Builder {
         Ok(())
     }
 
-    // Takes a row of the sequence that goes on: it replaces the last one, if that has its address, or
-    // follows it. To replace one is refused only where it can't be stored as the others are.
+    // Takes a row of the sequence that goes on: it replaces the last one, if that has its address,
+    // or follows it. To replace one is refused only where it can't be stored as the others are.
     #[inline(always)]
     fn put(&mut self, row: Row) -> Result<(), AllocError>
         ensures gives { OnOk result (self.new.built ≡ record self.old.built {

@@ -29,10 +29,10 @@ use Rattle.addr2line_units.specs.Views.{decided_answer, is_open, verdict}
 abbrev pub IsDecidedAndReady : ReadingDepth → Bool → KnownEntries → Type 0
 IsDecidedAndReady depth waits known = (waits ≡ false) × IsReadyFor depth known
 
--- after the entries of a unit, which may have waited for an answer, were read to a depth: where that
--- gave no fault all of them are read; unless memory was refused the unit isn't open and all is known
--- that is read of it, and where that is so, none was refused; where it was so before, the result is
--- that of the reading, and no more is known
+-- after the entries of a unit, which may have waited for an answer, were read to a depth: where
+-- that gave no fault all of them are read; unless memory was refused the unit isn't open and all is
+-- known that is read of it, and where that is so, none was refused; where it was so before, the
+-- result is that of the reading, and no more is known
 pub record AfterReadingOf (depth : ReadingDepth) (reading result : Result (Unit {0}) Error)
     (waited : Bool) (old : KnownEntries) (waits : Bool) (new : KnownEntries) : Type 0 where
   pub read : OnOk result (IsReadBy depth new)
@@ -92,8 +92,8 @@ pub record AfterReadingUnit {R : Type 0} (shares : Bool) (depth : ReadingDepth)
   pub no_memory : parse_takes_memory shares scope u (first_answer_of new) ≡ false
       → IfErr result (λ e. read_of_unit depth scope u (first_answer_of old) ≡ Err e)
 
--- the same of the unit of a number, if there is one; of the others nothing is changed, and no lookup
--- is stored any more
+-- the same of the unit of a number, if there is one; of the others nothing is changed, and no
+-- lookup is stored any more
 pub record AfterReadingAt (shares : Bool) (depth : ReadingDepth) (number : ℕ)
     (result : Result (Unit {0}) Error) (old new : UnitsState) : Type 0 where
   pub stays : StayRead old new

@@ -113,8 +113,8 @@ impl<R: Reader> UnitEntries<R> {
     //
     // Refused by the first fault of the view, its functions and the details; may fail with
     // `OutOfMemory` instead, only where something of these isn't cached, and the functions take
-    // memory. Nothing more is known where the view and what is read of it are cached, up to the first
-    // fault.
+    // memory. Nothing more is known where the view and what is read of it are cached, up to the
+    // first fault.
     fn read<'x>(
         &mut self,
         alloc: Global,

@@ -16,8 +16,8 @@ abbrev pub first_code_with : List Abbrev → ℕ → ℕ → ℕ
 first_code_with [] first code = code
 first_code_with (a ∷ table) first code = first
 
--- each abbreviation whose index is not how far its code is from `first` has its index under its code
--- in the map
+-- each abbreviation whose index is not how far its code is from `first` has its index under its
+-- code in the map
 abbrev pub IsPlaced : List Abbrev → ℕ → BTreeMap ℕ ℕ → Type 0
 IsPlaced table first displaced =
     (index : ℕ) (a : Abbrev) → slice_get table index ≡ Some a → abs_diff first a.code ≢ index

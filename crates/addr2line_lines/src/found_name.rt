@@ -30,6 +30,15 @@ fn duplicate_name<R: Reader>(name: &Option<R>) -> Result<Option<R>, Error>
     }
 }
 
+/// The name, of which it is noted whether it is UTF-8. Takes no memory.
+pub(crate) fn note_text<R: Reader>(name: Option<R>) -> Option<R>
+    ensures gives { option_map R.section result ≡ option_map R.section name }
+{
+    let mut name = name?;
+    name.note_text();
+    Some(name)
+}
+
 impl<R: Reader> FoundName<R> {
     /// Before a name is found. Takes no memory.
     pub(crate) fn none() -> FoundName<R>
@@ -73,7 +82,7 @@ impl<R: Reader> FoundName<R> {
             (Ok (found_name R.section self)) }
     {
         match self {
-            FoundName::Own(name) => Ok(Rc::new(alloc, name)?),
+            FoundName::Own(name) => Ok(Rc::new(alloc, note_text(name))?),
             FoundName::Shared(name) => Ok(name),
         }
     }
@@ -84,7 +93,7 @@ impl<R: Reader> FoundName<R> {
             (Ok (found_name R.section self)) }
     {
         match self {
-            FoundName::Own(name) => Ok(name),
+            FoundName::Own(name) => Ok(note_text(name)),
             FoundName::Shared(name) => duplicate_name(name.as_ref()),
         }
     }

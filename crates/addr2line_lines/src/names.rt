@@ -4,7 +4,7 @@ ghost use Rattle.std.specs.Prelude.{◌≡◌, IfSome, [], length, option_map, t
 ghost use Rattle.addr2line_lines.specs.CachedNames.{IsKnownAs, IsOneMoreAtMost, seen_names};
 ghost use Rattle.addr2line_lines.specs.FoundNames.{found_name};
 
-use crate::found_name::FoundName;
+use crate::found_name::{FoundName, note_text};
 use gimli::read::{Reader, UnitOffset};
 use std::alloc::Global;
 use std::rc::Rc;
@@ -161,7 +161,7 @@ impl<R: Reader> NameCache<R> {
         }) (seen_names R.section self.old)
             (seen_names R.section self.new) }
     {
-        match Rc::new(self.alloc, name) {
+        match Rc::new(self.alloc, note_text(name)) {
             Ok(name) => {
                 self.push(offset, &name);
                 FoundName::Shared(name)

@@ -4,27 +4,16 @@
 //! once, and no text is read for each symbol that has it: from its last byte to its first, unless
 //! it is ASCII alone, as most tables are.
 
-ghost use Rattle.std.specs.Prelude.{◌≡◌, ◌<◌, length, drop, true, IfOk, IsOk, MatchBool};
+ghost use Rattle.std.specs.Prelude.{◌≡◌, ◌<◌, length, drop, true, IfOk, IsOk};
 ghost use Rattle.std.specs.Char.{is_ascii};
 ghost use Rattle.std.specs.List.{list_all};
-ghost use Rattle.std.specs.Str.{IsUtf8};
 ghost use Rattle.elf.specs.TextStarts.{AreStarts, begins_at, begins_text, is_ascii_table, text_starts, IsTextDistance};
 
+use gimli_read::is_utf8;
 use std::alloc::{AllocError, Global};
-use std::str;
 
 // The greatest number of bytes of a character in UTF-8.
 const MAX_LEN_UTF8: usize = 4;
-
-// Whether the bytes are UTF-8.
-fn is_utf8(bytes: &[u8]) -> bool
-    ensures gives { MatchBool result (IsUtf8 bytes.now) (¬ (IsUtf8 bytes.now)) }
-{
-    match str::from_utf8(bytes) {
-        Ok(_) => true,
-        Err(_) => false,
-    }
-}
 
 // How many bytes after the front of `tail` the nearest text in UTF-8 begins, up to its next zero
 // byte; `None` without a zero byte. `next` is the same for the tail after the first byte.

@@ -7,21 +7,30 @@ ghost use Rattle.gimli_read.specs.Section.{Section};
 
 use crate::endian::RunTimeEndian;
 use crate::error::Error;
-use crate::reader::Reader;
+use crate::reader::{Reader, is_utf8};
 use bytes::Bytes;
 use std::marker::Model;
+use std::str;
 
 /// Shared bytes in a byte order. Splitting and duplicating it shares the bytes and copies none.
 #[derive(Clone, Drop)]
 pub struct EndianBytes {
     bytes: Bytes,
     endian: RunTimeEndian,
+    // Whether the bytes are known to be UTF-8.
+    is_text: bool,
 }
 
 impl Model for EndianBytes {
+    ghost use Rattle.std.specs.Prelude.{◌≡◌, true};
+    ghost use Rattle.std.specs.Str.{IsUtf8};
+    ghost use Rattle.gimli_read.specs.Section.{Section};
+
     ghost Value = { Section };
 
     ghost view = { λ r. record { bytes = r.bytes; endian = r.endian } };
+
+    ghost invariant = { λ r. r.is_text ≡ true → IsUtf8 r.bytes };
 }
 
 impl EndianBytes {
@@ -29,7 +38,11 @@ impl EndianBytes {
     pub fn new(bytes: Bytes, endian: RunTimeEndian) -> EndianBytes
         ensures gives { result ≡ record { bytes = bytes; endian = endian } }
     {
-        EndianBytes { bytes, endian }
+        EndianBytes {
+            bytes,
+            endian,
+            is_text: false,
+        }
     }
 
     /// The same bytes in another order. Takes no memory.
@@ -39,6 +52,7 @@ impl EndianBytes {
         EndianBytes {
             bytes: self.bytes,
             endian,
+            is_text: self.is_text,
         }
     }
 }
@@ -73,9 +87,11 @@ impl Reader for EndianBytes {
             return Err(Error::UnexpectedEof);
         }
         let front = self.bytes.split_to(len as usize)?;
+        self.is_text = false;
         Ok(EndianBytes {
             bytes: front,
             endian: self.endian,
+            is_text: false,
         })
     }
 
@@ -84,10 +100,22 @@ impl Reader for EndianBytes {
             return Err(Error::UnexpectedEof);
         }
         self.bytes.advance(len as usize);
+        self.is_text = false;
         Ok(())
     }
 
     fn duplicate(&self) -> Result<EndianBytes, Error> {
         Ok(self.clone()?)
+    }
+
+    fn note_text(&mut self) {
+        self.is_text = is_utf8(self.to_slice());
+    }
+
+    fn known_text(&self) -> Option<&str> {
+        if !self.is_text {
+            return None;
+        }
+        Some(unsafe { str::from_utf8_unchecked(self.to_slice()) })
     }
 }

@@ -5,20 +5,29 @@ ghost use Rattle.gimli_read.specs.Section.{Section};
 
 use crate::endian::RunTimeEndian;
 use crate::error::Error;
-use crate::reader::Reader;
+use crate::reader::{Reader, is_utf8};
 use std::marker::Model;
+use std::str;
 
 /// Borrowed bytes in a byte order. No call of it takes memory.
 #[derive(Clone, Drop)]
 pub struct EndianSlice<'a> {
     bytes: &'a [u8],
     endian: RunTimeEndian,
+    // Whether the bytes are known to be UTF-8.
+    is_text: bool,
 }
 
 impl<'a> Model for EndianSlice<'a> {
+    ghost use Rattle.std.specs.Prelude.{◌≡◌, true};
+    ghost use Rattle.std.specs.Str.{IsUtf8};
+    ghost use Rattle.gimli_read.specs.Section.{Section};
+
     ghost Value = { Section };
 
     ghost view = { λ r. record { bytes = r.bytes.now; endian = r.endian } };
+
+    ghost invariant = { λ r. r.is_text ≡ true → IsUtf8 r.bytes.now };
 }
 
 impl<'a> EndianSlice<'a> {
@@ -26,7 +35,11 @@ impl<'a> EndianSlice<'a> {
     pub fn new(bytes: &'a [u8], endian: RunTimeEndian) -> EndianSlice<'a>
         ensures gives { result ≡ record { bytes = bytes.now; endian = endian } }
     {
-        EndianSlice { bytes, endian }
+        EndianSlice {
+            bytes,
+            endian,
+            is_text: false,
+        }
     }
 }
 
@@ -55,9 +68,11 @@ impl<'a> Reader for EndianSlice<'a> {
         }
         let (front, rest) = self.bytes.split_at(len as usize);
         self.bytes = rest;
+        self.is_text = false;
         Ok(EndianSlice {
             bytes: front,
             endian: self.endian,
+            is_text: false,
         })
     }
 
@@ -66,6 +81,7 @@ impl<'a> Reader for EndianSlice<'a> {
             return Err(Error::UnexpectedEof);
         }
         self.bytes = &self.bytes[len as usize..];
+        self.is_text = false;
         Ok(())
     }
 
@@ -73,6 +89,18 @@ impl<'a> Reader for EndianSlice<'a> {
         Ok(EndianSlice {
             bytes: self.bytes,
             endian: self.endian,
+            is_text: self.is_text,
         })
+    }
+
+    fn note_text(&mut self) {
+        self.is_text = is_utf8(self.bytes);
+    }
+
+    fn known_text(&self) -> Option<&str> {
+        if !self.is_text {
+            return None;
+        }
+        Some(unsafe { str::from_utf8_unchecked(self.bytes) })
     }
 }

@@ -25,7 +25,7 @@ pub use crate::error::Error;
 pub use crate::laws::{alike_laws, fault_laws, leb128_laws, sharing_laws, size_laws, value_laws};
 pub use crate::number_value::{NumberValue, read_number};
 pub use crate::range::Range;
-pub use crate::reader::{Reader, read_address_size, read_initial_length, zero_of};
+pub use crate::reader::{Reader, is_utf8, read_address_size, read_initial_length, zero_of};
 pub use crate::size::is_address_size;
 pub use crate::skip::{skip_attribute, skip_attributes, skip_attributes_of};
 pub use crate::value::{

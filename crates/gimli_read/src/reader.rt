@@ -1,6 +1,6 @@
 //! Reading from the front of a section.
 
-ghost use Rattle.std.specs.Prelude.{◌≡◌, ◌==◌, true, length, is_ok, IfOk, IfErr, OnErr, IsOk, Ok};
+ghost use Rattle.std.specs.Prelude.{◌≡◌, ◌==◌, true, length, is_ok, IfOk, IfErr, IfSome, MatchBool, OnErr, IsOk, Ok};
 ghost use Rattle.std.specs.List.{position};
 ghost use Rattle.std.specs.Str.{IsUtf8};
 ghost use Rattle.std.specs.Cow.{cow_str_bytes};
@@ -19,6 +19,7 @@ use bstr::ByteSlice;
 use byteorder::{BigEndian, ByteOrder, LittleEndian};
 use std::alloc::Global;
 use std::borrow::CowStr;
+use std::str;
 
 /// A list of bytes and a byte order. A reading takes bytes from the front; a refused one takes
 /// none.
@@ -63,6 +64,21 @@ pub trait Reader: Clone {
     /// shared.
     fn duplicate(&self) -> Result<Self, Error>
         ensures gives { ExactlyUnlessOomFor shares is_ok section result (Ok (section self.now)) };
+
+    /// Notes whether the bytes are UTF-8, so that `to_string_lossy` tests them no more, as long as
+    /// none is taken. A reader that has no room for that notes nothing. Takes no memory.
+    fn note_text(&mut self)
+        ensures kept { section self.new ≡ section self.old }
+    {
+    }
+
+    /// The bytes as text, where it was noted that they are UTF-8. Takes no memory.
+    fn known_text(&self) -> Option<&str>
+        ensures gives { IfSome result (λ text. text.now ≡ (section self.now).bytes) }
+        ensures utf8 { IfSome result (λ _. IsUtf8 (section self.now).bytes) }
+    {
+        None
+    }
 
     /// Whether no byte is left. Takes no memory.
     final fn is_empty(&self) -> bool
@@ -241,6 +257,9 @@ pub trait Reader: Clone {
         ensures borrowed { IsUtf8 (section self.now).bytes → IsOk result }
         ensures refused { IfErr result (λ e. e ≡ OutOfMemory) }
     {
+        if let Some(text) = self.known_text() {
+            return Ok(CowStr::Borrowed(text));
+        }
         Ok(self.to_slice().to_str_lossy(alloc)?)
     }
 }
@@ -276,6 +295,13 @@ pub fn read_address_size<R: Reader>(input: &mut R) -> Result<u8, Error>
         return Err(Error::UnsupportedAddressSize);
     }
     Ok(size)
+}
+
+/// Whether bytes are UTF-8. Takes no memory.
+pub fn is_utf8(bytes: &[u8]) -> bool
+    ensures gives { MatchBool result (IsUtf8 bytes.now) (¬ (IsUtf8 bytes.now)) }
+{
+    str::from_utf8(bytes).is_ok()
 }
 
 /// The place of the first zero byte. Takes no memory.

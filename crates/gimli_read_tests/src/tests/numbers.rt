@@ -298,6 +298,60 @@ fn texts_are_shown(rt: HostRuntime) {
     }
 }
 
+// The text that is known, 0 for none.
+fn known<R: Reader>(input: &R) -> u128 {
+    match input.known_text() {
+        Some(text) => spelled(text.as_bytes()),
+        None => 0,
+    }
+}
+
+// What is known of a text before and after it is noted, and of a second reader of it; the text that
+// is shown then, and what is known when a byte was passed over.
+fn noted<R: Reader>(alloc: Global, input: Result<R, AllocError>) -> [u128; 5] {
+    let Ok(input) = input else {
+        return [OOM; 5];
+    };
+    let mut input = input;
+    let before = known(&input);
+    input.note_text();
+    let after = known(&input);
+    let second = match input.duplicate() {
+        Ok(second) => known(&second),
+        Err(error) => fault(error),
+    };
+    let shown = match input.to_string_lossy(alloc) {
+        Ok(text) => spelled(text.as_bytes()),
+        Err(error) => fault(error),
+    };
+    match input.skip(1) {
+        Ok(()) | Err(_) => [before, after, second, shown, known(&input)],
+    }
+}
+
+// What both readers answer of that.
+fn both_noted(alloc: Global, bytes: &[u8]) -> [[u128; 5]; 2] {
+    let order = RunTimeEndian::Big;
+    [
+        noted(alloc, Ok(borrowed(bytes, order))),
+        noted(alloc, shared(alloc, bytes, order)),
+    ]
+}
+
+// Where nothing is left to be passed over, the text stays known.
+#[test]
+fn a_text_is_known_once_it_is_noted(rt: HostRuntime) {
+    let cases: [(&[u8], [u128; 5]); 4] = [
+        (b"ab", [0, 0x1_6162, 0x1_6162, 0x1_6162, 0]),
+        (&[0xc3, 0xa9], [0, 0x1_c3a9, 0x1_c3a9, 0x1_c3a9, 0]),
+        (&[0x63, 0xff, 0x64], [0, 0, 0, 0x163_efbf_bd64, 0]),
+        (&[], [0, 1, 1, 1, 1]),
+    ];
+    for (bytes, want) in cases {
+        assert_eq!(rt; both_noted(rt.alloc(), bytes), [want; 2]);
+    }
+}
+
 // Whether a refusal prints this text.
 fn prints(alloc: Global, error: Error, want: &str) -> bool {
     match format!(in alloc; "{}", error) {

@@ -12,7 +12,7 @@ use Rattle.elf.specs.Text.{loader_error_of}
 use Rattle.addr2line_units.specs.declared.frames.OnFault.TheVariants.{Stop}
 use Rattle.addr2line_units.specs.Frames.{FrameRecord}
 use Rattle.addr2line_units.specs.FramesLookup.{Waits, answer_of, is_waiting}
-use Rattle.gimli_read.specs.Alike.{WasNotRefused}
+use Rattle.gimli_read.specs.Reading.{WasNotRefused}
 use Rattle.addr2line_units.specs.Parsed.{has_parsed}
 use Rattle.addr2line_units.specs.Views.{FirstAnswers, SplitLoad}
 use Rattle.addr2line.specs.Answers.{AfterAnswering, answered}

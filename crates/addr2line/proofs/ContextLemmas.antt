@@ -2,8 +2,7 @@
 use Rattle.std.proofs.Common.{◌≡◌, ℕ, zero, suc, ◌≤◌, ◌&&◌, ◌||◌, inl, inr, Bool, true, false, List, [], ◌∷◌, length, map, slice_get, Option, Some, None, option_map, Result, Ok, Err, refl, sym, ap, subst, ◌∙◌, arith, ◌+◌}
 use Rattle.std.specs.Prelude.{IfErr, OnOk, is_ok}
 use Rattle.gimli_read.specs.declared.error.Error.{Error}
-use Rattle.gimli_read.specs.Alike.{WasNotRefused}
-use Rattle.gimli_read.specs.Reading.{◌>>=◌, Exactly, ExactlyUnlessOom, fault_of, result_map}
+use Rattle.gimli_read.specs.Reading.{◌>>=◌, Exactly, ExactlyUnlessOom, fault_of, result_map, WasNotRefused}
 use Rattle.gimli.specs.Sections.{Sections}
 use Rattle.gimli.specs.Unit.{UnitRecord}
 use Rattle.addr2line_lines.specs.Location.{LineTable, Location, location_at}
@@ -13,7 +12,7 @@ use Rattle.addr2line_units.specs.declared.index.UnitRange.{UnitRange}
 use Rattle.addr2line_units.specs.AfterUnits as left
 use Rattle.addr2line_units.specs.Cover.{cover, cover_range}
 use Rattle.addr2line_units.specs.FramesLookup.{FindsNothing, main_scope}
-use Rattle.addr2line_units.specs.Located.{LocationResult, along, all_lines, is_found, lines_of_unit, location_in, location_of, looks_along, or_along, spans_along, spans_of}
+use Rattle.addr2line_units.specs.Located.{LocationResult, first_location, all_lines, is_found, lines_of_unit, location_in, location_of, looks_along, or_first_location, spans_along, spans_of}
 use Rattle.addr2line_units.specs.Parsed.{AreAllParsed, AreParsed, AsksFor, LeadTo, ParsesOnly, StaysParsed, decides, has_parsed, ready_along, takes_none_along}
 use Rattle.addr2line_units.specs.KnownEntries.{NothingKnown}
 use Rattle.addr2line_units.specs.RangedUnits.{IndexedUnit, RangedUnit, has_lines, indexed_of, ranged_units, unit_ranges_from}
@@ -70,28 +69,28 @@ module _ (ranges : List UnitRange) (u : UnitsState) (i : IsContext ranges u) whe
 
   -- what holds of all that is made holds of what a context has, and the other way around
   pub of_made : (P : Scope → List IndexedUnit → List UnitRange → Type 0) → P u.scope u.units ranges → (m : UnitIndex) → index_units d ≡ Ok m → P (main_scope d m) m.units m.ranges
-  of_made P h m e = subst (λ (x : UnitIndex). P (main_scope d x) x.units x.ranges) (ok_is i.made m (sym i.made_is ∙ e))
+  of_made P h m e = subst (λ (x : UnitIndex). P (main_scope d x) x.units x.ranges) (ok_is i.made m (sym i.indexed ∙ e))
       (subst (λ s. P s i.made.units i.made.ranges) i.scope (subst (λ xs. P u.scope xs i.made.ranges) i.units (subst (λ rs. P u.scope u.units rs) i.ranges h)))
 
   pub at_made : (P : Scope → List IndexedUnit → List UnitRange → Type 0) → ((m : UnitIndex) → index_units d ≡ Ok m → P (main_scope d m) m.units m.ranges) → P u.scope u.units ranges
-  at_made P h = subst (λ s. P s u.units ranges) (sym i.scope) (subst (λ xs. P (main_scope d i.made) xs ranges) (sym i.units) (subst (λ rs. P (main_scope d i.made) i.made.units rs) (sym i.ranges) (h i.made i.made_is)))
+  at_made P h = subst (λ s. P s u.units ranges) (sym i.scope) (subst (λ xs. P (main_scope d i.made) xs ranges) (sym i.units) (subst (λ rs. P (main_scope d i.made) i.made.units rs) (sym i.ranges) (h i.made i.indexed)))
 
   -- what is read of the units
   pub by_made : {X : Type 0} (f : Scope → List IndexedUnit → List UnitRange → Result X Error) → (index_units d >>= λ (m : UnitIndex). f (main_scope d m) m.units m.ranges) ≡ f u.scope u.units ranges
   by_made f =
-      ap (λ (r : Result UnitIndex Error). r >>= λ (m : UnitIndex). f (main_scope d m) m.units m.ranges) i.made_is
+      ap (λ (r : Result UnitIndex Error). r >>= λ (m : UnitIndex). f (main_scope d m) m.units m.ranges) i.indexed
       ∙ ap (λ s. f s i.made.units i.made.ranges) (sym i.scope) ∙ ap (λ xs. f u.scope xs i.made.ranges) (sym i.units) ∙ ap (λ rs. f u.scope u.units rs) (sym i.ranges)
 
   pub or_made : {X : Type 0} (x : X) (f : Scope → List IndexedUnit → List UnitRange → X) → elim (index_units d) [ Err e ↦ x | Ok m ↦ f (main_scope d m) m.units m.ranges ] ≡ f u.scope u.units ranges
   or_made {X} x f =
-      ap (λ (r : Result UnitIndex Error). of_index r) i.made_is
+      ap (λ (r : Result UnitIndex Error). of_index r) i.indexed
       ∙ ap (λ s. f s i.made.units i.made.ranges) (sym i.scope) ∙ ap (λ xs. f u.scope xs i.made.ranges) (sym i.units) ∙ ap (λ rs. f u.scope u.units rs) (sym i.ranges)
     where
       of_index : Result UnitIndex Error → X
       of_index r = elim r [ Err e ↦ x | Ok m ↦ f (main_scope d m) m.units m.ranges ]
 
-  pub location_is : (probe : ℕ) → location_of d probe ≡ along d u.units probe (cover probe ranges)
-  location_is probe = by_made (λ s xs rs. along s.file.sections xs probe (cover probe rs))
+  pub location_is : (probe : ℕ) → location_of d probe ≡ first_location d u.units probe (cover probe ranges)
+  location_is probe = by_made (λ s xs rs. first_location s.file.sections xs probe (cover probe rs))
 
   pub spans_are : (low high : ℕ) → spans_of d low high ≡ Ok (spans_along d u.units low high (cover_range low high ranges))
   spans_are low high = by_made (λ s xs rs. Ok (spans_along s.file.sections xs low high (cover_range low high rs)))
@@ -104,7 +103,7 @@ module _ (ranges : List UnitRange) (u : UnitsState) (i : IsContext ranges u) whe
     pub still_context : IsContext ranges now
     still_context = record {
       made = i.made;
-      made_is = ap (λ (s : Scope). index_units s.file.sections) a ∙ i.made_is;
+      indexed = ap (λ (s : Scope). index_units s.file.sections) a ∙ i.indexed;
       scope = a ∙ i.scope ∙ ap (λ (s : Scope). main_scope s.file.sections i.made) (sym a);
       units = b ∙ i.units;
       ranges = i.ranges;
@@ -179,30 +178,30 @@ module _ (ranges : List UnitRange) (u : UnitsState) (i : IsContext ranges u) whe
     }
 
     -- where the lookup takes no memory, a refusal is the fault of lines
-    pub located_alone : (shares : Bool) → (takes_none_along shares d u.units now.parsed probe (cover probe ranges) ≡ true → IfErr r (λ e. along d u.units probe (cover probe ranges) ≡ Err e))
+    pub located_alone : (shares : Bool) → (takes_none_along shares d u.units now.parsed probe (cover probe ranges) ≡ true → IfErr r (λ e. first_location d u.units probe (cover probe ranges) ≡ Err e))
         → LocatesNoMemory shares (seen_context now) probe → IfErr r (λ e. location_of d probe ≡ Err e)
     located_alone shares alone none = of_units r (alone (at_lines asked now a.lines (λ s xs rs. takes_none_along shares s.file.sections xs now.parsed probe (cover probe rs) ≡ true) none))
       where
-        of_units : (q : Result (Option Y) Error) → IfErr q (λ e. along d u.units probe (cover probe ranges) ≡ Err e) → IfErr q (λ e. location_of d probe ≡ Err e)
+        of_units : (q : Result (Option Y) Error) → IfErr q (λ e. first_location d u.units probe (cover probe ranges) ≡ Err e) → IfErr q (λ e. location_of d probe ≡ Err e)
         of_units (Ok x) h = tt
         of_units (Err e) h = location_is probe ∙ h
 
   -- where the sections tell that no unit covers the probe, none does
   pub covers_none : (probe : ℕ) → IsUncovered (seen_context u) probe → cover probe ranges ≡ []
-  covers_none probe h = ap (cover probe) i.ranges ∙ ap (λ (m : UnitIndex). cover probe m.ranges) (ok_is i.made h.0 (sym i.made_is ∙ h.1)) ∙ h.2
+  covers_none probe h = ap (cover probe) i.ranges ∙ ap (λ (m : UnitIndex). cover probe m.ranges) (ok_is i.made h.0 (sym i.indexed ∙ h.1)) ∙ h.2
 
   -- where no unit covers the probe nothing is found, and no memory is taken
-  pub none_covered : {Y : Type 0} (see : Y → Location) (probe : ℕ) (r : Result (Option Y) Error) (now : UnitsState) → left.AfterRow probe (cover probe ranges) r u now → ExactlyUnlessOom (option_map see) r (along d u.units probe (cover probe ranges))
+  pub none_covered : {Y : Type 0} (see : Y → Location) (probe : ℕ) (r : Result (Option Y) Error) (now : UnitsState) → left.AfterRow probe (cover probe ranges) r u now → ExactlyUnlessOom (option_map see) r (first_location d u.units probe (cover probe ranges))
       → cover probe ranges ≡ [] → r ≡ Ok None
-  none_covered see probe r now a gives none = of_result r (exactly_told (option_map see) r (along d u.units probe (cover probe ranges)) gives told)
+  none_covered see probe r now a gives none = of_result r (exactly_told (option_map see) r (first_location d u.units probe (cover probe ranges)) gives told)
     where
       told : WasNotRefused r
       told = a.memory (subst (λ rs. ready_along d u.units now.parsed probe rs ≡ true) (sym none) refl)
 
-      of_result : (q : Result (Option _) Error) → Exactly (option_map see) q (along d u.units probe (cover probe ranges)) → q ≡ Ok None
+      of_result : (q : Result (Option _) Error) → Exactly (option_map see) q (first_location d u.units probe (cover probe ranges)) → q ≡ Ok None
       of_result (Ok None) h = refl
-      of_result (Ok (Some y)) h = absurd (let e : ◌≡◌ {A = LocationResult} (Ok None) (Ok (Some (see y))) = sym (ap (along d u.units probe) none) ∙ h in cc)
-      of_result (Err e) h = absurd (let f : ◌≡◌ {A = LocationResult} (Ok None) (Err e) = sym (ap (along d u.units probe) none) ∙ h in cc)
+      of_result (Ok (Some y)) h = absurd (let e : ◌≡◌ {A = LocationResult} (Ok None) (Ok (Some (see y))) = sym (ap (first_location d u.units probe) none) ∙ h in cc)
+      of_result (Err e) h = absurd (let f : ◌≡◌ {A = LocationResult} (Ok None) (Err e) = sym (ap (first_location d u.units probe) none) ∙ h in cc)
 
   -- after a lookup of a range
   pub after_range_lookup : {X Y : Type 0} (shares : Bool) (low high : ℕ) (r : Result Y Error) (now : UnitsState) → left.AfterCaching shares (cover_range low high ranges) r u now → (result : Result X Error) → (WasNotRefused result → OnOk r (AreParsed now.parsed (cover_range low high ranges)) → AreParsed now.parsed (cover_range low high ranges))
@@ -241,11 +240,11 @@ module _ (d : Sections) where
       of_lines (Err x) h = h
   each_ok (u ∷ us) probe (suc n) e = each_ok us probe n (first_ok u us e).1
 
-  pub along_ok : (us : List IndexedUnit) (probe : ℕ) (ranges : List UnitRange) → fault_of (all_lines d us) ≡ Ok tt → is_ok (along d us probe ranges) ≡ true
+  pub along_ok : (us : List IndexedUnit) (probe : ℕ) (ranges : List UnitRange) → fault_of (all_lines d us) ≡ Ok tt → is_ok (first_location d us probe ranges) ≡ true
   along_ok us probe [] e = refl
   along_ok us probe (r ∷ ranges) e = of_location (location_in d probe (slice_get us r.unit)) (each_ok us probe r.unit e) (along_ok us probe ranges e)
     where
-      of_location : (l : Result (Option Location) Error) → is_ok l ≡ true → is_ok (along d us probe ranges) ≡ true → is_ok (l >>= λ x. or_along (along d us probe ranges) x) ≡ true
+      of_location : (l : Result (Option Location) Error) → is_ok l ≡ true → is_ok (first_location d us probe ranges) ≡ true → is_ok (l >>= λ x. or_first_location (first_location d us probe ranges) x) ≡ true
       of_location (Ok None) h k = k
       of_location (Ok (Some x)) h k = refl
       of_location (Err x) h k = h
@@ -299,7 +298,7 @@ module _ (d : Sections) where
           let p = pair_is (pair_of units sup) (u, ranges) k in (
             subst (λ (x : UnitsState × List UnitRange). IsContext x.1 x.0) p (record {
               made = made_of units sup;
-              made_is = ap (λ (r : Result (List RangedUnit) Error). r >>= λ xs. sup_units d.sup >>= λ s. Ok (made_of xs s)) q ∙ ap (λ (r : Result (List UnitRecord) Error). r >>= λ s. Ok (made_of units s)) l;
+              indexed = ap (λ (r : Result (List RangedUnit) Error). r >>= λ xs. sup_units d.sup >>= λ s. Ok (made_of xs s)) q ∙ ap (λ (r : Result (List UnitRecord) Error). r >>= λ s. Ok (made_of units s)) l;
               scope = refl;
               units = refl;
               ranges = refl;

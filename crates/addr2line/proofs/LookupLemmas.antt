@@ -3,8 +3,7 @@ use Rattle.std.proofs.Common.{◌≡◌, ◌≢◌, ◌⊎◌, ℕ, ◌&&◌, �
 use Rattle.std.specs.Prelude.{IfErr, IfOk}
 use Rattle.gimli_read.specs.declared.error.Error.{Error}
 use Rattle.gimli_read.specs.declared.error.Error.TheVariants.{OutOfMemory}
-use Rattle.gimli_read.specs.Alike.{WasNotRefused}
-use Rattle.gimli_read.specs.Reading.{◌>>=◌, ExactlyUnlessOom}
+use Rattle.gimli_read.specs.Reading.{◌>>=◌, ExactlyUnlessOom, WasNotRefused}
 use Rattle.addr2line_lines.specs.InlineRoom.{exceeds_inline_room}
 use Rattle.addr2line_lines.specs.References.{Scope}
 use Rattle.addr2line_units.specs.declared.frames.OnFault.{OnFault}
@@ -86,7 +85,7 @@ module _ (ranges : List UnitRange) (u : UnitsState) (i : IsContext ranges u) (fa
 
     of_units : (q : Result X Error) → IfErr q (left.IsFaultAlong faults probe u (cover probe ranges)) → IfErr q (IsFaultOfAsked faults u.scope.file.sections u.answers probe)
     of_units (Ok x) h = tt
-    of_units (Err e) h = (i.made, i.made_is, of_made ranges u i (λ s xs rs. (n : ℕ) × LookupAsks (asked_frames faults s xs u.answers probe) (cover probe rs) n × (frames_of_number s xs u.answers probe n ≡ Err e)) h i.made i.made_is)
+    of_units (Err e) h = (i.made, i.indexed, of_made ranges u i (λ s xs rs. (n : ℕ) × LookupAsks (asked_frames faults s xs u.answers probe) (cover probe rs) n × (frames_of_number s xs u.answers probe n ≡ Err e)) h i.made i.indexed)
 
     -- where the lookup takes no memory, a refusal is the fault of a unit that it asks
     pub walk_alone : (shares : Bool) → (holds_along (asks_no_memory_at shares probe now) (asked_by faults probe u) (cover probe ranges) ≡ true → IfErr r (left.IsFaultAlong faults probe u (cover probe ranges)))

@@ -1,8 +1,7 @@
 -- Lookups of an address that no unit covers (on specs/Context.antt and specs/AfterLookups.antt).
 use Rattle.std.proofs.Common.{◌≡◌, ℕ, Bool, true, false, [], Option, Result, Ok, Err, is_ok, ap, refl, subst, sym, ◌∙◌}
 use Rattle.gimli_read.specs.declared.error.Error.{Error}
-use Rattle.gimli_read.specs.Alike.{WasNotRefused}
-use Rattle.gimli_read.specs.Reading.{◌>>=◌, ExactlyUnlessOom}
+use Rattle.gimli_read.specs.Reading.{◌>>=◌, ExactlyUnlessOom, WasNotRefused}
 use Rattle.addr2line_units.specs.declared.continuation.LookupResult.{LookupResult}
 use Rattle.addr2line_units.specs.declared.continuation.LookupResult.TheVariants.{Load, Output}
 use Rattle.addr2line_units.specs.declared.frames.OnFault.{OnFault}

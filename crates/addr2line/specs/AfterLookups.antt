@@ -4,12 +4,11 @@
 -- ask; nothing that is known is parsed again.
 use Rattle.std.specs.Prelude.{◌≡◌, ◌⊎◌, ℕ, ◌≤◌, Bool, true, false, slice_get, IfErr, Result, Ok, Err}
 use Rattle.gimli_read.specs.declared.error.Error.{Error}
-use Rattle.gimli_read.specs.Reading.{◌>>=◌, ExactlyUnlessOom}
+use Rattle.gimli_read.specs.Reading.{◌>>=◌, ExactlyUnlessOom, WasNotRefused}
 use Rattle.gimli.specs.Sections.{Sections}
 use Rattle.addr2line_units.specs.declared.frames.OnFault.{OnFault}
 use Rattle.addr2line_units.specs.Cover.{cover}
 use Rattle.addr2line_units.specs.FramesLookup.{LookupStop, Waits, LookupAsks, asks_lines_of, function_offset_of, holds_along, is_waiting, main_scope}
-use Rattle.gimli_read.specs.Alike.{WasNotRefused}
 use Rattle.addr2line_units.specs.KnownEntries.{LearnsDetailsAt}
 use Rattle.addr2line_units.specs.Parsed.{ParsesOnly, StaysParsed}
 use Rattle.addr2line_units.specs.StaysKnown.{StaysKnown}

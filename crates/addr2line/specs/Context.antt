@@ -8,7 +8,7 @@
 -- Own: of a unit the first answer to its load counts: the sections of a split file, or none.
 use Rattle.std.specs.Prelude.{◌≡◌, ℕ, ◌+◌, ◌<◌, ◌≤◌, Bool, true, List, [], map, Option, None, IfErr, Result, Ok, Err}
 use Rattle.gimli_read.specs.declared.error.Error.{Error}
-use Rattle.gimli_read.specs.Reading.{◌>>=◌, fault_of}
+use Rattle.gimli_read.specs.Reading.{◌>>=◌, fault_of, WasNotRefused}
 use Rattle.gimli.specs.Sections.{Sections}
 use Rattle.addr2line_units.specs.declared.index.UnitRange.{UnitRange}
 use Rattle.addr2line_units.specs.FramesLookup.{FindsNothing, LookupStop, main_scope}
@@ -16,7 +16,6 @@ use Rattle.addr2line_units.specs.KnownEntries.{KnownEntries, NothingKnown}
 use Rattle.addr2line_units.specs.Located.{all_lines, is_found, location_of, looks_along}
 use Rattle.addr2line_units.specs.UnitIndex.{UnitIndex, index_units, sup_units}
 use Rattle.addr2line_units.specs.RangedUnits.{has_lines, ranged_units}
-use Rattle.gimli_read.specs.Alike.{WasNotRefused}
 use Rattle.addr2line_units.specs.Parsed.{AllAskFor, AreParsed, AreReadyForAll, AsksFor, LeadTo, ParsesOnly, StaysParsed, TakeNone, TakeNoneForAll, ready_along, takes_none_along}
 use Rattle.addr2line_units.specs.Cover.{cover, cover_range}
 use Rattle.addr2line_units.specs.UnitsState.{UnitsState}
@@ -160,7 +159,7 @@ seen_context u = record {
 -- the units of a context, and the ranges that lead to them, are what its sections give
 pub record IsContext (listed : List UnitRange) (u : UnitsState) : Type 0 where
   pub made : UnitIndex
-  pub made_is : index_units u.scope.file.sections ≡ Ok made
+  pub indexed : index_units u.scope.file.sections ≡ Ok made
   pub scope : u.scope ≡ main_scope u.scope.file.sections made
   pub units : u.units ≡ made.units
   pub ranges : listed ≡ made.ranges

@@ -5,7 +5,7 @@
 -- is given.
 use Rattle.std.specs.Prelude.{ℕ, List, Option, IfOk}
 use Rattle.std.specs.List.{AllByRecursion}
-use Rattle.gimli_read.specs.Alike.{WasNotRefused}
+use Rattle.gimli_read.specs.Reading.{WasNotRefused}
 use Rattle.gimli_read.specs.FaultLaws.{NoneWasRefused}
 use Rattle.gimli.specs.Sections.{Sections}
 use Rattle.addr2line_units.specs.declared.frames.OnFault.{OnFault}

@@ -2,7 +2,7 @@
 -- Own: at most 16 functions that are inlined at an address take no memory.
 use Rattle.std.specs.Prelude.{◌≡◌, ℕ, true, not, Option, Result, Ok}
 use Rattle.gimli_read.specs.declared.error.Error.{Error}
-use Rattle.gimli_read.specs.Alike.{WasNotRefused}
+use Rattle.gimli_read.specs.Reading.{WasNotRefused}
 use Rattle.addr2line_lines.specs.InlineRoom.{exceeds_inline_room}
 use Rattle.addr2line_units.specs.declared.frames.OnFault.{OnFault}
 use Rattle.addr2line_units.specs.Cover.{cover}

@@ -2,7 +2,7 @@
 
 ghost use Rattle.std.specs.Prelude.{◌≡◌, IfErr, IfOk};
 ghost use Rattle.gimli_read.specs.declared.error.Error.TheVariants.{OutOfMemory};
-ghost use Rattle.gimli_read.specs.Alike.{WasNotRefused};
+ghost use Rattle.gimli_read.specs.Reading.{WasNotRefused};
 ghost use Rattle.addr2line_lines.specs.LastAddress.{last_address};
 ghost use Rattle.addr2line_units.specs.declared.frames.OnFault.TheVariants.{Skip};
 ghost use Rattle.addr2line_units.specs.FramesLeft.{frames_left};

@@ -21,7 +21,7 @@ use Rattle.addr2line_lines.specs.declared.nesting.Kind.{Kind}
 use Rattle.addr2line_lines.specs.declared.inlined.CallSite.{CallSite}
 use Rattle.addr2line_lines.specs.InlinedEntries.{InlinedAttributes, inlined_attributes_of, no_inlined_attributes, or_with_inlined_attribute, with_call, with_inlined_attribute}
 use Rattle.addr2line_lines.specs.FoundInlined.{FoundInlined, entry_found_at, read_lists_a_range, with_entry_found, with_inlined_found}
-use Rattle.addr2line_lines.specs.FoundAttributes.{IsReadIf, IsTakenIn, inlined_attributes_after, is_call, is_wanted}
+use Rattle.addr2line_lines.specs.FoundAttributes.{IsReadIf, IsTakenIn, inlined_attributes_after, is_call, is_inlined_attribute}
 use Rattle.addr2line_lines.specs.FoundRanges.{is_range_name}
 use Rattle.addr2line_lines.specs.OpenEntries.{is_inlined_kind, is_listed, kind_of}
 use Rattle.addr2line_lines.specs.FoundNames.{is_name_attribute, with_read_name}
@@ -133,7 +133,7 @@ module _ (scope : Scope) (u : UnitRecord) where
       other_attribute x a h ∙ ap (λ (call : CallSite). with_name scope u x.name a >>= λ name. Ok (record { ranges = x.ranges; name = name; call = call })) (callless u.header.encoding.version x.call a c)
 
   -- an attribute that says nothing of an inlined entry
-  unwanted : (x : InlinedAttributes) (a : NamedValue) → is_wanted a.name ≡ false → with_inlined_attribute scope u x a ≡ Ok x
+  unwanted : (x : InlinedAttributes) (a : NamedValue) → is_inlined_attribute a.name ≡ false → with_inlined_attribute scope u x a ≡ Ok x
   unwanted x a h =
       let p = neither (is_range_name a.name || is_name_attribute a.name) (is_call a.name) h in
       let q = neither (is_range_name a.name) (is_name_attribute a.name) p.0 in
@@ -199,7 +199,7 @@ no_rest (Ok a) f h = absurd cc
 no_rest (Err g) f h = let same : g ≡ f = cc in ap Err same
 
 -- an attribute that says nothing of an inlined entry changes nothing
-pub still : (scope : Scope) (u : UnitRecord) (x : Result InlinedAttributes Error) (a : NamedValue) → is_wanted a.name ≡ false → or_with_inlined_attribute scope u x a ≡ x
+pub still : (scope : Scope) (u : UnitRecord) (x : Result InlinedAttributes Error) (a : NamedValue) → is_inlined_attribute a.name ≡ false → or_with_inlined_attribute scope u x a ≡ x
 still scope u (Ok x) a h = unwanted scope u x a h
 still scope u (Err f) a h = refl
 

@@ -4,7 +4,7 @@
 -- is given.
 use Rattle.std.specs.Prelude.{ℕ, List}
 use Rattle.gimli_read.specs.declared.value.AttributeValue.{AttributeValue}
-use Rattle.gimli_read.specs.Alike.{WasNotRefused}
+use Rattle.gimli_read.specs.Reading.{WasNotRefused}
 use Rattle.gimli_read.specs.Form.{NamedValue}
 use Rattle.gimli_read.specs.Section.{Section}
 use Rattle.gimli_line.specs.Header.{File, Header, Program}

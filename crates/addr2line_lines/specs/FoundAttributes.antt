@@ -25,8 +25,8 @@ is_call name =
     name.0 == DW_AT_call_file.0 || name.0 == DW_AT_call_line.0 || name.0 == DW_AT_call_column.0
 
 -- whether an attribute says something of an inlined entry
-abbrev pub is_wanted : DwAt → Bool
-is_wanted name = is_range_name name || is_name_attribute name || is_call name
+abbrev pub is_inlined_attribute : DwAt → Bool
+is_inlined_attribute name = is_range_name name || is_name_attribute name || is_call name
 
 -- what was found, unless there was a fault before
 abbrev pub or_fault : {X : Type 0} → X → Option Error → Result X Error

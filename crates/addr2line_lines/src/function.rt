@@ -259,7 +259,7 @@ impl WantedNames for RangeWanted {
 
     ghost wanted = { is_range_name };
 
-    fn is_wanted(name: DwAt) -> bool {
+    fn is_wanted_name(name: DwAt) -> bool {
         is_range_name(name)
     }
 }

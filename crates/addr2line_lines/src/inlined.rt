@@ -301,11 +301,11 @@ impl<R: Reader> InlinedAttributes<R> {
 struct InlinedWanted;
 
 impl WantedNames for InlinedWanted {
-    ghost use Rattle.addr2line_lines.specs.FoundAttributes.{is_wanted};
+    ghost use Rattle.addr2line_lines.specs.FoundAttributes.{is_inlined_attribute};
 
-    ghost wanted = { is_wanted };
+    ghost wanted = { is_inlined_attribute };
 
-    fn is_wanted(name: DwAt) -> bool {
+    fn is_wanted_name(name: DwAt) -> bool {
         is_range_name(name) || is_name_attribute(name) || is_call(name)
     }
 }

@@ -52,7 +52,7 @@ impl WantedNames for NameWanted {
 
     ghost wanted = { is_name_attribute };
 
-    fn is_wanted(name: DwAt) -> bool {
+    fn is_wanted_name(name: DwAt) -> bool {
         is_name_attribute(name)
     }
 }

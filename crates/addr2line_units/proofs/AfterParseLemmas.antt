@@ -5,8 +5,7 @@ use Rattle.std.specs.Prelude.{IfErr, OnOk}
 use Rattle.std.specs.List.{AllByRecursion}
 use Rattle.gimli_read.specs.declared.error.Error.{Error}
 use Rattle.gimli_read.specs.declared.error.Error.TheVariants.{OutOfMemory}
-use Rattle.gimli_read.specs.Alike.{WasNotRefused}
-use Rattle.gimli_read.specs.Reading.{ExactlyUnlessOomIf}
+use Rattle.gimli_read.specs.Reading.{ExactlyUnlessOomIf, WasNotRefused}
 use Rattle.gimli.specs.Sections.{Sections}
 use Rattle.gimli.specs.Unit.{UnitRecord}
 use Rattle.addr2line_lines.specs.FunctionDetails.{HasDetail}
@@ -37,7 +36,7 @@ use Rattle.addr2line_units.proofs.FoundLemmas.{looked_is_decided}
 use Rattle.addr2line_units.proofs.LearnedLemmas.{cache_reads_none, functions_learn_none}
 use Rattle.addr2line_units.proofs.ReadByLemmas.{never_fault, read_decided, read_were_read}
 use Rattle.addr2line_units.proofs.ReadyLemmas.{fault_by_view, functions_by_view, known_not_oom, ready_fault, ready_were_read}
-use Rattle.addr2line_units.proofs.StayLemmas.{whole_was_looked_at}
+use Rattle.addr2line_units.proofs.StayLemmas.{whole_was_checked}
 
 -- the fault of functions that were read
 fault_is : {R : Type 0} (scope : Scope) (view : UnitRecord) (f : LazyFunctions R) → AreFunctionsOf scope view f → were_read f ≡ true → cached_fault f ≡ read_of_functions depths.Functions scope view
@@ -202,7 +201,7 @@ module _ {R : Type 0} (shares : Bool) (depth : ReadingDepth) (scope : Scope) (u 
   -- of what was known of a unit that wasn't open
   was_decided : IsDecidedAndReady depth (is_open d u (first_answer_of old)) (known_by old.view.state old.functions) → is_decided old.view.state ≡ true
   was_decided k =
-      let looked = whole_was_looked_at depth old.view.state old.functions k.1 in
+      let looked = whole_was_checked depth old.view.state old.functions k.1 in
       looked_is_decided old.view.state looked (looked_waits d u old.view before.view looked ∙ k.0)
 
   still_ready : IsDecidedAndReady depth (is_open d u (first_answer_of old)) (known_by old.view.state old.functions) → IsDecidedAndReady depth false (known_by mid.view.state mid.functions)

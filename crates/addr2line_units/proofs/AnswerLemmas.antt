@@ -19,7 +19,7 @@ use Rattle.addr2line_units.specs.FramesLookup.{answer_of, with_answer}
 use Rattle.addr2line_units.specs.CachedEntries.{AreEntriesOf, StayEntries, first_answer_of}
 use Rattle.addr2line_units.specs.CachedFunctions.{AreFunctionsOf, were_read}
 use Rattle.addr2line_units.specs.CachedUnits.{StayAllEntries, answers_in, decided_at}
-use Rattle.addr2line_units.specs.CachedViews.{IsViewOf, is_decided, seen_first_answer, verdict_in, waits, was_looked_at}
+use Rattle.addr2line_units.specs.CachedViews.{IsViewOf, is_decided, seen_first_answer, verdict_in, waits, was_checked}
 use Rattle.addr2line_units.specs.Views.{FirstAnswers, View, decided_answer, is_open, verdict, view_scope}
 use Rattle.addr2line_units.proofs.CachedUnitLemmas.{stay_entries_set}
 
@@ -58,10 +58,10 @@ no_answer None e = refl
 no_answer (Some x) e = absurd cc
 
 -- what was looked at waits where the unit is open
-pub looked_waits : {R : Type 0} (d : Sections) (u : UnitRecord) (v : UnitView R) → IsViewOf d u v → was_looked_at v.state ≡ true → waits v.state ≡ is_open d u (seen_first_answer v)
+pub looked_waits : {R : Type 0} (d : Sections) (u : UnitRecord) (v : UnitView R) → IsViewOf d u v → was_checked v.state ≡ true → waits v.state ≡ is_open d u (seen_first_answer v)
 looked_waits {R} d u v h k = by v.state (verdict d u (seen_first_answer v)) h.right k
   where
-    by : (s : ViewState R) (w : Option (Result View Error)) → IfSome (verdict_in d u s) (λ cached. cached ≡ w) → was_looked_at s ≡ true → waits s ≡ is_none w
+    by : (s : ViewState R) (w : Option (Result View Error)) → IfSome (verdict_in d u s) (λ cached. cached ≡ w) → was_checked s ≡ true → waits s ≡ is_none w
     by states.Undecided w e l = absurd cc
     by states.Open w e l = ap is_none e
     by states.Main w e l = ap is_none e
@@ -75,12 +75,12 @@ decided_if_open d u answer given e = ap (λ b. if b then Some given else answer)
 pub decided_if_not : (d : Sections) (u : UnitRecord) (answer : Option (Option Sections)) (given : Option Sections) → is_open d u answer ≡ false → decided_answer d u answer given ≡ answer
 decided_if_not d u answer given e = ap (λ b. if b then Some given else answer) e
 
-pub decided_was_looked_at : {R : Type 0} (s : ViewState R) → is_decided s ≡ true → was_looked_at s ≡ true
-decided_was_looked_at states.Undecided e = absurd cc
-decided_was_looked_at states.Open e = absurd cc
-decided_was_looked_at states.Main e = refl
-decided_was_looked_at (states.Unnamed x) e = refl
-decided_was_looked_at (states.Answered a) e = refl
+pub decided_was_checked : {R : Type 0} (s : ViewState R) → is_decided s ≡ true → was_checked s ≡ true
+decided_was_checked states.Undecided e = absurd cc
+decided_was_checked states.Open e = absurd cc
+decided_was_checked states.Main e = refl
+decided_was_checked (states.Unnamed x) e = refl
+decided_was_checked (states.Answered a) e = refl
 
 pub decided_waits_not : {R : Type 0} (s : ViewState R) → is_decided s ≡ true → waits s ≡ false
 decided_waits_not states.Undecided e = absurd cc
@@ -90,14 +90,14 @@ decided_waits_not (states.Unnamed x) e = refl
 decided_waits_not (states.Answered a) e = refl
 
 -- whether the unit is open, by what waits after it was looked at
-pub open_by_look : {R : Type 0} (d : Sections) (u : UnitRecord) (v w : UnitView R) (b : Bool) → IsViewOf d u w → was_looked_at w.state ≡ true → seen_first_answer w ≡ seen_first_answer v → b ≡ waits w.state
+pub open_by_look : {R : Type 0} (d : Sections) (u : UnitRecord) (v w : UnitView R) (b : Bool) → IsViewOf d u w → was_checked w.state ≡ true → seen_first_answer w ≡ seen_first_answer v → b ≡ waits w.state
     → is_open d u (seen_first_answer v) ≡ b
 open_by_look d u v w b h l same e = ap (λ a. is_open d u a) (sym same) ∙ sym (looked_waits d u w h l) ∙ sym e
 
 -- what was decided before a check of the split file doesn't wait after it
-pub never_waits : {R : Type 0} (v w : UnitEntries R) (b : Bool) → is_decided v.view.state ≡ true → (was_looked_at v.view.state ≡ true → w ≡ v) → b ≡ waits w.view.state → b ≡ true → ⊥
+pub never_waits : {R : Type 0} (v w : UnitEntries R) (b : Bool) → is_decided v.view.state ≡ true → (was_checked v.view.state ≡ true → w ≡ v) → b ≡ waits w.view.state → b ≡ true → ⊥
 never_waits v w b h same e t =
-    let f : waits w.view.state ≡ false = ap (λ x. waits x.view.state) (same (decided_was_looked_at v.view.state h)) ∙ decided_waits_not v.view.state h in
+    let f : waits w.view.state ≡ false = ap (λ x. waits x.view.state) (same (decided_was_checked v.view.state h)) ∙ decided_waits_not v.view.state h in
     let k : true ≡ false = sym t ∙ e ∙ f in cc
 
 -- the first answer of the unit of a number

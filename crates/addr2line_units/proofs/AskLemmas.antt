@@ -5,8 +5,7 @@ use Rattle.std.proofs.Math.ListN.{set}
 use Rattle.std.specs.Prelude.{IfErr, IfOk, unwrap_or}
 use Rattle.gimli_read.specs.declared.error.Error.{Error}
 use Rattle.gimli_read.specs.declared.error.Error.TheVariants.{OutOfMemory}
-use Rattle.gimli_read.specs.Alike.{WasNotRefused}
-use Rattle.gimli_read.specs.Reading.{◌>>=◌, ExactlyUnlessOom}
+use Rattle.gimli_read.specs.Reading.{◌>>=◌, ExactlyUnlessOom, WasNotRefused}
 use Rattle.gimli.specs.Sections.{Sections}
 use Rattle.gimli.specs.Unit.{UnitRecord}
 use Rattle.addr2line_lines.specs.InlineRoom.{exceeds_inline_room}

@@ -3,8 +3,7 @@ use Rattle.std.proofs.Common.{◌≡◌, ◌≢◌, ◌∙◌, ◌++◌, ℕ, ap
 use Rattle.std.specs.Prelude.{IfErr, IfSome}
 use Rattle.gimli_read.specs.declared.error.Error.{Error}
 use Rattle.gimli_read.specs.declared.error.Error.TheVariants.{OutOfMemory}
-use Rattle.gimli_read.specs.Alike.{WasNotRefused}
-use Rattle.gimli_read.specs.Reading.{◌>>=◌, ExactlyUnlessOomIf}
+use Rattle.gimli_read.specs.Reading.{◌>>=◌, ExactlyUnlessOomIf, WasNotRefused}
 use Rattle.gimli_line.specs.declared.row.LineRow.{LineRow}
 use Rattle.gimli_line.specs.Header.{File, Program, header_copy_takes_memory}
 use Rattle.gimli_line.specs.Lines.{lines_of}

@@ -22,7 +22,7 @@ use Rattle.addr2line_units.specs.CachedFunctions.{StayFunctions, has_detail, cac
 use Rattle.addr2line_units.specs.CachedKnown.{known_by, known_in}
 use Rattle.addr2line_units.specs.CachedLines.{HaveLinesOf, HaveSameEntries, indexed_unit, indexed_units, is_parsed, parsed_units}
 use Rattle.addr2line_units.specs.CachedUnits.{HaveCachesOf, HaveEntriesOf, HaveSameLines, IsCacheOf, ReadsOnly, StayAllEntries, answers_in, has_entries_at}
-use Rattle.addr2line_units.specs.CachedViews.{was_looked_at}
+use Rattle.addr2line_units.specs.CachedViews.{was_checked}
 use Rattle.addr2line_units.proofs.CachedFunctionLemmas.{place_stays}
 
 -- functions with their cached details stay over both of two steps
@@ -140,7 +140,7 @@ module _ {R : Type 0} where
   entries_more_by probe (states.Unnamed x) f g a e = e
   entries_more_by probe (states.Answered x) f g a e = answered_more probe x.unit f g a e
 
-  looked_by : (probe : ℕ) (s : ViewState R) (f : LazyFunctions R) → has_entries_by probe s f ≡ true → was_looked_at s ≡ true
+  looked_by : (probe : ℕ) (s : ViewState R) (f : LazyFunctions R) → has_entries_by probe s f ≡ true → was_checked s ≡ true
   looked_by probe states.Undecided f e = e
   looked_by probe states.Open f e = refl
   looked_by probe states.Main f e = refl

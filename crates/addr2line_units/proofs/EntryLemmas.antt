@@ -20,7 +20,7 @@ use Rattle.addr2line_units.specs.AskMemory.{functions_in_take_memory, view_takes
 use Rattle.addr2line_units.specs.Frames.{function_at}
 use Rattle.addr2line_units.specs.CachedEntries.{AreEntriesOf, StayEntries, has_answered, has_entries_by, first_answer_of}
 use Rattle.addr2line_units.specs.CachedFunctions.{AreFunctionsOf, StayFunctions, cached_has_function, is_cached_fault, were_read}
-use Rattle.addr2line_units.specs.CachedViews.{IsViewOf, is_decided, parts_or_fault, seen_first_answer, seen_sections, unboxed, verdict_in, view_by, waits, was_looked_at}
+use Rattle.addr2line_units.specs.CachedViews.{IsViewOf, is_decided, parts_or_fault, seen_first_answer, seen_sections, unboxed, verdict_in, view_by, waits, was_checked}
 use Rattle.addr2line_units.specs.UnitFrames.{function_by, function_in, inlined_of_unit, inlined_of_found}
 use Rattle.addr2line_units.specs.Views.{View, is_open, parts_of, verdict, view_scope}
 
@@ -31,7 +31,7 @@ functions_stay scope u lazy.Absent = refl
 functions_stay scope u (lazy.Read t) = table_same t.value
 functions_stay scope u (lazy.Faulty e) = refl
 
-undecided : {R : Type 0} (s : ViewState R) → was_looked_at s ≡ false → is_decided s ≡ false
+undecided : {R : Type 0} (s : ViewState R) → was_checked s ≡ false → is_decided s ≡ false
 undecided states.Undecided h = refl
 undecided states.Open h = cc
 undecided states.Main h = cc
@@ -39,14 +39,14 @@ undecided (states.Unnamed e) h = cc
 undecided (states.Answered a) h = cc
 
 -- a unit that was looked at and doesn't wait is decided
-pub looked_decides : {R : Type 0} (s : ViewState R) → was_looked_at s ≡ true → waits s ≡ false → is_decided s ≡ true
+pub looked_decides : {R : Type 0} (s : ViewState R) → was_checked s ≡ true → waits s ≡ false → is_decided s ≡ true
 looked_decides states.Undecided h k = cc
 looked_decides states.Open h k = cc
 looked_decides states.Main h k = refl
 looked_decides (states.Unnamed e) h k = refl
 looked_decides (states.Answered a) h k = refl
 
-module _ {R : Type 0} (scope : Scope) (u : UnitRecord) (old : UnitEntries R) (view : UnitView R) (kept : was_looked_at old.view.state ≡ true → (view ≡ old.view)) where
+module _ {R : Type 0} (scope : Scope) (u : UnitRecord) (old : UnitEntries R) (view : UnitView R) (kept : was_checked old.view.state ≡ true → (view ≡ old.view)) where
   abbrev with_view : UnitView R → UnitEntries R
   with_view v = record { view = v; functions = old.functions }
 
@@ -55,10 +55,10 @@ module _ {R : Type 0} (scope : Scope) (u : UnitRecord) (old : UnitEntries R) (vi
   look_keeps answer h right = record {
     view = right;
     functions = subst (λ a. IfSome (verdict scope.file.sections u a) (λ r. IfOk r (λ x. AreFunctionsOf (view_scope scope x) x.unit old.functions))) (sym answer) h.functions;
-    unread = by_look (was_looked_at old.view.state) refl;
+    unread = by_look (was_checked old.view.state) refl;
   }
     where
-      by_look : (b : Bool) → was_looked_at old.view.state ≡ b → is_decided view.state ≡ false → were_read old.functions ≡ false
+      by_look : (b : Bool) → was_checked old.view.state ≡ b → is_decided view.state ≡ false → were_read old.functions ≡ false
       by_look true e waiting = h.unread (ap (λ (v : UnitView R). is_decided v.state) (sym (kept e)) ∙ waiting)
       by_look false e waiting = h.unread (undecided old.view.state e)
 

@@ -3,10 +3,9 @@ use Rattle.std.proofs.Common.{ℕ, List, [], ◌∷◌, map, is_some, slice_get,
 use Rattle.gimli_read.specs.declared.error.Error.{Error}
 use Rattle.gimli_read.specs.declared.error.Error.TheVariants.{UnknownToken}
 use Rattle.gimli_read.specs.declared.range.Range.{Range}
-use Rattle.gimli_read.specs.Alike.{WasNotRefused}
 use Rattle.gimli_read.specs.FaultLaws.{NoneWasRefused}
 use Rattle.gimli_read.specs.Form.{NamedValue}
-use Rattle.gimli_read.specs.Reading.{◌>>=◌}
+use Rattle.gimli_read.specs.Reading.{◌>>=◌, WasNotRefused}
 use Rattle.gimli_read.specs.Section.{Section}
 use Rattle.gimli_read.proofs.FaultLemmas.{IsByBytes, AreByBytes, step, either, value, fault, moved_fault, fault_of_is, fold_is, are_joined, not_refused, none_refused}
 use Rattle.gimli.specs.declared.unit.DwoId.{DwoId}
@@ -32,7 +31,7 @@ use Rattle.addr2line_units.specs.declared.parses.ReadingDepth.TheVariants as dep
 use Rattle.addr2line_units.specs.Cover.{cover, cover_range}
 use Rattle.addr2line_units.specs.UnitAranges.{aranges_at, aranges_in}
 use Rattle.addr2line_units.specs.UnitAttributes.{no_unit_attributes, with_unit_attribute, or_with_unit_attribute, unit_attributes}
-use Rattle.addr2line_units.specs.RangedUnits.{IndexedUnit, is_type_unit, is_partial, or_attribute_ranges, given_ranges, given_in_unit, unless_faulty, unit_of_header, units_of, ranged_units}
+use Rattle.addr2line_units.specs.RangedUnits.{IndexedUnit, is_type_unit, is_partial, or_attribute_ranges, listed_unit_ranges, listed_in_unit, unless_faulty, unit_of_header, units_of, ranged_units}
 use Rattle.addr2line_units.specs.UnitIndex.{UnitIndex, sup_unit_of_header, sup_sections, sup_units, index_units}
 use Rattle.addr2line_units.specs.UnitsState.{UnitsState, new_units, asked_by, stop_of}
 use Rattle.addr2line_units.specs.Views.{FirstAnswers, View, SplitLoad, split_name_of, first_of, first_unit, answered_view, load_by, load_of_unit, verdict_by, verdict, is_open, decided_answer, view_scope}
@@ -43,7 +42,7 @@ use Rattle.addr2line_units.specs.AskedUnits.{stop_at}
 use Rattle.addr2line_units.specs.CachedFunctions.{details_at, functions_fault}
 use Rattle.addr2line_units.specs.FunctionParses.{read_of_functions, read_of_view, read_of_unit, read_of_number, read_of_units}
 use Rattle.addr2line_units.specs.Loads.{unit_of_token, view_fault, load_result, forget_result}
-use Rattle.addr2line_units.specs.Located.{LocationResult, lines_of_unit, location_in, or_along, along, location_of, all_read, spans_or_fault, spans_in, spans_along, spans_of, all_lines}
+use Rattle.addr2line_units.specs.Located.{LocationResult, lines_of_unit, location_in, or_first_location, first_location, location_of, all_read, spans_or_fault, spans_in, spans_along, spans_of, all_lines}
 
 -- ---- the units of a file
 pub aranges_are : (s : Section) → IsByBytes (aranges_in s)
@@ -62,16 +61,16 @@ or_ranges_are : (d : Sections) (u : UnitRecord) (a : RangeAttributes) (listed : 
 or_ranges_are d u a [] = attribute_ranges_are d u a
 or_ranges_are d u a (r ∷ listed) = value
 
-pub given_ranges_are : (d : Sections) (aranges : List UnitArange) (u : UnitRecord) (a : RangeAttributes) → IsByBytes (given_ranges d aranges u a)
-given_ranges_are d aranges u a = either (is_some a.ranges_offset) (attribute_ranges_are d u a) (or_ranges_are d u a (aranges_at u.header.offset.0 aranges))
+pub listed_unit_ranges_are : (d : Sections) (aranges : List UnitArange) (u : UnitRecord) (a : RangeAttributes) → IsByBytes (listed_unit_ranges d aranges u a)
+listed_unit_ranges_are d aranges u a = either (is_some a.ranges_offset) (attribute_ranges_are d u a) (or_ranges_are d u a (aranges_at u.header.offset.0 aranges))
 
-given_in_unit_is : (d : Sections) (aranges : List UnitArange) (u : UnitRecord) → IsByBytes (given_in_unit d aranges u)
-unfolding given_in_unit
-given_in_unit_is d aranges u = either (is_partial u.header.unit_type) value (step (unit_attributes_are d u) (λ attributes. step (given_ranges_are d aranges u attributes.ranges) (λ given. value)))
+listed_in_unit_is : (d : Sections) (aranges : List UnitArange) (u : UnitRecord) → IsByBytes (listed_in_unit d aranges u)
+unfolding listed_in_unit
+listed_in_unit_is d aranges u = either (is_partial u.header.unit_type) value (step (unit_attributes_are d u) (λ attributes. step (listed_unit_ranges_are d aranges u attributes.ranges) (λ given. value)))
 
 unless_faulty_is : (d : Sections) (aranges : List UnitArange) (r : Result UnitRecord Error) → IsByBytes (unless_faulty d aranges r)
 unless_faulty_is d aranges (Err e) = value
-unless_faulty_is d aranges (Ok u) = step (step (given_in_unit_is d aranges u) (λ x. value)) (λ x. value)
+unless_faulty_is d aranges (Ok u) = step (step (listed_in_unit_is d aranges u) (λ x. value)) (λ x. value)
 
 pub unit_of_header_is : (d : Sections) (aranges : List UnitArange) (h : UnitHeaderFields) → IsByBytes (unit_of_header d aranges h)
 unfolding unit_of_header
@@ -105,16 +104,16 @@ pub location_in_is : (d : Sections) (probe : ℕ) (u : Option IndexedUnit) → I
 location_in_is d probe None = value
 location_in_is d probe (Some u) = step (lines_of_unit_are d u) (λ lines. value)
 
-or_along_is : (rest : LocationResult) (location : Option Location) → IsByBytes rest → IsByBytes (or_along rest location)
-or_along_is rest None h = h
-or_along_is rest (Some l) h = value
+or_first_location_is : (rest : LocationResult) (location : Option Location) → IsByBytes rest → IsByBytes (or_first_location rest location)
+or_first_location_is rest None h = h
+or_first_location_is rest (Some l) h = value
 
-pub along_is : (d : Sections) (units : List IndexedUnit) (probe : ℕ) (ranges : List UnitRange) → IsByBytes (along d units probe ranges)
-along_is d units probe [] = value
-along_is d units probe (r ∷ ranges) = step (location_in_is d probe (slice_get units r.unit)) (λ location. or_along_is (along d units probe ranges) location (along_is d units probe ranges))
+pub first_location_is : (d : Sections) (units : List IndexedUnit) (probe : ℕ) (ranges : List UnitRange) → IsByBytes (first_location d units probe ranges)
+first_location_is d units probe [] = value
+first_location_is d units probe (r ∷ ranges) = step (location_in_is d probe (slice_get units r.unit)) (λ location. or_first_location_is (first_location d units probe ranges) location (first_location_is d units probe ranges))
 
 pub location_of_is : (d : Sections) (probe : ℕ) → IsByBytes (location_of d probe)
-location_of_is d probe = step (index_units_is d) (λ m. along_is d m.units probe (cover probe m.ranges))
+location_of_is d probe = step (index_units_is d) (λ m. first_location_is d m.units probe (cover probe m.ranges))
 
 all_read_are : {X : Type 0} (xs : List X) → AreByBytes (all_read xs)
 all_read_are [] = tt

@@ -3,8 +3,7 @@
 use Rattle.std.proofs.Common.{◌≡◌, ℕ, zero, suc, Bool, true, false, ◌&&◌, ◌||◌, List, [], ◌∷◌, Option, Some, None, Result, Ok, Err, ap, refl, subst, ◌∙◌}
 use Rattle.std.specs.Prelude.{IfOk, if◌then◌else◌}
 use Rattle.gimli_read.specs.declared.error.Error.{Error}
-use Rattle.gimli_read.specs.Alike.{WasNotRefused}
-use Rattle.gimli_read.specs.Reading.{◌>>=◌, ExactlyUnlessOom}
+use Rattle.gimli_read.specs.Reading.{◌>>=◌, ExactlyUnlessOom, WasNotRefused}
 use Rattle.gimli.specs.Sections.{Sections}
 use Rattle.gimli.specs.Unit.{UnitRecord}
 use Rattle.addr2line_lines.specs.References.{Scope}
@@ -22,12 +21,12 @@ use Rattle.addr2line_units.specs.FramesLookup.{LookupStop, Waits, Finds, FindsNo
 use Rattle.addr2line_units.specs.CachedEntries.{first_answer_of}
 use Rattle.addr2line_units.specs.CachedUnits.{HaveEntriesOf, answers_in, decided_at, has_entries_at}
 use Rattle.addr2line_units.specs.CachedFrames.{IsLendable, IsStopIn, frames_at_place, has_frames_at, seen_stop}
-use Rattle.addr2line_units.specs.CachedViews.{is_decided, waits, was_looked_at}
+use Rattle.addr2line_units.specs.CachedViews.{is_decided, waits, was_checked}
 use Rattle.addr2line_units.specs.UnitFrames.{FramesResult, frames_by, frames_in, function_in}
 use Rattle.addr2line_units.specs.RangedUnits.{IndexedUnit}
 use Rattle.addr2line_units.specs.Views.{FirstAnswers, is_open}
 use Rattle.addr2line_units.proofs.AnswerLemmas.{looked_waits}
-use Rattle.addr2line_units.proofs.WaitLemmas.{and_first, and_second, known_was_looked_at, waits_where_told}
+use Rattle.addr2line_units.proofs.WaitLemmas.{and_first, and_second, known_was_checked, waits_where_told}
 
 number_of : LookupStop → ℕ → ℕ
 number_of (Waits n) d = d
@@ -86,7 +85,7 @@ decided_by_frames scope u answer probe e = of_open (is_open scope.file.sections 
     of_open true r k = absurd cc
     of_open false r k = refl
 
-pub looked_is_decided : {R : Type 0} (s : ViewState R) → was_looked_at s ≡ true → waits s ≡ false → is_decided s ≡ true
+pub looked_is_decided : {R : Type 0} (s : ViewState R) → was_checked s ≡ true → waits s ≡ false → is_decided s ≡ true
 looked_is_decided states.Undecided e w = absurd cc
 looked_is_decided states.Open e w = absurd cc
 looked_is_decided states.Main e w = refl
@@ -102,7 +101,7 @@ module _ {R : Type 0} (scope : Scope) (probe : ℕ) where
   decided_there (u ∷ us) [] n own e h = absurd cc
   decided_there (u ∷ us) (v ∷ vs) zero own e h =
       let decided = decided_by_frames scope (record { unit = u; language = v.lines.lang }) (first_answer_of v.entries) probe e in
-      let looked = known_was_looked_at probe v.entries h in
+      let looked = known_was_checked probe v.entries h in
       looked_is_decided v.entries.view.state looked (looked_waits scope.file.sections u v.entries.view own.0.view looked ∙ decided)
   decided_there (u ∷ us) (v ∷ vs) (suc n) own e h = decided_there us vs n own.1 e h
 

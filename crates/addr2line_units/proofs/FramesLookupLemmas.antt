@@ -4,7 +4,7 @@ use Rattle.std.specs.Prelude.{IfOk}
 use Rattle.gimli_read.specs.declared.constants.DwLang.{DwLang}
 use Rattle.gimli_read.specs.declared.error.Error.{Error}
 use Rattle.gimli_read.specs.declared.error.Error.TheVariants.{OutOfMemory}
-use Rattle.gimli_read.specs.Reading.{◌>>=◌, ExactlyUnlessOom}
+use Rattle.gimli_read.specs.Reading.{◌>>=◌, ExactlyUnlessOom, WasNotRefused}
 use Rattle.gimli_read.specs.Section.{Section}
 use Rattle.addr2line_lines.specs.InlinedEntries.{InlinedEntry}
 use Rattle.addr2line_lines.specs.Location.{Location}
@@ -19,7 +19,6 @@ use Rattle.addr2line_units.specs.declared.entries.UnitFrames.TheVariants as foun
 use Rattle.addr2line_units.specs.Frames.{FrameRecord, frames_from}
 use Rattle.addr2line_units.specs.FramesLookup.{LookupStop, Finds, after_fault, ends_lookup, holds_along, or_stop, stop_along}
 use Rattle.addr2line_units.specs.CachedFrames.{AreFoundAt, IsStopIn, found_after_fault, frames_found_at, seen_stop, stop_of_found}
-use Rattle.gimli_read.specs.Alike.{WasNotRefused}
 use Rattle.addr2line_units.specs.Parsed.{ParsesOnly}
 use Rattle.addr2line_units.specs.UnitFrames.{FramesResult}
 

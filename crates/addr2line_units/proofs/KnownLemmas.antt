@@ -11,7 +11,7 @@ use Rattle.addr2line_units.specs.declared.unit.ViewState.TheVariants as states
 use Rattle.addr2line_units.specs.CachedEntries.{has_answered, has_entries, has_entries_by}
 use Rattle.addr2line_units.specs.CachedFunctions.{cached_has_function, is_cached_fault, no_functions}
 use Rattle.addr2line_units.specs.CachedUnits.{AreFreshOf, has_entries_at}
-use Rattle.addr2line_units.specs.CachedViews.{was_looked_at}
+use Rattle.addr2line_units.specs.CachedViews.{was_checked}
 use Rattle.addr2line_units.proofs.KnownTableLemmas.{table_known}
 use Rattle.addr2line_units.specs.CachedKnown.{known_answer, known_by, known_fault, known_functions, known_in}
 use Rattle.addr2line_units.specs.KnownEntries.{AllKnown, KnownEntries, NothingKnown, is_known_at, knows_at}
@@ -53,7 +53,7 @@ pub known_unchanged : {R : Type 0} (old new : List (UnitCache R)) (n : ℕ) → 
 known_unchanged old new n e = slice_get-map (λ (v : UnitCache _). known_by v.entries.view.state v.entries.functions) new n ∙ ap (λ (o : Option (UnitCache _)). option_map (λ v. known_by v.entries.view.state v.entries.functions) o) e ∙ sym (slice_get-map (λ (v : UnitCache _). known_by v.entries.view.state v.entries.functions) old n)
 
 -- nothing is known of a unit of which nobody has asked for anything
-fresh_unknown : {R : Type 0} (s : ViewState R) (f : LazyFunctions R) → was_looked_at s ≡ false → known_by s f ≡ NothingKnown
+fresh_unknown : {R : Type 0} (s : ViewState R) (f : LazyFunctions R) → was_checked s ≡ false → known_by s f ≡ NothingKnown
 fresh_unknown states.Undecided f e = refl
 fresh_unknown states.Open f e = absurd cc
 fresh_unknown states.Main f e = absurd cc

@@ -26,7 +26,7 @@ use Rattle.addr2line_units.specs.declared.unit.ViewState.TheVariants as states
 use Rattle.addr2line_units.specs.CachedEntries.{AreEntriesOf, StayEntries, first_answer_of}
 use Rattle.addr2line_units.specs.CachedFunctions.{AreFunctionsOf, ReadsNoDetail, ReadsNoOther, StayFunctions, cached_functions, has_detail, is_cached_fault, no_functions, were_read}
 use Rattle.addr2line_units.specs.CachedKnown.{known_answer, known_by, known_fault, known_function, known_functions, known_in, known_table}
-use Rattle.addr2line_units.specs.CachedViews.{is_decided, seen_sections, unboxed, verdict_in, view_by, was_looked_at}
+use Rattle.addr2line_units.specs.CachedViews.{is_decided, seen_sections, unboxed, verdict_in, view_by, was_checked}
 use Rattle.addr2line_units.specs.KnownEntries.{AllKnown, FunctionsKnown, HasNoFunctions, KnownEntries, KnownFunction, LearnsNoDetails, LearnsNoFunctions, NothingKnown, is_detail_known, knows_detail, knows_detail_at}
 use Rattle.addr2line_units.specs.UnitFrames.{function_offset_among, function_offset_by, function_offset_in}
 use Rattle.addr2line_units.specs.Views.{View, verdict, view_scope}
@@ -151,7 +151,7 @@ module _ {R : Type 0} (offset : ℕ) where
   same_known (states.Answered a) f g e = same_answered a.unit f g e
 
 -- a view that was decided was looked at
-looked_if_decided : {R : Type 0} (s : ViewState R) → is_decided s ≡ true → was_looked_at s ≡ true
+looked_if_decided : {R : Type 0} (s : ViewState R) → is_decided s ≡ true → was_checked s ≡ true
 looked_if_decided states.Undecided e = never e
 looked_if_decided states.Open e = refl
 looked_if_decided states.Main e = refl

@@ -15,12 +15,12 @@ use Rattle.addr2line_units.specs.AskMemory.{lines_of_take_memory}
 use Rattle.addr2line_units.specs.CachedLines.{lines_result_at, unit_row}
 use Rattle.addr2line_units.specs.Cover.{holds_until}
 use Rattle.addr2line_units.specs.FramesLookup.{FindsNothing}
-use Rattle.addr2line_units.specs.Located.{all_lines, along, location_in, looks_along, looks_in}
+use Rattle.addr2line_units.specs.Located.{all_lines, first_location, location_in, looks_along, looks_in}
 use Rattle.addr2line_units.specs.Parsed.{AllAskFor, AreAllParsed, AreParsed, AsksFor, LeadTo, StaysParsed, decides, has_parsed, parses_no_memory, ready_along, takes_none_along, unit_decides}
 use Rattle.addr2line_units.specs.RangedUnits.{IndexedUnit}
 use Rattle.addr2line_units.specs.UnitsState.{UnitsState, row_location}
 use Rattle.addr2line_units.proofs.AskMemoryLemmas.{alone_if_none}
-use Rattle.addr2line_units.proofs.UnitsLemmas.{all_parsed, along_fault, along_none, along_some, asks_more, lines_end, lines_more, lines_stop, looks_counted, looks_first, looks_of_step, looks_raised, looks_within, only_more, parsed_below, readable, ready_at_fault, ready_both, ready_decided, ready_first, such_first, such_rest}
+use Rattle.addr2line_units.proofs.UnitsLemmas.{all_parsed, first_location_fault, first_location_none, first_location_some, asks_more, lines_end, lines_more, lines_stop, looks_counted, looks_first, looks_of_step, looks_raised, looks_within, only_more, parsed_below, readable, ready_at_fault, ready_both, ready_decided, ready_first, such_first, such_rest}
 
 -- no lines were parsed yet
 pub lines_first : (asks : ℕ → Type 0) (old : UnitsState) → AfterLines asks old (record old { stop = FindsNothing })
@@ -38,7 +38,7 @@ lines_over asks k old mid now a b asked = record {
 -- a lookup of a row that has gone on so far
 pub record RowsSoFar (probe : ℕ) (all rest : List UnitRange) (old now : UnitsState) : Type 0 where
   pub lines : AfterLines (AsksFor old.scope.file.sections old.units probe all) old now
-  pub rest_is : along old.scope.file.sections old.units probe rest ≡ along old.scope.file.sections old.units probe all
+  pub rest_is : first_location old.scope.file.sections old.units probe rest ≡ first_location old.scope.file.sections old.units probe all
   pub less : (such : ℕ → Bool) → holds_until (unit_decides old.scope.file.sections old.units probe) such all ≡ true → holds_until (unit_decides old.scope.file.sections old.units probe) such rest ≡ true
   pub more : (p : List Bool) → StaysParsed now.parsed p → ready_along old.scope.file.sections old.units p probe rest ≡ true → ready_along old.scope.file.sections old.units p probe all ≡ true
   pub asks : (n : ℕ) → AsksFor old.scope.file.sections old.units probe rest n → AsksFor old.scope.file.sections old.units probe all n
@@ -83,10 +83,10 @@ module _ (probe : ℕ) (all : List UnitRange) (r : UnitRange) (rest ranges : Lis
     fault : e ≢ OutOfMemory → location_in d probe (slice_get us r.unit) ≡ Err e
     fault ne = subst (λ (s : UnitsState). location_in s.scope.file.sections probe (slice_get s.units r.unit) ≡ Err e) w.lines.same (gives ne)
 
-    there : location_in d probe (slice_get us r.unit) ≡ Err e → along d us probe all ≡ Err e
-    there f = sym w.rest_is ∙ ap (along d us probe) is ∙ along_fault d us probe r rest e f
+    there : location_in d probe (slice_get us r.unit) ≡ Err e → first_location d us probe all ≡ Err e
+    there f = sym w.rest_is ∙ ap (first_location d us probe) is ∙ first_location_fault d us probe r rest e f
 
-    pub row_fault : e ≢ OutOfMemory → along d us probe all ≡ Err e
+    pub row_fault : e ≢ OutOfMemory → first_location d us probe all ≡ Err e
     row_fault ne = there (fault ne)
 
     pub row_fault_after : {X : Type 0} → AfterRow {X = X} probe all (Err e) old now
@@ -100,7 +100,7 @@ module _ (probe : ℕ) (all : List UnitRange) (r : UnitRange) (rest ranges : Lis
     }
 
     pub row_fault_alone : (shares : Bool) → (lines_of_take_memory shares mid.units r.unit ≡ false → location_in mid.scope.file.sections probe (slice_get mid.units r.unit) ≡ Err e)
-        → takes_none_along shares d us now.parsed probe all ≡ true → along d us probe all ≡ Err e
+        → takes_none_along shares d us now.parsed probe all ≡ true → first_location d us probe all ≡ Err e
     row_fault_alone shares alone none =
         let such = parses_no_memory shares us now.parsed in
         let here = such_first d us probe r rest such (subst (λ xs. holds_until (unit_decides d us probe) such xs ≡ true) is (w.less such none)) in
@@ -112,8 +112,8 @@ module _ (probe : ℕ) (all : List UnitRange) (r : UnitRange) (rest ranges : Lis
     found : location_in d probe (slice_get us r.unit) ≡ Ok (Some (row_location old (unit_row r.unit row)))
     found = subst (λ (s : UnitsState). location_in s.scope.file.sections probe (slice_get s.units r.unit) ≡ Ok (Some (row_location s (unit_row r.unit row)))) w.lines.same gives
 
-    pub row_gives : along d us probe all ≡ Ok (Some (row_location old (unit_row r.unit row)))
-    row_gives = sym w.rest_is ∙ ap (along d us probe) is ∙ along_some d us probe r rest _ found
+    pub row_gives : first_location d us probe all ≡ Ok (Some (row_location old (unit_row r.unit row)))
+    row_gives = sym w.rest_is ∙ ap (first_location d us probe) is ∙ first_location_some d us probe r rest _ found
 
     pub row_after : AfterRow probe all (Ok (Some (unit_row r.unit row))) old now
     row_after = record {
@@ -133,7 +133,7 @@ module _ (probe : ℕ) (all : List UnitRange) (r : UnitRange) (rest ranges : Lis
     pub rows_on : RowsSoFar probe all rest old now
     rows_on = record {
       lines = both_lines (Ok None) a;
-      rest_is = sym (along_none d us probe r rest nothing) ∙ sym (ap (along d us probe) is) ∙ w.rest_is;
+      rest_is = sym (first_location_none d us probe r rest nothing) ∙ sym (ap (first_location d us probe) is) ∙ w.rest_is;
       less = λ such e. such_rest d us probe r rest such nothing (subst (λ xs. holds_until (unit_decides d us probe) such xs ≡ true) is (w.less such e));
       more = λ p stays e. w.more p (λ n parsed. stays n (a.lines.parsed n parsed)) (subst (λ xs. ready_along d us p probe xs ≡ true) (sym is) (ready_both d us probe r rest p (stays r.unit (a.ready tt)) e));
       asks = λ n e. w.asks n (subst (λ xs. AsksFor d us probe xs n) (sym is) (inr (ap decides nothing, e)));
@@ -143,8 +143,8 @@ module _ (probe : ℕ) (all : List UnitRange) (r : UnitRange) (rest ranges : Lis
 
 -- no range is left
 module _ (probe : ℕ) (all ranges : List UnitRange) (is : ranges ≡ []) (old now : UnitsState) (w : RowsSoFar probe all ranges old now) where
-  pub rows_end : along old.scope.file.sections old.units probe all ≡ Ok None
-  rows_end = sym w.rest_is ∙ ap (along old.scope.file.sections old.units probe) is
+  pub rows_end : first_location old.scope.file.sections old.units probe all ≡ Ok None
+  rows_end = sym w.rest_is ∙ ap (first_location old.scope.file.sections old.units probe) is
 
   pub rows_end_after : {X : Type 0} → AfterRow {X = X} probe all (Ok None) old now
   rows_end_after = record {

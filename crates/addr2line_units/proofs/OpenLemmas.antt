@@ -8,7 +8,7 @@ use Rattle.addr2line_units.specs.declared.unit.UnitView.{UnitView}
 use Rattle.addr2line_units.specs.FramesLookup.{answer_of}
 use Rattle.addr2line_units.specs.CachedEntries.{first_answer_of}
 use Rattle.addr2line_units.specs.CachedUnits.{answers_in}
-use Rattle.addr2line_units.specs.CachedViews.{IsViewOf, seen_first_answer, waits, was_looked_at}
+use Rattle.addr2line_units.specs.CachedViews.{IsViewOf, seen_first_answer, waits, was_checked}
 use Rattle.addr2line_units.specs.Loads.{is_open_at}
 use Rattle.addr2line_units.specs.Views.{is_open}
 use Rattle.addr2line_units.proofs.AnswerLemmas.{open_by_look}
@@ -23,7 +23,7 @@ not_open_there d us vs n u v there within e not_open =
     at o = elim o [ None ↦ false | Some x ↦ is_open d x (answer_of (answers_in vs) n) ]
 
 -- one that waits after a look is open
-pub waits_only_open : {R : Type 0} (d : Sections) (u : UnitRecord) (v w : UnitView R) → IsViewOf d u w → was_looked_at w.state ≡ true → seen_first_answer w ≡ seen_first_answer v → true ≡ waits w.state → is_open d u (seen_first_answer v) ≡ false → ⊥
+pub waits_only_open : {R : Type 0} (d : Sections) (u : UnitRecord) (v w : UnitView R) → IsViewOf d u w → was_checked w.state ≡ true → seen_first_answer w ≡ seen_first_answer v → true ≡ waits w.state → is_open d u (seen_first_answer v) ≡ false → ⊥
 waits_only_open d u v w own looked same waiting not_open =
     let f : ◌≡◌ {A = Bool} true false = sym (open_by_look d u v w true own looked same waiting) ∙ not_open in
     cc

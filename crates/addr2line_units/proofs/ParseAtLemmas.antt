@@ -16,7 +16,7 @@ use Rattle.addr2line_units.specs.AfterParses.{AfterReadingAt, AfterReadingUnit}
 use Rattle.addr2line_units.specs.CachedEntries.{first_answer_of, has_entries}
 use Rattle.addr2line_units.specs.CachedKnown.{known_by, known_in}
 use Rattle.addr2line_units.specs.CachedUnits.{HaveSameLines, answers_in}
-use Rattle.addr2line_units.specs.CachedViews.{is_decided, was_looked_at}
+use Rattle.addr2line_units.specs.CachedViews.{is_decided, was_checked}
 use Rattle.addr2line_units.specs.FramesLookup.{FindsNothing, LookupStop, answer_of}
 use Rattle.addr2line_units.specs.FunctionParses.{IsReadyFor, parse_of_takes_memory, parse_takes_memory, read_of_number, read_of_unit}
 use Rattle.addr2line_units.specs.Loads.{is_open_at}
@@ -32,9 +32,9 @@ use Rattle.addr2line_units.proofs.KnownLemmas.{known_is, known_unchanged}
 use Rattle.addr2line_units.proofs.LearnedLemmas.{set_details}
 use Rattle.addr2line_units.proofs.LoadLemmas.{slice_get_none, unknown_answer}
 use Rattle.addr2line_units.proofs.StateLemmas.{only_entries}
-use Rattle.addr2line_units.proofs.StayLemmas.{entries_whole, whole_was_looked_at}
+use Rattle.addr2line_units.proofs.StayLemmas.{entries_whole, whole_was_checked}
 use Rattle.addr2line_units.proofs.UnitAtLemmas.{all_entries, as_many, cache_within, its_entries, unit_is, unit_within}
-use Rattle.addr2line_units.proofs.WaitLemmas.{known_was_looked_at}
+use Rattle.addr2line_units.proofs.WaitLemmas.{known_was_checked}
 
 -- what is read of the unit of a number, whether it is open, and whether memory is taken, by its
 -- record and its first answer
@@ -165,7 +165,7 @@ module _ {R : Type 0} {scope : Scope} {held : List (UnitCache R)} {last : Frames
     reading_was = reading_is us (answers_in held) n u there (first_answer_of v) answer_was depth scope
 
     -- a unit that isn't open is decided where something is known of it, and what was known stays
-    decided : was_looked_at v.view.state ≡ true → is_open_at d us (answers_in held) n ≡ false → is_decided v.view.state ≡ true
+    decided : was_checked v.view.state ≡ true → is_open_at d us (answers_in held) n ≡ false → is_decided v.view.state ≡ true
     decided looked shut = looked_is_decided v.view.state looked (looked_waits d u v.view (its_entries i n there at).view looked ∙ sym open_was ∙ shut)
 
     stays_known : is_open_at d us (answers_in held) n ≡ false → StaysKnownOf n (known_in held) (known_in now)
@@ -173,10 +173,10 @@ module _ {R : Type 0} {scope : Scope} {held : List (UnitCache R)} {last : Frames
       at = λ probe q.
           let has = sym (ap (λ o. unwrap_or (option_map (λ (x : UnitCache R). has_entries probe x.entries) o) true) held_there) ∙ sym (known_is probe held n) ∙ q in
           known_is probe now n ∙ ap (λ o. unwrap_or (option_map (λ (x : UnitCache R). has_entries probe x.entries) o) true) now_there
-          ∙ entries_more probe v w (a.stay (decided (known_was_looked_at probe v has) shut)) has;
+          ∙ entries_more probe v w (a.stay (decided (known_was_checked probe v has) shut)) has;
       whole = λ kind q.
           let ready = subst (λ o. IfSome o (IsReadyFor kind)) known_was q in
-          subst (λ o. IfSome o (IsReadyFor kind)) (sym known_now) (entries_whole kind v w (a.stay (decided (whole_was_looked_at kind v.view.state v.functions ready) shut)) ready);
+          subst (λ o. IfSome o (IsReadyFor kind)) (sym known_now) (entries_whole kind v w (a.stay (decided (whole_was_checked kind v.view.state v.functions ready) shut)) ready);
     }
 
     -- where all was known nothing is changed

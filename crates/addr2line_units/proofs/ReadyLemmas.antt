@@ -5,7 +5,7 @@ use Rattle.std.specs.Prelude.{IfSome, if◌then◌else◌, Box}
 use Rattle.std.specs.declared.alloc.Global.{Global}
 use Rattle.gimli_read.specs.declared.error.Error.{Error}
 use Rattle.gimli_read.specs.declared.error.Error.TheVariants.{OutOfMemory}
-use Rattle.gimli_read.specs.Reading.{◌>>=◌}
+use Rattle.gimli_read.specs.Reading.{◌>>=◌, WasNotRefused}
 use Rattle.gimli.specs.Sections.{Sections}
 use Rattle.gimli.specs.Unit.{UnitRecord}
 use Rattle.addr2line_lines.specs.Functions.{FunctionRange, entries_of, functions_of}
@@ -20,7 +20,6 @@ use Rattle.addr2line_units.specs.CachedFunctions.{details_at, functions_fault, w
 use Rattle.addr2line_units.specs.CachedViews.{is_decided, seen_sections, unboxed, verdict_in, view_by}
 use Rattle.addr2line_units.specs.CachedKnown.{known_answer, known_by, known_fault, known_functions}
 use Rattle.addr2line_units.specs.KnownEntries.{AllKnown, NothingKnown}
-use Rattle.gimli_read.specs.Alike.{WasNotRefused}
 use Rattle.addr2line_units.specs.Views.{FirstAnswers, View}
 use Rattle.addr2line_units.proofs.CachedPlaceLemmas.{cached_unless_oom}
 use Rattle.addr2line_units.proofs.ParseLemmas.{unit_again}

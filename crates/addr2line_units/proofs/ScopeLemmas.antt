@@ -25,24 +25,24 @@ use Rattle.addr2line_units.specs.FramesLookup.{main_scope}
 use Rattle.addr2line_units.specs.CachedEntries.{AreEntriesOf, AreFresh, first_answer_of}
 use Rattle.addr2line_units.specs.CachedFunctions.{AreFunctionsOf, were_read}
 use Rattle.addr2line_units.specs.CachedUnits.{AreFreshOf, HaveEntriesOf, answers_in}
-use Rattle.addr2line_units.specs.CachedViews.{answer_in, verdict_in, was_looked_at}
+use Rattle.addr2line_units.specs.CachedViews.{answer_in, verdict_in, was_checked}
 use Rattle.addr2line_units.specs.UnitAranges.{aranges_in}
-use Rattle.addr2line_units.specs.RangedUnits.{indexed_of, unit_records, RangedUnit, given_in_unit, is_type_unit, ranged_units, unit_ranges_from, unit_of_header, unless_faulty, units_of}
+use Rattle.addr2line_units.specs.RangedUnits.{indexed_of, unit_records, RangedUnit, listed_in_unit, is_type_unit, ranged_units, unit_ranges_from, unit_of_header, unless_faulty, units_of}
 use Rattle.addr2line_units.specs.UnitIndex.{UnitIndex, index_units, sup_sections, sup_unit_of_header, sup_units}
 use Rattle.addr2line_units.specs.Views.{FirstAnswers, View, verdict, view_scope}
 
 -- the unit of a header has it
 module _ (d : Sections) (aranges : List UnitArange) (h : UnitHeaderFields) (x : RangedUnit) where
   of_given : (u : UnitRecord) → u.header ≡ h → (r : Result (Option DwLang × List Range) Error)
-      → ((r >>= λ y. Ok (record { indexed = record { unit = u; language = y.0 }; given = y.1 })) >>= λ z. Ok (Some z)) ≡ Ok (Some x) → x.indexed.unit.header ≡ h
+      → ((r >>= λ y. Ok (record { indexed = record { unit = u; language = y.0 }; listed = y.1 })) >>= λ z. Ok (Some z)) ≡ Ok (Some x) → x.indexed.unit.header ≡ h
   of_given u e (Err f) k = absurd cc
   of_given u e (Ok y) k =
-      let same : ◌≡◌ {A = RangedUnit} (record { indexed = record { unit = u; language = y.0 }; given = y.1 }) x = cc in
+      let same : ◌≡◌ {A = RangedUnit} (record { indexed = record { unit = u; language = y.0 }; listed = y.1 }) x = cc in
       ap (λ (z : RangedUnit). z.indexed.unit.header) (sym same) ∙ e
 
   of_record : (r : Result UnitRecord Error) → unit_record_of d h ≡ r → unless_faulty d aranges r ≡ Ok (Some x) → x.indexed.unit.header ≡ h
   of_record (Err f) e k = absurd cc
-  of_record (Ok u) e k = of_given u (record_header d h u e) (given_in_unit d aranges u) k
+  of_record (Ok u) e k = of_given u (record_header d h u e) (listed_in_unit d aranges u) k
 
   of_kind : (b : Bool) → (if b then Ok None else unless_faulty d aranges (unit_record_of d h)) ≡ Ok (Some x) → x.indexed.unit.header ≡ h
   of_kind true k = absurd cc
@@ -136,14 +136,14 @@ records_beside d (u ∷ us) [] own = absurd own
 records_beside d (u ∷ us) (r ∷ rs) own = ap (λ (vs : List UnitRecord). u ∷ vs) (records_beside d us rs own.1)
 
 -- before a unit is looked at nothing is cached of its view
-no_answer : {R : Type 0} (s : ViewState R) → was_looked_at s ≡ false → answer_in s ≡ None
+no_answer : {R : Type 0} (s : ViewState R) → was_checked s ≡ false → answer_in s ≡ None
 no_answer states.Undecided e = refl
 no_answer states.Open e = absurd cc
 no_answer states.Main e = absurd cc
 no_answer (states.Unnamed f) e = absurd cc
 no_answer (states.Answered a) e = absurd cc
 
-no_verdict : {R : Type 0} (d : Sections) (u : UnitRecord) (s : ViewState R) → was_looked_at s ≡ false → verdict_in d u s ≡ None
+no_verdict : {R : Type 0} (d : Sections) (u : UnitRecord) (s : ViewState R) → was_checked s ≡ false → verdict_in d u s ≡ None
 no_verdict d u states.Undecided e = refl
 no_verdict d u states.Open e = absurd cc
 no_verdict d u states.Main e = absurd cc

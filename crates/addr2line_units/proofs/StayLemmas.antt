@@ -20,7 +20,7 @@ use Rattle.addr2line_units.specs.FunctionParses.{IsReadyFor}
 use Rattle.addr2line_units.specs.CachedEntries.{StayEntries}
 use Rattle.addr2line_units.specs.CachedFunctions.{StayFunctions}
 use Rattle.addr2line_units.specs.CachedUnits.{HaveEntriesOf, StayAllEntries, answers_in, decided_at}
-use Rattle.addr2line_units.specs.CachedViews.{was_looked_at}
+use Rattle.addr2line_units.specs.CachedViews.{was_checked}
 use Rattle.addr2line_units.specs.CachedKnown.{known_answer, known_by, known_functions, known_in, known_table}
 use Rattle.addr2line_units.specs.KnownEntries.{KnownEntries, is_known_at}
 use Rattle.addr2line_units.specs.Loads.{is_open_at}
@@ -84,16 +84,16 @@ module _ {R : Type 0} where
   view_whole r (states.Unnamed x) f g a h = h
   view_whole r (states.Answered x) f g a h = answer_whole r x.unit f g a h
 
-  pub whole_was_looked_at : (r : ReadingDepth) (s : ViewState R) (f : LazyFunctions R) → IsReadyFor r (known_by s f) → was_looked_at s ≡ true
-  whole_was_looked_at r states.Undecided f h = absurd h
-  whole_was_looked_at r states.Open f h = refl
-  whole_was_looked_at r states.Main f h = refl
-  whole_was_looked_at r (states.Unnamed x) f h = refl
-  whole_was_looked_at r (states.Answered x) f h = refl
+  pub whole_was_checked : (r : ReadingDepth) (s : ViewState R) (f : LazyFunctions R) → IsReadyFor r (known_by s f) → was_checked s ≡ true
+  whole_was_checked r states.Undecided f h = absurd h
+  whole_was_checked r states.Open f h = refl
+  whole_was_checked r states.Main f h = refl
+  whole_was_checked r (states.Unnamed x) f h = refl
+  whole_was_checked r (states.Answered x) f h = refl
 
   pub entries_whole : (r : ReadingDepth) (v w : UnitEntries R) → StayEntries v w → IsReadyFor r (known_by v.view.state v.functions) → IsReadyFor r (known_by w.view.state w.functions)
   entries_whole r v w a h =
-      subst (λ y. IsReadyFor r (known_by y.state w.functions)) (sym (a.view (whole_was_looked_at r v.view.state v.functions h)))
+      subst (λ y. IsReadyFor r (known_by y.state w.functions)) (sym (a.view (whole_was_checked r v.view.state v.functions h)))
       (view_whole r v.view.state v.functions w.functions a.functions h)
 
   all_whole : (r : ReadingDepth) (vs ws : List (UnitCache R)) → StayAllEntries vs ws → (n : ℕ) → IsReadyAt r (known_in vs) n → IsReadyAt r (known_in ws) n
@@ -117,7 +117,7 @@ module _ {R : Type 0} where
   whole_is_decided r scope [] (v ∷ vs) n own shut h = absurd own
   whole_is_decided r scope (u ∷ us) [] n own shut h = absurd own
   whole_is_decided r scope (u ∷ us) (v ∷ vs) zero own shut h =
-      let looked = whole_was_looked_at r v.entries.view.state v.entries.functions h in
+      let looked = whole_was_checked r v.entries.view.state v.entries.functions h in
       inl (looked_is_decided v.entries.view.state looked (looked_waits scope.file.sections u v.entries.view own.0.view looked ∙ shut))
   whole_is_decided r scope (u ∷ us) (v ∷ vs) (suc n) own shut h = elim (whole_is_decided r scope us vs n own.1 shut h) [ inl d ↦ inl d | inr m ↦ inr (omega (arith, m)) ]
 

@@ -24,7 +24,7 @@ use Rattle.addr2line_units.specs.CachedLines.{AreLinesOf, cached_files, is_uncac
 use Rattle.addr2line_units.specs.Frames.{FoundFunction, found_frames}
 use Rattle.addr2line_units.specs.CachedEntries.{AreRead, AsksNoMemoryIn, ReadsEntriesOf, StayEntries, has_entries, has_entries_by}
 use Rattle.addr2line_units.specs.CachedFunctions.{StayFunctions, cached_functions}
-use Rattle.addr2line_units.specs.CachedViews.{IsViewOf, answer_in, seen_first_answer, waits, was_looked_at}
+use Rattle.addr2line_units.specs.CachedViews.{IsViewOf, answer_in, seen_first_answer, waits, was_checked}
 use Rattle.addr2line_units.specs.Located.{LocationResult, location_in}
 use Rattle.addr2line_units.specs.UnitFrames.{asks_lines_in, frames_by, frames_in, function_in, inlined_of_unit}
 use Rattle.addr2line_units.specs.RangedUnits.{IndexedUnit}
@@ -50,14 +50,14 @@ waiting_entries probe states.Main fs e = absurd cc
 waiting_entries probe (states.Unnamed x) fs e = absurd cc
 waiting_entries probe (states.Answered a) fs e = absurd cc
 
-known_looks : {R : Type 0} (probe : ℕ) (s : ViewState R) (fs : LazyFunctions R) → has_entries_by probe s fs ≡ true → was_looked_at s ≡ true
+known_looks : {R : Type 0} (probe : ℕ) (s : ViewState R) (fs : LazyFunctions R) → has_entries_by probe s fs ≡ true → was_checked s ≡ true
 known_looks probe states.Undecided fs h = cc
 known_looks probe states.Open fs h = refl
 known_looks probe states.Main fs h = refl
 known_looks probe (states.Unnamed e) fs h = refl
 known_looks probe (states.Answered a) fs h = refl
 
-module _ {R : Type 0} (probe : ℕ) (old mid : UnitEntries R) (functions : mid.functions ≡ old.functions) (same : was_looked_at old.view.state ≡ true → mid ≡ old) where
+module _ {R : Type 0} (probe : ℕ) (old mid : UnitEntries R) (functions : mid.functions ≡ old.functions) (same : was_checked old.view.state ≡ true → mid ≡ old) where
   -- a look reads no functions
   pub look_only : ReadsEntriesOf probe old mid
   look_only = record {
@@ -75,7 +75,7 @@ module _ {R : Type 0} (probe : ℕ) (old mid : UnitEntries R) (functions : mid.f
   pub stay_after : (new : UnitEntries R) → StayEntries old mid → StayEntries mid new → StayEntries old new
   stay_after new a b = record {
     answer = b.answer ∙ a.answer;
-    view = λ looked. b.view (ap (λ (v : UnitView R). was_looked_at v.state) (a.view looked) ∙ looked) ∙ a.view looked;
+    view = λ looked. b.view (ap (λ (v : UnitView R). was_checked v.state) (a.view looked) ∙ looked) ∙ a.view looked;
     functions = subst (λ (fs : LazyFunctions R). StayFunctions fs new.functions) functions b.functions;
   }
 

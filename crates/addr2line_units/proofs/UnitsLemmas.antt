@@ -5,7 +5,7 @@ use Rattle.std.proofs.Math.ListN.{drop_of_length-le, set}
 use Rattle.std.proofs.lemmas.List.Sums.{sum_by-cons}
 use Rattle.gimli_read.specs.declared.error.Error.{Error}
 use Rattle.gimli_read.specs.declared.range.Range.{Range}
-use Rattle.gimli_read.specs.Reading.{◌>>=◌, ExactlyUnlessOom, fault_of, result_map}
+use Rattle.gimli_read.specs.Reading.{◌>>=◌, ExactlyUnlessOom, fault_of, result_map, WasNotRefused}
 use Rattle.gimli.specs.Sections.{Sections}
 use Rattle.gimli.specs.Unit.{UnitRecord}
 use Rattle.addr2line_lines.specs.Location.{LineTable, Location}
@@ -17,8 +17,7 @@ use Rattle.addr2line_units.specs.declared.entries.UnitCache.{UnitCache}
 use Rattle.addr2line_units.specs.declared.index.UnitRange.{UnitRange}
 use Rattle.addr2line_units.specs.Indexed.{IndexState, ranged_seen, with_ranged}
 use Rattle.addr2line_units.specs.RangedUnits.{IndexedUnit, has_lines, range_of_unit, unit_ranges}
-use Rattle.addr2line_units.specs.Located.{all_lines, along, lines_of_unit, location_in, looks_along, looks_in, or_along}
-use Rattle.gimli_read.specs.Alike.{WasNotRefused}
+use Rattle.addr2line_units.specs.Located.{all_lines, first_location, lines_of_unit, location_in, looks_along, looks_in, or_first_location}
 use Rattle.addr2line_units.specs.Cover.{holds_until}
 use Rattle.addr2line_units.specs.AskMemory.{lines_of_take_memory}
 use Rattle.addr2line_units.specs.Parsed.{AllAskFor, AreParsed, AreReadyForAll, ParsesOnly, StaysParsed, TakeNone, TakeNoneForAll, can_be_read, decides, has_parsed, parses_no_memory, ready_along, unit_decides}
@@ -171,14 +170,14 @@ answer_cached old (Err e) new h n = h.0 n
 
 -- along ranges
 module _ (d : Sections) (units : List IndexedUnit) (probe : ℕ) (r : UnitRange) (rest : List UnitRange) where
-  pub along_none : location_in d probe (slice_get units r.unit) ≡ Ok None → along d units probe (r ∷ rest) ≡ along d units probe rest
-  along_none e = ap (λ x. x >>= λ location. or_along (along d units probe rest) location) e
+  pub first_location_none : location_in d probe (slice_get units r.unit) ≡ Ok None → first_location d units probe (r ∷ rest) ≡ first_location d units probe rest
+  first_location_none e = ap (λ x. x >>= λ location. or_first_location (first_location d units probe rest) location) e
 
-  pub along_some : (l : Location) → location_in d probe (slice_get units r.unit) ≡ Ok (Some l) → along d units probe (r ∷ rest) ≡ Ok (Some l)
-  along_some l e = ap (λ x. x >>= λ location. or_along (along d units probe rest) location) e
+  pub first_location_some : (l : Location) → location_in d probe (slice_get units r.unit) ≡ Ok (Some l) → first_location d units probe (r ∷ rest) ≡ Ok (Some l)
+  first_location_some l e = ap (λ x. x >>= λ location. or_first_location (first_location d units probe rest) location) e
 
-  pub along_fault : (f : Error) → location_in d probe (slice_get units r.unit) ≡ Err f → along d units probe (r ∷ rest) ≡ Err f
-  along_fault f e = ap (λ x. x >>= λ location. or_along (along d units probe rest) location) e
+  pub first_location_fault : (f : Error) → location_in d probe (slice_get units r.unit) ≡ Err f → first_location d units probe (r ∷ rest) ≡ Err f
+  first_location_fault f e = ap (λ x. x >>= λ location. or_first_location (first_location d units probe rest) location) e
 
   -- what is so of the units that a lookup asks is so of the first, and of the others unless it decides
   pub such_first : (such : ℕ → Bool) → holds_until (unit_decides d units probe) such (r ∷ rest) ≡ true → such r.unit ≡ true

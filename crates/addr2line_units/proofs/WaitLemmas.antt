@@ -20,7 +20,7 @@ use Rattle.addr2line_units.specs.FramesLookup.{LookupStop, Waits, Finds, FindsNo
 use Rattle.addr2line_units.specs.CachedEntries.{has_entries, first_answer_of}
 use Rattle.addr2line_units.specs.CachedUnits.{HaveEntriesOf, HaveViewsOf, answers_in, has_entries_at, waits_at}
 use Rattle.addr2line_units.specs.CachedFrames.{has_frames_at}
-use Rattle.addr2line_units.specs.CachedViews.{IsViewOf, was_looked_at, waits}
+use Rattle.addr2line_units.specs.CachedViews.{IsViewOf, was_checked, waits}
 use Rattle.addr2line_units.specs.UnitFrames.{FramesResult, frames_by, frames_in, function_in}
 use Rattle.addr2line_units.specs.RangedUnits.{IndexedUnit}
 use Rattle.addr2line_units.specs.Views.{is_open}
@@ -74,10 +74,10 @@ open_of_none scope u answer probe e = of_open (is_open scope.file.sections u.uni
     of_open false (Ok x) k = absurd cc
     of_open false (Err x) k = absurd cc
 
-pub known_was_looked_at : {R : Type 0} (probe : ℕ) (v : UnitEntries R) → has_entries probe v ≡ true → was_looked_at v.view.state ≡ true
-known_was_looked_at probe v e = by v.view.state e
+pub known_was_checked : {R : Type 0} (probe : ℕ) (v : UnitEntries R) → has_entries probe v ≡ true → was_checked v.view.state ≡ true
+known_was_checked probe v e = by v.view.state e
   where
-    by : (s : ViewState _) → has_entries probe (record { view = record { state = s }; functions = v.functions }) ≡ true → was_looked_at s ≡ true
+    by : (s : ViewState _) → has_entries probe (record { view = record { state = s }; functions = v.functions }) ≡ true → was_checked s ≡ true
     by states.Undecided k = absurd cc
     by states.Open k = refl
     by states.Main k = refl
@@ -92,7 +92,7 @@ module _ {R : Type 0} (scope : Scope) (probe : ℕ) where
   waits_there (u ∷ us) [] n own e h = absurd cc
   waits_there (u ∷ us) (v ∷ vs) zero own e h =
       let open_is = open_of_none scope (record { unit = u; language = v.lines.lang }) (first_answer_of v.entries) probe e in
-      looked_waits scope.file.sections u v.entries.view own.0.view (known_was_looked_at probe v.entries h) ∙ open_is
+      looked_waits scope.file.sections u v.entries.view own.0.view (known_was_checked probe v.entries h) ∙ open_is
   waits_there (u ∷ us) (v ∷ vs) (suc n) own e h = waits_there us vs n own.1 e h
 
   -- so it is where a lookup waits

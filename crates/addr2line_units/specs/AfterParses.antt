@@ -2,7 +2,7 @@
 -- private functions see it (DWARF 5, section 3.3: entries of subprograms and of inlined functions).
 use Rattle.std.specs.Prelude.{◌≡◌, ◌≢◌, ◌⊎◌, ℕ, Bool, true, false, IfErr, IfSome, OnOk, slice_get, None, Result, Ok, Err}
 use Rattle.gimli_read.specs.declared.error.Error.{Error}
-use Rattle.gimli_read.specs.Alike.{WasNotRefused}
+use Rattle.gimli_read.specs.Reading.{WasNotRefused}
 use Rattle.gimli.specs.Unit.{UnitRecord}
 use Rattle.addr2line_lines.specs.Functions.{functions_take_memory}
 use Rattle.addr2line_lines.specs.References.{Scope}

@@ -23,7 +23,7 @@ use Rattle.addr2line_units.specs.AskMemory.{functions_in_take_memory, lines_take
 use Rattle.addr2line_units.specs.CachedLines.{cached_files, is_uncached}
 use Rattle.addr2line_units.specs.Frames.{FrameRecord, found_frames}
 use Rattle.addr2line_units.specs.CachedFunctions.{AreFunctionsOf, ArePlacesIn, ReadsNoOther, StayFunctions, function_of_place, cached_has_function, is_cached_fault, cached_functions, were_read}
-use Rattle.addr2line_units.specs.CachedViews.{IsViewOf, is_decided, seen_first_answer, was_looked_at}
+use Rattle.addr2line_units.specs.CachedViews.{IsViewOf, is_decided, seen_first_answer, was_checked}
 use Rattle.addr2line_units.specs.UnitFrames.{asks_lines_in, inlined_of_unit}
 use Rattle.addr2line_units.specs.Views.{verdict, view_scope}
 
@@ -42,13 +42,13 @@ pub record AreEntriesOf {R : Type 0} (scope : Scope) (u : UnitRecord) (v : UnitE
 
 -- nobody has asked for anything yet
 pub record AreFresh {R : Type 0} (v : UnitEntries R) : Type 0 where
-  pub view : was_looked_at v.view.state ≡ false
+  pub view : was_checked v.view.state ≡ false
   pub functions : were_read v.functions ≡ false
 
 -- the answer stays, and so does what is cached; more may be
 pub record StayEntries {R : Type 0} (old new : UnitEntries R) : Type 0 where
   pub answer : first_answer_of new ≡ first_answer_of old
-  pub view : was_looked_at old.view.state ≡ true → new.view ≡ old.view
+  pub view : was_checked old.view.state ≡ true → new.view ≡ old.view
   pub functions : StayFunctions old.functions new.functions
 
 -- whether the split unit of an answer has a fault that is cached, or else the function at the probe

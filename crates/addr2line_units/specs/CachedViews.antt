@@ -63,9 +63,9 @@ abbrev pub cached_verdict : {R : Type 0} → Sections → UnitRecord → UnitVie
 cached_verdict d u v = verdict_in d u v.state
 
 -- whether the unit was looked at
-abbrev pub was_looked_at : {R : Type 0} → ViewState R → Bool
-was_looked_at states.Undecided = false
-was_looked_at _ = true
+abbrev pub was_checked : {R : Type 0} → ViewState R → Bool
+was_checked states.Undecided = false
+was_checked _ = true
 
 -- whether it was looked at, and waits for an answer
 abbrev pub waits : {R : Type 0} → ViewState R → Bool

@@ -3,7 +3,7 @@
 -- Own: a refused growth alone answers OutOfMemory, so only where a contract allows it beside what
 -- is given.
 use Rattle.std.specs.Prelude.{ℕ, List, Option, IfOk, IfSome}
-use Rattle.gimli_read.specs.Alike.{WasNotRefused}
+use Rattle.gimli_read.specs.Reading.{WasNotRefused}
 use Rattle.gimli_read.specs.FaultLaws.{NoneWasRefused}
 use Rattle.gimli_read.specs.Section.{Section}
 use Rattle.gimli.specs.Header.{UnitHeaderFields}
@@ -20,7 +20,7 @@ use Rattle.addr2line_units.specs.Frames.{function_at}
 use Rattle.addr2line_units.specs.FramesLookup.{asked_frames, frames_of_number}
 use Rattle.addr2line_units.specs.FunctionParses.{read_of_unit, read_of_units}
 use Rattle.addr2line_units.specs.Loads.{forget_result, load_result, unit_of_token}
-use Rattle.addr2line_units.specs.Located.{all_lines, along, lines_of_unit, location_in, location_of, spans_along, spans_of}
+use Rattle.addr2line_units.specs.Located.{all_lines, first_location, lines_of_unit, location_in, location_of, spans_along, spans_of}
 use Rattle.addr2line_units.specs.RangedUnits.{IndexedUnit, ranged_units, unit_of_header}
 use Rattle.addr2line_units.specs.UnitAranges.{aranges_in}
 use Rattle.addr2line_units.specs.UnitAttributes.{unit_attributes}
@@ -47,7 +47,7 @@ pub record CachedLinesAreNotRefused : Type 0 where
   pub location : (d : Sections) (probe : ℕ) (u : Option IndexedUnit)
       → WasNotRefused (location_in d probe u)
   pub along_ranges : (d : Sections) (units : List IndexedUnit) (probe : ℕ)
-      (ranges : List UnitRange) → WasNotRefused (along d units probe ranges)
+      (ranges : List UnitRange) → WasNotRefused (first_location d units probe ranges)
   pub of_address : (d : Sections) (probe : ℕ) → WasNotRefused (location_of d probe)
   pub spans : (d : Sections) (units : List IndexedUnit) (low high : ℕ) (ranges : List UnitRange)
       → NoneWasRefused (spans_along d units low high ranges)

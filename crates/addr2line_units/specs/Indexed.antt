@@ -118,7 +118,7 @@ units_seen u = record {
 
 -- a unit and the ranges that are given for it
 abbrev pub ranged_seen : UnitRecord → UnitLines → List Range → RangedUnit
-ranged_seen dw_unit u given = record { indexed = indexed_unit dw_unit u; given = given }
+ranged_seen dw_unit u listed = record { indexed = indexed_unit dw_unit u; listed = listed }
 
 -- whether memory may be taken for units of a supplementary file, type units too
 abbrev pub sup_units_take_memory : Bool → Sections → Bool

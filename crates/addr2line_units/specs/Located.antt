@@ -38,20 +38,20 @@ is_found (Ok (Some x)) = true
 is_found (Err e) = false
 
 -- the location that was found, else the one that is found further on
-abbrev pub or_along : LocationResult → Option Location → LocationResult
-or_along rest None = rest
-or_along rest (Some location) = Ok (Some location)
+abbrev pub or_first_location : LocationResult → Option Location → LocationResult
+or_first_location rest None = rest
+or_first_location rest (Some location) = Ok (Some location)
 
 -- the location of the probe along ranges
-abbrev pub along : Sections → List IndexedUnit → ℕ → List UnitRange → LocationResult
-along d units probe [] = Ok None
-along d units probe (r ∷ ranges) =
+abbrev pub first_location : Sections → List IndexedUnit → ℕ → List UnitRange → LocationResult
+first_location d units probe [] = Ok None
+first_location d units probe (r ∷ ranges) =
     location_in d probe (slice_get units r.unit)
-    >>= λ location. or_along (along d units probe ranges) location
+    >>= λ location. or_first_location (first_location d units probe ranges) location
 
 -- the location of an address, or the fault
 abbrev pub location_of : Sections → ℕ → LocationResult
-location_of d probe = index_units d >>= λ m. along d m.units probe (cover probe m.ranges)
+location_of d probe = index_units d >>= λ m. first_location d m.units probe (cover probe m.ranges)
 
 -- each of them as one that was read
 abbrev pub all_read : {X : Type 0} → List X → List (Result X Error)

@@ -36,7 +36,7 @@ pub record IndexedUnit : Type 0 where
 -- a unit with the ranges that .debug_aranges or its attributes give
 pub record RangedUnit : Type 0 where
   pub indexed : IndexedUnit
-  pub given : List Range
+  pub listed : List Range
 
 -- the units without their languages
 abbrev pub unit_records : List IndexedUnit → List UnitRecord
@@ -64,27 +64,27 @@ or_attribute_ranges d u a [] = attribute_ranges d u a
 or_attribute_ranges d u a (r ∷ listed) = Ok (r ∷ listed)
 
 -- the ranges that .debug_aranges or the attributes of a unit give
-abbrev pub given_ranges : Sections → List UnitArange → UnitRecord → RangeAttributes
+abbrev pub listed_unit_ranges : Sections → List UnitArange → UnitRecord → RangeAttributes
     → Result (List Range) Error
-given_ranges d aranges u a =
+listed_unit_ranges d aranges u a =
     if is_some a.ranges_offset then attribute_ranges d u a
     else or_attribute_ranges d u a (aranges_at u.header.offset.0 aranges)
 
--- the language of a unit and its given ranges; a partial unit has none
-unfoldable pub given_in_unit : Sections → List UnitArange → UnitRecord
+-- the language of a unit and its listed ranges; a partial unit has none
+unfoldable pub listed_in_unit : Sections → List UnitArange → UnitRecord
     → Result (Option DwLang × List Range) Error
-given_in_unit d aranges u =
+listed_in_unit d aranges u =
     if is_partial u.header.unit_type then Ok (None, [])
     else do
       attributes ← unit_attributes d u
-      given ← given_ranges d aranges u attributes.ranges
-      Ok (attributes.language, given)
+      listed ← listed_unit_ranges d aranges u attributes.ranges
+      Ok (attributes.language, listed)
 
 -- a unit whose record can be read
 abbrev pub ranged_unit : Sections → List UnitArange → UnitRecord → Result RangedUnit Error
 ranged_unit d aranges u =
-    given_in_unit d aranges u
-    >>= λ x. Ok (record { indexed = record { unit = u; language = x.0 }; given = x.1 })
+    listed_in_unit d aranges u
+    >>= λ x. Ok (record { indexed = record { unit = u; language = x.0 }; listed = x.1 })
 
 -- a unit that is passed over, or whose record can be read
 abbrev pub unless_faulty : Sections → List UnitArange → Result UnitRecord Error
@@ -106,7 +106,7 @@ units_of read headers =
 
 -- whether the line sequences of a unit give its ranges
 abbrev pub asks_lines : RangedUnit → Bool
-asks_lines u = is_empty u.given && not (is_partial u.indexed.unit.header.unit_type)
+asks_lines u = is_empty u.listed && not (is_partial u.indexed.unit.header.unit_type)
   where
     is_empty : List Range → Bool
     is_empty [] = true
@@ -124,7 +124,7 @@ line_ranges (Err e) = []
 
 -- the ranges that lead to a unit
 abbrev pub unit_ranges : Sections → RangedUnit → List Range
-unit_ranges d u = if asks_lines u then line_ranges (unit_lines d u.indexed.unit) else u.given
+unit_ranges d u = if asks_lines u then line_ranges (unit_lines d u.indexed.unit) else u.listed
 
 -- a range with the number of its unit
 abbrev pub range_of_unit : ℕ → Range → UnitRange

@@ -91,7 +91,7 @@ impl WantedNames for UnitWanted {
 
     ghost wanted = { is_unit_name };
 
-    fn is_wanted(name: DwAt) -> bool {
+    fn is_wanted_name(name: DwAt) -> bool {
         matches!(
             name,
             DwAt::DW_AT_low_pc | DwAt::DW_AT_high_pc | DwAt::DW_AT_ranges | DwAt::DW_AT_language

@@ -3,8 +3,7 @@
 ghost use Rattle.std.specs.Prelude.{◌≡◌, ◌≢◌, ◌&&◌, ℕ, Err, IfErr, IfOk, IfSome, Ok, OnOk, false, option_map, true, ◌≤◌, None};
 ghost use Rattle.std.specs.List.{AllByRecursion};
 ghost use Rattle.gimli_read.specs.declared.error.Error.TheVariants.{OutOfMemory};
-ghost use Rattle.gimli_read.specs.Reading.{ExactlyUnlessOomIf, ExactlyUnlessOom};
-ghost use Rattle.gimli_read.specs.Alike.{WasNotRefused};
+ghost use Rattle.gimli_read.specs.Reading.{ExactlyUnlessOomIf, ExactlyUnlessOom, WasNotRefused};
 ghost use Rattle.addr2line_lines.specs.FunctionDetails.{AreUnread, HasDetail, IsTableMore};
 ghost use Rattle.addr2line_lines.specs.Functions.{functions_of, functions_take_memory};
 ghost use Rattle.addr2line_lines.specs.InlineRoom.{exceeds_inline_room};
@@ -19,7 +18,7 @@ ghost use Rattle.addr2line_units.specs.CachedLines.{AreLinesOf, StaysUnit, index
 ghost use Rattle.addr2line_units.specs.AskMemory.{functions_in_take_memory};
 ghost use Rattle.addr2line_units.specs.CachedEntries.{AreEntriesOf, AreFramesIn, AsksNoMemoryIn, AreFresh, ReadsEntriesOf, StayEntries, frames_of_place, has_entries, has_entries_by, first_answer_of};
 ghost use Rattle.addr2line_units.specs.EmptyUnits.{has_nothing};
-ghost use Rattle.addr2line_units.specs.CachedViews.{is_decided, seen_first_answer, waits, was_looked_at};
+ghost use Rattle.addr2line_units.specs.CachedViews.{is_decided, seen_first_answer, waits, was_checked};
 ghost use Rattle.addr2line_units.specs.Views.{is_open};
 ghost use Rattle.addr2line_units.specs.declared.parses.ReadingDepth.TheVariants as depths;
 
@@ -329,10 +328,10 @@ impl<R: Reader> UnitEntries<R> {
     pub(crate) fn check_split(&mut self, scope: Scope<'_, R>, dw_unit: &Unit<R>)
         requires right { AreEntriesOf (seen_scope scope) dw_unit.now self.old }
         ensures right { AreEntriesOf (seen_scope scope.entry) dw_unit.now self.new }
-        ensures looked { was_looked_at self.new.view.state ≡ true }
+        ensures looked { was_checked self.new.view.state ≡ true }
         ensures stay { StayEntries self.old self.new }
         ensures functions { self.new.functions ≡ self.old.functions }
-        ensures same { was_looked_at self.old.view.state ≡ true → self.new ≡ self.old }
+        ensures same { was_checked self.old.view.state ≡ true → self.new ≡ self.old }
     {
         self.view.check_split(scope.file.dwarf, dw_unit);
     }
@@ -352,7 +351,7 @@ impl<R: Reader> UnitEntries<R> {
     ) -> Result<Option<FunctionPlace>, Error>
         requires in_order { IsScope (seen_scope scope) }
         requires right { AreEntriesOf (seen_scope scope) dw_unit.now self.old }
-        requires looked { was_looked_at self.old.view.state ≡ true }
+        requires looked { was_checked self.old.view.state ≡ true }
         requires decided { waits self.old.view.state ≡ false }
         ensures gives { ExactlyUnlessOom
             (option_map (function_of_place (cached_functions self.new.functions))) result

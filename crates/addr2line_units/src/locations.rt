@@ -11,7 +11,7 @@ ghost use Rattle.addr2line_units.specs.AskMemory.{lines_of_take_memory};
 ghost use Rattle.addr2line_units.specs.AskedUnits.{AfterCachingAt, AfterRowAt, CountsUnits};
 ghost use Rattle.addr2line_units.specs.AfterUnits.{AfterCaching, AfterLineParse, AfterRow};
 ghost use Rattle.addr2line_units.specs.CachedLines.{cached_files, lines_result_at, unit_row, cached_spans, lines_at};
-ghost use Rattle.addr2line_units.specs.Located.{all_lines, along, location_in, spans_along};
+ghost use Rattle.addr2line_units.specs.Located.{all_lines, first_location, location_in, spans_along};
 ghost use Rattle.addr2line_units.specs.LocationsLeft.{locations_left};
 ghost use Rattle.addr2line_units.specs.Parsed.{AreParsed, has_parsed, takes_none_along};
 ghost use Rattle.addr2line_units.specs.UnitRangesLeft.{ranges_left};
@@ -224,13 +224,15 @@ impl<R: Reader> Units<R> {
         probe: u64,
     ) -> Result<Option<UnitRow>, Error>
         ensures gives { ExactlyUnlessOom (option_map (row_location self.old)) result
-            (along self.old.scope.file.sections self.old.units probe (ranges_left ranges.entry)) }
+            (first_location self.old.scope.file.sections self.old.units probe
+            (ranges_left ranges.entry)) }
         ensures parsed { IfOk result (λ place. IfSome place (λ p.
             has_parsed self.new.parsed p.unit ≡ true)) }
         ensures after { AfterRow probe (ranges_left ranges.entry) result self.old self.new }
         ensures no_memory { takes_none_along R.shares self.old.scope.file.sections self.old.units
             self.new.parsed probe (ranges_left ranges.entry) ≡ true → IfErr result (λ e.
-            along self.old.scope.file.sections self.old.units probe (ranges_left ranges.entry)
+            first_location self.old.scope.file.sections self.old.units probe
+            (ranges_left ranges.entry)
             ≡ Err e) }
     {
         self.reset();

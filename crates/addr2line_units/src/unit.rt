@@ -2,22 +2,21 @@
 //! entries are read that say what stands at an address.
 
 ghost use Rattle.std.specs.Prelude.{◌≡◌, ◌≢◌, ◌+◌, ◌<◌, ◌≤◌, true, false, not, map, Ok, Err, OnOk, OnErr, IfOk, IfErr, IfSome, IsOk, is_some, length, nat_lt, option_map, None, Some};
-ghost use Rattle.gimli_read.specs.Reading.{Exactly, ExactlyUnlessOom, ExactlyUnlessOomIf};
+ghost use Rattle.gimli_read.specs.Reading.{Exactly, ExactlyUnlessOom, ExactlyUnlessOomIf, WasNotRefused};
 ghost use Rattle.gimli_read.specs.declared.error.Error.TheVariants.{OutOfMemory};
-ghost use Rattle.gimli_read.specs.Alike.{WasNotRefused};
 ghost use Rattle.gimli.specs.Sections.{Sections};
 ghost use Rattle.gimli.specs.Unit.{UnitRecord};
 ghost use Rattle.addr2line_lines.specs.Location.{location_of_row};
 ghost use Rattle.addr2line_lines.specs.References.{IsScope};
 ghost use Rattle.addr2line_lines.specs.SeenScope.{seen_scope};
-ghost use Rattle.addr2line_units.specs.RangedUnits.{is_partial, is_type_unit, given_in_unit, given_ranges, has_lines, asks_lines, ranged_unit, unit_ranges};
+ghost use Rattle.addr2line_units.specs.RangedUnits.{is_partial, is_type_unit, listed_in_unit, listed_unit_ranges, has_lines, asks_lines, ranged_unit, unit_ranges};
 ghost use Rattle.addr2line_units.specs.AskMemory.{lines_take_memory};
 ghost use Rattle.addr2line_units.specs.Located.{is_found, location_in, looks_in};
 ghost use Rattle.addr2line_units.specs.UnitAranges.{range_in};
 ghost use Rattle.addr2line_units.specs.CachedLines.{AreLinesOf, IsUnparsed, LinesStayCached, CachesResult, StaysUnit, cached_lines_result, cached_files, cached_looks, cached_ranges, cached_row, indexed_unit, lines_result, cached_lines, is_parsed, is_uncached};
 ghost use Rattle.addr2line_units.specs.Indexed.{ranged_seen};
 ghost use Rattle.addr2line_units.specs.AnswerMemory.{answer_takes_memory};
-ghost use Rattle.addr2line_units.specs.CachedViews.{IsViewOf, answer_in, is_decided, parts_or_fault, seen_first_answer, seen_sections, split_file_by, split_file_in, split_unit, unboxed, verdict_in, view_in, waits, was_looked_at};
+ghost use Rattle.addr2line_units.specs.CachedViews.{IsViewOf, answer_in, is_decided, parts_or_fault, seen_first_answer, seen_sections, split_file_by, split_file_in, split_unit, unboxed, verdict_in, view_in, waits, was_checked};
 ghost use Rattle.addr2line_units.specs.EmptyUnits.{has_view};
 ghost use Rattle.addr2line_units.specs.Views.{answered_view, first_unit, first_unit_takes_memory, load_of_unit, split_name_of, verdict, view_scope};
 
@@ -80,13 +79,13 @@ fn copy_ranges(alloc: Global, listed: &[UnitArange]) -> Result<Vec<Range>, Error
 }
 
 // The ranges that `.debug_aranges` or the attributes of a unit give.
-fn read_given_ranges<R: Reader>(
+fn read_listed_ranges<R: Reader>(
     alloc: Global,
     unit: UnitRef<'_, R>,
     aranges: &UnitAranges,
     attributes: &RangeAttributes,
 ) -> Result<Vec<Range>, Error>
-    ensures gives { ExactlyUnlessOom (λ v. v.items) result (given_ranges unit.entry.dwarf.now
+    ensures gives { ExactlyUnlessOom (λ v. v.items) result (listed_unit_ranges unit.entry.dwarf.now
         aranges.now unit.entry.unit.now attributes.now) }
 {
     if attributes.ranges_offset.is_none() {
@@ -100,22 +99,22 @@ fn read_given_ranges<R: Reader>(
 }
 
 // The language of a unit, and the ranges that `.debug_aranges` or its attributes give.
-#[tactic(auto, unfolding(crate::specs::RangedUnits::given_in_unit))]
-fn read_given<R: Reader>(
+#[tactic(auto, unfolding(crate::specs::RangedUnits::listed_in_unit))]
+fn read_listed<R: Reader>(
     alloc: Global,
     unit: UnitRef<'_, R>,
     aranges: &UnitAranges,
 ) -> Result<(Option<DwLang>, Vec<Range>), Error>
     ensures gives { ExactlyUnlessOomIf (not (is_partial unit.entry.unit.now.header.unit_type))
         (λ x. (x.0, x.1.items)) result
-        (given_in_unit unit.entry.dwarf.now aranges.now unit.entry.unit.now) }
+        (listed_in_unit unit.entry.dwarf.now aranges.now unit.entry.unit.now) }
 {
     let record = unit.unit;
     if is_partial(record.header.type_()) {
         return Ok((None, Vec::new(alloc)));
     }
     let attributes = read_unit_attributes(unit)?;
-    let ranges = read_given_ranges(alloc, unit, aranges, &attributes.ranges)?;
+    let ranges = read_listed_ranges(alloc, unit, aranges, &attributes.ranges)?;
     Ok((attributes.language, ranges))
 }
 
@@ -131,7 +130,7 @@ fn lines_at_first<R: Reader>(unit: &Unit<R>) -> LazyLines
     }
 }
 
-// The language of a unit whose record was read, its lines before they are asked for, and its given
+// The language of a unit whose record was read, its lines before they are asked for, and its listed
 // ranges.
 pub(crate) fn read_ranged_unit<R: Reader>(
     alloc: Global,
@@ -143,7 +142,7 @@ pub(crate) fn read_ranged_unit<R: Reader>(
         (ranged_unit dwarf.now aranges.now dw_unit.now) }
     ensures unparsed { IfOk result (λ x. IsUnparsed dwarf.now dw_unit.now x.0) }
 {
-    let (lang, ranges) = read_given(alloc, UnitRef::new(dwarf, dw_unit), aranges)?;
+    let (lang, ranges) = read_listed(alloc, UnitRef::new(dwarf, dw_unit), aranges)?;
     let lines = lines_at_first(dw_unit);
     Ok((UnitLines { lang, lines }, ranges))
 }
@@ -278,28 +277,28 @@ impl UnitLines {
         check_lines(&self.lines)
     }
 
-    // The ranges that lead to the unit: those that are given, or where there are none those of its
+    // The ranges that lead to the unit: those that are listed, or where there are none those of its
     // line sequences; its lines are cached then, their fault too. Refused `OutOfMemory` alone.
     pub(crate) fn or_line_ranges<R: Reader>(
         &mut self,
         alloc: Global,
         dwarf: &Dwarf<R>,
         dw_unit: &Unit<R>,
-        given: Vec<Range>,
+        listed: Vec<Range>,
     ) -> Result<Vec<Range>, Error>
         requires unparsed { IsUnparsed dwarf.now dw_unit.now self.old }
         ensures gives { ExactlyUnlessOom (λ v. v.items) result (Ok (unit_ranges dwarf.now
-            (ranged_seen dw_unit.now self.old given.items))) }
+            (ranged_seen dw_unit.now self.old listed.items))) }
         ensures refused { IfErr result (λ e. e ≡ OutOfMemory) }
-        ensures exact { asks_lines (ranged_seen dw_unit.now self.old given.items) ≡ false
+        ensures exact { asks_lines (ranged_seen dw_unit.now self.old listed.items) ≡ false
             → IsOk result }
         ensures parsed { OnOk result (is_parsed self.new ≡ has_lines
-            (ranged_seen dw_unit.now self.old given.items)) }
+            (ranged_seen dw_unit.now self.old listed.items)) }
         ensures lang { self.new.lang ≡ self.old.lang }
         ensures read { AreLinesOf dwarf.now dw_unit.now self.new.lines }
     {
-        if !given.is_empty() || is_partial(dw_unit.header.type_()) {
-            return Ok(given);
+        if !listed.is_empty() || is_partial(dw_unit.header.type_()) {
+            return Ok(listed);
         }
         self.cache_lines(alloc, dwarf, dw_unit)?;
         sequence_ranges(alloc, &self.lines)
@@ -536,7 +535,7 @@ impl<R: Reader> UnitView<R> {
     // A view of a unit that wasn't looked at yet. Takes no memory.
     pub(crate) fn new() -> UnitView<R>
         ensures answer { seen_first_answer result ≡ None }
-        ensures unknown { was_looked_at result.state ≡ false }
+        ensures unknown { was_checked result.state ≡ false }
     {
         UnitView {
             state: ViewState::Undecided,
@@ -547,8 +546,8 @@ impl<R: Reader> UnitView<R> {
     pub(crate) fn check_split(&mut self, dwarf: &Dwarf<R>, dw_unit: &Unit<R>)
         requires view { IsViewOf dwarf.now dw_unit.now self.old }
         ensures view { IsViewOf dwarf.now dw_unit.now self.new }
-        ensures looked { was_looked_at self.new.state ≡ true }
-        ensures kept { was_looked_at self.old.state ≡ true → self.new ≡ self.old }
+        ensures looked { was_checked self.new.state ≡ true }
+        ensures kept { was_checked self.old.state ≡ true → self.new ≡ self.old }
         ensures answer { seen_first_answer self.new ≡ seen_first_answer self.old }
     {
         if matches!(self.state, ViewState::Undecided) {

@@ -74,7 +74,8 @@ struct Index<R: Reader> {
     ranges: Vec<UnitRange>,
 }
 
-// The unit of a header, its language and lines, and its given ranges; none where it is passed over.
+// The unit of a header, its language and lines, and its listed ranges; none where it is passed
+// over.
 #[tactic(auto, unfolding(crate::specs::RangedUnits::unit_of_header))]
 fn read_unit<R: Reader>(
     alloc: Global,
@@ -95,8 +96,8 @@ fn read_unit<R: Reader>(
     }
     match abbreviations.unit(alloc, header) {
         Ok(dw_unit) => {
-            let (lines, given) = read_ranged_unit(alloc, dwarf, aranges, &dw_unit)?;
-            Ok(Some((dw_unit, lines, given)))
+            let (lines, listed) = read_ranged_unit(alloc, dwarf, aranges, &dw_unit)?;
+            Ok(Some((dw_unit, lines, listed)))
         }
         Err(Error::OutOfMemory) => Err(Error::OutOfMemory),
         Err(_) => Ok(None),
@@ -140,20 +141,20 @@ impl<R: Reader> Index<R> {
         dwarf: &Dwarf<R>,
         dw_unit: Unit<R>,
         mut lines: UnitLines,
-        given: Vec<Range>,
+        listed: Vec<Range>,
     ) -> Result<(), Error>
         requires unparsed { IsUnparsed dwarf.now dw_unit lines }
         requires read { HaveLinesOf dwarf.now self.old.dw_units.items self.old.caches.items }
         requires fresh { AreFreshOf self.old.dw_units.items self.old.caches.items }
         ensures gives { OnOk result (index_seen self.new ≡ with_ranged dwarf.now
-            (index_seen self.old) (ranged_seen dw_unit lines given.items)) }
+            (index_seen self.old) (ranged_seen dw_unit lines listed.items)) }
         ensures read { OnOk result
             (HaveLinesOf dwarf.now self.new.dw_units.items self.new.caches.items) }
         ensures fresh { OnOk result
             (AreFreshOf self.new.dw_units.items self.new.caches.items) }
         ensures refused { IfErr result (λ e. e ≡ OutOfMemory) }
     {
-        let ranges = lines.or_line_ranges(alloc, dwarf, &dw_unit, given)?;
+        let ranges = lines.or_line_ranges(alloc, dwarf, &dw_unit, listed)?;
         push_ranges(&mut self.ranges, self.caches.len(), &ranges)?;
         self.dw_units.push(dw_unit)?;
         self.caches.push(UnitCache {
@@ -185,8 +186,8 @@ impl<R: Reader> Index<R> {
             (AreFreshOf self.new.dw_units.items self.new.caches.items) }
     {
         let read = read_unit(alloc, dwarf, abbreviations, aranges, header)?;
-        if let Some((dw_unit, lines, given)) = read {
-            self.push(alloc, dwarf, dw_unit, lines, given)?;
+        if let Some((dw_unit, lines, listed)) = read {
+            self.push(alloc, dwarf, dw_unit, lines, listed)?;
         }
         Ok(())
     }

@@ -77,7 +77,7 @@ fn is_wanted_text(text: &[u8]) -> bool
 }
 
 // Whether a section has such a name.
-fn is_wanted(section: &SectionHeader, names: &[u8]) -> bool
+fn is_wanted_section(section: &SectionHeader, names: &[u8]) -> bool
     ensures gives { result ≡ is_wanted_section names.now section.now }
 {
     match section::text_at(names, section.name) {
@@ -121,7 +121,7 @@ fn are_shown(sections: &[SectionHeader], names: &[u8], file: &FileImage) -> bool
         ≡ list_all (λ s. not (is_wanted_section names.now s) || shows_section file.now s)
         sections.now }
 {
-    sections.iter().all(|section| !is_wanted(section, names) || is_shown(section, file))
+    sections.iter().all(|section| !is_wanted_section(section, names) || is_shown(section, file))
 }
 
 // The string table of a number, if one piece has it.
@@ -331,7 +331,7 @@ fn wanted_ranges(
     let symbol_names = symbol::names_number(sections);
     for (number, section) in sections.iter().enumerate() {
         let is_table = number as u64 == name_table || number as u64 == symbol_names;
-        if is_table || section.size < SMALL || is_wanted(section, names) {
+        if is_table || section.size < SMALL || is_wanted_section(section, names) {
             push_section(&mut ranges, section, len)?;
         }
     }

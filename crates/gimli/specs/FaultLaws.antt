@@ -7,7 +7,7 @@ use Rattle.gimli_read.specs.declared.endian.Encoding.{Encoding}
 use Rattle.gimli_read.specs.declared.endian.Format.{Format}
 use Rattle.gimli_read.specs.declared.value.AttributeValue.{AttributeValue}
 use Rattle.gimli_read.specs.Abbreviations.{Abbrev}
-use Rattle.gimli_read.specs.Alike.{WasNotRefused}
+use Rattle.gimli_read.specs.Reading.{WasNotRefused}
 use Rattle.gimli_read.specs.FaultLaws.{NoneWasRefused}
 use Rattle.gimli_read.specs.Run.{Run}
 use Rattle.gimli_read.specs.Section.{Section}

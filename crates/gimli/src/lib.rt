@@ -36,7 +36,7 @@ pub use crate::unit::{DwoId, ToUnitOffset, UnitHeader, UnitType};
 pub use crate::unit_record::Unit;
 pub use crate::unit_ref::UnitRef;
 pub use crate::units::UnitHeaders;
-pub use crate::wanted::{AtWanted, WantedNames, split_at_wanted};
+pub use crate::wanted::{WantedAttribute, WantedNames, split_at_wanted};
 pub use gimli_line as line;
 pub use gimli_line::{FileEntry, IncompleteLineProgram, LineProgramHeader, LineRow};
 pub use gimli_read as read;

@@ -173,7 +173,7 @@ impl WantedNames for RootWanted {
 
     ghost wanted = { is_root_name };
 
-    fn is_wanted(name: DwAt) -> bool {
+    fn is_wanted_name(name: DwAt) -> bool {
         matches!(
             name,
             DwAt::DW_AT_name

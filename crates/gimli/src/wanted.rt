@@ -15,13 +15,13 @@ pub trait WantedNames {
     ghost wanted: { DwAt → Bool };
 
     /// Whether a name is one of them. Takes no memory.
-    fn is_wanted(name: DwAt) -> bool
+    fn is_wanted_name(name: DwAt) -> bool
         ensures gives { result ≡ wanted name };
 }
 
 /// The first attribute that is asked for, among others.
 #[derive(Clone, Copy)]
-pub struct AtWanted<'a> {
+pub struct WantedAttribute<'a> {
     /// The attributes before it, of which none is asked for.
     pub before: &'a [AttributeSpecification],
     /// The attribute.
@@ -38,19 +38,21 @@ fn first_wanted<W: WantedNames>(specifications: &[AttributeSpecification]) -> Op
 {
     specifications
         .iter()
-        .position(|specification| W::is_wanted(specification.name()))
+        .position(|specification| W::is_wanted_name(specification.name()))
 }
 
 /// Attributes, split at the first that is asked for; none where no attribute is. Takes no memory.
 #[inline(always)]
-pub fn split_at_wanted<W: WantedNames>(all: &[AttributeSpecification]) -> Option<AtWanted<'_>>
+pub fn split_at_wanted<W: WantedNames>(
+    all: &[AttributeSpecification],
+) -> Option<WantedAttribute<'_>>
     ensures split { IfSome result (λ x.
         IsSplitAtWanted W.wanted all.now x.before.now x.specification x.after.now) }
     ensures found { IfSome result (λ x. W.wanted x.specification.name ≡ true) }
     ensures none { result ≡ None → HasNoWanted W.wanted all.now }
 {
     let place = first_wanted::<W>(all)?;
-    Some(AtWanted {
+    Some(WantedAttribute {
         before: &all[..place],
         specification: all[place],
         after: &all[place + 1..],

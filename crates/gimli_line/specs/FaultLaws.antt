@@ -4,7 +4,7 @@
 -- is given.
 use Rattle.std.specs.Prelude.{ℕ}
 use Rattle.gimli_read.specs.declared.endian.Encoding.{Encoding}
-use Rattle.gimli_read.specs.Alike.{WasNotRefused}
+use Rattle.gimli_read.specs.Reading.{WasNotRefused}
 use Rattle.gimli_read.specs.FaultLaws.{NoneWasRefused}
 use Rattle.gimli_read.specs.Section.{Section}
 use Rattle.gimli_line.specs.EntryTables.{entry_table_at}

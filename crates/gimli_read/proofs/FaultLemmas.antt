@@ -14,7 +14,7 @@ use Rattle.gimli_read.specs.declared.error.Error.{Error}
 use Rattle.gimli_read.specs.declared.error.Error.TheVariants.{OutOfMemory, UnexpectedEof, BadLeb128, UnknownReservedLength, UnsupportedAddressSize, BadAbbreviation, UnknownForm}
 use Rattle.gimli_read.specs.Section.{Section}
 use Rattle.gimli_read.specs.Version.{is_2}
-use Rattle.gimli_read.specs.Reading.{Reading, ◌>>=◌, result_map, fault_of, mapped, refused_if}
+use Rattle.gimli_read.specs.Reading.{Reading, ◌>>=◌, result_map, fault_of, mapped, refused_if, WasNotRefused}
 use Rattle.gimli_read.specs.Number.{skipped_at, split_at, fixed_at, signed_byte_at, is_address_size, address_size_at, address_at, offset_at, ended_at, null_terminated_at, long_length_at, initial_length_at, fits_u64, fits_i64}
 use Rattle.gimli_read.specs.Leb128.{cut_after, leb128_text, uleb128_value, sleb128_value, uleb128_in, sleb128_in, uleb128_at, sleb128_at}
 use Rattle.gimli_read.specs.Run.{Run, Next, More, Stop, next_of, continued, run_within, run_of, collected, fold_run, fold_of, listed_with, listed}
@@ -26,7 +26,6 @@ use Rattle.gimli_read.specs.Skip.{rest_after}
 use Rattle.gimli_read.specs.ValueSize.{total_bytes}
 use Rattle.gimli_read.specs.SizedRuns.{runs_rest, rest_after_runs}
 use Rattle.gimli_read.specs.Abbrev.{constant_at, specified, is_null, has_null, specification_at, specifications_at, tells_children, declaration_head_at, declaration_at, head_and_pair_at, front_at, abbreviation_at, extended, table_within, table_at}
-use Rattle.gimli_read.specs.Alike.{WasNotRefused}
 use Rattle.gimli_read.specs.FaultLaws.{NoneWasRefused}
 use Rattle.gimli_read.specs.Yields.{next_given}
 

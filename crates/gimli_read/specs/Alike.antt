@@ -1,16 +1,10 @@
 -- Answers of two readers to one reading (DWARF 5, section 7.5: what a section says is in its bytes
 -- and their order).
 -- Own: memory may be refused at one reader and not at the other.
-use Rattle.std.specs.Prelude.{◌≡◌, ◌≢◌, Result, Ok, Err}
+use Rattle.std.specs.Prelude.{◌≡◌, Result}
 use Rattle.gimli_read.specs.declared.error.Error.{Error}
-use Rattle.gimli_read.specs.declared.error.Error.TheVariants.{OutOfMemory}
 use Rattle.gimli_read.specs.Section.{Section}
-use Rattle.gimli_read.specs.Reading.{result_map, Exactly, ExactlyUnlessOom}
-
--- the answer is a value, or a refusal other than OutOfMemory
-abbrev pub WasNotRefused : {X : Type 0} → Result X Error → Type 0
-WasNotRefused (Ok x) = Unit {0}
-WasNotRefused (Err e) = e ≢ OutOfMemory
+use Rattle.gimli_read.specs.Reading.{result_map, Exactly, ExactlyUnlessOom, WasNotRefused}
 
 -- two answers that are exactly one reading of equal sections are the same: value, rest and fault
 abbrev pub AnswerAlike : Type 0 → Type 0 → Type 0 → Type 0

@@ -11,7 +11,7 @@ use Rattle.gimli_read.specs.declared.size.TotalSize.{TotalSize}
 use Rattle.gimli_read.specs.Section.{Section}
 use Rattle.gimli_read.specs.Abbrev.{specification_at, specifications_at, declaration_at, front_at, abbreviation_at, table_at}
 use Rattle.gimli_read.specs.Abbreviations.{Abbrev, Specification}
-use Rattle.gimli_read.specs.Alike.{WasNotRefused}
+use Rattle.gimli_read.specs.Reading.{WasNotRefused}
 use Rattle.gimli_read.specs.EncodedValue.{address_or_offset_at}
 use Rattle.gimli_read.specs.Form.{direct_at, form_at, value_at, attribute_at, attributes_at}
 use Rattle.gimli_read.specs.Leb128.{uleb128_in, sleb128_in, uleb128_at, sleb128_at}

@@ -40,6 +40,11 @@ mapped make read = read >>= λ x. Ok (make x.0, x.1)
 abbrev pub refused_if : {E : Type 0} → Bool → E → Result (Unit {0}) E
 refused_if bad e = if bad then Err e else Ok tt
 
+-- the answer is a value, or a refusal other than OutOfMemory
+abbrev pub WasNotRefused : {X : Type 0} → Result X Error → Type 0
+WasNotRefused (Ok x) = Unit {0}
+WasNotRefused (Err e) = e ≢ OutOfMemory
+
 -- the answer, seen by view, is what is given; so it takes no memory
 abbrev pub Exactly : {X Y E : Type 0} → (X → Y) → Result X E → Result Y E → Type 0
 Exactly view (Ok x) given = given ≡ Ok (view x)

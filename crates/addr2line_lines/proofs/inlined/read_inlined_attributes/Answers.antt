@@ -2,7 +2,7 @@ use Rattle.std.proofs.Common.{Ok, refl, sym, ap, ◌∙◌}
 use Rattle.std.proofs.lemmas.Result.{err_from_is_err_and}
 use Rattle.gimli.proofs.WantedLemmas.{rest_passes, wanted_end, wanted_next, wanted_passed}
 use Rattle.addr2line_lines.specs.InlinedEntries.{no_inlined_attributes, or_with_inlined_attribute, with_inlined_attribute}
-use Rattle.addr2line_lines.specs.FoundAttributes.{is_wanted, or_fault, seen_attributes}
+use Rattle.addr2line_lines.specs.FoundAttributes.{is_inlined_attribute, or_fault, seen_attributes}
 use Rattle.addr2line_lines.specs.SeenScope.{seen_scope}
 use Rattle.addr2line_lines.proofs.CachedNameLemmas.{names_on, names_same}
 use Rattle.addr2line_lines.proofs.DetailLemmas.{taken}
@@ -54,7 +54,7 @@ loop-next-preserved g c =
       is = taken g.R.Reader.shares (seen_attributes g.R.Reader.section) (λ x. with_inlined_attribute scope u x a) (or_fault c.loop-next.found c.loop-next.fault) (or_fault c.read_next.new.self c.in_ok-fault.fault) i.given i.is next.taken;
       gives = sym (wanted_next (inlined_passes scope u i.given) _ _ _ split skipped next.is) ∙ i.gives;
       same = ap (λ v. v.encoding) c.in_ok-fault.ensures.unit ∙ same;
-      left = sym (wanted_next (rest_passes u.header.encoding is_wanted) _ _ _ split skipped next.is) ∙ i.left;
+      left = sym (wanted_next (rest_passes u.header.encoding is_inlined_attribute) _ _ _ split skipped next.is) ∙ i.left;
       unit = c.in_ok-fault.ensures.unit ∙ c.in_ok-pass_over.ensures.unit ∙ i.unit;
       depth = c.in_ok-fault.ensures.depth ∙ c.in_ok-pass_over.ensures.depth ∙ i.depth;
       names = names_on scope u _ _ _ i.names c.in_ok-fault.ensures.names;

@@ -9,5 +9,5 @@ pub returns : goal.returns
 returns g c =
     let s = c.self.inside in
     let i = c.self.invariant in
-    let found = of_made s.ranges s.units i (λ x xs rs. option_map seen_unit c.unit.result ≡ unit_found x.file.sections x.file.units s.units.answers s.units.stop) c.unit.ensures.gives i.made i.made_is in
-    record { gives = rw (sym c.self.view_is) (found ∙ unit_found_is s.units.scope.file.sections s.units.answers s.units.stop i.made i.made_is) }
+    let found = of_made s.ranges s.units i (λ x xs rs. option_map seen_unit c.unit.result ≡ unit_found x.file.sections x.file.units s.units.answers s.units.stop) c.unit.ensures.gives i.made i.indexed in
+    record { gives = rw (sym c.self.view_is) (found ∙ unit_found_is s.units.scope.file.sections s.units.answers s.units.stop i.made i.indexed) }

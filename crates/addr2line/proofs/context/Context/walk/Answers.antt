@@ -26,7 +26,7 @@ pub returns-clause-last : goal.returns-clause-last
 returns-clause-last g c =
     let s = c.self.inside in
     let i = c.self.invariant in
-    rw (sym c.self.view_is) (λ q. (i.made, i.made_is, subst (λ rs. cover c.args.probe rs ≡ []) i.ranges (sym c.find.ensures.gives ∙ c.find.ensures.last q)))
+    rw (sym c.self.view_is) (λ q. (i.made, i.indexed, subst (λ rs. cover c.args.probe rs ≡ []) i.ranges (sym c.find.ensures.gives ∙ c.find.ensures.last q)))
 
 pub returns-clause-after : goal.returns-clause-after
 returns-clause-after g c =

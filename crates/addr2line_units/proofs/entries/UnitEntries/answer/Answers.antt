@@ -6,7 +6,7 @@ use Rattle.gimli_read.specs.declared.error.Error.{Error}
 use Rattle.addr2line_units.specs.Loads.{view_fault}
 use Rattle.addr2line_units.specs.Views.{View, is_open, verdict}
 use Rattle.addr2line_units.proofs.ViewLemmas.{verdict_of_open, waiting_is_open}
-use Rattle.addr2line_units.proofs.AnswerLemmas.{decided_if_not, decided_if_open, decided_was_looked_at, never_waits, open_by_look}
+use Rattle.addr2line_units.proofs.AnswerLemmas.{decided_if_not, decided_if_open, decided_was_checked, never_waits, open_by_look}
 use Rattle.addr2line_units.proofs.EntryLemmas.{looked_decides}
 use Rattle.addr2line_units.proofs.OpenLemmas.{waits_only_open}
 use Rattle.addr2line_units.proofs.entries.UnitEntries.answer.Goals as goal
@@ -51,7 +51,7 @@ returns-else-is_open-clause-decided g c =
 
 pub returns-else-is_open-clause-same : goal.returns-else-is_open-clause-same
 returns-else-is_open-clause-same g c h =
-    (c.check_split.ensures.same (decided_was_looked_at c.args.self.now.view.state h), refl)
+    (c.check_split.ensures.same (decided_was_checked c.args.self.now.view.state h), refl)
 
 pub returns-in_err-decide-clause-not_open : goal.returns-in_err-decide-clause-not_open
 returns-in_err-decide-clause-not_open g c h =

@@ -19,14 +19,14 @@ pub returns-clause-gives : goal.returns-clause-gives
 returns-clause-gives g c =
     let d = c.args.dwarf.now in
     let before = c.args.self.now.ranges.items in
-    let ranged = ranged_seen c.args.dw_unit c.args.lines c.args.given.items in
+    let ranged = ranged_seen c.args.dw_unit c.args.lines c.args.listed.items in
     let count : c.len.result ≡ length c.args.self.now.caches.items = search rules in
     let read = ok_is _ _ c.in_ok-ranges.ensures.gives in
     let ranges =
     c.in_ok-push_ranges.ensures.gives
     ∙ ap (λ rs. before ++ map (range_of_unit c.len.result) rs) (c.deref.ensures.value ∙ sym read)
     ∙ ap (λ n. before ++ map (range_of_unit n) (unit_ranges d ranged)) count in
-    let more = pushed d c.args.self.now.dw_units.items c.args.self.now.caches.items c.args.dw_unit c.args.lines (record { lines = c.or_line_ranges.new.self; entries = c.new.result }) c.args.given.items before c.push_ranges.new.unit_ranges.items c.requires.read c.in_ok-ranges.ensures.lang c.in_ok-ranges.ensures.parsed ranges in
+    let more = pushed d c.args.self.now.dw_units.items c.args.self.now.caches.items c.args.dw_unit c.args.lines (record { lines = c.or_line_ranges.new.self; entries = c.new.result }) c.args.listed.items before c.push_ranges.new.unit_ranges.items c.requires.read c.in_ok-ranges.ensures.lang c.in_ok-ranges.ensures.parsed ranges in
     rw (c.in_ok-push.ensures.items, c.in_ok-push-2.ensures.items) more
 
 pub returns-clause-fresh : goal.returns-clause-fresh

@@ -1,7 +1,7 @@
 use Rattle.std.proofs.Common.{Err, Ok, arith, refl, subst, sym, ◌≡◌}
 use Rattle.std.proofs.lemmas.Result.{err_from_is_err_and}
 use Rattle.std.proofs.Math.ListN.{set}
-use Rattle.gimli_read.specs.Alike.{WasNotRefused}
+use Rattle.gimli_read.specs.Reading.{WasNotRefused}
 use Rattle.addr2line_lines.specs.References.{IsScope}
 use Rattle.addr2line_units.specs.CachedEntries.{AreEntriesOf}
 use Rattle.addr2line_units.specs.CachedFrames.{seen_stop}

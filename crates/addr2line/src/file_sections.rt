@@ -1,12 +1,15 @@
-//! The sections of an ELF file that DWARF is read from.
+//! ELF files, and their sections that DWARF is read from.
 
-ghost use Rattle.std.specs.Prelude.{◌≡◌, option_map};
+ghost use Rattle.std.specs.Prelude.{◌≡◌, [], Err, IfErr, option_map};
+ghost use Rattle.elf.specs.declared.error.LoaderError.TheVariants.{NotElf};
+ghost use Rattle.elf.specs.FileImage.{image_bytes};
 ghost use Rattle.elf.specs.Loading.{LoadsUnlessOom};
+ghost use Rattle.elf.specs.ObjectFile.{object_file_of};
 ghost use Rattle.addr2line.specs.FileSections.{as_file, section_by, sections_by};
 
 use crate::compressed::CompressedSections;
 use bytes::Bytes;
-use elf::{ElfFile, LoaderError};
+use elf::{ElfFile, FileImage, LoaderError};
 use gimli::read::{EndianBytes, Reader, RunTimeEndian};
 use gimli::{
     DebugAbbrev, DebugAddr, DebugAranges, DebugInfo, DebugLine, DebugLineStr, DebugRanges,
@@ -14,6 +17,22 @@ use gimli::{
 };
 use std::alloc::Global;
 use std::rc::Rc;
+
+// The ELF file that bytes are. Byte 5 of them gives their order, whatever is given here.
+pub(crate) fn parse_bytes(alloc: Global, bytes: Bytes) -> Result<ElfFile, LoaderError>
+    ensures gives { LoadsUnlessOom (λ f. f) result (object_file_of bytes) }
+    ensures refused { IfErr (object_file_of bytes) (λ e. result ≡ Err e) }
+{
+    ElfFile::parse(alloc, EndianBytes::new(bytes, RunTimeEndian::Little))
+}
+
+// The ELF file of which pieces were read.
+pub(crate) fn parse_image(alloc: Global, file: FileImage) -> Result<ElfFile, LoaderError>
+    ensures gives { LoadsUnlessOom (λ f. f) result (object_file_of (image_bytes file)) }
+    ensures empty { image_bytes file ≡ [] → result ≡ Err NotElf }
+{
+    ElfFile::parse_image(alloc, file)
+}
 
 // What gives the sections of a file, main or split. It gives them as any reader, since a function
 // that owns shared bytes lets go of them in many steps on each way out.

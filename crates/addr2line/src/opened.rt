@@ -8,9 +8,8 @@ ghost use Rattle.addr2line.specs.Loaded.{dwarf_with, loaded_bytes, sup_of_bytes}
 
 use crate::compressed::CompressedSections;
 use crate::context::Context;
-use crate::file_sections::{MainFile, OpenFile, read_sections};
+use crate::file_sections::{MainFile, OpenFile, parse_bytes, read_sections};
 use crate::loader::{context_of, share_sup, with_sup};
-use crate::split_files::parse_bytes;
 use bytes::Bytes;
 use elf::{ElfFile, LoaderError};
 use gimli::read::EndianBytes;

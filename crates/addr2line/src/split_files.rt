@@ -1,12 +1,12 @@
 //! The split files of units, which answer their loads.
 
-ghost use Rattle.std.specs.Prelude.{◌≡◌, [], Err, IfErr, IfOk, IfSome, None, Ok, Option, Some, option_map};
+ghost use Rattle.std.specs.Prelude.{◌≡◌, IfErr, IfOk, IfSome, None, Ok, Option, Some, option_map};
 ghost use Rattle.gimli_read.specs.Reading.{Exactly, result_map};
 ghost use Rattle.gimli.specs.Sections.{Sections};
-ghost use Rattle.elf.specs.declared.error.LoaderError.TheVariants.{NotElf, OutOfMemory, PathNotUtf8};
+ghost use Rattle.elf.specs.declared.error.LoaderError.TheVariants.{OutOfMemory, PathNotUtf8};
 ghost use Rattle.elf.specs.FileImage.{image_bytes};
 ghost use Rattle.elf.specs.Loading.{Loading, LoadsUnlessOom};
-ghost use Rattle.elf.specs.ObjectFile.{ObjectFile, object_file_of};
+ghost use Rattle.elf.specs.ObjectFile.{ObjectFile};
 ghost use Rattle.addr2line.specs.declared.compressed.CompressedSections.TheVariants.{Refused};
 ghost use Rattle.addr2line.specs.FileSections.{split_section};
 ghost use Rattle.addr2line.specs.Files.{as_read};
@@ -15,33 +15,19 @@ ghost use Rattle.addr2line.specs.KeptFiles.{KeepsAnswer, KeepsAnswering, kept_at
 ghost use Rattle.addr2line.specs.SplitFiles.{Answers, AreOfSomeFile, LeavesOpen, bytes_or_none, given_by_files, has_wanted_id, is_absolute, is_same_id, or_none, path_in, separated, split_at_path, split_by, split_of, split_path, utf8_path};
 
 use crate::compressed::CompressedSections;
-use crate::file_sections::{OpenFile, SectionSource, SplitFile, as_dwarf, read_sections};
+use crate::file_sections::{
+    OpenFile, SectionSource, SplitFile, as_dwarf, parse_bytes, parse_image, read_sections,
+};
 use crate::files::{FileSource, FileStamp};
 use crate::kept_files::KeptFiles;
 use addr2line_units::unit::{SplitDwarfLoad, read_first_unit};
 use bytes::Bytes;
 use elf::{ElfFile, FileImage, LoaderError};
-use gimli::read::{EndianBytes, Reader, RunTimeEndian};
+use gimli::read::{EndianBytes, Reader};
 use gimli::{Dwarf, DwarfFileType, DwoId, Unit};
 use std::alloc::{AllocError, Global};
 use std::rc::Rc;
 use std::str;
-
-// The ELF file that bytes are. Byte 5 of them gives their order, whatever is given here.
-pub(crate) fn parse_bytes(alloc: Global, bytes: Bytes) -> Result<ElfFile, LoaderError>
-    ensures gives { LoadsUnlessOom (λ f. f) result (object_file_of bytes) }
-    ensures refused { IfErr (object_file_of bytes) (λ e. result ≡ Err e) }
-{
-    ElfFile::parse(alloc, EndianBytes::new(bytes, RunTimeEndian::Little))
-}
-
-// The ELF file of which pieces were read.
-pub(crate) fn parse_image(alloc: Global, file: FileImage) -> Result<ElfFile, LoaderError>
-    ensures gives { LoadsUnlessOom (λ f. f) result (object_file_of (image_bytes file)) }
-    ensures empty { image_bytes file ≡ [] → result ≡ Err NotElf }
-{
-    ElfFile::parse_image(alloc, file)
-}
 
 // The bytes of a text that may be there.
 fn bytes_of<R: Reader>(text: &Option<R>) -> &[u8]

@@ -3,7 +3,7 @@ use Rattle.elf.specs.declared.error.LoaderError.TheVariants.{NotElf}
 use Rattle.elf.specs.Header.{ident_in}
 use Rattle.elf.specs.Loading.{Loading, LoadsUnlessOomFor}
 use Rattle.elf.specs.ObjectFile.{ObjectFile, gives_sections, object_file_of}
-use Rattle.addr2line.proofs.split_files.parse_image.Goals as goal
+use Rattle.addr2line.proofs.file_sections.parse_image.Goals as goal
 
 -- no byte is no ELF file
 no_file : object_file_of [] ≡ Err NotElf

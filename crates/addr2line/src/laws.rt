@@ -10,7 +10,7 @@ ghost use Rattle.addr2line.specs.WarmUp.{FindsAllWhenWarm, LocatesWhenWarm};
 /// Whatever its loads are answered, a lookup waits for different units, one after another: for
 /// those that cover its address and are open when it begins.
 pub fn waits_for_each_once()
-    ensures once { WaitsForEachOnce }
+    ensures law { WaitsForEachOnce }
 {}
 
 /// The first answer to a load counts, whatever calls come after it, until its unit is forgotten. So
@@ -32,7 +32,7 @@ pub fn skipped_lookups_end()
 /// What `find_frames` finds has one frame more than functions are inlined at the address; a
 /// location without a function is one frame.
 pub fn has_frame_of_each()
-    ensures counted { HasFrameOfEach }
+    ensures law { HasFrameOfEach }
 {}
 
 /// Once `parse_lines` and `parse_inlined_functions` weren't refused, lookups wait for nothing and

@@ -10,7 +10,7 @@ use gimli_read::Reader;
 /// Within a sequence the addresses of a program's rows do not fall, whatever its opcodes: a law,
 /// with no code.
 pub fn rows_laws()
-    ensures rise { RowsRise }
+    ensures law { RowsRise }
 {}
 
 /// No reading of a line program gives `OutOfMemory`: whatever the bytes are, it gives a value or
@@ -24,7 +24,7 @@ pub fn fault_laws()
 impl<R: Reader> LineRows<R> {
     /// Within a sequence the addresses of the rows to come do not fall: a law, with no code.
     pub fn rises(&self)
-        ensures rise { NeverFalls (rows_before self.now.left) }
+        ensures law { NeverFalls (rows_before self.now.left) }
     {
         let _ = &self.header;
     }

@@ -66,7 +66,7 @@ impl Reader for EndianBytes {
     fn split(&mut self, len: u64) -> Result<EndianBytes, Error>
         ensures gives { ReadsPartUnlessOom true (λ r. r) self.old self.new result (split_at len) }
         ensures refused { OnErr result (self.new ≡ self.old) }
-        ensures whole { len ≡ length self.old.bytes → IsOk result }
+        ensures exact { len ≡ length self.old.bytes → IsOk result }
         ensures none { len ≡ 0 → IsOk result }
     {
         if len > self.len() {

@@ -33,7 +33,7 @@ pub fn value_laws()
 /// To read an attribute whose form alone says its size is to pass over as many bytes: where they
 /// are missing, both are `UnexpectedEof`.
 pub fn size_laws()
-    ensures leaves { LeavesItsSize }
+    ensures law { LeavesItsSize }
 {}
 
 /// Readers of equal sections answer alike.

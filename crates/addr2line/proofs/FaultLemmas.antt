@@ -6,8 +6,8 @@ use Rattle.gimli_read.specs.declared.error.Error.{Error}
 use Rattle.gimli_read.specs.FaultLaws.{NoneWasRefused}
 use Rattle.gimli_read.proofs.FaultLemmas.{IsByBytes, step, value, fault_of_is, not_refused}
 use Rattle.gimli.specs.Sections.{Sections}
-use Rattle.addr2line_units.specs.declared.frames_lookup.OnFault.{OnFault}
-use Rattle.addr2line_units.specs.declared.frames_lookup.OnFault.TheVariants.{Stop, Skip}
+use Rattle.addr2line_units.specs.declared.frames.OnFault.{OnFault}
+use Rattle.addr2line_units.specs.declared.frames.OnFault.TheVariants.{Stop, Skip}
 use Rattle.addr2line_units.specs.declared.parses.ReadingDepth.{ReadingDepth}
 use Rattle.addr2line_units.specs.Cover.{cover}
 use Rattle.addr2line_units.specs.FramesLookup.{LookupStop, Waits, Finds, FindsNothing, main_scope}

@@ -7,8 +7,8 @@ use Rattle.gimli_read.specs.Alike.{WasNotRefused}
 use Rattle.gimli_read.specs.Reading.{◌>>=◌, ExactlyUnlessOom}
 use Rattle.addr2line_lines.specs.InlineRoom.{exceeds_inline_room}
 use Rattle.addr2line_lines.specs.References.{Scope}
-use Rattle.addr2line_units.specs.declared.frames_lookup.OnFault.{OnFault}
-use Rattle.addr2line_units.specs.declared.frames_lookup.OnFault.TheVariants.{Skip}
+use Rattle.addr2line_units.specs.declared.frames.OnFault.{OnFault}
+use Rattle.addr2line_units.specs.declared.frames.OnFault.TheVariants.{Skip}
 use Rattle.addr2line_units.specs.declared.index.UnitRange.{UnitRange}
 use Rattle.addr2line_units.specs.AfterUnits as left
 use Rattle.addr2line_units.specs.Cover.{cover}

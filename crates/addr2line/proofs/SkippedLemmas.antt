@@ -7,7 +7,7 @@ use Rattle.gimli_read.specs.Reading.{◌>>=◌}
 use Rattle.gimli.specs.Sections.{Sections}
 use Rattle.gimli.specs.Unit.{UnitRecord}
 use Rattle.addr2line_units.specs.Cover.{cover}
-use Rattle.addr2line_units.specs.declared.frames_lookup.OnFault.{OnFault}
+use Rattle.addr2line_units.specs.declared.frames.OnFault.{OnFault}
 use Rattle.addr2line_units.specs.FramesLookup.{LookupStop, Waits, Finds, FindsNothing, answer_of, is_waiting, main_scope, with_answer}
 use Rattle.gimli_read.specs.Alike.{WasNotRefused}
 use Rattle.addr2line_units.specs.Loads.{is_open_at}

@@ -3,7 +3,7 @@ use Rattle.std.proofs.Common.{◌≡◌, ℕ, ◌&&◌, ◌||◌, Bool, true, fa
 use Rattle.gimli_read.specs.declared.error.Error.{Error}
 use Rattle.gimli.specs.Sections.{Sections}
 use Rattle.addr2line_lines.specs.InlineRoom.{exceeds_inline_room}
-use Rattle.addr2line_units.specs.declared.frames_lookup.OnFault.{OnFault}
+use Rattle.addr2line_units.specs.declared.frames.OnFault.{OnFault}
 use Rattle.addr2line_units.specs.declared.index.UnitRange.{UnitRange}
 use Rattle.addr2line_units.specs.Cover.{cover, holds_until}
 use Rattle.addr2line_units.specs.FramesLookup.{LookupStop, Waits, Finds, FindsNothing, asks_lines_of, inlined_at_number, holds_along, is_waiting, main_scope}

@@ -2,7 +2,7 @@
 use Rattle.std.specs.Prelude.{◌≡◌, ℕ, suc, length, slice_get, List, Option, Some, None, Result, Ok}
 use Rattle.gimli_read.specs.declared.error.Error.{Error}
 use Rattle.gimli.specs.Sections.{Sections}
-use Rattle.addr2line_units.specs.declared.frames_lookup.OnFault.{OnFault}
+use Rattle.addr2line_units.specs.declared.frames.OnFault.{OnFault}
 use Rattle.addr2line_units.specs.Frames.{FoundFunction, FrameRecord}
 use Rattle.addr2line_units.specs.FramesLookup.{Finds, answer_of, main_scope}
 use Rattle.addr2line_units.specs.UnitFrames.{function_in}

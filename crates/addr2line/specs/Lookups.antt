@@ -7,8 +7,8 @@ use Rattle.gimli_read.specs.declared.error.Error.{Error}
 use Rattle.gimli_read.specs.Reading.{◌>>=◌}
 use Rattle.gimli.specs.Sections.{Sections}
 use Rattle.gimli.specs.Unit.{UnitRecord}
-use Rattle.addr2line_units.specs.declared.frames_lookup.OnFault.{OnFault}
-use Rattle.addr2line_units.specs.declared.frames_lookup.OnFault.TheVariants.{Stop, Skip}
+use Rattle.addr2line_units.specs.declared.frames.OnFault.{OnFault}
+use Rattle.addr2line_units.specs.declared.frames.OnFault.TheVariants.{Stop, Skip}
 use Rattle.addr2line_units.specs.Cover.{cover}
 use Rattle.addr2line_units.specs.Frames.{FrameRecord}
 use Rattle.addr2line_units.specs.FramesLookup.{LookupAsks, LookupStop, Waits, Finds, FindsNothing, asked_frames, frames_found, frames_of_number, main_scope, readable_view, stop_along, view_of_number}

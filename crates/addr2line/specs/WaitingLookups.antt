@@ -5,8 +5,8 @@ use Rattle.gimli_read.specs.declared.error.Error.{Error}
 use Rattle.gimli_read.specs.declared.error.Error.TheVariants.{OutOfMemory}
 use Rattle.gimli.specs.Sections.{Sections}
 use Rattle.addr2line_units.specs.declared.continuation.LookupResult.{LookupResult}
-use Rattle.addr2line_units.specs.declared.frames_lookup.OnFault.{OnFault}
-use Rattle.addr2line_units.specs.declared.frames_lookup.OnFault.TheVariants.{Stop, Skip}
+use Rattle.addr2line_units.specs.declared.frames.OnFault.{OnFault}
+use Rattle.addr2line_units.specs.declared.frames.OnFault.TheVariants.{Stop, Skip}
 use Rattle.addr2line_units.specs.FramesLookup.{LookupStop, Waits}
 use Rattle.addr2line_units.specs.Suspended.{IfOutput}
 use Rattle.addr2line_units.specs.Views.{SplitLoad, View}

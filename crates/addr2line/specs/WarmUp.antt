@@ -4,7 +4,7 @@ use Rattle.std.specs.Prelude.{◌≡◌, ℕ, true, not, Option, Result, Ok}
 use Rattle.gimli_read.specs.declared.error.Error.{Error}
 use Rattle.gimli_read.specs.Alike.{WasNotRefused}
 use Rattle.addr2line_lines.specs.InlineRoom.{exceeds_inline_room}
-use Rattle.addr2line_units.specs.declared.frames_lookup.OnFault.{OnFault}
+use Rattle.addr2line_units.specs.declared.frames.OnFault.{OnFault}
 use Rattle.addr2line_units.specs.Cover.{cover}
 use Rattle.addr2line_units.specs.FramesLookup.{inlined_at_number, holds_along, main_scope}
 use Rattle.addr2line_units.specs.FunctionParseLaws.{IsReached}

@@ -2,7 +2,7 @@
 
 ghost use Rattle.std.specs.Prelude.{◌≡◌, ◌<◌, ℕ, Err, IfErr, OnOk, false, option_map, true};
 ghost use Rattle.addr2line_units.specs.AnswerMemory.{answer_takes_memory};
-ghost use Rattle.addr2line_units.specs.declared.frames_lookup.OnFault.{OnFault};
+ghost use Rattle.addr2line_units.specs.declared.frames.OnFault.{OnFault};
 ghost use Rattle.addr2line.specs.Answers.{AfterAnswering, load_reply};
 ghost use Rattle.addr2line.specs.Lookups.{lookup_stop, waits_for};
 ghost use Rattle.addr2line.specs.WaitingLookups.{count_loads};

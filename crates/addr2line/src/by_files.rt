@@ -3,7 +3,7 @@
 ghost use Rattle.std.specs.Prelude.{◌≡◌, ◌≢◌, ◌<◌, Err, IfErr, IfOk, Ok, OnErr, OnOk, option_map};
 ghost use Rattle.elf.specs.declared.error.LoaderError.TheVariants.{OutOfMemory, PathNotUtf8};
 ghost use Rattle.addr2line_lines.specs.LastAddress.{last_address};
-ghost use Rattle.addr2line_units.specs.declared.frames_lookup.OnFault.TheVariants.{Stop};
+ghost use Rattle.addr2line_units.specs.declared.frames.OnFault.TheVariants.{Stop};
 ghost use Rattle.addr2line_units.specs.FramesLookup.{Waits};
 ghost use Rattle.addr2line.specs.Context.{ContextState, IsUncovered};
 ghost use Rattle.addr2line.specs.Files.{as_read_if_known};
@@ -19,7 +19,7 @@ use crate::context::Context;
 use crate::files::FileSource;
 use crate::kept_files::KeptFiles;
 use crate::split_files::answer_to;
-use addr2line_units::frames_lookup::OnFault;
+use addr2line_units::frames::OnFault;
 use elf::LoaderError;
 use gimli::Dwarf;
 use gimli::read::EndianBytes;

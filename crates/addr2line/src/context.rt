@@ -16,7 +16,7 @@ ghost use Rattle.addr2line.specs.Context.{new_context, lines_of_all, AfterLookup
 
 use addr2line_lines::Location;
 use addr2line_units::index::UnitRanges;
-use addr2line_units::range::LocationRangeIter;
+use addr2line_units::locations::LocationRangeIter;
 use addr2line_units::units::Units;
 use gimli::read::{Error, Reader};
 use gimli::{

@@ -19,8 +19,8 @@ ghost use Rattle.addr2line.specs.SeenReplies.{seen_owned_frame, seen_owned_load,
 
 use crate::reply::{FoundUnit, OwnedFrame, OwnedLoad, OwnedLocation, OwnedName, OwnedSpan, Reply};
 use addr2line_lines::Location;
-use addr2line_units::range::LocationRangeIter;
-use addr2line_units::view::SplitDwarfLoad;
+use addr2line_units::locations::LocationRangeIter;
+use addr2line_units::unit::SplitDwarfLoad;
 use addr2line_units::{Frame, FrameIter, FunctionName};
 use gimli::UnitRef;
 use gimli::read::{Error, Reader};

@@ -3,7 +3,7 @@
 ghost use Rattle.std.specs.Prelude.{◌≡◌, Some};
 ghost use Rattle.std.specs.Borrow.{sem};
 ghost use Rattle.gimli_read.specs.Reading.{ExactlyUnlessOom};
-ghost use Rattle.addr2line_units.specs.declared.frames_lookup.OnFault.TheVariants.{Stop};
+ghost use Rattle.addr2line_units.specs.declared.frames.OnFault.TheVariants.{Stop};
 ghost use Rattle.addr2line_units.specs.FramesLeft.{frames_left};
 ghost use Rattle.addr2line_lines.specs.LastAddress.{last_address};
 ghost use Rattle.addr2line_units.specs.Suspended.{IfLoad, IfOutput, IsOkOutput};
@@ -18,8 +18,8 @@ use crate::kinds::{Lent, LookupKind};
 use crate::suspended::{Suspended, begin};
 use addr2line_units::FrameIter;
 use addr2line_units::continuation::LookupResult;
-use addr2line_units::frames_lookup::OnFault;
-use addr2line_units::view::SplitDwarfLoad;
+use addr2line_units::frames::OnFault;
+use addr2line_units::unit::SplitDwarfLoad;
 use gimli::read::Reader;
 
 /// Frames, up to the first fault of a unit that is asked.

@@ -4,12 +4,12 @@ ghost use Rattle.std.specs.Prelude.{◌≡◌};
 ghost use Rattle.addr2line.specs.Lookups.{view_found};
 
 use crate::context::Context;
-use addr2line_units::frames_lookup::OnFault;
+use addr2line_units::frames::OnFault;
 use gimli::read::Reader;
 
 /// What a lookup asks for, whose answer may wait for split files.
 pub trait LookupKind: Drop {
-    ghost use Rattle.addr2line_units.specs.declared.frames_lookup.OnFault.{OnFault};
+    ghost use Rattle.addr2line_units.specs.declared.frames.OnFault.{OnFault};
 
     // What becomes of the fault of a unit that is asked.
     ghost faults: { OnFault };

@@ -11,7 +11,7 @@ ghost use Rattle.addr2line.specs.Loads.{AfterForgetting, AfterLoading, AfterPrel
 ghost use Rattle.addr2line.specs.Lookups.{loads_at};
 
 use crate::context::Context;
-use addr2line_units::view::{SplitDwarfLoad, UnitToken};
+use addr2line_units::unit::{SplitDwarfLoad, UnitToken};
 use gimli::Dwarf;
 use gimli::read::{Error, Reader};
 use std::rc::Rc;

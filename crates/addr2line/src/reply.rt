@@ -1,6 +1,6 @@
 //! What calls of a context give, as owned copies.
 
-use addr2line_units::view::UnitToken;
+use addr2line_units::unit::UnitToken;
 use gimli::read::{DwLang, Error, UnitOffset};
 use gimli::{DebugInfoOffset, DwarfFileType, DwoId};
 

@@ -21,7 +21,7 @@ use crate::kinds::LookupKind;
 use crate::reply::Reply;
 use crate::suspended::Suspended;
 use addr2line_units::continuation::{LookupContinuation, LookupResult};
-use addr2line_units::view::{SplitDwarfLoad, UnitToken};
+use addr2line_units::unit::{SplitDwarfLoad, UnitToken};
 use gimli::Dwarf;
 use gimli::read::{Error, Reader};
 use std::rc::Rc;

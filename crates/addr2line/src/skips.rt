@@ -2,13 +2,13 @@
 
 ghost use Rattle.std.specs.Prelude.{◌≡◌, IfErr, None, OnOk};
 ghost use Rattle.gimli_read.specs.declared.error.Error.TheVariants.{OutOfMemory};
-ghost use Rattle.addr2line_units.specs.declared.frames_lookup.OnFault.TheVariants.{Skip};
+ghost use Rattle.addr2line_units.specs.declared.frames.OnFault.TheVariants.{Skip};
 ghost use Rattle.addr2line.specs.AfterLookups.{IsStored};
 ghost use Rattle.addr2line_units.specs.UnitsState.{waiting_unit};
 ghost use Rattle.addr2line.specs.Skips.{AfterSkip};
 
 use crate::context::Context;
-use addr2line_units::frames_lookup::OnFault;
+use addr2line_units::frames::OnFault;
 use gimli::read::{Error, Reader};
 
 impl<R: Reader> Context<R> {

@@ -18,7 +18,7 @@ use crate::compressed::CompressedSections;
 use crate::file_sections::{OpenFile, SectionSource, SplitFile, as_dwarf, read_sections};
 use crate::files::{FileSource, FileStamp};
 use crate::kept_files::KeptFiles;
-use addr2line_units::view::{SplitDwarfLoad, read_first_unit};
+use addr2line_units::unit::{SplitDwarfLoad, read_first_unit};
 use bytes::Bytes;
 use elf::{ElfFile, FileImage, LoaderError};
 use gimli::read::{EndianBytes, Reader, RunTimeEndian};

@@ -4,7 +4,7 @@ ghost use Rattle.std.specs.Prelude.{◌≡◌, IfErr, IfOk};
 ghost use Rattle.gimli_read.specs.declared.error.Error.TheVariants.{OutOfMemory};
 ghost use Rattle.gimli_read.specs.Alike.{WasNotRefused};
 ghost use Rattle.addr2line_lines.specs.LastAddress.{last_address};
-ghost use Rattle.addr2line_units.specs.declared.frames_lookup.OnFault.TheVariants.{Skip};
+ghost use Rattle.addr2line_units.specs.declared.frames.OnFault.TheVariants.{Skip};
 ghost use Rattle.addr2line_units.specs.FramesLeft.{frames_left};
 ghost use Rattle.addr2line_units.specs.FramesLookup.{Waits, frames_found};
 ghost use Rattle.addr2line_units.specs.SeenUnit.{seen_unit};
@@ -16,8 +16,8 @@ ghost use Rattle.std.specs.Prelude.{option_map};
 
 use crate::context::Context;
 use addr2line_units::FrameIter;
-use addr2line_units::frames_lookup::OnFault;
-use addr2line_units::view::SplitDwarfLoad;
+use addr2line_units::frames::OnFault;
+use addr2line_units::unit::SplitDwarfLoad;
 use gimli::UnitRef;
 use gimli::read::{Error, Reader};
 

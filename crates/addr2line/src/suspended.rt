@@ -4,7 +4,7 @@ ghost use Rattle.std.specs.Prelude.{◌≡◌, ◌<◌, None, Some, IfErr, optio
 ghost use Rattle.std.specs.Borrow.{sem};
 ghost use Rattle.gimli_read.specs.declared.error.Error.TheVariants.{OutOfMemory};
 ghost use Rattle.gimli_read.specs.Reading.{ExactlyUnlessOom};
-ghost use Rattle.addr2line_units.specs.declared.frames_lookup.OnFault.TheVariants.{Skip};
+ghost use Rattle.addr2line_units.specs.declared.frames.OnFault.TheVariants.{Skip};
 ghost use Rattle.addr2line_lines.specs.LastAddress.{last_address};
 ghost use Rattle.addr2line_units.specs.Suspended.{IfLoad, IfOutput, SkipsTo};
 ghost use Rattle.addr2line.specs.Answers.{AfterResume};
@@ -18,7 +18,7 @@ ghost use Rattle.addr2line.specs.WaitingLookups.{HoldsIn, IsRefusedAs, SuspendsA
 use crate::context::Context;
 use crate::kinds::{Lent, LookupKind};
 use addr2line_units::continuation::{LookupContinuation, LookupResult};
-use addr2line_units::view::SplitDwarfLoad;
+use addr2line_units::unit::SplitDwarfLoad;
 use gimli::Dwarf;
 use gimli::read::{Error, Reader};
 use std::marker::PhantomData;

@@ -12,7 +12,7 @@ use Rattle.addr2line_lines.specs.LastAddress.{last_address}
 use Rattle.addr2line_lines.specs.Location.{Location}
 use Rattle.addr2line_units.specs.declared.index.UnitRange.{UnitRange}
 use Rattle.addr2line_units.specs.Cover.{cover}
-use Rattle.addr2line_units.specs.declared.frames_lookup.OnFault.TheVariants.{Stop}
+use Rattle.addr2line_units.specs.declared.frames.OnFault.TheVariants.{Stop}
 use Rattle.addr2line_units.specs.Frames.{FrameRecord}
 use Rattle.addr2line_units.specs.FramesLookup.{is_waiting}
 use Rattle.addr2line_units.specs.Located.{location_in, location_of}

@@ -4,7 +4,7 @@ use Rattle.gimli_read.specs.declared.error.Error.{Error}
 use Rattle.gimli_read.specs.declared.error.Error.TheVariants as reading
 use Rattle.gimli_read.specs.Reading.{ExactlyUnlessOom}
 use Rattle.elf.specs.Text.{loader_error_of}
-use Rattle.addr2line_units.specs.declared.frame.FrameIter.{FrameIter}
+use Rattle.addr2line_units.specs.declared.frames.FrameIter.{FrameIter}
 use Rattle.addr2line_units.specs.FramesLeft.{frames_left}
 use Rattle.addr2line_units.specs.UnitFrames.{FramesResult}
 use Rattle.addr2line.specs.SplitFiles.{of_file}

@@ -1,7 +1,7 @@
 -- What lookups that wait say (on addr2line's specs/WaitingLookups.antt).
 use Rattle.std.proofs.Common.{◌≡◌, ℕ, Ok, None, ap}
 use Rattle.std.specs.Borrow.{MutBor}
-use Rattle.addr2line_units.specs.declared.frames_lookup.OnFault.TheVariants.{Stop}
+use Rattle.addr2line_units.specs.declared.frames.OnFault.TheVariants.{Stop}
 use Rattle.addr2line_units.specs.Views.{SplitLoad}
 use Rattle.addr2line.specs.Context.{ContextState}
 use Rattle.addr2line.specs.Lookups.{frames_of_stop}

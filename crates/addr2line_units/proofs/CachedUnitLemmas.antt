@@ -15,8 +15,8 @@ use Rattle.addr2line_units.specs.declared.entries.LazyFunctions.{LazyFunctions}
 use Rattle.addr2line_units.specs.declared.entries.LazyFunctions.TheVariants as lazy
 use Rattle.addr2line_units.specs.declared.entries.UnitCache.{UnitCache}
 use Rattle.addr2line_units.specs.declared.entries.UnitEntries.{UnitEntries}
-use Rattle.addr2line_units.specs.declared.view.ViewState.{ViewState}
-use Rattle.addr2line_units.specs.declared.view.ViewState.TheVariants as states
+use Rattle.addr2line_units.specs.declared.unit.ViewState.{ViewState}
+use Rattle.addr2line_units.specs.declared.unit.ViewState.TheVariants as states
 use Rattle.addr2line_units.specs.CachedEntries.{AreEntriesOf, ReadsEntriesOf, StayEntries, has_answered, has_entries, has_entries_by, first_answer_of}
 use Rattle.addr2line_units.specs.CachedFunctions.{StayFunctions, has_detail, cached_has_function, has_place, cached_functions, no_functions}
 use Rattle.addr2line_units.specs.CachedKnown.{known_by, known_in}

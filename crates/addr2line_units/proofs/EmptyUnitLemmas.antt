@@ -16,11 +16,11 @@ use Rattle.addr2line_lines.specs.UnitLines.{unit_lines}
 use Rattle.addr2line_units.specs.declared.entries.LazyFunctions.{LazyFunctions}
 use Rattle.addr2line_units.specs.declared.entries.LazyFunctions.TheVariants as functions
 use Rattle.addr2line_units.specs.declared.entries.UnitCache.{UnitCache}
-use Rattle.addr2line_units.specs.declared.frames_lookup.FramesStop.{FramesStop}
+use Rattle.addr2line_units.specs.declared.frames.FramesStop.{FramesStop}
 use Rattle.addr2line_units.specs.declared.unit.LazyLines.{LazyLines}
 use Rattle.addr2line_units.specs.declared.unit.LazyLines.TheVariants as lines
-use Rattle.addr2line_units.specs.declared.view.ViewState.{ViewState}
-use Rattle.addr2line_units.specs.declared.view.ViewState.TheVariants as states
+use Rattle.addr2line_units.specs.declared.unit.ViewState.{ViewState}
+use Rattle.addr2line_units.specs.declared.unit.ViewState.TheVariants as states
 use Rattle.addr2line_units.specs.CachedEntries.{AreEntriesOf, first_answer_of, has_answered, has_entries, has_entries_by}
 use Rattle.addr2line_units.specs.CachedFrames.{has_frames_at}
 use Rattle.addr2line_units.specs.CachedFunctions.{AreFunctionsOf}

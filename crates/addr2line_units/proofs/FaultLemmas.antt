@@ -24,8 +24,8 @@ use Rattle.addr2line_lines.specs.References.{Scope}
 use Rattle.addr2line_lines.proofs.FaultLemmas.{read_all_is, optional_string_is, unit_lines_are, with_range_attribute_is, attribute_ranges_are, functions_are, detail_is}
 use Rattle.addr2line_units.specs.declared.index.UnitArange.{UnitArange}
 use Rattle.addr2line_units.specs.declared.attributes.UnitAttributes.{UnitAttributes}
-use Rattle.addr2line_units.specs.declared.frames_lookup.OnFault.{OnFault}
-use Rattle.addr2line_units.specs.declared.frames_lookup.OnFault.TheVariants.{Stop, Skip}
+use Rattle.addr2line_units.specs.declared.frames.OnFault.{OnFault}
+use Rattle.addr2line_units.specs.declared.frames.OnFault.TheVariants.{Stop, Skip}
 use Rattle.addr2line_units.specs.declared.index.UnitRange.{UnitRange}
 use Rattle.addr2line_units.specs.declared.parses.ReadingDepth.{ReadingDepth}
 use Rattle.addr2line_units.specs.declared.parses.ReadingDepth.TheVariants as depths

@@ -11,7 +11,7 @@ use Rattle.gimli.specs.Unit.{UnitRecord}
 use Rattle.addr2line_lines.specs.declared.row.Row.{Row}
 use Rattle.addr2line_lines.specs.Location.{LineTable, location_of_row}
 use Rattle.addr2line_lines.specs.References.{Scope}
-use Rattle.addr2line_units.specs.declared.frames_lookup.FramesStop.{FramesStop}
+use Rattle.addr2line_units.specs.declared.frames.FramesStop.{FramesStop}
 use Rattle.addr2line_units.specs.declared.unit.UnitLines.{UnitLines}
 use Rattle.addr2line_units.specs.declared.entries.UnitCache.{UnitCache}
 use Rattle.addr2line_units.specs.AfterUnits.{AfterLines}

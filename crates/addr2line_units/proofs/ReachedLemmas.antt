@@ -15,7 +15,7 @@ use Rattle.addr2line_lines.specs.Shortest.{shortest}
 use Rattle.addr2line_lines.specs.UnitLines.{unit_lines}
 use Rattle.gimli_read.proofs.TopmostLemmas.{In}
 use Rattle.addr2line_lines.proofs.ShortestLemmas.{shortest_holds}
-use Rattle.addr2line_units.specs.declared.frames_lookup.OnFault.{OnFault}
+use Rattle.addr2line_units.specs.declared.frames.OnFault.{OnFault}
 use Rattle.addr2line_units.specs.declared.index.UnitRange.{UnitRange}
 use Rattle.addr2line_units.specs.declared.parses.ReadingDepth.TheVariants.{Details}
 use Rattle.addr2line_units.specs.Frames.{FoundFunction, FrameRecord, found_frames, found_function, function_at, function_from}

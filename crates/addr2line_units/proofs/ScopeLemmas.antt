@@ -18,8 +18,8 @@ use Rattle.addr2line_units.specs.declared.entries.LazyFunctions.{LazyFunctions}
 use Rattle.addr2line_units.specs.declared.entries.LazyFunctions.TheVariants as lazy
 use Rattle.addr2line_units.specs.declared.entries.UnitCache.{UnitCache}
 use Rattle.addr2line_units.specs.declared.entries.UnitEntries.{UnitEntries}
-use Rattle.addr2line_units.specs.declared.view.ViewState.{ViewState}
-use Rattle.addr2line_units.specs.declared.view.ViewState.TheVariants as states
+use Rattle.addr2line_units.specs.declared.unit.ViewState.{ViewState}
+use Rattle.addr2line_units.specs.declared.unit.ViewState.TheVariants as states
 use Rattle.addr2line_units.specs.CachedLines.{HaveLinesOf, indexed_units}
 use Rattle.addr2line_units.specs.FramesLookup.{main_scope}
 use Rattle.addr2line_units.specs.CachedEntries.{AreEntriesOf, AreFresh, first_answer_of}

@@ -15,10 +15,10 @@ use Rattle.gimli.specs.UnitsLeft.{all_headers}
 use Rattle.gimli.proofs.UnitLemmas.{read_takes_memory}
 use Rattle.addr2line_lines.specs.FileTexts.{optional_string}
 use Rattle.addr2line_lines.specs.References.{IsScope, Scope}
-use Rattle.addr2line_units.specs.declared.view.AnsweredLoad.{AnsweredLoad}
-use Rattle.addr2line_units.specs.declared.view.UnitView.{UnitView}
-use Rattle.addr2line_units.specs.declared.view.ViewState.{ViewState}
-use Rattle.addr2line_units.specs.declared.view.ViewState.TheVariants as states
+use Rattle.addr2line_units.specs.declared.unit.AnsweredLoad.{AnsweredLoad}
+use Rattle.addr2line_units.specs.declared.unit.UnitView.{UnitView}
+use Rattle.addr2line_units.specs.declared.unit.ViewState.{ViewState}
+use Rattle.addr2line_units.specs.declared.unit.ViewState.TheVariants as states
 use Rattle.addr2line_units.specs.CachedViews.{IsViewOf, answer_in, scope_by, seen_first_answer, seen_sections, split_file_by, split_file_in, split_unit, unboxed, verdict_in, view_by, waits}
 use Rattle.addr2line_units.specs.Views.{SplitLoad, View, answered_view, first_of, first_takes_memory, first_unit, first_unit_takes_memory, first_view, load_by, load_of_unit, main_view, split_name_of, verdict, verdict_by, view_scope}
 

@@ -5,7 +5,7 @@ use Rattle.gimli_read.specs.declared.error.Error.{Error}
 use Rattle.gimli_read.specs.declared.error.Error.TheVariants.{OutOfMemory}
 use Rattle.gimli_read.specs.Reading.{◌>>=◌}
 use Rattle.addr2line_lines.specs.References.{Scope}
-use Rattle.addr2line_units.specs.declared.frames_lookup.OnFault.{OnFault}
+use Rattle.addr2line_units.specs.declared.frames.OnFault.{OnFault}
 use Rattle.addr2line_units.specs.declared.index.UnitRange.{UnitRange}
 use Rattle.addr2line_units.specs.FramesLookup.{FindsNothing, Finds, LookupAsks, LookupStop, Waits, asked_frames, asks_lines_of, ends_lookup, frames_of_number, function_offset_of, holds_along, or_stop, stop_along}
 use Rattle.addr2line_units.specs.KnownEntries.{LearnsDetailsAt, knows_at}

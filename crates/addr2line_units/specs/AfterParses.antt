@@ -10,7 +10,7 @@ use Rattle.addr2line_units.specs.declared.entries.LazyFunctions.{LazyFunctions}
 use Rattle.addr2line_units.specs.declared.parses.ReadingDepth.{ReadingDepth}
 use Rattle.addr2line_units.specs.declared.parses.ReadingDepth.TheVariants as depths
 use Rattle.addr2line_units.specs.declared.entries.UnitEntries.{UnitEntries}
-use Rattle.addr2line_units.specs.declared.view.UnitView.{UnitView}
+use Rattle.addr2line_units.specs.declared.unit.UnitView.{UnitView}
 use Rattle.addr2line_units.specs.AfterUnits.{StayRead}
 use Rattle.addr2line_units.specs.AskMemory.{functions_in_take_memory}
 use Rattle.addr2line_units.specs.CachedEntries.{AreEntriesOf, StayEntries, first_answer_of}

@@ -8,7 +8,7 @@ use Rattle.gimli_read.specs.declared.error.Error.{Error}
 use Rattle.gimli_read.specs.declared.error.Error.TheVariants.{OutOfMemory}
 use Rattle.gimli_read.specs.Alike.{WasNotRefused}
 use Rattle.gimli.specs.Sections.{Sections}
-use Rattle.addr2line_units.specs.declared.frames_lookup.OnFault.{OnFault}
+use Rattle.addr2line_units.specs.declared.frames.OnFault.{OnFault}
 use Rattle.addr2line_units.specs.declared.index.UnitRange.{UnitRange}
 use Rattle.addr2line_units.specs.declared.parses.ReadingDepth.{ReadingDepth}
 use Rattle.addr2line_units.specs.declared.parses.ReadingDepth.TheVariants as depths

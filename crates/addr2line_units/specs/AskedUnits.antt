@@ -3,9 +3,9 @@ use Rattle.std.specs.Prelude.{◌≡◌, ◌+◌, ◌<◌, ◌≤◌, ℕ, Bool,
 use Rattle.gimli_read.specs.declared.error.Error.{Error}
 use Rattle.gimli_read.specs.Alike.{WasNotRefused}
 use Rattle.gimli_read.specs.Reading.{◌>>=◌}
-use Rattle.addr2line_units.specs.declared.frames_lookup.OnFault.{OnFault}
-use Rattle.addr2line_units.specs.declared.frames_lookup.FramesStop.{FramesStop}
-use Rattle.addr2line_units.specs.declared.frames_lookup.FramesStop.TheVariants as stops
+use Rattle.addr2line_units.specs.declared.frames.OnFault.{OnFault}
+use Rattle.addr2line_units.specs.declared.frames.FramesStop.{FramesStop}
+use Rattle.addr2line_units.specs.declared.frames.FramesStop.TheVariants as stops
 use Rattle.addr2line_units.specs.declared.entries.UnitFrames.{UnitFrames}
 use Rattle.addr2line_units.specs.AfterUnits.{AfterAsking, AfterLines}
 use Rattle.addr2line_units.specs.CachedFrames.{stop_of_found}

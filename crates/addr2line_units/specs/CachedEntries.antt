@@ -17,8 +17,8 @@ use Rattle.addr2line_units.specs.declared.unit.UnitLines.{UnitLines}
 use Rattle.addr2line_units.specs.declared.entries.UnitEntries.{UnitEntries}
 use Rattle.addr2line_units.specs.declared.entries.UnitFrames.{UnitFrames}
 use Rattle.addr2line_units.specs.declared.entries.UnitFrames.TheVariants as found
-use Rattle.addr2line_units.specs.declared.view.ViewState.{ViewState}
-use Rattle.addr2line_units.specs.declared.view.ViewState.TheVariants as states
+use Rattle.addr2line_units.specs.declared.unit.ViewState.{ViewState}
+use Rattle.addr2line_units.specs.declared.unit.ViewState.TheVariants as states
 use Rattle.addr2line_units.specs.AskMemory.{functions_in_take_memory, lines_take_memory}
 use Rattle.addr2line_units.specs.CachedLines.{cached_files, is_uncached}
 use Rattle.addr2line_units.specs.Frames.{FrameRecord, found_frames}

@@ -6,8 +6,8 @@ use Rattle.addr2line_lines.specs.FunctionTable.{CachedFunction, FunctionTable}
 use Rattle.addr2line_units.specs.declared.entries.LazyFunctions.{LazyFunctions}
 use Rattle.addr2line_units.specs.declared.entries.LazyFunctions.TheVariants as lazy
 use Rattle.addr2line_units.specs.declared.entries.UnitCache.{UnitCache}
-use Rattle.addr2line_units.specs.declared.view.ViewState.{ViewState}
-use Rattle.addr2line_units.specs.declared.view.ViewState.TheVariants as states
+use Rattle.addr2line_units.specs.declared.unit.ViewState.{ViewState}
+use Rattle.addr2line_units.specs.declared.unit.ViewState.TheVariants as states
 use Rattle.addr2line_units.specs.CachedFunctions.{is_cached_fault, no_functions}
 use Rattle.addr2line_units.specs.KnownEntries.{KnownDetail, NotRead, IsRead, HasFault, KnownFunction, KnownEntries, NothingKnown, AllKnown, FunctionsKnown}
 

@@ -9,10 +9,10 @@ use Rattle.gimli.specs.Sections.{Sections}
 use Rattle.gimli.specs.Split.{relocated}
 use Rattle.gimli.specs.Unit.{UnitRecord}
 use Rattle.addr2line_lines.specs.References.{Scope}
-use Rattle.addr2line_units.specs.declared.view.AnsweredLoad.{AnsweredLoad}
-use Rattle.addr2line_units.specs.declared.view.UnitView.{UnitView}
-use Rattle.addr2line_units.specs.declared.view.ViewState.{ViewState}
-use Rattle.addr2line_units.specs.declared.view.ViewState.TheVariants as states
+use Rattle.addr2line_units.specs.declared.unit.AnsweredLoad.{AnsweredLoad}
+use Rattle.addr2line_units.specs.declared.unit.UnitView.{UnitView}
+use Rattle.addr2line_units.specs.declared.unit.ViewState.{ViewState}
+use Rattle.addr2line_units.specs.declared.unit.ViewState.TheVariants as states
 use Rattle.addr2line_units.specs.Views.{View, first_unit, is_open, main_view, parts_of, split_view, verdict}
 
 -- an answer

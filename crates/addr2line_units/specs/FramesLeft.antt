@@ -6,9 +6,9 @@ use Rattle.addr2line_lines.specs.InlinedEntries.{InlinedEntry}
 use Rattle.addr2line_lines.specs.FunctionTable.{FunctionTable, cached_name, cached_offset_at}
 use Rattle.addr2line_lines.specs.Location.{LineTable, Location}
 use Rattle.addr2line_lines.specs.SeenLocation.{seen_location}
-use Rattle.addr2line_units.specs.declared.frame.FrameIter.{FrameIter}
-use Rattle.addr2line_units.specs.declared.frame.FrameState.{FrameState}
-use Rattle.addr2line_units.specs.declared.frame.FrameState.TheVariants.{Empty, Located, Function}
+use Rattle.addr2line_units.specs.declared.frames.FrameIter.{FrameIter}
+use Rattle.addr2line_units.specs.declared.frames.FrameState.{FrameState}
+use Rattle.addr2line_units.specs.declared.frames.FrameState.TheVariants.{Empty, Located, Function}
 use Rattle.addr2line_units.specs.Frames.{FrameRecord, call_location, function_frame, location_frames}
 
 -- the frame of an inlined entry; without an entry one with neither offset nor function

@@ -10,7 +10,7 @@ use Rattle.gimli_read.specs.Reading.{◌>>=◌, fault_of}
 use Rattle.gimli.specs.Sections.{Sections}
 use Rattle.gimli.specs.Unit.{UnitRecord}
 use Rattle.addr2line_units.specs.declared.index.UnitRange.{UnitRange}
-use Rattle.addr2line_units.specs.declared.view.UnitToken.{UnitToken}
+use Rattle.addr2line_units.specs.declared.unit.UnitToken.{UnitToken}
 use Rattle.addr2line_units.specs.FramesLookup.{answer_of}
 use Rattle.addr2line_units.specs.Views.{FirstAnswers, SplitLoad, View, awaited_load, decided_answer, is_open, verdict}
 

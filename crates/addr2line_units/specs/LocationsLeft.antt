@@ -3,7 +3,7 @@ use Rattle.std.specs.Prelude.{List, ◌++◌, option_map, Result}
 use Rattle.gimli_read.specs.declared.error.Error.{Error}
 use Rattle.addr2line_lines.specs.RangeLocations.{LocatedSpan}
 use Rattle.addr2line_lines.specs.RangesLeft.{located_rows_left}
-use Rattle.addr2line_units.specs.declared.range.LocationRangeIter.{LocationRangeIter}
+use Rattle.addr2line_units.specs.declared.locations.LocationRangeIter.{LocationRangeIter}
 use Rattle.addr2line_units.specs.RangeLookup.{cached_along, unit_rows_left}
 use Rattle.addr2line_units.specs.UnitRangesLeft.{ranges_left}
 

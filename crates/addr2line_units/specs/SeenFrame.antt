@@ -5,8 +5,8 @@ use Rattle.gimli_read.specs.declared.error.Error.{Error}
 use Rattle.gimli_read.specs.Section.{Section}
 use Rattle.gimli_read.specs.Text.{lossy_text}
 use Rattle.addr2line_lines.specs.SeenLocation.{seen_location}
-use Rattle.addr2line_units.specs.declared.frame.Frame.{Frame}
-use Rattle.addr2line_units.specs.declared.frame.FunctionName.{FunctionName}
+use Rattle.addr2line_units.specs.declared.frames.Frame.{Frame}
+use Rattle.addr2line_units.specs.declared.frames.FunctionName.{FunctionName}
 use Rattle.addr2line_units.specs.Frames.{FrameRecord, NameRecord}
 use Rattle.addr2line_units.specs.LegacyText.{demangled_auto}
 

@@ -23,8 +23,7 @@ ghost use Rattle.addr2line_units.specs.CachedViews.{is_decided, seen_first_answe
 ghost use Rattle.addr2line_units.specs.Views.{is_open};
 ghost use Rattle.addr2line_units.specs.declared.parses.ReadingDepth.TheVariants as depths;
 
-use crate::unit::{LazyLines, UnitLines};
-use crate::view::UnitView;
+use crate::unit::{LazyLines, UnitLines, UnitView};
 use addr2line_lines::{Count, Functions, InlinedPlaces, Row, Scope};
 use gimli::read::{Error, Reader};
 use gimli::{Unit, UnitRef};

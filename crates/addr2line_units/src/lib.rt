@@ -4,22 +4,20 @@
 pub mod attributes;
 pub mod continuation;
 mod entries;
-pub mod frame;
-pub mod frames_lookup;
+pub mod frames;
 pub mod index;
 mod laws;
 mod legacy;
 mod loads;
-pub mod lookup;
+pub mod locations;
 pub mod parses;
-pub mod range;
 pub mod range_iter;
 pub mod sup;
 pub mod unit;
 pub mod units;
-pub mod view;
 
-pub use crate::frame::{Frame, FrameIter, FunctionName};
+pub use crate::frames::{Frame, FrameIter, FunctionName};
 pub use crate::laws::{
     fault_laws, function_parse_laws, legacy_name_laws, load_laws, units_in_order, view_laws,
 };
+pub use crate::legacy::{demangle, demangle_auto};

@@ -19,10 +19,10 @@ ghost use Rattle.addr2line_units.specs.Parsed.{LeadTo};
 ghost use Rattle.addr2line_units.specs.UnitRangesLeft.{ranges_left};
 
 use crate::entries::{LazyFunctions, UnitEntries};
-use crate::frames_lookup::FramesStop;
+use crate::frames::FramesStop;
 use crate::range_iter::UnitRangeIter;
+use crate::unit::{SplitDwarfLoad, UnitToken};
 use crate::units::Units;
-use crate::view::{SplitDwarfLoad, UnitToken};
 use addr2line_lines::Scope;
 use gimli::read::{Error, Reader};
 use gimli::{Dwarf, Unit};

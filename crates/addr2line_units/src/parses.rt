@@ -14,9 +14,9 @@ ghost use Rattle.addr2line_units.specs.FunctionParses.{ReadsNoMemory, read_of_fu
 ghost use Rattle.addr2line_units.specs.Views.{verdict};
 
 use crate::entries::{LazyFunctions, UnitEntries};
-use crate::frames_lookup::FramesStop;
+use crate::frames::FramesStop;
+use crate::unit::UnitView;
 use crate::units::Units;
-use crate::view::UnitView;
 use addr2line_lines::Scope;
 use gimli::Unit;
 use gimli::read::{Error, Reader};

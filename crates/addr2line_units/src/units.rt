@@ -12,7 +12,7 @@ ghost use Rattle.addr2line_units.specs.StoredUnits.{scope_of};
 ghost use Rattle.addr2line_units.specs.UnitsState.{new_units};
 
 use crate::entries::{UnitCache, UnitEntries};
-use crate::frames_lookup::FramesStop;
+use crate::frames::FramesStop;
 use crate::index::{UnitAranges, UnitRange, UnitRanges};
 use crate::sup::SupUnits;
 use crate::unit::{UnitLines, is_type_unit, read_ranged_unit};

@@ -1,6 +1,6 @@
 //! Texts of names.
 
-use addr2line_units::frame::{demangle, demangle_auto};
+use addr2line_units::{demangle, demangle_auto};
 use gimli::read::{DwLang, Error};
 use std::alloc::Global;
 use std::borrow::CowStr;

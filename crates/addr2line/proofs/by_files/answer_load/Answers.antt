@@ -1,5 +1,5 @@
 use Rattle.std.proofs.Common.{option_map}
-use Rattle.addr2line_units.specs.declared.frames_lookup.OnFault.TheVariants.{Stop}
+use Rattle.addr2line_units.specs.declared.frames.OnFault.TheVariants.{Stop}
 use Rattle.addr2line.specs.Files.{as_read_if_known}
 use Rattle.addr2line.proofs.AskedLemmas.{reads_answered}
 use Rattle.addr2line.proofs.ByFilesLemmas.{answered_by_file, one_answered}

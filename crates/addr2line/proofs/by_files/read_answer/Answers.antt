@@ -2,7 +2,7 @@ use Rattle.std.proofs.Common.{◌≡◌, ℕ, Option, Some, None, Ok, Err, optio
 use Rattle.std.specs.Prelude.{IfErr, IfOk, IfSome}
 use Rattle.gimli.specs.Sections.{Sections}
 use Rattle.elf.specs.Loading.{Loading, LoadsUnlessOom}
-use Rattle.addr2line_units.specs.declared.frames_lookup.OnFault.TheVariants.{Stop}
+use Rattle.addr2line_units.specs.declared.frames.OnFault.TheVariants.{Stop}
 use Rattle.addr2line_units.specs.FramesLookup.{Waits}
 use Rattle.addr2line_units.specs.Views.{SplitLoad}
 use Rattle.addr2line.specs.Context.{ContextState}

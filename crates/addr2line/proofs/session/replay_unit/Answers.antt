@@ -1,7 +1,7 @@
 use Rattle.std.proofs.Common.{◌≤◌, ap, length, map, option_map, refl, rules, subst, sym, ◌∙◌}
 use Rattle.std.proofs.lemmas.List.{length-map}
 use Rattle.gimli_read.specs.Reading.{ExactlyUnlessOom}
-use Rattle.addr2line_units.specs.declared.frames_lookup.OnFault.TheVariants.{Skip}
+use Rattle.addr2line_units.specs.declared.frames.OnFault.TheVariants.{Skip}
 use Rattle.addr2line_units.specs.SeenUnit.{seen_found}
 use Rattle.addr2line.proofs.ReplayLemmas.{begun_at, ends_at_once, ends_resumed, goes_on, is_left, is_refused, left_at_end, left_by, load_token, next_of, found_waiting}
 use Rattle.addr2line.specs.Answers.{SuspendsAgain, answered}

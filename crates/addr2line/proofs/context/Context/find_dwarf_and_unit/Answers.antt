@@ -1,5 +1,5 @@
 use Rattle.std.proofs.Common.{refl}
-use Rattle.addr2line_units.specs.declared.frames_lookup.OnFault.TheVariants.{Skip}
+use Rattle.addr2line_units.specs.declared.frames.OnFault.TheVariants.{Skip}
 use Rattle.addr2line_units.specs.SeenUnit.{seen_found}
 use Rattle.addr2line.proofs.AfterLemmas.{if_load}
 use Rattle.addr2line.proofs.UncoveredLemmas.{uncovered_ends, uncovered_ok}

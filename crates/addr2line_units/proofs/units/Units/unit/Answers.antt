@@ -1,5 +1,5 @@
 use Rattle.std.proofs.Common.{ap, arith, option_map, rules, sym, ◌∙◌, ◌≡◌}
-use Rattle.addr2line_units.specs.declared.frames_lookup.FramesStop.TheVariants as stops
+use Rattle.addr2line_units.specs.declared.frames.FramesStop.TheVariants as stops
 use Rattle.addr2line_units.specs.CachedFrames.{seen_stop}
 use Rattle.addr2line_units.specs.CachedUnits.{answers_in}
 use Rattle.addr2line_units.specs.FramesLookup.{unit_found}

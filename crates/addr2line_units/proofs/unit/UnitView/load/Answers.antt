@@ -3,7 +3,7 @@ use Rattle.std.proofs.lemmas.Grind.{common_steps}
 use Rattle.gimli_read.specs.declared.error.Error.TheVariants.{OutOfMemory}
 use Rattle.addr2line_units.specs.Views.{verdict}
 use Rattle.addr2line_units.proofs.ViewLemmas.{open_has_load, refused_load, waiting_is_open}
-use Rattle.addr2line_units.proofs.view.UnitView.load.Goals as goal
+use Rattle.addr2line_units.proofs.unit.UnitView.load.Goals as goal
 
 pub returns-in_err-load-clause-refused : goal.returns-in_err-load-clause-refused
 returns-in_err-load-clause-refused g c =

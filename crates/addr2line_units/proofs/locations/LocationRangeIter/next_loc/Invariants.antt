@@ -1,7 +1,7 @@
 use Rattle.std.proofs.Common.{◌≡◌, length}
 use Rattle.addr2line_units.specs.LocationsLeft.{locations_left}
 use Rattle.addr2line_units.specs.UnitRangesLeft.{ranges_left}
-use Rattle.addr2line_units.proofs.range.LocationRangeIter.next_loc.Given as goal
+use Rattle.addr2line_units.proofs.locations.LocationRangeIter.next_loc.Given as goal
 
 abbrev pub invariant-loop-self : goal.invariant-loop-self
 invariant-loop-self g l = locations_left l.self ≡ locations_left l.fn.self

@@ -3,7 +3,7 @@ use Rattle.std.proofs.lemmas.Result.{err_from_is_err_and}
 use Rattle.addr2line_units.specs.AnswerMemory.{answer_takes_memory}
 use Rattle.addr2line_units.specs.Views.{first_unit}
 use Rattle.addr2line_units.proofs.ViewLemmas.{first_read}
-use Rattle.addr2line_units.proofs.view.read_split_unit.Goals as goal
+use Rattle.addr2line_units.proofs.unit.read_split_unit.Goals as goal
 
 pub returns-in_err-new : goal.returns-in_err-new
 returns-in_err-new g c =

@@ -2,8 +2,8 @@ use Rattle.std.proofs.Common.{rules, ◌≡◌, ◌∙◌, ap, sym, None, Err, o
 use Rattle.addr2line_units.specs.CachedViews.{split_unit, unboxed}
 use Rattle.addr2line_units.specs.Views.{verdict}
 use Rattle.addr2line_units.proofs.ViewLemmas.{answered_is_right, verdict_of_open, waiting_is_open}
-use Rattle.addr2line_units.proofs.view.UnitView.decide.Goals as goal
-use Rattle.addr2line_units.proofs.view.UnitView.decide.Goals.{in-Ok, in-Err}
+use Rattle.addr2line_units.proofs.unit.UnitView.decide.Goals as goal
+use Rattle.addr2line_units.proofs.unit.UnitView.decide.Goals.{in-Ok, in-Err}
 
 pub returns-clause-view : goal.returns-clause-view
 returns-clause-view g c =

@@ -223,9 +223,8 @@ impl<R: Reader> Context<R> {
         ensures within { ParsesToFault self.old self.new }
         ensures kept { IsReadyForAll self.old → self.new.parsed ≡ self.old.parsed }
         ensures known { OnOk result (AreAllParsed self.new.parsed) }
-        ensures ready { OnOk result ((probe : ℕ) → IsReady self.new probe) }
-        ensures ready_for_range { OnOk result ((low high : ℕ)
-            → IsReadyForRange self.new low high) }
+        ensures ready { OnOk result (((probe : ℕ) → IsReady self.new probe)
+            × ((low high : ℕ) → IsReadyForRange self.new low high)) }
         ensures found { OnOk result ((probe : ℕ) → is_ok
             (location_of self.new.sections probe) ≡ true) }
     {

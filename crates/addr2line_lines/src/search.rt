@@ -86,8 +86,7 @@ fn first_row<T: Table>(table: &mut T, sequence: LineSequence, probe: u64) -> usi
     requires few { length (T.rows table.old) < 2 ^ 64 }
     requires among { IsAmong (T.rows table.old) sequence }
     requires below { sequence.start ≤ probe }
-    ensures from { sequence.first ≤ result }
-    ensures inside { result < sequence.first + sequence.len }
+    ensures within { (sequence.first ≤ result) × (result < sequence.first + sequence.len) }
     ensures found { row_address_at (T.rows table.old) result ≤ probe }
     ensures none { ArePastFrom probe (T.rows table.old) sequence
         (result - result % block_rows + block_rows) }

@@ -44,9 +44,8 @@ struct Sweep {
 
 impl Sweep {
     fn new(alloc: Global) -> Sweep
-        ensures at { result.at ≡ 0 }
-        ensures running { heap_items result.running ≡ [] }
-        ensures segments { result.segments.items ≡ [] }
+        ensures empty { (result.at ≡ 0) × (heap_items result.running ≡ [])
+            × (result.segments.items ≡ []) }
         ensures right { (addresses : List FunctionAddress) → IsSweptBy addresses 0 result }
     {
         Sweep {

@@ -1,7 +1,7 @@
 //! Laws of line programs: functions with empty bodies, whose contracts say what holds of the
 //! definitions.
 
-ghost use Rattle.gimli_line.specs.FaultLaws.{HeadersAreNotRefused, InstructionsAreNotRefused, RowsAreNotRefused};
+ghost use Rattle.gimli_line.specs.FaultLaws.{ProgramsAreNotRefused};
 ghost use Rattle.gimli_line.specs.Rises.{rows_before, NeverFalls, RowsRise};
 
 use crate::program::LineRows;
@@ -16,9 +16,7 @@ pub fn rows_laws()
 /// No reading of a line program gives `OutOfMemory`: whatever the bytes are, it gives a value or
 /// another fault, in the header and its tables, in an instruction and among the rows.
 pub fn fault_laws()
-    ensures headers { HeadersAreNotRefused }
-    ensures instructions { InstructionsAreNotRefused }
-    ensures rows { RowsAreNotRefused }
+    ensures law { ProgramsAreNotRefused }
 {}
 
 impl<R: Reader> LineRows<R> {

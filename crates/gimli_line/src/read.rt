@@ -72,9 +72,8 @@ fn read_operations<R: Reader>(version: u16, input: &mut R) -> Result<u8, Error>
 fn read_numbers<R: Reader>(encoding: Encoding, input: &mut R) -> Result<LineEncoding, Error>
     ensures gives { Reads R.section input.old input.new result (numbers_at encoding) }
     ensures kept { IfOk result (λ x. x.address_size ≡ encoding.address_size) }
-    ensures operations { IfOk result (λ x. 0 < x.maximum_operations_per_instruction) }
-    ensures range { IfOk result (λ x. 0 < x.line_range) }
-    ensures base { IfOk result (λ x. 0 < x.opcode_base) }
+    ensures some { IfOk result (λ x. (0 < x.maximum_operations_per_instruction)
+        × (0 < x.line_range) × (0 < x.opcode_base)) }
 {
     let minimum_instruction_length = read_nonzero(input)?;
     let maximum_operations_per_instruction = read_operations(encoding.version, input)?;

@@ -6,7 +6,7 @@ use Rattle.addr2line_units.specs.Parsed.{AllAskFor, AreReadyForAll, ParsesOnly, 
 use Rattle.addr2line_units.specs.UnitsState.{UnitsState}
 use Rattle.addr2line.specs.Context.{seen_context}
 use Rattle.addr2line_units.proofs.UnitsLemmas.{none_more_for_all}
-use Rattle.addr2line.proofs.ContextLemmas.{along_ok, at_lines, at_made, exactly_told, lines_are, lines_context, lines_stay, location_is, of_lines, of_made, range_ready_if_ok, ready_if_ok, same_if_asked, when_ok}
+use Rattle.addr2line.proofs.ContextLemmas.{along_ok, at_lines, at_made, exactly_told, lines_are, lines_context, lines_stay, location_is, of_lines, of_made, ready_if_ok, same_if_asked, when_ok}
 use Rattle.addr2line.proofs.context.Context.parse_lines.Goals as goal
 
 pub invariant_of-self : goal.invariant_of-self
@@ -29,9 +29,6 @@ returns-clause-looks g c = rw (sym c.self.view_is) c.parse_lines.ensures.after.l
 
 pub returns-clause-ready : goal.returns-clause-ready
 returns-clause-ready g c = ready_if_ok _ (seen_context c.parse_lines.new.self) c.parse_lines.ensures.after.parsed
-
-pub returns-clause-ready_for_range : goal.returns-clause-ready_for_range
-returns-clause-ready_for_range g c = range_ready_if_ok _ (seen_context c.parse_lines.new.self) c.parse_lines.ensures.after.parsed
 
 pub returns-clause-found : goal.returns-clause-found
 returns-clause-found g c =

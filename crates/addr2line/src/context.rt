@@ -159,7 +159,7 @@ impl<R: Reader> Context<R> {
             (location_of self.old.sections probe) }
         ensures last { probe ≡ last_address → result ≡ Ok None }
         ensures none { IsUncovered self.old probe → result ≡ Ok None }
-        ensures* kept { sem 𝓛 (EndsAs R.row R.Reader self.entry
+        ensures* ends { sem 𝓛 (EndsAs R.row R.Reader self.entry
             (AfterLookupOver R.shares probe result self.old)) }
     {
         match self.units.find_row(self.ranges.find(probe), probe)? {
@@ -188,7 +188,7 @@ impl<R: Reader> Context<R> {
             ≡ Ok (locations_left rows)) }
         ensures refused { IfErr result (λ e. e ≡ OutOfMemory) }
         ensures exact { LocatesRangeNoMemory R.shares self.old low high → IsOk result }
-        ensures* kept { sem 𝓛 (EndsAs R.row R.Reader self.entry
+        ensures* ends { sem 𝓛 (EndsAs R.row R.Reader self.entry
             (AfterRangeLookup low high result self.old)) }
     {
         self.units.cache_lines(self.ranges.find_range(low, high))?;

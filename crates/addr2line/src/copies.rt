@@ -169,7 +169,7 @@ pub(crate) fn rows_reply<R: Reader>(
 ) -> Result<Reply, Error>
     ensures gives { IfOk result (λ r. IfOk rows.entry (λ i. seen_reply r
         ≡ Ranged (locations_left i))) }
-    ensures read { OnOk result (IsOk rows.entry) }
+    ensures memory { OnOk result (IsOk rows.entry) }
     ensures refused { IfErr result (λ e. e ≡ OutOfMemory) }
 {
     match rows {

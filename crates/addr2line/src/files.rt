@@ -96,7 +96,7 @@ pub trait FileSource: Drop {
     /// None where that isn't told, as where it is known what files there are, and where memory for
     /// it is refused: then the file is read at each call. Source: own.
     fn stamp(&self, path: &str) -> Option<FileStamp>
-        ensures known { IfSome (files self.now) (λ _. result ≡ None) }
+        ensures none { IfSome (files self.now) (λ _. result ≡ None) }
     {
         None
     }

@@ -283,7 +283,7 @@ impl<F: FileSource> LoaderOver<F> {
         ensures exact { IsReady self.old.context probe → Exactly (option_map seen_location) result
             (of_file (location_of self.old.context.sections probe)) }
         ensures last { probe ≡ last_address → result ≡ Ok None }
-        ensures* kept { sem 𝓛 (LoaderEndsAs F.row F.files self.entry
+        ensures* ends { sem 𝓛 (LoaderEndsAs F.row F.files self.entry
             (AfterLocation probe result (seen_loader F.files self.old))) }
     {
         match self.context.find_location(probe) {
@@ -305,7 +305,7 @@ impl<F: FileSource> LoaderOver<F> {
             ≡ Ok (locations_left rows)) }
         ensures refused { IfErr result (λ e. e ≡ OutOfMemory) }
         ensures exact { LocatesRangeNoMemory true self.old.context low high → IsOk result }
-        ensures* kept { sem 𝓛 (LoaderEndsAs F.row F.files self.entry
+        ensures* ends { sem 𝓛 (LoaderEndsAs F.row F.files self.entry
             (AfterLocationRange low high result (seen_loader F.files self.old))) }
     {
         match self.context.find_location_range(low, high) {
@@ -343,7 +343,7 @@ impl<F: FileSource> LoaderOver<F> {
             → IsKnownFew Stop self.old.context probe
             → Exactly frames_left result (ended_frames_of self.old.context probe) }
         ensures last { probe ≡ last_address → Exactly frames_left result (Ok []) }
-        ensures* kept { sem 𝓛 (LoaderEndsAs F.row F.files self.entry
+        ensures* ends { sem 𝓛 (LoaderEndsAs F.row F.files self.entry
             (AfterLoads frames_left probe result (seen_loader F.files self.old))) }
     {
         answer_loads(

@@ -62,7 +62,7 @@ impl Reader for EndianBytes {
         self.bytes.as_slice()
     }
 
-    // The clauses `whole` and `none` say that it takes no memory for all of the bytes or none.
+    // The clauses `exact` and `none` say that it takes no memory for all of the bytes or none.
     fn split(&mut self, len: u64) -> Result<EndianBytes, Error>
         ensures gives { ReadsPartUnlessOom true (λ r. r) self.old self.new result (split_at len) }
         ensures refused { OnErr result (self.new ≡ self.old) }

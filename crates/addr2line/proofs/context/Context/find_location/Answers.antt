@@ -42,7 +42,7 @@ returns-in_err-place g c =
         exact = λ ready. is ∙ e.gives (ready_told s.ranges s.units i c.args.probe (Err c.in_err-place.field-0.0) now e.after ready);
         last = λ q. let none = none_covered s.ranges s.units i (row_location s.units) c.args.probe (Err c.in_err-place.field-0.0) now e.after e.gives (sym c.find.ensures.gives ∙ c.find.ensures.last q) in cc;
         none = λ q. let none = none_covered s.ranges s.units i (row_location s.units) c.args.probe (Err c.in_err-place.field-0.0) now e.after e.gives (covers_none s.ranges s.units i c.args.probe q) in cc;
-        kept = tt;
+        ends = tt;
       },
     )
 
@@ -62,7 +62,7 @@ returns-in-Some g c =
         exact = λ ready. found;
         last = λ q. let none = none_covered s.ranges s.units i (row_location s.units) c.args.probe (Ok (Some place)) now e.after e.gives (sym c.find.ensures.gives ∙ c.find.ensures.last q) in cc;
         none = λ q. let none = none_covered s.ranges s.units i (row_location s.units) c.args.probe (Ok (Some place)) now e.after e.gives (covers_none s.ranges s.units i c.args.probe q) in cc;
-        kept = tt;
+        ends = tt;
       },
     )
 
@@ -80,6 +80,6 @@ returns-in-None g c =
         exact = λ ready. is ∙ e.gives;
         last = λ q. refl;
         none = λ q. refl;
-        kept = tt;
+        ends = tt;
       },
     )

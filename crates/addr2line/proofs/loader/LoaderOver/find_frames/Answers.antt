@@ -45,7 +45,7 @@ returns-in_err-answer_loads g c =
         none = so.fault;
         exact = exact;
         last = λ q. last_frames probe first (c.answer_loads.ensures.last q) _ exact;
-        kept = tt;
+        ends = tt;
       },
     )
 
@@ -83,6 +83,6 @@ returns g c =
         none = ended;
         exact = λ w few. ended w;
         last = λ q. last_frames probe first (c.answer_loads.ensures.last q) _ (λ w few. ended w);
-        kept = tt;
+        ends = tt;
       },
     )

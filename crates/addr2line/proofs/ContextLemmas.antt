@@ -259,18 +259,14 @@ pub when_ok : {P : Type 0} (result given : Result (Unit {0}) Error) → ExactlyU
 when_ok (Ok tt) given e f = f e
 when_ok (Err x) given e f = tt
 
--- where the lines of all units are parsed after an answer, each lookup is ready then
-pub ready_if_ok : (result : Result (Unit {0}) Error) (c : ContextState) → OnOk result (AreAllParsed c.parsed) → OnOk result ((probe : ℕ) → IsReady c probe)
-ready_if_ok (Ok tt) c all = λ probe m is. all_ready c.sections m.units c.parsed all probe (cover probe m.ranges)
-ready_if_ok (Err e) c all = tt
-
 all_parsed_along : (p : List Bool) → AreAllParsed p → (rs : List UnitRange) → AreParsed p rs
 all_parsed_along p all [] = tt
 all_parsed_along p all (r ∷ rs) = (all r.unit, all_parsed_along p all rs)
 
-pub range_ready_if_ok : (result : Result (Unit {0}) Error) (c : ContextState) → OnOk result (AreAllParsed c.parsed) → OnOk result ((low high : ℕ) → IsReadyForRange c low high)
-range_ready_if_ok (Ok tt) c all = λ low high m is. all_parsed_along c.parsed all (cover_range low high m.ranges)
-range_ready_if_ok (Err e) c all = tt
+-- where the lines of all units are parsed after an answer, each lookup of an address or of a range is ready then
+pub ready_if_ok : (result : Result (Unit {0}) Error) (c : ContextState) → OnOk result (AreAllParsed c.parsed) → OnOk result (((probe : ℕ) → IsReady c probe) × ((low high : ℕ) → IsReadyForRange c low high))
+ready_if_ok (Ok tt) c all = (λ probe m is. all_ready c.sections m.units c.parsed all probe (cover probe m.ranges), λ low high m is. all_parsed_along c.parsed all (cover_range low high m.ranges))
+ready_if_ok (Err e) c all = tt
 
 pub err_is_not_ok : {X : Type 0} (e : Error) (x : X) → ◌≡◌ {A = Result X Error} (Err e) (Ok x) → ⊥
 err_is_not_ok e x k = cc

@@ -51,3 +51,8 @@ WaitsForNoneAnswered = (faults : OnFault) (d : Sections) (m : UnitIndex) (probe 
     → AllByRecursion (ForgetsNone (LeadTo (cover probe m.ranges))) calls
     → is_waiting (lookup_stop faults d
     (answers_after d answers (answering given ++ calls)) probe) ≡ false
+
+-- first answers, and lookups once all have one
+pub record AnswerLaws : Type 0 where
+  pub first : FirstAnswersStay
+  pub none : WaitsForNoneAnswered

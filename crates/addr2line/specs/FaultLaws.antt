@@ -60,3 +60,11 @@ ReplyIsNotRefused _ = Unit {0}
 abbrev pub RepliesAreNotRefused : Type 0
 RepliesAreNotRefused = (d : Sections) (answers : FirstAnswers) (calls : List HistoryCall)
     → AllByRecursion ReplyIsNotRefused (replies_to d answers calls)
+
+-- nothing of all that is
+pub record ContextCallsAreNotRefused : Type 0 where
+  pub contexts : ContextsAreNotRefused
+  pub locations : LocationsAreNotRefused
+  pub lookups : LookupsAreNotRefused
+  pub loads : LoadsAreNotRefused
+  pub replies : RepliesAreNotRefused

@@ -23,3 +23,8 @@ SkippedGivesSame = (d : Sections) (m : UnitIndex) (probe : ℕ) (answers : First
     ≡ frames_of d (with_none answers) probe)
     × (unit_of d (skipped_answers Skip d probe answers) probe
     ≡ unit_of d (with_none answers) probe)
+
+-- that a lookup ends, and what it gives
+pub record SkipLaws : Type 0 where
+  pub ends : SkippedWaitsForNone
+  pub same : SkippedGivesSame

@@ -48,3 +48,8 @@ abbrev pub LocatesWhenWarm : Type 0
 LocatesWhenWarm = (probe : ℕ) (result : Result (Option (Unit {0})) Error)
     (old new : ContextState) → IsWarm old → AfterLookup probe result old new
     → IsReady old probe × IsWarm new
+
+-- lookups of frames and of locations
+pub record WarmUpLaws : Type 0 where
+  pub found : FindsAllWhenWarm
+  pub located : LocatesWhenWarm

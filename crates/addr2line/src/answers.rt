@@ -25,7 +25,7 @@ impl<R: Reader> Context<R> {
         ensures no_memory { answer_takes_memory R.shares (option_map (λ d. d.value) sections)
             ≡ false → IfErr result (λ e. load_reply self.old.sections self.old.answers number
             (option_map (λ d. d.value) sections) ≡ Err e) }
-        ensures fewer { (faults : OnFault) (probe : ℕ) → waits_for number
+        ensures shorter { (faults : OnFault) (probe : ℕ) → waits_for number
             (lookup_stop faults self.old.sections self.old.answers probe) ≡ true
             → OnOk result (count_loads self.new probe < count_loads self.old probe) }
     {

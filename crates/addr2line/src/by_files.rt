@@ -43,7 +43,7 @@ fn read_answer<F: FileSource>(
         number (option_map (λ d. d.value) given)) }
     ensures refused { IfErr result
         (IsFaultByFiles (as_read_if_known compressed (F.files files.now)) ctx.now probe) }
-    ensures stays_open { IfErr result LeavesOpen }
+    ensures fault { IfErr result LeavesOpen }
 {
     let load = ctx.load_of(number)?;
     answer_to(alloc, files, compressed, kept, &load)
@@ -62,14 +62,14 @@ fn answer_load<F: FileSource>(
     requires waits { lookup_stop Stop ctx.old.sections ctx.old.answers probe ≡ Ok (Waits number) }
     requires stored { ctx.old.stop ≡ Waits number }
     ensures after { AfterAnswers (as_read_if_known compressed (F.files files.now)) ctx.old ctx.new }
-    ensures one { AnswersOne number ctx.old ctx.new }
-    ensures only { (first : ContextState) → ReadsAsked Stop probe first ctx.old
+    ensures answer { AnswersOne number ctx.old ctx.new }
+    ensures within { (first : ContextState) → ReadsAsked Stop probe first ctx.old
         → ReadsAsked Stop probe first ctx.new }
-    ensures fewer { OnOk result (count_loads ctx.new probe < count_loads ctx.old probe) }
+    ensures shorter { OnOk result (count_loads ctx.new probe < count_loads ctx.old probe) }
     ensures refused { IfErr result
         (IsFaultByFiles (as_read_if_known compressed (F.files files.now)) ctx.old probe) }
-    ensures stays_open { IfErr result LeavesOpen }
-    ensures still_waits { OnErr result
+    ensures fault { IfErr result LeavesOpen }
+    ensures left { OnErr result
         (lookup_stop Stop ctx.new.sections ctx.new.answers probe ≡ Ok (Waits number)) }
 {
     let sections = read_answer(alloc, files, compressed, kept, ctx, probe, number)?;
@@ -87,14 +87,14 @@ pub(crate) fn answer_loads<F: FileSource>(
     probe: u64,
 ) -> Result<(), LoaderError>
     ensures after { AfterAnswers (as_read_if_known compressed (F.files files.now)) ctx.old ctx.new }
-    ensures in_turn { AnswersInTurn probe ctx.old ctx.new }
-    ensures only { ReadsAsked Stop probe ctx.old ctx.new }
-    ensures stored { OnOk result
+    ensures answer { AnswersInTurn probe ctx.old ctx.new }
+    ensures within { ReadsAsked Stop probe ctx.old ctx.new }
+    ensures gives { OnOk result
         (lookup_stop Stop ctx.new.sections ctx.new.answers probe ≡ Ok ctx.new.stop) }
-    ensures ended { HasEnded result → WaitsForNone ctx.new probe }
+    ensures none { HasEnded result → WaitsForNone ctx.new probe }
     ensures ready { HasEnded result → IsKnown Stop ctx.new probe }
-    ensures told { IfErr result (λ e. IsUnitFault e → ended_frames_of ctx.new probe ≡ Err e) }
-    ensures waits { IfErr result (λ e. e ≡ PathNotUtf8 → WaitsForOne ctx.new probe) }
+    ensures exact { IfErr result (λ e. IsUnitFault e → ended_frames_of ctx.new probe ≡ Err e) }
+    ensures left { IfErr result (λ e. e ≡ PathNotUtf8 → WaitsForOne ctx.new probe) }
     ensures memory { WaitsForNone ctx.new probe → IsKnownFew Stop ctx.new probe
         → IfErr result (λ e. e ≢ OutOfMemory) }
     ensures refused { IfErr result

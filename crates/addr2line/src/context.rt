@@ -157,8 +157,8 @@ impl<R: Reader> Context<R> {
         ensures exact { IsReady self.old probe → Exactly (option_map seen_location) result
             (location_of self.old.sections probe) }
         ensures last { probe ≡ last_address → result ≡ Ok None }
-        ensures uncovered { IsUncovered self.old probe → result ≡ Ok None }
-        ensures* kept { sem 𝓛 (EndsAs R.row R.Reader self.entry
+        ensures none { IsUncovered self.old probe → result ≡ Ok None }
+        ensures* ends { sem 𝓛 (EndsAs R.row R.Reader self.entry
             (AfterLookupOver R.shares probe result self.old)) }
     {
         match self.units.find_row(self.ranges.find(probe), probe)? {
@@ -187,7 +187,7 @@ impl<R: Reader> Context<R> {
             ≡ Ok (locations_left rows)) }
         ensures refused { IfErr result (λ e. e ≡ OutOfMemory) }
         ensures exact { LocatesRangeNoMemory R.shares self.old low high → IsOk result }
-        ensures* kept { sem 𝓛 (EndsAs R.row R.Reader self.entry
+        ensures* ends { sem 𝓛 (EndsAs R.row R.Reader self.entry
             (AfterRangeLookup low high result self.old)) }
     {
         self.units.cache_lines(self.ranges.find_range(low, high))?;
@@ -215,16 +215,15 @@ impl<R: Reader> Context<R> {
         ensures gives { IsUnlessOom result (lines_of_all self.old.sections) }
         ensures exact { ParsesNoMemory R.shares self.old
             → Exactly (λ x. x) result (lines_of_all self.old.sections) }
-        ensures stays { Stays self.old self.new }
+        ensures after { Stays self.old self.new }
         ensures looks { self.new.looks ≡ self.old.looks }
-        ensures ready_for_all { WasNotRefused result → IsReadyForAll self.new }
+        ensures whole { WasNotRefused result → IsReadyForAll self.new }
         ensures memory { ParsesNoMemory R.shares self.new → WasNotRefused result }
-        ensures only { ParsesToFault self.old self.new }
-        ensures same { IsReadyForAll self.old → self.new.parsed ≡ self.old.parsed }
-        ensures parsed { OnOk result (AreAllParsed self.new.parsed) }
-        ensures ready { OnOk result ((probe : ℕ) → IsReady self.new probe) }
-        ensures ready_for_range { OnOk result ((low high : ℕ)
-            → IsReadyForRange self.new low high) }
+        ensures within { ParsesToFault self.old self.new }
+        ensures kept { IsReadyForAll self.old → self.new.parsed ≡ self.old.parsed }
+        ensures known { OnOk result (AreAllParsed self.new.parsed) }
+        ensures ready { OnOk result (((probe : ℕ) → IsReady self.new probe)
+            × ((low high : ℕ) → IsReadyForRange self.new low high)) }
         ensures found { OnOk result ((probe : ℕ) → is_ok
             (location_of self.new.sections probe) ≡ true) }
     {

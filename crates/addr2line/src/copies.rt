@@ -131,7 +131,7 @@ pub(crate) fn location_reply(
     ensures gives { (given : LocationResult)
         → ExactlyUnlessOom (option_map seen_location) location.entry given
         → IfOk result (λ r. seen_reply r ≡ Located given) }
-    ensures told { OnOk result (WasNotRefused location.entry) }
+    ensures memory { OnOk result (WasNotRefused location.entry) }
     ensures fault { IfErr location.entry (λ e. e ≢ OutOfMemory → IsOk result) }
     ensures refused { IfErr result (λ e. e ≡ OutOfMemory) }
 {
@@ -168,7 +168,7 @@ pub(crate) fn rows_reply<R: Reader>(
 ) -> Result<Reply, Error>
     ensures gives { IfOk result (λ r. IfOk rows.entry (λ i. seen_reply r
         ≡ Ranged (locations_left i))) }
-    ensures read { OnOk result (IsOk rows.entry) }
+    ensures memory { OnOk result (IsOk rows.entry) }
     ensures refused { IfErr result (λ e. e ≡ OutOfMemory) }
 {
     match rows {
@@ -186,7 +186,7 @@ pub(crate) fn frames_reply<R: Reader>(
     ensures gives { (stop : Result LookupStop Error)
         → ExactlyUnlessOom (λ i. Some (frames_left i)) frames.entry (frames_of_stop stop)
         → IfOk result (λ r. (seen_reply r ≡ reply_of_frames stop) × (is_waiting stop ≡ false)) }
-    ensures told { OnOk result (WasNotRefused frames.entry) }
+    ensures memory { OnOk result (WasNotRefused frames.entry) }
     ensures fault { IfErr frames.entry (λ e. e ≢ OutOfMemory → IsOk result) }
     ensures refused { IfErr result (λ e. e ≡ OutOfMemory) }
 {
@@ -218,7 +218,7 @@ pub(crate) fn unit_reply<R: Reader>(
         → (is_waiting stop ≡ true → given ≡ Ok None)
         → IfOk result (λ r. (seen_reply r ≡ reply_of_unit stop given)
         × (is_waiting stop ≡ false)) }
-    ensures told { OnOk result (WasNotRefused unit.entry) }
+    ensures memory { OnOk result (WasNotRefused unit.entry) }
     ensures refused { IfErr result (λ e. e ≡ OutOfMemory) }
 {
     match unit {
@@ -247,7 +247,7 @@ pub(crate) fn loads_reply<R: Reader>(
 pub(crate) fn done_reply(done: Result<(), Error>) -> Result<Reply, Error>
     ensures gives { (given : Result (Unit {0}) Error) → ExactlyUnlessOom (λ x. x) done given
         → IfOk result (λ r. seen_reply r ≡ Ended given) }
-    ensures told { OnOk result (WasNotRefused done) }
+    ensures memory { OnOk result (WasNotRefused done) }
     ensures refused { IfErr result (λ e. (e ≡ OutOfMemory) × (done ≡ Err OutOfMemory)) }
 {
     match done {

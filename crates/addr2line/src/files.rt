@@ -82,7 +82,7 @@ pub trait FileSource: Drop {
         ensures none { HasNoFile (files self.now) path.now → result ≡ Ok None }
         ensures empty { HasEmptyFile (files self.now) path.now
             → result_map (option_map image_bytes) result ≡ Ok (Some []) }
-        ensures wanted { IfOk result (λ found. IfSome found HasWanted) }
+        ensures there { IfOk result (λ found. IfSome found HasWanted) }
     {
         match self.read(alloc, path)? {
             Some(bytes) => Ok(Some(whole_file(alloc, bytes)?)),
@@ -96,7 +96,7 @@ pub trait FileSource: Drop {
     /// None where that isn't told, as where it is known what files there are, and where memory for
     /// it is refused: then the file is read at each call. Source: own.
     fn stamp(&self, path: &str) -> Option<FileStamp>
-        ensures known { IfSome (files self.now) (λ _. result ≡ None) }
+        ensures none { IfSome (files self.now) (λ _. result ≡ None) }
     {
         None
     }

@@ -76,12 +76,12 @@ impl<R: Reader> Context<R> {
     pub fn find_frames(&mut self, probe: u64) -> LookupResult<FramesLookup<'_, R>>
         ensures* ends { sem 𝓛 (RestsAs (λ c. c.ctx.ghost_name) R.row R.Reader self.entry
             result (λ o n. AfterFramesOver R.shares Stop probe o self.old n)) }
-        ensures load { IfLoad result (λ c.
+        ensures left { IfLoad result (λ c.
             SuspendsIn Stop self.entry probe c.ctx c.probe c.number c.load) }
-        ensures output { IfOutput result (λ o. ExactlyUnlessOom (λ i. Some (frames_left i)) o
+        ensures gives { IfOutput result (λ o. ExactlyUnlessOom (λ i. Some (frames_left i)) o
             (frames_of_context self.old probe)) }
         ensures last { probe ≡ last_address → IsOkOutput result }
-        ensures uncovered { IsUncovered self.old probe → IsOkOutput result }
+        ensures none { IsUncovered self.old probe → IsOkOutput result }
     {
         begin(self, probe)
     }

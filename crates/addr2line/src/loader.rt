@@ -183,7 +183,7 @@ impl<F: FileSource> LoaderOver<F> {
         ensures made { IfOk result
             (λ l. IsLoaded Refused (is_some sup_path.entry) l.object l.context) }
         ensures files { IfOk result (λ l. l.files ≡ files) }
-        ensures compressed { IfOk result (λ l. l.compressed ≡ Refused) }
+        ensures kept { IfOk result (λ l. l.compressed ≡ Refused) }
     {
         LoaderOver::over_with(alloc, files, CompressedSections::Refused, path, sup_path)
     }
@@ -212,7 +212,7 @@ impl<F: FileSource> LoaderOver<F> {
         ensures made { IfOk result
             (λ l. IsLoaded Decompressed (is_some sup_path.entry) l.object l.context) }
         ensures files { IfOk result (λ l. l.files ≡ files) }
-        ensures compressed { IfOk result (λ l. l.compressed ≡ Decompressed) }
+        ensures kept { IfOk result (λ l. l.compressed ≡ Decompressed) }
     {
         LoaderOver::over_with(
             alloc,
@@ -241,7 +241,7 @@ impl<F: FileSource> LoaderOver<F> {
         ensures made { IfOk result
             (λ l. IsLoaded compressed (is_some sup_path.entry) l.object l.context) }
         ensures files { IfOk result (λ l. l.files ≡ files) }
-        ensures compressed { IfOk result (λ l. l.compressed ≡ compressed) }
+        ensures kept { IfOk result (λ l. l.compressed ≡ compressed) }
     {
         let object = open(alloc, &files, path)?;
         let dwarf = read_dwarf(alloc, &files, compressed, &object, sup_path);
@@ -259,7 +259,7 @@ impl<F: FileSource> LoaderOver<F> {
     /// The files that answer loads. Takes no memory.
     pub fn files_mut(&mut self) -> &mut F
         ensures files { result.now ≡ self.old.files }
-        ensures* lends { sem 𝓛 (LendsFiles F.row self.entry result) }
+        ensures* ends { sem 𝓛 (LendsFiles F.row self.entry result) }
     {
         &mut self.files
     }
@@ -282,7 +282,7 @@ impl<F: FileSource> LoaderOver<F> {
         ensures exact { IsReady self.old.context probe → Exactly (option_map seen_location) result
             (of_file (location_of self.old.context.sections probe)) }
         ensures last { probe ≡ last_address → result ≡ Ok None }
-        ensures* kept { sem 𝓛 (LoaderEndsAs F.row F.files self.entry
+        ensures* ends { sem 𝓛 (LoaderEndsAs F.row F.files self.entry
             (AfterLocation probe result (seen_loader F.files self.old))) }
     {
         match self.context.find_location(probe) {
@@ -304,7 +304,7 @@ impl<F: FileSource> LoaderOver<F> {
             ≡ Ok (locations_left rows)) }
         ensures refused { IfErr result (λ e. e ≡ OutOfMemory) }
         ensures exact { LocatesRangeNoMemory true self.old.context low high → IsOk result }
-        ensures* kept { sem 𝓛 (LoaderEndsAs F.row F.files self.entry
+        ensures* ends { sem 𝓛 (LoaderEndsAs F.row F.files self.entry
             (AfterLocationRange low high result (seen_loader F.files self.old))) }
     {
         match self.context.find_location_range(low, high) {
@@ -336,13 +336,13 @@ impl<F: FileSource> LoaderOver<F> {
         ensures gives { IfSome (as_read_if_known self.old.compressed (F.files self.old.files))
             (λ read. LoadsUnlessOom frames_left result
             (frames_by_files read self.old.context.sections self.old.context.answers probe)) }
-        ensures ended { WaitsForNone self.old.context probe → LoadsUnlessOom frames_left result
+        ensures none { WaitsForNone self.old.context probe → LoadsUnlessOom frames_left result
             (ended_frames_of self.old.context probe) }
         ensures exact { WaitsForNone self.old.context probe
             → IsKnownFew Stop self.old.context probe
             → Exactly frames_left result (ended_frames_of self.old.context probe) }
         ensures last { probe ≡ last_address → Exactly frames_left result (Ok []) }
-        ensures* kept { sem 𝓛 (LoaderEndsAs F.row F.files self.entry
+        ensures* ends { sem 𝓛 (LoaderEndsAs F.row F.files self.entry
             (AfterLoads frames_left probe result (seen_loader F.files self.old))) }
     {
         answer_loads(
@@ -385,7 +385,7 @@ impl LoaderOver<HostFiles> {
     /// A loader of a file of the host, as `over` makes it.
     pub fn new(rt: HostRuntime, path: &str) -> Result<Loader, LoaderError>
         ensures made { IfOk result (λ l. IsLoaded Refused false l.object l.context) }
-        ensures compressed { IfOk result (λ l. l.compressed ≡ Refused) }
+        ensures kept { IfOk result (λ l. l.compressed ≡ Refused) }
     {
         LoaderOver::over(rt.alloc(), HostFiles::new(rt), path, None)
     }
@@ -393,7 +393,7 @@ impl LoaderOver<HostFiles> {
     /// A loader of a file of the host, as `over_decompressing` makes it.
     pub fn new_decompressing(rt: HostRuntime, path: &str) -> Result<Loader, LoaderError>
         ensures made { IfOk result (λ l. IsLoaded Decompressed false l.object l.context) }
-        ensures compressed { IfOk result (λ l. l.compressed ≡ Decompressed) }
+        ensures kept { IfOk result (λ l. l.compressed ≡ Decompressed) }
     {
         LoaderOver::over_decompressing(rt.alloc(), HostFiles::new(rt), path, None)
     }
@@ -401,7 +401,7 @@ impl LoaderOver<HostFiles> {
     /// A loader of a file of the host with a supplementary file, as `over` makes it.
     pub fn new_with_sup(rt: HostRuntime, path: &str, sup_path: &str) -> Result<Loader, LoaderError>
         ensures made { IfOk result (λ l. IsLoaded Refused true l.object l.context) }
-        ensures compressed { IfOk result (λ l. l.compressed ≡ Refused) }
+        ensures kept { IfOk result (λ l. l.compressed ≡ Refused) }
     {
         LoaderOver::over(rt.alloc(), HostFiles::new(rt), path, Some(sup_path))
     }

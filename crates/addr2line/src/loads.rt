@@ -31,7 +31,7 @@ impl<R: Reader> Context<R> {
         ensures refused { IfErr result (λ e. e ≡ OutOfMemory) }
         ensures memory { NoneOpenAt self.old probe → IsOk result }
         ensures last { probe ≡ last_address → IsOkAnd result (λ loads. loads.items ≡ []) }
-        ensures uncovered { IsUncovered self.old probe
+        ensures none { IsUncovered self.old probe
             → IsOkAnd result (λ loads. loads.items ≡ []) }
         ensures after { AfterPreload probe self.old self.new }
     {
@@ -59,7 +59,7 @@ impl<R: Reader> Context<R> {
         ensures memory { IsNotOpen self.old (token_number unit) → result ≡ load_reply
             self.old.sections self.old.answers (token_number unit)
             (option_map (λ d. d.value) sections) }
-        ensures no_sections { sections ≡ None → result ≡ load_reply self.old.sections
+        ensures none { sections ≡ None → result ≡ load_reply self.old.sections
             self.old.answers (token_number unit) None }
         ensures exact { answer_takes_memory R.shares (option_map (λ d. d.value) sections) ≡ false
             → result ≡ load_reply self.old.sections self.old.answers (token_number unit)

@@ -18,7 +18,7 @@ impl<R: Reader> Context<R> {
         ensures no_memory { ReadsFunctionsNoMemory R.shares depth self.new → IfErr result
             (λ e. parse_reply depth self.old.sections self.old.answers ≡ Err e) }
         ensures known { depth ≡ depths.Details → OnOk result (IsAllKnown self.new) }
-        ensures reaches { depth ≡ depths.Details → OnOk result (ReachesAllOf self.new) }
+        ensures whole { depth ≡ depths.Details → OnOk result (ReachesAllOf self.new) }
     {
         self.units.read_functions(depth)
     }
@@ -62,7 +62,7 @@ impl<R: Reader> Context<R> {
         ensures no_memory { ReadsFunctionsNoMemory R.shares depths.Details self.new → IfErr result
             (λ e. parse_reply depths.Details self.old.sections self.old.answers ≡ Err e) }
         ensures known { OnOk result (IsAllKnown self.new) }
-        ensures reaches { OnOk result (ReachesAllOf self.new) }
+        ensures whole { OnOk result (ReachesAllOf self.new) }
     {
         self.read_functions(ReadingDepth::Details)
     }

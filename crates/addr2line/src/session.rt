@@ -103,7 +103,7 @@ fn replay_frames<R: Reader>(
     probe: u64,
     answers: &[Answer<R>],
 ) -> Result<Reply, Error>
-    ensures made { Makes (AsksFrames probe (map seen_given answers.now)) result context.old
+    ensures after { Makes (AsksFrames probe (map seen_given answers.now)) result context.old
         context.new }
 {
     let alloc = context.alloc;
@@ -135,7 +135,7 @@ fn replay_unit<R: Reader>(
     probe: u64,
     answers: &[Answer<R>],
 ) -> Result<Reply, Error>
-    ensures made { Makes (AsksUnit probe (map seen_given answers.now)) result context.old
+    ensures after { Makes (AsksUnit probe (map seen_given answers.now)) result context.old
         context.new }
 {
     let mut next = match context.find_dwarf_and_unit(probe) {

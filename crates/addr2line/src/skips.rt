@@ -17,7 +17,7 @@ impl<R: Reader> Context<R> {
     pub(crate) fn skip_loads(&mut self, probe: u64, faults: OnFault) -> Result<(), Error>
         ensures gives { IsStored faults probe result self.new }
         ensures refused { faults ≡ Skip → IfErr result (λ e. e ≡ OutOfMemory) }
-        ensures ended { OnOk result (waiting_unit self.new.stop ≡ None) }
+        ensures none { OnOk result (waiting_unit self.new.stop ≡ None) }
         ensures after { AfterSkip R.shares faults probe result self.old self.new }
     {
         loop {

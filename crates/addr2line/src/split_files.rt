@@ -91,7 +91,7 @@ fn path_of<R: Reader>(
 // A path as a text, if it is UTF-8.
 fn text_of(path: &[u8]) -> Result<&str, LoaderError>
     ensures gives { Exactly (λ text. text.now) result (utf8_path path.now) }
-    ensures same { IfOk result (λ text. text.now ≡ path.now) }
+    ensures kept { IfOk result (λ text. text.now ≡ path.now) }
     ensures refused { IfErr result (λ e. e ≡ PathNotUtf8) }
 {
     match str::from_utf8(path) {
@@ -175,7 +175,7 @@ fn read_split_file(
 ) -> Result<Option<AnsweringFile>, LoaderError>
     ensures gives { LoadsUnlessOom (option_map (λ f. f.sections.value)) result
         (split_of compressed load.now (image_bytes file)) }
-    ensures answers { IfOk result (λ found. IfSome found (λ f.
+    ensures made { IfOk result (λ found. IfSome found (λ f.
         Answers compressed load.now f.object f.sections.value)) }
 {
     let object = parse_image(alloc, file)?;
@@ -209,7 +209,7 @@ fn without_fault<T: Drop>(found: Result<Option<T>, LoaderError>) -> Result<Optio
     ensures gives { (view : T → Sections) (given : Loading (Option Sections))
         → LoadsUnlessOom (option_map view) found given
         → LoadsUnlessOom (option_map view) result (Ok (or_none given)) }
-    ensures same { IfOk result (λ read. IfSome read (λ x. found ≡ Ok (Some x))) }
+    ensures found { IfOk result (λ read. IfSome read (λ x. found ≡ Ok (Some x))) }
     ensures refused { IfErr result (λ e. e ≡ OutOfMemory) }
 {
     match found {
@@ -230,7 +230,7 @@ fn read_answering<F: FileSource>(
     ensures gives { IfSome (F.files files.now) (λ held.
         LoadsUnlessOom (option_map (λ f. f.sections.value)) result
         (Ok (split_at_path (as_read compressed held) load.now path.now))) }
-    ensures answers { IfOk result (λ found. IfSome found (λ f.
+    ensures made { IfOk result (λ found. IfSome found (λ f.
         Answers compressed load.now f.object f.sections.value)) }
     ensures refused { IfErr result (λ e. e ≡ OutOfMemory) }
 {
@@ -256,11 +256,11 @@ fn answer_stamped<F: FileSource>(
         → kept_at kept.old path.now ≡ Some (record { stamp = stamp; object = object })
         → LoadsUnlessOom (option_map (λ d. d.value)) result
         (Ok (or_none (split_by (split_section compressed object) load.now))) }
-    ensures answers { IfOk result (λ found. IfSome found (λ d.
+    ensures made { IfOk result (λ found. IfSome found (λ d.
         AreOfSomeFile compressed load.now d.value)) }
-    ensures kept { KeepsAnswering compressed load.now path.now
+    ensures after { KeepsAnswering compressed load.now path.now
         (result_map (option_map (λ d. d.value)) result) kept.old kept.new }
-    ensures stamped { (file : KeptFile) → kept_at kept.new path.now ≡ Some file
+    ensures right { (file : KeptFile) → kept_at kept.new path.now ≡ Some file
         → file.stamp ≡ stamp }
     ensures refused { IfErr result (λ e. e ≡ OutOfMemory) }
 {
@@ -291,10 +291,10 @@ fn answer_at<F: FileSource>(
     ensures gives { IfSome (F.files files.now) (λ held.
         LoadsUnlessOom (option_map (λ d. d.value)) result
         (Ok (split_at_path (as_read compressed held) load.now path.now))) }
-    ensures answers { IfOk result (λ found. IfSome found (λ d.
+    ensures made { IfOk result (λ found. IfSome found (λ d.
         AreOfSomeFile compressed load.now d.value)) }
-    ensures known { IfSome (F.files files.now) (λ _. kept.new ≡ kept.old) }
-    ensures kept { KeepsAnswering compressed load.now path.now
+    ensures kept { IfSome (F.files files.now) (λ _. kept.new ≡ kept.old) }
+    ensures after { KeepsAnswering compressed load.now path.now
         (result_map (option_map (λ d. d.value)) result) kept.old kept.new }
     ensures refused { IfErr result (λ e. e ≡ OutOfMemory) }
 {
@@ -322,12 +322,12 @@ pub(crate) fn answer_to<F: FileSource>(
     ensures gives { IfSome (F.files files.now) (λ held.
         LoadsUnlessOom (option_map (λ d. d.value)) result
         (given_by_files (as_read compressed held) load.now)) }
-    ensures answers { IfOk result (λ found. IfSome found (λ d.
+    ensures made { IfOk result (λ found. IfSome found (λ d.
         AreOfSomeFile compressed load.now d.value)) }
-    ensures stays_open { IfErr result LeavesOpen }
-    ensures unnamed { split_path load.now ≡ None → result ≡ Ok None }
-    ensures known { IfSome (F.files files.now) (λ _. kept.new ≡ kept.old) }
-    ensures kept { KeepsAnswer compressed load.now
+    ensures fault { IfErr result LeavesOpen }
+    ensures none { split_path load.now ≡ None → result ≡ Ok None }
+    ensures kept { IfSome (F.files files.now) (λ _. kept.new ≡ kept.old) }
+    ensures after { KeepsAnswer compressed load.now
         (result_map (option_map (λ d. d.value)) result) kept.old kept.new }
 {
     let Some(path) = path_of(alloc, load)? else {

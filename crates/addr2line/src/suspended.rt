@@ -69,7 +69,7 @@ impl<'ctx, R: Reader, K: LookupKind, B: Drop> Suspended<'ctx, R, K, B> {
     /// Ends the lookup, and gives its load. Takes no memory.
     pub fn into_load(self) -> B
         ensures kept { self.exit.0.now ≡ self.entry.ctx.now }
-        ensures load { result ≡ self.entry.load }
+        ensures gives { result ≡ self.entry.load }
     {
         let Suspended {
             ctx: _,
@@ -105,16 +105,16 @@ impl<'ctx, R: Reader, K: Lent<'ctx, Context<R>>> LookupContinuation
         ensures* ends { sem 𝓛 (RestsAs (λ c. c.ctx.ghost_name) R.row R.Reader
             self.entry.ctx result (λ o n. AfterResume R.shares K.faults self.entry.probe
             self.entry.number (option_map (λ d. d.value) input) o self.entry.ctx.now n)) }
-        ensures load { IfLoad result (λ c. SuspendsAgainIn K.faults self.entry.ctx self.entry.probe
+        ensures left { IfLoad result (λ c. SuspendsAgainIn K.faults self.entry.ctx self.entry.probe
             self.entry.number (option_map (λ d. d.value) input)
             c.ctx c.probe c.number c.load) }
-        ensures fewer { IfLoad result (λ c. count_loads c.ctx.now c.probe < count_loads
+        ensures shorter { IfLoad result (λ c. count_loads c.ctx.now c.probe < count_loads
             self.entry.ctx.now self.entry.probe) }
-        ensures output { IfOutput result (λ o. ExactlyUnlessOom (λ f. Some (K.see f)) o
+        ensures gives { IfOutput result (λ o. ExactlyUnlessOom (λ f. Some (K.see f)) o
             (found_answered K.faults K.value_of self.entry.ctx.now self.entry.number
             (option_map (λ d. d.value) input) self.entry.probe)) }
         ensures refused { IsRefusedAs K.faults result }
-        ensures skips { input ≡ None → (o : _) → SkipsTo (λ c p. ExactlyUnlessOom
+        ensures none { input ≡ None → (o : _) → SkipsTo (λ c p. ExactlyUnlessOom
             (λ f. Some (K.see f)) p (found_with_none K.faults K.value_of c.ctx.now c.probe))
             result o → ExactlyUnlessOom (λ f. Some (K.see f)) o
             (found_with_none K.faults K.value_of self.entry.ctx.now self.entry.probe) }
@@ -140,8 +140,8 @@ impl<'ctx, R: Reader, K: Lent<'ctx, Context<R>>, B: Drop> Suspended<'ctx, R, K, 
         ensures* ends { sem 𝓛 (RestsAs (λ c. c.ctx.ghost_name) R.row R.Reader
             self.entry.ctx result (λ o n. AfterSkip R.shares K.faults self.entry.probe o
             self.entry.ctx.now n)) }
-        ensures load { IfLoad result (λ c. ⊥) }
-        ensures output { IfOutput result (λ o. ExactlyUnlessOom (λ f. Some (K.see f)) o
+        ensures left { IfLoad result (λ c. ⊥) }
+        ensures gives { IfOutput result (λ o. ExactlyUnlessOom (λ f. Some (K.see f)) o
             (found_skipped K.faults K.value_of self.entry.ctx.now self.entry.probe)) }
         ensures refused { IsRefusedAs K.faults result }
     {
@@ -167,9 +167,9 @@ fn lend<'ctx, R: Reader, K: Lent<'ctx, Context<R>>>(
     requires refused { K.faults ≡ Skip → IfErr walked (λ e. e ≡ OutOfMemory) }
     ensures* ends { sem 𝓛 (RestsAs (λ c. c.ctx.ghost_name) R.row R.Reader ctx.entry result
         (λ o n. (n ≡ ctx.old) × IsLent walked ctx.old.stop o)) }
-    ensures load { IfLoad result (λ c.
+    ensures left { IfLoad result (λ c.
         HoldsIn ctx.entry probe walked c.ctx c.probe c.number c.load) }
-    ensures output { IfOutput result (λ o. ExactlyUnlessOom (λ f. Some (K.see f)) o
+    ensures gives { IfOutput result (λ o. ExactlyUnlessOom (λ f. Some (K.see f)) o
         (found_of_context K.faults K.value_of ctx.old probe)) }
     ensures refused { IsRefusedAs K.faults result }
 {
@@ -200,9 +200,9 @@ pub(crate) fn begin<'ctx, R: Reader, K: Lent<'ctx, Context<R>>>(
 ) -> LookupResult<Suspended<'ctx, R, K, SplitDwarfLoad<R>>>
     ensures* ends { sem 𝓛 (RestsAs (λ c. c.ctx.ghost_name) R.row R.Reader ctx.entry result
         (λ o n. AfterFramesOver R.shares K.faults probe o ctx.old n)) }
-    ensures load { IfLoad result (λ c.
+    ensures left { IfLoad result (λ c.
         SuspendsIn K.faults ctx.entry probe c.ctx c.probe c.number c.load) }
-    ensures output { IfOutput result (λ o. ExactlyUnlessOom (λ f. Some (K.see f)) o
+    ensures gives { IfOutput result (λ o. ExactlyUnlessOom (λ f. Some (K.see f)) o
         (found_of_context K.faults K.value_of ctx.old probe)) }
     ensures refused { IsRefusedAs K.faults result }
     ensures last { probe ≡ last_address → IsUncovered ctx.old probe }
@@ -223,10 +223,10 @@ fn resume_with<'ctx, R: Reader, K: Lent<'ctx, Context<R>>>(
     ensures* ends { sem 𝓛 (RestsAs (λ c. c.ctx.ghost_name) R.row R.Reader ctx.entry result
         (λ o n. AfterResume R.shares K.faults probe number (option_map (λ d. d.value) input) o
         ctx.old n)) }
-    ensures load { IfLoad result (λ c. SuspendsAgainIn K.faults ctx.entry probe number
+    ensures left { IfLoad result (λ c. SuspendsAgainIn K.faults ctx.entry probe number
         (option_map (λ d. d.value) input) c.ctx c.probe c.number c.load) }
-    ensures fewer { IfLoad result (λ c. count_loads c.ctx.now c.probe < count_loads ctx.old probe) }
-    ensures output { IfOutput result (λ o. ExactlyUnlessOom (λ f. Some (K.see f)) o
+    ensures shorter { IfLoad result (λ c. count_loads c.ctx.now c.probe < count_loads ctx.old probe) }
+    ensures gives { IfOutput result (λ o. ExactlyUnlessOom (λ f. Some (K.see f)) o
         (found_answered K.faults K.value_of ctx.old number (option_map (λ d. d.value) input)
         probe)) }
     ensures refused { IsRefusedAs K.faults result }

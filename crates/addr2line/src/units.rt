@@ -77,14 +77,14 @@ impl<R: Reader> Context<R> {
     pub fn find_dwarf_and_unit(&mut self, probe: u64) -> LookupResult<UnitLookup<'_, R>>
         ensures* ends { sem 𝓛 (RestsAs (λ c. c.ctx.ghost_name) R.row R.Reader self.entry
             result (λ o n. AfterFramesOver R.shares Skip probe o self.old n)) }
-        ensures load { IfLoad result (λ c.
+        ensures left { IfLoad result (λ c.
             SuspendsIn Skip self.entry probe c.ctx c.probe c.number
             c.load) }
-        ensures output { IfOutput result
+        ensures gives { IfOutput result
             (λ o. ExactlyUnlessOom seen_found o (unit_of_context self.old probe)) }
         ensures refused { IfOutput result (λ o. IfErr o (λ e. e ≡ OutOfMemory)) }
         ensures last { probe ≡ last_address → IsOkOutput result }
-        ensures uncovered { IsUncovered self.old probe → IsOkOutput result }
+        ensures none { IsUncovered self.old probe → IsOkOutput result }
     {
         begin(self, probe)
     }

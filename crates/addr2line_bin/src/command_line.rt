@@ -133,7 +133,7 @@ fn words_of(alloc: Global, matches: &ArgMatches<'_>) -> Result<Option<Vec<String
 // What the matches ask for, by a program of this name.
 fn request_of(alloc: Global, name: String, matches: &ArgMatches<'_>) -> Result<Request, WordFault>
     ensures gives { IfOk result (IsAsked (rows_of (found_of matches.now))) }
-    ensures name { IfOk result (λ r. r.options.name ≡ name) }
+    ensures kept { IfOk result (λ r. r.options.name ≡ name) }
     ensures refused { IfErr result (IsUnasked (rows_of (found_of matches.now))) }
 {
     let Some(exe) = value_of(alloc, matches, "exe")? else {

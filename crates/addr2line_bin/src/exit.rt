@@ -43,8 +43,8 @@ pub fn status_of(exit: Exit) -> ExitCode
 /// Writes why a run stopped early.
 #[tactic(auto, using(crate::proofs::Parts::sends_nothing, crate::proofs::Parts::keeps_itself))]
 pub fn tell_last<E: Stream>(name: &str, stop: StopReason, err: &mut E) -> Exit
-    ensures err { Reports (E.state err.old) (E.state err.new) (last_text name.now stop) }
-    ensures exit { result ≡ exit_at stop }
+    ensures after { Reports (E.state err.old) (E.state err.new) (last_text name.now stop) }
+    ensures gives { result ≡ exit_at stop }
 {
     match stop {
         StopReason::OutOfMemory => {
@@ -63,8 +63,8 @@ pub fn tell_last<E: Stream>(name: &str, stop: StopReason, err: &mut E) -> Exit
 
 /// Writes why the debug information of a file can't be loaded.
 pub fn tell_load_fault<E: Stream>(name: &str, fault: LoaderError, err: &mut E) -> Exit
-    ensures err { Reports (E.state err.old) (E.state err.new) (load_fault_text name.now fault) }
-    ensures exit { result ≡ exit.Failed }
+    ensures after { Reports (E.state err.old) (E.state err.new) (load_fault_text name.now fault) }
+    ensures gives { result ≡ exit.Failed }
 {
     tell_both(err, name, ": failed to load debug info: ");
     tell_both(err, fault.text(), "\n");
@@ -74,7 +74,7 @@ pub fn tell_load_fault<E: Stream>(name: &str, fault: LoaderError, err: &mut E) -
 /// Writes how the program is used.
 #[tactic(auto, using(crate::proofs::Parts::sends_on))]
 pub fn tell_usage<E: Stream>(name: &str, err: &mut E)
-    ensures err { Reports (E.state err.old) (E.state err.new) (usage_text name.now) }
+    ensures after { Reports (E.state err.old) (E.state err.new) (usage_text name.now) }
 {
     tell_both(err, name, ": usage: ");
     tell_both(err, name, " -e FILE [OPTION].. [ADDR..]\n");

@@ -24,7 +24,7 @@ pub trait Input {
         ensures gives { IfOk result (λ is_read.
             TakesLine is_read (state self.old).bytes (state self.new).bytes line.new.items) }
         ensures refused { OnErr result (TakesPart (state self.old).bytes (state self.new).bytes) }
-        ensures reads { (state self.new).reads ≡ plus (state self.old).reads 1 }
+        ensures after { (state self.new).reads ≡ plus (state self.old).reads 1 }
         ensures fault { (state self.new).fault ≡ last_fault_after (state self.old).fault result };
 }
 
@@ -36,7 +36,7 @@ pub fn next_line<I: Input>(input: &mut I, line: &mut Vec<u8>) -> Result<bool, Al
         ReadsLine is_read (I.state input.old) (I.state input.new) line.new.items) }
     ensures refused { OnErr result (((I.state input.new).fault ≡ Some OutOfMemory)
         × TakesPart (I.state input.old).bytes (I.state input.new).bytes) }
-    ensures reads { (I.state input.new).reads ≡ plus (I.state input.old).reads 1 }
+    ensures after { (I.state input.new).reads ≡ plus (I.state input.old).reads 1 }
 {
     match input.read_line(line) {
         Ok(is_read) => Ok(is_read),
@@ -67,7 +67,7 @@ impl<R: BufRead> ReaderInput<R> {
 // Cuts the last byte if it is this one; whether it was.
 fn cut_last(bytes: &mut Vec<u8>, byte: u8) -> bool
     ensures gives { result ≡ ends_with_byte byte bytes.old.items }
-    ensures bytes { bytes.new.items ≡ strip_last byte bytes.old.items }
+    ensures left { bytes.new.items ≡ strip_last byte bytes.old.items }
 {
     let count = bytes.len();
     if count == 0 {

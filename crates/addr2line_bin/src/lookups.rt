@@ -27,13 +27,13 @@ pub trait Lookups {
     fn find_location(&mut self, probe: u64) -> Result<Option<Location<'_>>, LoaderError>
         ensures gives { (answers self.old).MayFind probe
             (result_map (option_map seen_location) result) }
-        ensures* kept { sem 𝓛 (Rests Self.row self.entry
+        ensures* ends { sem 𝓛 (Rests Self.row self.entry
             (λ new. StaysAnswered (answers self.old) (answers new))) };
 
     /// The frames of an address.
     fn find_frames(&mut self, probe: u64) -> Result<FrameIter<'_, EndianBytes>, LoaderError>
         ensures gives { (answers self.old).MayGive probe (result_map frames_left result) }
-        ensures* kept { sem 𝓛 (Rests Self.row self.entry
+        ensures* ends { sem 𝓛 (Rests Self.row self.entry
             (λ new. StaysAnswered (answers self.old) (answers new))) };
 
     /// The rows that a range of addresses meets. Refused `OutOfMemory` alone.
@@ -45,7 +45,7 @@ pub trait Lookups {
         ensures gives { IfOk result (λ rows. (answers self.old).spans_in low high
             ≡ Ok (locations_left rows)) }
         ensures refused { IfErr result (λ e. e ≡ OutOfMemory) }
-        ensures* kept { sem 𝓛 (Rests Self.row self.entry
+        ensures* ends { sem 𝓛 (Rests Self.row self.entry
             (λ new. StaysAnswered (answers self.old) (answers new))) };
 
     /// The name of the symbol of an address.

@@ -25,9 +25,9 @@ use std::mem;
 // Writes that a section isn't there.
 #[tactic(auto, using(crate::proofs::Parts::sends_on))]
 fn tell_no_section<E: Stream>(name: &str, section: &str, err: &mut E) -> Exit
-    ensures err { Reports (E.state err.old) (E.state err.new)
+    ensures after { Reports (E.state err.old) (E.state err.new)
         (section_fault_text name.now section.now) }
-    ensures exit { result ≡ exit.Failed }
+    ensures gives { result ≡ exit.Failed }
 {
     tell_both(err, name, ": cannot find section ");
     tell_both(err, section, "\n");
@@ -36,9 +36,9 @@ fn tell_no_section<E: Stream>(name: &str, section: &str, err: &mut E) -> Exit
 
 // Writes why the addresses of all rows can't be found.
 fn tell_addresses_fault<E: Stream>(name: &str, fault: LoaderError, err: &mut E) -> Exit
-    ensures err { Reports (E.state err.old) (E.state err.new)
+    ensures after { Reports (E.state err.old) (E.state err.new)
         (addresses_fault_text name.now fault) }
-    ensures exit { result ≡ exit.Failed }
+    ensures gives { result ≡ exit.Failed }
 {
     tell_both(err, name, ": failed to find all addresses: ");
     tell_both(err, fault.text(), "\n");

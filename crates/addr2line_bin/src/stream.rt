@@ -55,21 +55,21 @@ pub trait Stream {
 
     /// Writes the bytes, or a beginning of them before a fault.
     fn put(&mut self, bytes: &[u8]) -> Result<(), ErrorKind>
-        ensures bytes { MatchResult result
+        ensures gives { MatchResult result
             (λ _. Appends (state self.old).contents (state self.new).contents bytes.now)
             (λ _. WritesPrefix (state self.old).contents (state self.new).contents bytes.now) }
-        ensures flushes { (state self.new).flushes ≡ (state self.old).flushes }
+        ensures kept { (state self.new).flushes ≡ (state self.old).flushes }
         ensures fault { (state self.new).fault ≡ last_fault_after (state self.old).fault result }
-        ensures failing { (state self.new).is_failing ≡ is_err result };
+        ensures refused { (state self.new).is_failing ≡ is_err result };
 
     /// Hands on what was written.
     fn flush(&mut self) -> Result<(), ErrorKind>
-        ensures bytes { Keeps (state self.old).contents (state self.new).contents }
-        ensures flushes { (state self.new).flushes
+        ensures kept { Keeps (state self.old).contents (state self.new).contents }
+        ensures after { (state self.new).flushes
             ≡ flushes_after (state self.old).flushes result }
-        ensures flushed { OnOk result ((state self.new).is_flushed ≡ true) }
+        ensures whole { OnOk result ((state self.new).is_flushed ≡ true) }
         ensures fault { (state self.new).fault ≡ last_fault_after (state self.old).fault result }
-        ensures failing { (state self.new).is_failing ≡ is_err result };
+        ensures refused { (state self.new).is_failing ≡ is_err result };
 }
 
 /// A writer as a stream. Its flushes aren't known.
@@ -126,7 +126,7 @@ fn noted(
 ) -> Result<(), ErrorKind>
     ensures gives { result ≡ with_kind answer }
     ensures fault { fault.new ≡ last_fault_after fault.old (with_kind answer) }
-    ensures failing { is_failing.new ≡ is_err (with_kind answer) }
+    ensures refused { is_failing.new ≡ is_err (with_kind answer) }
 {
     match answer {
         Ok(()) => {
@@ -183,10 +183,10 @@ pub fn tell_both<E: Stream>(err: &mut E, first: &str, second: &str)
 pub fn send<W: Stream>(out: &mut W, text: &str) -> Result<(), StopReason>
     ensures gives { OnOk result
         (Appends (W.state out.old).contents (W.state out.new).contents text.now) }
-    ensures flushes { MatchResult result
+    ensures after { MatchResult result
         (λ _. (W.state out.new).flushes ≡ plus (W.state out.old).flushes 1)
         (λ _. (W.state out.new).flushes ≡ (W.state out.old).flushes) }
-    ensures flushed { OnOk result ((W.state out.new).is_flushed ≡ true) }
+    ensures whole { OnOk result ((W.state out.new).is_flushed ≡ true) }
     ensures fault { OnOk result ((W.state out.new).fault ≡ (W.state out.old).fault) }
     ensures refused { IfErr result (λ e. IsFault (W.state out.new) e
         × WritesPrefix (W.state out.old).contents (W.state out.new).contents text.now) }

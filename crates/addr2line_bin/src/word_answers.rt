@@ -17,8 +17,8 @@ use std::process::ExitCode;
 
 /// Writes how the program is used, where the words ask for nothing.
 pub fn answer_misuse<E: Stream>(name: &str, err: &mut E) -> ExitCode
-    ensures err { Reports (E.state err.old) (E.state err.new) (usage_text name.now) }
-    ensures status { exit_status result ≡ USAGE_STATUS }
+    ensures after { Reports (E.state err.old) (E.state err.new) (usage_text name.now) }
+    ensures gives { exit_status result ≡ USAGE_STATUS }
 {
     tell_usage(name, err);
     ExitCode::from(USAGE_STATUS)

@@ -46,7 +46,7 @@ pub(crate) fn open(
 ) -> Result<Box<OpenFile>, LoaderError>
     ensures gives { LoadsUnlessOom (λ b. (b.value.object, b.value.context)) result
         (loaded_bytes compressed.Refused bytes.now (given_sup sup.now)) }
-    ensures loads { IfOk result (λ b. b.value.loads.loads.items ≡ []) }
+    ensures empty { IfOk result (λ b. b.value.loads.loads.items ≡ []) }
 {
     let (object, context) = open_bytes(alloc, Bytes::from_static(bytes), bytes_if(sup))?;
     let file = Box::new(

@@ -8,7 +8,7 @@ ghost use Rattle.addr2line_c.specs.Filled.{IsFilled};
 pub(crate) fn fill<T: Copy + Drop>(out: &mut [T], used: usize, items: &[T]) -> usize
     ensures gives { (before : List T) → IsFilled used out.old before
         → IsFilled result out.new (before ++ items.now) }
-    ensures same { length out.new ≡ length out.old }
+    ensures kept { length out.new ≡ length out.old }
 {
     if used <= out.len() && items.len() <= out.len() - used {
         let (_, rest) = out.split_at_mut(used);

@@ -32,7 +32,7 @@ pub(crate) fn put_found(
         → SaysWhatIsThere (of_file given) (IsWrittenLocation out.new buffer.new needed.new)
         (nat_le needed.new (length buffer.new)) result }
     ensures none { IfNothing result (needed.new ≡ 0) }
-    ensures status { result
+    ensures whole { result
         ≡ status_by Nothing (nat_le needed.new (length buffer.new)) found.entry }
 {
     *needed = 0;
@@ -62,7 +62,7 @@ pub(crate) fn put_found_frames<R: Reader>(
         (IsWrittenFrames demangles out.new count.new buffer.new needed.new)
         (nat_le count.new (length out.new) && nat_le needed.new (length buffer.new)) result }
     ensures none { IfNothing result ((count.new ≡ 0) × (needed.new ≡ 0)) }
-    ensures status { (result ≡ Refused OutOfMemory) ⊎ (result ≡ status_by Waits
+    ensures whole { (result ≡ Refused OutOfMemory) ⊎ (result ≡ status_by Waits
         (nat_le count.new (length out.new) && nat_le needed.new (length buffer.new))
         (found_some found.entry)) }
     ensures memory { demangles ≡ false → result ≡ status_by Waits

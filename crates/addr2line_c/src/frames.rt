@@ -39,12 +39,12 @@ fn put_name<R: Reader>(
     ensures gives { (before : List (List ℕ)) → IsFilled used.old buffer.old (zero_ended before)
         → OnOk result (IsFilled used.new buffer.new (zero_ended (before
         ++ optional_text (Some (chosen_name demangles (seen_name R.section name.now)))))) }
-    ensures part { (before : List (List ℕ)) → IsFilled used.old buffer.old (zero_ended before)
+    ensures made { (before : List (List ℕ)) → IsFilled used.old buffer.old (zero_ended before)
         → IfOk result (λ p. p ≡ text_after before
         (Some (chosen_name demangles (seen_name R.section name.now)))) }
     ensures refused { IfErr result (λ e. e ≡ OutOfMemory) }
     ensures memory { demangles ≡ false → IsOk result }
-    ensures same { length buffer.new ≡ length buffer.old }
+    ensures kept { length buffer.new ≡ length buffer.old }
 {
     if !demangles {
         return Ok(put_text(buffer, used, Some(name.name.to_slice())));
@@ -64,12 +64,12 @@ fn put_name_if<R: Reader>(
     ensures gives { (before : List (List ℕ)) → IsFilled used.old buffer.old (zero_ended before)
         → OnOk result (IsFilled used.new buffer.new (zero_ended (before
         ++ optional_text (frame_name demangles (seen_frame R.section frame.now))))) }
-    ensures part { (before : List (List ℕ)) → IsFilled used.old buffer.old (zero_ended before)
+    ensures made { (before : List (List ℕ)) → IsFilled used.old buffer.old (zero_ended before)
         → IfOk result (λ p. p ≡ text_after before
         (frame_name demangles (seen_frame R.section frame.now))) }
     ensures refused { IfErr result (λ e. e ≡ OutOfMemory) }
     ensures memory { demangles ≡ false → IsOk result }
-    ensures same { length buffer.new ≡ length buffer.old }
+    ensures kept { length buffer.new ≡ length buffer.old }
 {
     match &frame.function {
         Some(name) => put_name(alloc, name, demangles, buffer, used),
@@ -95,11 +95,11 @@ fn put_frame<R: Reader>(
     ensures gives { (before : List (List ℕ)) → IsFilled used.old buffer.old (zero_ended before)
         → OnOk result (IsFilled used.new buffer.new (zero_ended (before
         ++ frame_texts demangles (seen_frame R.section frame.now)))) }
-    ensures part { (before : List (List ℕ)) → IsFilled used.old buffer.old (zero_ended before)
+    ensures made { (before : List (List ℕ)) → IsFilled used.old buffer.old (zero_ended before)
         → IfOk result (λ p. p ≡ written_frame demangles before (seen_frame R.section frame.now)) }
     ensures refused { IfErr result (λ e. e ≡ OutOfMemory) }
     ensures memory { demangles ≡ false → IsOk result }
-    ensures same { length buffer.new ≡ length buffer.old }
+    ensures kept { length buffer.new ≡ length buffer.old }
 {
     let function = put_name_if(alloc, frame, demangles, buffer, used)?;
     let location = put_location(buffer, used, frame.location);
@@ -124,11 +124,11 @@ pub(crate) fn put_frames<R: Reader>(
 ) -> Result<usize, Error>
     ensures gives { IfOk result (λ count. IsFilled count out.new
         (written_frames demangles (frames_left frames.entry))) }
-    ensures texts { OnOk result (IsFilled needed.new buffer.new
+    ensures left { OnOk result (IsFilled needed.new buffer.new
         (zero_ended (frames_texts demangles (frames_left frames.entry)))) }
     ensures refused { IfErr result (λ e. e ≡ OutOfMemory) }
     ensures memory { demangles ≡ false → IsOk result }
-    ensures same { (length out.new ≡ length out.old) × (length buffer.new ≡ length buffer.old) }
+    ensures kept { (length out.new ≡ length out.old) × (length buffer.new ≡ length buffer.old) }
 {
     let mut frames = frames;
     let mut count = 0;

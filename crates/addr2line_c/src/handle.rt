@@ -73,7 +73,7 @@ impl Handle {
     /// Takes the file out of the handle, which is closed then.
     pub(crate) fn take(&mut self, alloc: Global) -> Option<Box<OpenFile>>
         ensures gives { option_map (λ b. b.value) result ≡ self.old.value }
-        ensures closed { self.new.value ≡ None }
+        ensures empty { self.new.value ≡ None }
     {
         mem::replace(self, Handle::closed(alloc)).into_box()
     }
@@ -87,7 +87,7 @@ impl Handle {
 
     /// Closes the handle: what it owned is dropped.
     pub(crate) fn close(&mut self, alloc: Global)
-        ensures closed { self.new.value ≡ None }
+        ensures empty { self.new.value ≡ None }
     {
         let _ = self.take(alloc);
     }

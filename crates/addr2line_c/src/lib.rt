@@ -75,7 +75,7 @@ pub extern "C" fn addr2line_open(
 /// Closes a handle: all memory is given back, and the bytes of its files may go.
 #[unsafe(no_mangle)]
 pub extern "C" fn addr2line_close(alloc: Global, handle: &mut Handle)
-    ensures closed { handle.new.value ≡ None }
+    ensures empty { handle.new.value ≡ None }
 {
     handle.close(alloc)
 }

@@ -60,8 +60,8 @@ pub(crate) fn put_load<R: Reader>(
     used: &mut usize,
 ) -> WrittenLoad
     ensures gives { result ≡ written_load token load.now }
-    ensures texts { IsFilled used.new buffer.new (zero_ended (texts_of_load load.now)) }
-    ensures same { length buffer.new ≡ length buffer.old }
+    ensures left { IsFilled used.new buffer.new (zero_ended (texts_of_load load.now)) }
+    ensures kept { length buffer.new ≡ length buffer.old }
 {
     *used = 0;
     let directory = put_text(buffer, used, bytes_of(&load.comp_dir));

@@ -53,9 +53,9 @@ pub(crate) fn put_location(
     ensures gives { (before : List (List ℕ)) → IsFilled used.old buffer.old (zero_ended before)
         → IsFilled used.new buffer.new (zero_ended (before
         ++ optional_text (location_file (option_map seen_location location.entry)))) }
-    ensures part { (before : List (List ℕ)) → IsFilled used.old buffer.old (zero_ended before)
+    ensures made { (before : List (List ℕ)) → IsFilled used.old buffer.old (zero_ended before)
         → result ≡ written_location before (option_map seen_location location.entry) }
-    ensures same { length buffer.new ≡ length buffer.old }
+    ensures kept { length buffer.new ≡ length buffer.old }
 {
     let file = put_text(buffer, used, location_file(location));
     WrittenLocation {

@@ -62,7 +62,7 @@ pub(crate) fn find_frames<R: Reader>(
     ensures none { IfNothing result ((count.new ≡ 0) × (needed.new ≡ 0)) }
     ensures left { LeavesFrames probe (nat_le count.new (length out.new)
         && nat_le needed.new (length buffer.new)) result context.old context.new }
-    ensures asks { AsksIfWaiting probe context.old loads.old.loads.items loads.new.loads.items
+    ensures after { AsksIfWaiting probe context.old loads.old.loads.items loads.new.loads.items
         result }
     ensures memory { demangles ≡ false → WaitsForNone context.old probe
         → IsKnownFew Stop context.old probe → result ≢ Refused OutOfMemory }

@@ -44,9 +44,9 @@ pub(crate) fn put_text(buffer: &mut [u8], used: &mut usize, text: Option<&[u8]>)
     ensures gives { (before : List (List ℕ)) → IsFilled used.old buffer.old (zero_ended before)
         → IsFilled used.new buffer.new
         (zero_ended (before ++ optional_text (option_map (λ t. t.now) text.entry))) }
-    ensures part { (before : List (List ℕ)) → IsFilled used.old buffer.old (zero_ended before)
+    ensures made { (before : List (List ℕ)) → IsFilled used.old buffer.old (zero_ended before)
         → result ≡ text_after before (option_map (λ t. t.now) text.entry) }
-    ensures same { length buffer.new ≡ length buffer.old }
+    ensures kept { length buffer.new ≡ length buffer.old }
 {
     let Some(text) = text else {
         return TextPart {

@@ -47,9 +47,9 @@ fn put_span(
     ensures gives { (before : List (List ℕ)) → IsFilled used.old buffer.old (zero_ended before)
         → IsFilled used.new buffer.new (zero_ended (before
         ++ texts_of_span (result_map seen_located span.entry))) }
-    ensures part { (before : List (List ℕ)) → IsFilled used.old buffer.old (zero_ended before)
+    ensures made { (before : List (List ℕ)) → IsFilled used.old buffer.old (zero_ended before)
         → result ≡ written_span before (result_map seen_located span.entry) }
-    ensures same { length buffer.new ≡ length buffer.old }
+    ensures kept { length buffer.new ≡ length buffer.old }
 {
     match span {
         Ok((address, length, location)) => WrittenSpan {
@@ -90,9 +90,9 @@ fn put_spans<R: Reader>(
 ) -> usize
     ensures gives { IsFilled result out.new
         (written_spans (take (length out.old) (locations_left spans.old))) }
-    ensures texts { IsFilled needed.new buffer.new
+    ensures left { IsFilled needed.new buffer.new
         (zero_ended (texts_of_spans (take (length out.old) (locations_left spans.old)))) }
-    ensures same { (length out.new ≡ length out.old) × (length buffer.new ≡ length buffer.old) }
+    ensures kept { (length out.new ≡ length out.old) × (length buffer.new ≡ length buffer.old) }
 {
     let mut count = 0;
     *needed = 0;
@@ -123,7 +123,7 @@ fn put_found_spans<R: Reader>(
         (IsWrittenSpans out.new count.new buffer.new needed.new)
         (nat_le needed.new (length buffer.new)) result }
     ensures none { IfNothing result ((count.new ≡ 0) × (needed.new ≡ 0)) }
-    ensures status { result ≡ after_reply (was_made found.entry)
+    ensures whole { result ≡ after_reply (was_made found.entry)
         (done_if (nat_le needed.new (length buffer.new))) }
 {
     *count = 0;

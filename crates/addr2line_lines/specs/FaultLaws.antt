@@ -58,3 +58,10 @@ pub record DetailsAreNotRefused : Type 0 where
       → WasNotRefused (detail_at scope u offset)
   pub all : (scope : Scope) (u : UnitRecord) (functions : List CachedFunction)
       → WasNotRefused (details_fault scope u functions)
+
+-- none of these readings does
+pub record UnitReadingsAreNotRefused : Type 0 where
+  pub lines : LinesAreNotRefused
+  pub functions : FunctionsAreNotRefused
+  pub names : NamesAreNotRefused
+  pub details : DetailsAreNotRefused

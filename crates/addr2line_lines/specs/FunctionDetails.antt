@@ -140,3 +140,13 @@ abbrev pub ReadKeepsListed : Type 0
 ReadKeepsListed = (scope : Scope) (u : UnitRecord) (n : ℕ) (old new : FunctionTable)
     (result : Result (Unit {0}) Error) → AreListed old → IsReadAt scope u n old result new
     → AreListed new
+
+-- what is cached before details are read, and after
+pub record CachedDetailLaws : Type 0 where
+  pub unread : UnreadAreDetails
+  pub read : ReadKeepsDetails
+
+-- the functions of a table of which details are read, and of one with more details
+pub record ListedFunctionLaws : Type 0 where
+  pub read : ReadKeepsListed
+  pub more : MoreKeepsListed

@@ -69,3 +69,9 @@ abbrev pub InsideIsRead : Type 0
 InsideIsRead =
     (scope : Scope) (u : UnitRecord) (offset : ℕ) (detail : Detail)
     → detail_at scope u offset ≡ Ok detail → IsOk (items_inside_at u offset)
+
+-- open entries, depths of inlined ranges, and the items of a function
+pub record ItemsAroundLaws : Type 0 where
+  pub around : OpenAreAround
+  pub depths : DepthsAreNumbers
+  pub inside : InsideIsRead

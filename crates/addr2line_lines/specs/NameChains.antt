@@ -41,3 +41,8 @@ LongChainGivesNone =
     (from to : Reference) (places : List EntryPlace)
     → IsChain from places to → length places ≡ most_visited
     → referred_name from.scope from.unit from.value ≡ Ok None
+
+-- chains that give a name, and longer ones
+pub record NameChainLaws : Type 0 where
+  pub names : ChainGivesName
+  pub long : LongChainGivesNone

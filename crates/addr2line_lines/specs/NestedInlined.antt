@@ -97,3 +97,9 @@ ChainBeginsOutermost =
     (scope : Scope) (u : UnitRecord) (offset : ℕ) (items : List Item) (detail : Detail) (probe : ℕ)
     → items_inside_at u offset ≡ Ok items → detail_at scope u offset ≡ Ok detail
     → IsFirstOutermost items (inlined_chain probe detail.inlined)
+
+-- chains of nested ranges, those of a function, and how each begins
+pub record NestedInlinedLaws : Type 0 where
+  pub chain : NestedChain
+  pub nearest : NestedInFunction
+  pub first : ChainBeginsOutermost

@@ -87,8 +87,8 @@ impl<R: Reader> Details<R> {
             (detail_at (seen_scope scope.entry) unit.now offset.0) }
         ensures kept { AreDetailsMore (seen_details R.section self.old)
             (seen_details R.section self.new) }
-        ensures place { IfOk result (IsDetailPlace (seen_details R.section self.new)) }
-        ensures next { IfOk result (IsNextPlace (seen_details R.section self.old)
+        ensures there { IfOk result (IsDetailPlace (seen_details R.section self.new)) }
+        ensures after { IfOk result (IsNextPlace (seen_details R.section self.old)
             (seen_details R.section self.new)) }
         ensures names { OnErr result (map (option_map R.section) self.new.names.items ≡
             map (option_map R.section) self.old.names.items) }
@@ -146,8 +146,8 @@ impl<R: Reader> Details<R> {
             (detail_at (seen_scope scope.entry) unit.now offset.0) }
         ensures kept { AreDetailsMore (seen_details R.section self.old)
             (seen_details R.section self.new) }
-        ensures place { IfOk result (IsDetailPlace (seen_details R.section self.new)) }
-        ensures next { IfOk result (IsNextPlace (seen_details R.section self.old)
+        ensures there { IfOk result (IsDetailPlace (seen_details R.section self.new)) }
+        ensures after { IfOk result (IsNextPlace (seen_details R.section self.old)
             (seen_details R.section self.new)) }
         ensures refused { OnErr result
             (seen_details R.section self.new ≡ seen_details R.section self.old) }

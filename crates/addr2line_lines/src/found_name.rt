@@ -59,7 +59,7 @@ impl<R: Reader> FoundName<R> {
 
     /// Takes the name, and leaves none. Takes no memory.
     pub(crate) fn take(&mut self) -> FoundName<R>
-        ensures value { result ≡ self.old }
+        ensures gives { result ≡ self.old }
         ensures left { found_name R.section self.new ≡ None }
     {
         mem::replace(self, FoundName::none())

@@ -101,7 +101,7 @@ fn push_ranges<R: Reader>(
 impl FunctionLists {
     fn new(alloc: Global) -> FunctionLists
         ensures gives { seen_functions result ≡ none_found }
-        ensures unread { AreFoundUnread result }
+        ensures empty { AreFoundUnread result }
     {
         FunctionLists {
             functions: Vec::new(alloc),
@@ -120,7 +120,7 @@ impl FunctionLists {
             (gives_a_range unit.entry.dwarf.now unit.entry.unit.now attributes.now)
             (λ _. seen_functions self.new) result (with_attributes unit.entry.dwarf.now
             unit.entry.unit.now attributes.now offset.0 (seen_functions self.old)) }
-        ensures unread { AreFoundUnread self.old → AreFoundUnread self.new }
+        ensures empty { AreFoundUnread self.old → AreFoundUnread self.new }
     {
         let before = self.addresses.len();
         let function = self.functions.len();
@@ -162,7 +162,7 @@ fn read_item<R: Reader>(
         (λ _. (seen_functions found.new, entries.new.cursor)) result
         (next_found_at unit.entry.dwarf.now unit.entry.unit.now entries.old.unit entries.old.cursor
         (seen_functions found.old)) }
-    ensures unread { AreFoundUnread found.old → AreFoundUnread found.new }
+    ensures empty { AreFoundUnread found.old → AreFoundUnread found.new }
     ensures unit { entries.new.unit ≡ entries.old.unit }
     ensures shorter { OnOk result
         (length entries.new.cursor.left.bytes < length entries.old.cursor.left.bytes) }
@@ -186,7 +186,7 @@ fn read_functions<R: Reader>(alloc: Global, unit: UnitRef<'_, R>) -> Result<Func
     ensures gives { ExactlyUnlessOomIf (functions_take_memory R.shares unit.entry.dwarf.now
         unit.entry.unit.now) seen_functions result
         (found_in unit.entry.dwarf.now unit.entry.unit.now) }
-    ensures unread { IfOk result AreFoundUnread }
+    ensures empty { IfOk result AreFoundUnread }
 {
     let mut entries = unit.entries_raw(None)?;
     let mut found = FunctionLists::new(alloc);
@@ -249,8 +249,8 @@ impl<R: Reader> Functions<R> {
         ensures gives { ExactlyUnlessOomIf (functions_take_memory R.shares unit.entry.dwarf.now
             unit.entry.unit.now) (λ f. f.ranges) result
             (functions_of unit.entry.dwarf.now unit.entry.unit.now) }
-        ensures unread { IfOk result AreUnread }
-        ensures listed { IfOk result AreListed }
+        ensures empty { IfOk result AreUnread }
+        ensures right { IfOk result AreListed }
         ensures names { IfOk result (λ f. f.names ≡ []) }
     {
         let FunctionLists {
@@ -270,7 +270,7 @@ impl<R: Reader> Functions<R> {
     pub fn find(&self, probe: u64) -> Option<usize>
         ensures found { option_and_then (cached_offset_at self.now) result
             ≡ function_offset_at probe self.now.ranges }
-        ensures place { result ≡ function_place_at probe self.now }
+        ensures gives { result ≡ function_place_at probe self.now }
         ensures there { IfSome result (λ n. n < length self.now.functions) }
     {
         self.addresses.find(probe)
@@ -335,16 +335,16 @@ impl<R: Reader> Functions<R> {
             → ExactlyUnlessOomIf (details_take_memory R.shares (seen_scope scope.entry) unit.now
             self.old.functions) (λ x. x) result
             (details_fault (seen_scope scope.entry) unit.now self.old.functions) }
-        ensures kept { IsTableMore self.old self.new }
+        ensures after { IsTableMore self.old self.new }
         ensures right { AreDetailsOf (seen_scope scope.entry) unit.now self.old
             → AreDetailsOf (seen_scope scope.entry) unit.now self.new }
-        ensures cached { OnOk result (AllByRecursion HasDetail self.new.functions) }
-        ensures ready_for_all { result ≢ Err OutOfMemory → AreCachedToFault self.new.functions }
+        ensures known { OnOk result (AllByRecursion HasDetail self.new.functions) }
+        ensures whole { result ≢ Err OutOfMemory → AreCachedToFault self.new.functions }
         ensures memory { AreCachedToFault self.new.functions → result ≢ Err OutOfMemory }
         ensures exact { AreDetailsOf (seen_scope scope.entry) unit.now self.old
             → AreCachedToFault self.old.functions
             → result ≡ details_fault (seen_scope scope.entry) unit.now self.old.functions }
-        ensures same { AreCachedToFault self.old.functions → self.new ≡ self.old }
+        ensures kept { AreCachedToFault self.old.functions → self.new ≡ self.old }
         ensures names { AreNamesOf (seen_scope scope.entry) unit.now self.new.names }
     {
         let count = self.functions.len();

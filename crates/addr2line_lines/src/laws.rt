@@ -6,13 +6,13 @@ ghost use Rattle.addr2line_lines.specs.Rises.{SequencesRise};
 ghost use Rattle.addr2line_lines.specs.InOrder.{OrderIsFree};
 ghost use Rattle.addr2line_lines.specs.Pick.{LoneIsPicked};
 ghost use Rattle.addr2line_lines.specs.Functions.{function_begin, function_end, function_offset};
-ghost use Rattle.addr2line_lines.specs.FunctionDetails.{MoreKeepsListed, ReadKeepsDetails, ReadKeepsListed, UnreadAreDetails};
+ghost use Rattle.addr2line_lines.specs.FunctionDetails.{CachedDetailLaws, ListedFunctionLaws};
 ghost use Rattle.addr2line_lines.specs.Shortest.{LoneIsShortest, NoneIsShorter};
-ghost use Rattle.addr2line_lines.specs.NameChains.{ChainGivesName, LongChainGivesNone};
-ghost use Rattle.addr2line_lines.specs.ItemsAround.{DepthsAreNumbers, InsideIsRead, OpenAreAround};
-ghost use Rattle.addr2line_lines.specs.NestedInlined.{ChainBeginsOutermost, ChainIsWhole, NestedChain, NestedInFunction};
+ghost use Rattle.addr2line_lines.specs.NameChains.{NameChainLaws};
+ghost use Rattle.addr2line_lines.specs.ItemsAround.{ItemsAroundLaws};
+ghost use Rattle.addr2line_lines.specs.NestedInlined.{ChainIsWhole, NestedInlinedLaws};
 ghost use Rattle.addr2line_lines.specs.Spans.{EachAddressHasRow};
-ghost use Rattle.addr2line_lines.specs.FaultLaws.{DetailsAreNotRefused, FunctionsAreNotRefused, LinesAreNotRefused, NamesAreNotRefused};
+ghost use Rattle.addr2line_lines.specs.FaultLaws.{UnitReadingsAreNotRefused};
 
 /// Where addresses don't fall within a sequence, the sequences of the rows rise.
 pub fn sequences_rise()
@@ -50,8 +50,7 @@ pub fn lone_is_shortest()
 /// fewer than 16 come before it; 16 entries without a name give none, where they stand in a circle
 /// too.
 pub fn name_chains()
-    ensures gives { ChainGivesName }
-    ensures long { LongChainGivesNone }
+    ensures law { NameChainLaws }
 {}
 
 /// The chain of inlined entries at an address is not cut short: it ends at the first depth of which
@@ -64,9 +63,7 @@ pub fn inlined_chain_is_whole()
 /// depth of an inlined range is the number of inlined entries among those around its entry. Where
 /// the details of a function are read so are the items inside it.
 pub fn open_entries_are_around()
-    ensures law { OpenAreAround }
-    ensures depths { DepthsAreNumbers }
-    ensures inside { InsideIsRead }
+    ensures law { ItemsAroundLaws }
 {}
 
 /// Where the ranges of a function's inlined entries lie within those of the nearest inlined entries
@@ -76,29 +73,22 @@ pub fn open_entries_are_around()
 /// around another, the same holds of ranges so nested, if the depth of the one around is one less.
 /// The first entry of any chain of a function has no inlined one around it.
 pub fn inlined_are_nested()
-    ensures law { NestedChain }
-    ensures nearest { NestedInFunction }
-    ensures first { ChainBeginsOutermost }
+    ensures law { NestedInlinedLaws }
 {}
 
 /// What is cached of functions is right for any unit where no detail is cached, and stays right for
 /// the unit of which details are read.
 pub fn cached_details_stay()
-    ensures unread { UnreadAreDetails }
-    ensures read { ReadKeepsDetails }
+    ensures law { CachedDetailLaws }
 {}
 
 /// Functions stay those of a unit that have a range, each once, where details are read.
 pub fn listed_functions_stay()
-    ensures read { ReadKeepsListed }
-    ensures more { MoreKeepsListed }
+    ensures law { ListedFunctionLaws }
 {}
 
 /// No reading of lines, functions, names or details gives `OutOfMemory`: whatever the bytes are, it
 /// gives a value or another fault.
 pub fn fault_laws()
-    ensures lines { LinesAreNotRefused }
-    ensures functions { FunctionsAreNotRefused }
-    ensures names { NamesAreNotRefused }
-    ensures details { DetailsAreNotRefused }
+    ensures law { UnitReadingsAreNotRefused }
 {}

@@ -136,9 +136,9 @@ impl Lines {
     /// Source: DWARF 5, section 6.2.2. Own: which of several sequences counts.
     pub fn find_row(&self, looks: &mut Count, probe: u64) -> Option<Row>
         ensures found { result ≡ row_at probe self.now.sequences }
-        ensures cost { looks.new ≤ looks.old + most_looks_in self.now }
-        ensures raised { looks.old ≤ looks.new }
-        ensures counted { IfSome result (λ row. looks.old < looks.new) }
+        ensures bound { looks.new ≤ looks.old + most_looks_in self.now }
+        ensures looks { looks.old ≤ looks.new }
+        ensures some { IfSome result (λ row. looks.old < looks.new) }
     {
         self.packed.known();
         let mut rows = CountedRows {
@@ -179,9 +179,9 @@ impl Lines {
     /// location.
     pub fn find_location_counted(&self, looks: &mut Count, probe: u64) -> Option<Location<'_>>
         ensures found { option_map seen_location result ≡ location_at probe self.now }
-        ensures cost { looks.new ≤ looks.old + most_looks_in self.now }
-        ensures raised { looks.old ≤ looks.new }
-        ensures counted { IfSome result (λ location. looks.old < looks.new) }
+        ensures bound { looks.new ≤ looks.old + most_looks_in self.now }
+        ensures looks { looks.old ≤ looks.new }
+        ensures some { IfSome result (λ location. looks.old < looks.new) }
     {
         Some(self.location(self.find_row(looks, probe)?))
     }

@@ -133,7 +133,7 @@ impl<R: Reader> NameCache<R> {
 
     // Adds the name of an entry, or nothing where memory is refused.
     fn push(&mut self, offset: UnitOffset, name: &Rc<Option<R>>)
-        ensures more { IsOneMoreAtMost (record {
+        ensures after { IsOneMoreAtMost (record {
           offset = offset;
           name = option_map R.section name.now.value;
         }) (seen_names R.section self.old)
@@ -155,7 +155,7 @@ impl<R: Reader> NameCache<R> {
     /// Adds the name of an entry, or nothing where memory is refused, and gives it back.
     pub(crate) fn add(&mut self, offset: UnitOffset, name: Option<R>) -> FoundName<R>
         ensures gives { found_name R.section result ≡ option_map R.section name }
-        ensures more { IsOneMoreAtMost (record {
+        ensures after { IsOneMoreAtMost (record {
           offset = offset;
           name = option_map R.section name;
         }) (seen_names R.section self.old)

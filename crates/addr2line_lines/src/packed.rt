@@ -70,7 +70,7 @@ impl PackedRows {
     pub(crate) fn none(alloc: Global) -> PackedRows
         ensures rows { result.rows ≡ [] }
         ensures width { result.width ≡ Short 0 }
-        ensures listed { result.listed ≡ [] }
+        ensures sequences { result.listed ≡ [] }
     {
         let sequences = Vec::new(alloc);
         PackedRows {
@@ -87,7 +87,7 @@ impl PackedRows {
         requires no_others { length unit.rows.rows ≡ packed_rows_in unit.sequences.items }
         ensures rows { IfOk result (λ p. p.rows ≡ unit.rows.rows) }
         ensures width { IfOk result (λ p. p.width ≡ unit.rows.width) }
-        ensures listed { IfOk result (λ p. p.listed ≡ unit.sequences.items) }
+        ensures sequences { IfOk result (λ p. p.listed ≡ unit.sequences.items) }
     {
         let coarse = first_addresses(alloc, &unit.rows)?;
         let listed = Snapshot::of(&unit.sequences);
@@ -126,11 +126,11 @@ impl PackedRows {
 
     /// What holds of the rows and sequences.
     pub(crate) fn known(&self)
-        ensures table { IsTable self.now.sequences self.now.rows }
-        ensures sorted { self.now.sequences ≡ in_order packed_sooner self.now.listed }
-        ensures among { AllByRecursion (IsAmong self.now.rows) self.now.listed }
-        ensures few { length self.now.sequences < 2 ^ 64 }
-        ensures no_others { length self.now.rows ≡ packed_rows_in self.now.listed }
+        ensures right { IsTable self.now.sequences self.now.rows }
+        ensures gives { self.now.sequences ≡ in_order packed_sooner self.now.listed }
+        ensures within { AllByRecursion (IsAmong self.now.rows) self.now.listed }
+        ensures bound { length self.now.sequences < 2 ^ 64 }
+        ensures whole { length self.now.rows ≡ packed_rows_in self.now.listed }
     {
         let _rows = self.rows.len();
         let _sequences = self.sequences.len();

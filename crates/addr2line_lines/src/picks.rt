@@ -43,7 +43,7 @@ impl Stored for InlinedFunctionAddress {
 pub(crate) fn sort_inlined<S: Stored<Whole = InlinedFunctionAddress>>(upper: u32, ranges: &mut [S])
     ensures gives { map (S.whole upper) ranges.new
         ≡ in_order inlined_sooner (map (S.whole upper) ranges.old) }
-    ensures ordered { IsInOrder inlined_sooner (map (S.whole upper) ranges.new) }
+    ensures right { IsInOrder inlined_sooner (map (S.whole upper) ranges.new) }
 {
     ranges.sort_unstable_by_key(|r| {
         let whole = r.whole(upper);
@@ -114,7 +114,7 @@ pub(crate) fn find_chain<S: Stored<Whole = InlinedFunctionAddress>>(
         (exceeds_inline_room (places_chain probe (map (S.whole upper) ranges.now)))
         (λ chain. chain.items) result
         (Ok (places_chain probe (map (S.whole upper) ranges.now))) }
-    ensures listed { (listed : List InlinedFunctionAddress) → (entry_of : ℕ → InlinedEntry)
+    ensures found { (listed : List InlinedFunctionAddress) → (entry_of : ℕ → InlinedEntry)
         → IsNonDecreasingBy inlined_place listed
         → map (S.whole upper) ranges.now ≡ in_order inlined_sooner listed
         → IfOk result (λ chain. map entry_of chain.items

@@ -47,7 +47,7 @@ impl<R: Reader> Clone for Scope<'_, R> {
 // How many units begin at or below an offset.
 fn count_begun<R: Reader>(units: &[Unit<R>], offset: DebugInfoOffset) -> usize
     ensures bound { result ≤ length units.now }
-    ensures split { AreInOrder units.now
+    ensures gives { AreInOrder units.now
         → IsPartitionPoint (BeginsBy offset.0) (BeginsAbove offset.0) units.now result }
 {
     units.partition_point(|unit| unit.header.offset().0 <= offset.0)

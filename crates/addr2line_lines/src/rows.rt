@@ -178,7 +178,7 @@ impl RowStore {
     // Stores the rows so that one more can be, unless they are.
     #[inline(always)]
     fn widen_for(&mut self, alloc: Global, row: Row) -> Result<(), AllocError>
-        ensures stores { OnOk result (stores (width_of self.new) row ≡ true) }
+        ensures within { OnOk result (stores (width_of self.new) row ≡ true) }
         ensures kept { whole_rows self.new ≡ whole_rows self.old }
         ensures width { OnOk result (width_of self.new
             ≡ width_after (length (whole_rows self.old)) (width_of self.old) row) }

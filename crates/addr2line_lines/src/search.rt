@@ -59,8 +59,8 @@ pub(crate) trait Table {
 fn last_sequence<T: Table>(table: &mut T, probe: u64) -> Option<LineSequence>
     requires ordered { IsInOrder packed_sooner (T.sequences table.old) }
     ensures found { result ≡ last (at_or_below packed_start probe (T.sequences table.old)) }
-    ensures cost { T.looks table.new ≤ T.looks table.old + digits (length (T.sequences table.old)) }
-    ensures raised { T.looks table.old ≤ T.looks table.new }
+    ensures bound { T.looks table.new ≤ T.looks table.old + digits (length (T.sequences table.old)) }
+    ensures looks { T.looks table.old ≤ T.looks table.new }
     ensures sequences { T.sequences table.new ≡ T.sequences table.old }
     ensures rows { T.rows table.new ≡ T.rows table.old }
 {
@@ -86,14 +86,13 @@ fn first_row<T: Table>(table: &mut T, sequence: LineSequence, probe: u64) -> usi
     requires few { length (T.rows table.old) < 2 ^ 64 }
     requires among { IsAmong (T.rows table.old) sequence }
     requires below { sequence.start ≤ probe }
-    ensures from { sequence.first ≤ result }
-    ensures inside { result < sequence.first + sequence.len }
-    ensures below { row_address_at (T.rows table.old) result ≤ probe }
-    ensures past { ArePastFrom probe (T.rows table.old) sequence
+    ensures within { (sequence.first ≤ result) × (result < sequence.first + sequence.len) }
+    ensures found { row_address_at (T.rows table.old) result ≤ probe }
+    ensures none { ArePastFrom probe (T.rows table.old) sequence
         (result - result % block_rows + block_rows) }
-    ensures cost { T.looks table.new
+    ensures bound { T.looks table.new
         ≤ T.looks table.old + digits (blocks (length (T.rows table.old))) }
-    ensures raised { T.looks table.old ≤ T.looks table.new }
+    ensures looks { T.looks table.old ≤ T.looks table.new }
     ensures sequences { T.sequences table.new ≡ T.sequences table.old }
     ensures rows { T.rows table.new ≡ T.rows table.old }
 {
@@ -123,8 +122,8 @@ fn last_row<T: Table>(table: &mut T, sequence: LineSequence, from: usize, probe:
         (from - from % block_rows + block_rows) }
     ensures found { Some result ≡
         last (at_or_below row_address probe (unpacked (T.rows table.old) sequence).rows) }
-    ensures cost { T.looks table.new ≤ T.looks table.old + block_rows }
-    ensures raised { T.looks table.old < T.looks table.new }
+    ensures bound { T.looks table.new ≤ T.looks table.old + block_rows }
+    ensures looks { T.looks table.old < T.looks table.new }
     ensures sequences { T.sequences table.new ≡ T.sequences table.old }
     ensures rows { T.rows table.new ≡ T.rows table.old }
 {
@@ -143,10 +142,10 @@ pub(crate) fn search<T: Table>(table: &mut T, probe: u64) -> Option<Row>
     requires table { IsTable (T.sequences table.old) (T.rows table.old) }
     ensures found { result ≡
         row_at probe (map (unpacked (T.rows table.old)) (T.sequences table.old)) }
-    ensures cost { T.looks table.new ≤ T.looks table.old
+    ensures bound { T.looks table.new ≤ T.looks table.old
         + most_looks (length (T.sequences table.old)) (length (T.rows table.old)) }
-    ensures raised { T.looks table.old ≤ T.looks table.new }
-    ensures counted { IfSome result (λ row. T.looks table.old < T.looks table.new) }
+    ensures looks { T.looks table.old ≤ T.looks table.new }
+    ensures some { IfSome result (λ row. T.looks table.old < T.looks table.new) }
     ensures sequences { T.sequences table.new ≡ T.sequences table.old }
     ensures rows { T.rows table.new ≡ T.rows table.old }
 {

@@ -44,10 +44,9 @@ struct Sweep {
 
 impl Sweep {
     fn new(alloc: Global) -> Sweep
-        ensures at { result.at ≡ 0 }
-        ensures running { heap_items result.running ≡ [] }
-        ensures segments { result.segments.items ≡ [] }
-        ensures swept { (addresses : List FunctionAddress) → IsSweptBy addresses 0 result }
+        ensures empty { (result.at ≡ 0) × (heap_items result.running ≡ [])
+            × (result.segments.items ≡ []) }
+        ensures right { (addresses : List FunctionAddress) → IsSweptBy addresses 0 result }
     {
         Sweep {
             at: 0,
@@ -59,7 +58,7 @@ impl Sweep {
     // The end of the shortest running range, where it is no greater than `limit`.
     fn first_end(&self, limit: u64) -> Option<u64>
         ensures gives { result ≡ first_end limit (heap_items self.now.running) }
-        ensures all { limit ≡ last_address → result ≡ None → heap_items self.now.running ≡ [] }
+        ensures none { limit ≡ last_address → result ≡ None → heap_items self.now.running ≡ [] }
     {
         match self.running.peek() {
             Some(Reverse((_, _, end))) if *end <= limit => Some(*end),
@@ -82,11 +81,11 @@ impl Sweep {
     //
     // Refused `OutOfMemory` alone.
     fn advance(&mut self, until: u64) -> Result<(), Error>
-        ensures at { OnOk result (self.new.at ≡ max self.old.at until) }
-        ensures segments { OnOk result (self.new.segments.items ≡ self.old.segments.items
+        ensures after { OnOk result (self.new.at ≡ max self.old.at until) }
+        ensures gives { OnOk result (self.new.segments.items ≡ self.old.segments.items
             ++ segment_to until self.old.at (heap_items self.old.running)) }
-        ensures running { heap_items self.new.running ≡ heap_items self.old.running }
-        ensures first { IsGreatestFirst (heap_items self.old.running) }
+        ensures kept { heap_items self.new.running ≡ heap_items self.old.running }
+        ensures right { IsGreatestFirst (heap_items self.old.running) }
         ensures refused { IfErr result (λ e. e ≡ OutOfMemory) }
     {
         if let Some(Reverse((_, function, _))) = self.running.peek() {
@@ -107,12 +106,12 @@ impl Sweep {
     //
     // Refused `OutOfMemory` alone.
     fn close(&mut self, limit: u64) -> Result<(), Error>
-        ensures swept { (addresses : List FunctionAddress) → (next : ℕ)
+        ensures right { (addresses : List FunctionAddress) → (next : ℕ)
             → IsBegunFrom addresses next limit → IsSweptBy addresses next self.old
             → OnOk result (IsSweptBy addresses next self.new) }
-        ensures closed { OnOk result (first_end limit (heap_items self.new.running) ≡ None) }
-        ensures all { limit ≡ last_address → OnOk result (heap_items self.new.running ≡ []) }
-        ensures few { OnOk result (length self.new.segments.items
+        ensures none { OnOk result (first_end limit (heap_items self.new.running) ≡ None) }
+        ensures empty { limit ≡ last_address → OnOk result (heap_items self.new.running ≡ []) }
+        ensures bound { OnOk result (length self.new.segments.items
             + length (heap_items self.new.running)
             ≤ length self.old.segments.items + length (heap_items self.old.running)) }
         ensures refused { IfErr result (λ e. e ≡ OutOfMemory) }
@@ -131,14 +130,14 @@ impl Sweep {
     // Refused `OutOfMemory` alone.
     fn enter(&mut self, address: FunctionAddress) -> Result<(), Error>
         requires closed { first_end address.range.begin (heap_items self.old.running) ≡ None }
-        ensures swept { (addresses : List FunctionAddress) → (next : ℕ) → (d : FunctionAddress)
+        ensures right { (addresses : List FunctionAddress) → (next : ℕ) → (d : FunctionAddress)
             → IsBegunFrom addresses next address.range.begin → next < length addresses
             → slice_index_or addresses next d ≡ address → IsSweptBy addresses next self.old
             → OnOk result (IsSweptBy addresses (next + 1) self.new) }
-        ensures few { OnOk result (length self.new.segments.items
+        ensures bound { OnOk result (length self.new.segments.items
             + length (heap_items self.new.running)
             ≤ length self.old.segments.items + length (heap_items self.old.running) + 2) }
-        ensures passed { is_outdone (as_running address) (heap_items self.old.running) ≡ true
+        ensures kept { is_outdone (as_running address) (heap_items self.old.running) ≡ true
             → (result ≡ Ok tt) × (self.new ≡ self.old) }
         ensures refused { IfErr result (λ e. e ≡ OutOfMemory) }
     {
@@ -187,8 +186,8 @@ fn are_disjoint(addresses: &[FunctionAddress]) -> bool
 
 // Puts ranges in order of begin.
 fn sort_addresses(addresses: &mut Vec<FunctionAddress>)
-    ensures sorted { IsNonDecreasingBy address_begin addresses.new.items }
-    ensures same { IsPermutation addresses.old.items addresses.new.items }
+    ensures right { IsNonDecreasingBy address_begin addresses.new.items }
+    ensures kept { IsPermutation addresses.old.items addresses.new.items }
 {
     addresses.sort_unstable_by_key(|address| address.range.begin);
 }

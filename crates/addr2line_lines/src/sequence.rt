@@ -36,8 +36,8 @@ pub struct LineSequence {
 fn closed(rows: &Rows, first: usize, end: LineRow) -> Option<LineSequence>
     ensures gives { option_map (unpacked rows.now.rows) result ≡
         closed (drop first rows.now.rows) end }
-    ensures first { IfSome result (λ s. s.first ≡ first) }
-    ensures all { IfSome result (λ s. s.first + s.len ≡ length rows.now.rows) }
+    ensures found { IfSome result (λ s. s.first ≡ first) }
+    ensures whole { IfSome result (λ s. s.first + s.len ≡ length rows.now.rows) }
 {
     let len = rows.len().saturating_sub(first);
     if len == 0 || end.dropped {
@@ -127,7 +127,7 @@ impl Builder {
         ensures width { result.rows.width ≡ self.width }
         ensures within { AllByRecursion (RowsEndBy (length result.rows.rows))
             result.sequences.items }
-        ensures no_others { length result.rows.rows ≡ packed_rows_in result.sequences.items }
+        ensures whole { length result.rows.rows ≡ packed_rows_in result.sequences.items }
     {
         let mut rows = self.rows;
         let mut sequences = self.sequences;
@@ -183,8 +183,8 @@ pub(crate) fn read_sequences<R: Reader>(
         (result_map sequences_of (read_all rows.old.left)) }
     ensures width { IfOk result (λ u.
         result_map need_width (read_all rows.old.left) ≡ Ok u.rows.width) }
-    ensures among { IfOk result (λ u. AllByRecursion (IsAmong u.rows.rows) u.sequences.items) }
-    ensures no_others { IfOk result (λ u.
+    ensures within { IfOk result (λ u. AllByRecursion (IsAmong u.rows.rows) u.sequences.items) }
+    ensures whole { IfOk result (λ u.
         length u.rows.rows ≡ packed_rows_in u.sequences.items) }
     ensures files { OnOk result
         (rows.new.header.file_names ≡ rows.old.header.file_names ++ rows.old.to_define) }

@@ -129,7 +129,7 @@ impl<S: Short> ListStore<S> {
     // Stores the elements so that one more can be, unless they are.
     #[inline(always)]
     fn widen_for(&mut self, alloc: Global, element: S::Whole) -> Result<(), AllocError>
-        ensures stores { OnOk result (can_store S.fits (store_width self.new) element ≡ true) }
+        ensures within { OnOk result (can_store S.fits (store_width self.new) element ≡ true) }
         ensures kept { whole_elements S.whole self.new ≡ whole_elements S.whole self.old }
         ensures width { OnOk result (store_width self.new ≡ width_with S.fits S.base_of
             (length (whole_elements S.whole self.old)) (store_width self.old) element) }

@@ -94,3 +94,11 @@ pub record ParsesAreNotRefused : Type 0 where
       (answer : Option (Option Sections)) → WasNotRefused (read_of_unit depth scope u answer)
   pub units : (depth : ReadingDepth) (scope : Scope) (us : List UnitRecord)
       (answers : FirstAnswers) → WasNotRefused (read_of_units depth scope us answers)
+
+-- nothing of all that is
+pub record UnitLookupsAreNotRefused : Type 0 where
+  pub units : IndexIsNotRefused
+  pub lines : CachedLinesAreNotRefused
+  pub views : ViewsAreNotRefused
+  pub frames : FramesAreNotRefused
+  pub parses : ParsesAreNotRefused

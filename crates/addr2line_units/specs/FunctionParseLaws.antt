@@ -39,3 +39,8 @@ ReadsAgain = (depth : ReadingDepth) (scope : Scope) (us : List UnitRecord)
     ≡ read_of_units depth scope us answers)
     × (answers_after_parse depth scope us (answers_after_parse depth scope us answers)
     ≡ answers_after_parse depth scope us answers)
+
+-- what one parse reaches, and what a second one does
+pub record FunctionParseLaws : Type 0 where
+  pub reached : ReachesAll
+  pub again : ReadsAgain

@@ -21,3 +21,9 @@ FindsOnlyLegacyNames =
 abbrev pub HasOneText : Type 0
 HasOneText =
     (name text other : List ℕ) → IsLegacyName name text → IsLegacyName name other → text ≡ other
+
+-- which names have a text, and how many texts each
+pub record LegacyNameLaws : Type 0 where
+  pub found : FindsLegacyNames
+  pub only : FindsOnlyLegacyNames
+  pub one : HasOneText

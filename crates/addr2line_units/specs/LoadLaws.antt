@@ -49,3 +49,10 @@ LeaveFewer = (d : Sections) (us : List UnitRecord) (answers : FirstAnswers)
     → IsListed n (loads_of d us answers ranges)
     → length (loads_of d us (with_answer d us answers n given) ranges)
     < length (loads_of d us answers ranges)
+
+-- for which loads a lookup waits, and what an answer to one leaves
+pub record LoadLaws : Type 0 where
+  pub listed : WaitForListed
+  pub none : NeedLoadsToWait
+  pub others : LeaveOthers
+  pub fewer : LeaveFewer

@@ -14,3 +14,8 @@ UnitsInOrder = (d : Sections) (m : UnitIndex) → index_units d ≡ Ok m
 -- so does each of the supplementary file
 abbrev pub SupUnitsInOrder : Type 0
 SupUnitsInOrder = (d : Sections) (m : UnitIndex) → index_units d ≡ Ok m → AreInOrder m.sup_units
+
+-- the units of a context, and those of the supplementary file
+pub record UnitOrderLaws : Type 0 where
+  pub units : UnitsInOrder
+  pub sup_units : SupUnitsInOrder

@@ -20,3 +20,9 @@ TakeAnswers = (d : Sections) (u : UnitRecord) (answer : Option Sections) → ver
 -- the units that references lead to from a view stand in order
 abbrev pub KeepOrder : Type 0
 KeepOrder = (scope : Scope) (view : View) → IsScope scope → IsScope (view_scope scope view)
+
+-- verdicts without an answer, those of an answer, and references from a view
+pub record ViewLaws : Type 0 where
+  pub alone : NeedNoAnswer
+  pub answered : TakeAnswers
+  pub in_order : KeepOrder

@@ -40,8 +40,8 @@ pub trait LookupContinuation {
     /// An answer that found no memory wasn't one: the output is refused `OutOfMemory`, and the unit
     /// stays open.
     fn resume(self, input: Option<Self::Sections>) -> LookupResult<Self>
-        ensures fewer { IfLoad result (λ c. left c < left self) }
-        ensures skips { input ≡ None → (o : Self.Output) → SkipsTo skips_to result o
+        ensures shorter { IfLoad result (λ c. left c < left self) }
+        ensures none { input ≡ None → (o : Self.Output) → SkipsTo skips_to result o
             → skips_to self o };
 }
 

@@ -59,7 +59,7 @@ fn read_functions<R: Reader>(
 ) -> Result<LazyFunctions<R>, Error>
     ensures right { IfOk result (AreFunctionsOf (seen_scope scope.entry) view.now) }
     ensures read { IfOk result (λ f. were_read f ≡ true) }
-    ensures unread { IfOk result (λ f. AreUnread (cached_functions f)) }
+    ensures empty { IfOk result (λ f. AreUnread (cached_functions f)) }
     ensures refused { IfErr result (λ e. e ≡ OutOfMemory) }
     ensures memory { IfErr result (λ e. functions_take_memory R.shares scope.entry.file.dwarf.now
         view.now ≡ false → functions_of scope.entry.file.dwarf.now view.now ≡ Err e) }
@@ -93,8 +93,8 @@ fn find_place<R: Reader>(
         (function_at (seen_scope scope.entry) view.now probe) }
     ensures there { IfOk result (λ found. IfSome found (ArePlacesIn functions.new)) }
     ensures right { IsTableOf (seen_scope scope.entry) view.now functions.new }
-    ensures stay { IsTableMore functions.old functions.new }
-    ensures alone { ReadsNoOther probe functions.old functions.new }
+    ensures after { IsTableMore functions.old functions.new }
+    ensures within { ReadsNoOther probe functions.old functions.new }
     ensures ready { result ≢ Err OutOfMemory
         → table_takes_memory probe functions.new
         ≡ exceeds_inline_room (cached_inlined_at probe functions.new) }
@@ -132,7 +132,7 @@ impl<R: Reader> LazyFunctions<R> {
         requires right { AreFunctionsOf (seen_scope scope) view.now self.old }
         ensures right { AreFunctionsOf (seen_scope scope.entry) view.now self.new }
         ensures read { OnOk result (were_read self.new ≡ true) }
-        ensures unread { were_read self.old ≡ false → AreUnread (cached_functions self.new) }
+        ensures empty { were_read self.old ≡ false → AreUnread (cached_functions self.new) }
         ensures kept { were_read self.old ≡ true → (self.new ≡ self.old) × (result ≡ Ok tt) }
         ensures refused { IfErr result (λ e. (e ≡ OutOfMemory) × (self.new ≡ self.old)) }
         ensures memory { IfErr result (λ e. functions_take_memory R.shares
@@ -168,8 +168,8 @@ impl<R: Reader> LazyFunctions<R> {
         ensures there { IfOk result (λ found.
             IfSome found (ArePlacesIn (cached_functions self.new))) }
         ensures right { AreFunctionsOf (seen_scope scope.entry) view.now self.new }
-        ensures stay { StayFunctions self.old self.new }
-        ensures alone { ReadsNoOther probe (cached_functions self.old) (cached_functions self.new) }
+        ensures after { StayFunctions self.old self.new }
+        ensures within { ReadsNoOther probe (cached_functions self.old) (cached_functions self.new) }
         ensures ready { result ≢ Err OutOfMemory
             → find_takes_memory R.shares (seen_scope scope.entry) view.now probe self.new
             ≡ exceeds_inline_room (cached_inlined_at probe (cached_functions self.new)) }
@@ -207,20 +207,20 @@ impl<R: Reader> LazyFunctions<R> {
             (reading_takes_memory R.shares (seen_scope scope.entry) view.now self.old) (λ x. x)
             result (functions_fault (seen_scope scope.entry) view.now) }
         ensures right { AreFunctionsOf (seen_scope scope.entry) view.now self.new }
-        ensures stay { StayFunctions self.old self.new }
+        ensures after { StayFunctions self.old self.new }
         ensures read { OnOk result (were_read self.new ≡ true) }
-        ensures details { OnOk result
+        ensures known { OnOk result
             (AllByRecursion HasDetail (cached_functions self.new).functions) }
         ensures ready { OnOk result ((probe : ℕ)
             → find_takes_memory R.shares (seen_scope scope.entry) view.now probe self.new
             ≡ exceeds_inline_room (cached_inlined_at probe (cached_functions self.new))) }
-        ensures ready_for_all { WasNotRefused result
+        ensures whole { WasNotRefused result
             → IsReadyFor depths.Details (known_functions self.new) }
-        ensures had_memory { IsReadyFor depths.Details (known_functions self.new)
+        ensures memory { IsReadyFor depths.Details (known_functions self.new)
             → WasNotRefused result }
         ensures exact { IsReadyFor depths.Details (known_functions self.old)
             → result ≡ functions_fault (seen_scope scope.entry) view.now }
-        ensures same { IsReadyFor depths.Details (known_functions self.old)
+        ensures kept { IsReadyFor depths.Details (known_functions self.old)
             → self.new ≡ self.old }
     {
         self.cache(alloc, scope, view)?;
@@ -292,10 +292,10 @@ fn find_in_view<'x, R: Reader>(
         (ArePlacesIn (cached_functions functions.new))) }
     ensures right { AreEntriesOf (seen_scope scope.entry) dw_unit.now
         (record { view = view.now; functions = functions.new }) }
-    ensures stay { StayFunctions functions.old functions.new }
-    ensures alone { ReadsNoOther probe (cached_functions functions.old)
+    ensures after { StayFunctions functions.old functions.new }
+    ensures within { ReadsNoOther probe (cached_functions functions.old)
         (cached_functions functions.new) }
-    ensures same { has_entries_by probe view.now.state functions.old ≡ true
+    ensures kept { has_entries_by probe view.now.state functions.old ≡ true
         → functions.new ≡ functions.old }
     ensures ready { WasNotRefused result
         → has_entries_by probe view.now.state functions.new ≡ true }
@@ -316,7 +316,7 @@ impl<R: Reader> UnitEntries<R> {
     // Before anybody asks for something. Takes no memory.
     pub(crate) fn new() -> UnitEntries<R>
         ensures answer { first_answer_of result ≡ None }
-        ensures fresh { AreFresh result }
+        ensures empty { AreFresh result }
     {
         UnitEntries {
             view: UnitView::new(),
@@ -328,10 +328,10 @@ impl<R: Reader> UnitEntries<R> {
     pub(crate) fn check_split(&mut self, scope: Scope<'_, R>, dw_unit: &Unit<R>)
         requires right { AreEntriesOf (seen_scope scope) dw_unit.now self.old }
         ensures right { AreEntriesOf (seen_scope scope.entry) dw_unit.now self.new }
-        ensures looked { was_checked self.new.view.state ≡ true }
-        ensures stay { StayEntries self.old self.new }
+        ensures known { was_checked self.new.view.state ≡ true }
+        ensures after { StayEntries self.old self.new }
         ensures functions { self.new.functions ≡ self.old.functions }
-        ensures same { was_checked self.old.view.state ≡ true → self.new ≡ self.old }
+        ensures kept { was_checked self.old.view.state ≡ true → self.new ≡ self.old }
     {
         self.view.check_split(scope.file.dwarf, dw_unit);
     }
@@ -359,8 +359,8 @@ impl<R: Reader> UnitEntries<R> {
         ensures there { IfOk result (λ found. IfSome found
             (ArePlacesIn (cached_functions self.new.functions))) }
         ensures right { AreEntriesOf (seen_scope scope.entry) dw_unit.now self.new }
-        ensures stay { StayEntries self.old self.new }
-        ensures only { ReadsEntriesOf probe self.old self.new }
+        ensures after { StayEntries self.old self.new }
+        ensures within { ReadsEntriesOf probe self.old self.new }
         ensures ready { WasNotRefused result → has_entries probe self.new ≡ true }
         ensures memory { has_entries probe self.new ≡ true
             → exceeds_inline_room
@@ -401,13 +401,13 @@ pub(crate) fn find_frames_in<'x, R: Reader>(
     ensures there { IfOk result (AreFramesIn unit.new entries.new) }
     ensures read { AreLinesOf scope.entry.file.dwarf.now dw_unit.now unit.new.lines }
     ensures right { AreEntriesOf (seen_scope scope.entry) dw_unit.now entries.new }
-    ensures stays { StaysUnit unit.old unit.new }
-    ensures stay { StayEntries entries.old entries.new }
-    ensures only { ReadsEntriesOf probe entries.old entries.new }
-    ensures lines { asks_lines_in (seen_scope scope.entry) dw_unit.now (first_answer_of entries.old)
+    ensures unit { StaysUnit unit.old unit.new }
+    ensures after { StayEntries entries.old entries.new }
+    ensures within { ReadsEntriesOf probe entries.old entries.new }
+    ensures kept { asks_lines_in (seen_scope scope.entry) dw_unit.now (first_answer_of entries.old)
         probe ≡ false → unit.new ≡ unit.old }
     ensures ready { WasNotRefused result → has_entries probe entries.new ≡ true }
-    ensures parsed { WasNotRefused result
+    ensures known { WasNotRefused result
         → asks_lines_in (seen_scope scope.entry) dw_unit.now (first_answer_of entries.old) probe
         ≡ true
         → is_uncached unit.new.lines ≡ false }
@@ -423,7 +423,7 @@ pub(crate) fn find_frames_in<'x, R: Reader>(
         (first_answer_of entries.old) probe unit.new entries.new → IfErr result (λ e. frames_in
         (seen_scope scope.entry) (indexed_unit dw_unit.now unit.old) (first_answer_of entries.old)
         probe ≡ Err e) }
-    ensures raised { looks.old ≤ looks.new }
+    ensures looks { looks.old ≤ looks.new }
 {
     entries.check_split(scope, dw_unit);
     if entries.view.is_open() {

@@ -66,7 +66,7 @@ impl<'ctx, R: Reader> FunctionName<'ctx, R> {
     pub fn raw_name(&self, alloc: Global) -> Result<CowStr<'ctx>, Error>
         ensures gives { IfOk result (λ text. cow_str_bytes text
             ≡ raw_text (seen_name R.section self.now)) }
-        ensures borrowed { IsUtf8 (R.section self.now.name.now).bytes → IsOk result }
+        ensures exact { IsUtf8 (R.section self.now.name.now).bytes → IsOk result }
         ensures refused { IsOkUnless result OutOfMemory }
     {
         let name = self.name;
@@ -267,7 +267,7 @@ impl<'ctx, R: Reader> FrameIter<'ctx, R> {
             ≡ frames_from (files_if lines.entry) language offset (cached_name functions.now place)
             (reverse (map (entry_among functions.now.inlined) inlined.now))
             (option_map seen_location location.entry)) }
-        ensures count { length (frames_left result) ≡ length inlined.now + 1 }
+        ensures whole { length (frames_left result) ≡ length inlined.now + 1 }
     {
         FrameIter {
             state: FrameState::Function(FunctionFrames {
@@ -423,7 +423,7 @@ impl<R: Reader> Units<R> {
 
     // Whether it is known that no lookup finds anything in the unit of a number.
     fn has_nothing(&self, number: usize) -> bool
-        ensures nothing { result ≡ true → HasNothingAt self.now number }
+        ensures empty { result ≡ true → HasNothingAt self.now number }
     {
         match self.caches.get(number) {
             Some(cache) => cache.has_nothing(),

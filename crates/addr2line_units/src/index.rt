@@ -155,16 +155,16 @@ impl Model for UnitRanges {
 // Puts ranges in order of end, then unit, then begin.
 fn sort_ranges(ranges: &mut Vec<UnitRange>)
     ensures gives { ranges.new.items ≡ in_order ends_sooner ranges.old.items }
-    ensures len { length ranges.new.items ≡ length ranges.old.items }
+    ensures kept { length ranges.new.items ≡ length ranges.old.items }
 {
     ranges.sort_unstable_by_key(|r| (r.range.end, r.unit, r.range.begin));
 }
 
 // A range beside the least begin of it and of all after it.
 fn index_range(unit_range: UnitRange, least_after: u64) -> IndexedRange
-    ensures range { result.unit_range ≡ unit_range }
-    ensures least { result.least_begin ≡ min least_after unit_range.range.begin }
-    ensures fits { EndFits unit_range }
+    ensures kept { result.unit_range ≡ unit_range }
+    ensures gives { result.least_begin ≡ min least_after unit_range.range.begin }
+    ensures bound { EndFits unit_range }
 {
     let least_begin = least_after.min(unit_range.range.begin);
     IndexedRange {
@@ -179,7 +179,7 @@ fn index_range(unit_range: UnitRange, least_after: u64) -> IndexedRange
 fn add_least_begins(alloc: Global, mut ranges: Vec<UnitRange>) -> Result<Vec<IndexedRange>, Error>
     ensures gives { ExactlyUnlessOomIf (nat_lt 0 (length ranges.items)) (λ v. v.items) result
         (Ok (with_least_begins ranges.items)) }
-    ensures fits { OnOk result (AllByRecursion EndFits ranges.items) }
+    ensures bound { OnOk result (AllByRecursion EndFits ranges.items) }
 {
     let mut indexed = Vec::with_capacity(alloc, ranges.len())?;
     let mut least_begin = u64::MAX;

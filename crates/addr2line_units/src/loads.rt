@@ -51,7 +51,7 @@ impl<R: Reader> UnitEntries<R> {
         ensures right { AreEntriesOf (seen_scope scope.entry) dw_unit.now self.new }
         ensures answer { OnOk result (first_answer_of self.new
             ≡ Some (option_map (λ d. d.value) sections)) }
-        ensures decided { OnOk result (is_decided self.new.view.state ≡ true) }
+        ensures known { OnOk result (is_decided self.new.view.state ≡ true) }
         ensures functions { self.new.functions ≡ self.old.functions }
         ensures refused { IfErr result (λ e. (e ≡ OutOfMemory) × (self.new ≡ self.old)
             × (is_some sections ≡ true)) }
@@ -68,8 +68,8 @@ impl<R: Reader> UnitEntries<R> {
         requires right { AreEntriesOf (seen_scope scope) dw_unit.now self.old }
         ensures right { AreEntriesOf (seen_scope scope.entry) dw_unit.now self.new }
         ensures answer { first_answer_of self.new ≡ None }
-        ensures same { first_answer_of self.old ≡ None → self.new ≡ self.old }
-        ensures unread { is_some (first_answer_of self.old) ≡ true
+        ensures kept { first_answer_of self.old ≡ None → self.new ≡ self.old }
+        ensures empty { is_some (first_answer_of self.old) ≡ true
             → were_read self.new.functions ≡ false }
     {
         if self.view.is_answered() {
@@ -109,13 +109,13 @@ impl<R: Reader> UnitEntries<R> {
         ensures answer { OnOk result (first_answer_of self.new
             ≡ decided_answer scope.entry.file.dwarf.now dw_unit.now (first_answer_of self.old)
             (option_map (λ d. d.value) sections)) }
-        ensures decided { OnOk result (is_decided self.new.view.state ≡ true) }
+        ensures known { OnOk result (is_decided self.new.view.state ≡ true) }
         ensures refused { IfErr result (λ e. (e ≡ OutOfMemory)
             × StayEntries self.old self.new × (is_some sections ≡ true)) }
         ensures functions { self.new.functions ≡ self.old.functions }
-        ensures same { is_decided self.old.view.state ≡ true
+        ensures kept { is_decided self.old.view.state ≡ true
             → (self.new ≡ self.old) × (result ≡ Ok tt) }
-        ensures not_open { is_open scope.entry.file.dwarf.now dw_unit.now (first_answer_of self.old)
+        ensures none { is_open scope.entry.file.dwarf.now dw_unit.now (first_answer_of self.old)
             ≡ false → result ≡ Ok tt }
         ensures exact { answer_takes_memory R.shares (option_map (λ d. d.value) sections) ≡ false
             → IfErr result (λ e. view_fault (verdict scope.entry.file.dwarf.now dw_unit.now
@@ -198,7 +198,7 @@ impl<R: Reader> Units<R> {
 fn mark_unit(marks: &mut Vec<bool>, count: usize, number: usize) -> Result<bool, Error>
     requires below { number < count }
     ensures gives { IfOk result (λ fresh. fresh ≡ not (is_marked marks.old.items number)) }
-    ensures marked { OnOk result (MarksUnit number marks.old.items marks.new.items) }
+    ensures left { OnOk result (MarksUnit number marks.old.items marks.new.items) }
     ensures refused { IfErr result (λ e. e ≡ OutOfMemory) }
 {
     if marks.len() < count {
@@ -227,14 +227,14 @@ impl<R: Reader> UnitEntries<R> {
         requires right { AreEntriesOf (seen_scope scope) dw_unit.now self.old }
         ensures gives { IfOk result (λ load. load ≡ if_new marks.old.items
             (awaited_load dwarf.now.value number dw_unit.now (first_answer_of self.old))) }
-        ensures marked { OnOk result (MarksLoad
+        ensures left { OnOk result (MarksLoad
             (awaited_load dwarf.now.value number dw_unit.now (first_answer_of self.old))
             marks.old.items marks.new.items) }
-        ensures not_open { is_open dwarf.now.value dw_unit.now (first_answer_of self.old) ≡ false
+        ensures none { is_open dwarf.now.value dw_unit.now (first_answer_of self.old) ≡ false
             → result ≡ Ok None }
         ensures refused { IfErr result (λ e. e ≡ OutOfMemory) }
         ensures right { AreEntriesOf (seen_scope scope.entry) dw_unit.now self.new }
-        ensures stay { StayEntries self.old self.new }
+        ensures after { StayEntries self.old self.new }
         ensures functions { (known_by self.new.view.state self.new.functions
             ≡ known_by self.old.view.state self.old.functions)
             ⊎ HasNoFunctions (known_by self.new.view.state self.new.functions) }
@@ -276,9 +276,9 @@ impl<R: Reader> Units<R> {
     ) -> Result<Option<SplitDwarfLoad<R>>, Error>
         ensures gives { IfOk result (λ load. load ≡ if_new marks.old.items (load_of_number
             self.old.scope.file.sections self.old.scope.file.units self.old.answers number)) }
-        ensures marked { OnOk result (MarksLoad (load_of_number self.old.scope.file.sections
+        ensures left { OnOk result (MarksLoad (load_of_number self.old.scope.file.sections
             self.old.scope.file.units self.old.answers number) marks.old.items marks.new.items) }
-        ensures not_open { is_open_at self.old.scope.file.sections self.old.scope.file.units
+        ensures none { is_open_at self.old.scope.file.sections self.old.scope.file.units
             self.old.answers number ≡ false → result ≡ Ok None }
         ensures refused { IfErr result (λ e. e ≡ OutOfMemory) }
         ensures after { AfterListing (λ n. n ≡ number) self.old self.new }
@@ -307,7 +307,7 @@ impl<R: Reader> Units<R> {
             self.old.scope.file.sections self.old.scope.file.units self.old.answers)
             (ranges_left ranges.entry)) }
         ensures refused { IfErr result (λ e. e ≡ OutOfMemory) }
-        ensures none_open { NoneOpen self.old.scope.file.sections self.old.scope.file.units
+        ensures memory { NoneOpen self.old.scope.file.sections self.old.scope.file.units
             self.old.answers (ranges_left ranges.entry) → IsOk result }
         ensures after { AfterListing (LeadTo (ranges_left ranges.entry)) self.old self.new }
     {

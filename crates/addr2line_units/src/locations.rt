@@ -226,7 +226,7 @@ impl<R: Reader> Units<R> {
         ensures gives { ExactlyUnlessOom (option_map (row_location self.old)) result
             (first_location self.old.scope.file.sections self.old.units probe
             (ranges_left ranges.entry)) }
-        ensures parsed { IfOk result (λ place. IfSome place (λ p.
+        ensures known { IfOk result (λ place. IfSome place (λ p.
             has_parsed self.new.parsed p.unit ≡ true)) }
         ensures after { AfterRow probe (ranges_left ranges.entry) result self.old self.new }
         ensures no_memory { takes_none_along R.shares self.old.scope.file.sections self.old.units

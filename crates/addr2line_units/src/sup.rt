@@ -58,7 +58,7 @@ fn read_sup_unit<R: Reader>(
     ensures gives { ExactlyUnlessOomIf (has_abbreviations abbreviations.old.dwarf header) (λ u. u)
         result (sup_unit_of_header abbreviations.old.dwarf header) }
     ensures refused { IfErr result (λ e. e ≡ OutOfMemory) }
-    ensures same { abbreviations.new.dwarf ≡ abbreviations.old.dwarf }
+    ensures dwarf { abbreviations.new.dwarf ≡ abbreviations.old.dwarf }
 {
     match abbreviations.unit(alloc, header) {
         Ok(unit) => Ok(Some(unit)),
@@ -76,7 +76,7 @@ fn push_sup_unit<R: Reader>(
 ) -> Result<(), Error>
     ensures gives { OnOk result (units.new.items ≡ units.old.items
         ++ option_to_list (result_ok (unit_record_of abbreviations.old.dwarf header))) }
-    ensures same { abbreviations.new.dwarf ≡ abbreviations.old.dwarf }
+    ensures dwarf { abbreviations.new.dwarf ≡ abbreviations.old.dwarf }
     ensures refused { IfErr result (λ e. (e ≡ OutOfMemory)
         × (has_abbreviations abbreviations.old.dwarf header ≡ true)) }
 {

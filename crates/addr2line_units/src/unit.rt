@@ -121,7 +121,7 @@ fn read_listed<R: Reader>(
 // The lines of a unit before they are asked for: a unit without a line program has none. Takes no
 // memory.
 fn lines_at_first<R: Reader>(unit: &Unit<R>) -> LazyLines
-    ensures uncached { is_uncached result ≡ is_some unit.now.line_program }
+    ensures gives { is_uncached result ≡ is_some unit.now.line_program }
     ensures read { (d : Sections) → AreLinesOf d unit.now result }
 {
     match &unit.line_program {
@@ -140,7 +140,7 @@ pub(crate) fn read_ranged_unit<R: Reader>(
 ) -> Result<(UnitLines, Vec<Range>), Error>
     ensures gives { ExactlyUnlessOom (λ x. ranged_seen dw_unit.now x.0 x.1.items) result
         (ranged_unit dwarf.now aranges.now dw_unit.now) }
-    ensures unparsed { IfOk result (λ x. IsUnparsed dwarf.now dw_unit.now x.0) }
+    ensures empty { IfOk result (λ x. IsUnparsed dwarf.now dw_unit.now x.0) }
 {
     let (lang, ranges) = read_listed(alloc, UnitRef::new(dwarf, dw_unit), aranges)?;
     let lines = lines_at_first(dw_unit);
@@ -158,7 +158,7 @@ fn parse_lines<R: Reader>(
         ≡ lines_result dwarf.now unit.now) }
     ensures read { IfOk result
         (AreLinesOf dwarf.now unit.now) }
-    ensures cached { IfOk result (λ l. is_uncached l ≡ false) }
+    ensures known { IfOk result (λ l. is_uncached l ≡ false) }
     ensures fault { IfOk result (λ l. cached_lines_result l ≢ Err OutOfMemory) }
     ensures refused { IfErr result (λ e. e ≡ OutOfMemory) }
     ensures no_memory { lines_take_memory R.shares unit.now ≡ false
@@ -211,9 +211,9 @@ fn sequence_ranges(alloc: Global, lines: &LazyLines) -> Result<Vec<Range>, Error
 // The row of an address in cached lines.
 fn find_cached_row(lines: &LazyLines, looks: &mut Count, probe: u64) -> Option<Row>
     ensures found { result ≡ cached_row probe lines.now }
-    ensures cost { looks.new ≤ looks.old + cached_looks lines.now }
-    ensures raised { looks.old ≤ looks.new }
-    ensures counted { IfSome result (λ row. looks.old < looks.new) }
+    ensures bound { looks.new ≤ looks.old + cached_looks lines.now }
+    ensures looks { looks.old ≤ looks.new }
+    ensures some { IfSome result (λ row. looks.old < looks.new) }
 {
     match lines {
         LazyLines::Read(lines) => lines.find_row(looks, probe),
@@ -235,15 +235,15 @@ impl UnitLines {
         ensures gives { OnOk result (cached_lines_result self.new.lines
             ≡ lines_result dwarf.now dw_unit.now) }
         ensures exact { is_uncached self.old.lines ≡ false → result ≡ Ok tt }
-        ensures cached { OnOk result (is_uncached self.new.lines ≡ false) }
+        ensures known { OnOk result (is_uncached self.new.lines ≡ false) }
         ensures fault { is_uncached self.old.lines ≡ true → OnOk result
             (cached_lines_result self.new.lines ≢ Err OutOfMemory) }
-        ensures stays { LinesStayCached self.old.lines self.new.lines }
+        ensures after { LinesStayCached self.old.lines self.new.lines }
         ensures refused { IfErr result (λ e. e ≡ OutOfMemory) }
         ensures memory { OnErr result (self.new.lines ≡ self.old.lines) }
         ensures no_memory { lines_take_memory R.shares dw_unit.now ≡ false
             → IfErr result (λ e. lines_result dwarf.now dw_unit.now ≡ Err e) }
-        ensures lang { self.new.lang ≡ self.old.lang }
+        ensures kept { self.new.lang ≡ self.old.lang }
         ensures read { AreLinesOf dwarf.now dw_unit.now self.new.lines }
     {
         if is_uncached(&self.lines) {
@@ -265,12 +265,12 @@ impl UnitLines {
         ensures exact { is_uncached self.old.lines ≡ false →
             Exactly (λ _. cached_lines self.new.lines) result
             (lines_result dwarf.now dw_unit.now) }
-        ensures stays { LinesStayCached self.old.lines self.new.lines }
-        ensures caches { CachesResult self.old.lines result self.new.lines }
+        ensures after { LinesStayCached self.old.lines self.new.lines }
+        ensures known { CachesResult self.old.lines result self.new.lines }
         ensures memory { is_uncached self.new.lines ≡ false → WasNotRefused result }
         ensures no_memory { lines_take_memory R.shares dw_unit.now ≡ false
             → IfErr result (λ e. lines_result dwarf.now dw_unit.now ≡ Err e) }
-        ensures lang { self.new.lang ≡ self.old.lang }
+        ensures kept { self.new.lang ≡ self.old.lang }
         ensures read { AreLinesOf dwarf.now dw_unit.now self.new.lines }
     {
         self.cache_lines(alloc, dwarf, dw_unit)?;
@@ -292,9 +292,9 @@ impl UnitLines {
         ensures refused { IfErr result (λ e. e ≡ OutOfMemory) }
         ensures exact { asks_lines (ranged_seen dw_unit.now self.old listed.items) ≡ false
             → IsOk result }
-        ensures parsed { OnOk result (is_parsed self.new ≡ has_lines
+        ensures known { OnOk result (is_parsed self.new ≡ has_lines
             (ranged_seen dw_unit.now self.old listed.items)) }
-        ensures lang { self.new.lang ≡ self.old.lang }
+        ensures kept { self.new.lang ≡ self.old.lang }
         ensures read { AreLinesOf dwarf.now dw_unit.now self.new.lines }
     {
         if !listed.is_empty() || is_partial(dw_unit.header.type_()) {
@@ -320,16 +320,16 @@ impl UnitLines {
         ensures exact { is_uncached self.old.lines ≡ false → Exactly (option_map
             (location_of_row (cached_files self.new.lines))) result
             (location_in dwarf.now probe (Some (indexed_unit dw_unit.now self.old))) }
-        ensures stays { StaysUnit self.old self.new }
-        ensures caches { CachesResult self.old.lines result self.new.lines }
+        ensures after { StaysUnit self.old self.new }
+        ensures known { CachesResult self.old.lines result self.new.lines }
         ensures memory { is_uncached self.new.lines ≡ false → WasNotRefused result }
         ensures no_memory { lines_take_memory R.shares dw_unit.now ≡ false → IfErr result (λ e.
             location_in dwarf.now probe (Some (indexed_unit dw_unit.now self.old)) ≡ Err e) }
         ensures read { AreLinesOf dwarf.now dw_unit.now self.new.lines }
-        ensures cost { looks.new ≤ looks.old
+        ensures bound { looks.new ≤ looks.old
             + looks_in dwarf.now (Some (indexed_unit dw_unit.now self.old)) }
-        ensures raised { looks.old ≤ looks.new }
-        ensures counted { is_found result ≡ true → looks.old < looks.new }
+        ensures looks { looks.old ≤ looks.new }
+        ensures some { is_found result ≡ true → looks.old < looks.new }
     {
         self.read_lines(alloc, dwarf, dw_unit)?;
         Ok(find_cached_row(&self.lines, looks, probe))
@@ -535,7 +535,7 @@ impl<R: Reader> UnitView<R> {
     // A view of a unit that wasn't looked at yet. Takes no memory.
     pub(crate) fn new() -> UnitView<R>
         ensures answer { seen_first_answer result ≡ None }
-        ensures unknown { was_checked result.state ≡ false }
+        ensures empty { was_checked result.state ≡ false }
     {
         UnitView {
             state: ViewState::Undecided,
@@ -545,8 +545,8 @@ impl<R: Reader> UnitView<R> {
     // Looks whether the unit needs an answer, unless that was done. Takes no memory.
     pub(crate) fn check_split(&mut self, dwarf: &Dwarf<R>, dw_unit: &Unit<R>)
         requires view { IsViewOf dwarf.now dw_unit.now self.old }
-        ensures view { IsViewOf dwarf.now dw_unit.now self.new }
-        ensures looked { was_checked self.new.state ≡ true }
+        ensures right { IsViewOf dwarf.now dw_unit.now self.new }
+        ensures known { was_checked self.new.state ≡ true }
         ensures kept { was_checked self.old.state ≡ true → self.new ≡ self.old }
         ensures answer { seen_first_answer self.new ≡ seen_first_answer self.old }
     {
@@ -610,13 +610,13 @@ impl<R: Reader> UnitView<R> {
     ) -> Result<(), Error>
         requires view { IsViewOf dwarf.now dw_unit.now self.old }
         requires waits { waits self.old.state ≡ true }
-        ensures view { IsViewOf dwarf.now dw_unit.now self.new }
+        ensures right { IsViewOf dwarf.now dw_unit.now self.new }
         ensures answer { OnOk result (seen_first_answer self.new
             ≡ Some (option_map (λ d. d.value) sections)) }
-        ensures decided { OnOk result (is_decided self.new.state ≡ true) }
+        ensures known { OnOk result (is_decided self.new.state ≡ true) }
         ensures refused { IfErr result (λ e. (e ≡ OutOfMemory) × (self.new ≡ self.old)
             × (is_some sections ≡ true)) }
-        ensures verdict { OnOk result (verdict dwarf.now dw_unit.now (seen_first_answer self.new)
+        ensures gives { OnOk result (verdict dwarf.now dw_unit.now (seen_first_answer self.new)
             ≡ Some (answered_view dwarf.now dw_unit.now
             (option_map (λ d. d.value) sections))) }
         ensures exact { answer_takes_memory R.shares (option_map (λ d. d.value) sections) ≡ false
@@ -635,7 +635,7 @@ impl<R: Reader> UnitView<R> {
     // Forgets the answer, if there is one: the unit waits for one again. Takes no memory.
     pub(crate) fn forget(&mut self, dwarf: &Dwarf<R>, dw_unit: &Unit<R>)
         requires view { IsViewOf dwarf.now dw_unit.now self.old }
-        ensures view { IsViewOf dwarf.now dw_unit.now self.new }
+        ensures right { IsViewOf dwarf.now dw_unit.now self.new }
         ensures answer { seen_first_answer self.new ≡ None }
         ensures kept { seen_first_answer self.old ≡ None → self.new ≡ self.old }
     {
@@ -683,7 +683,7 @@ impl<R: Reader> UnitView<R> {
         ensures gives { (d : Sections) (u : UnitRecord) → IsViewOf d u self.now
             → IfSome (verdict d u (seen_first_answer self.now)) (λ view. IfOk view (λ v.
             seen_scope result ≡ view_scope (seen_scope scope.entry) v)) }
-        ensures in_order { IsScope (seen_scope scope.entry) → IsScope (seen_scope result) }
+        ensures right { IsScope (seen_scope scope.entry) → IsScope (seen_scope result) }
     {
         match self.split_file() {
             Some(dwarf) => Scope {

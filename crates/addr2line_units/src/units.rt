@@ -85,11 +85,11 @@ fn read_unit<R: Reader>(
     header: UnitHeader<R>,
 ) -> Result<Option<(Unit<R>, UnitLines, Vec<Range>)>, Error>
     requires same { abbreviations.old.dwarf ≡ dwarf.now }
-    ensures same { abbreviations.new.dwarf ≡ dwarf.now }
+    ensures dwarf { abbreviations.new.dwarf ≡ dwarf.now }
     ensures gives { ExactlyUnlessOomIf (indexed_unit_takes_memory dwarf.now header)
         (option_map (λ x. ranged_seen x.0 x.1 x.2.items)) result
         (unit_of_header dwarf.now aranges.now header) }
-    ensures unparsed { IfOk result (λ x. IfSome x (λ y. IsUnparsed dwarf.now y.0 y.1)) }
+    ensures empty { IfOk result (λ x. IfSome x (λ y. IsUnparsed dwarf.now y.0 y.1)) }
 {
     if is_type_unit(header.type_()) {
         return Ok(None);
@@ -124,8 +124,7 @@ impl<R: Reader> Index<R> {
     // Before the first unit.
     fn new(alloc: Global) -> Index<R>
         ensures none { index_seen result ≡ no_index }
-        ensures dw_units { result.dw_units.items ≡ [] }
-        ensures caches { result.caches.items ≡ [] }
+        ensures empty { (result.dw_units.items ≡ []) × (result.caches.items ≡ []) }
     {
         Index {
             dw_units: Vec::new(alloc),
@@ -150,7 +149,7 @@ impl<R: Reader> Index<R> {
             (index_seen self.old) (ranged_seen dw_unit lines listed.items)) }
         ensures read { OnOk result
             (HaveLinesOf dwarf.now self.new.dw_units.items self.new.caches.items) }
-        ensures fresh { OnOk result
+        ensures empty { OnOk result
             (AreFreshOf self.new.dw_units.items self.new.caches.items) }
         ensures refused { IfErr result (λ e. e ≡ OutOfMemory) }
     {
@@ -179,10 +178,10 @@ impl<R: Reader> Index<R> {
         ensures gives { ExactlyUnlessOomIf (indexed_unit_takes_memory dwarf.now header)
             (λ _. index_seen self.new) result
             (with_header dwarf.now aranges.now (index_seen self.old) header) }
-        ensures same { abbreviations.new.dwarf ≡ dwarf.now }
+        ensures dwarf { abbreviations.new.dwarf ≡ dwarf.now }
         ensures read { OnOk result
             (HaveLinesOf dwarf.now self.new.dw_units.items self.new.caches.items) }
-        ensures fresh { OnOk result
+        ensures empty { OnOk result
             (AreFreshOf self.new.dw_units.items self.new.caches.items) }
     {
         let read = read_unit(alloc, dwarf, abbreviations, aranges, header)?;
@@ -202,7 +201,7 @@ fn read_units<R: Reader>(
     ensures gives { ExactlyUnlessOomIf (units_take_memory R.shares dwarf.now) index_seen result
         (indexed_with dwarf.now aranges.now) }
     ensures read { IfOk result (λ i. HaveLinesOf dwarf.now i.dw_units.items i.caches.items) }
-    ensures fresh { IfOk result (λ i. AreFreshOf i.dw_units.items i.caches.items) }
+    ensures empty { IfOk result (λ i. AreFreshOf i.dw_units.items i.caches.items) }
 {
     let mut headers = dwarf.units()?;
     let mut abbreviations = AbbreviationsCache::new(alloc, dwarf);
@@ -220,7 +219,7 @@ impl<R: Reader> IndexedUnits<R> {
         ensures gives { ExactlyUnlessOomIf (index_takes_memory R.shares dwarf.now) units_seen result
             (index_read dwarf.now) }
         ensures read { IfOk result (λ u. HaveLinesOf dwarf.now u.dw_units.items u.caches.items) }
-        ensures fresh { IfOk result (λ u. AreFreshOf u.dw_units.items u.caches.items) }
+        ensures empty { IfOk result (λ u. AreFreshOf u.dw_units.items u.caches.items) }
     {
         let aranges = UnitAranges::parse(alloc, &dwarf.debug_aranges)?;
         let Index {

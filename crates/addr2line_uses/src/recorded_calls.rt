@@ -37,7 +37,7 @@ pub fn replies_of_both<R: Reader, S: Reader>(
     requires sections { other.old.sections ≡ one.old.sections }
     requires answers { other.old.answers ≡ one.old.answers }
     requires calls { map seen_call calls_of_other.now ≡ map seen_call calls_of_one.now }
-    ensures equal { IfOk result (λ both.
+    ensures gives { IfOk result (λ both.
         map seen_reply both.1.items ≡ map seen_reply both.0.items) }
 {
     let replies_of_one = replay(one, calls_of_one)?;

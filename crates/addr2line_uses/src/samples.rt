@@ -9,7 +9,7 @@ use addr2line::{Context, LookupResult};
 /// Reads all that lookups ask for. After it no lookup takes memory at whose address at most 16
 /// inlined functions stand.
 pub fn warm_up<R: Reader>(context: &mut Context<R>) -> Result<(), Error>
-    ensures warm { OnOk result (IsWarm context.new) }
+    ensures ready { OnOk result (IsWarm context.new) }
 {
     context.parse_lines()?;
     context.parse_inlined_functions()

@@ -49,7 +49,7 @@ pub fn frames_at<'a, R: Reader>(
 /// Whether the frames at an address wait for a split file. The lookup is let go then, and no unit
 /// is answered by it.
 pub fn waits_at<R: Reader>(context: &mut Context<R>, address: u64) -> bool
-    ensures answers { context.new.answers ≡ context.old.answers }
+    ensures kept { context.new.answers ≡ context.old.answers }
 {
     match context.find_frames(address) {
         LookupResult::Load { continuation } => {

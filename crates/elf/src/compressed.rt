@@ -58,7 +58,7 @@ pub(crate) fn zdebug_packed(bytes: &[u8]) -> Result<(u64, &[u8]), LoaderError>
 pub(crate) fn unpacked(alloc: Global, size: u64, text: &[u8]) -> Result<Vec<u8>, LoaderError>
     ensures gives { LoadsUnlessOomIf (stream_takes_memory size text.now) (λ v. v.items) result
         (unpacked_section (size, text.now)) }
-    ensures some { IfOk result (λ v. 0 < length v.items
+    ensures memory { IfOk result (λ v. 0 < length v.items
         → stream_takes_memory size text.now ≡ true) }
 {
     match inflate(alloc, text, size) {

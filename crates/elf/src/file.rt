@@ -90,7 +90,7 @@ fn read_symbols(
     names: &[u8],
     ident: Ident,
 ) -> Result<Vec<SymbolEntry>, LoaderError>
-    ensures sorted { IfOk result (λ v. IsSymbolTable (usable_in ident.endian (layout_of ident.class)
+    ensures gives { IfOk result (λ v. IsSymbolTable (usable_in ident.endian (layout_of ident.class)
         names.now (symbol_bytes (image_bytes file.now) sections.now)) v.items) }
     ensures none { sections.now ≡ [] → IsOk result }
     ensures refused { IfErr result (λ e. e ≡ OutOfMemory) }

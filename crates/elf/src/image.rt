@@ -80,7 +80,7 @@ fn find_piece<'a>(first: &'a Piece, others: &'a [Piece], start: u64, len: u64) -
 
 // Whether pieces stand in order in a file of `len` bytes.
 fn are_in_order(pieces: &[Piece], len: u64) -> bool
-    ensures in_order { result ≡ true → ArePiecesInOrder 0 len pieces.now }
+    ensures gives { result ≡ true → ArePiecesInOrder 0 len pieces.now }
     ensures found { ArePiecesInOrder 0 len pieces.now → result ≡ true }
 {
     let mut end = 0;
@@ -131,7 +131,7 @@ impl FileImage {
 
     // A file of these pieces; none where they don't stand in order in it, or where there is none.
     pub(crate) fn of_pieces(alloc: Global, len: u64, pieces: Vec<Piece>) -> Option<FileImage>
-        ensures shows { IfSome result (λ image. (bytes : List ℕ) → len ≡ length bytes
+        ensures right { IfSome result (λ image. (bytes : List ℕ) → len ≡ length bytes
             → ArePiecesOf bytes pieces.items → Shows image bytes) }
         ensures gives { IfSome result (λ image.
             image ≡ record { len = len; pieces = pieces.items }) }
@@ -162,7 +162,7 @@ impl FileImage {
     fn piece(&self, start: u64, len: u64) -> Option<&Piece>
         ensures gives { IfSome result (λ p. HasPart start len self.now p.now) }
         ensures some { is_some result ≡ is_held start len self.now }
-        ensures zero { result ≡ None → len ≡ 1 → get_or (image_bytes self.now) start 0 ≡ 0 }
+        ensures none { result ≡ None → len ≡ 1 → get_or (image_bytes self.now) start 0 ≡ 0 }
     {
         find_piece(&self.first, &self.others, start, len)
     }
@@ -170,7 +170,7 @@ impl FileImage {
     /// The `len` bytes from a place, if one piece has them.
     pub(crate) fn slice(&self, start: u64, len: u64) -> Option<&[u8]>
         ensures gives { IfSome result (λ b. b.now ≡ take len (drop start (image_bytes self.now))) }
-        ensures len { IfSome result (λ b. length b.now ≡ len) }
+        ensures whole { IfSome result (λ b. length b.now ≡ len) }
         ensures some { is_some result ≡ is_held start len self.now }
     {
         let piece = self.piece(start, len)?;

@@ -9,5 +9,5 @@ ghost use Rattle.elf.specs.ImageLaws.{ImagesLoadAlike};
 ///
 /// Source: System V ABI, Object Files. Own: which parts are wanted.
 pub fn image_laws()
-    ensures alike { ImagesLoadAlike }
+    ensures law { ImagesLoadAlike }
 {}

@@ -99,10 +99,8 @@ impl Class {
     /// The layout of the class.
     pub(crate) fn layout(self) -> Layout
         ensures gives { result ≡ layout_of self }
-        ensures addresses { AddressSizeBounds result }
-        ensures in_header { FieldsInHeader result }
-        ensures in_section { FieldsInSection result }
-        ensures in_symbol { FieldsInSymbol result }
+        ensures bound { AddressSizeBounds result }
+        ensures within { FieldsInHeader result × FieldsInSection result × FieldsInSymbol result }
     {
         match self {
             Class::Elf32 => ELF32,

@@ -280,7 +280,7 @@ pub(crate) fn sorted(
     names: &[u8],
     ident: Ident,
 ) -> Result<Vec<SymbolEntry>, AllocError>
-    ensures sorted { IfOk result (λ v.
+    ensures gives { IfOk result (λ v.
         IsSymbolTable (usable_in ident.endian (layout_of ident.class) names.now bytes.now)
         v.items) }
     ensures none { bytes.now ≡ [] → IsOk result }
@@ -296,7 +296,7 @@ pub(crate) fn sorted(
 // The number of symbols of a sorted table that are at or below the probe.
 fn count_below(table: &[SymbolEntry], probe: u64) -> usize
     ensures bound { result ≤ length table.now }
-    ensures split { IsNonDecreasingBy (λ (e : TableEntry). e.address) table.now
+    ensures gives { IsNonDecreasingBy (λ (e : TableEntry). e.address) table.now
         → IsPartitionPoint (IsBelow probe) (IsAbove probe) table.now result }
 {
     table.partition_point(|entry| entry.address <= probe)

@@ -175,7 +175,7 @@ fn shows_all(
 ) -> Result<bool, AllocError>
     requires within { header.start + header.count * (layout_of ident.class).section_size
         ≤ length (image_bytes file.now) }
-    ensures exact { IfOk result (λ b. b ≡ shows_all file.now ident header) }
+    ensures gives { IfOk result (λ b. b ≡ shows_all file.now ident header) }
 {
     // The end of the headers fits, since the length does.
     let _ = file.len();
@@ -197,7 +197,7 @@ fn shows_all(
 // Whether pieces have all of a file that is wanted.
 #[tactic(auto, unfolding(crate::specs::Wanted::has_wanted))]
 fn has_wanted(alloc: Global, file: &FileImage) -> Result<bool, AllocError>
-    ensures exact { IfOk result (λ b. b ≡ has_wanted file.now) }
+    ensures gives { IfOk result (λ b. b ≡ has_wanted file.now) }
 {
     if !file.is_held(0, EHDR_SIZE_MAX) {
         return Ok(false);
@@ -385,7 +385,7 @@ fn planned<S: PartSource>(alloc: Global, source: &S) -> Result<Option<Vec<Range>
 fn read_planned<S: PartSource>(alloc: Global, source: &S) -> Result<Option<FileImage>, AllocError>
     ensures gives { IfSome (S.bytes source.now) (λ bytes. IfOk result (λ found. IfSome found (λ f.
         Shows f bytes))) }
-    ensures wanted { IfOk result (λ found. IfSome found (λ f. has_wanted f ≡ true)) }
+    ensures there { IfOk result (λ found. IfSome found (λ f. has_wanted f ≡ true)) }
 {
     let Some(ranges) = planned(alloc, source)? else {
         return Ok(None);
@@ -412,7 +412,7 @@ pub fn read_wanted<S: PartSource>(
 ) -> Result<Option<FileImage>, AllocError>
     ensures gives { IfSome (S.bytes source.now) (λ bytes. IfOk result (λ found. IfSome found (λ f.
         Shows f bytes))) }
-    ensures wanted { IfOk result (λ found. IfSome found HasWanted) }
+    ensures there { IfOk result (λ found. IfSome found HasWanted) }
     ensures found { IfSome (S.bytes source.now) (λ _. IfOk result (λ found.
         is_some found ≡ true)) }
 {

@@ -96,3 +96,10 @@ pub record RangesAreNotRefused : Type 0 where
   pub list : (d : Sections) (u : UnitRecord) (offset : ℕ) → WasNotRefused (ranges_at d u offset)
   pub list_items : (d : Sections) (u : UnitRecord) (offset : ℕ)
       → IfOk (ranges_at d u offset) (λ ranges. NoneWasRefused ranges)
+
+-- nothing of all that is
+pub record SectionsAreNotRefused : Type 0 where
+  pub units : UnitsAreNotRefused
+  pub entries : EntriesAreNotRefused
+  pub strings : StringsAreNotRefused
+  pub ranges : RangesAreNotRefused

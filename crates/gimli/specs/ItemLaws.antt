@@ -110,3 +110,15 @@ SubtreesClose =
     → let following = items_from unit (depth_after x) rest in
     Closes x.depth (depth_after x) following (subtree_of x following).items
     (subtree_of x following).end
+
+-- the units of a section, and the entries of each
+pub record UnitLaws : Type 0 where
+  pub cover : UnitsCover
+  pub entries : EntriesFollowHeaders
+
+-- the items of a unit, and the subtrees among them
+pub record ItemLaws : Type 0 where
+  pub cover : ItemsCover
+  pub alone : ItemsAlone
+  pub deeper : SubtreesLieDeeper
+  pub close : SubtreesClose

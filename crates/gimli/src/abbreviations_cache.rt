@@ -121,8 +121,8 @@ impl<'a, R: Reader> AbbreviationsCache<'a, R> {
     fn insert(&mut self, offset: u64, table: Result<Rc<Abbreviations>, Error>) -> Result<(), Error>
         requires read { table_from offset self.old.dwarf.debug_abbrev
             ≡ seen_table (λ a. a.value) table }
-        ensures cached { OnOk result (CachesTable offset self.old self.new) }
-        ensures stays { StaysCached self.old self.new }
+        ensures known { OnOk result (CachesTable offset self.old self.new) }
+        ensures after { StaysCached self.old self.new }
         ensures dwarf { self.new.dwarf ≡ self.old.dwarf }
         ensures refused { IfErr result (λ e. e ≡ OutOfMemory) }
     {
@@ -145,12 +145,12 @@ impl<'a, R: Reader> AbbreviationsCache<'a, R> {
         ensures gives { ExactlyUnlessOomIf
             (cached_unit_takes_memory R.shares self.old header) (λ u. u) result
             (unit_record_of self.old.dwarf header) }
-        ensures cached { result ≢ Err OutOfMemory → is_ok
+        ensures known { result ≢ Err OutOfMemory → is_ok
             (from_offset header.debug_abbrev_offset self.old.dwarf.debug_abbrev) ≡ true
             → is_cached header.debug_abbrev_offset self.old ≡ false
             → CachesTable header.debug_abbrev_offset self.old self.new }
         ensures kept { is_cached header.debug_abbrev_offset self.old ≡ true → self.new ≡ self.old }
-        ensures stays { StaysCached self.old self.new }
+        ensures after { StaysCached self.old self.new }
         ensures dwarf { self.new.dwarf ≡ self.old.dwarf }
     {
         let dwarf = self.dwarf;

@@ -1,14 +1,13 @@
 //! Laws of units and their items: functions with a contract and no code.
 
-ghost use Rattle.gimli.specs.ItemLaws.{UnitsCover, EntriesFollowHeaders, ItemsCover, ItemsAlone, SubtreesLieDeeper, SubtreesClose};
+ghost use Rattle.gimli.specs.ItemLaws.{ItemLaws, UnitLaws};
 ghost use Rattle.gimli.specs.HeaderOrder.{HeadersInOrder};
-ghost use Rattle.gimli.specs.FaultLaws.{UnitsAreNotRefused, EntriesAreNotRefused, StringsAreNotRefused, RangesAreNotRefused};
+ghost use Rattle.gimli.specs.FaultLaws.{SectionsAreNotRefused};
 
 /// A section that is read to its end is the texts of its units, one after another, and in the text
 /// of a unit its entries follow its header.
 pub fn unit_laws()
-    ensures cover { UnitsCover }
-    ensures entries { EntriesFollowHeaders }
+    ensures law { UnitLaws }
 {}
 
 /// The units of a section stand one after another: of those whose headers can be read each ends
@@ -22,18 +21,12 @@ pub fn headers_in_order()
 /// the subtree of an entry the depth is its own again; where no items end it, the fault is theirs,
 /// or `UnexpectedEof`.
 pub fn item_laws()
-    ensures cover { ItemsCover }
-    ensures alone { ItemsAlone }
-    ensures deeper { SubtreesLieDeeper }
-    ensures close { SubtreesClose }
+    ensures law { ItemLaws }
 {}
 
 /// Nothing that sections give is `OutOfMemory`, whatever their bytes are: headers, units, entries
 /// and their items, strings, addresses and ranges are values or other faults. So an answer
 /// `OutOfMemory` of a call is never what the sections give.
 pub fn fault_laws()
-    ensures units { UnitsAreNotRefused }
-    ensures entries { EntriesAreNotRefused }
-    ensures strings { StringsAreNotRefused }
-    ensures ranges { RangesAreNotRefused }
+    ensures law { SectionsAreNotRefused }
 {}

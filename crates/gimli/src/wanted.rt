@@ -46,7 +46,7 @@ fn first_wanted<W: WantedNames>(specifications: &[AttributeSpecification]) -> Op
 pub fn split_at_wanted<W: WantedNames>(
     all: &[AttributeSpecification],
 ) -> Option<WantedAttribute<'_>>
-    ensures split { IfSome result (λ x.
+    ensures gives { IfSome result (λ x.
         IsSplitAtWanted W.wanted all.now x.before.now x.specification x.after.now) }
     ensures found { IfSome result (λ x. W.wanted x.specification.name ≡ true) }
     ensures none { result ≡ None → HasNoWanted W.wanted all.now }

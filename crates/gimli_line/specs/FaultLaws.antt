@@ -35,3 +35,9 @@ pub record InstructionsAreNotRefused : Type 0 where
 pub record RowsAreNotRefused : Type 0 where
   pub each : (p : Program) → NoneWasRefused (lines_of p).left
   pub fault : (p : Program) → WasNotRefused (fault_after (lines_of p).left)
+
+-- none of these readings does
+pub record ProgramsAreNotRefused : Type 0 where
+  pub headers : HeadersAreNotRefused
+  pub instructions : InstructionsAreNotRefused
+  pub rows : RowsAreNotRefused

@@ -8,7 +8,7 @@ ghost use Rattle.gimli_line.specs.AddressSize.{address_limit, greatest_address};
 pub fn greatest_address(size: u8) -> u64
     requires size { is_address_size size ≡ true }
     ensures gives { result ≡ greatest_address size }
-    ensures limit { result + 1 ≡ address_limit size }
+    ensures bound { result + 1 ≡ address_limit size }
 {
     match size {
         1 => u64::from(u8::MAX),

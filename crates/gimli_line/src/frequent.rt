@@ -40,7 +40,7 @@ pub enum Frequent {
 fn short_unsigned(first: u8, second: u8) -> Option<(u64, usize)>
     ensures gives { IfSome result (λ x. (code : ℕ) (rest : List ℕ) →
         uleb128_in (first ∷ second ∷ rest) ≡ Ok (x.0, drop x.1 (code ∷ first ∷ second ∷ rest))) }
-    ensures short { IfSome result (λ x. (0 < x.1) × (x.1 ≤ FREQUENT_LEN)) }
+    ensures bound { IfSome result (λ x. (0 < x.1) × (x.1 ≤ FREQUENT_LEN)) }
 {
     if first < 128 {
         return Some((u64::from(first), 2));
@@ -66,7 +66,7 @@ fn difference(number: u64, less: u64) -> i64
 fn short_signed(first: u8, second: u8) -> Option<(i64, usize)>
     ensures gives { IfSome result (λ x. (code : ℕ) (rest : List ℕ) →
         sleb128_in (first ∷ second ∷ rest) ≡ Ok (x.0, drop x.1 (code ∷ first ∷ second ∷ rest))) }
-    ensures short { IfSome result (λ x. (0 < x.1) × (x.1 ≤ FREQUENT_LEN)) }
+    ensures bound { IfSome result (λ x. (0 < x.1) × (x.1 ≤ FREQUENT_LEN)) }
 {
     if first < 128 {
         return Some((difference(u64::from(first), u64::from(first / 64) * 128), 2));
@@ -97,8 +97,8 @@ fn take_special(parameters: &LineParameters, registers: &mut Registers, n: u8) -
     requires running { IsRunning parameters.now.encoding registers.old }
     ensures gives { TakesOpcode parameters.now.encoding registers.old (Special n) 1 result
         registers.new }
-    ensures short { IsShort result }
-    ensures running { IsRunning parameters.now.encoding registers.new }
+    ensures bound { IsShort result }
+    ensures right { IsRunning parameters.now.encoding registers.new }
 {
     let line = move_line(registers.line, special_advance(parameters, n));
     if registers.dropping {
@@ -128,7 +128,7 @@ fn take_advance(
     requires running { IsRunning parameters.now.encoding registers.old }
     ensures gives { TakesOpcode parameters.now.encoding registers.old (AdvancePc operations) len
         result registers.new }
-    ensures running { IsRunning parameters.now.encoding registers.new }
+    ensures right { IsRunning parameters.now.encoding registers.new }
 {
     if registers.dropping {
         return Frequent::Quiet(len);
@@ -155,8 +155,8 @@ fn take_first<R: Reader>(
     requires running { IsRunning header.now.line_encoding registers.old }
     ensures gives { (rest : List ℕ) → TakesFirst header.now registers.old
         (code ∷ first ∷ second ∷ rest) result registers.new }
-    ensures short { IsShort result }
-    ensures running { IsRunning header.now.line_encoding registers.new }
+    ensures bound { IsShort result }
+    ensures right { IsRunning header.now.line_encoding registers.new }
 {
     // Code 0 is that of extended opcodes, also where it isn't below the base.
     let base = parameters.encoding.opcode_base.max(1);
@@ -219,7 +219,7 @@ pub(crate) fn run_frequent<R: Reader, S: RowSink>(
     ensures within { IfOk result (λ len. len ≤ length bytes.now) }
     ensures refused { OnErr result ((endian : RunTimeEndian) (e : Error) → rows_left header.now
         registers.old (record { bytes = bytes.now; endian = endian }) ≡ Err e ∷ [] → ⊥) }
-    ensures running { OnOk result (IsRunning header.now.line_encoding registers.new) }
+    ensures right { OnOk result (IsRunning header.now.line_encoding registers.new) }
 {
     // A copy, which no store to the sink can change: so its numbers stay in registers.
     let parameters = header.parameters;

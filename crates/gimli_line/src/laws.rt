@@ -1,7 +1,7 @@
 //! Laws of line programs: functions with empty bodies, whose contracts say what holds of the
 //! definitions.
 
-ghost use Rattle.gimli_line.specs.FaultLaws.{HeadersAreNotRefused, InstructionsAreNotRefused, RowsAreNotRefused};
+ghost use Rattle.gimli_line.specs.FaultLaws.{ProgramsAreNotRefused};
 ghost use Rattle.gimli_line.specs.Rises.{rows_before, NeverFalls, RowsRise};
 
 use crate::program::LineRows;
@@ -10,21 +10,19 @@ use gimli_read::Reader;
 /// Within a sequence the addresses of a program's rows do not fall, whatever its opcodes: a law,
 /// with no code.
 pub fn rows_laws()
-    ensures rise { RowsRise }
+    ensures law { RowsRise }
 {}
 
 /// No reading of a line program gives `OutOfMemory`: whatever the bytes are, it gives a value or
 /// another fault, in the header and its tables, in an instruction and among the rows.
 pub fn fault_laws()
-    ensures headers { HeadersAreNotRefused }
-    ensures instructions { InstructionsAreNotRefused }
-    ensures rows { RowsAreNotRefused }
+    ensures law { ProgramsAreNotRefused }
 {}
 
 impl<R: Reader> LineRows<R> {
     /// Within a sequence the addresses of the rows to come do not fall: a law, with no code.
     pub fn rises(&self)
-        ensures rise { NeverFalls (rows_before self.now.left) }
+        ensures law { NeverFalls (rows_before self.now.left) }
     {
         let _ = &self.header;
     }

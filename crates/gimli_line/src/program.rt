@@ -108,9 +108,9 @@ impl<R: Reader> LineRows<R> {
     pub fn next_row(&mut self) -> Result<Option<LineRow>, Error>
         ensures gives { YieldsUnlessOom self.old.left result self.new.left }
         ensures memory { IfErr result (λ e. self.old.ahead ≡ [] → self.old.left ≡ Err e ∷ []) }
-        ensures header { DefinesAhead self.old.header self.old.ahead result self.new.header }
+        ensures after { DefinesAhead self.old.header self.old.ahead result self.new.header }
         ensures files { OnOk result (KeepsFiles self.old self.new) }
-        ensures all { IfOk result (λ row. row ≡ None → IsOver self.new) }
+        ensures none { IfOk result (λ row. row ≡ None → IsOver self.new) }
         ensures refused { OnErr result (IsOver self.new) }
     {
         let found = find_row(&mut self.header, &mut self.registers, &mut self.program);
@@ -131,10 +131,10 @@ impl<R: Reader> LineRows<R> {
     #[inline(always)]
     pub fn take_rows<S: RowSink>(&mut self, sink: &mut S) -> Result<(), Error>
         ensures gives { ExactlyUnlessOom (λ x. tt) result (fault_after self.old.left) }
-        ensures taken { OnOk result (sink.new ≡ all_taken S.taken sink.old self.old.left) }
+        ensures after { OnOk result (sink.new ≡ all_taken S.taken sink.old self.old.left) }
         ensures files { OnOk result (self.new.header.file_names
             ≡ self.old.header.file_names ++ self.old.to_define) }
-        ensures at_once { (e : Fault) → self.old.ahead ≡ [] → self.old.left ≡ Err e ∷ []
+        ensures exact { (e : Fault) → self.old.ahead ≡ [] → self.old.left ≡ Err e ∷ []
             → result ≡ Err e }
     {
         let result = run(
@@ -173,7 +173,7 @@ fn take_instruction<R: Reader>(
     requires running { IsRunning header.old.line_encoding registers.old }
     ensures gives { ExactlyUnlessOomIf (is_file instruction)
         (λ x. (x, registers.new, header.new)) result (taken header.old registers.old instruction) }
-    ensures running { OnOk result (IsRunning header.new.line_encoding registers.new) }
+    ensures right { OnOk result (IsRunning header.new.line_encoding registers.new) }
     ensures kept { OnErr result (header.new ≡ header.old) }
 {
     match instruction {
@@ -200,7 +200,7 @@ fn step_instruction<R: Reader>(
         (gives_file (coded_instruction_at header.old code (R.section program.old)))
         (λ x. (x, registers.new, header.new, R.section program.new)) result
         (step_instruction header.old registers.old code (R.section program.old)) }
-    ensures running { OnOk result (IsRunning header.new.line_encoding registers.new) }
+    ensures right { OnOk result (IsRunning header.new.line_encoding registers.new) }
     ensures kept { OnErr result (header.new ≡ header.old) }
 {
     if code == DW_LNS_extended_op {
@@ -227,12 +227,12 @@ fn find_row<R: Reader>(
     ensures memory { IfErr result (λ e.
         ahead_left header.old registers.old (R.section program.old) ≡ []
         → rows_left header.old registers.old (R.section program.old) ≡ Err e ∷ []) }
-    ensures header { DefinesAhead header.old
+    ensures after { DefinesAhead header.old
         (ahead_left header.old registers.old (R.section program.old)) result header.new }
     ensures files { OnOk result (DefinesOn header.old (R.section program.old)
         header.new (R.section program.new)) }
-    ensures all { IfOk result (λ row. row ≡ None → (R.section program.new).bytes ≡ []) }
-    ensures running { OnOk result (IsRunning header.new.line_encoding registers.new) }
+    ensures none { IfOk result (λ row. row ≡ None → (R.section program.new).bytes ≡ []) }
+    ensures right { OnOk result (IsRunning header.new.line_encoding registers.new) }
 {
     while !program.is_empty() {
         let code = program.read_u8()?;
@@ -252,17 +252,17 @@ fn take_next<R: Reader, S: RowSink>(
 ) -> Result<(), Error>
     requires running { IsRunning header.old.line_encoding registers.old }
     requires some { 0 < length (R.section program.old).bytes }
-    ensures passes { OnOk result (Passes S.taken
+    ensures gives { OnOk result (Passes S.taken
         header.old registers.old (R.section program.old) sink.old
         header.new registers.new (R.section program.new) sink.new) }
     ensures shorter { OnOk result
         (length (R.section program.new).bytes < length (R.section program.old).bytes) }
     ensures fault { IfErr result (λ e. e ≢ OutOfMemory
         → rows_left header.old registers.old (R.section program.old) ≡ Err e ∷ []) }
-    ensures at_once { IfErr result (λ e. (d : Fault)
+    ensures exact { IfErr result (λ e. (d : Fault)
         → ahead_left header.old registers.old (R.section program.old) ≡ []
         → rows_left header.old registers.old (R.section program.old) ≡ Err d ∷ [] → e ≡ d) }
-    ensures running { OnOk result (IsRunning header.new.line_encoding registers.new) }
+    ensures right { OnOk result (IsRunning header.new.line_encoding registers.new) }
 {
     let code = program.read_u8()?;
     if let Some(row) = step_instruction(header, registers, code, program)? {
@@ -280,15 +280,15 @@ fn take_frequent<R: Reader, S: RowSink>(
     sink: &mut S,
 ) -> Result<(), Error>
     requires running { IsRunning header.now.line_encoding registers.old }
-    ensures passes { OnOk result (Passes S.taken
+    ensures gives { OnOk result (Passes S.taken
         header.now registers.old (R.section program.old) sink.old
         header.now registers.new (R.section program.new) sink.new) }
     ensures shorter { OnOk result
         (length (R.section program.new).bytes ≤ length (R.section program.old).bytes) }
     ensures fault { IfErr result (λ e. e ≡ OutOfMemory) }
-    ensures at_once { OnErr result ((d : Fault)
+    ensures exact { OnErr result ((d : Fault)
         → rows_left header.now registers.old (R.section program.old) ≡ Err d ∷ [] → ⊥) }
-    ensures running { OnOk result (IsRunning header.now.line_encoding registers.new) }
+    ensures right { OnOk result (IsRunning header.now.line_encoding registers.new) }
 {
     let len = run_frequent(header, registers, program.to_slice(), sink)?;
     program.skip(len as u64)?;
@@ -306,11 +306,11 @@ fn run<R: Reader, S: RowSink>(
     requires running { IsRunning header.old.line_encoding registers.old }
     ensures gives { ExactlyUnlessOom (λ x. tt) result
         (fault_after (rows_left header.old registers.old (R.section program.old))) }
-    ensures taken { OnOk result (sink.new ≡ all_taken S.taken sink.old
+    ensures after { OnOk result (sink.new ≡ all_taken S.taken sink.old
         (rows_left header.old registers.old (R.section program.old))) }
     ensures files { OnOk result (header.new.file_names
         ≡ header.old.file_names ++ files_left header.old (R.section program.old)) }
-    ensures at_once { (e : Fault)
+    ensures exact { (e : Fault)
         → ahead_left header.old registers.old (R.section program.old) ≡ []
         → rows_left header.old registers.old (R.section program.old) ≡ Err e ∷ []
         → result ≡ Err e }

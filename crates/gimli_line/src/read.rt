@@ -27,7 +27,7 @@ fn read_program_address_size<R: Reader>(
 ) -> Result<u8, Error>
     ensures gives { Reads R.section input.old input.new result
         (program_address_size_at version unit_size) }
-    ensures known { IfOk result (λ size. is_address_size size ≡ true) }
+    ensures right { IfOk result (λ size. is_address_size size ≡ true) }
 {
     if version < DWARF_5 {
         if !is_address_size(unit_size) {
@@ -71,10 +71,9 @@ fn read_operations<R: Reader>(version: u16, input: &mut R) -> Result<u8, Error>
 #[tactic(auto, unfolding(crate::specs::Program::numbers_at))]
 fn read_numbers<R: Reader>(encoding: Encoding, input: &mut R) -> Result<LineEncoding, Error>
     ensures gives { Reads R.section input.old input.new result (numbers_at encoding) }
-    ensures size { IfOk result (λ x. x.address_size ≡ encoding.address_size) }
-    ensures operations { IfOk result (λ x. 0 < x.maximum_operations_per_instruction) }
-    ensures range { IfOk result (λ x. 0 < x.line_range) }
-    ensures base { IfOk result (λ x. 0 < x.opcode_base) }
+    ensures kept { IfOk result (λ x. x.address_size ≡ encoding.address_size) }
+    ensures some { IfOk result (λ x. (0 < x.maximum_operations_per_instruction)
+        × (0 < x.line_range) × (0 < x.opcode_base)) }
 {
     let minimum_instruction_length = read_nonzero(input)?;
     let maximum_operations_per_instruction = read_operations(encoding.version, input)?;

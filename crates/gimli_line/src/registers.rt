@@ -63,7 +63,7 @@ pub(crate) fn const_advance(parameters: &LineParameters) -> u64
 // The full instructions in operations, and the operations that are left over.
 fn instructions(parameters: &LineParameters, op_index: u8, operations: u64) -> (u64, u8)
     requires index { op_index < parameters.now.encoding.maximum_operations_per_instruction }
-    ensures full { result.0
+    ensures gives { result.0
         ≡ (op_index + operations) / parameters.now.encoding.maximum_operations_per_instruction }
     ensures left { result.1
         ≡ (op_index + operations) % parameters.now.encoding.maximum_operations_per_instruction }
@@ -244,7 +244,7 @@ impl Registers {
         requires running { IsRunning parameters.now.encoding self.old }
         ensures gives { Exactly (λ x. (x, self.new)) result
             (executed parameters.now.encoding self.old opcode) }
-        ensures running { OnOk result (IsRunning parameters.now.encoding self.new) }
+        ensures right { OnOk result (IsRunning parameters.now.encoding self.new) }
     {
         self.step(parameters, opcode)?;
         if ends(opcode) {

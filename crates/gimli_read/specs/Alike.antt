@@ -21,3 +21,8 @@ AnswerAlikeUnlessOom X Y Z =
     (x : Result X Error) (y : Result Y Error)
     → s ≡ t → ExactlyUnlessOom view x (read s) → ExactlyUnlessOom see y (read t)
     → WasNotRefused x → WasNotRefused y → result_map view x ≡ result_map see y
+
+-- both kinds of answers
+pub record AnswersAlike (X Y Z : Type 0) : Type 0 where
+  pub exact : AnswerAlike X Y Z
+  pub unless_oom : AnswerAlikeUnlessOom X Y Z

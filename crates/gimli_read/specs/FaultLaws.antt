@@ -71,3 +71,10 @@ pub record TablesAreNotRefused : Type 0 where
   pub abbreviation : (table : List Abbrev) (s : Section)
       → WasNotRefused (abbreviation_at table s)
   pub table : (s : Section) → WasNotRefused (table_at s)
+
+-- none of these readings does
+pub record ReadingsAreNotRefused : Type 0 where
+  pub numbers : NumbersAreNotRefused
+  pub values : ValuesAreNotRefused
+  pub attributes : AttributesAreNotRefused
+  pub tables : TablesAreNotRefused

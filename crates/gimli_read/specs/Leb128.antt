@@ -96,3 +96,10 @@ abbrev pub ReadsSleb128Alone : Type 0
 ReadsSleb128Alone =
     (bytes rest : List ℕ) (z : ℤ) → sleb128_in bytes ≡ Ok (z, rest)
     → (text : List ℕ) × IsSleb128 text z × (bytes ≡ text ++ rest)
+
+-- numbers without a sign and with one
+pub record Leb128Laws : Type 0 where
+  pub unsigned : ReadsUleb128
+  pub unsigned_alone : ReadsUleb128Alone
+  pub signed : ReadsSleb128
+  pub signed_alone : ReadsSleb128Alone

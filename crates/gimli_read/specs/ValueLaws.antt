@@ -64,3 +64,12 @@ ReadsAttributeAlone =
     → attribute_at encoding specification s ≡ Ok (attribute, rest)
     → (text : List ℕ) × IsAttribute encoding s.endian specification text attribute
     × IsTextAndRest s text rest
+
+-- fixed numbers, values of forms and attributes
+pub record ValueLaws : Type 0 where
+  pub fixed : ReadsFixed
+  pub fixed_alone : ReadsFixedAlone
+  pub value : ReadsValue
+  pub value_alone : ReadsValueAlone
+  pub attribute : ReadsAttribute
+  pub attribute_alone : ReadsAttributeAlone

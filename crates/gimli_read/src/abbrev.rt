@@ -265,7 +265,7 @@ fn stored(
 ) -> Result<StoredAttributes, AllocError>
     ensures gives { IfOk result (λ a. attributes_of a ≡ attributes.now) }
     ensures none { attributes.now ≡ [] → IsOk result }
-    ensures one { length attributes.now ≡ 1 → IsOk result }
+    ensures exact { length attributes.now ≡ 1 → IsOk result }
 {
     if let [attribute] = attributes {
         return Ok(StoredAttributes::One(*attribute));
@@ -392,10 +392,10 @@ fn note_place(
     place: u64,
     index: usize,
 ) -> Result<(), AllocError>
-    ensures noted { OnOk result (place ≢ index → get nat_cmp displaced.new code ≡ Some index) }
-    ensures same { place ≡ index → displaced.new ≡ displaced.old }
+    ensures found { OnOk result (place ≢ index → get nat_cmp displaced.new code ≡ Some index) }
+    ensures kept { place ≡ index → displaced.new ≡ displaced.old }
     ensures refused { OnErr result (place ≢ index) }
-    ensures others { IsSameApart code displaced.old displaced.new }
+    ensures after { IsSameApart code displaced.old displaced.new }
 {
     if place != index as u64 {
         displaced.insert(code, index)?;

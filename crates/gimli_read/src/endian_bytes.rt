@@ -76,11 +76,11 @@ impl Reader for EndianBytes {
         self.bytes.as_slice()
     }
 
-    // The clauses `whole` and `none` say that it takes no memory for all of the bytes or none.
+    // The clauses `exact` and `none` say that it takes no memory for all of the bytes or none.
     fn split(&mut self, len: u64) -> Result<EndianBytes, Error>
         ensures gives { ReadsPartUnlessOom true (λ r. r) self.old self.new result (split_at len) }
         ensures refused { OnErr result (self.new ≡ self.old) }
-        ensures whole { len ≡ length self.old.bytes → IsOk result }
+        ensures exact { len ≡ length self.old.bytes → IsOk result }
         ensures none { len ≡ 0 → IsOk result }
     {
         if len > self.len() {

@@ -1,11 +1,11 @@
 //! Laws of readings and readers: functions with a contract and no code.
 
 ghost use Rattle.std.specs.Prelude.{◌≡◌, true, false};
-ghost use Rattle.gimli_read.specs.Leb128.{ReadsUleb128, ReadsUleb128Alone, ReadsSleb128, ReadsSleb128Alone};
-ghost use Rattle.gimli_read.specs.Alike.{AnswerAlike, AnswerAlikeUnlessOom};
-ghost use Rattle.gimli_read.specs.FaultLaws.{NumbersAreNotRefused, ValuesAreNotRefused, AttributesAreNotRefused, TablesAreNotRefused};
+ghost use Rattle.gimli_read.specs.Leb128.{Leb128Laws};
+ghost use Rattle.gimli_read.specs.Alike.{AnswersAlike};
+ghost use Rattle.gimli_read.specs.FaultLaws.{ReadingsAreNotRefused};
 ghost use Rattle.gimli_read.specs.ValueSize.{LeavesItsSize};
-ghost use Rattle.gimli_read.specs.ValueLaws.{ReadsFixed, ReadsFixedAlone, ReadsValue, ReadsValueAlone, ReadsAttribute, ReadsAttributeAlone};
+ghost use Rattle.gimli_read.specs.ValueLaws.{ValueLaws};
 
 use crate::endian_bytes::EndianBytes;
 use crate::endian_slice::EndianSlice;
@@ -13,27 +13,19 @@ use crate::reader::Reader;
 
 /// A LEB128 number is read from its text, whatever follows, and from nothing else.
 pub fn leb128_laws()
-    ensures unsigned { ReadsUleb128 }
-    ensures unsigned_alone { ReadsUleb128Alone }
-    ensures signed { ReadsSleb128 }
-    ensures signed_alone { ReadsSleb128Alone }
+    ensures law { Leb128Laws }
 {}
 
 /// A fixed number, the value of a form and an attribute are read from their texts, whatever
 /// follows, and from nothing else.
 pub fn value_laws()
-    ensures fixed { ReadsFixed }
-    ensures fixed_alone { ReadsFixedAlone }
-    ensures value { ReadsValue }
-    ensures value_alone { ReadsValueAlone }
-    ensures attribute { ReadsAttribute }
-    ensures attribute_alone { ReadsAttributeAlone }
+    ensures law { ValueLaws }
 {}
 
 /// To read an attribute whose form alone says its size is to pass over as many bytes: where they
 /// are missing, both are `UnexpectedEof`.
 pub fn size_laws()
-    ensures leaves { LeavesItsSize }
+    ensures law { LeavesItsSize }
 {}
 
 /// Readers of equal sections answer alike.
@@ -43,21 +35,17 @@ pub fn size_laws()
 /// equal, unless one of them is `OutOfMemory`. `X` and `Y` are what the two calls answer, and `Z`
 /// is what both are seen as.
 pub fn alike_laws<X, Y, Z>()
-    ensures exact { AnswerAlike X Y Z }
-    ensures unless_oom { AnswerAlikeUnlessOom X Y Z }
+    ensures law { AnswersAlike X Y Z }
 {}
 
 /// Parts of borrowed bytes and second readers of them take no memory; those of `Bytes` are counted.
 pub fn sharing_laws()
-    ensures slice { ⟦<EndianSlice<'static> as Reader>⟧.shares ≡ false }
-    ensures bytes { ⟦<EndianBytes as Reader>⟧.shares ≡ true }
+    ensures law { (⟦<EndianSlice<'static> as Reader>⟧.shares ≡ false)
+        × (⟦<EndianBytes as Reader>⟧.shares ≡ true) }
 {}
 
 /// No reading gives `OutOfMemory`: whatever the bytes are, it gives a value or another fault. So an
 /// answer `OutOfMemory` of a call is never what its bytes give.
 pub fn fault_laws()
-    ensures numbers { NumbersAreNotRefused }
-    ensures values { ValuesAreNotRefused }
-    ensures attributes { AttributesAreNotRefused }
-    ensures tables { TablesAreNotRefused }
+    ensures law { ReadingsAreNotRefused }
 {}

@@ -254,7 +254,7 @@ pub trait Reader: Clone {
     final fn to_string_lossy(&self, alloc: Global) -> Result<CowStr<'_>, Error>
         ensures gives { IfOk result (λ text.
             cow_str_bytes text ≡ lossy_text (section self.now).bytes) }
-        ensures borrowed { IsUtf8 (section self.now).bytes → IsOk result }
+        ensures exact { IsUtf8 (section self.now).bytes → IsOk result }
         ensures refused { IfErr result (λ e. e ≡ OutOfMemory) }
     {
         if let Some(text) = self.known_text() {
@@ -288,7 +288,7 @@ pub fn read_initial_length<R: Reader>(input: &mut R) -> Result<(u64, Format), Er
 #[tactic(auto, unfolding(crate::specs::Number::address_size_at))]
 pub fn read_address_size<R: Reader>(input: &mut R) -> Result<u8, Error>
     ensures gives { Reads R.section input.old input.new result address_size_at }
-    ensures known { IfOk result (λ size. is_address_size size ≡ true) }
+    ensures right { IfOk result (λ size. is_address_size size ≡ true) }
 {
     let size = input.read_u8()?;
     if !is_address_size(size) {

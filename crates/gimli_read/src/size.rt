@@ -150,7 +150,7 @@ struct CountedSize {
 impl CountedSize {
     // With one more value; none where it has no known size, and where a number gets too large.
     fn with(self, size: ValueSize) -> Option<CountedSize>
-        ensures adds { IfSome result (AddsCounted size self) }
+        ensures found { IfSome result (AddsCounted size self) }
     {
         let mut total = self;
         match size {
@@ -212,7 +212,7 @@ impl TotalSize {
     // With one more value; none where it has no known size, and where a number gets too large.
     #[tactic(auto, using(crate::proofs::UsualSize::adds_size))]
     pub(crate) fn with(self, size: ValueSize) -> Option<TotalSize>
-        ensures adds { IfSome result (AddsSize size self) }
+        ensures found { IfSome result (AddsSize size self) }
     {
         let more = size.bytes(USUAL)?;
         Some(TotalSize {

@@ -23,7 +23,7 @@ struct Stream<'a> {
 
 // The stream that a file begins with.
 fn stream_of(file: &[u8]) -> Option<Stream<'_>>
-    ensures less { IfSome result (λ s. length s.rest.now < length file.now) }
+    ensures shorter { IfSome result (λ s. length s.rest.now < length file.now) }
 {
     if file.len() < 12 {
         return None;

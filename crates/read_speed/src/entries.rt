@@ -40,7 +40,7 @@ fn sections<R: Reader + Drop>(input: &mut R) -> Result<Dwarf<R>, Error> {
 // The checksum with the offset and the tag of the next item, where that is an entry.
 #[tactic(auto, using(gimli::proofs::EntryLemmas::abbreviation_takes, gimli_read::proofs::SkipLemmas::attributes_leave))]
 fn with_item<R: Reader + Drop>(sum: u64, entries: &mut EntriesRaw<'_, R>) -> Result<u64, Error>
-    ensures fewer { OnOk result (length entries.new.cursor.left.bytes
+    ensures shorter { OnOk result (length entries.new.cursor.left.bytes
         < length entries.old.cursor.left.bytes) }
 {
     let offset = entries.next_offset().0;

@@ -32,7 +32,7 @@ const MOST: usize = 20;
 
 impl StopWriter {
     fn call(&mut self) -> io::Result<()>
-        ensures same { self.new.taken ≡ self.old.taken }
+        ensures kept { self.new.taken ≡ self.old.taken }
     {
         if self.has_failed {
             self.late_calls = self.late_calls.saturating_add(1);

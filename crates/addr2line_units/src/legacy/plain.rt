@@ -104,7 +104,7 @@ pub(super) fn push_ascii(out: &mut String, bytes: &[u8]) -> Result<(), AllocErro
 #[tactic(auto, using(crate::proofs::LegacySteps::plain_steps))]
 fn push_escape<'a>(out: &mut String, rest: &'a [u8]) -> Result<&'a [u8], AllocError>
     requires { list_all is_ascii rest.now ≡ true }
-    ensures added { IfOk result (λ left. string_bytes out.new ++ plain_from 0 left.now
+    ensures gives { IfOk result (λ left. string_bytes out.new ++ plain_from 0 left.now
         ≡ string_bytes out.old ++ plain_from 0 (byte "$" ∷ rest.now)) }
     ensures left { IfOk result (λ left. (length left.now ≤ length rest.now)
         × (list_all is_ascii left.now ≡ true)) }
@@ -129,7 +129,7 @@ fn push_escape<'a>(out: &mut String, rest: &'a [u8]) -> Result<&'a [u8], AllocEr
 fn push_piece<'a>(out: &mut String, first: u8, rest: &'a [u8]) -> Result<&'a [u8], AllocError>
     requires first { first < 128 }
     requires rest { list_all is_ascii rest.now ≡ true }
-    ensures added { IfOk result (λ left. string_bytes out.new ++ plain_from 0 left.now
+    ensures gives { IfOk result (λ left. string_bytes out.new ++ plain_from 0 left.now
         ≡ string_bytes out.old ++ plain_from 0 (first ∷ rest.now)) }
     ensures left { IfOk result (λ left. (length left.now ≤ length rest.now)
         × (list_all is_ascii left.now ≡ true)) }

@@ -18,13 +18,13 @@ returns-in_err-walk-clause-after g c =
     let files = as_read_if_known c.args.compressed (g.F.FileSource.files c.args.files.now) in
     (has_looked files c.args.probe c.args.ctx.now c.loop-ctx.ctx c.loop-ctx.invariant _ c.walk.new.self c.in_err-walk.ensures.after).after
 
-pub returns-in_err-walk-clause-in_turn : goal.returns-in_err-walk-clause-in_turn
-returns-in_err-walk-clause-in_turn g c =
+pub returns-in_err-walk-clause-answer : goal.returns-in_err-walk-clause-answer
+returns-in_err-walk-clause-answer g c =
     let files = as_read_if_known c.args.compressed (g.F.FileSource.files c.args.files.now) in
     in_turn files c.args.probe c.args.ctx.now c.walk.new.self (has_looked files c.args.probe c.args.ctx.now c.loop-ctx.ctx c.loop-ctx.invariant _ c.walk.new.self c.in_err-walk.ensures.after)
 
-pub returns-in_err-walk-clause-only : goal.returns-in_err-walk-clause-only
-returns-in_err-walk-clause-only g c =
+pub returns-in_err-walk-clause-within : goal.returns-in_err-walk-clause-within
+returns-in_err-walk-clause-within g c =
     let files = as_read_if_known c.args.compressed (g.F.FileSource.files c.args.files.now) in
     (has_looked files c.args.probe c.args.ctx.now c.loop-ctx.ctx c.loop-ctx.invariant _ c.walk.new.self c.in_err-walk.ensures.after).only
 
@@ -33,14 +33,14 @@ returns-in_err-walk-clause-ready g c =
     let p = err_from_is_err_and c.from_residual.result c.from_residual.ensures.1 in
     rw (p.1, p.2) (λ fault. c.in_err-walk.ensures.after.ready (no_oom c.in_err-walk.field-0.0 fault.0))
 
-pub returns-in_err-walk-clause-told : goal.returns-in_err-walk-clause-told
-returns-in_err-walk-clause-told g c =
+pub returns-in_err-walk-clause-exact : goal.returns-in_err-walk-clause-exact
+returns-in_err-walk-clause-exact g c =
     let p = err_from_is_err_and c.from_residual.result c.from_residual.ensures.1 in
     let e = c.in_err-walk.field-0.0 in
     rw (p.1, p.2) (λ fault. ap stop_frames (c.in_err-walk.ensures.gives (no_oom e fault.0)))
 
-pub returns-in_err-walk-clause-waits : goal.returns-in_err-walk-clause-waits
-returns-in_err-walk-clause-waits g c =
+pub returns-in_err-walk-clause-left : goal.returns-in_err-walk-clause-left
+returns-in_err-walk-clause-left g c =
     let p = err_from_is_err_and c.from_residual.result c.from_residual.ensures.1 in
     rw (p.1, p.2) (λ q. absurd (no_path c.in_err-walk.field-0.0 q))
 
@@ -75,29 +75,29 @@ pub loop-ctx-preserved : goal.loop-ctx-preserved
 loop-ctx-preserved g c =
     let files = as_read_if_known c.args.compressed (g.F.FileSource.files c.args.files.now) in
     let e = c.answer_load.ensures in
-    has_answered_after files c.args.probe c.args.ctx.now c.loop-ctx.ctx c.loop-ctx.invariant _ c.walk.new.self c.in_ok-walk.ensures.after c.in-Some.number (told_waits c.in-Some.number c.walk.new.self.stop _ c.in_ok-walk.ensures.gives (search rules)) c.answer_load.new.ctx e.after e.only e.one
+    has_answered_after files c.args.probe c.args.ctx.now c.loop-ctx.ctx c.loop-ctx.invariant _ c.walk.new.self c.in_ok-walk.ensures.after c.in-Some.number (told_waits c.in-Some.number c.walk.new.self.stop _ c.in_ok-walk.ensures.gives (search rules)) c.answer_load.new.ctx e.after e.within e.answer
 
 pub returns-in_err-answer_load-in-Some-clause-after : goal.returns-in_err-answer_load-in-Some-clause-after
 returns-in_err-answer_load-in-Some-clause-after g c =
     let files = as_read_if_known c.args.compressed (g.F.FileSource.files c.args.files.now) in
     let e = c.answer_load.ensures in
-    (has_answered_after files c.args.probe c.args.ctx.now c.loop-ctx.ctx c.loop-ctx.invariant _ c.walk.new.self c.in_ok-walk.ensures.after c.in-Some.number (told_waits c.in-Some.number c.walk.new.self.stop _ c.in_ok-walk.ensures.gives (search rules)) c.answer_load.new.ctx e.after e.only e.one).after
+    (has_answered_after files c.args.probe c.args.ctx.now c.loop-ctx.ctx c.loop-ctx.invariant _ c.walk.new.self c.in_ok-walk.ensures.after c.in-Some.number (told_waits c.in-Some.number c.walk.new.self.stop _ c.in_ok-walk.ensures.gives (search rules)) c.answer_load.new.ctx e.after e.within e.answer).after
 
-pub returns-in_err-answer_load-in-Some-clause-in_turn : goal.returns-in_err-answer_load-in-Some-clause-in_turn
-returns-in_err-answer_load-in-Some-clause-in_turn g c =
+pub returns-in_err-answer_load-in-Some-clause-answer : goal.returns-in_err-answer_load-in-Some-clause-answer
+returns-in_err-answer_load-in-Some-clause-answer g c =
     let files = as_read_if_known c.args.compressed (g.F.FileSource.files c.args.files.now) in
     let e = c.answer_load.ensures in
-    in_turn files c.args.probe c.args.ctx.now c.answer_load.new.ctx (has_answered_after files c.args.probe c.args.ctx.now c.loop-ctx.ctx c.loop-ctx.invariant _ c.walk.new.self c.in_ok-walk.ensures.after c.in-Some.number (told_waits c.in-Some.number c.walk.new.self.stop _ c.in_ok-walk.ensures.gives (search rules)) c.answer_load.new.ctx e.after e.only e.one)
+    in_turn files c.args.probe c.args.ctx.now c.answer_load.new.ctx (has_answered_after files c.args.probe c.args.ctx.now c.loop-ctx.ctx c.loop-ctx.invariant _ c.walk.new.self c.in_ok-walk.ensures.after c.in-Some.number (told_waits c.in-Some.number c.walk.new.self.stop _ c.in_ok-walk.ensures.gives (search rules)) c.answer_load.new.ctx e.after e.within e.answer)
 
-pub returns-in_err-answer_load-in-Some-clause-only : goal.returns-in_err-answer_load-in-Some-clause-only
-returns-in_err-answer_load-in-Some-clause-only g c =
+pub returns-in_err-answer_load-in-Some-clause-within : goal.returns-in_err-answer_load-in-Some-clause-within
+returns-in_err-answer_load-in-Some-clause-within g c =
     let files = as_read_if_known c.args.compressed (g.F.FileSource.files c.args.files.now) in
     let e = c.answer_load.ensures in
-    (has_answered_after files c.args.probe c.args.ctx.now c.loop-ctx.ctx c.loop-ctx.invariant _ c.walk.new.self c.in_ok-walk.ensures.after c.in-Some.number (told_waits c.in-Some.number c.walk.new.self.stop _ c.in_ok-walk.ensures.gives (search rules)) c.answer_load.new.ctx e.after e.only e.one).only
+    (has_answered_after files c.args.probe c.args.ctx.now c.loop-ctx.ctx c.loop-ctx.invariant _ c.walk.new.self c.in_ok-walk.ensures.after c.in-Some.number (told_waits c.in-Some.number c.walk.new.self.stop _ c.in_ok-walk.ensures.gives (search rules)) c.answer_load.new.ctx e.after e.within e.answer).only
 
 pub returns-in_err-answer_load-in-Some-clause-memory : goal.returns-in_err-answer_load-in-Some-clause-memory
 returns-in_err-answer_load-in-Some-clause-memory g c =
-    λ w few. absurd (waits_no_more c.args.probe c.in-Some.number c.answer_load.new.ctx w c.in_err-answer_load-in-Some.ensures.still_waits)
+    λ w few. absurd (waits_no_more c.args.probe c.in-Some.number c.answer_load.new.ctx w c.in_err-answer_load-in-Some.ensures.left)
 
 pub returns-in_err-answer_load-in-Some-clause-fault : goal.returns-in_err-answer_load-in-Some-clause-fault
 returns-in_err-answer_load-in-Some-clause-fault g c =
@@ -110,13 +110,13 @@ returns-in-None-clause-after g c =
     let files = as_read_if_known c.args.compressed (g.F.FileSource.files c.args.files.now) in
     (has_looked files c.args.probe c.args.ctx.now c.loop-ctx.ctx c.loop-ctx.invariant _ c.walk.new.self c.in_ok-walk.ensures.after).after
 
-pub returns-in-None-clause-in_turn : goal.returns-in-None-clause-in_turn
-returns-in-None-clause-in_turn g c =
+pub returns-in-None-clause-answer : goal.returns-in-None-clause-answer
+returns-in-None-clause-answer g c =
     let files = as_read_if_known c.args.compressed (g.F.FileSource.files c.args.files.now) in
     in_turn files c.args.probe c.args.ctx.now c.walk.new.self (has_looked files c.args.probe c.args.ctx.now c.loop-ctx.ctx c.loop-ctx.invariant _ c.walk.new.self c.in_ok-walk.ensures.after)
 
-pub returns-in-None-clause-only : goal.returns-in-None-clause-only
-returns-in-None-clause-only g c =
+pub returns-in-None-clause-within : goal.returns-in-None-clause-within
+returns-in-None-clause-within g c =
     let files = as_read_if_known c.args.compressed (g.F.FileSource.files c.args.files.now) in
     (has_looked files c.args.probe c.args.ctx.now c.loop-ctx.ctx c.loop-ctx.invariant _ c.walk.new.self c.in_ok-walk.ensures.after).only
 
@@ -132,13 +132,13 @@ pub returns-in-None-clause-last : goal.returns-in-None-clause-last
 returns-in-None-clause-last g c =
     λ q. still_uncovered c.args.probe c.args.ctx.now c.loop-ctx.ctx c.loop-ctx.invariant.after.sections (c.walk.ensures.last q)
 
-pub returns-in_err-walk-clause-ended : goal.returns-in_err-walk-clause-ended
-returns-in_err-walk-clause-ended g c =
+pub returns-in_err-walk-clause-none : goal.returns-in_err-walk-clause-none
+returns-in_err-walk-clause-none g c =
     let p = err_from_is_err_and c.from_residual.result c.from_residual.ensures.1 in
     rw (p.1, p.2) (λ fault. ap is_waiting (c.in_err-walk.ensures.gives (no_oom c.in_err-walk.field-0.0 fault.0)))
 
-pub returns-in-None-clause-ended : goal.returns-in-None-clause-ended
-returns-in-None-clause-ended g c =
+pub returns-in-None-clause-none : goal.returns-in-None-clause-none
+returns-in-None-clause-none g c =
     λ _. told_ended c.walk.new.self.stop _ c.in_ok-walk.ensures.gives (search rules)
 
 pub returns-in-None-clause-ready : goal.returns-in-None-clause-ready

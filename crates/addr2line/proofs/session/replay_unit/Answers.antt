@@ -17,13 +17,13 @@ returns-in-Output g c =
     let p = c.args.probe in
     let e = c.unit_reply.ensures in
     let all = map seen_given c.args.answers.now in
-    record { made = ends_at_once Skip p first all g.R.Reader.shares (unit_replied first.sections p) c.in-Output.unit _ (search rules) c.unit_reply.result (e.gives (lookup_stop Skip first.sections first.answers p) (unit_of first.sections first.answers p) c.in-Output.ensures.output (found_waiting Skip unit_value first.sections first.answers p)) e.told e.refused }
+    record { after = ends_at_once Skip p first all g.R.Reader.shares (unit_replied first.sections p) c.in-Output.unit _ (search rules) c.unit_reply.result (e.gives (lookup_stop Skip first.sections first.answers p) (unit_of first.sections first.answers p) c.in-Output.ensures.gives (found_waiting Skip unit_value first.sections first.answers p)) e.memory e.refused }
 
 pub loop-answer-init : goal.loop-answer-init
 loop-answer-init g c =
     let first = c.args.context.now in
     let next = c.in-Load.continuation in
-    let load = c.in-Load.ensures.load in
+    let load = c.in-Load.ensures.left in
     record {
       name = refl;
       probe = load.1;
@@ -44,10 +44,10 @@ returns-in-Output-resume g c =
     let one = next_of seen_given c.args.answers.now i c.answer-item.result (search rules) c.answer-item.is _ given in
     let left = answered l.ctx.now.sections l.ctx.now.answers l.number x in
     let o = c.in-Output-resume.unit in
-    let out = subst (λ s. ExactlyUnlessOom seen_found o (unit_of s left p)) inv.so.sections (subst (λ q. ExactlyUnlessOom seen_found o (unit_of l.ctx.now.sections left q)) inv.probe c.in-Output-resume.ensures.output) in
+    let out = subst (λ s. ExactlyUnlessOom seen_found o (unit_of s left p)) inv.so.sections (subst (λ q. ExactlyUnlessOom seen_found o (unit_of l.ctx.now.sections left q)) inv.probe c.in-Output-resume.ensures.gives) in
     record {
-      made = ends_resumed Skip p first (map seen_given c.args.answers.now) i l.number l.ctx.now inv.so x one g.R.Reader.shares (unit_replied first.sections p) c.resume.result o c.in-Output-resume.is l.probe inv.probe _ c.resume.follows.lender-at-none (search rules) c.resume.follows.holds-at-none
-          c.unit_reply-in-Output-resume.result (e.gives (lookup_stop Skip first.sections left p) (unit_of first.sections left p) out (found_waiting Skip unit_value first.sections left p)) e.told e.refused;
+      after = ends_resumed Skip p first (map seen_given c.args.answers.now) i l.number l.ctx.now inv.so x one g.R.Reader.shares (unit_replied first.sections p) c.resume.result o c.in-Output-resume.is l.probe inv.probe _ c.resume.follows.lender-at-none (search rules) c.resume.follows.holds-at-none
+          c.unit_reply-in-Output-resume.result (e.gives (lookup_stop Skip first.sections left p) (unit_of first.sections left p) out (found_waiting Skip unit_value first.sections left p)) e.memory e.refused;
     }
 
 pub returns-in-Ok-None : goal.returns-in-Ok-None
@@ -59,13 +59,13 @@ returns-in-Ok-None g c =
     let all = map seen_given c.args.answers.now in
     let given = sym (ap (λ o. given_by (option_map (option_map (λ r. r.value)) o)) c.in-Ok-None.field-0-is) ∙ c.in-Ok-None.ensures.gives in
     let one = next_of seen_given c.args.answers.now i c.answer-item.result (search rules) c.answer-item.is _ given in
-    record { made = is_left Skip c.args.probe first all i l.number l.ctx.now inv.so (unit_replied first.sections c.args.probe) (λ w. ap (λ r. reply_of_unit r (unit_of first.sections l.ctx.now.answers c.args.probe)) w) l.load.unit inv.token c.suspended_reply.result c.suspended_reply.ensures.gives _ (search rules) (left_by Skip c.args.probe first all i l.number l.ctx.now inv.so one) }
+    record { after = is_left Skip c.args.probe first all i l.number l.ctx.now inv.so (unit_replied first.sections c.args.probe) (λ w. ap (λ r. reply_of_unit r (unit_of first.sections l.ctx.now.answers c.args.probe)) w) l.load.unit inv.token c.suspended_reply.result c.suspended_reply.ensures.gives _ (search rules) (left_by Skip c.args.probe first all i l.number l.ctx.now inv.so one) }
 
 pub returns-in-Err : goal.returns-in-Err
 returns-in-Err g c =
     let first = c.args.context.now in
     let l = c.loop-answer.next in
-    record { made = is_refused Skip c.args.probe first (map seen_given c.args.answers.now) c.loop-answer.answer-index l.number l.ctx.now c.loop-answer.invariant.so (unit_replied first.sections c.args.probe) _ _ (search rules) c.in-Err.ensures.refused }
+    record { after = is_refused Skip c.args.probe first (map seen_given c.args.answers.now) c.loop-answer.answer-index l.number l.ctx.now c.loop-answer.invariant.so (unit_replied first.sections c.args.probe) _ _ (search rules) c.in-Err.ensures.refused }
 
 pub loop-answer-preserved : goal.loop-answer-preserved
 loop-answer-preserved g c =
@@ -75,7 +75,7 @@ loop-answer-preserved g c =
     let l = c.loop-answer.next in
     let inv = c.loop-answer.invariant in
     let next = c.in-Load-resume.continuation in
-    let load = c.in-Load-resume.ensures.load in
+    let load = c.in-Load-resume.ensures.left in
     let x = option_map (λ r. r.value) c.in-Ok-Some.input in
     let given = sym (ap (λ o. given_by (option_map (option_map (λ r. r.value)) o)) c.in-Ok-Some.field-0-is) ∙ c.in-Ok-Some.ensures.gives in
     let one = next_of seen_given c.args.answers.now i c.answer-item.result (search rules) c.answer-item.is _ given in
@@ -96,6 +96,6 @@ returns g c =
     let all = map seen_given c.args.answers.now in
     let past : length c.args.answers.now ≤ i = (search rules) in
     record {
-      made = is_left Skip c.args.probe first all i l.number l.ctx.now inv.so (unit_replied first.sections c.args.probe) (λ w. ap (λ r. reply_of_unit r (unit_of first.sections l.ctx.now.answers c.args.probe)) w) l.load.unit inv.token c.suspended_reply-2.result c.suspended_reply-2.ensures.gives _ (search rules)
+      after = is_left Skip c.args.probe first all i l.number l.ctx.now inv.so (unit_replied first.sections c.args.probe) (λ w. ap (λ r. reply_of_unit r (unit_of first.sections l.ctx.now.answers c.args.probe)) w) l.load.unit inv.token c.suspended_reply-2.result c.suspended_reply-2.ensures.gives _ (search rules)
           (left_at_end Skip c.args.probe first all i l.number l.ctx.now inv.so (subst (λ n. n ≤ i) (sym (length-map c.args.answers.now seen_given)) past));
     }

@@ -13,8 +13,8 @@ returns-in-None g c =
       (refl, (λ _. tt), (refl, subst (λ r. IsLent r ctx.stop (Ok c.found.result)) (sym c.in-Ok.is) (lent_ok ctx.stop c.found.result))),
       record {
         ends = tt;
-        load = tt;
-        output = found_lent faults g.K.Lent.value_of ctx c.args.probe (g.K.Lent.see c.found.result) stored (search rules) c.found.ensures.gives;
+        left = tt;
+        gives = found_lent faults g.K.Lent.value_of ctx c.args.probe (g.K.Lent.see c.found.result) stored (search rules) c.found.ensures.gives;
         refused = λ _. tt;
       },
     )

@@ -26,7 +26,7 @@ returns-clause-gives c =
     let command = c.in_ok-command.ensures.gives in
     let parsed = c.in_ok-matches.ensures in
     let rows = matches_by _ _ _ command (parsed.matches (is_simple_by _ command)).0 in
-    ok_of_both c.request_of.result _ _ _ c.request_of.ensures.gives c.request_of.ensures.name
+    ok_of_both c.request_of.result _ _ _ c.request_of.ensures.gives c.request_of.ensures.kept
     (λ r asked named. record {
       taken = sym (faults_by _ _ command) ∙ parsed.kinds (is_free_by _ command);
       name = ap string_bytes named ∙ c.in_ok-name.ensures.ok ∙ c.program_name.ensures.gives;

@@ -23,14 +23,14 @@ returns-in_err-next_line g c =
     let inv = c.loop.invariant.1 in
     let i = g.I.Input.state in
     let p = err_from_is_err_and c.from_residual.result c.from_residual.ensures.1 in
-    record { gives = rw (p.1, p.2) (inv.0, inr (refl, (c.in_err-next_line.ensures.refused.0, to_fault (i c.args.input.now) (i c.loop.input) (i c.next_line.new.input) inv.0 inv.3 inv.4 c.next_line.ensures.reads c.in_err-next_line.ensures.refused.1), inv.5)) }
+    record { gives = rw (p.1, p.2) (inv.0, inr (refl, (c.in_err-next_line.ensures.refused.0, to_fault (i c.args.input.now) (i c.loop.input) (i c.next_line.new.input) inv.0 inv.3 inv.4 c.next_line.ensures.after c.in_err-next_line.ensures.refused.1), inv.5)) }
 
 pub returns-then-not-branch : goal.returns-then-not-branch
 returns-then-not-branch g c =
     let inv = c.loop.invariant.1 in
     let i = g.I.Input.state in
     let read = rw c.if-not-branch.true at c.in_ok-next_line.ensures.gives in
-    record { gives = (inv.0, (all_without (i c.args.input.now) (i c.loop.input) (i c.next_line.new.input) inv.0 c.next_line.new.line.items inv.2 inv.3 inv.4 c.next_line.ensures.reads read, inv.5)) }
+    record { gives = (inv.0, (all_without (i c.args.input.now) (i c.loop.input) (i c.next_line.new.input) inv.0 c.next_line.new.line.items inv.2 inv.3 inv.4 c.next_line.ensures.after read, inv.5)) }
 
 pub returns-in_default : goal.returns-in_default
 returns-in_default g c =
@@ -40,7 +40,7 @@ returns-in_default g c =
     let read = rw c.if-not-branch.false at c.in_ok-next_line.ensures.gives in
     let foreign = rw c.as_slice.ensures.value at c.in_default.ensures.cases.0 in
     record {
-      gives = (inv.0, (all_before_foreign (i c.args.input.now) (i c.loop.input) (i c.next_line.new.input) inv.0 line inv.2 inv.3 inv.4 c.next_line.ensures.reads read foreign, inv.5));
+      gives = (inv.0, (all_before_foreign (i c.args.input.now) (i c.loop.input) (i c.next_line.new.input) inv.0 line inv.2 inv.3 inv.4 c.next_line.ensures.after read foreign, inv.5));
     }
 
 pub returns-in_err-print_one : goal.returns-in_err-print_one
@@ -59,7 +59,7 @@ returns-in_err-print_one g c =
     let probe : c.address_of.result ≡ address_in line = c.address_of.ensures.gives ∙ ap address_in (c.in-Ok.ensures.cases.0 ∙ c.as_slice.ensures.value) in
     let so_far = read_more (i c.args.input.now).bytes (i c.loop.input).bytes (i c.next_line.new.input).bytes inv.0 line inv.4 read.1 utf8 in
     let more : line_probes lines ≡ line_probes inv.0 ++ c.address_of.result ∷ [] = probes_more inv.0 line ∙ ap (λ q. line_probes inv.0 ++ q ∷ []) (sym probe) in
-    let asked = counted_more (i c.args.input.now).reads (i c.loop.input).reads (i c.next_line.new.input).reads inv.0 line inv.3 c.next_line.ensures.reads in
+    let asked = counted_more (i c.args.input.now).reads (i c.loop.input).reads (i c.next_line.new.input).reads inv.0 line inv.3 c.next_line.ensures.after in
     let p = err_from_is_err_and c.from_residual-in_err-print_one.result c.from_residual-in_err-print_one.ensures.1 in
     let b = read_next (IsText now context) (IsText first context) (o c.args.out.now) (o c.loop.out) (o c.print_one.new.out) (e c.args.err.now) (e c.loop.err) (e c.print_one.new.err)
     (line_probes inv.0) (line_probes lines) c.address_of.result _ (text_before first now c.loop.invariant.0 context) inv.5 c.in_err-print_one.ensures.gives more in
@@ -87,7 +87,7 @@ loop-preserved g c =
         lines,
         length-append inv.0 (line ∷ []) ∙ ap (λ n. n + 1) inv.1,
         read.0 ∙ inv.2,
-        counted_more (i c.args.input.now).reads (i c.loop.input).reads (i c.next_line.new.input).reads inv.0 line inv.3 c.next_line.ensures.reads,
+        counted_more (i c.args.input.now).reads (i c.loop.input).reads (i c.next_line.new.input).reads inv.0 line inv.3 c.next_line.ensures.after,
         so_far,
         subst (λ ps. PrintsOf (IsText first context) (o c.args.out.now) (o c.print_one.new.out) (e c.args.err.now) (e c.print_one.new.err) ps) (sym more)
             (prints_next (IsText now context) (IsText first context) (o c.args.out.now) (o c.loop.out) (o c.print_one.new.out) (e c.args.err.now) (e c.loop.err) (e c.print_one.new.err)

@@ -17,5 +17,5 @@ returns-clause-gives g c =
     let texts = c.make_texts.new.texts in
     let text : ProbeText = record { out = string_bytes texts.out; err = string_bytes texts.err } in
     sends_one Is (g.W.Stream.state c.args.out.now) (g.W.Stream.state c.send.new.out) (g.E.Stream.state c.args.err.now) (g.E.Stream.state c.tell.new.err) c.args.probe text c.in_ok-make_texts.ensures.gives
-    (rw c.as_str.ensures.value at c.tell.ensures.gives) c.send.result (rw c.as_str-2.ensures.value at c.send.ensures.gives) c.send.ensures.flushes c.send.ensures.flushed c.send.ensures.fault
+    (rw c.as_str.ensures.value at c.tell.ensures.gives) c.send.result (rw c.as_str-2.ensures.value at c.send.ensures.gives) c.send.ensures.after c.send.ensures.whole c.send.ensures.fault
     (rw c.as_str-2.ensures.value at c.send.ensures.refused)

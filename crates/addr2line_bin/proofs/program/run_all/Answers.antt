@@ -22,4 +22,4 @@ returns-in-Ok g c =
     }
 
 pub returns-in-Err : goal.returns-in-Err
-returns-in-Err g c = record { gives = inr ((refl, rw c.in-Err.ensures.refused at c.tell_addresses_fault.ensures.err), c.tell_addresses_fault.ensures.exit) }
+returns-in-Err g c = record { gives = inr ((refl, rw c.in-Err.ensures.refused at c.tell_addresses_fault.ensures.after), c.tell_addresses_fault.ensures.gives) }

@@ -19,6 +19,6 @@ returns-in-Err g c =
       gives = (
         a.0,
         inr (lines_reported Is c.args.context.now.name.now (i c.args.input.now) (i c.print_lines.new.input) a.0 (o c.args.out.now) (o c.print_lines.new.out) (e c.args.err.now) (e c.print_lines.new.err) (e c.tell_last.new.err)
-            c.in-Err.stop c.tell_last.result a.1 c.tell_last.ensures.err c.tell_last.ensures.exit),
+            c.in-Err.stop c.tell_last.result a.1 c.tell_last.ensures.after c.tell_last.ensures.gives),
       );
     }

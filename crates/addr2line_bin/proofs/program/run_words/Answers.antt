@@ -14,7 +14,7 @@ returns-in-Err g c =
     record {
       gives = inr (record {
         why = c.in-Err.stop;
-        prints = ends_reported Is (o c.args.out.now) (o c.print_words.new.out) (e c.args.err.now) (e c.print_words.new.err) (e c.tell_last.new.err) _ c.in-Err.stop _ c.in-Err.ensures.gives c.tell_last.ensures.err;
-        exit = c.tell_last.ensures.exit;
+        prints = ends_reported Is (o c.args.out.now) (o c.print_words.new.out) (e c.args.err.now) (e c.print_words.new.err) (e c.tell_last.new.err) _ c.in-Err.stop _ c.in-Err.ensures.gives c.tell_last.ensures.after;
+        exit = c.tell_last.ensures.gives;
       });
     }

@@ -15,4 +15,4 @@ returns-in-Ok g c =
 
 pub returns : goal.returns
 returns g c =
-    record { gives = rw c.in-Err.is (inr (search rules, (refl, rw c.program_name-in-Err.ensures.gives at c.answer_misuse.ensures.err), c.answer_misuse.ensures.status)) }
+    record { gives = rw c.in-Err.is (inr (search rules, (refl, rw c.program_name-in-Err.ensures.gives at c.answer_misuse.ensures.after), c.answer_misuse.ensures.gives)) }

@@ -14,11 +14,11 @@ pub returns-in-Ok-Some-clause-gives : goal.returns-in-Ok-Some-clause-gives
 returns-in-Ok-Some-clause-gives c = λ given told.
     let l = seen_location c.in-Ok-Some.location in
     let new = c.put_location.new in
-    let small : length new.buffer < 2 ^ 64 = omega (arith, c.put_location.ensures.same) in
+    let small : length new.buffer < 2 ^ 64 = omega (arith, c.put_location.ensures.kept) in
     let empty : IsFilled 0 c.args.buffer.now (zero_ended []) = record { needed = refl; front = λ _. refl } in
     let found : c.args.found ≡ Ok (Some c.in-Ok-Some.location) = search rules in
     let is : given ≡ Ok (Some l) = subst (λ r. ExactlyUnlessOom (option_map seen_location) r given) found told in
-    let parts = c.put_location.ensures.part [] empty in
+    let parts = c.put_location.ensures.made [] empty in
     let texts : IsFilled new.used new.buffer (zero_ended (optional_text (location_file (Some l)))) = c.put_location.ensures.gives [] empty in
     says_there (of_file given) (IsWrittenLocation c.put_location.result new.buffer new.used) (nat_le new.used (length new.buffer)) c.done_if.result c.done_if.ensures.gives (
       l,

@@ -13,10 +13,10 @@ returns-after-found-out-clause-gives g c = λ given told.
     let frames = frames_left c.in-Ok.frames in
     let new = c.put_frames.new in
     let count = c.in-Ok-put_frames.found in
-    let small : length new.buffer < 2 ^ 64 = omega (arith, c.put_frames.ensures.same.1) in
+    let small : length new.buffer < 2 ^ 64 = omega (arith, c.put_frames.ensures.kept.1) in
     let is : given ≡ Ok (Some frames) = frames_given c.args.found c.in-Ok.frames given (search rules) told in
     let parts = c.in-Ok-put_frames.ensures.gives in
-    let texts = c.in-Ok-put_frames.ensures.texts in
+    let texts = c.in-Ok-put_frames.ensures.left in
     let fits : c.done_if.result ≡ done_if (nat_le count (length new.out) && nat_le new.needed (length new.buffer)) = search rules in
     says_frames (of_file given) (IsWrittenFrames d new.out count new.buffer new.needed) (nat_le count (length new.out) && nat_le new.needed (length new.buffer)) c.done_if.result fits (
       frames,

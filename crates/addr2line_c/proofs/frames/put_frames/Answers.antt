@@ -18,8 +18,8 @@ loop-frame-preserved g c =
     let before = texts_of_items (frame_texts d) so.done in
     record {
       so = wrote_one (frame_texts d) (written_frame d) all left f old.count c.fill-count.result old.out c.fill-count.new.out old.needed c.put_frame.new.used old.buffer c.put_frame.new.buffer c.in_ok-written.written so
-          (c.in_ok-written.ensures.part before so.texts_are) (c.in_ok-written.ensures.gives before so.texts_are)
+          (c.in_ok-written.ensures.made before so.texts_are) (c.in_ok-written.ensures.gives before so.texts_are)
           (c.fill-count.ensures.gives (written_items (frame_texts d) (written_frame d) [] so.done) so.items);
-      out = c.fill-count.ensures.same ∙ old.invariant.out;
-      buffer = c.put_frame.ensures.same ∙ old.invariant.buffer;
+      out = c.fill-count.ensures.kept ∙ old.invariant.out;
+      buffer = c.put_frame.ensures.kept ∙ old.invariant.buffer;
     }

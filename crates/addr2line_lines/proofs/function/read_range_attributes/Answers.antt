@@ -14,7 +14,7 @@ returns-in_err-skip_attributes g c =
     let u = c.args.unit.unit.now in
     let fault = rw i.same at c.in_err-skip_attributes.ensures.gives in
     record {
-      gives = rw (p.1, p.2) (λ _. sym i.gives ∙ wanted_passed (range_passes d u _ _) _ _ _ c.in-Some.ensures.split fault);
+      gives = rw (p.1, p.2) (λ _. sym i.gives ∙ wanted_passed (range_passes d u _ _) _ _ _ c.in-Some.ensures.gives fault);
       left = on_err _ _ _ p.1;
       unit = c.in_err-skip_attributes.ensures.unit ∙ i.unit;
       depth = c.in_err-skip_attributes.ensures.depth ∙ i.depth;
@@ -30,7 +30,7 @@ returns-in_err-fault g c =
     let encoding = ap (λ v. v.encoding) c.in_ok-skip_attributes.ensures.unit ∙ i.same in
     let fault = rw encoding at c.in_err-fault.ensures.gives in
     record {
-      gives = rw (p.1, p.2) (λ ne. sym i.gives ∙ wanted_next (range_passes d u _ _) _ _ _ c.in-Some.ensures.split skipped (fault ne));
+      gives = rw (p.1, p.2) (λ ne. sym i.gives ∙ wanted_next (range_passes d u _ _) _ _ _ c.in-Some.ensures.gives skipped (fault ne));
       left = on_err _ _ _ p.1;
       unit = c.in_err-fault.ensures.unit ∙ c.in_ok-skip_attributes.ensures.unit ∙ i.unit;
       depth = c.in_err-fault.ensures.depth ∙ c.in_ok-skip_attributes.ensures.depth ∙ i.depth;
@@ -41,7 +41,7 @@ loop-next-preserved g c =
     let i = c.loop-next.invariant in
     let d = c.args.unit.dwarf.now in
     let u = c.args.unit.unit.now in
-    let split = c.in-Some.ensures.split in
+    let split = c.in-Some.ensures.gives in
     let skipped = rw i.same at c.in_ok-skip_attributes.ensures.gives in
     let encoding = ap (λ v. v.encoding) c.in_ok-skip_attributes.ensures.unit ∙ i.same in
     let next = rw encoding at c.in_ok-fault.ensures.gives in

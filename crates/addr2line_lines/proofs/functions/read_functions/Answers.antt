@@ -18,7 +18,7 @@ loop-unit-preserved g c =
           ∙ sym (found_step d u _ _ _ _ _ (sym c.loop-unit-test.ensures.gives) c.in_ok-read_item.ensures.gives) ∙ i.gives;
       unit = ap (λ v. v.encoding) c.in_ok-read_item.ensures.unit ∙ i.unit;
       has = λ e. i.has (have_step d u _ _ _ _ _ (sym c.loop-unit-test.ensures.gives) c.in_ok-read_item.ensures.gives (ap (λ v. have_function d u (items_left v now.entries.cursor).items) (sym c.in_ok-read_item.ensures.unit) ∙ e));
-      unread = c.in_ok-read_item.ensures.unread i.unread;
+      unread = c.in_ok-read_item.ensures.empty i.unread;
     }
 
 pub returns-in_err-read_item : goal.returns-in_err-read_item
@@ -27,7 +27,7 @@ returns-in_err-read_item g c =
     let i = c.loop-unit.invariant in
     record {
       gives = rw (p.1, p.2) (λ ne. sym i.gives ∙ found_fault c.args.unit.dwarf.now c.args.unit.unit.now _ _ _ _ (sym c.loop-unit-test.ensures.gives) (c.in_err-read_item.ensures.gives (λ takes. ne (or_more g.R.Reader.shares _ _ i.has (have_next c.args.unit.dwarf.now c.args.unit.unit.now _ g.R.Reader.shares _ takes)))));
-      unread = rw p.1 tt;
+      empty = rw p.1 tt;
     }
 
 pub returns : goal.returns
@@ -35,5 +35,5 @@ returns g c =
     let i = c.loop-unit.invariant in
     record {
       gives = sym i.gives ∙ found_end c.args.unit.dwarf.now c.args.unit.unit.now _ _ _ (sym c.loop-unit-test.ensures.gives);
-      unread = i.unread;
+      empty = i.unread;
     }

@@ -25,7 +25,7 @@ pub returns-in_err-pass_over-clause-gives : goal.returns-in_err-pass_over-clause
 returns-in_err-pass_over-clause-gives g c =
     let p = err_from_is_err_and c.from_residual.result c.from_residual.ensures.1 in
     let i = c.loop-next.invariant in
-    let split = c.in-Some.ensures.split in
+    let split = c.in-Some.ensures.gives in
     let fault = rw i.same at c.in_err-pass_over.ensures.gives in
     rw (p.1, p.2) (λ _. sym i.gives ∙ wanted_passed (inlined_passes (seen_scope c.args.scope) c.args.unit.now i.given) _ _ _ split fault)
 
@@ -33,7 +33,7 @@ pub returns-in_err-fault-clause-gives : goal.returns-in_err-fault-clause-gives
 returns-in_err-fault-clause-gives g c =
     let p = err_from_is_err_and c.from_residual-in_err-fault.result c.from_residual-in_err-fault.ensures.1 in
     let i = c.loop-next.invariant in
-    let split = c.in-Some.ensures.split in
+    let split = c.in-Some.ensures.gives in
     let skipped = rw i.same at c.in_ok-pass_over.ensures.gives in
     let same = ap (λ v. v.encoding) c.in_ok-pass_over.ensures.unit ∙ i.same in
     let fault = rw same at c.in_err-fault.ensures.gives in
@@ -44,7 +44,7 @@ loop-next-preserved g c =
     let i = c.loop-next.invariant in
     let scope = seen_scope c.args.scope in
     let u = c.args.unit.now in
-    let split = c.in-Some.ensures.split in
+    let split = c.in-Some.ensures.gives in
     let skipped = rw i.same at c.in_ok-pass_over.ensures.gives in
     let same = ap (λ v. v.encoding) c.in_ok-pass_over.ensures.unit ∙ i.same in
     let next = rw same at c.in_ok-fault.ensures.gives in

@@ -16,4 +16,4 @@ returns-in_err-name g c =
 pub returns : goal.returns
 returns g c =
     let name = option_map g.R.Reader.section c.in_ok-name.name in
-    record { gives = c.in_ok-name.ensures.gives ∙ ap Ok (sym c.add.ensures.gives); names = names_one_more (seen_scope c.args.scope) c.args.unit.now (record { offset = c.args.offset; name = name }) _ _ c.requires.names c.in_ok-name.ensures.gives c.add.ensures.more }
+    record { gives = c.in_ok-name.ensures.gives ∙ ap Ok (sym c.add.ensures.gives); names = names_one_more (seen_scope c.args.scope) c.args.unit.now (record { offset = c.args.offset; name = name }) _ _ c.requires.names c.in_ok-name.ensures.gives c.add.ensures.after }

@@ -29,8 +29,8 @@ loop-depth-preserved g c =
           ∙ ap (λ k. c.loop-depth.chain.items ++ places_within k c.args.probe depth all) (sym next) ∙ i.found;
     }
 
-pub returns-clause-listed : goal.returns-clause-listed
-returns-clause-listed g c =
+pub returns-clause-found : goal.returns-clause-found
+returns-clause-found g c =
     let i = c.loop-depth.invariant in
     let all = map (g.S.Stored.whole c.args.upper) c.args.ranges.now in
     let items = c.loop-depth.chain.items in

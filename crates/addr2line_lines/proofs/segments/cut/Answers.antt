@@ -6,9 +6,9 @@ use Rattle.addr2line_lines.proofs.segments.cut.Goals as goal
 
 pub loop-address-init : goal.loop-address-init
 loop-address-init c =
-    let a = ap length c.new-sweep.ensures.segments in
-    let b = ap length c.new-sweep.ensures.running in
-    record { swept = c.new-sweep.ensures.swept c.args.addresses.now; few = omega arith }
+    let a = ap length c.new-sweep.ensures.empty.2.2 in
+    let b = ap length c.new-sweep.ensures.empty.2.1 in
+    record { swept = c.new-sweep.ensures.right c.args.addresses.now; few = omega arith }
 
 pub returns-clause-gives : goal.returns-clause-gives
 returns-clause-gives c =
@@ -17,9 +17,9 @@ returns-clause-gives c =
     let next = c.loop-address.address-index in
     let past = c.loop-address-test.false in
     let now = c.close-2.new.self in
-    let a = i.few in let b = c.in_ok-close-2.ensures.few in
-    all_cut all next now.at (heap_items now.running) now.segments.items (omega arith) (c.in_ok-close-2.ensures.all (omega arith))
-    (c.in_ok-close-2.ensures.swept all next (λ j d low m. absurd (omega arith)) i.swept) (omega arith)
+    let a = i.few in let b = c.in_ok-close-2.ensures.bound in
+    all_cut all next now.at (heap_items now.running) now.segments.items (omega arith) (c.in_ok-close-2.ensures.empty (omega arith))
+    (c.in_ok-close-2.ensures.right all next (λ j d low m. absurd (omega arith)) i.swept) (omega arith)
 
 pub loop-address-preserved : goal.loop-address-preserved
 loop-address-preserved c =
@@ -29,9 +29,9 @@ loop-address-preserved c =
     let here = c.loop-address-test.true in
     let d : FunctionAddress = record { range = record { begin = 0; end = 0 }; function = 0 } in
     let begun = begun_from all next d c.requires.sorted here in
-    let a = i.few in let b = c.in_ok-close.ensures.few in let e = c.in_ok-enter.ensures.few in
+    let a = i.few in let b = c.in_ok-close.ensures.bound in let e = c.in_ok-enter.ensures.bound in
     record {
-      swept = c.in_ok-enter.ensures.swept all next d begun here refl (c.in_ok-close.ensures.swept all next begun i.swept);
+      swept = c.in_ok-enter.ensures.right all next d begun here refl (c.in_ok-close.ensures.right all next begun i.swept);
       few = omega arith;
     }
 

@@ -3,5 +3,5 @@ use Rattle.std.proofs.lemmas.List.Sorted.{IsNonDecreasingBy-from_sort_by_key}
 use Rattle.addr2line_lines.specs.Segments.{address_begin}
 use Rattle.addr2line_lines.proofs.segments.sort_addresses.Goals as goal
 
-pub returns-clause-sorted : goal.returns-clause-sorted
-returns-clause-sorted c = IsNonDecreasingBy-from_sort_by_key address_begin _ c.sort_unstable_by_key.ensures.sorted (λ a r q k. search rules)
+pub returns-clause-right : goal.returns-clause-right
+returns-clause-right c = IsNonDecreasingBy-from_sort_by_key address_begin _ c.sort_unstable_by_key.ensures.sorted (λ a r q k. search rules)

@@ -22,7 +22,7 @@ returns-clause-gives g c =
     ∙ ap (result_map (λ rows. (all_built nothing_built rows).sequences)) (read_whole left c.in_ok-take_rows.ensures.gives)
     ∙ ap Ok (sym (stored_sequences nothing_stored (rows_before left)))
     ∙ ap (λ (b : StoredBuilt). Ok (fold stored_taken b (rows_before left)).built.sequences) (sym c.new-builder.ensures.gives)
-    ∙ ap (λ (b : StoredBuilt). Ok b.built.sequences) (sym c.in_ok-take_rows.ensures.taken)
+    ∙ ap (λ (b : StoredBuilt). Ok b.built.sequences) (sym c.in_ok-take_rows.ensures.after)
     ∙ ap Ok (sym c.finish.ensures.gives)
 
 pub returns-clause-width : goal.returns-clause-width
@@ -30,8 +30,8 @@ returns-clause-width g c =
     let left = c.args.rows.now.left in
     ap (result_map need_width) (read_whole left c.in_ok-take_rows.ensures.gives)
     ∙ ap (λ (b : StoredBuilt). Ok (fold stored_taken b (rows_before left)).width) (sym c.new-builder.ensures.gives)
-    ∙ ap (λ (b : StoredBuilt). Ok b.width) (sym c.in_ok-take_rows.ensures.taken)
+    ∙ ap (λ (b : StoredBuilt). Ok b.width) (sym c.in_ok-take_rows.ensures.after)
     ∙ ap Ok (sym c.finish.ensures.width)
 
-pub returns-clause-among : goal.returns-clause-among
-returns-clause-among g c = all_among _ _ c.finish.ensures.within (rising_of (read_all c.args.rows.now.left) _ c.never_falls.ensures.law (returns-clause-gives g c))
+pub returns-clause-within : goal.returns-clause-within
+returns-clause-within g c = all_among _ _ c.finish.ensures.within (rising_of (read_all c.args.rows.now.left) _ c.never_falls.ensures.law (returns-clause-gives g c))

@@ -12,7 +12,7 @@ returns-in_err-skip_attributes g c =
     let d = c.args.unit.dwarf.now in
     let u = c.args.unit.unit.now in
     let fault = rw i.same at c.in_err-skip_attributes.ensures.gives in
-    record { gives = rw (p.1, p.2) (λ _. sym i.gives ∙ wanted_passed (unit_passes d u _) _ _ _ c.in-Some.ensures.split fault) }
+    record { gives = rw (p.1, p.2) (λ _. sym i.gives ∙ wanted_passed (unit_passes d u _) _ _ _ c.in-Some.ensures.gives fault) }
 
 pub returns-in_err-attribute : goal.returns-in_err-attribute
 returns-in_err-attribute g c =
@@ -23,7 +23,7 @@ returns-in_err-attribute g c =
     let skipped = rw i.same at c.in_ok-skip_attributes.ensures.gives in
     let encoding = ap (λ v. v.encoding) c.in_ok-skip_attributes.ensures.unit ∙ i.same in
     let fault = rw encoding at c.in_err-attribute.ensures.gives in
-    record { gives = rw (p.1, p.2) (λ ne. sym i.gives ∙ wanted_next (unit_passes d u _) _ _ _ c.in-Some.ensures.split skipped (fault (λ shares _. ne shares))) }
+    record { gives = rw (p.1, p.2) (λ ne. sym i.gives ∙ wanted_next (unit_passes d u _) _ _ _ c.in-Some.ensures.gives skipped (fault (λ shares _. ne shares))) }
 
 pub loop-next-preserved : goal.loop-next-preserved
 loop-next-preserved g c =
@@ -34,7 +34,7 @@ loop-next-preserved g c =
     let encoding = ap (λ v. v.encoding) c.in_ok-skip_attributes.ensures.unit ∙ i.same in
     let given = rw encoding at c.in_ok-attribute.ensures.gives in
     record {
-      gives = rw (c.with_attribute-attributes.ensures.gives) (sym (wanted_next (unit_passes d u _) _ _ _ c.in-Some.ensures.split skipped given) ∙ i.gives);
+      gives = rw (c.with_attribute-attributes.ensures.gives) (sym (wanted_next (unit_passes d u _) _ _ _ c.in-Some.ensures.gives skipped given) ∙ i.gives);
       same = ap (λ v. v.encoding) c.in_ok-attribute.ensures.unit ∙ encoding;
     }
 

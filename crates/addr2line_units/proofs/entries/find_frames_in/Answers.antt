@@ -24,7 +24,7 @@ returns-then-is_open-clause-gives g c =
     let x = indexed_unit u c.args.unit.now in
     let answer = first_answer_of old in
     let waiting : is_open scope.file.sections u (first_answer_of mid) ≡ true = waiting_stays_open scope.file.sections u mid.view (sym c.is_open.ensures.gives ∙ c.if-is_open.true) c.check_split.ensures.right.view in
-    let open_now : is_open scope.file.sections u answer ≡ true = ap (is_open scope.file.sections u) (sym c.check_split.ensures.stay.answer) ∙ waiting in
+    let open_now : is_open scope.file.sections u answer ≡ true = ap (is_open scope.file.sections u) (sym c.check_split.ensures.after.answer) ∙ waiting in
     open_frames scope x answer probe open_now
 
 pub returns-then-is_open-clause-ready : goal.returns-then-is_open-clause-ready
@@ -32,8 +32,8 @@ returns-then-is_open-clause-ready g c =
     let mid = c.check_split.new.self in
     λ _. waiting_entries c.args.probe mid.view.state mid.functions (sym c.is_open.ensures.gives ∙ c.if-is_open.true)
 
-pub returns-then-is_open-clause-only : goal.returns-then-is_open-clause-only
-returns-then-is_open-clause-only g c =
+pub returns-then-is_open-clause-within : goal.returns-then-is_open-clause-within
+returns-then-is_open-clause-within g c =
     let scope = seen_scope c.args.scope in
     let u = c.args.dw_unit.now in
     let probe = c.args.probe in
@@ -41,10 +41,10 @@ returns-then-is_open-clause-only g c =
     let mid = c.check_split.new.self in
     let x = indexed_unit u c.args.unit.now in
     let answer = first_answer_of old in
-    look_only probe old mid c.check_split.ensures.functions c.check_split.ensures.same
+    look_only probe old mid c.check_split.ensures.functions c.check_split.ensures.kept
 
-pub returns-then-is_open-clause-parsed : goal.returns-then-is_open-clause-parsed
-returns-then-is_open-clause-parsed g c =
+pub returns-then-is_open-clause-known : goal.returns-then-is_open-clause-known
+returns-then-is_open-clause-known g c =
     let scope = seen_scope c.args.scope in
     let u = c.args.dw_unit.now in
     let probe = c.args.probe in
@@ -53,7 +53,7 @@ returns-then-is_open-clause-parsed g c =
     let x = indexed_unit u c.args.unit.now in
     let answer = first_answer_of old in
     let waiting : is_open scope.file.sections u (first_answer_of mid) ≡ true = waiting_stays_open scope.file.sections u mid.view (sym c.is_open.ensures.gives ∙ c.if-is_open.true) c.check_split.ensures.right.view in
-    let open_now : is_open scope.file.sections u answer ≡ true = ap (is_open scope.file.sections u) (sym c.check_split.ensures.stay.answer) ∙ waiting in
+    let open_now : is_open scope.file.sections u answer ≡ true = ap (is_open scope.file.sections u) (sym c.check_split.ensures.after.answer) ∙ waiting in
     λ _. λ asks. (let no : false ≡ true = sym (open_asks scope x answer probe open_now) ∙ asks in absurd cc)
 
 pub returns-in_err-function-clause-gives : goal.returns-in_err-function-clause-gives
@@ -65,13 +65,13 @@ returns-in_err-function-clause-gives g c =
     let mid = c.check_split.new.self in
     let x = indexed_unit u c.args.unit.now in
     let answer = first_answer_of old in
-    let decided = looked_decides mid.view.state c.check_split.ensures.looked (sym c.is_open.ensures.gives ∙ c.if-is_open.false) in
-    let closed : is_open scope.file.sections u answer ≡ false = ap (is_open scope.file.sections u) (sym c.check_split.ensures.stay.answer) ∙ not_open scope u probe mid c.check_split.ensures.right decided in
+    let decided = looked_decides mid.view.state c.check_split.ensures.known (sym c.is_open.ensures.gives ∙ c.if-is_open.false) in
+    let closed : is_open scope.file.sections u answer ≡ false = ap (is_open scope.file.sections u) (sym c.check_split.ensures.after.answer) ∙ not_open scope u probe mid c.check_split.ensures.right decided in
     let p = err_from_is_err_and c.from_residual.result c.from_residual.ensures.1 in
-    rw (p.1, p.2) (λ ne. fault_frames scope x answer probe closed c.in_err-function.field-0.0 (ap (λ a. function_in scope u a probe) (sym c.check_split.ensures.stay.answer) ∙ c.in_err-function.ensures.gives ne))
+    rw (p.1, p.2) (λ ne. fault_frames scope x answer probe closed c.in_err-function.field-0.0 (ap (λ a. function_in scope u a probe) (sym c.check_split.ensures.after.answer) ∙ c.in_err-function.ensures.gives ne))
 
-pub returns-in_err-function-clause-stay : goal.returns-in_err-function-clause-stay
-returns-in_err-function-clause-stay g c =
+pub returns-in_err-function-clause-after : goal.returns-in_err-function-clause-after
+returns-in_err-function-clause-after g c =
     let scope = seen_scope c.args.scope in
     let u = c.args.dw_unit.now in
     let probe = c.args.probe in
@@ -79,10 +79,10 @@ returns-in_err-function-clause-stay g c =
     let mid = c.check_split.new.self in
     let x = indexed_unit u c.args.unit.now in
     let answer = first_answer_of old in
-    stay_after probe old mid c.check_split.ensures.functions c.check_split.ensures.same c.find_function.new.self c.check_split.ensures.stay c.find_function.ensures.stay
+    stay_after probe old mid c.check_split.ensures.functions c.check_split.ensures.kept c.find_function.new.self c.check_split.ensures.after c.find_function.ensures.after
 
-pub returns-in_err-function-clause-only : goal.returns-in_err-function-clause-only
-returns-in_err-function-clause-only g c =
+pub returns-in_err-function-clause-within : goal.returns-in_err-function-clause-within
+returns-in_err-function-clause-within g c =
     let scope = seen_scope c.args.scope in
     let u = c.args.dw_unit.now in
     let probe = c.args.probe in
@@ -90,10 +90,10 @@ returns-in_err-function-clause-only g c =
     let mid = c.check_split.new.self in
     let x = indexed_unit u c.args.unit.now in
     let answer = first_answer_of old in
-    only_after probe old mid c.check_split.ensures.functions c.check_split.ensures.same c.find_function.new.self c.find_function.ensures.only
+    only_after probe old mid c.check_split.ensures.functions c.check_split.ensures.kept c.find_function.new.self c.find_function.ensures.within
 
-pub returns-in_err-function-clause-parsed : goal.returns-in_err-function-clause-parsed
-returns-in_err-function-clause-parsed g c =
+pub returns-in_err-function-clause-known : goal.returns-in_err-function-clause-known
+returns-in_err-function-clause-known g c =
     let scope = seen_scope c.args.scope in
     let u = c.args.dw_unit.now in
     let probe = c.args.probe in
@@ -101,10 +101,10 @@ returns-in_err-function-clause-parsed g c =
     let mid = c.check_split.new.self in
     let x = indexed_unit u c.args.unit.now in
     let answer = first_answer_of old in
-    let decided = looked_decides mid.view.state c.check_split.ensures.looked (sym c.is_open.ensures.gives ∙ c.if-is_open.false) in
-    let closed : is_open scope.file.sections u answer ≡ false = ap (is_open scope.file.sections u) (sym c.check_split.ensures.stay.answer) ∙ not_open scope u probe mid c.check_split.ensures.right decided in
+    let decided = looked_decides mid.view.state c.check_split.ensures.known (sym c.is_open.ensures.gives ∙ c.if-is_open.false) in
+    let closed : is_open scope.file.sections u answer ≡ false = ap (is_open scope.file.sections u) (sym c.check_split.ensures.after.answer) ∙ not_open scope u probe mid c.check_split.ensures.right decided in
     let p = err_from_is_err_and c.from_residual.result c.from_residual.ensures.1 in
-    rw (p.1, p.2) (λ ne. λ asks. (let no : false ≡ true = sym (closed_asks scope x answer probe closed (Err c.in_err-function.field-0.0) (ap (λ a. function_in scope u a probe) (sym c.check_split.ensures.stay.answer) ∙ c.in_err-function.ensures.gives ne)) ∙ asks in absurd cc))
+    rw (p.1, p.2) (λ ne. λ asks. (let no : false ≡ true = sym (closed_asks scope x answer probe closed (Err c.in_err-function.field-0.0) (ap (λ a. function_in scope u a probe) (sym c.check_split.ensures.after.answer) ∙ c.in_err-function.ensures.gives ne)) ∙ asks in absurd cc))
 
 pub returns-in_err-row-clause-gives : goal.returns-in_err-row-clause-gives
 returns-in_err-row-clause-gives g c =
@@ -115,15 +115,15 @@ returns-in_err-row-clause-gives g c =
     let mid = c.check_split.new.self in
     let x = indexed_unit u c.args.unit.now in
     let answer = first_answer_of old in
-    let decided = looked_decides mid.view.state c.check_split.ensures.looked (sym c.is_open.ensures.gives ∙ c.if-is_open.false) in
-    let closed : is_open scope.file.sections u answer ≡ false = ap (is_open scope.file.sections u) (sym c.check_split.ensures.stay.answer) ∙ not_open scope u probe mid c.check_split.ensures.right decided in
+    let decided = looked_decides mid.view.state c.check_split.ensures.known (sym c.is_open.ensures.gives ∙ c.if-is_open.false) in
+    let closed : is_open scope.file.sections u answer ≡ false = ap (is_open scope.file.sections u) (sym c.check_split.ensures.after.answer) ∙ not_open scope u probe mid c.check_split.ensures.right decided in
     let f = option_map (function_of_place (cached_functions c.find_function.new.self.functions)) c.in_ok-function.function in
-    let found : function_in scope u answer probe ≡ Ok f = ap (λ a. function_in scope u a probe) (sym c.check_split.ensures.stay.answer) ∙ c.in_ok-function.ensures.gives in
+    let found : function_in scope u answer probe ≡ Ok f = ap (λ a. function_in scope u a probe) (sym c.check_split.ensures.after.answer) ∙ c.in_ok-function.ensures.gives in
     let p = err_from_is_err_and c.from_residual-in_err-row.result c.from_residual-in_err-row.ensures.1 in
     rw (p.1, p.2) (λ ne. lines_fault_frames scope x answer probe closed f found c.in_err-row.field-0.0 (c.in_err-row.ensures.gives ne))
 
-pub returns-in_err-row-clause-stay : goal.returns-in_err-row-clause-stay
-returns-in_err-row-clause-stay g c =
+pub returns-in_err-row-clause-after : goal.returns-in_err-row-clause-after
+returns-in_err-row-clause-after g c =
     let scope = seen_scope c.args.scope in
     let u = c.args.dw_unit.now in
     let probe = c.args.probe in
@@ -131,10 +131,10 @@ returns-in_err-row-clause-stay g c =
     let mid = c.check_split.new.self in
     let x = indexed_unit u c.args.unit.now in
     let answer = first_answer_of old in
-    stay_after probe old mid c.check_split.ensures.functions c.check_split.ensures.same c.find_function.new.self c.check_split.ensures.stay c.find_function.ensures.stay
+    stay_after probe old mid c.check_split.ensures.functions c.check_split.ensures.kept c.find_function.new.self c.check_split.ensures.after c.find_function.ensures.after
 
-pub returns-in_err-row-clause-only : goal.returns-in_err-row-clause-only
-returns-in_err-row-clause-only g c =
+pub returns-in_err-row-clause-within : goal.returns-in_err-row-clause-within
+returns-in_err-row-clause-within g c =
     let scope = seen_scope c.args.scope in
     let u = c.args.dw_unit.now in
     let probe = c.args.probe in
@@ -142,10 +142,10 @@ returns-in_err-row-clause-only g c =
     let mid = c.check_split.new.self in
     let x = indexed_unit u c.args.unit.now in
     let answer = first_answer_of old in
-    only_after probe old mid c.check_split.ensures.functions c.check_split.ensures.same c.find_function.new.self c.find_function.ensures.only
+    only_after probe old mid c.check_split.ensures.functions c.check_split.ensures.kept c.find_function.new.self c.find_function.ensures.within
 
-pub returns-in_err-row-clause-lines : goal.returns-in_err-row-clause-lines
-returns-in_err-row-clause-lines g c =
+pub returns-in_err-row-clause-kept : goal.returns-in_err-row-clause-kept
+returns-in_err-row-clause-kept g c =
     let scope = seen_scope c.args.scope in
     let u = c.args.dw_unit.now in
     let probe = c.args.probe in
@@ -153,10 +153,10 @@ returns-in_err-row-clause-lines g c =
     let mid = c.check_split.new.self in
     let x = indexed_unit u c.args.unit.now in
     let answer = first_answer_of old in
-    let decided = looked_decides mid.view.state c.check_split.ensures.looked (sym c.is_open.ensures.gives ∙ c.if-is_open.false) in
-    let closed : is_open scope.file.sections u answer ≡ false = ap (is_open scope.file.sections u) (sym c.check_split.ensures.stay.answer) ∙ not_open scope u probe mid c.check_split.ensures.right decided in
+    let decided = looked_decides mid.view.state c.check_split.ensures.known (sym c.is_open.ensures.gives ∙ c.if-is_open.false) in
+    let closed : is_open scope.file.sections u answer ≡ false = ap (is_open scope.file.sections u) (sym c.check_split.ensures.after.answer) ∙ not_open scope u probe mid c.check_split.ensures.right decided in
     let f = option_map (function_of_place (cached_functions c.find_function.new.self.functions)) c.in_ok-function.function in
-    let found : function_in scope u answer probe ≡ Ok f = ap (λ a. function_in scope u a probe) (sym c.check_split.ensures.stay.answer) ∙ c.in_ok-function.ensures.gives in
+    let found : function_in scope u answer probe ≡ Ok f = ap (λ a. function_in scope u a probe) (sym c.check_split.ensures.after.answer) ∙ c.in_ok-function.ensures.gives in
     λ none. (let no : true ≡ false = sym (closed_asks scope x answer probe closed (Ok f) found) ∙ none in absurd cc)
 
 pub returns-in_err-row-clause-memory : goal.returns-in_err-row-clause-memory
@@ -168,10 +168,10 @@ returns-in_err-row-clause-memory g c =
     let mid = c.check_split.new.self in
     let x = indexed_unit u c.args.unit.now in
     let answer = first_answer_of old in
-    let decided = looked_decides mid.view.state c.check_split.ensures.looked (sym c.is_open.ensures.gives ∙ c.if-is_open.false) in
-    let closed : is_open scope.file.sections u answer ≡ false = ap (is_open scope.file.sections u) (sym c.check_split.ensures.stay.answer) ∙ not_open scope u probe mid c.check_split.ensures.right decided in
+    let decided = looked_decides mid.view.state c.check_split.ensures.known (sym c.is_open.ensures.gives ∙ c.if-is_open.false) in
+    let closed : is_open scope.file.sections u answer ≡ false = ap (is_open scope.file.sections u) (sym c.check_split.ensures.after.answer) ∙ not_open scope u probe mid c.check_split.ensures.right decided in
     let f = option_map (function_of_place (cached_functions c.find_function.new.self.functions)) c.in_ok-function.function in
-    let found : function_in scope u answer probe ≡ Ok f = ap (λ a. function_in scope u a probe) (sym c.check_split.ensures.stay.answer) ∙ c.in_ok-function.ensures.gives in
+    let found : function_in scope u answer probe ≡ Ok f = ap (λ a. function_in scope u a probe) (sym c.check_split.ensures.after.answer) ∙ c.in_ok-function.ensures.gives in
     let p = err_from_is_err_and c.from_residual-in_err-row.result c.from_residual-in_err-row.ensures.1 in
     rw (p.1, p.2) (λ has. λ parsed. λ few. c.in_err-row.ensures.memory (parsed (closed_asks scope x answer probe closed (Ok f) found)))
 
@@ -184,13 +184,13 @@ returns-clause-gives g c =
     let mid = c.check_split.new.self in
     let x = indexed_unit u c.args.unit.now in
     let answer = first_answer_of old in
-    let decided = looked_decides mid.view.state c.check_split.ensures.looked (sym c.is_open.ensures.gives ∙ c.if-is_open.false) in
-    let closed : is_open scope.file.sections u answer ≡ false = ap (is_open scope.file.sections u) (sym c.check_split.ensures.stay.answer) ∙ not_open scope u probe mid c.check_split.ensures.right decided in
+    let decided = looked_decides mid.view.state c.check_split.ensures.known (sym c.is_open.ensures.gives ∙ c.if-is_open.false) in
+    let closed : is_open scope.file.sections u answer ≡ false = ap (is_open scope.file.sections u) (sym c.check_split.ensures.after.answer) ∙ not_open scope u probe mid c.check_split.ensures.right decided in
     let f = option_map (function_of_place (cached_functions c.find_function.new.self.functions)) c.in_ok-function.function in
-    let found : function_in scope u answer probe ≡ Ok f = ap (λ a. function_in scope u a probe) (sym c.check_split.ensures.stay.answer) ∙ c.in_ok-function.ensures.gives in
-    let here = lines_frames scope x answer probe closed f found c.find_row.new.self.lines c.in_ok-row.row c.find_row.ensures.read c.in_ok-row.ensures.caches c.in_ok-row.ensures.gives in
+    let found : function_in scope u answer probe ≡ Ok f = ap (λ a. function_in scope u a probe) (sym c.check_split.ensures.after.answer) ∙ c.in_ok-function.ensures.gives in
+    let here = lines_frames scope x answer probe closed f found c.find_row.new.self.lines c.in_ok-row.row c.find_row.ensures.read c.in_ok-row.ensures.known c.in_ok-row.ensures.gives in
     let l = c.find_row.new.self.lines in
-    here.1 ∙ ap (λ language. Ok (Some (found_frames (cached_files l) language f (option_map (location_of_row (cached_files l)) c.in_ok-row.row)))) (sym c.find_row.ensures.stays.language)
+    here.1 ∙ ap (λ language. Ok (Some (found_frames (cached_files l) language f (option_map (location_of_row (cached_files l)) c.in_ok-row.row)))) (sym c.find_row.ensures.after.language)
 
 pub returns-clause-there : goal.returns-clause-there
 returns-clause-there g c =
@@ -201,15 +201,15 @@ returns-clause-there g c =
     let mid = c.check_split.new.self in
     let x = indexed_unit u c.args.unit.now in
     let answer = first_answer_of old in
-    let decided = looked_decides mid.view.state c.check_split.ensures.looked (sym c.is_open.ensures.gives ∙ c.if-is_open.false) in
-    let closed : is_open scope.file.sections u answer ≡ false = ap (is_open scope.file.sections u) (sym c.check_split.ensures.stay.answer) ∙ not_open scope u probe mid c.check_split.ensures.right decided in
+    let decided = looked_decides mid.view.state c.check_split.ensures.known (sym c.is_open.ensures.gives ∙ c.if-is_open.false) in
+    let closed : is_open scope.file.sections u answer ≡ false = ap (is_open scope.file.sections u) (sym c.check_split.ensures.after.answer) ∙ not_open scope u probe mid c.check_split.ensures.right decided in
     let f = option_map (function_of_place (cached_functions c.find_function.new.self.functions)) c.in_ok-function.function in
-    let found : function_in scope u answer probe ≡ Ok f = ap (λ a. function_in scope u a probe) (sym c.check_split.ensures.stay.answer) ∙ c.in_ok-function.ensures.gives in
-    let here = lines_frames scope x answer probe closed f found c.find_row.new.self.lines c.in_ok-row.row c.find_row.ensures.read c.in_ok-row.ensures.caches c.in_ok-row.ensures.gives in
+    let found : function_in scope u answer probe ≡ Ok f = ap (λ a. function_in scope u a probe) (sym c.check_split.ensures.after.answer) ∙ c.in_ok-function.ensures.gives in
+    let here = lines_frames scope x answer probe closed f found c.find_row.new.self.lines c.in_ok-row.row c.find_row.ensures.read c.in_ok-row.ensures.known c.in_ok-row.ensures.gives in
     (c.in_ok-function.ensures.there, here.0)
 
-pub returns-clause-stay : goal.returns-clause-stay
-returns-clause-stay g c =
+pub returns-clause-after : goal.returns-clause-after
+returns-clause-after g c =
     let scope = seen_scope c.args.scope in
     let u = c.args.dw_unit.now in
     let probe = c.args.probe in
@@ -217,10 +217,10 @@ returns-clause-stay g c =
     let mid = c.check_split.new.self in
     let x = indexed_unit u c.args.unit.now in
     let answer = first_answer_of old in
-    stay_after probe old mid c.check_split.ensures.functions c.check_split.ensures.same c.find_function.new.self c.check_split.ensures.stay c.find_function.ensures.stay
+    stay_after probe old mid c.check_split.ensures.functions c.check_split.ensures.kept c.find_function.new.self c.check_split.ensures.after c.find_function.ensures.after
 
-pub returns-clause-only : goal.returns-clause-only
-returns-clause-only g c =
+pub returns-clause-within : goal.returns-clause-within
+returns-clause-within g c =
     let scope = seen_scope c.args.scope in
     let u = c.args.dw_unit.now in
     let probe = c.args.probe in
@@ -228,10 +228,10 @@ returns-clause-only g c =
     let mid = c.check_split.new.self in
     let x = indexed_unit u c.args.unit.now in
     let answer = first_answer_of old in
-    only_after probe old mid c.check_split.ensures.functions c.check_split.ensures.same c.find_function.new.self c.find_function.ensures.only
+    only_after probe old mid c.check_split.ensures.functions c.check_split.ensures.kept c.find_function.new.self c.find_function.ensures.within
 
-pub returns-clause-lines : goal.returns-clause-lines
-returns-clause-lines g c =
+pub returns-clause-kept : goal.returns-clause-kept
+returns-clause-kept g c =
     let scope = seen_scope c.args.scope in
     let u = c.args.dw_unit.now in
     let probe = c.args.probe in
@@ -239,10 +239,10 @@ returns-clause-lines g c =
     let mid = c.check_split.new.self in
     let x = indexed_unit u c.args.unit.now in
     let answer = first_answer_of old in
-    let decided = looked_decides mid.view.state c.check_split.ensures.looked (sym c.is_open.ensures.gives ∙ c.if-is_open.false) in
-    let closed : is_open scope.file.sections u answer ≡ false = ap (is_open scope.file.sections u) (sym c.check_split.ensures.stay.answer) ∙ not_open scope u probe mid c.check_split.ensures.right decided in
+    let decided = looked_decides mid.view.state c.check_split.ensures.known (sym c.is_open.ensures.gives ∙ c.if-is_open.false) in
+    let closed : is_open scope.file.sections u answer ≡ false = ap (is_open scope.file.sections u) (sym c.check_split.ensures.after.answer) ∙ not_open scope u probe mid c.check_split.ensures.right decided in
     let f = option_map (function_of_place (cached_functions c.find_function.new.self.functions)) c.in_ok-function.function in
-    let found : function_in scope u answer probe ≡ Ok f = ap (λ a. function_in scope u a probe) (sym c.check_split.ensures.stay.answer) ∙ c.in_ok-function.ensures.gives in
+    let found : function_in scope u answer probe ≡ Ok f = ap (λ a. function_in scope u a probe) (sym c.check_split.ensures.after.answer) ∙ c.in_ok-function.ensures.gives in
     λ none. (let no : true ≡ false = sym (closed_asks scope x answer probe closed (Ok f) found) ∙ none in absurd cc)
 
 pub returns-then-is_open-clause-memory : goal.returns-then-is_open-clause-memory
@@ -256,23 +256,23 @@ returns-in_err-function-clause-ready g c =
 pub returns-in_err-function-clause-memory : goal.returns-in_err-function-clause-memory
 returns-in_err-function-clause-memory g c =
     let p = err_from_is_err_and c.from_residual.result c.from_residual.ensures.1 in
-    rw (p.1, p.2) (λ has. λ parsed. λ few. c.in_err-function.ensures.memory has (ap (λ a. exceeds_inline_room (inlined_of_unit (seen_scope c.args.scope) c.args.dw_unit.now a c.args.probe)) c.check_split.ensures.stay.answer ∙ few))
+    rw (p.1, p.2) (λ has. λ parsed. λ few. c.in_err-function.ensures.memory has (ap (λ a. exceeds_inline_room (inlined_of_unit (seen_scope c.args.scope) c.args.dw_unit.now a c.args.probe)) c.check_split.ensures.after.answer ∙ few))
 
 pub returns-in_err-row-clause-ready : goal.returns-in_err-row-clause-ready
 returns-in_err-row-clause-ready g c =
     let p = err_from_is_err_and c.from_residual-in_err-row.result c.from_residual-in_err-row.ensures.1 in
     rw (p.1, p.2) (λ ne. c.in_ok-function.ensures.ready tt)
 
-pub returns-in_err-row-clause-parsed : goal.returns-in_err-row-clause-parsed
-returns-in_err-row-clause-parsed g c =
+pub returns-in_err-row-clause-known : goal.returns-in_err-row-clause-known
+returns-in_err-row-clause-known g c =
     let p = err_from_is_err_and c.from_residual-in_err-row.result c.from_residual-in_err-row.ensures.1 in
-    rw (p.1, p.2) (λ ne. λ asks. c.in_err-row.ensures.caches.0 ne)
+    rw (p.1, p.2) (λ ne. λ asks. c.in_err-row.ensures.known.0 ne)
 
 pub returns-clause-ready : goal.returns-clause-ready
 returns-clause-ready g c = λ ne. c.in_ok-function.ensures.ready tt
 
-pub returns-clause-parsed : goal.returns-clause-parsed
-returns-clause-parsed g c = λ ne. λ asks. c.in_ok-row.ensures.caches
+pub returns-clause-known : goal.returns-clause-known
+returns-clause-known g c = λ ne. λ asks. c.in_ok-row.ensures.known
 
 pub returns-clause-memory : goal.returns-clause-memory
 returns-clause-memory g c = λ has. λ parsed. λ few. tt
@@ -289,13 +289,13 @@ returns-in_err-function-clause-no_memory g c =
     let mid = c.check_split.new.self in
     let x = indexed_unit u c.args.unit.now in
     let answer = first_answer_of old in
-    let decided = looked_decides mid.view.state c.check_split.ensures.looked (sym c.is_open.ensures.gives ∙ c.if-is_open.false) in
-    let closed : is_open scope.file.sections u answer ≡ false = ap (is_open scope.file.sections u) (sym c.check_split.ensures.stay.answer) ∙ not_open scope u probe mid c.check_split.ensures.right decided in
+    let decided = looked_decides mid.view.state c.check_split.ensures.known (sym c.is_open.ensures.gives ∙ c.if-is_open.false) in
+    let closed : is_open scope.file.sections u answer ≡ false = ap (is_open scope.file.sections u) (sym c.check_split.ensures.after.answer) ∙ not_open scope u probe mid c.check_split.ensures.right decided in
     let p = err_from_is_err_and c.from_residual.result c.from_residual.ensures.1 in
     let e = c.in_err-function.field-0.0 in
     let shares = g.R.Reader.shares in
-    rw (p.1, p.2) (λ none. fault_frames scope x answer probe closed e (ap (λ a. function_in scope u a probe) (sym c.check_split.ensures.stay.answer)
-    ∙ function_alone shares scope u (first_answer_of mid) probe c.args.unit.now c.find_function.new.self e (subst (λ a. AsksNoMemoryIn shares scope u a probe c.args.unit.now c.find_function.new.self) (sym c.check_split.ensures.stay.answer) none)
+    rw (p.1, p.2) (λ none. fault_frames scope x answer probe closed e (ap (λ a. function_in scope u a probe) (sym c.check_split.ensures.after.answer)
+    ∙ function_alone shares scope u (first_answer_of mid) probe c.args.unit.now c.find_function.new.self e (subst (λ a. AsksNoMemoryIn shares scope u a probe c.args.unit.now c.find_function.new.self) (sym c.check_split.ensures.after.answer) none)
     c.in_err-function.ensures.memory c.in_err-function.ensures.gives c.in_err-function.ensures.no_memory))
 
 pub returns-in_err-row-clause-no_memory : goal.returns-in_err-row-clause-no_memory
@@ -307,10 +307,10 @@ returns-in_err-row-clause-no_memory g c =
     let mid = c.check_split.new.self in
     let x = indexed_unit u c.args.unit.now in
     let answer = first_answer_of old in
-    let decided = looked_decides mid.view.state c.check_split.ensures.looked (sym c.is_open.ensures.gives ∙ c.if-is_open.false) in
-    let closed : is_open scope.file.sections u answer ≡ false = ap (is_open scope.file.sections u) (sym c.check_split.ensures.stay.answer) ∙ not_open scope u probe mid c.check_split.ensures.right decided in
+    let decided = looked_decides mid.view.state c.check_split.ensures.known (sym c.is_open.ensures.gives ∙ c.if-is_open.false) in
+    let closed : is_open scope.file.sections u answer ≡ false = ap (is_open scope.file.sections u) (sym c.check_split.ensures.after.answer) ∙ not_open scope u probe mid c.check_split.ensures.right decided in
     let f = option_map (function_of_place (cached_functions c.find_function.new.self.functions)) c.in_ok-function.function in
-    let found : function_in scope u answer probe ≡ Ok f = ap (λ a. function_in scope u a probe) (sym c.check_split.ensures.stay.answer) ∙ c.in_ok-function.ensures.gives in
+    let found : function_in scope u answer probe ≡ Ok f = ap (λ a. function_in scope u a probe) (sym c.check_split.ensures.after.answer) ∙ c.in_ok-function.ensures.gives in
     let p = err_from_is_err_and c.from_residual-in_err-row.result c.from_residual-in_err-row.ensures.1 in
     let e = c.in_err-row.field-0.0 in
     let shares = g.R.Reader.shares in

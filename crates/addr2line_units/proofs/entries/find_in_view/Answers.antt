@@ -11,8 +11,8 @@ use Rattle.addr2line_units.proofs.EntryLemmas.{exactly_unless_oom, fault_entries
 use Rattle.addr2line_units.proofs.CachedPlaceLemmas.{cached_is_not_oom, cached_unless_oom}
 use Rattle.addr2line_units.proofs.entries.find_in_view.Goals as goal
 
-pub returns-in_err-unit-clause-stay : goal.returns-in_err-unit-clause-stay
-returns-in_err-unit-clause-stay g c =
+pub returns-in_err-unit-clause-after : goal.returns-in_err-unit-clause-after
+returns-in_err-unit-clause-after g c =
     functions_stay (seen_scope c.args.scope) c.args.dw_unit.now c.args.functions.now
 
 pub returns-in_err-unit-clause-ready : goal.returns-in_err-unit-clause-ready
@@ -39,7 +39,7 @@ returns-in_err-unit-clause-memory g c =
 
 pub find-requires-clause-in_order : goal.find-requires-clause-in_order
 find-requires-clause-in_order g c =
-    c.scope_of.ensures.in_order c.requires.in_order
+    c.scope_of.ensures.right c.requires.in_order
 
 pub find-requires-clause-right : goal.find-requires-clause-right
 find-requires-clause-right g c =
@@ -74,8 +74,8 @@ returns-clause-right g c =
     let v = view_known scope u probe old c.requires.right c.requires.decided c.in_ok-unit.unit.dwarf.now x inner c.in_ok-unit.ensures.gives (c.scope_of.ensures.gives scope.file.sections u c.requires.right.view) in
     functions_keep scope u probe old c.requires.right c.requires.decided inner x v c.find.new.self c.find.ensures.right
 
-pub returns-clause-same : goal.returns-clause-same
-returns-clause-same g c =
+pub returns-clause-kept : goal.returns-clause-kept
+returns-clause-kept g c =
     let scope = seen_scope c.args.scope in
     let u = c.args.dw_unit.now in
     let probe = c.args.probe in

@@ -13,24 +13,24 @@ use Rattle.addr2line_units.proofs.entries.read_functions.Goals as goal
 pub returns-in_ok-new-in-Some-clause-right : goal.returns-in_ok-new-in-Some-clause-right
 returns-in_ok-new-in-Some-clause-right g c =
     subst (IsTableOf (seen_scope c.args.scope) c.args.view.now) (sym c.in_ok-new-in-Some.ensures.ok)
-    (read_table (seen_scope c.args.scope) c.args.view.now c.new.result.dwarf.now c.new.result.unit.now c.in-Ok.functions c.new.ensures.dwarf c.new.ensures.unit c.in-Ok.ensures.gives c.in-Ok.ensures.listed c.in-Ok.ensures.unread c.in-Ok.ensures.names)
+    (read_table (seen_scope c.args.scope) c.args.view.now c.new.result.dwarf.now c.new.result.unit.now c.in-Ok.functions c.new.ensures.dwarf c.new.ensures.unit c.in-Ok.ensures.gives c.in-Ok.ensures.right c.in-Ok.ensures.empty c.in-Ok.ensures.names)
 
 pub returns-in-None-clause-right : goal.returns-in-None-clause-right
 returns-in-None-clause-right g c =
-    let table = read_table (seen_scope c.args.scope) c.args.view.now c.new.result.dwarf.now c.new.result.unit.now c.in-Ok.functions c.new.ensures.dwarf c.new.ensures.unit c.in-Ok.ensures.gives c.in-Ok.ensures.listed c.in-Ok.ensures.unread c.in-Ok.ensures.names in
-    table.ranges ∙ ap Ok (no_ranges c.in-Ok.functions c.in-Ok.ensures.listed (sym c.in-None.ensures.gives))
+    let table = read_table (seen_scope c.args.scope) c.args.view.now c.new.result.dwarf.now c.new.result.unit.now c.in-Ok.functions c.new.ensures.dwarf c.new.ensures.unit c.in-Ok.ensures.gives c.in-Ok.ensures.right c.in-Ok.ensures.empty c.in-Ok.ensures.names in
+    table.ranges ∙ ap Ok (no_ranges c.in-Ok.functions c.in-Ok.ensures.right (sym c.in-None.ensures.gives))
 
 pub returns-in_err-new-in-Some-clause-memory : goal.returns-in_err-new-in-Some-clause-memory
 returns-in_err-new-in-Some-clause-memory g c =
     let p = err_from_is_err_and c.from_residual.result c.from_residual.ensures.1 in
-    let table = read_table (seen_scope c.args.scope) c.args.view.now c.new.result.dwarf.now c.new.result.unit.now c.in-Ok.functions c.new.ensures.dwarf c.new.ensures.unit c.in-Ok.ensures.gives c.in-Ok.ensures.listed c.in-Ok.ensures.unread c.in-Ok.ensures.names in
+    let table = read_table (seen_scope c.args.scope) c.args.view.now c.new.result.dwarf.now c.new.result.unit.now c.in-Ok.functions c.new.ensures.dwarf c.new.ensures.unit c.in-Ok.ensures.gives c.in-Ok.ensures.right c.in-Ok.ensures.empty c.in-Ok.ensures.names in
     rw (p.1, p.2) (λ none. absurd (false≢true (sym none ∙ functions_took g.R.Reader.shares (seen_scope c.args.scope) c.args.view.now c.in-Ok.functions table _ c.in-Some.ensures.gives)))
 
 pub returns-in_default : goal.returns-in_default
 returns-in_default g c = record {
   right = read_fault_of (seen_scope c.args.scope) c.args.view.now c.new.result.dwarf.now c.new.result.unit.now c.in-Err.error c.new.ensures.dwarf c.new.ensures.unit (c.in-Err.ensures.gives (λ _. c.in_default.not-OutOfMemory));
   read = refl;
-  unread = tt;
+  empty = tt;
   refused = tt;
   memory = tt;
 }

@@ -3,4 +3,4 @@ use Rattle.addr2line_units.proofs.ReachedLemmas.{reached_all}
 use Rattle.addr2line_units.proofs.laws.function_parse_laws.Goals as goal
 
 pub returns : goal.returns
-returns c = record { reached = reached_all; again = reads_again }
+returns c = record { law = record { reached = reached_all; again = reads_again } }

@@ -2,4 +2,4 @@ use Rattle.addr2line_units.proofs.LegacyProofs.{finds_names, finds_only_names, h
 use Rattle.addr2line_units.proofs.laws.legacy_name_laws.Goals as goal
 
 pub returns : goal.returns
-returns c = record { found = finds_names; only = finds_only_names; one = has_one_text }
+returns c = record { law = record { found = finds_names; only = finds_only_names; one = has_one_text } }

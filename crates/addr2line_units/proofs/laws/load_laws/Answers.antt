@@ -3,8 +3,10 @@ use Rattle.addr2line_units.proofs.laws.load_laws.Goals as goal
 
 pub returns : goal.returns
 returns c = record {
-  listed = waits_listed;
-  none = never_waits_alone;
-  others = others_left;
-  fewer = fewer_left;
+  law = record {
+    listed = waits_listed;
+    none = never_waits_alone;
+    others = others_left;
+    fewer = fewer_left;
+  };
 }

@@ -26,7 +26,7 @@ loop-units-preserved g c =
     record {
       gives = rw (c.in_ok-push_sup_unit.ensures.gives, i.same) (sym (sup_more c.args.dwarf.now c.loop-units.units.items _ _ _ left) ∙ i.gives);
       some = λ e. i.some (takes_rest (has_abbreviations c.args.dwarf.now) _ _ _ left e);
-      same = c.in_ok-push_sup_unit.ensures.same ∙ i.same;
+      same = c.in_ok-push_sup_unit.ensures.dwarf ∙ i.same;
     }
 
 pub returns-in_err-push_sup_unit : goal.returns-in_err-push_sup_unit

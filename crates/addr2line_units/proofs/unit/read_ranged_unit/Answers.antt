@@ -1,7 +1,7 @@
 use Rattle.addr2line_units.proofs.unit.read_ranged_unit.Goals as goal
 
-pub returns-clause-unparsed : goal.returns-clause-unparsed
-returns-clause-unparsed g c = record {
-  uncached = c.lines_at_first-lines.ensures.uncached;
+pub returns-clause-empty : goal.returns-clause-empty
+returns-clause-empty g c = record {
+  uncached = c.lines_at_first-lines.ensures.gives;
   lines = c.lines_at_first-lines.ensures.read _;
 }

@@ -16,8 +16,8 @@ loop-index-init g c =
       gives = ap (λ m. units_of (unit_of_header d aranges) c.in_ok-headers.headers >>= λ units. Ok (appended d m units)) c.new-index.ensures.none ∙ ap (λ headers. units_of (unit_of_header d aranges) headers >>= λ units. Ok (index_of d units)) all;
       some = λ e. some_headers g.R.Reader.shares (indexed_unit_takes_memory d) d (ap (some_take_memory (indexed_unit_takes_memory d)) (sym all) ∙ e);
       same = search rules;
-      read = rw (c.new-index.ensures.dw_units, c.new-index.ensures.caches) tt;
-      fresh = rw (c.new-index.ensures.dw_units, c.new-index.ensures.caches) tt;
+      read = rw (c.new-index.ensures.empty.1, c.new-index.ensures.empty.2) tt;
+      fresh = rw (c.new-index.ensures.empty.1, c.new-index.ensures.empty.2) tt;
     }
 
 pub loop-index-smaller : goal.loop-index-smaller
@@ -32,9 +32,9 @@ loop-index-preserved g c =
     record {
       gives = sym (index_more c.args.dwarf.now c.args.aranges.now (index_seen c.loop-index.index) _ _ _ _ left c.in_ok-take.ensures.gives) ∙ i.gives;
       some = λ e. i.some (takes_rest (indexed_unit_takes_memory c.args.dwarf.now) _ _ _ left e);
-      same = c.in_ok-take.ensures.same;
+      same = c.in_ok-take.ensures.dwarf;
       read = c.in_ok-take.ensures.read;
-      fresh = c.in_ok-take.ensures.fresh;
+      fresh = c.in_ok-take.ensures.empty;
     }
 
 pub returns-in_err-take-clause-gives : goal.returns-in_err-take-clause-gives

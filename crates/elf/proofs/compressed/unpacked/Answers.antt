@@ -3,8 +3,8 @@ use Rattle.inflate.proofs.FaultLemmas.{inflated_by_bytes}
 use Rattle.inflate.proofs.OutputLemmas.{byte_takes_memory}
 use Rattle.elf.proofs.compressed.unpacked.Goals as goal
 
-pub returns-else-len-size-clause-some : goal.returns-else-len-size-clause-some
-returns-else-len-size-clause-some c = λ some. byte_takes_memory c.args.size c.args.text.now c.in-Ok.bytes.items c.in-Ok.ensures.gives some
+pub returns-else-len-size-clause-memory : goal.returns-else-len-size-clause-memory
+returns-else-len-size-clause-memory c = λ some. byte_takes_memory c.args.size c.args.text.now c.in-Ok.bytes.items c.in-Ok.ensures.gives some
 
 pub returns-in-Err-OutOfMemory-clause-gives : goal.returns-in-Err-OutOfMemory-clause-gives
 returns-in-Err-OutOfMemory-clause-gives c =

@@ -10,7 +10,7 @@ returns-then-count-eq0 c =
     record {
       found = λ symbols is.
           let table = c.args.table.now in
-          let split = c.count_below-count.ensures.split (rises symbols table is) in
+          let split = c.count_below-count.ensures.gives (rises symbols table is) in
           let above : ℕ → Type 0 = λ k. AllWithin (IsAbove c.args.probe) table k (length table) in
           let zero : c.count_below-count.result ≡ 0 = omega arith in
           nearest_none symbols table c.args.probe is (subst above zero split.1);
@@ -23,7 +23,7 @@ returns c =
           let table = c.args.table.now in
           let count = c.count_below-count.result in
           let n = count - 1 in
-          let split = c.count_below-count.ensures.split (rises symbols table is) in
+          let split = c.count_below-count.ensures.gives (rises symbols table is) in
           let next : count ≡ suc n = omega arith in
           let less : n < length table = (let b = c.count_below-count.ensures.bound in omega arith) in
           let below : ℕ → Type 0 = λ k. AllWithin (IsBelow c.args.probe) table 0 k in

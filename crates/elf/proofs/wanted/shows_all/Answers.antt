@@ -34,4 +34,4 @@ returns c =
     sym (c.shows_tables.ensures.gives ∙ ap (λ (ss : List SectionHeader). by_tables ss nt) (c.deref-2.ensures.value ∙ sections_are) ∙ ap (by_tables f.sections) names_are) ∙ c.if-not-shows_tables.false in
     let sections : c.shows_sections.result ≡ shows_sections image f =
     c.shows_sections.ensures.gives ∙ ap (λ (ss : List SectionHeader). by_sections ss nt) (c.deref-3.ensures.value ∙ sections_are) ∙ ap (by_sections f.sections) names_are in
-    record { exact = sections ∙ sym (ap (λ (b : Bool). b && (is_held h.start (h.count * l.section_size) image && (shows_tables image f && shows_sections image f))) first ∙ ap (λ (b : Bool). b && (shows_tables image f && shows_sections image f)) headers ∙ ap (λ (b : Bool). b && shows_sections image f) tables) }
+    record { gives = sections ∙ sym (ap (λ (b : Bool). b && (is_held h.start (h.count * l.section_size) image && (shows_tables image f && shows_sections image f))) first ∙ ap (λ (b : Bool). b && (shows_tables image f && shows_sections image f)) headers ∙ ap (λ (b : Bool). b && shows_sections image f) tables) }

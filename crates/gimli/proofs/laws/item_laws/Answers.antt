@@ -4,14 +4,12 @@ use Rattle.gimli.proofs.ItemTexts.{items_cover}
 use Rattle.gimli.proofs.SubtreeLemmas.{subtrees_close}
 use Rattle.gimli.proofs.laws.item_laws.Goals as goal
 
-pub returns-clause-cover : goal.returns-clause-cover
-returns-clause-cover c = items_cover
-
-pub returns-clause-alone : goal.returns-clause-alone
-returns-clause-alone c = items_alone
-
-pub returns-clause-deeper : goal.returns-clause-deeper
-returns-clause-deeper c = subtrees_lie_deeper
-
-pub returns-clause-close : goal.returns-clause-close
-returns-clause-close c = subtrees_close
+pub returns : goal.returns
+returns c = record {
+  law = record {
+    cover = items_cover;
+    alone = items_alone;
+    deeper = subtrees_lie_deeper;
+    close = subtrees_close;
+  };
+}

@@ -2,4 +2,4 @@ use Rattle.gimli_line.proofs.Rising.{rows_rise}
 use Rattle.gimli_line.proofs.laws.rows_laws.Goals as goal
 
 pub returns : goal.returns
-returns c = record { rise = rows_rise }
+returns c = record { law = rows_rise }

@@ -25,8 +25,8 @@ returns-in_err-row-clause-memory g c =
     sym c.loop-program.invariant.left
     ∙ left_step_fault h c.loop-program.registers _ _ _ _ none c.in_ok-code.ensures.gives (c.in_err-row.ensures.gives (λ t. absurd (cc (t, f)))))
 
-pub returns-in_err-row-clause-header : goal.returns-in_err-row-clause-header
-returns-in_err-row-clause-header g c =
+pub returns-in_err-row-clause-after : goal.returns-in_err-row-clause-after
+returns-in_err-row-clause-after g c =
     let p = err_from_is_err_and c.from_residual-in_err-row.result c.from_residual-in_err-row.ensures.1 in
     let none = sym c.is_empty.ensures.gives ∙ c.loop-program-test.true in
     let h = c.loop-program.header in
@@ -43,8 +43,8 @@ returns-in-Some-clause-gives g c =
     let w = step_whole c.loop-program.header c.loop-program.registers _ _ _ _ _ _ _ none c.in_ok-code.ensures.gives k in
     sym c.loop-program.invariant.left ∙ left_more c.loop-program.header c.loop-program.registers _ _ w.instruction _ _ _ w.read w.took
 
-pub returns-in-Some-clause-header : goal.returns-in-Some-clause-header
-returns-in-Some-clause-header g c =
+pub returns-in-Some-clause-after : goal.returns-in-Some-clause-after
+returns-in-Some-clause-after g c =
     let none = sym c.is_empty.ensures.gives ∙ c.loop-program-test.true in
     let k = rw c.in-Some.is at c.in_ok-row.ensures.gives in
     let w = step_whole c.loop-program.header c.loop-program.registers _ _ _ _ _ _ _ none c.in_ok-code.ensures.gives k in
@@ -73,7 +73,7 @@ loop-program-preserved g c =
     let h = c.loop-program.header in
     let w = step_whole h c.loop-program.registers _ _ _ _ _ _ _ none c.in_ok-code.ensures.gives k in
     record {
-      running = c.in_ok-row.ensures.running;
+      running = c.in_ok-row.ensures.right;
       left = sym (left_more h c.loop-program.registers _ _ w.instruction None _ _ w.read w.took) ∙ c.loop-program.invariant.left;
       ahead = defined_more _ _ h c.loop-program.registers _ _ w.instruction _ _ c.loop-program.invariant.ahead w.read w.took;
       files = defines_more _ _ h c.loop-program.registers _ _ w.instruction _ _ _ c.loop-program.invariant.files w.read w.took;
@@ -85,8 +85,8 @@ returns-clause-gives g c =
     let i = at_empty h _ (sym c.is_empty.ensures.gives ∙ c.loop-program-test.false) in
     (sym c.loop-program.invariant.left ∙ left_end h c.loop-program.registers _ _ i, left_end h c.loop-program.registers _ _ i)
 
-pub returns-clause-header : goal.returns-clause-header
-returns-clause-header g c =
+pub returns-clause-after : goal.returns-clause-after
+returns-clause-after g c =
     let h = c.loop-program.header in
     let i = at_empty h _ (sym c.is_empty.ensures.gives ∙ c.loop-program-test.false) in
     defined_all _ _ _ _ c.loop-program.invariant.ahead (ahead_end h c.loop-program.registers _ _ i)

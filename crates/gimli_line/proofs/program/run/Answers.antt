@@ -11,8 +11,8 @@ returns-clause-gives g c =
     let i = at_empty h _ (sym c.is_empty.ensures.gives ∙ c.loop-header-test.false) in
     c.loop-header.invariant.passes.fault ∙ ap fault_after (left_end h c.loop-header.registers _ _ i)
 
-pub returns-clause-taken : goal.returns-clause-taken
-returns-clause-taken g c =
+pub returns-clause-after : goal.returns-clause-after
+returns-clause-after g c =
     let h = c.loop-header.header in
     let i = at_empty h _ (sym c.is_empty.ensures.gives ∙ c.loop-header-test.false) in
     sym (c.loop-header.invariant.passes.rows ∙ ap (all_taken g.S.RowSink.taken c.loop-header.sink) (left_end h c.loop-header.registers _ _ i))
@@ -23,8 +23,8 @@ returns-clause-files g c =
     let i = at_empty h _ (sym c.is_empty.ensures.gives ∙ c.loop-header-test.false) in
     sym (c.loop-header.invariant.passes.files.0 ∙ ap (λ files. h.file_names ++ files) (files_end h _ _ i) ∙ append-nil h.file_names)
 
-pub returns-clause-at_once : goal.returns-clause-at_once
-returns-clause-at_once g c = λ e ahead left.
+pub returns-clause-exact : goal.returns-clause-exact
+returns-clause-exact g c = λ e ahead left.
     let h = c.loop-header.header in
     let i = at_empty h _ (sym c.is_empty.ensures.gives ∙ c.loop-header-test.false) in
     let none = left_end h c.loop-header.registers _ _ i in

@@ -7,14 +7,14 @@ use Rattle.gimli_line.proofs.FirstOpcode.{at}
 use Rattle.gimli_line.proofs.Passing.{skipped_is}
 use Rattle.gimli_line.proofs.program.take_frequent.Goals as goal
 
-pub returns-in_err-len-clause-at_once : goal.returns-in_err-len-clause-at_once
-returns-in_err-len-clause-at_once g c = after_refusal c.from_residual.result (λ d left.
+pub returns-in_err-len-clause-exact : goal.returns-in_err-len-clause-exact
+returns-in_err-len-clause-exact g c = after_refusal c.from_residual.result (λ d left.
     let s : Section = g.R.Reader.section c.args.program.now in
     let P : List ℕ → Type 0 = λ bytes. rows_left c.args.header.now c.args.registers.now (at s.endian bytes) ≡ Err d ∷ [] in
     c.in_err-len.ensures.refused s.endian d (subst P (sym c.to_slice.ensures.gives) left))
 
-pub returns-clause-passes : goal.returns-clause-passes
-returns-clause-passes g c =
+pub returns-clause-gives : goal.returns-clause-gives
+returns-clause-gives g c =
     let s : Section = g.R.Reader.section c.args.program.now in
     let h = c.args.header.now in
     let q = c.run_frequent.new.registers in

@@ -10,7 +10,7 @@ loop-attribute-init c = λ e s v. rw (c.clear.ensures.items, c.new-last.ensures.
 pub loop-attribute-preserved : goal.loop-attribute-preserved
 loop-attribute-preserved c = λ e s v. elim c.match-with.branch [
   | in-Some w ↦
-      let a = w.in-Some.ensures.adds e v in
+      let a = w.in-Some.ensures.found e v in
       let size = rw (c.value_size.ensures.gives, c.attribute-item.is) at a.1 in
       rw (w.runs-is, w.last-is) (sym (so_far_sized e _ _ _ _ _ _ _ s c.loop-attribute-test.true size a.2) ∙ c.loop-attribute.invariant e s v)
   | in-None+in_ok-push-in-None w ↦

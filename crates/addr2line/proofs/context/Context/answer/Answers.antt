@@ -12,8 +12,8 @@ returns-clause-after g c =
     let s = c.self.inside in
     rw (sym c.self.view_is) (after_answer s.ranges s.units c.self.invariant c.args.number (option_map (λ d. d.value) c.args.sections) c.answer.result c.answer.new.self c.answer.ensures.after)
 
-pub returns-clause-fewer : goal.returns-clause-fewer
-returns-clause-fewer g c =
+pub returns-clause-shorter : goal.returns-clause-shorter
+returns-clause-shorter g c =
     let s = c.self.inside in
     rw (sym c.self.view_is) (fewer_after s.ranges s.units c.self.invariant c.args.number (option_map (λ d. d.value) c.args.sections) c.answer.result c.answer.new.self c.answer.ensures.after)
 

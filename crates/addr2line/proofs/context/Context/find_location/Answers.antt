@@ -24,7 +24,7 @@ invariant_of-self-in-None g c =
 
 pub location-requires : goal.location-requires
 location-requires g c =
-    let e = rw c.in-Some.is at c.in_ok-place.ensures.parsed in
+    let e = rw c.in-Some.is at c.in_ok-place.ensures.known in
     record { parsed = e }
 
 pub returns-in_err-place : goal.returns-in_err-place
@@ -41,8 +41,8 @@ returns-in_err-place g c =
         gives = λ n. is ∙ e.gives n;
         exact = λ ready. is ∙ e.gives (ready_told s.ranges s.units i c.args.probe (Err c.in_err-place.field-0.0) now e.after ready);
         last = λ q. let none = none_covered s.ranges s.units i (row_location s.units) c.args.probe (Err c.in_err-place.field-0.0) now e.after e.gives (sym c.find.ensures.gives ∙ c.find.ensures.last q) in cc;
-        uncovered = λ q. let none = none_covered s.ranges s.units i (row_location s.units) c.args.probe (Err c.in_err-place.field-0.0) now e.after e.gives (covers_none s.ranges s.units i c.args.probe q) in cc;
-        kept = tt;
+        none = λ q. let none = none_covered s.ranges s.units i (row_location s.units) c.args.probe (Err c.in_err-place.field-0.0) now e.after e.gives (covers_none s.ranges s.units i c.args.probe q) in cc;
+        ends = tt;
       },
     )
 
@@ -61,8 +61,8 @@ returns-in-Some g c =
         gives = found;
         exact = λ ready. found;
         last = λ q. let none = none_covered s.ranges s.units i (row_location s.units) c.args.probe (Ok (Some place)) now e.after e.gives (sym c.find.ensures.gives ∙ c.find.ensures.last q) in cc;
-        uncovered = λ q. let none = none_covered s.ranges s.units i (row_location s.units) c.args.probe (Ok (Some place)) now e.after e.gives (covers_none s.ranges s.units i c.args.probe q) in cc;
-        kept = tt;
+        none = λ q. let none = none_covered s.ranges s.units i (row_location s.units) c.args.probe (Ok (Some place)) now e.after e.gives (covers_none s.ranges s.units i c.args.probe q) in cc;
+        ends = tt;
       },
     )
 
@@ -79,7 +79,7 @@ returns-in-None g c =
         gives = is ∙ e.gives;
         exact = λ ready. is ∙ e.gives;
         last = λ q. refl;
-        uncovered = λ q. refl;
-        kept = tt;
+        none = λ q. refl;
+        ends = tt;
       },
     )

@@ -37,7 +37,7 @@ returns-in_err-cache_lines g c =
         gives = tt;
         refused = a.refused;
         exact = λ none. absurd (a.memory (none_more_along shares s.units.units s.units.parsed now.parsed a.lines.parsed rows (at_made s.ranges s.units i (λ x xs rs. TakeNone shares xs s.units.parsed (cover_range c.args.low c.args.high rs)) none)) a.refused);
-        kept = tt;
+        ends = tt;
       },
     )
 
@@ -53,6 +53,6 @@ returns g c =
         gives = ap (λ (x : UnitsState). spans_of x.scope.file.sections c.args.low c.args.high) (sym a.lines.same) ∙ c.cached_rows.ensures.gives;
         refused = tt;
         exact = λ none. refl;
-        kept = tt;
+        ends = tt;
       },
     )

@@ -26,8 +26,8 @@ returns-clause-memory g c =
     let given = option_map (λ x. x.value) c.args.sections in
     rw (sym c.self.view_is) (λ h. c.load_unit.ensures.after.not_open (not_open_is s.ranges s.units c.self.invariant n h) ∙ sym (load_is s.ranges s.units c.self.invariant n given))
 
-pub returns-clause-no_sections : goal.returns-clause-no_sections
-returns-clause-no_sections g c =
+pub returns-clause-none : goal.returns-clause-none
+returns-clause-none g c =
     let s = c.self.inside in
     let n = c.args.unit.number in
     rw (sym c.self.view_is) (λ h. c.load_unit.ensures.after.none (rw h refl) ∙ sym (load_is s.ranges s.units c.self.invariant n None))

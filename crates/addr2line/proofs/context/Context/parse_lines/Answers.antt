@@ -6,7 +6,7 @@ use Rattle.addr2line_units.specs.Parsed.{AllAskFor, AreReadyForAll, ParsesOnly, 
 use Rattle.addr2line_units.specs.UnitsState.{UnitsState}
 use Rattle.addr2line.specs.Context.{seen_context}
 use Rattle.addr2line_units.proofs.UnitsLemmas.{none_more_for_all}
-use Rattle.addr2line.proofs.ContextLemmas.{along_ok, at_lines, at_made, exactly_told, lines_are, lines_context, lines_stay, location_is, of_lines, of_made, range_ready_if_ok, ready_if_ok, same_if_asked, when_ok}
+use Rattle.addr2line.proofs.ContextLemmas.{along_ok, at_lines, at_made, exactly_told, lines_are, lines_context, lines_stay, location_is, of_lines, of_made, ready_if_ok, same_if_asked, when_ok}
 use Rattle.addr2line.proofs.context.Context.parse_lines.Goals as goal
 
 pub invariant_of-self : goal.invariant_of-self
@@ -19,8 +19,8 @@ returns-clause-gives g c =
     let s = c.self.inside in
     rw (sym c.self.view_is) (subst (ExactlyUnlessOom (λ x. x) c.parse_lines.result) (sym (lines_are s.ranges s.units c.self.invariant)) c.parse_lines.ensures.gives)
 
-pub returns-clause-stays : goal.returns-clause-stays
-returns-clause-stays g c =
+pub returns-clause-after : goal.returns-clause-after
+returns-clause-after g c =
     let s = c.self.inside in
     rw (sym c.self.view_is) (lines_stay s.ranges s.units c.self.invariant _ c.parse_lines.new.self c.parse_lines.ensures.after.lines)
 
@@ -29,9 +29,6 @@ returns-clause-looks g c = rw (sym c.self.view_is) c.parse_lines.ensures.after.l
 
 pub returns-clause-ready : goal.returns-clause-ready
 returns-clause-ready g c = ready_if_ok _ (seen_context c.parse_lines.new.self) c.parse_lines.ensures.after.parsed
-
-pub returns-clause-ready_for_range : goal.returns-clause-ready_for_range
-returns-clause-ready_for_range g c = range_ready_if_ok _ (seen_context c.parse_lines.new.self) c.parse_lines.ensures.after.parsed
 
 pub returns-clause-found : goal.returns-clause-found
 returns-clause-found g c =
@@ -50,8 +47,8 @@ returns-clause-exact g c =
     (a.memory (none_more_for_all shares s.units.units s.units.scope.file.sections s.units.parsed c.parse_lines.new.self.parsed a.lines.parsed
     (at_made s.ranges s.units i (λ x xs rs. TakeNoneForAll shares x.file.sections xs s.units.parsed) none))))
 
-pub returns-clause-ready_for_all : goal.returns-clause-ready_for_all
-returns-clause-ready_for_all g c =
+pub returns-clause-whole : goal.returns-clause-whole
+returns-clause-whole g c =
     let s = c.self.inside in
     let a = c.parse_lines.ensures.after in
     let now = c.parse_lines.new.self in
@@ -64,14 +61,14 @@ returns-clause-memory g c =
     let now = c.parse_lines.new.self in
     λ none. a.memory (at_lines s.ranges s.units c.self.invariant _ now a.lines (λ x xs rs. TakeNoneForAll g.R.Reader.shares x.file.sections xs now.parsed) none)
 
-pub returns-clause-only : goal.returns-clause-only
-returns-clause-only g c =
+pub returns-clause-within : goal.returns-clause-within
+returns-clause-within g c =
     let s = c.self.inside in
     let a = c.parse_lines.ensures.after in
     rw (sym c.self.view_is) (of_made s.ranges s.units c.self.invariant (λ x xs rs. ParsesOnly (AllAskFor x.file.sections xs) s.units.parsed c.parse_lines.new.self.parsed) a.lines.only)
 
-pub returns-clause-same : goal.returns-clause-same
-returns-clause-same g c =
+pub returns-clause-kept : goal.returns-clause-kept
+returns-clause-kept g c =
     let s = c.self.inside in
     let a = c.parse_lines.ensures.after in
     rw (sym c.self.view_is) (λ ready. same_if_asked _ s.units c.parse_lines.new.self a.lines (at_made s.ranges s.units c.self.invariant (λ x xs rs. AreReadyForAll x.file.sections xs s.units.parsed) ready))

@@ -40,8 +40,8 @@ returns-clause-last g c =
     none_listed (λ loads. loads.items) (load_of_number d.sections d.units s.units.answers) (cover c.args.probe s.ranges) c.preload.result none
     (e.none_open (subst (NoneOpen d.sections d.units s.units.answers) (sym none) tt)) e.gives
 
-pub returns-clause-uncovered : goal.returns-clause-uncovered
-returns-clause-uncovered g c =
+pub returns-clause-none : goal.returns-clause-none
+returns-clause-none g c =
     let s = c.self.inside in
     let d = s.units.scope.file in
     let e = rw c.find.ensures.gives at c.preload.ensures in

@@ -24,8 +24,8 @@ returns-clause-known g c =
     let s = c.self.inside in
     all_known s.ranges s.units c.self.invariant c.args.depth c.read_functions.result c.read_functions.new.self c.read_functions.ensures.after
 
-pub returns-clause-reaches : goal.returns-clause-reaches
-returns-clause-reaches g c =
+pub returns-clause-whole : goal.returns-clause-whole
+returns-clause-whole g c =
     let s = c.self.inside in
     all_reached s.ranges s.units c.self.invariant c.args.depth c.read_functions.result c.read_functions.new.self c.read_functions.ensures.after c.read_functions.ensures.gives
 

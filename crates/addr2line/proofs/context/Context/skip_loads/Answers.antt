@@ -22,7 +22,7 @@ loop-self-preserved g c =
     let mid = c.walk.new.self in
     let waits = told_waits n mid.stop _ c.in_ok-walk.ensures.gives (search rules) in
     let e = c.in_ok-answer-in-Some.ensures in
-    skipped_more c.args.faults c.args.probe c.args.self.now mid (skipped_look c.args.faults c.args.probe c.args.self.now c.loop-self.self c.loop-self.invariant _ mid a) n c.answer.new.self waits e.after (e.fewer c.args.faults c.args.probe (waits_true n _ waits))
+    skipped_more c.args.faults c.args.probe c.args.self.now mid (skipped_look c.args.faults c.args.probe c.args.self.now c.loop-self.self c.loop-self.invariant _ mid a) n c.answer.new.self waits e.after (e.shorter c.args.faults c.args.probe (waits_true n _ waits))
 
 pub returns-in_err-answer-in-Some-clause-after : goal.returns-in_err-answer-in-Some-clause-after
 returns-in_err-answer-in-Some-clause-after g c =

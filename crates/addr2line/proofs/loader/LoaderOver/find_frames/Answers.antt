@@ -18,7 +18,7 @@ returns-in_err-answer_loads g c =
     let first = c.args.self.now.context in
     let mid = c.answer_loads.new.ctx in
     let a = c.answer_loads.ensures.after in
-    let t = c.answer_loads.ensures.in_turn in
+    let t = c.answer_loads.ensures.answer in
     let e = c.in_err-answer_loads.field-0.0 in
     let so = c.in_err-answer_loads.ensures in
     let exact = λ (w : WaitsForNone first probe) (few : IsKnownFew Stop first probe). refused_exactly files probe first mid a w t e (so.fault w) so.memory few in
@@ -31,21 +31,21 @@ returns-in_err-answer_loads g c =
           object = refl;
           context = a;
           in_turn = t;
-          only = c.answer_loads.ensures.only;
-          ended = so.ended;
+          only = c.answer_loads.ensures.within;
+          ended = so.none;
           ready = so.ready;
-          told = so.told;
-          waits = so.waits;
+          told = so.exact;
+          waits = so.left;
           memory = so.memory;
           refused = lacks_memory e mid probe so.memory;
         },
       ),
       record {
         gives = so.refused;
-        ended = so.fault;
+        none = so.fault;
         exact = exact;
         last = λ q. last_frames probe first (c.answer_loads.ensures.last q) _ exact;
-        kept = tt;
+        ends = tt;
       },
     )
 
@@ -58,8 +58,8 @@ returns g c =
     let a = c.answer_loads.ensures.after in
     let so = c.in_ok-answer_loads.ensures in
     let frames = frames_left c.found_frames.result in
-    let waits = so.ended tt in
-    let told : ended_frames_of mid probe ≡ Ok frames = ap stop_frames so.stored ∙ ap (λ fs. Ok fs) (sym c.found_frames.ensures.gives) in
+    let waits = so.none tt in
+    let told : ended_frames_of mid probe ≡ Ok frames = ap stop_frames so.gives ∙ ap (λ fs. Ok fs) (sym c.found_frames.ensures.gives) in
     let ended = λ (w : WaitsForNone first probe). found_ended files probe first mid a w frames told in (
       (
         refl,
@@ -68,8 +68,8 @@ returns g c =
           files = refl;
           object = refl;
           context = a;
-          in_turn = c.answer_loads.ensures.in_turn;
-          only = c.answer_loads.ensures.only;
+          in_turn = c.answer_loads.ensures.answer;
+          only = c.answer_loads.ensures.within;
           ended = λ _. waits;
           ready = so.ready;
           told = λ _. told;
@@ -80,9 +80,9 @@ returns g c =
       ),
       record {
         gives = found_by_files files probe first mid a waits frames told;
-        ended = ended;
+        none = ended;
         exact = λ w few. ended w;
         last = λ q. last_frames probe first (c.answer_loads.ensures.last q) _ (λ w few. ended w);
-        kept = tt;
+        ends = tt;
       },
     )

@@ -14,7 +14,7 @@ returns-in-Ok g c = (
     gives = ap of_file c.in-Ok.ensures.gives;
     exact = λ ready. ap of_file (c.in-Ok.ensures.exact ready);
     last = λ q. let found = c.in-Ok.ensures.last q in cc;
-    kept = tt;
+    ends = tt;
   },
 )
 
@@ -29,6 +29,6 @@ returns-in-Err g c = (
     gives = λ ne. ap of_file (c.in-Err.ensures.gives (no_oom c.in-Err.error (λ q. ne (c.from.ensures ∙ q)))) ∙ ap Err (sym c.from.ensures);
     exact = λ ready. ap of_file (c.in-Err.ensures.exact ready) ∙ ap Err (sym c.from.ensures);
     last = λ q. absurd (let no = c.in-Err.ensures.last q in cc);
-    kept = tt;
+    ends = tt;
   },
 )

@@ -11,7 +11,7 @@ returns-in-Ok g c = (
     (λ _. tt),
     looked_in_context _ _ _ c.find_location_range.result _ _ _ (ap of_file (sym c.in-Ok.is)) c.find_location_range.follows.holds-at-none,
   ),
-  record { gives = c.in-Ok.ensures.gives; refused = tt; exact = λ none. refl; kept = tt },
+  record { gives = c.in-Ok.ensures.gives; refused = tt; exact = λ none. refl; ends = tt },
 )
 
 pub returns-in-Err : goal.returns-in-Err
@@ -25,6 +25,6 @@ returns-in-Err g c = (
     gives = tt;
     refused = c.from.ensures ∙ ap loader_error_of c.in-Err.ensures.refused;
     exact = λ none. absurd (let no = c.in-Err.ensures.exact none in cc);
-    kept = tt;
+    ends = tt;
   },
 )

@@ -14,8 +14,8 @@ returns g c =
       (refl, f.holds, skip_after faults probe old mid _ g.R.Reader.shares e.after _ c.lend.result e.ended f.holds-at-none),
       record {
         ends = tt;
-        load = if_load _ _ c.lend.result (λ x h. never_waits c.skip_loads-walked.result mid.stop x.number e.ended h.3 h.4) c.lend.ensures.load;
-        output = outputs_skipped faults probe old mid _ g.R.Reader.shares e.after (found_at faults g.K.Lent.value_of) (λ i. Some (g.K.Lent.see i)) _ c.lend.result f.holds-at-none c.lend.ensures.output;
+        left = if_load _ _ c.lend.result (λ x h. never_waits c.skip_loads-walked.result mid.stop x.number e.ended h.3 h.4) c.lend.ensures.left;
+        gives = outputs_skipped faults probe old mid _ g.R.Reader.shares e.after (found_at faults g.K.Lent.value_of) (λ i. Some (g.K.Lent.see i)) _ c.lend.result f.holds-at-none c.lend.ensures.gives;
         refused = c.lend.ensures.refused;
       },
     )

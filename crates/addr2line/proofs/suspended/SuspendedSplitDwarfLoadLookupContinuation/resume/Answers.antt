@@ -19,14 +19,14 @@ returns g c =
       (refl, f.holds, f.holds-at-none),
       record {
         ends = tt;
-        load = e.load;
-        fewer = e.fewer;
-        output = e.output;
+        left = e.left;
+        shorter = e.shorter;
+        gives = e.gives;
         refused = e.refused;
-        skips = λ none.
+        none = λ none.
             let given = ap (λ o. option_map (λ x. x.value) o) none in
             skip_told faults kind.value_of kind.see d answers l.probe l.number (λ x. x.ctx.now.sections) (λ x. x.ctx.now.answers) (λ x. x.probe) c.resume_with.result
-            (if_load _ _ c.resume_with.result (λ x h. (h.2.2.after.sections ∙ h.2.1.sections, h.2.2.after.answers ∙ h.2.1.answers ∙ ap (answered d answers l.number) given, h.1)) e.load)
-            (subst (λ x. IfOutput c.resume_with.result (λ o. ExactlyUnlessOom (λ i. Some (kind.see i)) o (found_at faults kind.value_of d (answered d answers l.number x) l.probe))) given e.output);
+            (if_load _ _ c.resume_with.result (λ x h. (h.2.2.after.sections ∙ h.2.1.sections, h.2.2.after.answers ∙ h.2.1.answers ∙ ap (answered d answers l.number) given, h.1)) e.left)
+            (subst (λ x. IfOutput c.resume_with.result (λ o. ExactlyUnlessOom (λ i. Some (kind.see i)) o (found_at faults kind.value_of d (answered d answers l.number x) l.probe))) given e.gives);
       },
     )

@@ -13,5 +13,5 @@ returns g c =
         (λ _. tt),
         same_after_loads frames_left c.args.probe c.find_frames.result (seen_loader files loader) (seen_loader files c.find_frames.follows.lender-at-none) c.find_frames.follows.holds-at-none,
       ),
-      record { gives = gives_frames frames_left (seen_loader files loader) c.args.probe c.find_frames.result c.find_frames.ensures.gives c.find_frames.ensures.ended c.find_frames.ensures.last c.find_frames.ensures.exact; kept = tt },
+      record { gives = gives_frames frames_left (seen_loader files loader) c.args.probe c.find_frames.result c.find_frames.ensures.gives c.find_frames.ensures.none c.find_frames.ensures.last c.find_frames.ensures.exact; ends = tt },
     )

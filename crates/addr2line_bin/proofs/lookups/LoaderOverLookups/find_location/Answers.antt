@@ -9,5 +9,5 @@ returns g c =
     let files = g.F.FileSource.files in
     let found = c.find_location.ensures in (
       (refl, (λ _. tt), same_after_location c.args.probe c.find_location.result (seen_loader files c.args.self.now) (seen_loader files c.find_location.follows.lender-at-none) c.find_location.follows.holds-at-none),
-      record { gives = finds seen_location c.args.self.now.context c.args.probe c.find_location.result found.gives found.exact found.last; kept = tt },
+      record { gives = finds seen_location c.args.self.now.context c.args.probe c.find_location.result found.gives found.exact found.last; ends = tt },
     )

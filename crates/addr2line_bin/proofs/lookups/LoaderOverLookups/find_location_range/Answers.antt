@@ -7,5 +7,5 @@ pub returns : goal.returns
 returns g c =
     let files = g.F.FileSource.files in (
       (refl, (λ _. tt), same_after_range c.args.low c.args.high c.find_location_range.result (seen_loader files c.args.self.now) (seen_loader files c.find_location_range.follows.lender-at-none) c.find_location_range.follows.holds-at-none),
-      record { gives = c.find_location_range.ensures.gives; refused = c.find_location_range.ensures.refused; kept = tt },
+      record { gives = c.find_location_range.ensures.gives; refused = c.find_location_range.ensures.refused; ends = tt },
     )

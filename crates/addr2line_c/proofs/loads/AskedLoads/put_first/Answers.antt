@@ -14,7 +14,7 @@ returns-clause-gives g c =
     let load = c.in-Some-get.load.now in
     let used = c.put_load.new.used in
     let buffer = c.put_load.new.buffer in
-    let small : length buffer < 2 ^ 64 = omega (arith, c.put_load.ensures.same) in
+    let small : length buffer < 2 ^ 64 = omega (arith, c.put_load.ensures.kept) in
     let first : first_waiting asked ≡ Some token = sym c.in-Some.ensures.gives in
     let is : load_of_token asked token ≡ Some load = sym c.in-Some-get.ensures.gives in
     let parts = c.put_load.ensures.gives in
@@ -23,7 +23,7 @@ returns-clause-gives g c =
       ap Ok (waiting_is asked token load first is),
       record {
         parts = parts;
-        texts = c.put_load.ensures.texts;
-        named = λ fits. subst (λ (x : WrittenLoad). NamesLoad buffer x load) (sym parts) (load_named buffer used token load small c.put_load.ensures.texts fits);
+        texts = c.put_load.ensures.left;
+        named = λ fits. subst (λ (x : WrittenLoad). NamesLoad buffer x load) (sym parts) (load_named buffer used token load small c.put_load.ensures.left fits);
       },
     )

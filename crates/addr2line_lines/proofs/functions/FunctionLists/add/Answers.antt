@@ -28,11 +28,11 @@ returns-in_err-push_ranges-clause-gives g c =
     let p = err_from_is_err_and c.from_residual.result c.from_residual.ensures.1 in
     rw (p.1, p.2) (λ ne. ranges_refused c.args.unit.dwarf.now c.args.unit.unit.now c.args.attributes.now c.args.offset.0 c.len-function.result (seen_functions c.args.self.now) _ (c.in_err-push_ranges.ensures.gives ne))
 
-pub returns-in_err-push_ranges-clause-unread : goal.returns-in_err-push_ranges-clause-unread
-returns-in_err-push_ranges-clause-unread g c = λ unread. unread
+pub returns-in_err-push_ranges-clause-empty : goal.returns-in_err-push_ranges-clause-empty
+returns-in_err-push_ranges-clause-empty g c = λ unread. unread
 
-pub returns-in_err-push-clause-unread : goal.returns-in_err-push-clause-unread
-returns-in_err-push-clause-unread g c = λ unread. subst (AllByRecursion IsUnread) (sym c.in_err-push.ensures.items) unread
+pub returns-in_err-push-clause-empty : goal.returns-in_err-push-clause-empty
+returns-in_err-push-clause-empty g c = λ unread. subst (AllByRecursion IsUnread) (sym c.in_err-push.ensures.items) unread
 
 pub returns-in_ok-push-clause-gives : goal.returns-in_ok-push-clause-gives
 returns-in_ok-push-clause-gives g c =
@@ -49,5 +49,5 @@ returns-else-len-before-clause-gives g c =
     let fewer : length c.push_ranges.new.addresses.items ≤ length c.args.self.now.addresses.items = (let a = c.len.ensures in let b = c.len-before.ensures in let f = c.if-len-before.false in let m = c.args.self.now.addresses.ok.0 in let n = c.push_ranges.new.addresses.ok.0 in omega arith) in
     none_added c.args.unit.dwarf.now c.args.unit.unit.now c.args.attributes.now c.args.offset.0 c.len-function.result (seen_functions c.args.self.now) c.push_ranges.new.addresses.items c.in_ok-push_ranges.ensures.gives fewer
 
-pub returns-else-len-before-clause-unread : goal.returns-else-len-before-clause-unread
-returns-else-len-before-clause-unread g c = λ unread. unread
+pub returns-else-len-before-clause-empty : goal.returns-else-len-before-clause-empty
+returns-else-len-before-clause-empty g c = λ unread. unread

@@ -23,8 +23,8 @@ returns-clause-found g c =
     subst (λ (t : FunctionTable). option_and_then (cached_offset_at t) c.find.result ≡ function_offset_at probe t.ranges) c.self.view_is
     (ap (option_and_then (cached_offset_at (table_of fs addresses d))) c.find.ensures.found ∙ entry_found d fs addresses probe c.self.invariant.in_order)
 
-pub returns-clause-place : goal.returns-clause-place
-returns-clause-place g c =
+pub returns-clause-gives : goal.returns-clause-gives
+returns-clause-gives g c =
     let probe = c.args.probe in
     let fs = c.self.inside.functions.items in
     let addresses = c.self.inside.addresses in

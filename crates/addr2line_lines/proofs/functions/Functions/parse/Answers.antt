@@ -26,8 +26,8 @@ returns-in_err-functions g c =
     let u = c.args.unit.unit.now in
     record {
       gives = rw (p.1, p.2) (λ ne. subst (Agrees (functions_of d u)) (c.in_err-functions.ensures.gives ne) (functions_agree d u));
-      unread = rw p.1 tt;
-      listed = rw p.1 tt;
+      empty = rw p.1 tt;
+      right = rw p.1 tt;
       names = rw p.1 tt;
     }
 
@@ -45,7 +45,7 @@ invariant_of-result g c =
     let listed = ok_is _ _ c.in_ok-addresses.ensures.gives in
     record {
       in_order = subst (AreFunctions found.offsets) listed (are_functions c.args.unit.dwarf.now c.args.unit.unit.now found c.in_ok-functions.ensures.gives);
-      runs = runs_unread _ _ c.in_ok-functions.ensures.unread c.new-2.ensures.gives;
+      runs = runs_unread _ _ c.in_ok-functions.ensures.empty c.new-2.ensures.gives;
     }
 
 pub returns : goal.returns
@@ -57,8 +57,8 @@ returns g c =
     let a = subst (Agrees (functions_of d u)) c.in_ok-functions.ensures.gives (functions_agree d u) in
     record {
       gives = a.0 ∙ ap (λ xs. Ok (map (function_range_of found.offsets) xs)) listed;
-      unread = seen_unread (seen_details g.R.Reader.section c.new-2.result) _ c.in_ok-functions.ensures.unread;
-      listed = offsets_seen (λ (f : LazyFunction). f.dw_die_offset) (seen_function (seen_details g.R.Reader.section c.new-2.result)) (λ (f : CachedFunction). f.offset) (λ x. refl) c.in_ok-functions.field-0.functions.items
+      empty = seen_unread (seen_details g.R.Reader.section c.new-2.result) _ c.in_ok-functions.ensures.empty;
+      right = offsets_seen (λ (f : LazyFunction). f.dw_die_offset) (seen_function (seen_details g.R.Reader.section c.new-2.result)) (λ (f : CachedFunction). f.offset) (λ x. refl) c.in_ok-functions.field-0.functions.items
           ∙ (are_functions d u found c.in_ok-functions.ensures.gives).listed
           ∙ ap (λ xs. entries_of (map (function_range_of found.offsets) xs)) listed;
       names = ap (λ (d : CachedDetails). d.known) c.new-2.ensures.gives;

@@ -28,8 +28,8 @@ returns-in_err-read-clause-gives g c =
     let l = c.loop-place-test.true in
     rw (p.1, p.2) (fault_read g.R.Reader.shares (seen_scope c.args.scope) c.args.unit.now c.args.self.now c.loop-place.self c.loop-place.place c.in_err-read.field-0.0 i.read (let m = i.count in omega arith) c.in_err-read.ensures.exact)
 
-pub returns-in_err-read-clause-kept : goal.returns-in_err-read-clause-kept
-returns-in_err-read-clause-kept g c =
+pub returns-in_err-read-clause-after : goal.returns-in_err-read-clause-after
+returns-in_err-read-clause-after g c =
     (fault_kept g.R.Reader.shares (seen_scope c.args.scope) c.args.unit.now c.args.self.now c.loop-place.self c.read.new.self c.loop-place.place c.read.result c.loop-place.invariant.read c.read.ensures.gives).0
 
 pub returns-in_err-read-clause-right : goal.returns-in_err-read-clause-right
@@ -52,20 +52,20 @@ returns-clause-gives g c =
     let l = c.loop-place-test.false in
     (all_read g.R.Reader.shares (seen_scope c.args.scope) c.args.unit.now c.args.self.now c.loop-place.self c.loop-place.place i.read (let m = i.count in omega arith)).0
 
-pub returns-clause-kept : goal.returns-clause-kept
-returns-clause-kept g c = c.loop-place.invariant.read.kept
+pub returns-clause-after : goal.returns-clause-after
+returns-clause-after g c = c.loop-place.invariant.read.kept
 
 pub returns-clause-right : goal.returns-clause-right
 returns-clause-right g c = c.loop-place.invariant.read.right
 
-pub returns-clause-cached : goal.returns-clause-cached
-returns-clause-cached g c =
+pub returns-clause-known : goal.returns-clause-known
+returns-clause-known g c =
     let i = c.loop-place.invariant in
     let l = c.loop-place-test.false in
     (all_read g.R.Reader.shares (seen_scope c.args.scope) c.args.unit.now c.args.self.now c.loop-place.self c.loop-place.place i.read (let m = i.count in omega arith)).1
 
-pub returns-in_err-read-clause-ready_for_all : goal.returns-in_err-read-clause-ready_for_all
-returns-in_err-read-clause-ready_for_all g c =
+pub returns-in_err-read-clause-whole : goal.returns-in_err-read-clause-whole
+returns-in_err-read-clause-whole g c =
     let p = err_from_is_err_and c.from_residual.result c.from_residual.ensures.1 in
     let i = c.loop-place.invariant in
     let l = c.loop-place-test.true in
@@ -79,14 +79,14 @@ returns-in_err-read-clause-exact g c =
     rw (p.1, p.2) (λ right. λ ready. sym (fault_read g.R.Reader.shares (seen_scope c.args.scope) c.args.unit.now c.args.self.now c.loop-place.self c.loop-place.place c.in_err-read.field-0.0 i.read (let m = i.count in omega arith) c.in_err-read.ensures.exact right
     (λ takes. absurd (let no : true ≡ false = sym takes ∙ no_memory_to_fault g.R.Reader.shares (seen_scope c.args.scope) c.args.unit.now c.args.self.now.functions ready in cc))))
 
-pub returns-in_err-read-clause-same : goal.returns-in_err-read-clause-same
-returns-in_err-read-clause-same g c =
+pub returns-in_err-read-clause-kept : goal.returns-in_err-read-clause-kept
+returns-in_err-read-clause-kept g c =
     let i = c.loop-place.invariant in
     let l = c.loop-place-test.true in
     reads_nothing g.R.Reader.shares (seen_scope c.args.scope) c.args.unit.now c.args.self.now c.loop-place.self c.read.new.self c.loop-place.place c.read.result i.read (let m = i.count in omega arith) c.read.ensures.gives
 
-pub returns-clause-ready_for_all : goal.returns-clause-ready_for_all
-returns-clause-ready_for_all g c = λ _.
+pub returns-clause-whole : goal.returns-clause-whole
+returns-clause-whole g c = λ _.
     let i = c.loop-place.invariant in
     let l = c.loop-place-test.false in
     all_ready g.R.Reader.shares (seen_scope c.args.scope) c.args.unit.now c.args.self.now c.loop-place.self c.loop-place.place i.read (let m = i.count in omega arith)
@@ -97,8 +97,8 @@ returns-clause-exact g c = λ right. λ _.
     let l = c.loop-place-test.false in
     sym ((all_read g.R.Reader.shares (seen_scope c.args.scope) c.args.unit.now c.args.self.now c.loop-place.self c.loop-place.place i.read (let m = i.count in omega arith)).0 right)
 
-pub returns-clause-same : goal.returns-clause-same
-returns-clause-same g c = c.loop-place.invariant.read.same
+pub returns-clause-kept : goal.returns-clause-kept
+returns-clause-kept g c = c.loop-place.invariant.read.same
 
 pub returns-in_err-read-clause-memory : goal.returns-in_err-read-clause-memory
 returns-in_err-read-clause-memory g c =

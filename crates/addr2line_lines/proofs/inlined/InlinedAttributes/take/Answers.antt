@@ -68,7 +68,7 @@ returns-in_err-self-2 g c =
     let is : is_range_name c.args.attribute.name ≡ false = ap is_range_name (sym c.name-name.ensures.gives) ∙ sym c.if-is_range_name.ensures.gives in
     let taken = name_taken (seen_scope c.args.scope) u x c.args.attribute other is in
     let p = err_from_is_err_and c.from_residual-in_err-self-2.result c.from_residual-in_err-self-2.ensures.1 in
-    let fault = rw c.take-before.ensures.value at c.in_err-self-2.ensures.gives in
+    let fault = rw c.take-before.ensures.gives at c.in_err-self-2.ensures.gives in
     record { gives = rw (p.1, p.2) (λ ne. taken ∙ ap (with_name_read x) (fault ne)); names = c.in_err-self-2.ensures.names }
 
 pub returns-in_ok-self-2 : goal.returns-in_ok-self-2
@@ -78,5 +78,5 @@ returns-in_ok-self-2 g c =
     let other : is_call c.args.attribute.name ≡ false = ap is_call (sym c.name-name.ensures.gives) ∙ sym c.if-is_call.ensures.gives in
     let is : is_range_name c.args.attribute.name ≡ false = ap is_range_name (sym c.name-name.ensures.gives) ∙ sym c.if-is_range_name.ensures.gives in
     let taken = name_taken (seen_scope c.args.scope) u x c.args.attribute other is in
-    let read = rw c.take-before.ensures.value at c.in_ok-self-2.ensures.gives in
+    let read = rw c.take-before.ensures.gives at c.in_ok-self-2.ensures.gives in
     record { gives = taken ∙ ap (with_name_read x) read; names = c.in_ok-self-2.ensures.names }

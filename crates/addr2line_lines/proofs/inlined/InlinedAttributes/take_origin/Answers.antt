@@ -13,5 +13,5 @@ with_name_read x r = r >>= λ name. Ok (record { ranges = x.ranges; name = name;
 pub returns-in-Err-clause-gives : goal.returns-in-Err-clause-gives
 returns-in-Err-clause-gives g c =
     let x = seen_attributes g.R.Reader.section c.args.self.now in
-    let fault = rw c.take-before.ensures.value at c.in-Err.ensures.gives in
+    let fault = rw c.take-before.ensures.gives at c.in-Err.ensures.gives in
     rw c.in-None.is (λ ne. ap (with_name_read x) (fault ne))

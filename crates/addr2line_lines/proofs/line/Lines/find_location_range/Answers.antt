@@ -18,6 +18,6 @@ returns c =
           ∙ ap (λ n. flat_map (located_in (map string_bytes c.deref.result.now) n c.min-high.result) ss) c.max-low.ensures
           ∙ ap (λ n. flat_map (located_in (map string_bytes c.deref.result.now) lo n) ss) c.min-high.ensures
           ∙ ap (λ files. flat_map (located_in (map string_bytes files) lo hi) ss) c.deref.ensures.value
-          ∙ ap (flat_map (located_in (map string_bytes c.self.inside.files.items) lo hi)) (ordered_are p.rows p.listed p.sequences c.known.ensures.sorted)
+          ∙ ap (flat_map (located_in (map string_bytes c.self.inside.files.items) lo hi)) (ordered_are p.rows p.listed p.sequences c.known.ensures.gives)
           ∙ ap (λ (t : LineTable). locations_in_range t c.args.unit c.args.low c.args.high) c.self.view_is;
     }

@@ -7,10 +7,10 @@ use Rattle.addr2line_lines.proofs.line.Lines.find_row.Goals as goal
 
 pub returns-clause-found : goal.returns-clause-found
 returns-clause-found c =
-    c.search-row.ensures.found ∙ row_at_listed _ _ _ c.known.ensures.sorted c.args.probe ∙ ap (λ (t : LineTable). row_at c.args.probe t.sequences) c.self.view_is
+    c.search-row.ensures.found ∙ row_at_listed _ _ _ c.known.ensures.gives c.args.probe ∙ ap (λ (t : LineTable). row_at c.args.probe t.sequences) c.self.view_is
 
-pub returns-clause-cost : goal.returns-clause-cost
-returns-clause-cost c =
-    let e = looks_are _ _ _ c.known.ensures.sorted c.known.ensures.no_others c.known.ensures.among ∙ ap (λ (t : LineTable). most_looks_in t) c.self.view_is in
-    let cost = c.search-row.ensures.cost in
+pub returns-clause-bound : goal.returns-clause-bound
+returns-clause-bound c =
+    let e = looks_are _ _ _ c.known.ensures.gives c.known.ensures.whole c.known.ensures.within ∙ ap (λ (t : LineTable). most_looks_in t) c.self.view_is in
+    let cost = c.search-row.ensures.bound in
     omega arith

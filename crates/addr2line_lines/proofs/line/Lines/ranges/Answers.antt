@@ -10,6 +10,6 @@ pub returns : goal.returns
 returns c =
     let p = c.self.inside.packed in
     record {
-      gives = c.new.ensures.gives ∙ ap (map packed_range) c.sequences.ensures.gives ∙ ranges_are p.rows p.sequences ∙ ap (map sequence_range) (ordered_are p.rows p.listed p.sequences c.known.ensures.sorted)
+      gives = c.new.ensures.gives ∙ ap (map packed_range) c.sequences.ensures.gives ∙ ranges_are p.rows p.sequences ∙ ap (map sequence_range) (ordered_are p.rows p.listed p.sequences c.known.ensures.gives)
           ∙ ap (λ (t : LineTable). sequence_ranges t) c.self.view_is;
     }

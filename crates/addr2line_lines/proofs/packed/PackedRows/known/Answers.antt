@@ -3,8 +3,8 @@ use Rattle.addr2line_lines.specs.Packed.{IsTable, Packed}
 use Rattle.addr2line_lines.proofs.TableLemmas.{table_of}
 use Rattle.addr2line_lines.proofs.packed.PackedRows.known.Goals as goal
 
-pub returns-clause-table : goal.returns-clause-table
-returns-clause-table c =
+pub returns-clause-right : goal.returns-clause-right
+returns-clause-right c =
     let i = c.self.invariant in
     let e = c.len-rows.ensures.gives in
     let few : length c.self.inside.rows.rows < 2 ^ 64 = omega arith in

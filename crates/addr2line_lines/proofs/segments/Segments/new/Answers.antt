@@ -13,7 +13,7 @@ invariant_of-result c =
     let sorted = c.sort_addresses.new.addresses.items in
     let segments = c.if-are_disjoint.segments in
     subst (λ v. AreSegments v.items segments.items) (sym c.of-listed.ensures)
-    (permuted_segments c.args.addresses.items sorted segments.items c.sort_addresses.ensures.same
+    (permuted_segments c.args.addresses.items sorted segments.items c.sort_addresses.ensures.kept
     (elim c.if-are_disjoint.branch [
       | then-are_disjoint w ↦ subst (λ v. AreSegments sorted v.items) (sym w.segments-is) (disjoint_segments sorted (subst AreDisjoint c.deref.ensures.value (w.if-are_disjoint.ensures.gives.0 refl)))
       | else-are_disjoint+in_ok-segments w ↦ subst (λ v. AreSegments sorted v.items) (sym w.segments-is) (subst (λ xs. AreSegments xs w.in_ok-segments.segments.items) w.deref-else-are_disjoint.ensures.value w.in_ok-segments.ensures.gives)
@@ -24,7 +24,7 @@ returns-in_err-segments c =
     let p = err_from_is_err_and c.from_residual.result c.from_residual.ensures.1 in
     let e = c.in_err-segments.ensures.refused in
     let n = ap length c.deref.ensures.value in
-    let m = length_permutation c.args.addresses.items c.sort_addresses.new.addresses.items c.sort_addresses.ensures.same in
+    let m = length_permutation c.args.addresses.items c.sort_addresses.new.addresses.items c.sort_addresses.ensures.kept in
     let some = e.1 in
     record { gives = rw (p.1, p.2) (λ f. absurd (f (more (length c.args.addresses.items) (omega arith)) e.0)) }
   where

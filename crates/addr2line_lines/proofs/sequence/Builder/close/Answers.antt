@@ -10,4 +10,4 @@ returns-in-None c =
 
 pub invariant_of-self-in-Some : goal.invariant_of-self-in-Some
 invariant_of-self-in-Some c =
-    closes_is _ _ _ c.self.invariant c.in-Some.sequence c.in-Some.ensures.first c.in-Some.ensures.all _ c.in_ok-push-in-Some.ensures.items _ c.len-self-inside.ensures.gives
+    closes_is _ _ _ c.self.invariant c.in-Some.sequence c.in-Some.ensures.found c.in-Some.ensures.whole _ c.in_ok-push-in-Some.ensures.items _ c.len-self-inside.ensures.gives

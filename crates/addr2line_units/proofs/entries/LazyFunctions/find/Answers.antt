@@ -62,22 +62,22 @@ returns-in-Read-clause-gives g c =
     exactly_weaker (table_takes_memory probe t.value && table_takes_memory probe new) (before && table_takes_memory probe new) (option_map (function_of_place new)) c.find_place.result (function_at scope view probe)
     (and_weaker (table_takes_memory probe t.value) before (table_takes_memory probe new) (memory_before c.args.self.now c.cache.new.self (λ read. (c.cache.ensures.kept read).0) g.R.Reader.shares scope view t probe c.in-Read.is table)) gives
 
-pub returns-in-Read-clause-alone : goal.returns-in-Read-clause-alone
-returns-in-Read-clause-alone g c =
-    let alone = rw c.deref_mut.ensures.value at c.find_place.ensures.alone in
-    λ n ne. alone n ne ∙ details_before c.args.self.now c.cache.new.self (λ read. (c.cache.ensures.kept read).0) c.in-Read.functions c.cache.ensures.unread c.in-Read.is n
+pub returns-in-Read-clause-within : goal.returns-in-Read-clause-within
+returns-in-Read-clause-within g c =
+    let alone = rw c.deref_mut.ensures.value at c.find_place.ensures.within in
+    λ n ne. alone n ne ∙ details_before c.args.self.now c.cache.new.self (λ read. (c.cache.ensures.kept read).0) c.in-Read.functions c.cache.ensures.empty c.in-Read.is n
 
 pub returns-in-Faulty-clause-gives : goal.returns-in-Faulty-clause-gives
 returns-in-Faulty-clause-gives g c =
     let scope = seen_scope c.args.scope in
     λ _. function_is scope c.args.view.now c.args.probe (Err c.in-Faulty.error) (subst (λ x. AreFunctionsOf scope c.args.view.now x) c.in-Faulty.is c.cache.ensures.right)
 
-pub returns-in-Faulty-clause-stay : goal.returns-in-Faulty-clause-stay
-returns-in-Faulty-clause-stay g c =
+pub returns-in-Faulty-clause-after : goal.returns-in-Faulty-clause-after
+returns-in-Faulty-clause-after g c =
     stay_faulty c.args.self.now c.cache.new.self (λ read. (c.cache.ensures.kept read).0) c.in-Faulty.error c.in-Faulty.is
 
-pub returns-in-Faulty-clause-alone : goal.returns-in-Faulty-clause-alone
-returns-in-Faulty-clause-alone g c =
+pub returns-in-Faulty-clause-within : goal.returns-in-Faulty-clause-within
+returns-in-Faulty-clause-within g c =
     λ n ne. none_before c.args.self.now c.cache.new.self (λ read. (c.cache.ensures.kept read).0) c.in-Faulty.error c.in-Faulty.is n
 
 pub returns-in-Read-clause-kept : goal.returns-in-Read-clause-kept
@@ -100,11 +100,11 @@ returns-in_err-cache-clause-gives g c =
 pub returns-in_err-cache-clause-right : goal.returns-in_err-cache-clause-right
 returns-in_err-cache-clause-right g c = c.cache.ensures.right
 
-pub returns-in_err-cache-clause-stay : goal.returns-in_err-cache-clause-stay
-returns-in_err-cache-clause-stay g c = not_read_stay c.args.self.now c.cache.new.self (λ read. read_not_refused _ (c.in_err-cache.ensures.kept read).1)
+pub returns-in_err-cache-clause-after : goal.returns-in_err-cache-clause-after
+returns-in_err-cache-clause-after g c = not_read_stay c.args.self.now c.cache.new.self (λ read. read_not_refused _ (c.in_err-cache.ensures.kept read).1)
 
-pub returns-in_err-cache-clause-alone : goal.returns-in_err-cache-clause-alone
-returns-in_err-cache-clause-alone g c = λ n ne. ap (λ f. cached_detail (cached_functions f) n) c.in_err-cache.ensures.refused.1
+pub returns-in_err-cache-clause-within : goal.returns-in_err-cache-clause-within
+returns-in_err-cache-clause-within g c = λ n ne. ap (λ f. cached_detail (cached_functions f) n) c.in_err-cache.ensures.refused.1
 
 pub returns-in_err-cache-clause-ready : goal.returns-in_err-cache-clause-ready
 returns-in_err-cache-clause-ready g c =
@@ -137,9 +137,9 @@ returns-in-Read-clause-known g c = c.find_place.ensures.known
 pub returns-in-Read-clause-memory : goal.returns-in-Read-clause-memory
 returns-in-Read-clause-memory g c = c.find_place.ensures.memory
 
-pub returns-in-Read-clause-stay : goal.returns-in-Read-clause-stay
-returns-in-Read-clause-stay g c =
-    let stay = rw c.deref_mut.ensures.value at c.find_place.ensures.stay in
+pub returns-in-Read-clause-after : goal.returns-in-Read-clause-after
+returns-in-Read-clause-after g c =
+    let stay = rw c.deref_mut.ensures.value at c.find_place.ensures.after in
     stay_read c.args.self.now c.cache.new.self (λ read. (c.cache.ensures.kept read).0) c.in-Read.functions (with_value c.in-Read.functions c.find_place.new.functions) c.in-Read.is stay
 
 pub find_place-requires : goal.find_place-requires
@@ -173,13 +173,13 @@ returns-in-Absent-clause-gives g c =
 pub returns-in-Absent-clause-right : goal.returns-in-Absent-clause-right
 returns-in-Absent-clause-right g c = c.cache.ensures.right
 
-pub returns-in-Absent-clause-stay : goal.returns-in-Absent-clause-stay
-returns-in-Absent-clause-stay g c =
+pub returns-in-Absent-clause-after : goal.returns-in-Absent-clause-after
+returns-in-Absent-clause-after g c =
     cached_stay (seen_scope c.args.scope) c.args.view.now c.args.self.now c.cache.new.self (λ read. (c.cache.ensures.kept read).0)
 
-pub returns-in-Absent-clause-alone : goal.returns-in-Absent-clause-alone
-returns-in-Absent-clause-alone g c =
-    λ n ne. cache_reads_none c.args.self.now c.cache.new.self (λ read. (c.cache.ensures.kept read).0) c.cache.ensures.unread n
+pub returns-in-Absent-clause-within : goal.returns-in-Absent-clause-within
+returns-in-Absent-clause-within g c =
+    λ n ne. cache_reads_none c.args.self.now c.cache.new.self (λ read. (c.cache.ensures.kept read).0) c.cache.ensures.empty n
 
 pub returns-in-Absent-clause-ready : goal.returns-in-Absent-clause-ready
 returns-in-Absent-clause-ready g c = λ ne.

@@ -28,5 +28,5 @@ returns-in-Details g c =
       gives = subst (λ r. ExactlyUnlessOom (λ y. y) c.read_all.result (read_of_functions r scope view)) (sym c.in-Details.is)
           (exactly_unless_oom (reading_takes_memory shares scope view old) (λ y. y) c.read_all.result (functions_fault scope view) e.gives);
       after = subst (λ r. AfterReadingFunctions shares r scope view c.read_all.result old c.read_all.new.self) (sym c.in-Details.is)
-          (details_after shares scope view old c.read_all.new.self e.right c.read_all.result c.requires.right e.gives e.stay e.read e.details e.ready_for_all e.had_memory e.exact e.same);
+          (details_after shares scope view old c.read_all.new.self e.right c.read_all.result c.requires.right e.gives e.after e.read e.known e.whole e.memory e.exact e.kept);
     }

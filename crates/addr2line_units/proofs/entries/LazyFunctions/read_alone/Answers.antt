@@ -21,6 +21,6 @@ returns g c =
     let view = c.args.view.now in
     let e = c.in_ok-cache.ensures in
     rw c.fault.ensures.gives (record {
-      gives = exactly_this _ _ (alone_gives g.R.Reader.shares scope view c.args.self.now c.cache.new.self e.right (λ read. (e.kept read).0) e.read e.unread);
-      after = alone_after g.R.Reader.shares scope view c.args.self.now c.cache.new.self e.right (λ read. (e.kept read).0) e.read e.unread;
+      gives = exactly_this _ _ (alone_gives g.R.Reader.shares scope view c.args.self.now c.cache.new.self e.right (λ read. (e.kept read).0) e.read e.empty);
+      after = alone_after g.R.Reader.shares scope view c.args.self.now c.cache.new.self e.right (λ read. (e.kept read).0) e.read e.empty;
     })

@@ -6,7 +6,7 @@ use Rattle.addr2line_units.proofs.entries.UnitEntries.decide.Goals as goal
 pub returns-clause-right : goal.returns-clause-right
 returns-clause-right g c =
     let s = c.args.self.now in
-    unread_entries (seen_scope c.args.scope) c.args.dw_unit.now c.decide.new.self s.functions c.decide.ensures.view
+    unread_entries (seen_scope c.args.scope) c.args.dw_unit.now c.decide.new.self s.functions c.decide.ensures.right
     (c.requires.right.unread (waiting_is_undecided s.view.state c.requires.waits))
 
 pub returns-clause-refused : goal.returns-clause-refused

@@ -6,6 +6,6 @@ pub find_in_view-requires-clause-decided : goal.find_in_view-requires-clause-dec
 find_in_view-requires-clause-decided g c =
     looked_decides c.args.self.now.view.state c.requires.looked c.requires.decided
 
-pub returns-clause-only : goal.returns-clause-only
-returns-clause-only g c =
-    record { alone = c.find_in_view.ensures.alone; kept = λ has. ap (λ fs. record { view = c.args.self.now.view; functions = fs }) (c.find_in_view.ensures.same has) }
+pub returns-clause-within : goal.returns-clause-within
+returns-clause-within g c =
+    record { alone = c.find_in_view.ensures.within; kept = λ has. ap (λ fs. record { view = c.args.self.now.view; functions = fs }) (c.find_in_view.ensures.kept has) }

@@ -7,7 +7,7 @@ use Rattle.addr2line_units.proofs.entries.UnitEntries.forget.Goals as goal
 
 pub returns-then-is_answered-clause-right : goal.returns-then-is_answered-clause-right
 returns-then-is_answered-clause-right g c =
-    unread_entries (seen_scope c.args.scope) c.args.dw_unit.now c.forget.new.self Unread c.forget.ensures.view refl
+    unread_entries (seen_scope c.args.scope) c.args.dw_unit.now c.forget.new.self Unread c.forget.ensures.right refl
 
 pub returns-else-is_answered-clause-answer : goal.returns-else-is_answered-clause-answer
 returns-else-is_answered-clause-answer g c = no_answer (first_answer_of c.args.self.now) (search rules)

@@ -17,5 +17,5 @@ returns g c =
     let r = c.read_in_view in
     record {
       gives = subst (λ a. ExactlyUnlessOom (λ y. y) r.result (read_of_view c.args.depth scope (verdict scope.file.sections u a))) e.answer r.ensures.gives;
-      after = unit_after g.R.Reader.shares c.args.depth scope u c.args.self.now c.answer.new.self r.new.functions c.requires.right e.functions (λ h. (e.same h).0) e.answer e.decided r.result r.ensures.after;
+      after = unit_after g.R.Reader.shares c.args.depth scope u c.args.self.now c.answer.new.self r.new.functions c.requires.right e.functions (λ h. (e.kept h).0) e.answer e.known r.result r.ensures.after;
     }

@@ -5,8 +5,8 @@ use Rattle.addr2line_units.proofs.ViewLemmas.{answered_is_right, verdict_of_open
 use Rattle.addr2line_units.proofs.unit.UnitView.decide.Goals as goal
 use Rattle.addr2line_units.proofs.unit.UnitView.decide.Goals.{in-Ok, in-Err}
 
-pub returns-clause-view : goal.returns-clause-view
-returns-clause-view g c =
+pub returns-clause-right : goal.returns-clause-right
+returns-clause-right g c =
     let waiting : verdict c.args.dwarf.now c.args.dw_unit.now None ≡ None = waiting_is_open c.args.dwarf.now c.args.dw_unit.now c.args.self.now.state c.requires.waits c.requires.view in
     elim c.match-read_split_unit.branch [
       | in-Ok w ↦ answered_is_right _ _ _ waiting (ap unboxed w.unit-is ∙ sym w.in-Ok.ensures.gives)
@@ -15,6 +15,6 @@ returns-clause-view g c =
           answered_is_right _ _ _ waiting (ap unboxed w.unit-is ∙ sym fault)
     ]
 
-pub returns-clause-verdict : goal.returns-clause-verdict
-returns-clause-verdict g c =
+pub returns-clause-gives : goal.returns-clause-gives
+returns-clause-gives g c =
     verdict_of_open _ _ _ (waiting_is_open c.args.dwarf.now c.args.dw_unit.now c.args.self.now.state c.requires.waits c.requires.view)

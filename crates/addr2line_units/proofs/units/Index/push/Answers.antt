@@ -26,10 +26,10 @@ returns-clause-gives g c =
     c.in_ok-push_ranges.ensures.gives
     ∙ ap (λ rs. before ++ map (range_of_unit c.len.result) rs) (c.deref.ensures.value ∙ sym read)
     ∙ ap (λ n. before ++ map (range_of_unit n) (unit_ranges d ranged)) count in
-    let more = pushed d c.args.self.now.dw_units.items c.args.self.now.caches.items c.args.dw_unit c.args.lines (record { lines = c.or_line_ranges.new.self; entries = c.new.result }) c.args.listed.items before c.push_ranges.new.unit_ranges.items c.requires.read c.in_ok-ranges.ensures.lang c.in_ok-ranges.ensures.parsed ranges in
+    let more = pushed d c.args.self.now.dw_units.items c.args.self.now.caches.items c.args.dw_unit c.args.lines (record { lines = c.or_line_ranges.new.self; entries = c.new.result }) c.args.listed.items before c.push_ranges.new.unit_ranges.items c.requires.read c.in_ok-ranges.ensures.kept c.in_ok-ranges.ensures.known ranges in
     rw (c.in_ok-push.ensures.items, c.in_ok-push-2.ensures.items) more
 
-pub returns-clause-fresh : goal.returns-clause-fresh
-returns-clause-fresh g c =
-    let fresh = fresh_push c.args.self.now.dw_units.items c.args.self.now.caches.items c.args.dw_unit (record { lines = c.or_line_ranges.new.self; entries = c.new.result }) c.requires.fresh c.new.ensures.fresh in
+pub returns-clause-empty : goal.returns-clause-empty
+returns-clause-empty g c =
+    let fresh = fresh_push c.args.self.now.dw_units.items c.args.self.now.caches.items c.args.dw_unit (record { lines = c.or_line_ranges.new.self; entries = c.new.result }) c.requires.fresh c.new.ensures.empty in
     rw (c.in_ok-push.ensures.items, c.in_ok-push-2.ensures.items) fresh

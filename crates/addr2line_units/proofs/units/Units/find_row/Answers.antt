@@ -35,8 +35,8 @@ returns-in-Some-2-clause-after g c =
     let e = rw c.in-Some-2.is at c.in_ok-row.ensures in
     row_after c.args.probe (ranges_left c.args.ranges) c.in-Some.range (ranges_left c.next.new.self) (ranges_left c.loop-range.ranges) c.in-Some.ensures.steps c.args.self.now c.loop-range.self c.find_row_in.new.self c.loop-range.invariant c.in-Some-2.row e.after e.gives
 
-pub returns-in-Some-2-clause-parsed : goal.returns-in-Some-2-clause-parsed
-returns-in-Some-2-clause-parsed g c = c.in_ok-row.ensures.after.ready tt
+pub returns-in-Some-2-clause-known : goal.returns-in-Some-2-clause-known
+returns-in-Some-2-clause-known g c = c.in_ok-row.ensures.after.ready tt
 
 pub returns-in-Some-2-clause-no_memory : goal.returns-in-Some-2-clause-no_memory
 returns-in-Some-2-clause-no_memory g c = λ none. tt

@@ -56,10 +56,10 @@ returns g c =
     let is = sections_seen c.scope-scope.ensures.gives in
     let read = subst (λ d. AreLinesOf d u l.lines) is e.read in
     let found = subst (λ d. ExactlyUnlessOom (option_map (location_of_row (cached_files l.lines))) r (location_in d c.args.probe (Some (indexed_unit u v.lines)))) is e.gives in
-    let cost = subst (λ d. later ≤ s.looks + looks_in d (Some (indexed_unit u v.lines))) is e.cost in
+    let cost = subst (λ d. later ≤ s.looks + looks_in d (Some (indexed_unit u v.lines))) is e.bound in
     let alone = subst (λ d. lines_take_memory g.R.Reader.shares u ≡ false → IfErr r (λ x. location_in d c.args.probe (Some (indexed_unit u v.lines)) ≡ Err x)) is e.no_memory in
     record {
-      gives = subst (λ (y : UnitsState). ExactlyUnlessOom (option_map (λ row. row_location y (unit_row n row))) r (location_in y.scope.file.sections c.args.probe (slice_get y.units n))) c.self.view_is (row_there i c.args.number s.looks was there at l e.stays c.args.probe r read e.caches found);
-      after = rw (sym c.self.view_is) (row_after i c.args.number s.looks was there at l e.stays r later e.caches e.memory e.raised e.counted cost);
-      no_memory = subst (λ (y : UnitsState). lines_of_take_memory g.R.Reader.shares y.units n ≡ false → IfErr r (λ e. location_in y.scope.file.sections c.args.probe (slice_get y.units n) ≡ Err e)) c.self.view_is (row_alone i c.args.number s.looks was there at l e.stays g.R.Reader.shares c.args.probe r alone);
+      gives = subst (λ (y : UnitsState). ExactlyUnlessOom (option_map (λ row. row_location y (unit_row n row))) r (location_in y.scope.file.sections c.args.probe (slice_get y.units n))) c.self.view_is (row_there i c.args.number s.looks was there at l e.after c.args.probe r read e.known found);
+      after = rw (sym c.self.view_is) (row_after i c.args.number s.looks was there at l e.after r later e.known e.memory e.looks e.some cost);
+      no_memory = subst (λ (y : UnitsState). lines_of_take_memory g.R.Reader.shares y.units n ≡ false → IfErr r (λ e. location_in y.scope.file.sections c.args.probe (slice_get y.units n) ≡ Err e)) c.self.view_is (row_alone i c.args.number s.looks was there at l e.after g.R.Reader.shares c.args.probe r alone);
     }

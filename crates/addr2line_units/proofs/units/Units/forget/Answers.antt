@@ -38,5 +38,5 @@ returns g c =
     let e = c.forget.ensures in
     rw (sym c.self.view_is) (record {
       gives = sym (known_forget s.sources.units.items c.args.token.number c.in-Some.dw_unit.now there);
-      after = forgotten_there c.self.invariant c.args.token.number there c.index_mut-cache.ensures.value c.forget.new.self s.looks (seen_stop s.caches.items s.stop) e.answer e.same e.unread;
+      after = forgotten_there c.self.invariant c.args.token.number there c.index_mut-cache.ensures.value c.forget.new.self s.looks (seen_stop s.caches.items s.stop) e.answer e.kept e.empty;
     })

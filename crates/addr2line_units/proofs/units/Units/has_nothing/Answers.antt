@@ -10,6 +10,6 @@ returns-in-Some g c =
     let lookup = rw c.deref.ensures.value at c.in-Some.ensures.lookup in
     let within = ltb-true _ _ (sym lookup.0) in
     record {
-      nothing = λ known. subst (λ y. HasNothingAt y c.args.number) c.self.view_is
+      empty = λ known. subst (λ y. HasNothingAt y c.args.number) c.self.view_is
           (nothing_there c.self.invariant c.args.number s.looks (seen_stop s.caches.items s.stop) within lookup.1 (sym c.has_nothing.ensures.gives ∙ known));
     }

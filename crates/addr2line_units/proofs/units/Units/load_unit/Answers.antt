@@ -32,7 +32,7 @@ answer-requires g c =
     record { right = subst (λ S. AreEntriesOf S c.in-Some.dw_unit.now c.index_mut-cache.result.now.entries) (sym c.scope-scope.ensures.gives) (its_entries c.self.invariant c.args.token.number there c.index_mut-cache.ensures.value) }
 
 pub check_view-requires : goal.check_view-requires
-check_view-requires g c = record { right = c.answer.ensures.right; decided = c.in_ok-answer.ensures.decided }
+check_view-requires g c = record { right = c.answer.ensures.right; decided = c.in_ok-answer.ensures.known }
 
 pub invariant_of-self-2 : goal.invariant_of-self-2
 invariant_of-self-2 g c =

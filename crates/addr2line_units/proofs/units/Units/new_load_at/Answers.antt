@@ -24,8 +24,8 @@ returns-in_default g c =
     let no = no_load S.file.sections S.file.units (answers_in cs) n none in
     record {
       gives = subst (λ (y : UnitsState). None ≡ if_new marks (load_in y n)) c.self.view_is (sym (ap (if_new marks) no));
-      marked = subst (λ (y : UnitsState). MarksLoad (load_in y n) marks marks) c.self.view_is (marks_none marks (load_of_number S.file.sections S.file.units (answers_in cs) n) no);
-      not_open = λ shut. refl;
+      left = subst (λ (y : UnitsState). MarksLoad (load_in y n) marks marks) c.self.view_is (marks_none marks (load_of_number S.file.sections S.file.units (answers_in cs) n) no);
+      none = λ shut. refl;
       refused = tt;
       after = rw (sym c.self.view_is) (listing_first (λ k. k ≡ n) (seen_units S cs s.looks (seen_stop cs s.stop)));
     }
@@ -58,8 +58,8 @@ returns g c =
     let e = c.new_load.ensures in
     record {
       gives = subst (λ (y : UnitsState). IfOk c.new_load.result (λ load. load ≡ if_new marks (load_in y n))) c.self.view_is (subst (λ o. IfOk c.new_load.result (λ load. load ≡ if_new marks o)) (sym load_is) e.gives);
-      marked = subst (λ (y : UnitsState). OnOk c.new_load.result (MarksLoad (load_in y n) marks c.new_load.new.marks.items)) c.self.view_is (subst (λ o. OnOk c.new_load.result (MarksLoad o marks c.new_load.new.marks.items)) (sym load_is) e.marked);
-      not_open = subst (λ (y : UnitsState). is_open_at y.scope.file.sections y.scope.file.units y.answers n ≡ false → c.new_load.result ≡ Ok None) c.self.view_is (λ shut. e.not_open (shut_there i c.args.number there at shut));
+      left = subst (λ (y : UnitsState). OnOk c.new_load.result (MarksLoad (load_in y n) marks c.new_load.new.marks.items)) c.self.view_is (subst (λ o. OnOk c.new_load.result (MarksLoad o marks c.new_load.new.marks.items)) (sym load_is) e.left);
+      none = subst (λ (y : UnitsState). is_open_at y.scope.file.sections y.scope.file.units y.answers n ≡ false → c.new_load.result ≡ Ok None) c.self.view_is (λ shut. e.none (shut_there i c.args.number there at shut));
       refused = e.refused;
-      after = rw (sym c.self.view_is) (listed_there i c.args.number there at c.new_load.new.self s.looks (seen_stop s.caches.items s.stop) e.stay e.functions);
+      after = rw (sym c.self.view_is) (listed_there i c.args.number there at c.new_load.new.self s.looks (seen_stop s.caches.items s.stop) e.after e.functions);
     }

@@ -27,7 +27,7 @@ invariant_of-units g c =
     let lines = subst (λ d. HaveLinesOf d made.dw_units.items made.caches.items) c.deref.ensures c.in_ok-indexed.ensures.read in
     let sup = rw c.deref-2.ensures at c.in_ok-sup.ensures.gives in
     let sup_is = rw c.deref-2.ensures at c.in_ok-sup.ensures.dwarf in
-    are_units d made.dw_units.items made.caches.items made.ranges c.in_ok-sup.sup units sup sup_is lines c.in_ok-indexed.ensures.fresh
+    are_units d made.dw_units.items made.caches.items made.ranges c.in_ok-sup.sup units sup sup_is lines c.in_ok-indexed.ensures.empty
 
 pub returns : goal.returns
 returns g c =
@@ -37,4 +37,4 @@ returns g c =
     let lines = subst (λ d. HaveLinesOf d made.dw_units.items made.caches.items) c.deref.ensures c.in_ok-indexed.ensures.read in
     let sup = rw c.deref-2.ensures at c.in_ok-sup.ensures.gives in
     let sup_is = rw c.deref-2.ensures at c.in_ok-sup.ensures.dwarf in
-    record { gives = rw c.new.ensures.gives (units_made d made.dw_units.items made.caches.items made.ranges c.in_ok-sup.sup units sup sup_is lines c.in_ok-indexed.ensures.fresh) }
+    record { gives = rw c.new.ensures.gives (units_made d made.dw_units.items made.caches.items made.ranges c.in_ok-sup.sup units sup sup_is lines c.in_ok-indexed.ensures.empty) }

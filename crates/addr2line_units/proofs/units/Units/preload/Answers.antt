@@ -20,4 +20,4 @@ pub loop-range-preserved : goal.loop-range-preserved
 loop-range-preserved g c =
     let l = c.loop-range in
     let e = c.in_ok-load.ensures in
-    listed_next (ranges_left c.args.ranges) l.marks.items l.loads.items c.args.self.now l.self c.in-Some.range (ranges_left c.next.new.self) (ranges_left l.ranges) c.in-Some.ensures.steps l.invariant c.new_load_at.new.self e.after c.new_load_at.new.marks.items c.in_ok-load.load c.push_if.new.loads.items e.gives e.marked c.in_ok-push_if.ensures.gives
+    listed_next (ranges_left c.args.ranges) l.marks.items l.loads.items c.args.self.now l.self c.in-Some.range (ranges_left c.next.new.self) (ranges_left l.ranges) c.in-Some.ensures.steps l.invariant c.new_load_at.new.self e.after c.new_load_at.new.marks.items c.in_ok-load.load c.push_if.new.loads.items e.gives e.left c.in_ok-push_if.ensures.gives

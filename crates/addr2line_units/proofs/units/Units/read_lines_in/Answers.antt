@@ -53,6 +53,6 @@ returns g c =
     let told = subst (λ d. ExactlyUnlessOom (λ _. cached_lines l.lines) r (lines_result d u)) is e.gives in
     let alone = subst (λ d. lines_take_memory g.R.Reader.shares u ≡ false → IfErr r (λ x. lines_result d u ≡ Err x)) is e.no_memory in
     record {
-      gives = subst (λ (y : UnitsState). ExactlyUnlessOom (λ x. x) r (lines_result_at y.scope.file.sections (slice_get y.units c.args.number))) c.self.view_is (read_there i c.args.number s.looks was there at l (record { language = e.lang; lines = e.stays }) (cached_lines l.lines) r told);
-      after = rw (sym c.self.view_is) (caching_after i c.args.number s.looks was there at l (record { language = e.lang; lines = e.stays }) g.R.Reader.shares r (answer_cached v.lines.lines r l.lines e.caches) e.memory alone);
+      gives = subst (λ (y : UnitsState). ExactlyUnlessOom (λ x. x) r (lines_result_at y.scope.file.sections (slice_get y.units c.args.number))) c.self.view_is (read_there i c.args.number s.looks was there at l (record { language = e.kept; lines = e.after }) (cached_lines l.lines) r told);
+      after = rw (sym c.self.view_is) (caching_after i c.args.number s.looks was there at l (record { language = e.kept; lines = e.after }) g.R.Reader.shares r (answer_cached v.lines.lines r l.lines e.known) e.memory alone);
     }

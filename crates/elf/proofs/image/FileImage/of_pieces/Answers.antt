@@ -14,10 +14,10 @@ returns c =
     let some : 0 < length ps = grind (arith, nat_tests) in
     let all : first ∷ c.remove-first.new.self.items ≡ ps = ap (λ (qs : List Piece). first ∷ qs) c.remove-first.ensures.items ∙ first_and_rest ps first c.remove-first.ensures.value some in
     let Ordered : List Piece → Type 0 = λ (qs : List Piece). ArePiecesInOrder 0 c.args.len qs in
-    let ordered : Ordered ps = subst Ordered c.deref.ensures.value (c.are_in_order.ensures.in_order c.if-not-are_in_order.false) in
+    let ordered : Ordered ps = subst Ordered c.deref.ensures.value (c.are_in_order.ensures.gives c.if-not-are_in_order.false) in
     let image : List Piece → Image = λ (qs : List Piece). record { len = c.args.len; pieces = qs } in
     record {
-      shows = λ bytes size are. subst (λ (qs : List Piece). Shows (image qs) bytes) (sym all) (pieces_show c.args.len ps bytes ordered size are);
+      right = λ bytes size are. subst (λ (qs : List Piece). Shows (image qs) bytes) (sym all) (pieces_show c.args.len ps bytes ordered size are);
       gives = ap image all;
       found = λ any in_order. refl;
     }

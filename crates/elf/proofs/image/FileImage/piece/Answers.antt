@@ -18,4 +18,4 @@ returns c =
     let all = piece_found (λ (p : Bor Piece). p.now) i start len r c.self.invariant search_is in
     let P : Image → Type 0 = λ (v : Image). IfSome r (λ p. HasPart start len v p.now) × (is_some r ≡ is_held start len v) × (r ≡ None → len ≡ 1 → get_or (image_bytes v) start 0 ≡ 0) in
     let seen = subst P c.self.view_is all in
-    record { gives = seen.0; some = seen.1; zero = seen.2 }
+    record { gives = seen.0; some = seen.1; none = seen.2 }

@@ -22,5 +22,5 @@ returns-then-is_err-clause-gives g c =
 pub returns-then-is_err-clause-refused : goal.returns-then-is_err-clause-refused
 returns-then-is_err-clause-refused g c = after_refusal c.find_row-found.result (over _ _ _ c.skip_rest.ensures.none)
 
-pub returns-else-is_err-clause-all : goal.returns-else-is_err-clause-all
-returns-else-is_err-clause-all g c = after_end c.find_row-found.result (over _ _ _) c.find_row-found.ensures.all
+pub returns-else-is_err-clause-none : goal.returns-else-is_err-clause-none
+returns-else-is_err-clause-none g c = after_end c.find_row-found.result (over _ _ _) c.find_row-found.ensures.none

@@ -11,4 +11,4 @@ returns g c =
     let h = a.header in
     let run = instructions_of h (g.R.Reader.section a.program) in
     let P : Lines → Type 0 = λ v. NeverFalls (rows_before v.left) in
-    record { rise = subst P c.self.view_is (never_falls h.line_encoding (opcodes_in run.items) run.end a.registers) }
+    record { law = subst P c.self.view_is (never_falls h.line_encoding (opcodes_in run.items) run.end a.registers) }

@@ -123,8 +123,8 @@ decided_seen faults d answers probe n frames is = of_index (index_units d) is
     of_index (Err e) h = refl
     of_index (Ok m) h =
         let asked = asked_frames faults (main_scope d m) m.units answers probe in
-        let first_location = found_along (λ _. true) asked n frames (cover probe m.ranges) (always_along asked (cover probe m.ranges)) h in
-        let there = found_by_unit faults (frames_of_number (main_scope d m) m.units answers probe n) first_location.0 in
+        let along = found_along (λ _. true) asked n frames (cover probe m.ranges) (always_along asked (cover probe m.ranges)) h in
+        let there = found_by_unit faults (frames_of_number (main_scope d m) m.units answers probe n) along.0 in
         let known = subst (λ o. option_and_then (λ u. verdict d u (answer_of answers n)) o ≢ None) (sym (slice_get-map (λ (u : IndexedUnit). u.unit) m.units n)) (found_view d m answers probe n (slice_get m.units n) there) in
         ap readable_view (decided_view d (unit_records m.units) answers n known)
 

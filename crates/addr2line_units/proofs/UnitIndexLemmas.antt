@@ -277,8 +277,8 @@ module _ (d : Sections) (h : UnitHeaderFields) (outside : has_abbreviations d h 
   pub nothing_taken : (shares : Bool) (cache : CachedTables) → cache.dwarf ≡ d → cached_unit_takes_memory shares cache h ≡ false
   nothing_taken shares cache same = of_bool (is_cached h.debug_abbrev_offset cache) (from_offset h.debug_abbrev_offset cache.dwarf.debug_abbrev) (ap (λ (s : Sections). from_offset h.debug_abbrev_offset s.debug_abbrev) same ∙ outside_is)
     where
-      of_bool : (b : Bool) (r : Result Section Error) → r ≡ Err OffsetOutOfBounds → (if b then entry_takes_memory shares h (r >>= table_at) else is_ok r) ≡ false
-      of_bool true r e = ap (λ x. entry_takes_memory shares h (x >>= table_at)) e
+      of_bool : (b : Bool) (r : Result Section Error) → r ≡ Err OffsetOutOfBounds → (if b then entry_takes_memory shares cache.dwarf h (r >>= table_at) else is_ok r) ≡ false
+      of_bool true r e = ap (λ x. entry_takes_memory shares cache.dwarf h (x >>= table_at)) e
       of_bool false r e = ap is_ok e
 
 -- a unit for which memory was taken, or whose record is read, has abbreviations

@@ -1,7 +1,9 @@
--- A unit whose root entry is read has abbreviations, which take memory (on specs/Unit.antt).
-use Rattle.std.proofs.Common.{◌≡◌, ℕ, ◌==◌, ◌||◌, Bool, true, false, cond, List, [], Option, Some, None, IfOk, Result, Ok, Err, refl, ap, sym, ◌∙◌}
+-- A unit whose root entry is read has abbreviations, which take memory, and where what the root
+-- entry leads to does (on specs/Unit.antt and specs/UnitMemory.antt).
+use Rattle.std.proofs.Common.{◌≡◌, ◌≢◌, ℕ, ◌==◌, ◌||◌, Bool, true, false, cond, List, [], Option, Some, None, unwrap_or, is_ok, IfOk, Result, Ok, Err, refl, ap, sym, ◌∙◌}
+use Rattle.std.proofs.lemmas.Bool.{or_left, or_right}
 use Rattle.gimli_read.specs.declared.error.Error.{Error}
-use Rattle.gimli_read.specs.declared.error.Error.TheVariants.{UnknownAbbreviation}
+use Rattle.gimli_read.specs.declared.error.Error.TheVariants.{OutOfMemory, UnknownAbbreviation}
 use Rattle.gimli_read.specs.declared.endian.Encoding.{Encoding}
 use Rattle.gimli_read.specs.Section.{Section}
 use Rattle.gimli_read.specs.Reading.{Reading, ◌>>=◌}
@@ -9,13 +11,16 @@ use Rattle.gimli_read.specs.Leb128.{uleb128_at}
 use Rattle.gimli_read.specs.Abbreviations.{Abbrev}
 use Rattle.gimli_read.specs.Abbrev.{abbreviation_at, table_at, takes_memory}
 use Rattle.gimli_read.proofs.AbbrevLemmas.{table_ends, table_fault, abbreviation_front}
+use Rattle.gimli_line.specs.Header.{Program}
+use Rattle.gimli_line.specs.Program.{line_program_at}
+use Rattle.gimli_line.specs.TableMemory.{line_program_takes_memory}
 use Rattle.gimli.specs.Entry.{entry_code_at, root_specifications, root_attributes, attributes_at}
 use Rattle.gimli.specs.Header.{UnitHeaderFields}
 use Rattle.gimli.specs.Record.{RootValues, root_values_of}
 use Rattle.gimli.specs.Sections.{Sections}
 use Rattle.gimli.specs.Text.{from_offset}
-use Rattle.gimli.specs.Unit.{UnitRecord, completed_record, unit_by, unit_record_of}
-use Rattle.gimli.specs.UnitMemory.{abbreviations_take_memory, unit_takes_memory}
+use Rattle.gimli.specs.Unit.{UnitRecord, completed_record, program_and_low_pc_of, unit_by, unit_record_of}
+use Rattle.gimli.specs.UnitMemory.{abbreviations_take_memory, root_takes_memory, stmt_list_takes_memory, unit_takes_memory}
 
 -- a reading of no value
 record NeverOk {A : Type 0} (r : Result A Error) : Type 0 where
@@ -104,3 +109,23 @@ read_takes_memory shares d header u h = by_rest (from_offset header.debug_abbrev
         → ((r >>= table_at) >>= λ t. root_values_of header.encoding t header.entries >>= λ v. completed_record d header t v) ≡ Ok u → unit_takes_memory shares d header ≡ true
     by_rest (Err e) a p = absurd cc
     by_rest (Ok rest) a p = by_table rest (table_at rest) a refl p
+
+-- a line program that is read takes memory
+pub program_takes : (shares : Bool) (d : Sections) (e : Encoding) (offset : ℕ) (rest : Section) (p : Program) → from_offset offset d.debug_line ≡ Ok rest → line_program_at e.address_size rest ≡ Ok p → stmt_list_takes_memory shares d e (Some offset) ≡ true
+program_takes shares d e offset rest p h k = rw h (or_right (shares || line_program_takes_memory shares e.address_size rest) _ (ap is_ok k))
+
+-- a unit by the line program and the low_pc of its root entry
+module _ (shares : Bool) (d : Sections) (header : UnitHeaderFields) (table : List Abbrev) (root : RootValues) where
+  abbrev start_of : Result (Option Program × ℕ) Error
+  start_of = program_and_low_pc_of d header.encoding (unwrap_or root.addr_base 0) root
+
+  -- their fault is its own, and memory for them is memory for it
+  pub record_refused : (e : Error) → ((stmt_list_takes_memory shares d header.encoding root.stmt_list ≡ true → e ≢ OutOfMemory) → start_of ≡ Err e)
+      → (root_takes_memory shares d header table root ≡ true → e ≢ OutOfMemory) → completed_record d header table root ≡ Err e
+  unfolding completed_record
+  record_refused e h n = rw (h (λ t. n (or_left _ _ t))) refl
+
+  -- where they have no fault memory may be taken
+  pub record_takes : (start : Option Program × ℕ) → start_of ≡ Ok start → root_takes_memory shares d header table root ≡ true
+  unfolding completed_record
+  record_takes start h = or_right (stmt_list_takes_memory shares d header.encoding root.stmt_list) (is_ok (completed_record d header table root)) (rw h refl)

@@ -71,15 +71,15 @@ fn read_unit<R: Reader>(
     table: &Result<Rc<Abbreviations>, Error>,
 ) -> Result<Unit<R>, Error>
     ensures gives { ExactlyUnlessOomIf
-        (entry_takes_memory R.shares header (seen_table (λ a. a.value) table.now)) (λ u. u) result
-        (unit_by dwarf.now header (seen_table (λ a. a.value) table.now)) }
+        (entry_takes_memory R.shares dwarf.now header (seen_table (λ a. a.value) table.now))
+        (λ u. u) result (unit_by dwarf.now header (seen_table (λ a. a.value) table.now)) }
 {
     let abbreviations = match table {
         Ok(abbreviations) => abbreviations,
         Err(fault) => return Err(*fault),
     };
     let root = read_root(&header, abbreviations)?;
-    complete(alloc, dwarf, header, abbreviations.clone()?, root)
+    complete(alloc, dwarf, header, abbreviations, root)
 }
 
 // The room after a table.
@@ -139,8 +139,9 @@ impl<'a, R: Reader> AbbreviationsCache<'a, R> {
     /// it isn't cached.
     ///
     /// Refused as `Dwarf::unit` is. May fail with `OutOfMemory` instead, which is never cached:
-    /// where its table is in the section and not cached, and with a cached table where its root
-    /// entry is read or readers share their bytes. With a cached fault it takes no memory.
+    /// where its table is in the section and not cached; with a cached table where readers share
+    /// their bytes, where its record has no fault, or where the header of its line program has none
+    /// or has something to store. With a cached fault it takes no memory.
     pub fn unit(&mut self, alloc: Global, header: UnitHeader<R>) -> Result<Unit<R>, Error>
         ensures gives { ExactlyUnlessOomIf
             (cached_unit_takes_memory R.shares self.old header) (λ u. u) result

@@ -1,11 +1,11 @@
 //! Units: headers with what their root entry says.
 
-ghost use Rattle.std.specs.Prelude.{◌≡◌, Ok, Some, box_value, is_some, option_map};
-ghost use Rattle.gimli_read.specs.Reading.{Exactly, ExactlyUnlessOom, ExactlyUnlessOomFor, ExactlyUnlessOomIf};
+ghost use Rattle.std.specs.Prelude.{◌≡◌, Ok, Some, box_value, option_map};
+ghost use Rattle.gimli_read.specs.Reading.{Exactly, ExactlyUnlessOomFor, ExactlyUnlessOomIf};
 ghost use Rattle.gimli_read.specs.Form.{seen_value};
 ghost use Rattle.gimli.specs.Split.{dwo_name_fault, dwo_name_of, relocated};
 ghost use Rattle.gimli.specs.Unit.{first_base, low_pc_of, line_program_of, name_and_directory_of, program_and_low_pc_of, readable_string, dwo_id_of, completed_record, unit_record_of};
-ghost use Rattle.gimli.specs.UnitMemory.{gives_bytes_if, gives_some, if_without_bytes, root_takes_memory, unit_takes_memory};
+ghost use Rattle.gimli.specs.UnitMemory.{gives_bytes_if, gives_some, if_without_bytes, stmt_list_takes_memory, root_takes_memory, unit_takes_memory};
 
 use crate::constants::{
     RNGLISTS_HEADER_32, RNGLISTS_HEADER_64, STR_OFFSETS_HEADER_32, STR_OFFSETS_HEADER_64,
@@ -110,7 +110,7 @@ fn read_low_pc<R: Reader>(
 }
 
 // The line program at an offset. A call of its own, so that a unit without one doesn't clear what
-// it is stored in.
+// it is stored in. The box comes last, so that a fault of the header takes no memory.
 #[inline(never)]
 fn read_program_at<R: Reader>(
     alloc: Global,
@@ -118,23 +118,24 @@ fn read_program_at<R: Reader>(
     encoding: Encoding,
     offset: u64,
 ) -> Result<Option<Box<IncompleteLineProgram<R>>>, Error>
-    ensures gives { ExactlyUnlessOom (option_map box_value) result
-        (line_program_of dwarf.now encoding (Some offset)) }
+    ensures gives { ExactlyUnlessOomIf
+        (stmt_list_takes_memory R.shares dwarf.now encoding (Some offset)) (option_map box_value)
+        result (line_program_of dwarf.now encoding (Some offset)) }
 {
     let rest = read_from(&dwarf.debug_line.section, offset)?;
     let program = read_line_program(alloc, rest, encoding.address_size)?;
     Ok(Some(Box::new(alloc, program)?))
 }
 
-// The line program at the offset that stmt_list gives, if it gives one. Else takes no memory.
+// The line program at the offset that stmt_list gives, if it gives one.
 fn read_program<R: Reader>(
     alloc: Global,
     dwarf: &Dwarf<R>,
     encoding: Encoding,
     stmt_list: Option<u64>,
 ) -> Result<Option<Box<IncompleteLineProgram<R>>>, Error>
-    ensures gives { ExactlyUnlessOomIf (is_some stmt_list) (option_map box_value) result
-        (line_program_of dwarf.now encoding stmt_list) }
+    ensures gives { ExactlyUnlessOomIf (stmt_list_takes_memory R.shares dwarf.now encoding stmt_list)
+        (option_map box_value) result (line_program_of dwarf.now encoding stmt_list) }
 {
     match stmt_list {
         Some(offset) => read_program_at(alloc, dwarf, encoding, offset),
@@ -175,8 +176,7 @@ fn dwo_id_of(in_header: Option<DwoId>, given: Option<u64>) -> Option<DwoId>
     }
 }
 
-// The line program, and then the address of low_pc. `OutOfMemory` only where the root entry gives a
-// line program.
+// The line program, and then the address of low_pc.
 fn read_program_and_low_pc<R: Reader>(
     alloc: Global,
     dwarf: &Dwarf<R>,
@@ -184,7 +184,8 @@ fn read_program_and_low_pc<R: Reader>(
     addr_base: u64,
     root: &RootAttributes<R>,
 ) -> Result<(Option<Box<IncompleteLineProgram<R>>>, u64), Error>
-    ensures gives { ExactlyUnlessOomIf (is_some root.now.stmt_list)
+    ensures gives { ExactlyUnlessOomIf
+        (stmt_list_takes_memory R.shares dwarf.now encoding root.now.stmt_list)
         (λ x. (option_map box_value x.0, x.1)) result
         (program_and_low_pc_of dwarf.now encoding addr_base root.now) }
 {
@@ -212,18 +213,19 @@ fn read_name_and_directory<R: Reader>(
 
 /// The unit of a header, whose root entry has these values.
 ///
-/// Refused by its line program's header, then by the index of its low_pc; `OutOfMemory` only where
-/// bytes are shared or the root entry gives a line program.
+/// Refused by its line program's header, then by the index of its low_pc. `OutOfMemory` only where
+/// reading that header takes memory, or where neither has a fault.
 #[tactic(auto, unfolding(crate::specs::Unit::completed_record))]
 pub(crate) fn complete<R: Reader>(
     alloc: Global,
     dwarf: &Dwarf<R>,
     header: UnitHeader<R>,
-    abbreviations: Rc<Abbreviations>,
+    abbreviations: &Rc<Abbreviations>,
     root: RootAttributes<R>,
 ) -> Result<Unit<R>, Error>
-    ensures gives { ExactlyUnlessOomIf (root_takes_memory R.shares root) (λ u. u) result
-        (completed_record dwarf.now header abbreviations.value root) }
+    ensures gives { ExactlyUnlessOomIf
+        (root_takes_memory R.shares dwarf.now header abbreviations.now.value root) (λ u. u) result
+        (completed_record dwarf.now header abbreviations.now.value root) }
 {
     let encoding = header.encoding;
     let file_type = dwarf.file_type;
@@ -241,6 +243,8 @@ pub(crate) fn complete<R: Reader>(
         encoding,
     ));
     let (line_program, low_pc) = read_program_and_low_pc(alloc, dwarf, encoding, addr_base, &root)?;
+    // A count of users may be refused, so the faults come first.
+    let abbreviations = abbreviations.clone()?;
     let dwo_id = dwo_id_of(header.dwo_id, root.dwo_id);
     let (name, comp_dir) = read_name_and_directory(dwarf, encoding.format, str_offsets_base, root)?;
     Ok(Unit {
@@ -275,7 +279,7 @@ impl<R: Reader> Dwarf<R> {
         let abbreviations = Abbreviations::parse(alloc, rest)?;
         let root = read_root(&header, &abbreviations)?;
         let abbreviations = Rc::new(alloc, abbreviations)?;
-        complete(alloc, self, header, abbreviations, root)
+        complete(alloc, self, header, &abbreviations, root)
     }
 }
 

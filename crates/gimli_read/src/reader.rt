@@ -75,7 +75,7 @@ pub trait Reader: Clone {
     /// The bytes as text, where it was noted that they are UTF-8. Takes no memory.
     fn known_text(&self) -> Option<&str>
         ensures gives { IfSome result (λ text. text.now ≡ (section self.now).bytes) }
-        ensures utf8 { IfSome result (λ _. IsUtf8 (section self.now).bytes) }
+        ensures right { IfSome result (λ _. IsUtf8 (section self.now).bytes) }
     {
         None
     }

@@ -225,7 +225,8 @@ fn resume_with<'ctx, R: Reader, K: Lent<'ctx, Context<R>>>(
         ctx.old n)) }
     ensures left { IfLoad result (λ c. SuspendsAgainIn K.faults ctx.entry probe number
         (option_map (λ d. d.value) input) c.ctx c.probe c.number c.load) }
-    ensures shorter { IfLoad result (λ c. count_loads c.ctx.now c.probe < count_loads ctx.old probe) }
+    ensures shorter { IfLoad result (λ c. count_loads c.ctx.now c.probe
+        < count_loads ctx.old probe) }
     ensures gives { IfOutput result (λ o. ExactlyUnlessOom (λ f. Some (K.see f)) o
         (found_answered K.faults K.value_of ctx.old number (option_map (λ d. d.value) input)
         probe)) }

@@ -59,7 +59,8 @@ pub(crate) trait Table {
 fn last_sequence<T: Table>(table: &mut T, probe: u64) -> Option<LineSequence>
     requires ordered { IsInOrder packed_sooner (T.sequences table.old) }
     ensures found { result ≡ last (at_or_below packed_start probe (T.sequences table.old)) }
-    ensures bound { T.looks table.new ≤ T.looks table.old + digits (length (T.sequences table.old)) }
+    ensures bound { T.looks table.new
+        ≤ T.looks table.old + digits (length (T.sequences table.old)) }
     ensures looks { T.looks table.old ≤ T.looks table.new }
     ensures sequences { T.sequences table.new ≡ T.sequences table.old }
     ensures rows { T.rows table.new ≡ T.rows table.old }

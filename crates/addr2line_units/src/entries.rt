@@ -169,7 +169,8 @@ impl<R: Reader> LazyFunctions<R> {
             IfSome found (ArePlacesIn (cached_functions self.new))) }
         ensures right { AreFunctionsOf (seen_scope scope.entry) view.now self.new }
         ensures after { StayFunctions self.old self.new }
-        ensures within { ReadsNoOther probe (cached_functions self.old) (cached_functions self.new) }
+        ensures within { ReadsNoOther probe (cached_functions self.old)
+            (cached_functions self.new) }
         ensures ready { result ≢ Err OutOfMemory
             → find_takes_memory R.shares (seen_scope scope.entry) view.now probe self.new
             ≡ exceeds_inline_room (cached_inlined_at probe (cached_functions self.new)) }

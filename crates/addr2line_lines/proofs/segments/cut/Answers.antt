@@ -6,8 +6,8 @@ use Rattle.addr2line_lines.proofs.segments.cut.Goals as goal
 
 pub loop-address-init : goal.loop-address-init
 loop-address-init c =
-    let a = ap length c.new-sweep.ensures.empty.2.2 in
-    let b = ap length c.new-sweep.ensures.empty.2.1 in
+    let a = ap length c.new-sweep.ensures.empty.2 in
+    let b = ap length c.new-sweep.ensures.empty.1 in
     record { swept = c.new-sweep.ensures.right c.args.addresses.now; few = omega arith }
 
 pub returns-clause-gives : goal.returns-clause-gives

@@ -16,8 +16,8 @@ loop-index-init g c =
       gives = ap (λ m. units_of (unit_of_header d aranges) c.in_ok-headers.headers >>= λ units. Ok (appended d m units)) c.new-index.ensures.none ∙ ap (λ headers. units_of (unit_of_header d aranges) headers >>= λ units. Ok (index_of d units)) all;
       some = λ e. some_headers g.R.Reader.shares (indexed_unit_takes_memory d) d (ap (some_take_memory (indexed_unit_takes_memory d)) (sym all) ∙ e);
       same = search rules;
-      read = rw (c.new-index.ensures.empty.1, c.new-index.ensures.empty.2) tt;
-      fresh = rw (c.new-index.ensures.empty.1, c.new-index.ensures.empty.2) tt;
+      read = rw (c.new-index.ensures.empty.0, c.new-index.ensures.empty.1) tt;
+      fresh = rw (c.new-index.ensures.empty.0, c.new-index.ensures.empty.1) tt;
     }
 
 pub loop-index-smaller : goal.loop-index-smaller

@@ -2,14 +2,13 @@
 use Rattle.std.proofs.Common.{◌≡◌, ℕ, ◌*◌, ◌<◌, Bool, true, false, cond, List, [], ◌∷◌, length, filter_map, Option, Some, None, IfOk, IfSome, Ok, Err, ltb, refl, ap, sym, ◌∙◌, arith, length-drop}
 use Rattle.std.proofs.lemmas.Bool.Decides.{nat_tests}
 use Rattle.gimli_read.specs.declared.error.Error.{Error}
-use Rattle.gimli_read.specs.declared.error.Error.TheVariants.{UnsupportedAddressSize}
 use Rattle.gimli_read.specs.declared.range.Range.{Range}
 use Rattle.gimli_read.specs.Section.{Section, after}
 use Rattle.gimli_read.specs.Reading.{Reading, ◌>>=◌}
-use Rattle.gimli_read.specs.Number.{is_address_size, fixed_at, address_at}
+use Rattle.gimli_read.specs.Number.{is_address_size, address_at}
 use Rattle.gimli_read.specs.Run.{Run, next_of, continued, run_of}
 use Rattle.gimli_read.specs.Yields.{next_given}
-use Rattle.gimli_read.proofs.Shorter.{Shorter, shorter_bind, shorter_then, shorter_ok, shorter_err, fixed-shorter, initial_length-shorter, split-shorter, TakesBytes}
+use Rattle.gimli_read.proofs.Shorter.{Shorter, shorter_bind, shorter_then, shorter_ok, initial_length-shorter, split-shorter, TakesBytes, address-shorter}
 use Rattle.gimli_read.proofs.RunLemmas.{run_of-step}
 use Rattle.gimli_read.proofs.Steps.{end_is_none, same_rest}
 use Rattle.gimli.specs.Aranges.{ArangeSet, arange_set_at, next_set_at, arange_sets_of, next_pair_at, arange_of, aranges_of}
@@ -33,19 +32,12 @@ pub no_sets : (s : Section) → length s.bytes ≡ 0 → arange_sets_of s ≡ []
 unfolding next_set_at
 no_sets s e = end_is_empty arange_set_at set_shorter s e
 
-address_shorter : (size : ℕ) (s : Section) → Shorter (length s.bytes) (address_at size s)
-address_shorter size s = at (is_address_size size) refl
-  where
-    at : (b : Bool) → is_address_size size ≡ b → Shorter (length s.bytes) (cond b (fixed_at size s) (Err UnsupportedAddressSize))
-    at true h = fixed-shorter size s (grind (arith, nat_tests))
-    at false h = shorter_err
-
 pub pair_takes : (size : ℕ) → TakesBytes (next_pair_at size)
 unfolding next_pair_at
 pair_takes size s = at (ltb (length s.bytes) (2 * size))
   where
     pair : Shorter {A = Option (ℕ × ℕ)} (length s.bytes) (address_at size s >>= λ a. address_at size a.1 >>= λ n. Ok (Some (a.0, n.0), n.1))
-    pair = shorter_bind (address_shorter size s) (λ a h. shorter_bind (address_shorter size a.1) (λ n k. shorter_ok (omega arith)))
+    pair = shorter_bind (address-shorter size s) (λ a h. shorter_bind (address-shorter size a.1) (λ n k. shorter_ok (omega arith)))
 
     some : (r : Reading (Option (ℕ × ℕ))) → IfOk r (λ x. length x.1.bytes < length s.bytes) → IfOk r (λ p. IfSome p.0 (λ _. length p.1.bytes < length s.bytes))
     some (Ok (Some x, t)) k = k

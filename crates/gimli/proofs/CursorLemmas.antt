@@ -100,6 +100,10 @@ item_is unit c = at (length c.left.bytes == 0) (entry_code_at unit.abbreviations
     at true r = refl
     at false r = coded r
 
+-- where bytes are left the item is that of a code
+pub item_coded : (unit : EntryUnit) (c : EntryCursor) → (length c.left.bytes == 0) ≡ false → next_item_at unit c ≡ (entry_abbreviation_at unit.abbreviations c >>= λ x. item_from unit c x)
+item_coded unit c h = item_is unit c ∙ ap (λ b. cond b (Ok (None, c)) (entry_abbreviation_at unit.abbreviations c >>= λ x. item_from unit c x)) h
+
 -- the next item of a place is the item that its bytes begin with
 pub next_of_item : (unit : EntryUnit) (depth : ℤ) (s rest : Section) (o : Option Item) → item_at unit depth s ≡ Ok (o, rest)
     → next_item_at unit (record { left = s; depth = depth }) ≡ Ok (o, record { left = rest; depth = depth_after_next o depth })

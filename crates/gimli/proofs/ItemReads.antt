@@ -22,7 +22,7 @@ use Rattle.gimli.specs.ItemLaws.{AreAttributes, IsEntryText, AreItems, ItemsAlon
 use Rattle.gimli.proofs.ItemTexts.{item_text}
 
 -- the text of an item has a byte at least
-text_some : (unit : EntryUnit) (order : RunTimeEndian) (o : Option Entry) (text : List ℕ) → IsEntryText unit order o text → 0 < length text
+pub text_some : (unit : EntryUnit) (order : RunTimeEndian) (o : Option Entry) (text : List ℕ) → IsEntryText unit order o text → 0 < length text
 text_some unit order None text h = h.0.some
 text_some unit order (Some e) text h =
     let some = h.4.0.some in

@@ -1,5 +1,5 @@
 -- Range lists, one entry on (on specs/RangeListEntries.antt and specs/Ranges.antt).
-use Rattle.std.proofs.Common.{◌≡◌, ℕ, zero, suc, ◌+◌, ◌-◌, ◌*◌, ◌^◌, ◌%◌, ◌==◌, bit_and, true, List, [], ◌∷◌, length, Option, Some, None, Result, Ok, Err, ap, sym, ◌∙◌, arith}
+use Rattle.std.proofs.Common.{◌≡◌, ℕ, ◌+◌, ◌-◌, ◌*◌, ◌^◌, ◌%◌, ◌==◌, bit_and, true, List, [], ◌∷◌, length, Option, Some, None, Result, Ok, Err, ap, sym, ◌∙◌, arith}
 use Rattle.std.proofs.lemmas.Nat.{and_mask}
 use lib.Pow.{mod-mod-pow}
 use Rattle.gimli_read.specs.declared.error.Error.{Error}
@@ -12,7 +12,7 @@ use Rattle.gimli_read.specs.Number.{is_address_size, address_at}
 use Rattle.gimli_read.specs.Leb128.{uleb128_at}
 use Rattle.gimli_read.specs.Run.{Run, next_of, continued}
 use Rattle.gimli_read.proofs.RunLemmas.{run_of-step}
-use Rattle.gimli_read.proofs.Shorter.{Shorter, TakesBytes, takes_by, shorter_bind, shorter_if, shorter_ok, shorter_err, fixed-shorter, uleb128-shorter}
+use Rattle.gimli_read.proofs.Shorter.{Shorter, TakesBytes, takes_by, shorter_bind, shorter_if, shorter_ok, shorter_err, fixed-shorter, uleb128-shorter, address-shorter}
 use Rattle.gimli.specs.declared.constants.TheConstants.{DW_RLE_end_of_list, DW_RLE_base_addressx, DW_RLE_startx_endx, DW_RLE_startx_length, DW_RLE_offset_pair, DW_RLE_base_address, DW_RLE_start_end, DW_RLE_start_length}
 use Rattle.gimli.specs.declared.rnglists.RangeListEntry.{RangeListEntry}
 use Rattle.gimli.specs.declared.rnglists.RangeListEntry.TheVariants.{BaseAddressx, StartxEndx, StartxLength, OffsetPair, BaseAddress, StartEnd, StartLength}
@@ -32,11 +32,6 @@ masked n j k h =
 pub masked_sum : (size a b : ℕ) → is_address_size size ≡ true → bit_and ((a + b) % 2 ^ 64) (greatest_address size) ≡ sum_of_size size a b
 masked_sum size a b h = let l = size_small size h in masked (a + b) (64 - 8 * size) (8 * size) (omega arith)
 
--- each field takes a byte at least
-address_shorter : (size : ℕ) (s : Section) → Shorter (length s.bytes) (address_at size s)
-address_shorter zero s = record { by = tt }
-address_shorter (suc n) s = shorter_if (is_address_size (suc n)) (fixed-shorter (suc n) s (omega arith)) shorter_err
-
 one_shorter : (make : ℕ → RangeListEntry) (field : Section → Reading ℕ) → ((s : Section) → Shorter (length s.bytes) (field s)) → (s : Section) → Shorter (length s.bytes) (mapped make (field s))
 one_shorter make field h s = shorter_bind (h s) (λ x k. shorter_ok k)
 
@@ -51,9 +46,9 @@ fields_shorter size kind s =
     (shorter_if (kind == DW_RLE_startx_endx) (two_shorter StartxEndx uleb128_at uleb128_at uleb128-shorter uleb128-shorter s)
     (shorter_if (kind == DW_RLE_startx_length) (two_shorter StartxLength uleb128_at uleb128_at uleb128-shorter uleb128-shorter s)
     (shorter_if (kind == DW_RLE_offset_pair) (two_shorter OffsetPair uleb128_at uleb128_at uleb128-shorter uleb128-shorter s)
-    (shorter_if (kind == DW_RLE_base_address) (one_shorter BaseAddress (address_at size) (address_shorter size) s)
-    (shorter_if (kind == DW_RLE_start_end) (two_shorter StartEnd (address_at size) (address_at size) (address_shorter size) (address_shorter size) s)
-    (shorter_if (kind == DW_RLE_start_length) (two_shorter StartLength (address_at size) uleb128_at (address_shorter size) uleb128-shorter s) shorter_err))))))
+    (shorter_if (kind == DW_RLE_base_address) (one_shorter BaseAddress (address_at size) (address-shorter size) s)
+    (shorter_if (kind == DW_RLE_start_end) (two_shorter StartEnd (address_at size) (address_at size) (address-shorter size) (address-shorter size) s)
+    (shorter_if (kind == DW_RLE_start_length) (two_shorter StartLength (address_at size) uleb128_at (address-shorter size) uleb128-shorter s) shorter_err))))))
 
 rnglists_entry_shorter : (size : ℕ) (s : Section) → Shorter (length s.bytes) (rnglists_entry_at size s)
 unfolding rnglists_entry_at
@@ -65,7 +60,7 @@ rnglists_entry_shorter size s =
 ranges_entry_shorter : (size : ℕ) (s : Section) → Shorter (length s.bytes) (ranges_entry_at size s)
 unfolding ranges_entry_at
 ranges_entry_shorter size s =
-    shorter_bind (address_shorter size s) (λ x h. shorter_bind (address_shorter size x.1) (λ y k. shorter_ok (omega (arith, h, k))))
+    shorter_bind (address-shorter size s) (λ x h. shorter_bind (address-shorter size x.1) (λ y k. shorter_ok (omega (arith, h, k))))
 
 entry_shorter : (encoding : Encoding) (s : Section) → Shorter (length s.bytes) (range_list_entry_at encoding s)
 unfolding range_list_entry_at

@@ -1,5 +1,6 @@
 -- The attributes of a unit's root entry (on specs/Record.antt).
 use Rattle.std.proofs.Common.{◌≡◌, ◌==◌, ◌||◌, Bool, true, false, cond, List, fold, Option, Some, None, Result, Ok, Err, refl, ap, ◌∙◌}
+use Rattle.std.proofs.lemmas.Bool.{or_parts, or_from}
 use Rattle.gimli_read.specs.declared.constants.TheConstants.DwAt.{DW_AT_name, DW_AT_comp_dir, DW_AT_low_pc, DW_AT_stmt_list, DW_AT_str_offsets_base, DW_AT_addr_base, DW_AT_GNU_addr_base, DW_AT_rnglists_base, DW_AT_GNU_ranges_base, DW_AT_GNU_dwo_id, DW_AT_GNU_dwo_name, DW_AT_dwo_name}
 use Rattle.std.specs.Option.{option_or}
 use Rattle.gimli_read.specs.declared.error.Error.{Error}
@@ -13,17 +14,6 @@ use Rattle.gimli.specs.EntryCursor.{EntryCursor, depth_after_code, entry_abbrevi
 use Rattle.gimli.specs.Record.{RootValues, address_value, dwo_name_attribute, line_offset, no_root_values, section_offset, with_root_attribute, root_values_after, root_values_of}
 use Rattle.gimli.specs.WantedAttributes.{is_root_name}
 use Rattle.gimli.proofs.WantedLemmas.{PassesOver, fold_passes}
-
--- neither of two holds
-neither : (b c : Bool) → (b || c) ≡ false → (b ≡ false) × (c ≡ false)
-neither true c h = absurd cc
-neither false true h = absurd cc
-neither false false h = (refl, refl)
-
--- nor does any
-none_either : (b c : Bool) → b ≡ false → c ≡ false → (b || c) ≡ false
-none_either true c h k = absurd cc
-none_either false c h k = k
 
 -- a test that fails
 pass : {X : Type 0} (b : Bool) (x y z : X) → b ≡ false → y ≡ z → cond b x y ≡ z
@@ -39,18 +29,18 @@ no_split_file false root a h k = pass (a.name.0 == DW_AT_dwo_name.0) (record roo
 pass_all : {X : Type 0} (a b c d e f g h i j k l : Bool) (p q r s t u v w y z : X) → (a || b || c || d || e || f || g || h || i || j || k || l) ≡ false → (k ≡ false → l ≡ false → y ≡ z)
     → cond a p (cond b q (cond c r (cond d s (cond e t (cond (f || g) u (cond (h || i) v (cond j w y))))))) ≡ z
 pass_all a b c d e f g h i j k l p q r s t u v w y z none last =
-    let nl = neither (a || b || c || d || e || f || g || h || i || j || k) l none in
-    let nk = neither (a || b || c || d || e || f || g || h || i || j) k nl.0 in
-    let nj = neither (a || b || c || d || e || f || g || h || i) j nk.0 in
-    let ni = neither (a || b || c || d || e || f || g || h) i nj.0 in
-    let nh = neither (a || b || c || d || e || f || g) h ni.0 in
-    let ng = neither (a || b || c || d || e || f) g nh.0 in
-    let nf = neither (a || b || c || d || e) f ng.0 in
-    let ne = neither (a || b || c || d) e nf.0 in
-    let nd = neither (a || b || c) d ne.0 in
-    let nc = neither (a || b) c nd.0 in
-    let nb = neither a b nc.0 in
-    pass a p _ z nb.0 (pass b q _ z nb.1 (pass c r _ z nc.1 (pass d s _ z nd.1 (pass e t _ z ne.1 (pass (f || g) u _ z (none_either f g nf.1 ng.1) (pass (h || i) v _ z (none_either h i nh.1 ni.1) (pass j w y z nj.1 (last nk.1 nl.1))))))))
+    let nl = or_parts (a || b || c || d || e || f || g || h || i || j || k) l none in
+    let nk = or_parts (a || b || c || d || e || f || g || h || i || j) k nl.0 in
+    let nj = or_parts (a || b || c || d || e || f || g || h || i) j nk.0 in
+    let ni = or_parts (a || b || c || d || e || f || g || h) i nj.0 in
+    let nh = or_parts (a || b || c || d || e || f || g) h ni.0 in
+    let ng = or_parts (a || b || c || d || e || f) g nh.0 in
+    let nf = or_parts (a || b || c || d || e) f ng.0 in
+    let ne = or_parts (a || b || c || d) e nf.0 in
+    let nd = or_parts (a || b || c) d ne.0 in
+    let nc = or_parts (a || b) c nd.0 in
+    let nb = or_parts a b nc.0 in
+    pass a p _ z nb.0 (pass b q _ z nb.1 (pass c r _ z nc.1 (pass d s _ z nd.1 (pass e t _ z ne.1 (pass (f || g) u _ z (or_from f g nf.1 ng.1) (pass (h || i) v _ z (or_from h i nh.1 ni.1) (pass j w y z nj.1 (last nk.1 nl.1))))))))
 
 -- an attribute of no such name changes nothing
 still_root : (e : Encoding) (root : RootValues) (a : NamedValue) → is_root_name a.name ≡ false → with_root_attribute e root a ≡ root

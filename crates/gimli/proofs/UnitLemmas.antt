@@ -74,17 +74,13 @@ read_root_takes_memory e rest entries table root h k = at (abbreviation_at [] re
     at (Ok (Some a, t)) p = abbreviation_front [] rest t a p
     at (Err d) p = absurd (let q : Err d ≡ Ok table = sym (table_fault [] rest d p) ∙ h in cc)
 
-or_shared : (shares takes : Bool) → takes ≡ true → shares || takes ≡ true
-or_shared true takes h = refl
-or_shared false takes h = h
-
 -- what a unit is whose root entry is read, and that memory may be taken for it
 pub unit_is : (d : Sections) (header : UnitHeaderFields) (shares : Bool) (rest : Section) (table : List Abbrev) (root : RootValues)
     → from_offset header.debug_abbrev_offset d.debug_abbrev ≡ Ok rest → table_at rest ≡ Ok table → root_values_of header.encoding table header.entries ≡ Ok root
     → (unit_takes_memory shares d header ≡ true) × (unit_record_of d header ≡ completed_record d header table root)
 unfolding unit_record_of unit_by
 unit_is d header shares rest table root h k l = (
-  ap (abbreviations_take_memory shares) h ∙ or_shared shares (takes_memory rest) (read_root_takes_memory header.encoding rest header.entries table root k l),
+  ap (abbreviations_take_memory shares) h ∙ or_right shares (takes_memory rest) (read_root_takes_memory header.encoding rest header.entries table root k l),
   ap (λ (r : Result Section Error). (r >>= table_at) >>= λ t. root_values_of header.encoding t header.entries >>= λ v. completed_record d header t v) h
       ∙ ap (λ (r : Result (List Abbrev) Error). r >>= λ t. root_values_of header.encoding t header.entries >>= λ v. completed_record d header t v) k
       ∙ ap (λ (r : Result RootValues Error). r >>= λ v. completed_record d header table v) l,

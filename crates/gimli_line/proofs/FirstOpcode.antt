@@ -1,6 +1,6 @@
 -- The opcode at the front of bytes (on specs/Taking.antt).
 use Rattle.std.proofs.Common.{◌≡◌, ℕ, ◌-◌, ◌<◌, ◌≤◌, ◌==◌, nat_le, nat_lt, Bool, true, false, cond, length, List, ◌∷◌, Option, Some, Result, Ok, Err, drop, ℤ, refl, sym, ap, ◌∙◌, arith, max}
-use Rattle.std.proofs.lemmas.Bool.{le-ltb}
+use Rattle.std.proofs.lemmas.Bool.{le-ltb, le-leb, lt-leb}
 use Rattle.std.proofs.lemmas.Bool.Decides.{nat_tests}
 use Rattle.std.proofs.lemmas.Grind.{common_steps}
 use Rattle.gimli_read.specs.declared.error.Error.{Error}
@@ -73,12 +73,6 @@ coded_standard h code s e f = by_tests (code == DW_LNS_extended_op) (nat_le h.li
 not_zero : (n : ℕ) → 0 < n → (n == 0) ≡ false
 not_zero n h = grind (arith, nat_tests)
 
-at_most : (m n : ℕ) → m ≤ n → nat_le m n ≡ true
-at_most m n h = grind (arith, nat_tests)
-
-above : (m n : ℕ) → n < m → nat_le m n ≡ false
-above m n h = grind (arith, nat_tests)
-
 -- an opcode that can be read, and was taken in
 pub first_taken : (h : Header) (r : Registers) (e : LineEncoding) (op : Opcode) (len : ℕ) (result : Frequent) (q : Registers) (code a b : ℕ) → e ≡ h.line_encoding
     → ((rest : List ℕ) (endian : RunTimeEndian) → instruction_at h (at endian (code ∷ a ∷ b ∷ rest)) ≡ Ok (Some (Changes op), at endian (drop len (code ∷ a ∷ b ∷ rest))))
@@ -102,7 +96,7 @@ special_taken h r e result q code a b same le =
     let base : h.line_encoding.opcode_base ≡ e.opcode_base = ap (λ (x : LineEncoding). x.opcode_base) (sym same) in
     first_taken h r e (Special (code - e.opcode_base)) 1 result q code a b same
     (λ rest endian. coded h endian code (a ∷ b ∷ rest) (Special (code - e.opcode_base)) (at endian (a ∷ b ∷ rest))
-    (coded_special h code (at endian (a ∷ b ∷ rest)) (not_zero code (omega arith)) (at_most h.line_encoding.opcode_base code (omega arith))
+    (coded_special h code (at endian (a ∷ b ∷ rest)) (not_zero code (omega arith)) (le-leb h.line_encoding.opcode_base code (omega arith))
     ∙ ap (λ k. Ok (Changes (Special (code - k)), at endian (a ∷ b ∷ rest))) base))
 
 -- a standard opcode
@@ -113,7 +107,7 @@ standard_taken h r e op len result q code a b k same is some lt standard =
     let base : h.line_encoding.opcode_base ≡ e.opcode_base = ap (λ (x : LineEncoding). x.opcode_base) (sym same) in
     first_taken h r e op len result q code a b same
     (λ rest endian. coded h endian code (a ∷ b ∷ rest) op (at endian (drop len (code ∷ a ∷ b ∷ rest)))
-    (coded_standard h code (at endian (a ∷ b ∷ rest)) (not_zero code (omega arith)) (above h.line_encoding.opcode_base code (omega arith))
+    (coded_standard h code (at endian (a ∷ b ∷ rest)) (not_zero code (omega arith)) (lt-leb h.line_encoding.opcode_base code (omega arith))
     ∙ ap (λ n. mapped Changes (standard_at h n (at endian (a ∷ b ∷ rest)))) is
     ∙ ap (λ (x : Reading Opcode). mapped Changes x) (standard rest endian)))
 

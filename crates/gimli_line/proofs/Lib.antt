@@ -14,3 +14,4 @@ pub mod ShortNumbers
 pub mod FirstOpcode
 pub mod Passing
 pub mod InPlace
+pub mod TestFacts

@@ -1,11 +1,11 @@
 -- LEB128 numbers of one byte or two at the front of bytes (on specs/Leb128.antt of gimli_read).
-use Rattle.std.proofs.Common.{◌≡◌, ℕ, zero, suc, ◌+◌, ◌*◌, ◌%◌, ◌/◌, ◌<◌, ◌≤◌, ◌^◌, List, [], ◌∷◌, Ok, true, refl, sym, ap, ◌∙◌, ◌⊎◌, inl, inr, arith, ℤ, pos, negsuc, ◌-◌, ◌-ℤ◌, get_or}
+use Rattle.std.proofs.Common.{◌≡◌, ℕ, ◌+◌, ◌*◌, ◌%◌, ◌/◌, ◌<◌, ◌≤◌, ◌^◌, List, [], ◌∷◌, Ok, true, refl, sym, ap, ◌∙◌, ◌⊎◌, inl, inr, arith, ℤ, pos, negsuc, ◌-◌, ◌-ℤ◌}
 use Rattle.std.proofs.lemmas.Bool.{lt-ltb, le-ltb, cases_lt}
 use Rattle.std.proofs.lemmas.Grind.{common_steps}
 use Rattle.gimli_read.specs.Number.{fits_i64}
-use Rattle.gimli_read.specs.Leb128.{uleb128_value, sleb128_value, uleb128_in, sleb128_in, sum_from, IsLeb128Text}
+use Rattle.gimli_read.specs.Leb128.{sleb128_value, uleb128_in, sleb128_in}
 use Rattle.gimli_read.proofs.Leb128Texts.{sleb128_reads}
-use Rattle.gimli_read.proofs.ShortLeb128.{unsigned_byte, unsigned_pair}
+use Rattle.gimli_read.proofs.ShortLeb128.{unsigned_byte, unsigned_pair, byte_text, byte_value, pair_text, pair_value}
 
 -- unsigned, of one byte
 pub short_unsigned : (a b : ℕ) → a < 128 → (rest : List ℕ) → uleb128_in (a ∷ b ∷ rest) ≡ Ok (a, b ∷ rest)
@@ -14,24 +14,6 @@ short_unsigned a b h rest = unsigned_byte (a ∷ b ∷ rest) a refl h
 -- and of two
 pub long_unsigned : (a b : ℕ) → 128 ≤ a → b < 128 → (rest : List ℕ) → uleb128_in (a ∷ b ∷ rest) ≡ Ok (a % 128 + b * 128, rest)
 long_unsigned a b h k rest = unsigned_pair (a ∷ b ∷ rest) (omega arith) h k
-
-byte_text : (a : ℕ) → a < 128 → IsLeb128Text (a ∷ [])
-byte_text a h = record { some = omega arith; at_most_ten = omega arith; continued = λ k l. absurd (omega arith); ended = h }
-
-pair_text : (a b : ℕ) → 128 ≤ a → b < 128 → IsLeb128Text (a ∷ b ∷ [])
-pair_text a b h k = record { some = omega arith; at_most_ten = omega arith; continued = first; ended = k }
-  where
-    first : (i : ℕ) → i + 1 < 2 → 128 ≤ get_or (a ∷ b ∷ []) i 0
-    first zero l = h
-    first (suc i) l = absurd (omega arith)
-
-byte_value : (a : ℕ) → a < 128 → a ≡ uleb128_value (a ∷ [])
-unfolding sum_from
-byte_value a h = grind (arith, common_steps)
-
-pair_value : (a b : ℕ) → b < 128 → a % 128 + b * 128 ≡ uleb128_value (a ∷ b ∷ [])
-unfolding sum_from
-pair_value a b k = grind (arith, common_steps)
 
 -- n less m, which has the sign of its text
 difference : (n m : ℕ) → n < 2 ^ 63 → m ≤ 2 ^ 63 → fits_i64 (pos n -ℤ pos m) ≡ true

@@ -17,6 +17,7 @@ use Rattle.gimli_line.specs.EntryTables.{EntryFront, EntryValues, formatted_entr
 use Rattle.gimli_line.specs.Tables.{new_tables_at}
 use Rattle.gimli_line.specs.Header.{File}
 use Rattle.gimli_line.specs.TableMemory.{gives_one, gives_first, takes_memory_after, formats_take_memory, new_tables_take_memory}
+use Rattle.gimli_line.proofs.TestFacts.{or_more}
 
 values_step : (e : Encoding) (f : EntryFormat) (fs : List EntryFormat) (entry : EntryValues) (s : Section) → values_at e (f ∷ fs) entry s ≡ (value_at e f.form.0 s >>= λ x. values_at e fs (with_value f.content_type x.0 entry) x.1)
 unfolding values_at
@@ -64,10 +65,6 @@ pub first_given : {A : Type 0} (part : Section → Reading A) (i n : ℕ) (s : S
 first_given part i n s h k =
     let some : (n == 0) ≡ false = ne_eqb n 0 (λ e. absurd (omega (arith, h, e))) in
     ap (λ b. not b && is_ok (part s)) some ∙ k
-
-or_more : (a b c : Bool) → (b ≡ true → c ≡ true) → (a || b) ≡ true → (a || c) ≡ true
-or_more true b c f h = refl
-or_more false b c f h = f h
 
 times_first : {A : Type 0} (part : Section → Reading A) (n : ℕ) (s t : Section) (x : A) (xs : List A) → times part n s ≡ Ok (x ∷ xs, t) → gives_first part n s ≡ true
 unfolding times

@@ -1,5 +1,5 @@
 -- No reading gives OutOfMemory, which a refused growth alone answers (on specs/Reading.antt and those that stand on it).
-use Rattle.std.proofs.Common.{◌≡◌, ◌≢◌, ℕ, zero, suc, ◌+◌, ◌==◌, not, Bool, true, false, cond, List, [], ◌∷◌, ◌++◌, length, fold, Option, Some, None, is_some, Result, Ok, Err, nat_lt, ap, ℤ}
+use Rattle.std.proofs.Common.{◌≡◌, ◌≢◌, ℕ, zero, suc, ◌+◌, ◌==◌, not, Bool, true, false, cond, List, [], ◌∷◌, ◌++◌, length, fold, Option, Some, None, is_some, Result, Ok, Err, nat_lt, ap, ℤ, ◌⊎◌, inl, inr, refl}
 use Rattle.std.specs.List.{position, AllByRecursion}
 use Rattle.gimli_read.specs.declared.constants.TheConstants.{FIRST_RESERVED_LENGTH, LENGTH_ESCAPE, CLOSING_CODE}
 use Rattle.gimli_read.specs.declared.constants.TheConstants.DwForm.{DW_FORM_indirect, DW_FORM_implicit_const}
@@ -32,6 +32,11 @@ use Rattle.gimli_read.specs.Yields.{next_given}
 -- a value, or a fault that the bytes cause
 pub record IsByBytes {A : Type 0} (r : Result A Error) : Type 0 where
   pub by : r ≢ Err OutOfMemory
+
+-- whether a fault is that of memory
+pub memory_or_not : (e : Error) → (e ≡ OutOfMemory) ⊎ (e ≢ OutOfMemory)
+memory_or_not OutOfMemory = inl refl
+memory_or_not _ = inr (λ h. absurd cc)
 
 -- the same fault in place of another value
 pub moved_fault : {A B : Type 0} {e : Error} → IsByBytes {A = A} (Err e) → IsByBytes {A = B} (Err e)

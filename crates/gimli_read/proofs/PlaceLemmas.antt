@@ -1,21 +1,15 @@
 -- An abbreviation is found by its place or by its pair (on specs/AbbreviationPlaces.antt).
-use Rattle.std.proofs.Common.{◌≡◌, ◌≢◌, ℕ, zero, suc, List, [], ◌∷◌, ◌++◌, length, Option, Some, None, Bool, true, false, cond, ◌==◌, ◌⊎◌, inl, inr, refl, ap, sym, ◌∙◌, arith}
-use Rattle.std.proofs.lemmas.Bool.Decides.{nat_tests}
+use Rattle.std.proofs.Common.{◌≡◌, ◌≢◌, ℕ, zero, suc, List, [], ◌∷◌, ◌++◌, length, Option, Some, None, Bool, true, false, cond, ◌==◌, ◌⊎◌, inl, inr, refl, ap, sym, ◌∙◌}
 use Rattle.std.specs.Int.{abs_diff}
 use Rattle.std.specs.List.{slice_get}
 use Rattle.std.specs.Ordering.{nat_cmp, is_eq}
 use Rattle.std.specs.declared.cmp.Ordering.{Ordering}
 use Rattle.std.specs.declared.cmp.Ordering.TheVariants.{Less, Equal, Greater}
 use Rattle.std.proofs.lemmas.Map.Lookups.{exact_unsigned}
+use Rattle.std.proofs.lemmas.Bool.{eqb-true, eq-eqb}
 use Rattle.std.specs.BTreeMap.{BTreeMap, get}
 use Rattle.gimli_read.specs.Abbreviations.{Abbrev, with_code, HasDistinctCodes}
 use Rattle.gimli_read.specs.AbbreviationPlaces.{if_coded, first_code_with, IsPlaced, IsSameApart}
-
-same : (m n : ℕ) → (m == n) ≡ true → m ≡ n
-same m n e = grind (arith, nat_tests)
-
-itself : (n : ℕ) → (n == n) ≡ true
-itself n = grind (arith, nat_tests)
 
 -- what stands anywhere with a code is the abbreviation of the code
 pub coded_found : (table : List Abbrev) → HasDistinctCodes table → (code i : ℕ) (a : Abbrev) → if_coded code (slice_get table i) ≡ Some a → with_code code table ≡ Some a
@@ -28,7 +22,7 @@ coded_found (x ∷ table) d code zero a h = at (x.code == code) h
 coded_found (x ∷ table) d code (suc i) a h = at (x.code == code) refl (coded_found table d.1 code i a h)
   where
     at : (b : Bool) → (x.code == code) ≡ b → with_code code table ≡ Some a → cond b (Some x) (with_code code table) ≡ Some a
-    at true e k = absurd (let c : with_code code table ≡ None = ap (λ n. with_code n table) (sym (same x.code code e)) ∙ d.0 in cc)
+    at true e k = absurd (let c : with_code code table ≡ None = ap (λ n. with_code n table) (sym (eqb-true x.code code e)) ∙ d.0 in cc)
     at false e k = k
 
 -- the abbreviation of a code has that code, and stands somewhere
@@ -37,12 +31,12 @@ found_coded [] code a h = absurd cc
 found_coded (x ∷ table) code a h = at (x.code == code) refl h (found_coded table code a)
   where
     at : (b : Bool) → (x.code == code) ≡ b → cond b (Some x) (with_code code table) ≡ Some a → (with_code code table ≡ Some a → (i : ℕ) × (slice_get table i ≡ Some a) × (a.code ≡ code)) → (i : ℕ) × (slice_get (x ∷ table) i ≡ Some a) × (a.code ≡ code)
-    at true e h more = let k : x ≡ a = cc in (0, h, ap (λ (y : Abbrev). y.code) (sym k) ∙ same x.code code e)
+    at true e h more = let k : x ≡ a = cc in (0, h, ap (λ (y : Abbrev). y.code) (sym k) ∙ eqb-true x.code code e)
     at false e h more = let m = more h in (suc m.0, m.1, m.2)
 
 -- what stands somewhere with its code
 coded_itself : (o : Option Abbrev) (a : Abbrev) → o ≡ Some a → if_coded a.code o ≡ Some a
-coded_itself o a e = ap (if_coded a.code) e ∙ ap (λ b. cond b (Some a) None) (itself a.code)
+coded_itself o a e = ap (if_coded a.code) e ∙ ap (λ b. cond b (Some a) None) (eq-eqb a.code a.code refl)
 
 -- what a pair of the map leads to
 abbrev pub led_to : ℕ → List Abbrev → Option ℕ → Option Abbrev

@@ -10,7 +10,7 @@ use Rattle.gimli_read.specs.Leb128.{uleb128_value, sleb128_value, uleb128_in, sl
 use Rattle.gimli_read.proofs.Leb128Texts.{uleb128_reads, sleb128_reads}
 
 -- a byte below 128 is the text of a number
-byte_text : (b : ℕ) → b < 128 → IsLeb128Text (b ∷ [])
+pub byte_text : (b : ℕ) → b < 128 → IsLeb128Text (b ∷ [])
 byte_text b h = record {
   some = omega arith;
   at_most_ten = omega arith;
@@ -18,7 +18,7 @@ byte_text b h = record {
   ended = h;
 }
 
-byte_value : (b : ℕ) → b < 128 → b ≡ uleb128_value (b ∷ [])
+pub byte_value : (b : ℕ) → b < 128 → b ≡ uleb128_value (b ∷ [])
 unfolding sum_from
 byte_value b h = grind (arith, common_steps)
 
@@ -29,7 +29,7 @@ unsigned_byte (x ∷ rest) b e h =
     ap (λ y. uleb128_in (y ∷ rest)) same ∙ uleb128_reads (b ∷ []) rest b (byte_text b h, byte_value b h, omega arith)
 
 -- a byte from 128 on, and one below it, are the text of a number
-pair_text : (a b : ℕ) → 128 ≤ a → b < 128 → IsLeb128Text (a ∷ b ∷ [])
+pub pair_text : (a b : ℕ) → 128 ≤ a → b < 128 → IsLeb128Text (a ∷ b ∷ [])
 pair_text a b h k = record {
   some = omega arith;
   at_most_ten = omega arith;
@@ -41,7 +41,7 @@ pair_text a b h k = record {
     first zero l = h
     first (suc i) l = absurd (omega arith)
 
-pair_value : (a b : ℕ) → b < 128 → a % 128 + b * 128 ≡ uleb128_value (a ∷ b ∷ [])
+pub pair_value : (a b : ℕ) → b < 128 → a % 128 + b * 128 ≡ uleb128_value (a ∷ b ∷ [])
 unfolding sum_from
 pair_value a b k = grind (arith, common_steps)
 

@@ -1,5 +1,5 @@
 -- What is read takes bytes: each value of a reading leaves less than there was.
-use Rattle.std.proofs.Common.{◌≡◌, ℕ, ◌+◌, ◌<◌, ◌≤◌, List, length, take, Option, Some, None, Result, Ok, Err, Bool, true, false, cond, IfOk, IfSome, nat_lt, ltb, refl, arith, length-drop, length-take, ◌^◌}
+use Rattle.std.proofs.Common.{◌≡◌, ℕ, ◌+◌, ◌<◌, ◌≤◌, List, length, take, Option, Some, None, Result, Ok, Err, Bool, true, false, cond, IfOk, IfSome, nat_lt, ltb, refl, arith, length-drop, length-take, ◌^◌, zero, suc}
 use Rattle.std.specs.List.{position}
 use Rattle.std.proofs.lemmas.Result.{IfOk-at_ok}
 use Rattle.std.proofs.lemmas.Bool.Decides.{nat_tests}
@@ -11,7 +11,7 @@ use Rattle.gimli_read.specs.declared.endian.Format.{Format}
 use Rattle.gimli_read.specs.declared.endian.Format.TheVariants.{Dwarf32, Dwarf64}
 use Rattle.gimli_read.specs.Section.{Section, first, after}
 use Rattle.gimli_read.specs.Reading.{Reading, ◌>>=◌}
-use Rattle.gimli_read.specs.Number.{fits_i64, number_of, fixed_at, skipped_at, split_at, offset_at, long_length_at, initial_length_at}
+use Rattle.gimli_read.specs.Number.{fits_i64, number_of, fixed_at, skipped_at, split_at, offset_at, long_length_at, initial_length_at, address_at, is_address_size}
 use Rattle.gimli_read.specs.Leb128.{uleb128_value, sleb128_value, cut_after, leb128_text, uleb128_in, sleb128_in, uleb128_at, sleb128_at}
 
 -- each value of a reading leaves fewer than n bytes
@@ -51,6 +51,10 @@ fixed-shorter n s h = by_cases (ltb (length s.bytes) n) refl
     by_cases : (b : Bool) → ltb (length s.bytes) n ≡ b → Shorter (length s.bytes) (cond b (Err UnexpectedEof) (Ok (number_of s.endian n s.bytes, after n s)))
     by_cases true e = record { by = tt }
     by_cases false e = record { by = simp length-drop (grind (arith, nat_tests)) }
+
+pub address-shorter : (size : ℕ) (s : Section) → Shorter (length s.bytes) (address_at size s)
+address-shorter zero s = record { by = tt }
+address-shorter (suc n) s = shorter_if (is_address_size (suc n)) (fixed-shorter (suc n) s (omega arith)) shorter_err
 
 -- no value of a reading leaves more than n bytes: fewer than one more
 pub skipped-shorter : (n : ℕ) (s : Section) → Shorter (length s.bytes + 1) (skipped_at n s)

@@ -1,6 +1,6 @@
 -- Sizes in a usual unit (on specs/ValueSize.antt).
 use Rattle.std.proofs.Common.{◌≡◌, ℕ, ◌+◌, ◌==◌, ◌&&◌, Bool, true, false, cond, nat_lt, Some, refl, ap, ◌∙◌, arith}
-use Rattle.std.proofs.lemmas.Bool.{eqb-true, ltb-true}
+use Rattle.std.proofs.lemmas.Bool.{eqb-true, ltb-true, and_parts}
 use Rattle.std.proofs.lemmas.Grind.{common_steps}
 use Rattle.gimli_read.specs.declared.endian.Encoding.{Encoding}
 use Rattle.gimli_read.specs.declared.size.TheConstants.{USUAL}
@@ -10,20 +10,15 @@ use Rattle.gimli_read.specs.declared.size.ValueSize.TheVariants as sizes
 use Rattle.gimli_read.specs.Number.{is_address_size, offset_size}
 use Rattle.gimli_read.specs.ValueSize.{bytes_of, counted_bytes, is_usual, AddsCounted, AddsSize}
 
-both : (a b : Bool) → (a && b) ≡ true → (a ≡ true) × (b ≡ true)
-both true true h = (refl, refl)
-both true false h = absurd cc
-both false b h = absurd cc
-
 -- a value has the same bytes in all usual units
 usual_bytes : (e : Encoding) (size : ValueSize) → is_usual e ≡ true → bytes_of e size ≡ bytes_of USUAL size
 usual_bytes e size h = at size
   where
     split : ((e.address_size == 8 && nat_lt 2 e.version) ≡ true) × (offset_size e.format == 4 ≡ true)
-    split = both (e.address_size == 8 && nat_lt 2 e.version) (offset_size e.format == 4) h
+    split = and_parts (e.address_size == 8 && nat_lt 2 e.version) (offset_size e.format == 4) h
 
     front : (e.address_size == 8 ≡ true) × (nat_lt 2 e.version ≡ true)
-    front = both (e.address_size == 8) (nat_lt 2 e.version) split.0
+    front = and_parts (e.address_size == 8) (nat_lt 2 e.version) split.0
 
     eight : e.address_size ≡ 8
     eight = eqb-true _ _ front.0
@@ -47,8 +42,8 @@ usual_bytes e size h = at size
 -- an address of a usual unit has a size that can be read
 pub usual_address : (e : Encoding) → is_usual e ≡ true → is_address_size e.address_size ≡ true
 usual_address e h =
-    let split = both (e.address_size == 8 && nat_lt 2 e.version) (offset_size e.format == 4) h in
-    let eight : e.address_size ≡ 8 = eqb-true _ _ (both (e.address_size == 8) (nat_lt 2 e.version) split.0).0 in
+    let split = and_parts (e.address_size == 8 && nat_lt 2 e.version) (offset_size e.format == 4) h in
+    let eight : e.address_size ≡ 8 = eqb-true _ _ (and_parts (e.address_size == 8) (nat_lt 2 e.version) split.0).0 in
     rw eight refl
 
 -- a total is another with a value, if its parts are

@@ -20,7 +20,7 @@ use Rattle.addr2line_lines.specs.Grown.{IsGrown}
 use Rattle.addr2line_lines.specs.FoundDetails.{detail_found_at}
 use Rattle.addr2line_lines.specs.InlinedOrder.{inlined_sooner, inlined_place, place_begin, place_end, places_chain, places_of_depth, places_within}
 use Rattle.addr2line_lines.specs.InOrder.{IsInOrder, in_order}
-use Rattle.addr2line_lines.specs.CachedDetails.{AreDetailsMore, IsDetailPlace, IsOfEntryBetween, CachedDetails, between, detail_of, listed_ranges}
+use Rattle.addr2line_lines.specs.CachedDetails.{AreDetailsMore, IsDetailPlace, IsOfEntryBetween, IsRefusedThen, CachedDetails, between, detail_of, listed_ranges}
 use Rattle.addr2line_lines.specs.InlineRoom.{exceeds_inline_room, inline_room}
 use Rattle.addr2line_lines.specs.Pick.{at_or_below, candidate, if_past, pick}
 use Rattle.addr2line_lines.specs.References.{Scope}
@@ -126,9 +126,13 @@ first_is functions ranges found more h a b =
 pub sorted_more : (start : ℕ) (xs listed : List InlinedFunctionAddress) → start ≡ length xs → IsGrown xs listed → IsGrown xs (sorted_from start listed)
 sorted_more start xs listed e h = record { more = in_order inlined_sooner (drop start listed); is = ap (λ ys. ys ++ in_order inlined_sooner (drop start listed)) (first_of start xs listed h e) }
 
--- what is cached stays where nothing changes
-pub details_same : (cached more : CachedDetails) → more ≡ cached → AreDetailsMore cached more
-details_same cached more h = subst (AreDetailsMore cached) (sym h) (record { names = grown_not cached.names; found = found_same cached.found; known = grown_not cached.known })
+-- what is cached stays after a refusal
+pub details_refused : (cached more : CachedDetails) (e : Error) → IsRefusedThen cached more e → IsGrown cached.known more.known → AreDetailsMore cached more
+details_refused cached more e h known = record {
+  names = subst (IsGrown cached.names) (sym h.names) (grown_not cached.names);
+  found = subst (IsFoundMore cached.found) (sym h.found) (found_same cached.found);
+  known = known;
+}
 
 -- what is added changes nothing of the details that are cached, and their places are places still
 pub detail_stays : (cached more : CachedDetails) (p : FunctionDetail) → AreDetailsMore cached more → IsDetailPlace cached p → (detail_of more p ≡ detail_of cached p) × IsDetailPlace more p

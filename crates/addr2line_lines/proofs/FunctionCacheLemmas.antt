@@ -6,7 +6,9 @@ use Rattle.std.proofs.lemmas.List.{map-set}
 use Rattle.std.proofs.lemmas.List.Sums.{sum_by-cons, sum_by-set}
 use Rattle.std.proofs.lemmas.Option.{get_or_from_slice_get, slice_get-map, slice_get_within}
 use Rattle.std.proofs.Math.Seq.{map-set_same}
+use Rattle.gimli_read.specs.Section.{Section}
 use Rattle.gimli_read.specs.declared.error.Error.{Error}
+use Rattle.gimli_read.specs.declared.error.Error.TheVariants.{OutOfMemory}
 use Rattle.gimli_read.specs.declared.value.UnitOffset.{UnitOffset}
 use Rattle.gimli.specs.Unit.{UnitRecord}
 use Rattle.addr2line_lines.specs.declared.details.FunctionDetail.{FunctionDetail}
@@ -14,14 +16,15 @@ use Rattle.addr2line_lines.specs.declared.functions.LazyDetail.{LazyDetail}
 use Rattle.addr2line_lines.specs.declared.functions.LazyDetail.TheVariants.{Unread, Read, Faulty}
 use Rattle.addr2line_lines.specs.declared.functions.LazyFunction.{LazyFunction}
 use Rattle.addr2line_lines.specs.declared.segments.FunctionAddress.{FunctionAddress}
+use Rattle.addr2line_lines.specs.CachedNames.{CachedName}
 use Rattle.addr2line_lines.specs.Details.{Detail, detail_at}
-use Rattle.addr2line_lines.specs.FoundInlined.{none_inlined}
+use Rattle.addr2line_lines.specs.FoundInlined.{FoundInlined, none_inlined}
 use Rattle.addr2line_lines.specs.Grown.{IsGrown}
 use Rattle.addr2line_lines.specs.FoundFunctions.{AreFunctions, IsUnread, function_offsets, function_range_of}
 use Rattle.addr2line_lines.specs.FunctionCache.{AreCachedFunctions, AreDetailsApart, AreRuns, HasPlace, inlined_size, name_size, ranges_size, seen_function, seen_lazy, size_of}
 use Rattle.addr2line_lines.specs.FunctionTable.{CachedFunction, FunctionTable}
 use Rattle.addr2line_lines.specs.FunctionDetails.{IsCachedThen, IsReadAt, IsReadOf, IsWithDetail}
-use Rattle.addr2line_lines.specs.CachedDetails.{AreDetailsMore, IsDetailPlace, IsNextPlace, CachedDetails, detail_of}
+use Rattle.addr2line_lines.specs.CachedDetails.{AreDetailsMore, IsDetailPlace, IsNextPlace, IsRefusedThen, CachedDetails, detail_of}
 use Rattle.addr2line_lines.specs.References.{Scope}
 use Rattle.addr2line_lines.proofs.DetailPlaces.{detail_stays}
 use Rattle.addr2line_lines.proofs.PlaceLemmas.{all_at, all_set, all_weaker, at_set}
@@ -32,6 +35,12 @@ no_more xs = record { more = []; is = sym (append-nil xs) }
 
 longer : {X : Type 0} (xs ys : List X) → IsGrown xs ys → length xs ≤ length ys
 longer xs ys g = let a : length ys ≡ length (xs ++ g.more) = ap (λ v. length v) g.is in let b = length-append xs g.more in omega arith
+
+-- nothing changes after OutOfMemory
+pub nothing_cached : (cached more : CachedDetails) → IsRefusedThen cached more OutOfMemory → more ≡ cached
+nothing_cached cached more h =
+    let made : List (Option Section) → FoundInlined → List CachedName → CachedDetails = λ xs f ns. record { names = xs; found = f; known = ns } in
+    ap (λ xs. made xs more.found more.known) h.names ∙ ap (λ f. made cached.names f more.known) h.found ∙ ap (λ ns. made cached.names cached.found ns) (h.memory refl)
 
 pub details_stay : (cached : CachedDetails) → AreDetailsMore cached cached
 details_stay cached = record { names = no_more cached.names; found = record { entries = no_more cached.found.entries; ranges = no_more cached.found.ranges }; known = no_more cached.known }
@@ -205,7 +214,7 @@ module _ (fs : List LazyFunction) (n : ℕ) (f y : LazyFunction) (at : slice_get
       }
 
     -- a fault that was cached
-    module _ (e : Error) (is : y.detail ≡ Faulty e) (same : more ≡ cached) where
+    module _ (e : Error) (is : y.detail ≡ Faulty e) (refused : IsRefusedThen cached more e) where
       no_read : (q : FunctionDetail) (g : LazyFunction) → y ≡ g → g.detail ≡ Read q → ⊥
       no_read q g s r = let no : Faulty e ≡ Read q = sym is ∙ ap (λ (x : LazyFunction). x.detail) s ∙ r in absurd cc
 
@@ -228,16 +237,16 @@ module _ (fs : List LazyFunction) (n : ℕ) (f y : LazyFunction) (at : slice_get
 
       -- a fault is cached
       pub fault_cached : AreCachedFunctions (slice_set fs n y) addresses more
-      fault_cached = subst (AreCachedFunctions (slice_set fs n y) addresses) (sym same) (record {
+      fault_cached = record {
         in_order = subst (λ os. AreFunctions os addresses) (sym offsets_stay) h.in_order;
         runs = record {
-          places = all_set (HasPlace cached) fs n y h.runs.places (λ q r. absurd (no_read q y refl r));
+          places = all_set (HasPlace more) fs n y (all_weaker (HasPlace cached) (HasPlace more) (place_stays cached more grown) fs h.runs.places) (λ q r. absurd (no_read q y refl r));
           apart = faults_apart;
-          names = size_none name_size ∙ h.runs.names;
-          inlined = size_none inlined_size ∙ h.runs.inlined;
-          ranges = size_none ranges_size ∙ h.runs.ranges;
+          names = size_none name_size ∙ h.runs.names ∙ ap (λ xs. length xs) (sym refused.names);
+          inlined = size_none inlined_size ∙ h.runs.inlined ∙ ap (λ (x : FoundInlined). length x.entries) (sym refused.found);
+          ranges = size_none ranges_size ∙ h.runs.ranges ∙ ap (λ (x : FoundInlined). length x.ranges) (sym refused.found);
         };
-      })
+      }
 
       pub table_fault : (offset : ℕ) (detail : Result Detail Error) → f.dw_die_offset.0 ≡ offset → detail ≡ Err e → IsWithDetail n (unread_function offset) detail (table_of fs addresses cached) (table_of (slice_set fs n y) addresses more)
       table_fault offset detail o d = record {

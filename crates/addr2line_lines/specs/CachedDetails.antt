@@ -1,10 +1,12 @@
 -- The details of functions as they are cached, as the private functions see them.
 -- Own: three lists, of names, of inlined entries and of ranges; those of each function stand one
 -- after another, its ranges by depth, then by begin, then by end, then by place of the entry.
--- Own: beside them the names of entries that are referred to, as they were found.
+-- Own: beside them the names of entries that are referred to, or their faults, as they were found.
 use Rattle.std.specs.Prelude.{◌≡◌, ℕ, ◌+◌, ◌-◌, ◌<◌, ◌≤◌, List, drop, length, map, slice_index_or, take, Option, None, option_map}
 use Rattle.std.specs.List.{All}
 use Rattle.std.specs.List.Sorted.{IsNonDecreasingBy}
+use Rattle.gimli_read.specs.declared.error.Error.{Error}
+use Rattle.gimli_read.specs.declared.error.Error.TheVariants.{OutOfMemory}
 use Rattle.gimli_read.specs.Section.{Section}
 use Rattle.addr2line_lines.specs.declared.details.Details.{Details}
 use Rattle.addr2line_lines.specs.declared.details.FunctionDetail.{FunctionDetail}
@@ -16,7 +18,7 @@ use Rattle.addr2line_lines.specs.Grown.{IsGrown}
 use Rattle.addr2line_lines.specs.InOrder.{in_order}
 use Rattle.addr2line_lines.specs.InlinedOrder.{inlined_sooner, inlined_place}
 
--- names, inlined entries and ranges, and the names of entries that are referred to
+-- names, inlined entries and ranges, and the names of entries that are referred to, or their faults
 pub record CachedDetails : Type 0 where
   pub names : List (Option Section)
   pub found : FoundInlined
@@ -76,3 +78,10 @@ pub record IsNextPlace (cached more : CachedDetails) (p : FunctionDetail) : Type
   pub inlined_end : p.inlined_end ≡ length more.found.entries
   pub ranges_begin : p.ranges_begin ≡ length cached.found.ranges
   pub ranges_end : p.ranges_end ≡ length more.found.ranges
+
+-- after a refusal the names, inlined entries and ranges are as before, and after OutOfMemory the
+-- names of entries that are referred to as well
+pub record IsRefusedThen (cached more : CachedDetails) (error : Error) : Type 0 where
+  pub names : more.names ≡ cached.names
+  pub found : more.found ≡ cached.found
+  pub memory : error ≡ OutOfMemory → more.known ≡ cached.known

@@ -1,10 +1,15 @@
 -- The names that entries of a unit give where they are referred to in that unit, as they are cached
 -- (DWARF 5, sections 2.13.2 and 3.3.8).
--- Own: a name may be cached when it is found, also that there is none; a fault never is.
-use Rattle.std.specs.Prelude.{◌≡◌, ◌⊎◌, List, [], ◌∷◌, ◌++◌, map, Option, option_map, Ok}
+-- Own: a name may be cached when it is found, also that there is none, and its fault too;
+-- OutOfMemory never is.
+use Rattle.std.specs.Prelude.{◌≡◌, ◌⊎◌, List, [], ◌∷◌, ◌++◌, map, Option, option_map, Result}
 use Rattle.std.specs.List.{AllByRecursion}
+use Rattle.std.specs.declared.rc.Rc.{Rc}
+use Rattle.std.specs.declared.alloc.Global.{Global}
+use Rattle.gimli_read.specs.declared.error.Error.{Error}
 use Rattle.gimli_read.specs.declared.value.AttributeValue.TheVariants as values
 use Rattle.gimli_read.specs.declared.value.UnitOffset.{UnitOffset}
+use Rattle.gimli_read.specs.Reading.{result_map}
 use Rattle.gimli_read.specs.Section.{Section}
 use Rattle.gimli.specs.Unit.{UnitRecord}
 use Rattle.addr2line_lines.specs.declared.names.CachedName as declared_name
@@ -13,23 +18,28 @@ use Rattle.addr2line_lines.specs.Grown.{IsGrown}
 use Rattle.addr2line_lines.specs.Names.{referred_name}
 use Rattle.addr2line_lines.specs.References.{Scope}
 
--- the name that an entry gives, by where the entry begins, in bytes from the start of the unit's
--- length
+-- the name that an entry gives, or the fault of that, by where the entry begins, in bytes from the
+-- start of the unit's length
 pub record CachedName : Type 0 where
   pub offset : UnitOffset
-  pub name : Option Section
+  pub name : Result (Option Section) Error
 
--- a name that is cached
+-- the name of an entry, or its fault, as others share it
+abbrev pub seen_shared : {R : Type 0} → (R → Section) → Result (Rc (Option R) Global) Error
+    → Result (Option Section) Error
+seen_shared see name = result_map (λ shared. option_map see shared.value) name
+
+-- a name that is cached, or a fault
 abbrev pub seen_cached_name : {R : Type 0} → (R → Section) → declared_name.CachedName R → CachedName
-seen_cached_name see n = record { offset = n.offset; name = option_map see n.name.value }
+seen_cached_name see n = record { offset = n.offset; name = seen_shared see n.name }
 
--- the names that are cached
+-- the names and faults that are cached
 abbrev pub seen_names : {R : Type 0} → (R → Section) → NameCache R → List CachedName
 seen_names see c = map (seen_cached_name see) c.names.items
 
--- the name is that which a reference to the entry gives
+-- the name, or the fault, is that which a reference to the entry gives
 abbrev pub IsNameOf : Scope → UnitRecord → CachedName → Type 0
-IsNameOf scope u n = referred_name scope u (values.UnitRef n.offset) ≡ Ok n.name
+IsNameOf scope u n = referred_name scope u (values.UnitRef n.offset) ≡ n.name
 
 -- so is each
 abbrev pub AreNamesOf : Scope → UnitRecord → List CachedName → Type 0
@@ -44,7 +54,7 @@ pub record AreNamesMore (scope : Scope) (u : UnitRecord) (old new : List CachedN
 abbrev pub IsOneMoreAtMost : CachedName → List CachedName → List CachedName → Type 0
 IsOneMoreAtMost n old new = (new ≡ old) ⊎ (new ≡ old ++ n ∷ [])
 
--- wherever all cached names are right, a reference to the entry gives the name
-abbrev pub IsKnownAs : UnitOffset → Option Section → List CachedName → Type 0
+-- wherever all cached names are right, a reference to the entry gives the name, or the fault
+abbrev pub IsKnownAs : UnitOffset → Result (Option Section) Error → List CachedName → Type 0
 IsKnownAs offset name names = (scope : Scope) (u : UnitRecord) → AreNamesOf scope u names
-    → referred_name scope u (values.UnitRef offset) ≡ Ok name
+    → referred_name scope u (values.UnitRef offset) ≡ name

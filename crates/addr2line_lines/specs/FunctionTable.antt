@@ -14,7 +14,8 @@ pub record CachedFunction : Type 0 where
   pub detail : Option (Result Detail Error)
 
 -- the ranges of functions, the functions that have a range in the order of their entries, the
--- inlined entries of the details that are cached, and the names of entries that are referred to
+-- inlined entries of the details that are cached, and the names of entries that are referred to, or
+-- their faults
 pub record FunctionTable : Type 0 where
   pub ranges : List FunctionRange
   pub functions : List CachedFunction

@@ -1,13 +1,13 @@
 //! The cached details of the functions of a view, one after another.
 
 ghost use Rattle.std.specs.List.{AllByRecursion};
-ghost use Rattle.std.specs.Prelude.{◌≡◌, ◌<◌, ◌||◌, [], IfOk, OnErr, Ok, length, map, option_map, slice_get};
+ghost use Rattle.std.specs.Prelude.{◌≡◌, ◌<◌, ◌||◌, [], IfErr, IfOk, OnErr, Ok, length, map, option_map, slice_get};
 ghost use Rattle.gimli_read.specs.Reading.{ExactlyUnlessOomIf};
 ghost use Rattle.addr2line_lines.specs.Details.{detail_at, detail_takes_memory};
 ghost use Rattle.addr2line_lines.specs.InlinedChain.{inlined_chain};
 ghost use Rattle.addr2line_lines.specs.FoundInlined.{entry_among, none_inlined};
 ghost use Rattle.addr2line_lines.specs.CachedNames.{AreNamesMore, AreNamesOf};
-ghost use Rattle.addr2line_lines.specs.CachedDetails.{AreDetailsMore, IsDetailPlace, IsNextPlace, detail_of, seen_details};
+ghost use Rattle.addr2line_lines.specs.CachedDetails.{AreDetailsMore, IsDetailPlace, IsNextPlace, IsRefusedThen, detail_of, seen_details};
 ghost use Rattle.addr2line_lines.specs.InlineRoom.{exceeds_inline_room};
 ghost use Rattle.addr2line_lines.specs.References.{IsScope};
 ghost use Rattle.addr2line_lines.specs.SeenInlined.{seen_inlined};
@@ -50,7 +50,7 @@ pub(crate) struct FunctionDetail {
 pub(crate) struct Details<R: Reader> {
     names: Vec<Option<R>>,
     inlined: InlinedLists<R>,
-    // The names of entries that are referred to.
+    // The names of entries that are referred to, or their faults.
     known: NameCache<R>,
     // The entries that are open while details are read, here for its memory alone.
     nesting: Nesting,
@@ -71,7 +71,7 @@ impl<R: Reader> Details<R> {
     }
 
     // Adds the details of a function. A refused one may leave some of its inlined entries, and
-    // names that were found.
+    // names that were found, or a fault of one.
     fn add(
         &mut self,
         scope: Scope<'_, R>,
@@ -129,8 +129,9 @@ impl<R: Reader> Details<R> {
     /// `UnexpectedEof` where closing entries are missing. May fail with `OutOfMemory` instead, but
     /// with a reader that doesn't share its bytes only where nothing is refused, or the function's
     /// own entry has no fault and, before any fault, an inlined entry gives a range or an entry
-    /// has children. After a refusal what is cached is what was cached before. Source: DWARF 5,
-    /// section 3.3.8.
+    /// has children. After a refusal what is cached is what was cached before, but that names of
+    /// entries that are referred to, and their faults, may have been added; none was after
+    /// `OutOfMemory`. Source: DWARF 5, section 3.3.8.
     pub(crate) fn read(
         &mut self,
         scope: Scope<'_, R>,
@@ -149,8 +150,8 @@ impl<R: Reader> Details<R> {
         ensures there { IfOk result (IsDetailPlace (seen_details R.section self.new)) }
         ensures after { IfOk result (IsNextPlace (seen_details R.section self.old)
             (seen_details R.section self.new)) }
-        ensures refused { OnErr result
-            (seen_details R.section self.new ≡ seen_details R.section self.old) }
+        ensures refused { IfErr result (IsRefusedThen (seen_details R.section self.old)
+            (seen_details R.section self.new)) }
         ensures known { AreNamesMore (seen_scope scope.entry) unit.now
             (seen_details R.section self.old).known (seen_details R.section self.new).known }
     {
@@ -161,8 +162,13 @@ impl<R: Reader> Details<R> {
             Ok(detail) => Ok(detail),
             Err(error) => {
                 self.inlined.truncate(functions, ranges);
-                self.known.truncate(known);
-                Err(error)
+                match error {
+                    Error::OutOfMemory => {
+                        self.known.truncate(known);
+                        Err(error)
+                    }
+                    _ => Err(error),
+                }
             }
         }
     }

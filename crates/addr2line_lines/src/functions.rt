@@ -289,14 +289,14 @@ impl<R: Reader> Functions<R> {
     /// functions inside it, without those of nested subprograms. It is cached then, its fault too.
     ///
     /// `unit` is the unit of the functions, and `scope` says where its references lead. The names
-    /// that references in the unit give are cached too, where the detail has no fault. Refused as
-    /// the first fault of an entry up to the end of the function, of a reference that a name
-    /// follows, of range attributes or of a range list; `UnexpectedEof` where closing entries are
-    /// missing. May fail with `OutOfMemory` instead, which is not cached: where a reader's parts
-    /// share its bytes, where nothing is refused, or where the function's own entry has no fault
-    /// and, before any fault, an inlined entry gives a range or an entry has children. Past the
-    /// last function nothing is read. Takes no memory where the detail or its fault is cached.
-    /// Source: DWARF 5, section 3.3.8.
+    /// that references in the unit give may be cached too, and their faults. Refused as the first
+    /// fault of an entry up to the end of the function, of a reference that a name follows, of
+    /// range attributes or of a range list; `UnexpectedEof` where closing entries are missing. May
+    /// fail with `OutOfMemory` instead, which is not cached: where a reader's parts share its bytes,
+    /// where nothing is refused, or where the function's own entry has no fault and, before any
+    /// fault, an inlined entry gives a range or an entry has children. Past the last function
+    /// nothing is read. Takes no memory where the detail or its fault is cached. Source: DWARF 5,
+    /// section 3.3.8.
     pub fn read(&mut self, scope: Scope<'_, R>, unit: &Unit<R>, place: usize) -> Result<(), Error>
         requires in_order { IsScope (seen_scope scope) }
         requires names { AreNamesOf (seen_scope scope) unit.now self.old.names }

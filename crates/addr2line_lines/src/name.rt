@@ -261,7 +261,7 @@ fn referred_name_anew<R: Reader>(
 }
 
 // The name by the entry at an offset of the unit: the cached one, or it is cached then unless memory
-// is refused for it.
+// is refused for it. So is a fault, but never `OutOfMemory`.
 fn name_in_unit<R: Reader>(
     scope: Scope<'_, R>,
     unit: &Unit<R>,
@@ -275,11 +275,21 @@ fn name_in_unit<R: Reader>(
     ensures names { AreNamesMore (seen_scope scope.entry) unit.now
         (seen_names R.section names.old) (seen_names R.section names.new) }
 {
-    if let Some(name) = names.find(offset) {
-        return Ok(FoundName::Shared(name));
+    match names.find(offset) {
+        Some(Ok(name)) => return Ok(FoundName::Shared(name)),
+        Some(Err(error)) => return Err(error),
+        None => {}
     }
-    let name = referred_name(scope, unit, AttributeValue::UnitRef(offset))?;
-    Ok(names.add(offset, name))
+    match referred_name(scope, unit, AttributeValue::UnitRef(offset)) {
+        Ok(name) => Ok(names.add(offset, name)),
+        Err(error) => match error {
+            Error::OutOfMemory => Err(error),
+            _ => {
+                names.add_fault(offset, error);
+                Err(error)
+            }
+        },
+    }
 }
 
 // The name by the entry that a value refers to, which is cached if it is one of the unit.

@@ -1,11 +1,11 @@
 //! The cached names of entries that are referred to.
 
-ghost use Rattle.std.specs.Prelude.{◌≡◌, IfSome, [], length, option_map, take};
-ghost use Rattle.addr2line_lines.specs.CachedNames.{IsKnownAs, IsOneMoreAtMost, seen_names};
+ghost use Rattle.std.specs.Prelude.{◌≡◌, Err, IfSome, [], length, Ok, option_map, take};
+ghost use Rattle.addr2line_lines.specs.CachedNames.{IsKnownAs, IsOneMoreAtMost, seen_names, seen_shared};
 ghost use Rattle.addr2line_lines.specs.FoundNames.{found_name};
 
 use crate::found_name::{FoundName, note_text};
-use gimli::read::{Reader, UnitOffset};
+use gimli::read::{Error, Reader, UnitOffset};
 use std::alloc::Global;
 use std::rc::Rc;
 
@@ -18,16 +18,16 @@ const MOST_STEPS: usize = 8;
 // A slot of no name: a name at so great a place has none.
 const NO_PLACE: u32 = u32::MAX;
 
-// The name that an entry gives.
+// The name that an entry gives, or its fault.
 #[derive(Drop)]
 struct CachedName<R: Reader> {
     // Where it begins, in bytes from the start of the unit's length.
     offset: UnitOffset,
-    name: Rc<Option<R>>,
+    name: Result<Rc<Option<R>>, Error>,
 }
 
-/// The names that entries of a unit give where they are referred to, in the order in which they
-/// were found.
+/// The names that entries of a unit give where they are referred to, or their faults, in the order
+/// in which they were found.
 #[derive(Drop)]
 pub(crate) struct NameCache<R: Reader> {
     alloc: Global,
@@ -44,6 +44,17 @@ fn share_name<R: Reader>(name: &Rc<Option<R>>) -> Option<Rc<Option<R>>>
     match name.clone() {
         Ok(name) => Some(name),
         Err(_) => None,
+    }
+}
+
+// The same, or the fault again.
+fn share<R: Reader>(name: &Result<Rc<Option<R>>, Error>) -> Option<Result<Rc<Option<R>>, Error>>
+    ensures gives { IfSome result (λ shared. seen_shared R.section shared
+        ≡ seen_shared R.section name.now) }
+{
+    match name {
+        Ok(name) => Some(Ok(share_name(name)?)),
+        Err(error) => Some(Err(*error)),
     }
 }
 
@@ -114,9 +125,9 @@ impl<R: Reader> NameCache<R> {
         self.names.truncate(names);
     }
 
-    /// The name of an entry, if it is found in the cache. Takes no memory.
-    pub(crate) fn find(&self, offset: UnitOffset) -> Option<Rc<Option<R>>>
-        ensures found { IfSome result (λ name. IsKnownAs offset (option_map R.section name.value)
+    /// The name of an entry, or its fault, if it is found in the cache. Takes no memory.
+    pub(crate) fn find(&self, offset: UnitOffset) -> Option<Result<Rc<Option<R>>, Error>>
+        ensures found { IfSome result (λ name. IsKnownAs offset (seen_shared R.section name)
             (seen_names R.section self.now)) }
     {
         let last = self.slots.len().wrapping_sub(1);
@@ -125,29 +136,40 @@ impl<R: Reader> NameCache<R> {
             let place = self.slots.get(first.wrapping_add(step) & last)?;
             let cached = self.names.get(*place as usize)?;
             if cached.offset == offset {
-                return share_name(&cached.name);
+                return share(&cached.name);
             }
         }
         None
     }
 
-    // Adds the name of an entry, or nothing where memory is refused.
-    fn push(&mut self, offset: UnitOffset, name: &Rc<Option<R>>)
+    // Adds the name of an entry, or its fault, or nothing where memory is refused.
+    fn push(&mut self, offset: UnitOffset, name: Result<Rc<Option<R>>, Error>)
         ensures after { IsOneMoreAtMost (record {
           offset = offset;
-          name = option_map R.section name.now.value;
+          name = seen_shared R.section name;
         }) (seen_names R.section self.old)
             (seen_names R.section self.new) }
     {
         let place = self.names.len();
+        match self.names.push(CachedName { offset, name }) {
+            Ok(()) => {
+                make_slots(&self.names, &mut self.slots);
+                set_slot(&mut self.slots, offset, place);
+            }
+            Err(_) => {}
+        }
+    }
+
+    // Adds the name of an entry that others share, or nothing where it can't be shared once more.
+    fn push_shared(&mut self, offset: UnitOffset, name: &Rc<Option<R>>)
+        ensures after { IsOneMoreAtMost (record {
+          offset = offset;
+          name = Ok (option_map R.section name.now.value);
+        }) (seen_names R.section self.old)
+            (seen_names R.section self.new) }
+    {
         match share_name(name) {
-            Some(name) => match self.names.push(CachedName { offset, name }) {
-                Ok(()) => {
-                    make_slots(&self.names, &mut self.slots);
-                    set_slot(&mut self.slots, offset, place);
-                }
-                Err(_) => {}
-            },
+            Some(name) => self.push(offset, Ok(name)),
             None => {}
         }
     }
@@ -157,16 +179,24 @@ impl<R: Reader> NameCache<R> {
         ensures gives { found_name R.section result ≡ option_map R.section name }
         ensures after { IsOneMoreAtMost (record {
           offset = offset;
-          name = option_map R.section name;
+          name = Ok (option_map R.section name);
         }) (seen_names R.section self.old)
             (seen_names R.section self.new) }
     {
         match Rc::new(self.alloc, note_text(name)) {
             Ok(name) => {
-                self.push(offset, &name);
+                self.push_shared(offset, &name);
                 FoundName::Shared(name)
             }
             Err(refused) => FoundName::Own(refused.value),
         }
+    }
+
+    /// Adds the fault of an entry, or nothing where memory is refused.
+    pub(crate) fn add_fault(&mut self, offset: UnitOffset, error: Error)
+        ensures after { IsOneMoreAtMost (record { offset = offset; name = Err error; })
+            (seen_names R.section self.old) (seen_names R.section self.new) }
+    {
+        self.push(offset, Err(error));
     }
 }

@@ -23,7 +23,8 @@ use Rattle.addr2line_units.specs.declared.entries.LazyFunctions.TheVariants as l
 use Rattle.addr2line_units.specs.Frames.{FoundFunction}
 
 -- functions are those of a view whose references lead where the scope says, what is cached of each
--- is its detail, or the fault of that, and cached names are those that references in the view give
+-- is its detail, or the fault of that, and what is cached of names is what references in the view
+-- give
 pub record IsTableOf (scope : Scope) (view : UnitRecord) (t : FunctionTable) : Type 0 where
   pub ranges : functions_of scope.file.sections view ≡ Ok t.ranges
   pub listed : AreListed t

@@ -22,6 +22,18 @@ pub const NESTED: &[u8] =
 const ORIGINS: &[u8] = b"\x01\x11\x01\0\0\x02\x2e\0\x11\x01\x12\x0b\x31\x11\0\0\
     \x03\x2e\0\x31\x11\0\0\x04\x2e\0\x03\x08\0\0\0";
 
+// A root entry without attributes, a function with children and a range, an inlined function with
+// an origin and a range, an entry with a name alone, and one with an origin alone.
+const REFERRING: &[u8] = b"\x01\x11\x01\0\0\x02\x2e\x01\x11\x01\x12\x0b\0\0\
+    \x03\x1d\0\x31\x11\x11\x01\x12\x0b\0\0\x04\x2e\0\x03\x08\0\0\x05\x2e\0\x31\x11\0\0\0";
+
+// An entry at 0x0c whose origin is a closing entry, "g" at 0x0e, and functions [0x10, 0x20) with
+// inlined functions of both names, "g" first, [0x20, 0x30) with one of the first, and [0x30, 0x40)
+// with "g".
+const FAULTY_ORIGIN: &[u8] = b"\x31\0\0\0\x04\0\0\0\0\0\x02\x01\x05\x1f\x04g\0\
+    \x02\x10\0\x10\x03\x0e\x10\0\x08\x03\x0c\x18\0\x08\0\x02\x20\0\x10\x03\x0c\x20\0\x08\0\
+    \x02\x30\0\x10\x03\x0e\x30\0\x08\0\0";
+
 // The bytes of a header and of a root entry without attributes.
 const FRONT_LEN: u32 = 12;
 
@@ -214,6 +226,19 @@ fn the_order_of_lookups_shows_in_no_answer(rt: HostRuntime) {
         answers_of(rt.alloc(), NAMED, TWO_FUNCTIONS, probes),
         [e, f, e, f]
     );
+}
+
+#[test]
+fn functions_that_refer_to_a_faulty_entry_have_its_fault(rt: HostRuntime) {
+    let fault = [1, 0x1f, 0, 0, 0];
+    let g = [0, 1, 0x67, 0x2e, 0];
+    let cases: [([u64; 4], [[u64; 5]; 4]); 2] = [
+        ([0x10, 0x20, 0x30, 0x10], [fault, fault, g, fault]),
+        ([0x30, 0x20, 0x10, 0x30], [g, fault, fault, g]),
+    ];
+    for (probes, want) in cases {
+        assert_eq!(rt; answers_of(rt.alloc(), REFERRING, FAULTY_ORIGIN, probes), want);
+    }
 }
 
 // A header of version 4 and a root entry of code 1, before as many bytes more.

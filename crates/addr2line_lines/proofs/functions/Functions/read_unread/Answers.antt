@@ -7,9 +7,9 @@ use Rattle.gimli_read.specs.Reading.{fault_of}
 use Rattle.addr2line_lines.specs.FunctionTable.{FunctionTable}
 use Rattle.addr2line_lines.specs.FunctionDetails.{IsReadAt, read_fault, cached_takes_memory}
 use Rattle.addr2line_lines.specs.CachedNames.{AreNamesOf}
-use Rattle.addr2line_lines.specs.CachedDetails.{seen_details}
+use Rattle.addr2line_lines.specs.CachedDetails.{IsRefusedThen, seen_details}
 use Rattle.addr2line_lines.specs.SeenScope.{seen_scope}
-use Rattle.addr2line_lines.proofs.FunctionCacheLemmas.{fault_cached, read_cached, reads, table_fault, table_of, table_read, unread_at}
+use Rattle.addr2line_lines.proofs.FunctionCacheLemmas.{fault_cached, nothing_cached, read_cached, reads, table_fault, table_of, table_read, unread_at}
 use Rattle.addr2line_lines.specs.FunctionCache.{AreCachedFunctions}
 use Rattle.addr2line_lines.proofs.functions.Functions.read_unread.Goals as goal
 
@@ -108,10 +108,14 @@ returns-in-OutOfMemory-clause-gives g c =
     let unread = ap (λ (t : FunctionTable). slice_get t.functions n) c.self.view_is ∙ c.requires.unread in
     subst (λ (t : FunctionTable). IsReadAt scope c.args.unit.now n t (Err c.in-Err.error) (table_of fs addresses more)) c.self.view_is
     (reads scope c.args.unit.now n c.args.offset.0 (table_of fs addresses cached) (table_of fs addresses more) (Err c.in-Err.error) unread
-    (λ ne. absurd (ne c.in-OutOfMemory.is), λ oom. ap (table_of fs addresses) c.in-Err.ensures.refused))
+    (λ ne. absurd (ne c.in-OutOfMemory.is), λ oom. ap (table_of fs addresses) (nothing_cached cached more (subst (IsRefusedThen cached more) oom c.in-Err.ensures.refused))))
 
 pub invariant_of-self-in-OutOfMemory : goal.invariant_of-self-in-OutOfMemory
-invariant_of-self-in-OutOfMemory g c = subst (AreCachedFunctions c.self.inside.functions.items c.self.inside.addresses) (sym c.in-Err.ensures.refused) c.self.invariant
+invariant_of-self-in-OutOfMemory g c =
+    let cached = seen_details g.R.Reader.section c.self.inside.details in
+    let more = seen_details g.R.Reader.section c.read.new.self in
+    subst (AreCachedFunctions c.self.inside.functions.items c.self.inside.addresses)
+    (sym (nothing_cached cached more (subst (IsRefusedThen cached more) c.in-OutOfMemory.is c.in-Err.ensures.refused))) c.self.invariant
 
 pub index_mut-requires : goal.index_mut-requires
 index_mut-requires g c =

@@ -11,4 +11,4 @@ returns-then-eq g c =
     let there : slice_get c.deref-in-loop-step.result.now n ≡ Some x = search (rules, gets) in
     let same : x.offset ≡ c.args.offset = search rules in
     let known = known_at g.R.Reader.section names n x c.args.offset (subst (λ xs. slice_get xs n ≡ Some x) c.deref-in-loop-step.ensures.value there) same in
-    record { found = known_shared g.R.Reader.section (λ name. name.value) _ x.name.value c.share_name.result c.args.offset c.share_name.ensures.gives known }
+    record { found = known_shared g.R.Reader.section _ x.name c.share.result c.args.offset c.share.ensures.gives known }

@@ -6,6 +6,7 @@ mod host;
 mod kept;
 mod late;
 mod parts;
+mod sources;
 mod symbols;
 
 use addr2line::gimli::read::{Error, Reader};
@@ -14,6 +15,7 @@ use addr2line_lines_tests::vectors::{
     ABBREV, INFO, LINE, LINE_V5, MAIN_INFO, SPLIT_ABBREV, SPLIT_INFO,
 };
 use elf_writer::{SHAPES, Section, elf_file, plain};
+use sources::{PutFiles, by_parts};
 use std::alloc::{AllocError, Global};
 use std::borrow::CowStr;
 
@@ -192,14 +194,14 @@ fn files_of(alloc: Global, main: Vec<u8>) -> Result<MemoryFiles, AllocError> {
     Ok(files)
 }
 
-fn put_split(
+fn put_split<F: PutFiles>(
     alloc: Global,
-    files: &mut MemoryFiles,
+    files: &mut F,
     path: &str,
     split: Split,
 ) -> Result<(), AllocError> {
     let split = split_bytes(alloc, split)?;
-    files.put(path, split.as_slice())
+    files.put_file(path, split.as_slice())
 }
 
 // A main file of the unit, a plain file, and what stands at a path, if there is something.
@@ -235,18 +237,30 @@ fn told_or_fault<F: FileSource>(
     }
 }
 
-// The same of a unit and what stands at the path of its split file.
+// The same of files.
+fn told_in<F: FileSource>(
+    alloc: Global,
+    files: Result<F, AllocError>,
+    sup: Option<&str>,
+) -> [[u64; 2]; 2] {
+    match files {
+        Ok(files) => told_or_fault(alloc, LoaderOver::over(alloc, files, MAIN, sup)),
+        Err(_) => [[28, 2]; 2],
+    }
+}
+
+// The same of a unit and what stands at the path of its split file, read whole and by parts.
 fn told_split(
     alloc: Global,
     info: &[u8],
     path: &str,
     split: Option<Split>,
     sup: Option<&str>,
-) -> [[u64; 2]; 2] {
-    match split_files(alloc, info, path, split) {
-        Ok(files) => told_or_fault(alloc, LoaderOver::over(alloc, files, MAIN, sup)),
-        Err(_) => [[28, 2]; 2],
-    }
+) -> [[[u64; 2]; 2]; 2] {
+    [
+        told_in(alloc, split_files(alloc, info, path, split), sup),
+        told_in(alloc, by_parts(split_files(alloc, info, path, split)), sup),
+    ]
 }
 
 #[test]
@@ -267,7 +281,8 @@ fn a_split_file_is_found_by_its_path(rt: HostRuntime) {
     ];
     for (info, path, split, want) in cases {
         for sup in [None, Some(PLAIN)] {
-            assert_eq!(rt; told_split(rt.alloc(), info, path, split, sup), [want; 2]);
+            let found = told_split(rt.alloc(), info, path, split, sup);
+            assert_eq!(rt; found, [[want; 2]; 2]);
         }
     }
 }
@@ -311,8 +326,13 @@ fn text_of<F: FileSource>(loader: &mut LoaderOver<F>) -> [u64; 3] {
 }
 
 // The same of files and paths, or a fault's number.
-fn text_at(alloc: Global, main: Main, path: &str, sup: Option<&str>) -> [u64; 3] {
-    let Ok(files) = plain_files(alloc, main) else {
+fn text_in<F: FileSource>(
+    alloc: Global,
+    files: Result<F, AllocError>,
+    path: &str,
+    sup: Option<&str>,
+) -> [u64; 3] {
+    let Ok(files) = files else {
         return [28, 0, 8];
     };
     match LoaderOver::over(alloc, files, path, sup) {
@@ -322,6 +342,14 @@ fn text_at(alloc: Global, main: Main, path: &str, sup: Option<&str>) -> [u64; 3]
         }
         Err(error) => [fault_code(error), 0, 9],
     }
+}
+
+// The same of a main file, read whole and by parts.
+fn text_at(alloc: Global, main: Main, path: &str, sup: Option<&str>) -> [[u64; 3]; 2] {
+    [
+        text_in(alloc, plain_files(alloc, main), path, sup),
+        text_in(alloc, by_parts(plain_files(alloc, main)), path, sup),
+    ]
 }
 
 #[test]
@@ -340,6 +368,6 @@ fn files_are_loaded_or_refused_in_their_order(rt: HostRuntime) {
         (Main::Cut, MAIN, None, [27, 0, 9]),
     ];
     for (main, path, sup, want) in cases {
-        assert_eq!(rt; text_at(rt.alloc(), main, path, sup), want);
+        assert_eq!(rt; text_at(rt.alloc(), main, path, sup), [want; 2]);
     }
 }

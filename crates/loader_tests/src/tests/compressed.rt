@@ -1,7 +1,8 @@
 //! Files whose sections are compressed. The streams are zlib's own, at level 9.
 
+use super::sources::by_parts;
 use super::{ABBREVS, H, LINE_1, MAIN, PLAIN, SPLIT, told_or_fault};
-use addr2line::{CompressedSections, LoaderOver, MemoryFiles};
+use addr2line::{CompressedSections, FileSource, LoaderOver, MemoryFiles};
 use addr2line_lines_tests::vectors::{
     ABBREV, INFO, LINE, LINE_V5, MAIN_INFO, SPLIT_ABBREV, SPLIT_INFO,
 };
@@ -149,8 +150,12 @@ fn files_of(alloc: Global, packings: [Packing; 3]) -> Result<MemoryFiles, AllocE
 }
 
 // What a loader finds at 0x18, asked twice, or a fault's number.
-fn told_by(alloc: Global, compressed: CompressedSections, packings: [Packing; 3]) -> [[u64; 2]; 2] {
-    let Ok(files) = files_of(alloc, packings) else {
+fn told_in<F: FileSource>(
+    alloc: Global,
+    compressed: CompressedSections,
+    files: Result<F, AllocError>,
+) -> [[u64; 2]; 2] {
+    let Ok(files) = files else {
         return [[28, 2]; 2];
     };
     let loader = match compressed {
@@ -160,6 +165,18 @@ fn told_by(alloc: Global, compressed: CompressedSections, packings: [Packing; 3]
         }
     };
     told_or_fault(alloc, loader)
+}
+
+// The same of files whose units stand so, read whole and by parts.
+fn told_by(
+    alloc: Global,
+    compressed: CompressedSections,
+    packings: [Packing; 3],
+) -> [[[u64; 2]; 2]; 2] {
+    [
+        told_in(alloc, compressed, files_of(alloc, packings)),
+        told_in(alloc, compressed, by_parts(files_of(alloc, packings))),
+    ]
 }
 
 // What `over` and what `over_decompressing` tells, where the units of the main, the supplementary
@@ -193,6 +210,6 @@ fn compressed_sections_are_read_on_request(rt: HostRuntime) {
             told_by(rt.alloc(), CompressedSections::Refused, packings),
             told_by(rt.alloc(), CompressedSections::Decompressed, packings),
         ];
-        assert_eq!(rt; found, [[plainly; 2], [decompressed; 2]]);
+        assert_eq!(rt; found, [[[plainly; 2]; 2], [[decompressed; 2]; 2]]);
     }
 }

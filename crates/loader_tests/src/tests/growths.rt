@@ -1,9 +1,10 @@
 //! A loader after a refused growth: the same calls give what they would have given.
 
+use super::sources::by_parts;
 use super::{H, MAIN, SPLIT, Split, fault_code, line_of, split_files, told};
-use addr2line::{LoaderOver, MemoryFiles};
+use addr2line::{FileSource, LoaderOver, MemoryFiles};
 use addr2line_lines_tests::vectors::{MAIN_INFO, SPLIT_INFO};
-use std::alloc::Global;
+use std::alloc::{AllocError, Global};
 
 // The name and the line of the first frame at 0x18, and the line at 0x20; a fault's number.
 type Found = ([u64; 2], u64);
@@ -17,7 +18,7 @@ fn is_refused([name, line]: [u64; 2]) -> bool {
 }
 
 // What a loader finds, each asked once more where memory was refused for it.
-fn found_in(alloc: Global, loader: LoaderOver<MemoryFiles>) -> Found {
+fn found_by<F: FileSource>(alloc: Global, loader: LoaderOver<F>) -> Found {
     let mut loader = loader;
     let mut frame = told(alloc, &mut loader);
     if is_refused(frame) {
@@ -30,21 +31,34 @@ fn found_in(alloc: Global, loader: LoaderOver<MemoryFiles>) -> Found {
     (frame, line)
 }
 
-fn found(alloc: Global) -> Found {
-    match split_files(alloc, MAIN_INFO, SPLIT, Some(Split::Unit(SPLIT_INFO))) {
+fn found_in<F: FileSource>(alloc: Global, files: Result<F, AllocError>) -> Found {
+    match files {
         Ok(files) => match LoaderOver::over(alloc, files, MAIN, None) {
-            Ok(loader) => found_in(alloc, loader),
+            Ok(loader) => found_by(alloc, loader),
             Err(error) => ([fault_code(error), 1], 28),
         },
         Err(_) => ([28, 2], 28),
     }
 }
 
-// The same by a second loader where the first is refused memory.
-fn found_again(alloc: Global) -> Found {
-    let first = found(alloc);
+fn files(alloc: Global) -> Result<MemoryFiles, AllocError> {
+    split_files(alloc, MAIN_INFO, SPLIT, Some(Split::Unit(SPLIT_INFO)))
+}
+
+// The same of files that are read whole, by a second loader where the first is refused memory.
+fn found_whole(alloc: Global) -> Found {
+    let first = found_in(alloc, files(alloc));
     if REFUSED.contains(&first) {
-        return found(alloc);
+        return found_in(alloc, files(alloc));
+    }
+    first
+}
+
+// The same of files that are read by parts.
+fn found_by_parts(alloc: Global) -> Found {
+    let first = found_in(alloc, by_parts(files(alloc)));
+    if REFUSED.contains(&first) {
+        return found_in(alloc, by_parts(files(alloc)));
     }
     first
 }
@@ -52,5 +66,6 @@ fn found_again(alloc: Global) -> Found {
 // Each growth is refused in turn by `tools/refuse_growths`.
 #[test]
 fn a_refused_growth_leaves_the_loader(rt: HostRuntime) {
-    assert_eq!(rt; found_again(rt.alloc()), (H, 3));
+    let found = [found_whole(rt.alloc()), found_by_parts(rt.alloc())];
+    assert_eq!(rt; found, [(H, 3); 2]);
 }

@@ -1,7 +1,9 @@
 //! Split files that a loader has read, and when they are read again.
 
+use super::sources::{PutFiles, by_parts};
 use super::{FOREIGN_INFO, MAIN, SPLIT, Split, fault_code, frame_code, put_split, split_files};
-use addr2line::{FileSource, FileStamp, FileTime, LoaderOver, MemoryFiles};
+use addr2line::{FileSource, FileStamp, FileTime, LoaderOver};
+use elf::FileImage;
 use std::alloc::{AllocError, Global};
 
 // Three units [0x10, 0x30), [0x30, 0x50) and [0x50, 0x70), which wait for "/w/s.dwo" and have one
@@ -36,16 +38,20 @@ const I: u64 = 0x6969;
 // What stands at the path of the split file by then, and the stamp that is told of it.
 type Step = (Split, Option<FileStamp>);
 
-// Files in memory, of which the split file has a stamp, or none has.
+// Files, of which the split file has a stamp, or none has.
 #[derive(Drop)]
-struct StampedFiles {
-    files: MemoryFiles,
+struct StampedFiles<F: PutFiles> {
+    files: F,
     stamp: Option<FileStamp>,
 }
 
-impl FileSource for StampedFiles {
+impl<F: PutFiles> FileSource for StampedFiles<F> {
     fn read(&self, alloc: Global, path: &str) -> Result<Option<Vec<u8>>, AllocError> {
         self.files.read(alloc, path)
+    }
+
+    fn read_image(&self, alloc: Global, path: &str) -> Result<Option<FileImage>, AllocError> {
+        self.files.read_image(alloc, path)
     }
 
     fn stamp(&self, path: &str) -> Option<FileStamp> {
@@ -86,9 +92,9 @@ fn other_at(place: usize) -> FileStamp {
 }
 
 // The name that a loader finds at an address after a step, or a fault's number.
-fn told_after(
+fn told_after<F: PutFiles>(
     alloc: Global,
-    loader: &mut LoaderOver<StampedFiles>,
+    loader: &mut LoaderOver<StampedFiles<F>>,
     (split, stamp): Step,
     probe: u64,
 ) -> u64 {
@@ -102,9 +108,9 @@ fn told_after(
 }
 
 // The names that a loader finds in three units, each after a step.
-fn told_in_turn(
+fn told_in_turn<F: PutFiles>(
     alloc: Global,
-    loader: &mut LoaderOver<StampedFiles>,
+    loader: &mut LoaderOver<StampedFiles<F>>,
     [first, second, third]: [Step; 3],
 ) -> [u64; 3] {
     [
@@ -114,9 +120,9 @@ fn told_in_turn(
     ]
 }
 
-// The same of three units whose split file is one, or a fault's number.
-fn told(alloc: Global, steps: [Step; 3]) -> [u64; 3] {
-    let Ok(files) = split_files(alloc, THREE_INFO, SPLIT, None) else {
+// The same of files, or a fault's number.
+fn told_in<F: PutFiles>(alloc: Global, files: Result<F, AllocError>, steps: [Step; 3]) -> [u64; 3] {
+    let Ok(files) = files else {
         return [28, 0, 0];
     };
     let files = StampedFiles { files, stamp: None };
@@ -127,6 +133,18 @@ fn told(alloc: Global, steps: [Step; 3]) -> [u64; 3] {
         }
         Err(error) => [fault_code(error), 1, 0],
     }
+}
+
+// The same of three units whose split file is one, read whole and by parts.
+fn told(alloc: Global, steps: [Step; 3]) -> [[u64; 3]; 2] {
+    [
+        told_in(alloc, split_files(alloc, THREE_INFO, SPLIT, None), steps),
+        told_in(
+            alloc,
+            by_parts(split_files(alloc, THREE_INFO, SPLIT, None)),
+            steps,
+        ),
+    ]
 }
 
 #[test]
@@ -149,7 +167,7 @@ fn a_split_file_is_read_once_for_a_stamp(rt: HostRuntime) {
         ([(EMPTY, one), (HAS_H, one), (HAS_I, one)], [0, H, H]),
     ];
     for (steps, want) in cases {
-        assert_eq!(rt; told(rt.alloc(), steps), want);
+        assert_eq!(rt; told(rt.alloc(), steps), [want; 2]);
     }
 }
 
@@ -158,6 +176,6 @@ fn each_part_of_a_stamp_counts(rt: HostRuntime) {
     for place in 0..7 {
         let other = Some(other_at(place));
         let steps = [(HAS_H, Some(STAMP)), (HAS_I, other), (EMPTY, other)];
-        assert_eq!(rt; told(rt.alloc(), steps), [H, I, I]);
+        assert_eq!(rt; told(rt.alloc(), steps), [[H, I, I]; 2]);
     }
 }

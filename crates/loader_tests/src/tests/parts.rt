@@ -1,10 +1,12 @@
 //! Files of which a loader reads the parts that lookups ask for.
 
+use super::sources::by_parts;
 use super::symbols::symbol_at;
-use super::{MAIN, PLAIN, fault_code, files_of, plain_file, text_of, told};
+use super::{
+    H, MAIN, PLAIN, SPLIT, fault_code, files_of, plain_file, split_files, text_of, told, told_in,
+};
 use addr2line::{FileSource, LoaderError, LoaderOver, MemoryFiles};
-use addr2line_lines_tests::vectors::{ABBREV, INFO, LINE};
-use elf::{FileImage, PartSource, read_wanted};
+use addr2line_lines_tests::vectors::{ABBREV, INFO, LINE, MAIN_INFO, SPLIT_ABBREV, SPLIT_INFO};
 use elf_writer::{SHAPES, Section, elf_file, named_symbol, plain, symbol_tables};
 use std::alloc::{AllocError, Global};
 
@@ -12,79 +14,6 @@ const SHT_SYMTAB: u32 = 2;
 
 // More bytes than stand between two parts that are read as one.
 const APART: usize = 0x12000;
-
-// Fewer than that, so that nothing of what stands between two parts can be read.
-const MOST: usize = 0x1000;
-
-// A file in memory.
-#[derive(Drop)]
-struct FileInMemory {
-    bytes: Vec<u8>,
-}
-
-impl PartSource for FileInMemory {
-    ghost use Rattle.std.specs.Prelude.{Some};
-
-    ghost bytes = { λ s. Some s.bytes.items };
-
-    fn len(&self) -> u64 {
-        self.bytes.len() as u64
-    }
-
-    fn part(&self, alloc: Global, start: u64, len: usize) -> Result<Option<Vec<u8>>, AllocError> {
-        let all = self.len();
-        if start > all || all - start < len as u64 {
-            return Ok(None);
-        }
-        let (_, rest) = self.bytes.as_slice().split_at(start as usize);
-        let (own, _) = rest.split_at(len);
-        Ok(Some(Vec::from_slice(alloc, own)?))
-    }
-}
-
-// The same, of which parts of more than so many bytes can't be read.
-#[derive(Drop)]
-struct FileByParts {
-    file: FileInMemory,
-    most: usize,
-}
-
-impl PartSource for FileByParts {
-    fn len(&self) -> u64 {
-        self.file.len()
-    }
-
-    fn part(&self, alloc: Global, start: u64, len: usize) -> Result<Option<Vec<u8>>, AllocError> {
-        if len > self.most {
-            return Ok(None);
-        }
-        self.file.part(alloc, start, len)
-    }
-}
-
-// Files in memory, each read so.
-#[derive(Drop)]
-struct FilesByParts {
-    files: MemoryFiles,
-    most: usize,
-}
-
-impl FileSource for FilesByParts {
-    fn read(&self, alloc: Global, path: &str) -> Result<Option<Vec<u8>>, AllocError> {
-        self.files.read(alloc, path)
-    }
-
-    fn read_image(&self, alloc: Global, path: &str) -> Result<Option<FileImage>, AllocError> {
-        match self.files.read(alloc, path)? {
-            Some(bytes) => {
-                let file = FileInMemory { bytes };
-                let most = self.most;
-                read_wanted(alloc, &FileByParts { file, most })
-            }
-            None => Ok(None),
-        }
-    }
-}
 
 // A file whose sections of debug information, and whose symbols, stand apart.
 fn file_apart(alloc: Global) -> Result<Vec<u8>, AllocError> {
@@ -152,23 +81,20 @@ fn answers<F: FileSource>(
     }
 }
 
-// The answers of a file all of which is read.
-fn answers_whole(alloc: Global, main: Main) -> [[u64; 3]; 3] {
-    match files_with(alloc, main) {
+// The answers of files.
+fn answers_in<F: FileSource>(alloc: Global, files: Result<F, AllocError>) -> [[u64; 3]; 3] {
+    match files {
         Ok(files) => answers(alloc, LoaderOver::over(alloc, files, MAIN, Some(PLAIN))),
         Err(_) => [[28, 2, 0]; 3],
     }
 }
 
-// The answers of a file that is read by parts of at most so many bytes.
-fn answers_by_parts(alloc: Global, main: Main, most: usize) -> [[u64; 3]; 3] {
-    match files_with(alloc, main) {
-        Ok(files) => {
-            let files = FilesByParts { files, most };
-            answers(alloc, LoaderOver::over(alloc, files, MAIN, Some(PLAIN)))
-        }
-        Err(_) => [[28, 3, 0]; 3],
-    }
+// The answers of a main file that is read whole and by parts.
+fn answers_of(alloc: Global, main: Main) -> [[[u64; 3]; 3]; 2] {
+    [
+        answers_in(alloc, files_with(alloc, main)),
+        answers_in(alloc, by_parts(files_with(alloc, main))),
+    ]
 }
 
 #[test]
@@ -181,14 +107,49 @@ fn parts_answer_as_the_whole_file(rt: HostRuntime) {
         Main::Bytes(b"no ELF file, but one that has more bytes than the header of any has"),
     ];
     for main in cases {
-        let by_parts = answers_by_parts(rt.alloc(), main, MOST);
-        assert_eq!(rt; by_parts, answers_whole(rt.alloc(), main));
+        let found = answers_of(rt.alloc(), main);
+        assert_eq!(rt; found[1], found[0]);
     }
 }
 
 #[test]
 fn parts_of_a_file_apart_are_found(rt: HostRuntime) {
-    let found = answers_by_parts(rt.alloc(), Main::Apart, MOST);
-    assert_eq!(rt; found[2], [0x61, 0x61, 0x10]);
-    assert_eq!(rt; found[0], [0x10, 0x12010, 3]);
+    let found = answers_of(rt.alloc(), Main::Apart);
+    assert_eq!(rt; found[1][2], [0x61, 0x61, 0x10]);
+    assert_eq!(rt; found[1][0], [0x10, 0x12010, 3]);
+}
+
+// A split file whose sections stand apart.
+fn split_apart(alloc: Global) -> Result<Vec<u8>, AllocError> {
+    let apart = Vec::from_elem(alloc, 0x90u8, APART)?;
+    elf_file(
+        alloc,
+        SHAPES[0],
+        &[
+            plain(".text", &apart),
+            plain(".debug_abbrev.dwo", SPLIT_ABBREV),
+            plain(".data", &apart),
+            plain(".debug_info.dwo", SPLIT_INFO),
+            plain(".debug_loc.dwo", &apart),
+        ],
+    )
+}
+
+fn split_apart_files(alloc: Global) -> Result<MemoryFiles, AllocError> {
+    let mut files = split_files(alloc, MAIN_INFO, SPLIT, None)?;
+    files.put(SPLIT, split_apart(alloc)?.as_slice())?;
+    Ok(files)
+}
+
+// What loaders find at 0x18, read whole and by parts.
+fn told_apart(alloc: Global) -> [[[u64; 2]; 2]; 2] {
+    [
+        told_in(alloc, split_apart_files(alloc), None),
+        told_in(alloc, by_parts(split_apart_files(alloc)), None),
+    ]
+}
+
+#[test]
+fn parts_of_a_split_file_apart_are_found(rt: HostRuntime) {
+    assert_eq!(rt; told_apart(rt.alloc()), [[H; 2]; 2]);
 }

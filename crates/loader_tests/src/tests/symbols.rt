@@ -1,5 +1,6 @@
 //! What a loader says of symbols.
 
+use super::sources::by_parts;
 use super::{MAIN, fault_code, letter};
 use addr2line::{FileSource, LoaderOver, MemoryFiles};
 use elf_writer::{SHAPES, Section, elf_file, named_symbol, plain, symbol_tables};
@@ -44,8 +45,8 @@ pub(super) fn symbol_at<F: FileSource>(loader: &LoaderOver<F>, probe: u64) -> [u
 }
 
 // The base address, and the symbols of two addresses, or a fault's number.
-fn symbols_told(alloc: Global) -> [[u64; 3]; 3] {
-    let Ok(files) = symbols_files(alloc) else {
+fn symbols_in<F: FileSource>(alloc: Global, files: Result<F, AllocError>) -> [[u64; 3]; 3] {
+    let Ok(files) = files else {
         return [[28, 2, 0]; 3];
     };
     match LoaderOver::over(alloc, files, MAIN, None) {
@@ -58,10 +59,16 @@ fn symbols_told(alloc: Global) -> [[u64; 3]; 3] {
     }
 }
 
+// The same of files that are read whole and by parts.
+fn symbols_told(alloc: Global) -> [[[u64; 3]; 3]; 2] {
+    [
+        symbols_in(alloc, symbols_files(alloc)),
+        symbols_in(alloc, by_parts(symbols_files(alloc))),
+    ]
+}
+
 #[test]
 fn the_symbol_of_an_address_is_told(rt: HostRuntime) {
-    assert_eq!(rt;
-        symbols_told(rt.alloc()),
-        [[0; 3], [0x62, 0x62, 0x10], [0; 3]]
-    );
+    let want = [[0; 3], [0x62, 0x62, 0x10], [0; 3]];
+    assert_eq!(rt; symbols_told(rt.alloc()), [want; 2]);
 }

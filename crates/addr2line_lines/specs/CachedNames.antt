@@ -19,6 +19,10 @@ pub record CachedName : Type 0 where
   pub offset : UnitOffset
   pub name : Option Section
 
+-- the name that an entry gives
+abbrev pub name_at_offset : UnitOffset → Option Section → CachedName
+name_at_offset offset name = record { offset = offset; name = name }
+
 -- a name that is cached
 abbrev pub seen_cached_name : {R : Type 0} → (R → Section) → declared_name.CachedName R → CachedName
 seen_cached_name see n = record { offset = n.offset; name = option_map see n.name.value }

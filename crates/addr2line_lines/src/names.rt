@@ -1,7 +1,7 @@
 //! The cached names of entries that are referred to.
 
 ghost use Rattle.std.specs.Prelude.{◌≡◌, IfSome, [], length, option_map, take};
-ghost use Rattle.addr2line_lines.specs.CachedNames.{IsKnownAs, IsOneMoreAtMost, seen_names};
+ghost use Rattle.addr2line_lines.specs.CachedNames.{IsKnownAs, IsOneMoreAtMost, name_at_offset, seen_names};
 ghost use Rattle.addr2line_lines.specs.FoundNames.{found_name};
 
 use crate::found_name::{FoundName, note_text};
@@ -133,10 +133,8 @@ impl<R: Reader> NameCache<R> {
 
     // Adds the name of an entry, or nothing where memory is refused.
     fn push(&mut self, offset: UnitOffset, name: &Rc<Option<R>>)
-        ensures after { IsOneMoreAtMost (record {
-          offset = offset;
-          name = option_map R.section name.now.value;
-        }) (seen_names R.section self.old)
+        ensures after { IsOneMoreAtMost (name_at_offset offset
+            (option_map R.section name.now.value)) (seen_names R.section self.old)
             (seen_names R.section self.new) }
     {
         let place = self.names.len();
@@ -155,11 +153,8 @@ impl<R: Reader> NameCache<R> {
     /// Adds the name of an entry, or nothing where memory is refused, and gives it back.
     pub(crate) fn add(&mut self, offset: UnitOffset, name: Option<R>) -> FoundName<R>
         ensures gives { found_name R.section result ≡ option_map R.section name }
-        ensures after { IsOneMoreAtMost (record {
-          offset = offset;
-          name = option_map R.section name;
-        }) (seen_names R.section self.old)
-            (seen_names R.section self.new) }
+        ensures after { IsOneMoreAtMost (name_at_offset offset (option_map R.section name))
+            (seen_names R.section self.old) (seen_names R.section self.new) }
     {
         match Rc::new(self.alloc, note_text(name)) {
             Ok(name) => {

@@ -9,6 +9,8 @@
 use Rattle.std.specs.Prelude.{◌≡◌, ℕ, ◌+◌, ◌<◌, ◌≤◌, Bool, true, List, [], map, Option, None, IfErr, Result, Ok, Err}
 use Rattle.gimli_read.specs.declared.error.Error.{Error}
 use Rattle.gimli_read.specs.Reading.{◌>>=◌, fault_of, WasNotRefused}
+use Rattle.gimli_read.specs.Section.{Section}
+use Rattle.gimli.specs.declared.dwarf.DwarfFileType.TheVariants.{Main}
 use Rattle.gimli.specs.Sections.{Sections}
 use Rattle.addr2line_units.specs.declared.index.UnitRange.{UnitRange}
 use Rattle.addr2line_units.specs.FramesLookup.{FindsNothing, LookupStop, main_scope}
@@ -31,6 +33,25 @@ pub record ContextState : Type 0 where
   pub known : List KnownEntries
   pub looks : ℕ
   pub stop : LookupStop
+
+-- the sections of a main file, each by itself, without a supplementary file
+abbrev pub main_sections : {R : Type 0} → (R → Section) → R → R → R → R → R → R → R → R → R → R
+    → Sections
+main_sections see abbrevs addr aranges info line line_str ranges rnglists str str_offsets =
+    record {
+      debug_abbrev = see abbrevs;
+      debug_addr = see addr;
+      debug_aranges = see aranges;
+      debug_info = see info;
+      debug_line = see line;
+      debug_line_str = see line_str;
+      debug_ranges = see ranges;
+      debug_rnglists = see rnglists;
+      debug_str = see str;
+      debug_str_offsets = see str_offsets;
+      file_type = Main;
+      sup = None;
+    }
 
 -- a context of sections as it is made, or the fault that refuses it
 abbrev pub new_context : Sections → Result ContextState Error

@@ -1,8 +1,10 @@
 -- Owned copies of what calls give, as contracts see them.
-use Rattle.std.specs.Prelude.{map, option_map, string_bytes}
+use Rattle.std.specs.Prelude.{◌≡◌, false, map, option_map, string_bytes, Result}
 use Rattle.addr2line_lines.specs.Location.{Location}
 use Rattle.addr2line_lines.specs.RangeLocations.{LocatedSpan}
+use Rattle.gimli_read.specs.declared.error.Error.{Error}
 use Rattle.gimli_read.specs.Reading.{result_map}
+use Rattle.addr2line_units.specs.FramesLookup.{LookupStop, is_waiting}
 use Rattle.addr2line_units.specs.Loads.{token_number}
 use Rattle.addr2line.specs.declared.reply.OwnedLocation.{OwnedLocation}
 use Rattle.addr2line.specs.declared.reply.OwnedSpan.{OwnedSpan}
@@ -62,3 +64,7 @@ seen_reply (replies.Unit found) = Viewed (option_map seen_owned_unit found)
 seen_reply (replies.Preload loads) = Listed (map seen_owned_load loads.items)
 seen_reply (replies.Done done) = Ended done
 seen_reply (replies.Suspended unit) = SuspendedAt (token_number unit)
+
+-- a lookup that came to this has ended, with this reply
+abbrev pub HasEndedWith : Result LookupStop Error → CopiedReply → Reply → Type 0
+HasEndedWith stop reply r = (seen_reply r ≡ reply) × (is_waiting stop ≡ false)

@@ -4,14 +4,13 @@ ghost use Rattle.std.specs.Prelude.{◌≡◌, ℕ, None, IfErr, IfOk, IsOk, Ok,
 ghost use Rattle.std.specs.Borrow.{sem};
 ghost use Rattle.gimli_read.specs.declared.error.Error.TheVariants.{OutOfMemory};
 ghost use Rattle.gimli_read.specs.Reading.{Exactly, ExactlyUnlessOom, IsUnlessOom, ExactlyUnlessOomIf, WasNotRefused};
-ghost use Rattle.gimli.specs.declared.dwarf.DwarfFileType.TheVariants.{Main};
 ghost use Rattle.addr2line_lines.specs.LastAddress.{last_address};
 ghost use Rattle.addr2line_lines.specs.SeenLocation.{seen_location};
 ghost use Rattle.addr2line_units.specs.Indexed.{context_takes_memory};
 ghost use Rattle.addr2line_units.specs.Located.{location_of, spans_of};
 ghost use Rattle.addr2line_units.specs.LocationsLeft.{locations_left};
 ghost use Rattle.addr2line_units.specs.Parsed.{AreAllParsed};
-ghost use Rattle.addr2line.specs.Context.{new_context, lines_of_all, AfterLookupOver, AfterRangeLookup, IsReady, IsUncovered, IsReadyForAll, IsReadyForRange, LocatesRangeNoMemory, ParsesNoMemory, ParsesToFault, Stays};
+ghost use Rattle.addr2line.specs.Context.{main_sections, new_context, lines_of_all, AfterLookupOver, AfterRangeLookup, IsReady, IsUncovered, IsReadyForAll, IsReadyForRange, LocatesRangeNoMemory, ParsesNoMemory, ParsesToFault, Stays};
 
 use addr2line_lines::Location;
 use addr2line_units::index::UnitRanges;
@@ -103,20 +102,10 @@ impl<R: Reader> Context<R> {
         debug_str_offsets: DebugStrOffsets<R>,
         default_section: R,
     ) -> Result<Context<R>, Error>
-        ensures gives { IsUnlessOom result (new_context (record {
-          debug_abbrev = R.section debug_abbrev.section;
-          debug_addr = R.section debug_addr.section;
-          debug_aranges = R.section debug_aranges.section;
-          debug_info = R.section debug_info.section;
-          debug_line = R.section debug_line.section;
-          debug_line_str = R.section debug_line_str.section;
-          debug_ranges = R.section debug_ranges.section;
-          debug_rnglists = R.section debug_rnglists.section;
-          debug_str = R.section debug_str.section;
-          debug_str_offsets = R.section debug_str_offsets.section;
-          file_type = Main;
-          sup = None;
-        })) }
+        ensures gives { IsUnlessOom result (new_context (main_sections R.section
+            debug_abbrev.section debug_addr.section debug_aranges.section debug_info.section
+            debug_line.section debug_line_str.section debug_ranges.section
+            debug_rnglists.section debug_str.section debug_str_offsets.section)) }
     {
         let _ = default_section;
         Context::from_dwarf(

@@ -1,6 +1,6 @@
 //! Owned copies of what calls of a context lend.
 
-ghost use Rattle.std.specs.Prelude.{◌≡◌, ◌≢◌, Option, None, Some, Result, Ok, Err, IfErr, IfOk, IsOk, OnOk, map, option_map, false, true};
+ghost use Rattle.std.specs.Prelude.{◌≡◌, ◌≢◌, Option, None, Some, Result, Ok, Err, IfErr, IfOk, IsOk, OnOk, map, option_map, true};
 ghost use Rattle.gimli_read.specs.declared.error.Error.{Error};
 ghost use Rattle.gimli_read.specs.declared.error.Error.TheVariants.{OutOfMemory};
 ghost use Rattle.gimli_read.specs.Reading.{ExactlyUnlessOom, result_map, WasNotRefused};
@@ -14,7 +14,7 @@ ghost use Rattle.addr2line_units.specs.SeenUnit.{seen_found, seen_unit};
 ghost use Rattle.addr2line.specs.Lookups.{UnitResult, frames_of_stop};
 ghost use Rattle.addr2line_units.specs.Located.{LocationResult};
 ghost use Rattle.addr2line.specs.Replies.{Located, Ranged, Listed, Ended, section_bytes, copied_frame, copied_load, copied_name, copied_unit, reply_of_frames, reply_of_unit};
-ghost use Rattle.addr2line.specs.SeenReplies.{seen_owned_frame, seen_owned_load, seen_owned_location, seen_owned_name, seen_owned_span, seen_owned_unit, seen_reply};
+ghost use Rattle.addr2line.specs.SeenReplies.{HasEndedWith, seen_owned_frame, seen_owned_load, seen_owned_location, seen_owned_name, seen_owned_span, seen_owned_unit, seen_reply};
 
 use crate::reply::{FoundUnit, OwnedFrame, OwnedLoad, OwnedLocation, OwnedName, OwnedSpan, Reply};
 use addr2line_lines::Location;
@@ -185,7 +185,7 @@ pub(crate) fn frames_reply<R: Reader>(
 ) -> Result<Reply, Error>
     ensures gives { (stop : Result LookupStop Error)
         → ExactlyUnlessOom (λ i. Some (frames_left i)) frames.entry (frames_of_stop stop)
-        → IfOk result (λ r. (seen_reply r ≡ reply_of_frames stop) × (is_waiting stop ≡ false)) }
+        → IfOk result (λ r. HasEndedWith stop (reply_of_frames stop) r) }
     ensures memory { OnOk result (WasNotRefused frames.entry) }
     ensures fault { IfErr frames.entry (λ e. e ≢ OutOfMemory → IsOk result) }
     ensures refused { IfErr result (λ e. e ≡ OutOfMemory) }
@@ -216,8 +216,7 @@ pub(crate) fn unit_reply<R: Reader>(
     ensures gives { (stop : Result LookupStop Error) (given : UnitResult)
         → ExactlyUnlessOom seen_found unit.entry given
         → (is_waiting stop ≡ true → given ≡ Ok None)
-        → IfOk result (λ r. (seen_reply r ≡ reply_of_unit stop given)
-        × (is_waiting stop ≡ false)) }
+        → IfOk result (λ r. HasEndedWith stop (reply_of_unit stop given) r) }
     ensures memory { OnOk result (WasNotRefused unit.entry) }
     ensures refused { IfErr result (λ e. e ≡ OutOfMemory) }
 {

@@ -1,6 +1,6 @@
 -- What the calls of an open file answer, write and leave, and what C gets of them by a handle.
 -- Own: a handle that isn't open answers so, and stays as it is.
-use Rattle.std.specs.Prelude.{◌≡◌, ◌≢◌, ◌⊎◌, ◌&&◌, ◌==◌, ◌∷◌, ℕ, Bool, true, false, List, [], length, nat_le, Option, Some, None, Ok, Err, if◌then◌else◌}
+use Rattle.std.specs.Prelude.{◌≡◌, ◌≢◌, ◌⊎◌, ◌==◌, ◌∷◌, ℕ, Bool, true, false, List, [], length, nat_le, Option, Some, None, Ok, Err, if◌then◌else◌}
 use Rattle.elf.specs.declared.error.LoaderError.{LoaderError}
 use Rattle.elf.specs.declared.error.LoaderError.TheVariants.{OutOfMemory}
 use Rattle.elf.specs.Sections.{section_range_at}
@@ -24,7 +24,7 @@ use Rattle.addr2line_c.specs.declared.spans.WrittenSpan.{WrittenSpan}
 use Rattle.addr2line_c.specs.declared.status.Status.{Status}
 use Rattle.addr2line_c.specs.declared.status.Status.TheVariants.{Done, Closed, Nothing, Refused}
 use Rattle.addr2line_c.specs.declared.symbols.WrittenSymbol.{WrittenSymbol}
-use Rattle.addr2line_c.specs.Answered.{HasMemory, IfNothing, SaysOrWaits, SaysWhatIsThere, done_if}
+use Rattle.addr2line_c.specs.Answered.{HasMemory, IfNothing, SaysWhatIsThere, done_if}
 use Rattle.addr2line_c.specs.AskedLoads.{waiting_load}
 use Rattle.addr2line_c.specs.Filled.{IsFilled}
 use Rattle.addr2line_c.specs.Left.{AsksIfWaiting, LeavesFrames, LeavesLocation, LeavesRange}
@@ -32,8 +32,8 @@ use Rattle.addr2line_c.specs.LoadCalls.{AnswersTokenAs, ForgetsToken, ParsesAllA
 use Rattle.addr2line_c.specs.Loads.{IsWrittenLoad}
 use Rattle.addr2line_c.specs.Status.{status_number, status_text}
 use Rattle.addr2line_c.specs.Texts.{zero_ended}
-use Rattle.addr2line_c.specs.Written.{IsWrittenFrames, IsWrittenLocation}
-use Rattle.addr2line_c.specs.WrittenSpans.{IsWrittenSpans, spans_from}
+use Rattle.addr2line_c.specs.Written.{IsWrittenLocation, SaysFrames, frames_fit}
+use Rattle.addr2line_c.specs.WrittenSpans.{SaysSpans, spans_from}
 use Rattle.addr2line_c.specs.WrittenSymbols.{IsWrittenRange, IsWrittenSymbol}
 
 -- what a handle owns before and after a call, and the number that it answers: those of a call of
@@ -64,12 +64,9 @@ pub record LocatesAt (probe : ℕ) (out : WrittenLocation) (buffer : List ℕ) (
 -- the frames at the probe were looked up, with names in their language or not
 pub record FramesAt (probe : ℕ) (demangles : Bool) (out : List WrittenFrame) (count : ℕ)
     (buffer : List ℕ) (needed : ℕ) (old new : OpenFile) (s : Status) : Type 0 where
-  pub gives : SaysOrWaits (of_file (frames_of_context old.context probe))
-      (IsWrittenFrames demangles out count buffer needed)
-      (nat_le count (length out) && nat_le needed (length buffer)) s
+  pub gives : SaysFrames demangles (frames_of_context old.context probe) out count buffer needed s
   pub none : IfNothing s ((count ≡ 0) × (needed ≡ 0))
-  pub left : LeavesFrames probe (nat_le count (length out) && nat_le needed (length buffer)) s
-      old.context new.context
+  pub left : LeavesFrames probe (frames_fit out count buffer needed) s old.context new.context
   pub asks : AsksIfWaiting probe old.context old.loads.loads.items new.loads.loads.items s
   pub memory : demangles ≡ false → WaitsForNone old.context probe
       → IsKnownFew Stop old.context probe → s ≢ Refused OutOfMemory
@@ -78,8 +75,8 @@ pub record FramesAt (probe : ℕ) (demangles : Bool) (out : List WrittenFrame) (
 -- the rows that a range of addresses meets were looked up, from a place on, so many at most
 pub record SpansFrom (low high first most : ℕ) (out : List WrittenSpan) (count : ℕ)
     (buffer : List ℕ) (needed : ℕ) (old new : OpenFile) (s : Status) : Type 0 where
-  pub gives : SaysWhatIsThere (of_file (spans_from old.context.sections low high first most))
-      (IsWrittenSpans out count buffer needed) (nat_le needed (length buffer)) s
+  pub gives : SaysSpans (spans_from old.context.sections low high first most) out count buffer
+      needed s
   pub none : IfNothing s ((count ≡ 0) × (needed ≡ 0))
   pub left : LeavesRange low high (nat_le needed (length buffer)) s old.context new.context
   pub memory : IsReadyForRange old.context low high → s ≢ Refused OutOfMemory

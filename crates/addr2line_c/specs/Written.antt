@@ -1,11 +1,15 @@
 -- What C gets for locations, frames and spans: their parts, and their texts in a buffer.
 -- Own: the texts of an item stand in the order function, file, after those of the items before it.
-use Rattle.std.specs.Prelude.{◌≡◌, ◌++◌, ◌≤◌, ℕ, Bool, List, [], length, option_and_then, option_map, Option, Some, if◌then◌else◌}
+use Rattle.std.specs.Prelude.{◌≡◌, ◌++◌, ◌≤◌, ◌&&◌, ℕ, Bool, List, [], length, nat_le, option_and_then, option_map, Option, Some, if◌then◌else◌}
 use Rattle.addr2line_lines.specs.Location.{Location}
 use Rattle.addr2line_units.specs.Frames.{FrameRecord, NameRecord}
 use Rattle.addr2line_units.specs.SeenFrame.{name_text}
+use Rattle.addr2line_units.specs.UnitFrames.{FramesResult}
+use Rattle.addr2line.specs.SplitFiles.{of_file}
 use Rattle.addr2line_c.specs.declared.location.WrittenLocation.{WrittenLocation}
 use Rattle.addr2line_c.specs.declared.frames.WrittenFrame.{WrittenFrame}
+use Rattle.addr2line_c.specs.declared.status.Status.{Status}
+use Rattle.addr2line_c.specs.Answered.{SaysOrWaits}
 use Rattle.addr2line_c.specs.Parts.{number_part, offset_part}
 use Rattle.addr2line_c.specs.Filled.{IsFilled}
 use Rattle.addr2line_c.specs.Sequence.{EachNames, texts_of_items, written_items}
@@ -82,3 +86,12 @@ pub record IsWrittenFrames (demangles : Bool) (out : List WrittenFrame) (count :
   pub named : length frames ≤ length out
       → length (zero_ended (frames_texts demangles frames)) ≤ length buffer
       → EachNames (NamesFrame demangles buffer) out frames
+
+-- whether so many frames have room, and the bytes that their texts need
+abbrev pub frames_fit : List WrittenFrame → ℕ → List ℕ → ℕ → Bool
+frames_fit out count buffer needed = nat_le count (length out) && nat_le needed (length buffer)
+
+-- the status says what a lookup of frames gives, and the frames are written
+abbrev pub SaysFrames : Bool → FramesResult → List WrittenFrame → ℕ → List ℕ → ℕ → Status → Type 0
+SaysFrames demangles given out count buffer needed s = SaysOrWaits (of_file given)
+    (IsWrittenFrames demangles out count buffer needed) (frames_fit out count buffer needed) s

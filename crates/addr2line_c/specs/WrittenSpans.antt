@@ -1,15 +1,18 @@
 -- What C gets for the rows that a range of addresses meets (DWARF 5, section 6.2.2).
 -- Own: a fault of a unit's lines stands in the place of its rows: it has its status, and neither
 -- addresses nor a location. A row has the status done.
-use Rattle.std.specs.Prelude.{◌≤◌, ℕ, List, [], drop, length, take, Option, Some, None, Result, Ok, Err}
+use Rattle.std.specs.Prelude.{◌≤◌, ℕ, List, [], drop, length, nat_le, take, Option, Some, None, Result, Ok, Err}
 use Rattle.gimli_read.specs.declared.error.Error.{Error}
 use Rattle.gimli_read.specs.Reading.{◌>>=◌}
 use Rattle.gimli.specs.Sections.{Sections}
 use Rattle.addr2line_lines.specs.Location.{Location}
 use Rattle.addr2line_lines.specs.RangeLocations.{LocatedSpan}
 use Rattle.addr2line_units.specs.Located.{spans_of}
+use Rattle.addr2line.specs.SplitFiles.{of_file}
 use Rattle.addr2line_c.specs.declared.spans.WrittenSpan.{WrittenSpan}
+use Rattle.addr2line_c.specs.declared.status.Status.{Status}
 use Rattle.addr2line_c.specs.declared.status.Status.TheVariants.{Done}
+use Rattle.addr2line_c.specs.Answered.{SaysWhatIsThere}
 use Rattle.addr2line_c.specs.Filled.{IsFilled}
 use Rattle.addr2line_c.specs.Sequence.{EachNames, texts_of_items, written_items}
 use Rattle.addr2line_c.specs.Status.{status_number, status_of_error}
@@ -66,3 +69,9 @@ pub record IsWrittenSpans (out : List WrittenSpan) (count : ℕ) (buffer : List 
   pub named : length spans ≤ length out
       → length (zero_ended (texts_of_spans spans)) ≤ length buffer
       → EachNames (NamesSpan buffer) out spans
+
+-- the status says which rows and faults there are, and these are written
+abbrev pub SaysSpans : Result (Option (List (Result LocatedSpan Error))) Error → List WrittenSpan
+    → ℕ → List ℕ → ℕ → Status → Type 0
+SaysSpans given out count buffer needed s = SaysWhatIsThere (of_file given)
+    (IsWrittenSpans out count buffer needed) (nat_le needed (length buffer)) s

@@ -1,6 +1,6 @@
 //! What lookups found, with what C gets of it.
 
-ghost use Rattle.std.specs.Prelude.{◌≡◌, ◌⊎◌, ◌&&◌, Some, false, length, nat_le, option_map};
+ghost use Rattle.std.specs.Prelude.{◌≡◌, ◌⊎◌, Some, false, length, nat_le, option_map};
 ghost use Rattle.gimli_read.specs.Reading.{ExactlyUnlessOom};
 ghost use Rattle.elf.specs.declared.error.LoaderError.TheVariants.{OutOfMemory};
 ghost use Rattle.addr2line_lines.specs.SeenLocation.{seen_location};
@@ -9,9 +9,9 @@ ghost use Rattle.addr2line_units.specs.Located.{LocationResult};
 ghost use Rattle.addr2line_units.specs.UnitFrames.{FramesResult};
 ghost use Rattle.addr2line.specs.SplitFiles.{of_file};
 ghost use Rattle.addr2line_c.specs.declared.status.Status.TheVariants.{Nothing, Refused, Waits};
-ghost use Rattle.addr2line_c.specs.Answered.{IfNothing, SaysOrWaits, SaysWhatIsThere};
+ghost use Rattle.addr2line_c.specs.Answered.{IfNothing, SaysWhatIsThere};
 ghost use Rattle.addr2line_c.specs.Left.{found_some, status_by};
-ghost use Rattle.addr2line_c.specs.Written.{IsWrittenFrames, IsWrittenLocation};
+ghost use Rattle.addr2line_c.specs.Written.{IsWrittenLocation, SaysFrames, frames_fit};
 
 use crate::frames::{WrittenFrame, put_frames};
 use crate::location::{WrittenLocation, put_location};
@@ -58,16 +58,12 @@ pub(crate) fn put_found_frames<R: Reader>(
 ) -> Status
     ensures gives { (given : FramesResult)
         → ExactlyUnlessOom (λ i. Some (frames_left i)) found.entry given
-        → SaysOrWaits (of_file given)
-        (IsWrittenFrames demangles out.new count.new buffer.new needed.new)
-        (nat_le count.new (length out.new) && nat_le needed.new (length buffer.new)) result }
+        → SaysFrames demangles given out.new count.new buffer.new needed.new result }
     ensures none { IfNothing result ((count.new ≡ 0) × (needed.new ≡ 0)) }
     ensures whole { (result ≡ Refused OutOfMemory) ⊎ (result ≡ status_by Waits
-        (nat_le count.new (length out.new) && nat_le needed.new (length buffer.new))
-        (found_some found.entry)) }
+        (frames_fit out.new count.new buffer.new needed.new) (found_some found.entry)) }
     ensures memory { demangles ≡ false → result ≡ status_by Waits
-        (nat_le count.new (length out.new) && nat_le needed.new (length buffer.new))
-        (found_some found.entry) }
+        (frames_fit out.new count.new buffer.new needed.new) (found_some found.entry) }
 {
     *count = 0;
     *needed = 0;

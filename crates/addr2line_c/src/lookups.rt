@@ -1,6 +1,6 @@
 //! Lookups, with what C gets of them.
 
-ghost use Rattle.std.specs.Prelude.{◌≡◌, ◌≢◌, ◌&&◌, false, length, nat_le};
+ghost use Rattle.std.specs.Prelude.{◌≡◌, ◌≢◌, false, length, nat_le};
 ghost use Rattle.elf.specs.declared.error.LoaderError.TheVariants.{OutOfMemory};
 ghost use Rattle.addr2line_units.specs.declared.frames.OnFault.TheVariants.{Stop};
 ghost use Rattle.addr2line_units.specs.Located.{location_of};
@@ -10,9 +10,9 @@ ghost use Rattle.addr2line.specs.LoadsByFiles.{WaitsForNone};
 ghost use Rattle.addr2line.specs.SplitFiles.{of_file};
 ghost use Rattle.addr2line.specs.WaitingLookups.{frames_of_context};
 ghost use Rattle.addr2line_c.specs.declared.status.Status.TheVariants.{Refused};
-ghost use Rattle.addr2line_c.specs.Answered.{IfNothing, SaysOrWaits, SaysWhatIsThere};
+ghost use Rattle.addr2line_c.specs.Answered.{IfNothing, SaysWhatIsThere};
 ghost use Rattle.addr2line_c.specs.Left.{AsksIfWaiting, LeavesFrames, LeavesLocation};
-ghost use Rattle.addr2line_c.specs.Written.{IsWrittenFrames, IsWrittenLocation};
+ghost use Rattle.addr2line_c.specs.Written.{IsWrittenLocation, SaysFrames, frames_fit};
 
 use crate::found::{put_found, put_found_frames};
 use crate::frames::WrittenFrame;
@@ -56,12 +56,11 @@ pub(crate) fn find_frames<R: Reader>(
     buffer: &mut [u8],
     needed: &mut usize,
 ) -> Status
-    ensures gives { SaysOrWaits (of_file (frames_of_context context.old probe))
-        (IsWrittenFrames demangles out.new count.new buffer.new needed.new)
-        (nat_le count.new (length out.new) && nat_le needed.new (length buffer.new)) result }
+    ensures gives { SaysFrames demangles (frames_of_context context.old probe) out.new count.new
+        buffer.new needed.new result }
     ensures none { IfNothing result ((count.new ≡ 0) × (needed.new ≡ 0)) }
-    ensures left { LeavesFrames probe (nat_le count.new (length out.new)
-        && nat_le needed.new (length buffer.new)) result context.old context.new }
+    ensures left { LeavesFrames probe (frames_fit out.new count.new buffer.new needed.new) result
+        context.old context.new }
     ensures after { AsksIfWaiting probe context.old loads.old.loads.items loads.new.loads.items
         result }
     ensures memory { demangles ≡ false → WaitsForNone context.old probe

@@ -9,14 +9,13 @@ ghost use Rattle.addr2line_lines.specs.RangesLeft.{seen_located};
 ghost use Rattle.addr2line_units.specs.Located.{spans_of};
 ghost use Rattle.addr2line_units.specs.LocationsLeft.{locations_left};
 ghost use Rattle.addr2line.specs.Context.{IsReadyForRange};
-ghost use Rattle.addr2line.specs.SplitFiles.{of_file};
 ghost use Rattle.addr2line_c.specs.declared.status.Status.TheVariants.{Refused};
-ghost use Rattle.addr2line_c.specs.Answered.{IfNothing, SaysWhatIsThere, done_if};
+ghost use Rattle.addr2line_c.specs.Answered.{IfNothing, done_if};
 ghost use Rattle.addr2line_c.specs.Filled.{IsFilled};
 ghost use Rattle.addr2line_c.specs.Left.{LeavesRange, was_made};
 ghost use Rattle.addr2line_c.specs.Status.{after_reply};
 ghost use Rattle.addr2line_c.specs.Texts.{zero_ended};
-ghost use Rattle.addr2line_c.specs.WrittenSpans.{IsWrittenSpans, spans_from, texts_of_span, texts_of_spans, written_span, written_spans};
+ghost use Rattle.addr2line_c.specs.WrittenSpans.{SaysSpans, spans_from, texts_of_span, texts_of_spans, written_span, written_spans};
 
 use crate::fill::fill;
 use crate::location::{WrittenLocation, put_location};
@@ -118,10 +117,8 @@ fn put_found_spans<R: Reader>(
 ) -> Status
     ensures gives { (d : Sections) (low high : ℕ)
         → IfOk found.entry (λ spans. spans_of d low high ≡ Ok (locations_left spans))
-        → IfErr found.entry (λ e. e ≡ RefusedMemory)
-        → SaysWhatIsThere (of_file (spans_from d low high first (length out.old)))
-        (IsWrittenSpans out.new count.new buffer.new needed.new)
-        (nat_le needed.new (length buffer.new)) result }
+        → IfErr found.entry (λ e. e ≡ RefusedMemory) → SaysSpans (spans_from d low high first
+        (length out.old)) out.new count.new buffer.new needed.new result }
     ensures none { IfNothing result ((count.new ≡ 0) × (needed.new ≡ 0)) }
     ensures whole { result ≡ after_reply (was_made found.entry)
         (done_if (nat_le needed.new (length buffer.new))) }
@@ -151,9 +148,8 @@ pub(crate) fn find_spans<R: Reader>(
     buffer: &mut [u8],
     needed: &mut usize,
 ) -> Status
-    ensures gives { SaysWhatIsThere (of_file (spans_from context.old.sections low high first
-        (length out.old))) (IsWrittenSpans out.new count.new buffer.new needed.new)
-        (nat_le needed.new (length buffer.new)) result }
+    ensures gives { SaysSpans (spans_from context.old.sections low high first (length out.old))
+        out.new count.new buffer.new needed.new result }
     ensures none { IfNothing result ((count.new ≡ 0) × (needed.new ≡ 0)) }
     ensures left { LeavesRange low high (nat_le needed.new (length buffer.new)) result
         context.old context.new }

@@ -16,6 +16,8 @@ use Rattle.addr2line_lines.specs.Details.{Detail}
 use Rattle.addr2line_lines.specs.FoundInlined.{FoundInlined, IsFoundMore, range_among, seen_lists}
 use Rattle.addr2line_lines.specs.Grown.{IsGrown}
 use Rattle.addr2line_lines.specs.InOrder.{in_order}
+use Rattle.addr2line_lines.specs.InlinedChain.{inlined_chain}
+use Rattle.addr2line_lines.specs.InlinedEntries.{InlinedEntry}
 use Rattle.addr2line_lines.specs.InlinedOrder.{inlined_sooner, inlined_place}
 
 -- names, inlined entries and ranges, and the names of entries that are referred to, or their faults
@@ -46,6 +48,10 @@ detail_of d p = record {
   name = slice_index_or d.names p.name None;
   inlined = map (range_among d.found.entries) (listed_ranges p);
 }
+
+-- the inlined entries of the details of a place at an address, from the outside in
+abbrev pub cached_chain : CachedDetails → FunctionDetail → ℕ → List InlinedEntry
+cached_chain d p probe = inlined_chain probe (detail_of d p).inlined
 
 -- what was cached before stays, with more at its end
 pub record AreDetailsMore (cached more : CachedDetails) : Type 0 where

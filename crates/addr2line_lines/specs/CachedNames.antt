@@ -24,6 +24,10 @@ pub record CachedName : Type 0 where
   pub offset : UnitOffset
   pub name : Result (Option Section) Error
 
+-- the entry at an offset, with the name that it gives or the fault of that
+abbrev pub name_at_offset : UnitOffset → Result (Option Section) Error → CachedName
+name_at_offset offset name = record { offset = offset; name = name }
+
 -- the name of an entry, or its fault, as others share it
 abbrev pub seen_shared : {R : Type 0} → (R → Section) → Result (Rc (Option R) Global) Error
     → Result (Option Section) Error

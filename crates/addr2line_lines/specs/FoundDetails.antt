@@ -59,3 +59,9 @@ detail_takes_memory_at scope u offset found = do
 abbrev pub is_memory_taken : Result Bool Error → Bool
 is_memory_taken (Ok takes) = takes
 is_memory_taken (Err e) = false
+
+-- the same of a function whose attributes follow
+abbrev pub takes_memory_inside : Scope → UnitRecord → EntryUnit → EntryCursor → FoundInlined
+    → Abbrev → Bool
+takes_memory_inside scope u unit cursor found a =
+    is_memory_taken (function_takes_memory_at scope u unit cursor found a)

@@ -1,6 +1,6 @@
 -- The inlined entries of a function and their ranges as they are found, as the private functions
 -- see them.
-use Rattle.std.specs.Prelude.{ℕ, ◌<◌, ◌&&◌, Bool, false, List, [], ◌∷◌, ◌++◌, drop, map, length, slice_index_or, take, None, Result, Ok, Err, if◌then◌else◌, count_by}
+use Rattle.std.specs.Prelude.{ℕ, ◌<◌, ◌&&◌, Bool, false, List, [], ◌∷◌, ◌++◌, drop, map, length, slice_index_or, take, Option, None, option_map, Result, Ok, Err, if◌then◌else◌, count_by}
 use Rattle.gimli_read.specs.declared.error.Error.{Error}
 use Rattle.gimli_read.specs.declared.range.Range.{Range}
 use Rattle.gimli_read.specs.Abbreviations.{Abbrev}
@@ -41,6 +41,11 @@ first_found functions ranges found =
 -- what was found
 abbrev pub seen_lists : {R : Type 0} → InlinedLists R → FoundInlined
 seen_lists l = record { entries = l.functions.entries; ranges = l.ranges.elements }
+
+-- a name with what was found after it
+abbrev pub named_lists : {R : Type 0} → (R → Section) → InlinedLists R → Option R
+    → Option Section × FoundInlined
+named_lists see lists = λ name. (option_map see name, seen_lists lists)
 
 -- no inlined entry
 abbrev pub no_inlined : InlinedEntry
@@ -118,6 +123,11 @@ abbrev pub read_lists_a_range
 read_lists_a_range scope u around a (Ok x) =
     entry_lists_a_range scope u around (record { abbreviation = a; attributes = x.0 })
 read_lists_a_range scope u around a (Err e) = false
+
+-- the same, of an entry whose attributes follow
+abbrev pub lists_a_range_at : Scope → UnitRecord → List Kind → Abbrev → Section → Bool
+lists_a_range_at scope u around a left =
+    read_lists_a_range scope u around a (attributes_at u.header.encoding a.attributes left)
 
 -- a place is that of an inlined entry
 abbrev pub IsPlaceAmong : List InlinedEntry → InlinedFunctionAddress → Type 0

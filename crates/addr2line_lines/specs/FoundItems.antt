@@ -6,7 +6,7 @@ use Rattle.gimli_read.specs.Reading.{◌>>=◌}
 use Rattle.gimli_read.specs.Run.{fold_of}
 use Rattle.gimli.specs.Entry.{EntryUnit}
 use Rattle.gimli.specs.Items.{Item, items_inside}
-use Rattle.gimli.specs.EntryCursor.{EntryCursor, items_left, next_item_at}
+use Rattle.gimli.specs.EntryCursor.{EntriesLeft, EntryCursor, items_left, next_item_at}
 use Rattle.gimli.specs.Unit.{UnitRecord}
 use Rattle.addr2line_lines.specs.declared.inlined_lists.InlinedLists.{InlinedLists}
 use Rattle.addr2line_lines.specs.declared.nesting.Kind.{Kind}
@@ -66,6 +66,11 @@ abbrev pub next_takes_memory
     : Scope → UnitRecord → FoundAround → Result (Option Item × EntryCursor) Error → Bool
 next_takes_memory scope u state (Ok (Some x, cursor)) = inlined_item_takes_memory scope u state x
 next_takes_memory scope u state _ = false
+
+-- the same, of the next item of the entries that are left
+abbrev pub next_item_takes_memory : Scope → UnitRecord → EntriesLeft → FoundAround → Bool
+next_item_takes_memory scope u entries state =
+    next_takes_memory scope u state (next_item_at entries.unit entries.cursor)
 
 -- whether memory is taken for one of items, with no fault before it
 abbrev pub items_left_take_memory : Scope → UnitRecord → FoundAround → List Item → Bool

@@ -14,7 +14,7 @@ use Rattle.addr2line_lines.specs.declared.references.EntryPlace.{EntryPlace as E
 use Rattle.addr2line_lines.specs.declared.found_name.FoundName.{FoundName}
 use Rattle.addr2line_lines.specs.declared.found_name.FoundName.TheVariants.{Own, Shared}
 use Rattle.addr2line_lines.specs.declared.name.NameOrOrigin.{NameOrOrigin as NameOrOriginOf}
-use Rattle.addr2line_lines.specs.Names.{NameOrOrigin, is_linkage_name, is_origin, or_with_name, with_name}
+use Rattle.addr2line_lines.specs.Names.{NameOrOrigin, is_linkage_name, is_origin, linkage_name_of, or_with_name, with_name, with_name_or_origin}
 use Rattle.addr2line_lines.specs.References.{EntryPlace, Scope}
 use Rattle.addr2line_lines.specs.SeenScope.{seen_scope}
 
@@ -51,6 +51,12 @@ is_name_attribute name = is_linkage_name name || name.0 == DW_AT_name.0 || is_or
 -- the linkage name that an attribute gives, beside what is found after it
 abbrev pub with_linkage : Option Section → NameOrOrigin → Option Section × NameOrOrigin
 with_linkage linkage found = (linkage, found)
+
+-- the same of one more attribute
+abbrev pub linkage_and_found : Scope → UnitRecord → NameOrOrigin → NamedValue
+    → Option Section × NameOrOrigin
+linkage_and_found scope u found a =
+    with_linkage (linkage_name_of scope u a) (with_name_or_origin scope u found a)
 
 -- a string after what was found, if there is one
 abbrev pub with_string : Option Section → NameOrOrigin → NameOrOrigin

@@ -1,9 +1,10 @@
 -- Ranges of inlined entries by the places of these, as the private functions see them.
 -- Own: in order they stand by depth, then by begin, then by end, then by place of the entry.
-use Rattle.std.specs.Prelude.{ℕ, ◌+◌, ◌==◌, Bool, List, [], ◌∷◌, filter, length, Option, Some, None, zero, suc}
+use Rattle.std.specs.Prelude.{◌≡◌, ℕ, ◌+◌, ◌==◌, Bool, List, [], ◌∷◌, filter, length, map, Option, Some, None, zero, suc}
 use Rattle.std.specs.Option.{option_map}
 use Rattle.std.specs.Ordering.{is_lt, nat_cmp, ordering_then}
 use Rattle.addr2line_lines.specs.declared.picks.InlinedFunctionAddress.{InlinedFunctionAddress}
+use Rattle.addr2line_lines.specs.InlinedChain.{inlined_chain}
 use Rattle.addr2line_lines.specs.InlinedEntries.{InlinedEntry, InlinedRange}
 use Rattle.addr2line_lines.specs.Pick.{pick}
 
@@ -50,3 +51,8 @@ places_chain probe ranges = places_within (length ranges) probe 0 ranges
 abbrev pub inlined_range_of : (ℕ → InlinedEntry) → InlinedFunctionAddress → InlinedRange
 inlined_range_of entry_of x =
     record { depth = x.depth; range = x.range; entry = entry_of x.function }
+
+-- the entries of places are those at an address, from the outside in, of these ranges
+abbrev pub IsChainOf : ℕ → (ℕ → InlinedEntry) → List InlinedFunctionAddress → List ℕ → Type 0
+IsChainOf probe entry_of listed places =
+    map entry_of places ≡ inlined_chain probe (map (inlined_range_of entry_of) listed)

@@ -4,13 +4,13 @@ ghost use Rattle.std.specs.Prelude.{◌≡◌, ◌<◌, ◌||◌, [], None, Ok, 
 ghost use Rattle.gimli_read.specs.Form.{rest_of};
 ghost use Rattle.gimli_read.specs.Reading.{ExactlyUnlessOomIf};
 ghost use Rattle.gimli.specs.Entry.{attributes_at};
-ghost use Rattle.gimli.specs.EntryCursor.{next_item_at};
+ghost use Rattle.addr2line_lines.specs.Finding.{FindsUnlessOomIf};
 ghost use Rattle.addr2line_lines.specs.CachedNames.{AreNamesMore, AreNamesOf, seen_names};
-ghost use Rattle.addr2line_lines.specs.FoundInlined.{IsFoundMore, entry_found_at, read_lists_a_range, seen_lists};
+ghost use Rattle.addr2line_lines.specs.FoundInlined.{IsFoundMore, entry_found_at, lists_a_range_at, named_lists, seen_lists};
 ghost use Rattle.addr2line_lines.specs.FoundAttributes.{IsTakenIn};
 ghost use Rattle.addr2line_lines.specs.FoundNames.{found_name, with_read_name, name_after};
-ghost use Rattle.addr2line_lines.specs.FoundDetails.{detail_found_at, detail_takes_memory_at, function_found_at, function_takes_memory_at, is_memory_taken};
-ghost use Rattle.addr2line_lines.specs.FoundItems.{inside_found, inside_takes_memory, item_found_at, next_takes_memory, seen_around};
+ghost use Rattle.addr2line_lines.specs.FoundDetails.{detail_found_at, detail_takes_memory_at, function_found_at, is_memory_taken, takes_memory_inside};
+ghost use Rattle.addr2line_lines.specs.FoundItems.{inside_found, inside_takes_memory, item_found_at, next_item_takes_memory, seen_around};
 ghost use Rattle.addr2line_lines.specs.References.{IsScope};
 ghost use Rattle.addr2line_lines.specs.SeenScope.{seen_scope};
 
@@ -119,12 +119,10 @@ fn read_entry<R: Reader>(
     requires in_order { IsScope (seen_scope scope) }
     requires names { AreNamesOf (seen_scope scope) unit.now (seen_names R.section names.old) }
     requires encoding { entries.old.unit.encoding ≡ unit.now.header.encoding }
-    ensures gives { ExactlyUnlessOomIf (R.shares || read_lists_a_range (seen_scope scope.entry)
-        unit.now nesting.now abbreviation.now (attributes_at unit.now.header.encoding
-        abbreviation.now.attributes entries.old.cursor.left))
-        (λ _. (seen_lists found.new, entries.new.cursor.left)) result
-        (entry_found_at (seen_scope scope.entry) unit.now nesting.now offset.0 abbreviation.now
-        entries.old.cursor.left (seen_lists found.old)) }
+    ensures gives { FindsUnlessOomIf (R.shares || lists_a_range_at (seen_scope scope.entry) unit.now
+        nesting.now abbreviation.now entries.old.cursor.left) entries.old.cursor.left
+        entries.new.cursor.left (seen_lists found.old) (seen_lists found.new) result
+        (entry_found_at (seen_scope scope.entry) unit.now nesting.now offset.0 abbreviation.now) }
     ensures kept { IsFoundMore (seen_lists found.old) (seen_lists found.new) }
     ensures unit { entries.new.unit ≡ entries.old.unit }
     ensures depth { entries.new.cursor.depth ≡ entries.old.cursor.depth }
@@ -153,12 +151,10 @@ fn read_item<R: Reader>(
     requires in_order { IsScope (seen_scope scope) }
     requires names { AreNamesOf (seen_scope scope) unit.now (seen_names R.section names.old) }
     requires encoding { entries.old.unit.encoding ≡ unit.now.header.encoding }
-    ensures gives { ExactlyUnlessOomIf (R.shares || next_takes_memory (seen_scope scope.entry)
-        unit.now (seen_around found.old nesting.old)
-        (next_item_at entries.old.unit entries.old.cursor))
-        (λ _. (seen_around found.new nesting.new, entries.new.cursor)) result
-        (item_found_at (seen_scope scope.entry) unit.now entries.old.unit entries.old.cursor
-        (seen_around found.old nesting.old)) }
+    ensures gives { FindsUnlessOomIf (R.shares || next_item_takes_memory (seen_scope scope.entry)
+        unit.now entries.old (seen_around found.old nesting.old)) entries.old.cursor
+        entries.new.cursor (seen_around found.old nesting.old) (seen_around found.new nesting.new)
+        result (item_found_at (seen_scope scope.entry) unit.now entries.old.unit) }
     ensures kept { IsFoundMore (seen_lists found.old) (seen_lists found.new) }
     ensures unit { entries.new.unit ≡ entries.old.unit }
     ensures shorter { OnOk result
@@ -236,12 +232,10 @@ fn read_function<R: Reader>(
     requires in_order { IsScope (seen_scope scope) }
     requires names { AreNamesOf (seen_scope scope) unit.now (seen_names R.section names.old) }
     requires encoding { entries.old.unit.encoding ≡ unit.now.header.encoding }
-    ensures gives { ExactlyUnlessOomIf (R.shares || is_memory_taken (function_takes_memory_at
-        (seen_scope scope.entry) unit.now entries.old.unit entries.old.cursor
-        (seen_lists found.old) abbreviation.now))
-        (λ name. (option_map R.section name, seen_lists found.new)) result
-        (function_found_at (seen_scope scope.entry) unit.now entries.old.unit entries.old.cursor
-        (seen_lists found.old) abbreviation.now) }
+    ensures gives { ExactlyUnlessOomIf (R.shares || takes_memory_inside (seen_scope scope.entry)
+        unit.now entries.old.unit entries.old.cursor (seen_lists found.old) abbreviation.now)
+        (named_lists R.section found.new) result (function_found_at (seen_scope scope.entry)
+        unit.now entries.old.unit entries.old.cursor (seen_lists found.old) abbreviation.now) }
     ensures kept { IsFoundMore (seen_lists found.old) (seen_lists found.new) }
     ensures names { AreNamesMore (seen_scope scope.entry) unit.now
         (seen_names R.section names.old) (seen_names R.section names.new) }
@@ -262,12 +256,10 @@ pub(crate) fn read_detail<R: Reader>(
 ) -> Result<Option<R>, Error>
     requires in_order { IsScope (seen_scope scope) }
     requires names { AreNamesOf (seen_scope scope) unit.now (seen_names R.section names.old) }
-    ensures gives { ExactlyUnlessOomIf
-        (R.shares || is_memory_taken (detail_takes_memory_at (seen_scope scope.entry) unit.now
-        offset.0 (seen_lists found.old)))
-        (λ name. (option_map R.section name, seen_lists found.new)) result
-        (detail_found_at (seen_scope scope.entry) unit.now offset.0
-        (seen_lists found.old)) }
+    ensures gives { ExactlyUnlessOomIf (R.shares || is_memory_taken (detail_takes_memory_at
+        (seen_scope scope.entry) unit.now offset.0 (seen_lists found.old)))
+        (named_lists R.section found.new) result
+        (detail_found_at (seen_scope scope.entry) unit.now offset.0 (seen_lists found.old)) }
     ensures kept { IsFoundMore (seen_lists found.old) (seen_lists found.new) }
     ensures names { AreNamesMore (seen_scope scope.entry) unit.now
         (seen_names R.section names.old) (seen_names R.section names.new) }

@@ -4,10 +4,9 @@ ghost use Rattle.std.specs.List.{AllByRecursion};
 ghost use Rattle.std.specs.Prelude.{◌≡◌, ◌<◌, ◌||◌, [], IfErr, IfOk, OnErr, Ok, length, map, option_map, slice_get};
 ghost use Rattle.gimli_read.specs.Reading.{ExactlyUnlessOomIf};
 ghost use Rattle.addr2line_lines.specs.Details.{detail_at, detail_takes_memory};
-ghost use Rattle.addr2line_lines.specs.InlinedChain.{inlined_chain};
 ghost use Rattle.addr2line_lines.specs.FoundInlined.{entry_among, none_inlined};
 ghost use Rattle.addr2line_lines.specs.CachedNames.{AreNamesMore, AreNamesOf};
-ghost use Rattle.addr2line_lines.specs.CachedDetails.{AreDetailsMore, IsDetailPlace, IsNextPlace, IsRefusedThen, detail_of, seen_details};
+ghost use Rattle.addr2line_lines.specs.CachedDetails.{AreDetailsMore, IsDetailPlace, IsNextPlace, IsRefusedThen, cached_chain, detail_of, seen_details};
 ghost use Rattle.addr2line_lines.specs.InlineRoom.{exceeds_inline_room};
 ghost use Rattle.addr2line_lines.specs.References.{IsScope};
 ghost use Rattle.addr2line_lines.specs.SeenInlined.{seen_inlined};
@@ -193,11 +192,10 @@ impl<R: Reader> Details<R> {
         probe: u64,
     ) -> Result<InlinedPlaces, Error>
         requires place { IsDetailPlace (seen_details R.section self.now) detail.now }
-        ensures gives { ExactlyUnlessOomIf (exceeds_inline_room (inlined_chain probe
-            (detail_of (seen_details R.section self.now) detail.now).inlined))
+        ensures gives { ExactlyUnlessOomIf
+            (exceeds_inline_room (cached_chain (seen_details R.section self.now) detail.now probe))
             (λ chain. map (entry_among (seen_details R.section self.now).found.entries) chain.items)
-            result (Ok (inlined_chain probe
-            (detail_of (seen_details R.section self.now) detail.now).inlined)) }
+            result (Ok (cached_chain (seen_details R.section self.now) detail.now probe)) }
         ensures there { IfOk result (λ chain. AllByRecursion
             (λ n. n < length (seen_details R.section self.now).found.entries) chain.items) }
     {

@@ -5,6 +5,7 @@ ghost use Rattle.std.specs.Prelude.{◌≡◌, ◌≢◌, ◌<◌, ◌==◌, [],
 ghost use Rattle.gimli_read.specs.declared.error.Error.TheVariants.{OutOfMemory};
 ghost use Rattle.gimli_read.specs.Reading.{ExactlyUnlessOomIf};
 ghost use Rattle.addr2line_lines.specs.CachedNames.{AreNamesOf};
+ghost use Rattle.addr2line_lines.specs.Finding.{FindsUnlessOomIf};
 ghost use Rattle.addr2line_lines.specs.InlinedChain.{inlined_chain};
 ghost use Rattle.addr2line_lines.specs.FoundInlined.{entry_among};
 ghost use Rattle.addr2line_lines.specs.FoundRanges.{is_function};
@@ -157,11 +158,10 @@ fn read_item<R: Reader>(
 ) -> Result<(), Error>
     requires encoding { entries.old.unit.encoding ≡ unit.unit.now.header.encoding }
     requires some { (length entries.old.cursor.left.bytes == 0) ≡ false }
-    ensures gives { ExactlyUnlessOomIf (item_takes_memory R.shares unit.entry.dwarf.now
-        unit.entry.unit.now entries.old.unit entries.old.cursor)
-        (λ _. (seen_functions found.new, entries.new.cursor)) result
-        (next_found_at unit.entry.dwarf.now unit.entry.unit.now entries.old.unit entries.old.cursor
-        (seen_functions found.old)) }
+    ensures gives { FindsUnlessOomIf (item_takes_memory R.shares unit.entry.dwarf.now
+        unit.entry.unit.now entries.old.unit entries.old.cursor) entries.old.cursor
+        entries.new.cursor (seen_functions found.old) (seen_functions found.new) result
+        (next_found_at unit.entry.dwarf.now unit.entry.unit.now entries.old.unit) }
     ensures empty { AreFoundUnread found.old → AreFoundUnread found.new }
     ensures unit { entries.new.unit ≡ entries.old.unit }
     ensures shorter { OnOk result

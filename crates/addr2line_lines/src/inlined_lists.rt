@@ -109,13 +109,11 @@ impl<R: Reader> InlinedLists<R> {
         depth: usize,
         attributes: InlinedAttributes<R>,
     ) -> Result<(), Error>
-        ensures gives { ExactlyUnlessOomIf
-            (gives_a_range unit.entry.dwarf.now unit.entry.unit.now attributes.ranges)
-            (λ _. seen_lists self.new) result (with_inlined_found unit.entry.dwarf.now
-            unit.entry.unit.now offset.0 depth (seen_lists self.old)
+        ensures gives { ExactlyUnlessOomIf (gives_a_range unit.entry.dwarf.now unit.entry.unit.now
+            attributes.ranges) (λ _. seen_lists self.new) result (with_inlined_found
+            unit.entry.dwarf.now unit.entry.unit.now offset.0 depth (seen_lists self.old)
             (seen_attributes R.section attributes)) }
-        ensures kept { IsFoundMore (seen_lists self.old)
-            (seen_lists self.new) }
+        ensures kept { IsFoundMore (seen_lists self.old) (seen_lists self.new) }
     {
         let InlinedAttributes { ranges, name, call } = attributes;
         let before = self.ranges.len();

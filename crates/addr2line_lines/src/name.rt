@@ -6,8 +6,8 @@ ghost use Rattle.gimli_read.specs.Form.{rest_of, seen_value};
 ghost use Rattle.gimli_read.specs.Reading.{Exactly, ExactlyUnlessOomIf};
 ghost use Rattle.gimli.specs.Entry.{attributes_at};
 ghost use Rattle.addr2line_lines.specs.CachedNames.{AreNamesMore, AreNamesOf, seen_names};
-ghost use Rattle.addr2line_lines.specs.FoundNames.{found_name, is_name_attribute, seen_name_or_origin, seen_place, with_linkage, with_origin, with_string};
-ghost use Rattle.addr2line_lines.specs.Names.{is_linkage_name, is_origin, linkage_name_of, named_at, no_name, or_referred_name, readable, referred_name, visited, with_name, with_name_or_origin};
+ghost use Rattle.addr2line_lines.specs.FoundNames.{found_name, is_name_attribute, linkage_and_found, seen_name_or_origin, seen_place, with_linkage, with_origin, with_string};
+ghost use Rattle.addr2line_lines.specs.Names.{is_linkage_name, is_origin, named_at, no_name, or_referred_name, readable, referred_name, visited, with_name};
 ghost use Rattle.addr2line_lines.specs.References.{IsScope};
 ghost use Rattle.addr2line_lines.specs.SeenScope.{seen_scope};
 
@@ -119,12 +119,10 @@ impl<R: Reader> NameOrOrigin<R> {
         unit: &Unit<R>,
         attribute: Attribute<R>,
     ) -> Result<Option<R>, Error>
-        ensures gives { ExactlyUnlessOomIf R.shares
-            (λ linkage. with_linkage (option_map R.section linkage)
-            (seen_name_or_origin R.section self.new)) result
-            (Ok (with_linkage (linkage_name_of (seen_scope scope.entry) unit.now attribute)
-            (with_name_or_origin (seen_scope scope.entry) unit.now
-            (seen_name_or_origin R.section self.old) attribute))) }
+        ensures gives { ExactlyUnlessOomIf R.shares (λ linkage. with_linkage
+            (option_map R.section linkage) (seen_name_or_origin R.section self.new)) result
+            (Ok (linkage_and_found (seen_scope scope.entry) unit.now
+            (seen_name_or_origin R.section self.old) attribute)) }
     {
         let name = attribute.name();
         let value = attribute.value();

@@ -1,7 +1,7 @@
 //! The cached names of entries that are referred to.
 
 ghost use Rattle.std.specs.Prelude.{◌≡◌, Err, IfSome, [], length, Ok, option_map, take};
-ghost use Rattle.addr2line_lines.specs.CachedNames.{IsKnownAs, IsOneMoreAtMost, seen_names, seen_shared};
+ghost use Rattle.addr2line_lines.specs.CachedNames.{IsKnownAs, IsOneMoreAtMost, name_at_offset, seen_names, seen_shared};
 ghost use Rattle.addr2line_lines.specs.FoundNames.{found_name};
 
 use crate::found_name::{FoundName, note_text};
@@ -144,11 +144,8 @@ impl<R: Reader> NameCache<R> {
 
     // Adds the name of an entry, or its fault, or nothing where memory is refused.
     fn push(&mut self, offset: UnitOffset, name: Result<Rc<Option<R>>, Error>)
-        ensures after { IsOneMoreAtMost (record {
-          offset = offset;
-          name = seen_shared R.section name;
-        }) (seen_names R.section self.old)
-            (seen_names R.section self.new) }
+        ensures after { IsOneMoreAtMost (name_at_offset offset (seen_shared R.section name))
+            (seen_names R.section self.old) (seen_names R.section self.new) }
     {
         let place = self.names.len();
         match self.names.push(CachedName { offset, name }) {
@@ -162,11 +159,9 @@ impl<R: Reader> NameCache<R> {
 
     // Adds the name of an entry that others share, or nothing where it can't be shared once more.
     fn push_shared(&mut self, offset: UnitOffset, name: &Rc<Option<R>>)
-        ensures after { IsOneMoreAtMost (record {
-          offset = offset;
-          name = Ok (option_map R.section name.now.value);
-        }) (seen_names R.section self.old)
-            (seen_names R.section self.new) }
+        ensures after { IsOneMoreAtMost
+            (name_at_offset offset (Ok (option_map R.section name.now.value)))
+            (seen_names R.section self.old) (seen_names R.section self.new) }
     {
         match share_name(name) {
             Some(name) => self.push(offset, Ok(name)),
@@ -177,11 +172,8 @@ impl<R: Reader> NameCache<R> {
     /// Adds the name of an entry, or nothing where memory is refused, and gives it back.
     pub(crate) fn add(&mut self, offset: UnitOffset, name: Option<R>) -> FoundName<R>
         ensures gives { found_name R.section result ≡ option_map R.section name }
-        ensures after { IsOneMoreAtMost (record {
-          offset = offset;
-          name = Ok (option_map R.section name);
-        }) (seen_names R.section self.old)
-            (seen_names R.section self.new) }
+        ensures after { IsOneMoreAtMost (name_at_offset offset (Ok (option_map R.section name)))
+            (seen_names R.section self.old) (seen_names R.section self.new) }
     {
         match Rc::new(self.alloc, note_text(name)) {
             Ok(name) => {
@@ -194,7 +186,7 @@ impl<R: Reader> NameCache<R> {
 
     /// Adds the fault of an entry, or nothing where memory is refused.
     pub(crate) fn add_fault(&mut self, offset: UnitOffset, error: Error)
-        ensures after { IsOneMoreAtMost (record { offset = offset; name = Err error; })
+        ensures after { IsOneMoreAtMost (name_at_offset offset (Err error))
             (seen_names R.section self.old) (seen_names R.section self.new) }
     {
         self.push(offset, Err(error));

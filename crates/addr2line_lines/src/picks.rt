@@ -5,8 +5,7 @@ ghost use Rattle.std.specs.List.Sorted.{IsNonDecreasingBy};
 ghost use Rattle.gimli_read.specs.Reading.{ExactlyUnlessOomIf};
 ghost use Rattle.addr2line_lines.specs.InOrder.{IsInOrder, in_order};
 ghost use Rattle.addr2line_lines.specs.InlinedEntries.{InlinedEntry};
-ghost use Rattle.addr2line_lines.specs.InlinedChain.{inlined_chain};
-ghost use Rattle.addr2line_lines.specs.InlinedOrder.{inlined_range_of, inlined_sooner, inlined_place, place_at, places_chain};
+ghost use Rattle.addr2line_lines.specs.InlinedOrder.{IsChainOf, inlined_sooner, inlined_place, place_at, places_chain};
 ghost use Rattle.addr2line_lines.specs.InlineRoom.{exceeds_inline_room};
 
 use crate::short_list::Stored;
@@ -117,8 +116,7 @@ pub(crate) fn find_chain<S: Stored<Whole = InlinedFunctionAddress>>(
     ensures found { (listed : List InlinedFunctionAddress) → (entry_of : ℕ → InlinedEntry)
         → IsNonDecreasingBy inlined_place listed
         → map (S.whole upper) ranges.now ≡ in_order inlined_sooner listed
-        → IfOk result (λ chain. map entry_of chain.items
-        ≡ inlined_chain probe (map (inlined_range_of entry_of) listed)) }
+        → IfOk result (λ chain. IsChainOf probe entry_of listed chain.items) }
 {
     let mut chain = SmallVec::new(alloc);
     for depth in 0..ranges.len() {

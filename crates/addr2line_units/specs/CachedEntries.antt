@@ -7,7 +7,6 @@ use Rattle.std.specs.Prelude.{◌≡◌, ℕ, Bool, true, false, List, Option, S
 use Rattle.gimli_read.specs.declared.error.Error.{Error}
 use Rattle.gimli.specs.Sections.{Sections}
 use Rattle.gimli.specs.Unit.{UnitRecord}
-use Rattle.addr2line_lines.specs.InlineRoom.{exceeds_inline_room}
 use Rattle.addr2line_lines.specs.Location.{location_of_row}
 use Rattle.addr2line_lines.specs.References.{Scope}
 use Rattle.addr2line_units.specs.declared.entries.LazyFunctions.{LazyFunctions}
@@ -24,7 +23,7 @@ use Rattle.addr2line_units.specs.CachedLines.{cached_files, is_uncached}
 use Rattle.addr2line_units.specs.Frames.{FrameRecord, found_frames}
 use Rattle.addr2line_units.specs.CachedFunctions.{AreFunctionsOf, ArePlacesIn, ReadsNoOther, StayFunctions, function_of_place, cached_has_function, is_cached_fault, cached_functions, were_read}
 use Rattle.addr2line_units.specs.CachedViews.{IsViewOf, is_decided, seen_first_answer, was_checked}
-use Rattle.addr2line_units.specs.UnitFrames.{asks_lines_in, inlined_of_unit}
+use Rattle.addr2line_units.specs.UnitFrames.{HasFewInlined, asks_lines_in}
 use Rattle.addr2line_units.specs.Views.{verdict, view_scope}
 
 -- the first answer of a unit
@@ -98,6 +97,11 @@ AreFramesIn u v found.Open = Unit {0}
 AreFramesIn u v (found.Here function row) =
     IfSome function (ArePlacesIn (cached_functions v.functions)) × AreRead u.lines
 
+-- the lines of a unit with this first answer are cached where a lookup of the probe asks for them
+abbrev pub HasAskedLines : Scope → UnitRecord → Option (Option Sections) → ℕ → LazyLines → Type 0
+HasAskedLines scope u answer probe lines =
+    asks_lines_in scope u answer probe ≡ true → is_uncached lines ≡ false
+
 -- a lookup of the probe takes no memory in a unit with this first answer: what it asks for is known
 -- by what is cached, or reading it takes none, and at most 16 inlined functions stand there
 pub record AsksNoMemoryIn {R : Type 0} (shares : Bool) (scope : Scope) (dw_unit : UnitRecord)
@@ -107,4 +111,4 @@ pub record AsksNoMemoryIn {R : Type 0} (shares : Bool) (scope : Scope) (dw_unit 
       → has_entries probe v ≡ true
   pub lines : asks_lines_in scope dw_unit answer probe ≡ true
       → lines_take_memory shares dw_unit ≡ true → is_uncached u.lines ≡ false
-  pub few : exceeds_inline_room (inlined_of_unit scope dw_unit answer probe) ≡ false
+  pub few : HasFewInlined scope dw_unit answer probe

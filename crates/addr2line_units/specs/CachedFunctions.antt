@@ -1,7 +1,7 @@
 -- What is cached of the functions of a view, as the private functions see it.
 -- Own: functions are read when they are first asked for, and cached then, their fault too; so is
 -- each detail. OutOfMemory is never cached. Functions are absent where a view has none.
-use Rattle.std.specs.Prelude.{◌≡◌, ◌≢◌, ◌<◌, ℕ, Bool, true, false, List, [], ◌∷◌, length, map, Option, Some, None, unwrap_or, Result, Ok, Err, box_value}
+use Rattle.std.specs.Prelude.{◌≡◌, ◌≢◌, ◌<◌, ℕ, Bool, true, false, List, [], ◌∷◌, length, map, Option, Some, None, option_map, unwrap_or, Result, Ok, Err, box_value}
 use Rattle.std.specs.List.{AllByRecursion}
 use Rattle.gimli_read.specs.declared.error.Error.{Error}
 use Rattle.gimli_read.specs.declared.error.Error.TheVariants.{OutOfMemory}
@@ -86,6 +86,11 @@ function_of_place t p = record {
   name = cached_name t p.place;
   inlined = map (entry_among t.inlined) p.inlined.items;
 }
+
+-- the function of a place that was found, if one was, by what is cached of a view
+abbrev pub found_in_cache : {R : Type 0} → LazyFunctions R → Option FunctionPlace
+    → Option FoundFunction
+found_in_cache f = option_map (function_of_place (cached_functions f))
 
 -- the inlined functions at the probe, as far as details are cached
 abbrev pub cached_inlined_at : ℕ → FunctionTable → List InlinedEntry

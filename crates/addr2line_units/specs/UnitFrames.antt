@@ -2,12 +2,13 @@
 -- of the unit, and the frames.
 -- Own: the first fault counts of the view, its functions, the detail of the function, and the lines
 -- of the main unit. A unit that waits for an answer has no frames yet.
-use Rattle.std.specs.Prelude.{ℕ, Bool, ◌&&◌, not, List, [], Option, Some, None, Result, Ok, Err, is_ok, if◌then◌else◌}
+use Rattle.std.specs.Prelude.{◌≡◌, ℕ, Bool, false, ◌&&◌, not, List, [], Option, Some, None, Result, Ok, Err, is_ok, if◌then◌else◌}
 use Rattle.gimli_read.specs.declared.error.Error.{Error}
 use Rattle.gimli_read.specs.Reading.{◌>>=◌}
 use Rattle.gimli.specs.Sections.{Sections}
 use Rattle.gimli.specs.Unit.{UnitRecord}
 use Rattle.addr2line_lines.specs.Functions.{FunctionRange, function_offset_at, functions_of}
+use Rattle.addr2line_lines.specs.InlineRoom.{exceeds_inline_room}
 use Rattle.addr2line_lines.specs.InlinedEntries.{InlinedEntry}
 use Rattle.addr2line_lines.specs.Location.{location_at}
 use Rattle.addr2line_lines.specs.References.{Scope}
@@ -78,3 +79,8 @@ inlined_of_found _ = []
 unfoldable pub inlined_of_unit : Scope → UnitRecord → Option (Option Sections) → ℕ
     → List InlinedEntry
 inlined_of_unit scope u answer probe = inlined_of_found (function_in scope u answer probe)
+
+-- at most 16 inlined functions stand there
+abbrev pub HasFewInlined : Scope → UnitRecord → Option (Option Sections) → ℕ → Type 0
+HasFewInlined scope u answer probe =
+    exceeds_inline_room (inlined_of_unit scope u answer probe) ≡ false

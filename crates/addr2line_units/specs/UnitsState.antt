@@ -16,7 +16,7 @@ use Rattle.addr2line_units.specs.declared.units.UnitRow.{UnitRow}
 use Rattle.addr2line_units.specs.AskMemory.{lines_of_take_memory}
 use Rattle.addr2line_units.specs.FramesLookup.{FindsNothing, LookupStop, Waits, asked_frames, asks_lines_of, frames_of_number, functions_of_take_memory, inlined_at_number, main_scope, stop_along}
 use Rattle.addr2line_units.specs.KnownEntries.{KnownEntries, NothingKnown, knows_at}
-use Rattle.addr2line_units.specs.Located.{lines_of_unit}
+use Rattle.addr2line_units.specs.Located.{LocationResult, first_location, lines_of_unit}
 use Rattle.addr2line_units.specs.Parsed.{has_parsed}
 use Rattle.addr2line_units.specs.RangedUnits.{IndexedUnit, RangedUnit, has_lines, indexed_of, ranged_units, unit_ranges_from}
 use Rattle.addr2line_units.specs.UnitFrames.{FramesResult}
@@ -111,3 +111,7 @@ files_of d (Some u) = table_files (lines_of_unit d u)
 abbrev pub row_location : UnitsState → UnitRow → Location
 row_location s place =
     location_of_row (files_of s.scope.file.sections (slice_get s.units place.unit)) place.row
+
+-- the location of the first unit along ranges that has one for the probe, or the first fault
+abbrev pub first_location_in : UnitsState → ℕ → List UnitRange → LocationResult
+first_location_in s probe ranges = first_location s.scope.file.sections s.units probe ranges

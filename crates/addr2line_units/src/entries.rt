@@ -11,12 +11,12 @@ ghost use Rattle.addr2line_lines.specs.References.{IsScope};
 ghost use Rattle.addr2line_lines.specs.SeenScope.{seen_scope};
 ghost use Rattle.addr2line_units.specs.Frames.{function_at};
 ghost use Rattle.addr2line_units.specs.FunctionParses.{IsReadyFor};
-ghost use Rattle.addr2line_units.specs.CachedFunctions.{AreFunctionsOf, ArePlacesIn, IsTableOf, ReadsNoOther, StayFunctions, cached_inlined_at, find_takes_memory, function_of_place, functions_fault, cached_has_function, has_table, cached_functions, reading_takes_memory, table_takes_memory, were_read};
+ghost use Rattle.addr2line_units.specs.CachedFunctions.{AreFunctionsOf, ArePlacesIn, IsTableOf, ReadsNoOther, StayFunctions, cached_inlined_at, find_takes_memory, found_in_cache, function_of_place, functions_fault, cached_has_function, has_table, cached_functions, reading_takes_memory, table_takes_memory, were_read};
 ghost use Rattle.addr2line_units.specs.CachedKnown.{known_functions};
-ghost use Rattle.addr2line_units.specs.UnitFrames.{inlined_of_found, asks_lines_in, frames_in, function_in, inlined_of_unit};
-ghost use Rattle.addr2line_units.specs.CachedLines.{AreLinesOf, StaysUnit, indexed_unit, is_uncached};
+ghost use Rattle.addr2line_units.specs.UnitFrames.{HasFewInlined, inlined_of_found, asks_lines_in, frames_in, function_in};
+ghost use Rattle.addr2line_units.specs.CachedLines.{AreLinesOf, StaysUnit, indexed_unit};
 ghost use Rattle.addr2line_units.specs.AskMemory.{functions_in_take_memory};
-ghost use Rattle.addr2line_units.specs.CachedEntries.{AreEntriesOf, AreFramesIn, AsksNoMemoryIn, AreFresh, ReadsEntriesOf, StayEntries, frames_of_place, has_entries, has_entries_by, first_answer_of};
+ghost use Rattle.addr2line_units.specs.CachedEntries.{AreEntriesOf, AreFramesIn, AsksNoMemoryIn, AreFresh, HasAskedLines, ReadsEntriesOf, StayEntries, frames_of_place, has_entries, has_entries_by, first_answer_of};
 ghost use Rattle.addr2line_units.specs.EmptyUnits.{has_nothing};
 ghost use Rattle.addr2line_units.specs.CachedViews.{is_decided, seen_first_answer, waits, was_checked};
 ghost use Rattle.addr2line_units.specs.Views.{is_open};
@@ -163,8 +163,7 @@ impl<R: Reader> LazyFunctions<R> {
         ensures gives { ExactlyUnlessOomIf
             (find_takes_memory R.shares (seen_scope scope.entry) view.now probe self.old
             && find_takes_memory R.shares (seen_scope scope.entry) view.now probe self.new)
-            (option_map (function_of_place (cached_functions self.new))) result
-            (function_at (seen_scope scope.entry) view.now probe) }
+            (found_in_cache self.new) result (function_at (seen_scope scope.entry) view.now probe) }
         ensures there { IfOk result (λ found.
             IfSome found (ArePlacesIn (cached_functions self.new))) }
         ensures right { AreFunctionsOf (seen_scope scope.entry) view.now self.new }
@@ -286,8 +285,7 @@ fn find_in_view<'x, R: Reader>(
     requires right { AreEntriesOf (seen_scope scope) dw_unit.now
         (record { view = view.now; functions = functions.old }) }
     requires decided { is_decided view.now.state ≡ true }
-    ensures gives { ExactlyUnlessOom
-        (option_map (function_of_place (cached_functions functions.new))) result
+    ensures gives { ExactlyUnlessOom (found_in_cache functions.new) result
         (function_in (seen_scope scope.entry) dw_unit.now (seen_first_answer view.now) probe) }
     ensures there { IfOk result (λ found. IfSome found
         (ArePlacesIn (cached_functions functions.new))) }
@@ -301,9 +299,7 @@ fn find_in_view<'x, R: Reader>(
     ensures ready { WasNotRefused result
         → has_entries_by probe view.now.state functions.new ≡ true }
     ensures memory { has_entries_by probe view.now.state functions.new ≡ true
-        → exceeds_inline_room
-        (inlined_of_unit (seen_scope scope.entry) dw_unit.now (seen_first_answer view.now) probe)
-        ≡ false
+        → HasFewInlined (seen_scope scope.entry) dw_unit.now (seen_first_answer view.now) probe
         → WasNotRefused result }
     ensures no_memory { functions_in_take_memory R.shares (seen_scope scope.entry) dw_unit.now
         (seen_first_answer view.now) ≡ false → IfErr result (λ e. function_in
@@ -354,8 +350,7 @@ impl<R: Reader> UnitEntries<R> {
         requires right { AreEntriesOf (seen_scope scope) dw_unit.now self.old }
         requires looked { was_checked self.old.view.state ≡ true }
         requires decided { waits self.old.view.state ≡ false }
-        ensures gives { ExactlyUnlessOom
-            (option_map (function_of_place (cached_functions self.new.functions))) result
+        ensures gives { ExactlyUnlessOom (found_in_cache self.new.functions) result
             (function_in (seen_scope scope.entry) dw_unit.now (first_answer_of self.old) probe) }
         ensures there { IfOk result (λ found. IfSome found
             (ArePlacesIn (cached_functions self.new.functions))) }
@@ -364,9 +359,7 @@ impl<R: Reader> UnitEntries<R> {
         ensures within { ReadsEntriesOf probe self.old self.new }
         ensures ready { WasNotRefused result → has_entries probe self.new ≡ true }
         ensures memory { has_entries probe self.new ≡ true
-            → exceeds_inline_room
-            (inlined_of_unit (seen_scope scope.entry) dw_unit.now (first_answer_of self.old) probe)
-            ≡ false
+            → HasFewInlined (seen_scope scope.entry) dw_unit.now (first_answer_of self.old) probe
             → WasNotRefused result }
         ensures no_memory { functions_in_take_memory R.shares (seen_scope scope.entry) dw_unit.now
             (first_answer_of self.old) ≡ false → IfErr result (λ e. function_in
@@ -408,18 +401,12 @@ pub(crate) fn find_frames_in<'x, R: Reader>(
     ensures kept { asks_lines_in (seen_scope scope.entry) dw_unit.now (first_answer_of entries.old)
         probe ≡ false → unit.new ≡ unit.old }
     ensures ready { WasNotRefused result → has_entries probe entries.new ≡ true }
-    ensures known { WasNotRefused result
-        → asks_lines_in (seen_scope scope.entry) dw_unit.now (first_answer_of entries.old) probe
-        ≡ true
-        → is_uncached unit.new.lines ≡ false }
+    ensures known { WasNotRefused result → HasAskedLines (seen_scope scope.entry) dw_unit.now
+        (first_answer_of entries.old) probe unit.new.lines }
     ensures memory { has_entries probe entries.new ≡ true
-        → (asks_lines_in (seen_scope scope.entry) dw_unit.now (first_answer_of entries.old) probe
-        ≡ true
-        → is_uncached unit.new.lines ≡ false)
-        → exceeds_inline_room
-        (inlined_of_unit (seen_scope scope.entry) dw_unit.now (first_answer_of entries.old) probe)
-        ≡ false
-        → WasNotRefused result }
+        → HasAskedLines (seen_scope scope.entry) dw_unit.now (first_answer_of entries.old) probe
+        unit.new.lines → HasFewInlined (seen_scope scope.entry) dw_unit.now
+        (first_answer_of entries.old) probe → WasNotRefused result }
     ensures no_memory { AsksNoMemoryIn R.shares (seen_scope scope.entry) dw_unit.now
         (first_answer_of entries.old) probe unit.new entries.new → IfErr result (λ e. frames_in
         (seen_scope scope.entry) (indexed_unit dw_unit.now unit.old) (first_answer_of entries.old)

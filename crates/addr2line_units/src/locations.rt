@@ -11,11 +11,11 @@ ghost use Rattle.addr2line_units.specs.AskMemory.{lines_of_take_memory};
 ghost use Rattle.addr2line_units.specs.AskedUnits.{AfterCachingAt, AfterRowAt, CountsUnits};
 ghost use Rattle.addr2line_units.specs.AfterUnits.{AfterCaching, AfterLineParse, AfterRow};
 ghost use Rattle.addr2line_units.specs.CachedLines.{cached_files, lines_result_at, unit_row, cached_spans, lines_at};
-ghost use Rattle.addr2line_units.specs.Located.{all_lines, first_location, location_in, spans_along};
+ghost use Rattle.addr2line_units.specs.Located.{all_lines, location_in, spans_along};
 ghost use Rattle.addr2line_units.specs.LocationsLeft.{locations_left};
 ghost use Rattle.addr2line_units.specs.Parsed.{AreParsed, has_parsed, takes_none_along};
 ghost use Rattle.addr2line_units.specs.UnitRangesLeft.{ranges_left};
-ghost use Rattle.addr2line_units.specs.UnitsState.{row_location};
+ghost use Rattle.addr2line_units.specs.UnitsState.{first_location_in, row_location};
 ghost use Rattle.addr2line_units.specs.RangeLookup.{YieldsOn, YieldsRow, cached_along, rows_or_fault};
 
 use crate::entries::UnitCache;
@@ -224,16 +224,13 @@ impl<R: Reader> Units<R> {
         probe: u64,
     ) -> Result<Option<UnitRow>, Error>
         ensures gives { ExactlyUnlessOom (option_map (row_location self.old)) result
-            (first_location self.old.scope.file.sections self.old.units probe
-            (ranges_left ranges.entry)) }
+            (first_location_in self.old probe (ranges_left ranges.entry)) }
         ensures known { IfOk result (λ place. IfSome place (λ p.
             has_parsed self.new.parsed p.unit ≡ true)) }
         ensures after { AfterRow probe (ranges_left ranges.entry) result self.old self.new }
         ensures no_memory { takes_none_along R.shares self.old.scope.file.sections self.old.units
             self.new.parsed probe (ranges_left ranges.entry) ≡ true → IfErr result (λ e.
-            first_location self.old.scope.file.sections self.old.units probe
-            (ranges_left ranges.entry)
-            ≡ Err e) }
+            first_location_in self.old probe (ranges_left ranges.entry) ≡ Err e) }
     {
         self.reset();
         while let Some(range) = ranges.next() {

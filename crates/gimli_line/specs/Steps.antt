@@ -36,6 +36,10 @@ pub record IsRunning (e : LineEncoding) (r : Registers) : Type 0 where
   pub index : r.op_index < e.maximum_operations_per_instruction
   pub fits : r.address < limit e
 
+-- the address alone advanced by bytes
+abbrev pub address_advanced : ℕ → Registers → Registers
+address_advanced n r = record r { address = r.address + n }
+
 -- advanced by operations
 abbrev pub advanced : LineEncoding → ℕ → Registers → Registers
 advanced e n r =

@@ -1,7 +1,7 @@
 -- Where memory may be taken for the tables of a line program's header (on specs/Tables.antt).
 -- Own: where the fields before them are sound, and bytes are shared or something of a table can be
 -- read: a directory, a file, or what an entry's values are.
-use Rattle.std.specs.Prelude.{ℕ, ◌==◌, ◌&&◌, ◌||◌, not, Bool, false, is_ok, is_some, Option, Result, Ok, Err, if◌then◌else◌}
+use Rattle.std.specs.Prelude.{ℕ, ◌==◌, ◌&&◌, ◌||◌, not, Bool, false, is_ok, is_some, List, Option, Result, Ok, Err, if◌then◌else◌}
 use Rattle.gimli_read.specs.declared.error.Error.{Error}
 use Rattle.gimli_read.specs.declared.endian.Encoding.{Encoding}
 use Rattle.gimli_read.specs.Section.{Section}
@@ -9,7 +9,8 @@ use Rattle.gimli_read.specs.Version.{is_before_5}
 use Rattle.gimli_read.specs.Reading.{Reading}
 use Rattle.gimli_read.specs.Number.{fixed_at}
 use Rattle.gimli_read.specs.Run.{run_of, collected}
-use Rattle.gimli_line.specs.EntryTables.{format_at, entry_table_at}
+use Rattle.gimli_line.specs.declared.entry_tables.EntryFormat.{EntryFormat}
+use Rattle.gimli_line.specs.EntryTables.{format_at, formatted_entry_at, entry_table_at}
 use Rattle.gimli_line.specs.Program.{line_header_fields_at}
 use Rattle.gimli_line.specs.Tables.{directory_at, file_at}
 
@@ -26,6 +27,10 @@ takes_memory_after (Err e) takes = false
 -- whether the first of n things can be read
 abbrev pub gives_first : {A : Type 0} → (Section → Reading A) → ℕ → Section → Bool
 gives_first part n s = not (n == 0) && is_ok (part s)
+
+-- whether the first of n entries of a format can be read
+abbrev pub gives_first_entry : Encoding → List EntryFormat → ℕ → Section → Bool
+gives_first_entry e formats n s = gives_first (formatted_entry_at e formats) n s
 
 -- whether there is a directory, or a file after the directories, in versions 2 to 4
 abbrev pub old_tables_take_memory : Section → Bool

@@ -4,7 +4,7 @@ ghost use Rattle.std.specs.Prelude.{◌≡◌, ◌==◌, ◌&&◌, ◌||◌, not
 ghost use Rattle.gimli_read.specs.Reading.{ExactlyUnlessOomIf, ReadsUnlessOomIf, Reads};
 ghost use Rattle.gimli_read.specs.Form.{seen_value};
 ghost use Rattle.gimli_line.specs.EntryTables.{times, format_at, formats_at, is_path, is_bad_path, is_sound_format, no_entry, with_value, values_at, formatted_entry_at, entry_front_at, entry_table_at};
-ghost use Rattle.gimli_line.specs.TableMemory.{gives_first, formats_take_memory};
+ghost use Rattle.gimli_line.specs.TableMemory.{gives_first, gives_first_entry, formats_take_memory};
 
 use crate::constants::{DW_LNCT_directory_index, DW_LNCT_path};
 use crate::header::FileEntry;
@@ -175,8 +175,7 @@ fn read_entries<R: Reader>(
     input: &mut R,
 ) -> Result<Vec<FileEntry<R>>, Error>
     ensures gives { ExactlyUnlessOomIf
-        (R.shares
-        || gives_first (formatted_entry_at encoding formats.now) count (R.section input.old))
+        (R.shares || gives_first_entry encoding formats.now count (R.section input.old))
         (λ v. (v.items, R.section input.new)) result
         (times (formatted_entry_at encoding formats.now) count (R.section input.old)) }
 {

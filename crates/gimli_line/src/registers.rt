@@ -6,7 +6,7 @@ ghost use Rattle.gimli_line.specs.declared.opcode.Opcode.TheVariants.{ConstAddPc
 ghost use Rattle.gimli_line.specs.Encoding.{limit};
 ghost use Rattle.gimli_line.specs.AddressSize.{is_tombstone};
 ghost use Rattle.gimli_line.specs.Rows.{advance, moved, line_advance, is_end, makes_row};
-ghost use Rattle.gimli_line.specs.Steps.{IsRunning, start_registers, advanced, placed, fixed_advanced, step_registers, fitting, shown_row, row_of, registers_after, executed};
+ghost use Rattle.gimli_line.specs.Steps.{IsRunning, start_registers, address_advanced, advanced, placed, fixed_advanced, step_registers, fitting, shown_row, executed};
 
 use crate::constants::LAST_SPECIAL_OPCODE;
 use crate::opcode::Opcode;
@@ -117,7 +117,7 @@ impl Registers {
     fn add(&mut self, parameters: &LineParameters, bytes: u64) -> Result<(), Error>
         requires running { IsRunning parameters.now.encoding self.old }
         ensures gives { Exactly (λ _. self.new) result (fitting parameters.now.encoding
-            (record self.old { address = self.old.address + bytes })) }
+            (address_advanced bytes self.old)) }
         ensures refused { OnErr result (self.new ≡ self.old) }
     {
         if bytes > parameters.greatest - self.address {
@@ -137,10 +137,8 @@ impl Registers {
     ) -> Result<(), Error>
         requires running { IsRunning parameters.now.encoding self.old }
         ensures gives { Exactly (λ _. self.new) result (fitting parameters.now.encoding
-            (record self.old {
-              address = self.old.address
-                  + parameters.now.encoding.minimum_instruction_length * count;
-            })) }
+            (address_advanced (parameters.now.encoding.minimum_instruction_length * count)
+            self.old)) }
         ensures refused { OnErr result (self.new ≡ self.old) }
     {
         match count.checked_mul(u64::from(parameters.encoding.minimum_instruction_length)) {

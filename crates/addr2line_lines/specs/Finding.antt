@@ -1,0 +1,11 @@
+-- Calls that add to what was found, as the private functions see them.
+use Rattle.std.specs.Prelude.{Bool, Result}
+use Rattle.gimli_read.specs.declared.error.Error.{Error}
+use Rattle.gimli_read.specs.Reading.{ExactlyUnlessOomIf}
+
+-- a call that moves from a place to another found what is found there after what was found before;
+-- OutOfMemory is an answer only if memory may be taken
+abbrev pub FindsUnlessOomIf : {P F X : Type 0} → Bool → P → P → F → F → Result X Error
+    → (P → F → Result (F × P) Error) → Type 0
+FindsUnlessOomIf may from to old new result finding =
+    ExactlyUnlessOomIf may (λ _. (new, to)) result (finding from old)

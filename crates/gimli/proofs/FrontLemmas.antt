@@ -222,6 +222,13 @@ next_some section_length s t h some e =
     ap (λ b. cond b (Ok (None, s)) (unit_header_at section_length s >>= λ x. Ok (Some x.0, x.1))) (ne_eqb _ _ some)
     ∙ ap (λ (r : Reading UnitHeaderFields). r >>= λ x. done {A = Option UnitHeaderFields × Section} (Some x.0, x.1)) e
 
+-- the fault of a header is that of the next one
+pub next_refused : (section_length : ℕ) (s : Section) (f : Error) → (length s.bytes ≡ 0 → ⊥) → unit_header_at section_length s ≡ Err f → next_header_at section_length s ≡ Err f
+unfolding next_header_at
+next_refused section_length s f some e =
+    ap (λ b. cond b (Ok (None, s)) (unit_header_at section_length s >>= λ x. Ok (Some x.0, x.1))) (ne_eqb _ _ some)
+    ∙ ap (λ (r : Reading UnitHeaderFields). r >>= λ x. done {A = Option UnitHeaderFields × Section} (Some x.0, x.1)) e
+
 -- the whole unit split off, and then its header passed over: its entries are left
 pub next_split : (section_length : ℕ) (s t part rest left : Section) (u : Unit {0}) (h : UnitHeaderFields) → (length s.bytes ≡ 0 → ⊥) → unit_header_at section_length s ≡ Ok (h, t)
     → split_at (h.header_length + length h.entries.bytes) s ≡ Ok (part, rest) → skipped_at h.header_length part ≡ Ok (u, left)

@@ -1,7 +1,6 @@
 //! Contexts: what lookups are made in.
 
 ghost use Rattle.std.specs.Prelude.{◌≡◌, ℕ, None, IfErr, IfOk, IsOk, Ok, OnOk, is_ok, option_map, true};
-ghost use Rattle.std.specs.Borrow.{sem};
 ghost use Rattle.gimli_read.specs.declared.error.Error.TheVariants.{OutOfMemory};
 ghost use Rattle.gimli_read.specs.Reading.{Exactly, ExactlyUnlessOom, IsUnlessOom, ExactlyUnlessOomIf, WasNotRefused};
 ghost use Rattle.addr2line_lines.specs.LastAddress.{last_address};
@@ -147,8 +146,8 @@ impl<R: Reader> Context<R> {
             (location_of self.old.sections probe) }
         ensures last { probe ≡ last_address → result ≡ Ok None }
         ensures none { IsUncovered self.old probe → result ≡ Ok None }
-        ensures* ends { sem 𝓛 (EndsAs R.row R.Reader self.entry
-            (AfterLookupOver R.shares probe result self.old)) }
+        ensures* ends { EndsAs 𝓛 R.row R.Reader self.entry
+            (AfterLookupOver R.shares probe result self.old) }
     {
         match self.units.find_row(self.ranges.find(probe), probe)? {
             Some(place) => Ok(Some(self.units.location(place))),
@@ -176,8 +175,8 @@ impl<R: Reader> Context<R> {
             ≡ Ok (locations_left rows)) }
         ensures refused { IfErr result (λ e. e ≡ OutOfMemory) }
         ensures exact { LocatesRangeNoMemory R.shares self.old low high → IsOk result }
-        ensures* ends { sem 𝓛 (EndsAs R.row R.Reader self.entry
-            (AfterRangeLookup low high result self.old)) }
+        ensures* ends { EndsAs 𝓛 R.row R.Reader self.entry
+            (AfterRangeLookup low high result self.old) }
     {
         self.units.cache_lines(self.ranges.find_range(low, high))?;
         Ok(self.cached_rows(low, high))

@@ -1,7 +1,6 @@
 //! Lookups of frames, which may wait for split files.
 
 ghost use Rattle.std.specs.Prelude.{◌≡◌, Some};
-ghost use Rattle.std.specs.Borrow.{sem};
 ghost use Rattle.gimli_read.specs.Reading.{ExactlyUnlessOom};
 ghost use Rattle.addr2line_units.specs.declared.frames.OnFault.TheVariants.{Stop};
 ghost use Rattle.addr2line_units.specs.FramesLeft.{frames_left};
@@ -74,8 +73,8 @@ impl<R: Reader> Context<R> {
     /// Source: DWARF 5, sections 2.17, 3.3, 3.1.2 and 7.3.2. Own: which unit counts, and what a
     /// lookup waits for.
     pub fn find_frames(&mut self, probe: u64) -> LookupResult<FramesLookup<'_, R>>
-        ensures* ends { sem 𝓛 (RestsAs (λ c. c.ctx.ghost_name) R.row R.Reader self.entry
-            result (λ o n. AfterFramesOver R.shares Stop probe o self.old n)) }
+        ensures* ends { RestsAs 𝓛 (λ c. c.ctx.ghost_name) R.row R.Reader self.entry result
+            (λ o n. AfterFramesOver R.shares Stop probe o self.old n) }
         ensures left { IfLoad result (λ c.
             SuspendsIn Stop self.entry probe c.ctx c.probe c.number c.load) }
         ensures gives { IfOutput result (λ o. ExactlyUnlessOom (λ i. Some (frames_left i)) o

@@ -1,7 +1,6 @@
 //! Loaders: contexts of ELF files, with their symbols and their split files.
 
 ghost use Rattle.std.specs.Prelude.{◌≡◌, [], Err, IfErr, IfOk, IfSome, IsOk, None, Ok, Option, Some, false, is_some, option_map, true};
-ghost use Rattle.std.specs.Borrow.{sem};
 ghost use Rattle.elf.specs.declared.error.LoaderError.TheVariants.{Io, NotElf, OutOfMemory};
 ghost use Rattle.gimli_read.specs.Reading.{Exactly};
 ghost use Rattle.elf.specs.Loading.{Loading, LoadsUnlessOom};
@@ -259,7 +258,7 @@ impl<F: FileSource> LoaderOver<F> {
     /// The files that answer loads. Takes no memory.
     pub fn files_mut(&mut self) -> &mut F
         ensures files { result.now ≡ self.old.files }
-        ensures* ends { sem 𝓛 (LendsFiles F.row self.entry result) }
+        ensures* ends { LendsFiles 𝓛 F.row self.entry result }
     {
         &mut self.files
     }
@@ -282,8 +281,8 @@ impl<F: FileSource> LoaderOver<F> {
         ensures exact { IsReady self.old.context probe → Exactly (option_map seen_location) result
             (of_file (location_of self.old.context.sections probe)) }
         ensures last { probe ≡ last_address → result ≡ Ok None }
-        ensures* ends { sem 𝓛 (LoaderEndsAs F.row F.files self.entry
-            (AfterLocation probe result (seen_loader F.files self.old))) }
+        ensures* ends { LoaderEndsAs 𝓛 F.row F.files self.entry
+            (AfterLocation probe result (seen_loader F.files self.old)) }
     {
         match self.context.find_location(probe) {
             Ok(location) => Ok(location),
@@ -304,8 +303,8 @@ impl<F: FileSource> LoaderOver<F> {
             ≡ Ok (locations_left rows)) }
         ensures refused { IfErr result (λ e. e ≡ OutOfMemory) }
         ensures exact { LocatesRangeNoMemory true self.old.context low high → IsOk result }
-        ensures* ends { sem 𝓛 (LoaderEndsAs F.row F.files self.entry
-            (AfterLocationRange low high result (seen_loader F.files self.old))) }
+        ensures* ends { LoaderEndsAs 𝓛 F.row F.files self.entry
+            (AfterLocationRange low high result (seen_loader F.files self.old)) }
     {
         match self.context.find_location_range(low, high) {
             Ok(rows) => Ok(rows),
@@ -342,8 +341,8 @@ impl<F: FileSource> LoaderOver<F> {
             → IsKnownFew Stop self.old.context probe
             → Exactly frames_left result (ended_frames_of self.old.context probe) }
         ensures last { probe ≡ last_address → Exactly frames_left result (Ok []) }
-        ensures* ends { sem 𝓛 (LoaderEndsAs F.row F.files self.entry
-            (AfterLoads frames_left probe result (seen_loader F.files self.old))) }
+        ensures* ends { LoaderEndsAs 𝓛 F.row F.files self.entry
+            (AfterLoads frames_left probe result (seen_loader F.files self.old)) }
     {
         answer_loads(
             self.alloc,

@@ -1,7 +1,6 @@
 //! What is left of a lookup that waits for a split file: it goes on, is skipped, or is let go.
 
 ghost use Rattle.std.specs.Prelude.{◌≡◌, ◌<◌, None, Some, IfErr, option_map, true};
-ghost use Rattle.std.specs.Borrow.{sem};
 ghost use Rattle.gimli_read.specs.declared.error.Error.TheVariants.{OutOfMemory};
 ghost use Rattle.gimli_read.specs.Reading.{ExactlyUnlessOom};
 ghost use Rattle.addr2line_units.specs.declared.frames.OnFault.TheVariants.{Skip};
@@ -102,9 +101,9 @@ impl<'ctx, R: Reader, K: Lent<'ctx, Context<R>>> LookupContinuation
     }
 
     fn resume(self, input: Option<Rc<Dwarf<R>>>) -> LookupResult<Self>
-        ensures* ends { sem 𝓛 (RestsAs (λ c. c.ctx.ghost_name) R.row R.Reader
-            self.entry.ctx result (λ o n. AfterResume R.shares K.faults self.entry.probe
-            self.entry.number (option_map (λ d. d.value) input) o self.entry.ctx.now n)) }
+        ensures* ends { RestsAs 𝓛 (λ c. c.ctx.ghost_name) R.row R.Reader self.entry.ctx result
+            (λ o n. AfterResume R.shares K.faults self.entry.probe self.entry.number
+            (option_map (λ d. d.value) input) o self.entry.ctx.now n) }
         ensures left { IfLoad result (λ c. SuspendsAgainIn K.faults self.entry.ctx self.entry.probe
             self.entry.number (option_map (λ d. d.value) input)
             c.ctx c.probe c.number c.load) }
@@ -137,9 +136,8 @@ impl<'ctx, R: Reader, K: Lent<'ctx, Context<R>>, B: Drop> Suspended<'ctx, R, K, 
     /// Refused as the call that began the lookup is. It is what `skip_all_loads` gives; here it is said
     /// too which context is left.
     pub fn skip(self) -> LookupResult<Suspended<'ctx, R, K, SplitDwarfLoad<R>>>
-        ensures* ends { sem 𝓛 (RestsAs (λ c. c.ctx.ghost_name) R.row R.Reader
-            self.entry.ctx result (λ o n. AfterSkip R.shares K.faults self.entry.probe o
-            self.entry.ctx.now n)) }
+        ensures* ends { RestsAs 𝓛 (λ c. c.ctx.ghost_name) R.row R.Reader self.entry.ctx result
+            (λ o n. AfterSkip R.shares K.faults self.entry.probe o self.entry.ctx.now n) }
         ensures left { IfLoad result (λ c. ⊥) }
         ensures gives { IfOutput result (λ o. ExactlyUnlessOom (λ f. Some (K.see f)) o
             (found_skipped K.faults K.value_of self.entry.ctx.now self.entry.probe)) }
@@ -165,8 +163,8 @@ fn lend<'ctx, R: Reader, K: Lent<'ctx, Context<R>>>(
 ) -> LookupResult<Suspended<'ctx, R, K, SplitDwarfLoad<R>>>
     requires stored { IsStored K.faults probe walked ctx.old }
     requires refused { K.faults ≡ Skip → IfErr walked (λ e. e ≡ OutOfMemory) }
-    ensures* ends { sem 𝓛 (RestsAs (λ c. c.ctx.ghost_name) R.row R.Reader ctx.entry result
-        (λ o n. (n ≡ ctx.old) × IsLent walked ctx.old.stop o)) }
+    ensures* ends { RestsAs 𝓛 (λ c. c.ctx.ghost_name) R.row R.Reader ctx.entry result
+        (λ o n. (n ≡ ctx.old) × IsLent walked ctx.old.stop o) }
     ensures left { IfLoad result (λ c.
         HoldsIn ctx.entry probe walked c.ctx c.probe c.number c.load) }
     ensures gives { IfOutput result (λ o. ExactlyUnlessOom (λ f. Some (K.see f)) o
@@ -198,8 +196,8 @@ pub(crate) fn begin<'ctx, R: Reader, K: Lent<'ctx, Context<R>>>(
     ctx: &'ctx mut Context<R>,
     probe: u64,
 ) -> LookupResult<Suspended<'ctx, R, K, SplitDwarfLoad<R>>>
-    ensures* ends { sem 𝓛 (RestsAs (λ c. c.ctx.ghost_name) R.row R.Reader ctx.entry result
-        (λ o n. AfterFramesOver R.shares K.faults probe o ctx.old n)) }
+    ensures* ends { RestsAs 𝓛 (λ c. c.ctx.ghost_name) R.row R.Reader ctx.entry result
+        (λ o n. AfterFramesOver R.shares K.faults probe o ctx.old n) }
     ensures left { IfLoad result (λ c.
         SuspendsIn K.faults ctx.entry probe c.ctx c.probe c.number c.load) }
     ensures gives { IfOutput result (λ o. ExactlyUnlessOom (λ f. Some (K.see f)) o
@@ -220,9 +218,9 @@ fn resume_with<'ctx, R: Reader, K: Lent<'ctx, Context<R>>>(
 ) -> LookupResult<Suspended<'ctx, R, K, SplitDwarfLoad<R>>>
     requires stands { waits_for number
         (lookup_stop K.faults ctx.old.sections ctx.old.answers probe) ≡ true }
-    ensures* ends { sem 𝓛 (RestsAs (λ c. c.ctx.ghost_name) R.row R.Reader ctx.entry result
+    ensures* ends { RestsAs 𝓛 (λ c. c.ctx.ghost_name) R.row R.Reader ctx.entry result
         (λ o n. AfterResume R.shares K.faults probe number (option_map (λ d. d.value) input) o
-        ctx.old n)) }
+        ctx.old n) }
     ensures left { IfLoad result (λ c. SuspendsAgainIn K.faults ctx.entry probe number
         (option_map (λ d. d.value) input) c.ctx c.probe c.number c.load) }
     ensures shorter { IfLoad result (λ c. count_loads c.ctx.now c.probe

@@ -2,6 +2,11 @@
 -- Own: a lookup may change what its file answers later, as split files are read then; it adds no
 -- answer that couldn't have been given before.
 use Rattle.std.specs.Prelude.{◌≡◌, ℕ, List, Option, Result}
+use Rattle.std.specs.Borrow.{MutBor, RattleType, sem}
+use Rattle.std.specs.Io.BufRead.{Rests}
+use seplogic.Ra.Ura.{Ura}
+use base.Logic.{SProp}
+use types.Logic.{Logic}
 use Rattle.gimli_read.specs.declared.error.Error.{Error}
 use Rattle.gimli_read.specs.declared.range.Range.{Range}
 use Rattle.elf.specs.Loading.{Loading}
@@ -27,3 +32,9 @@ pub record StaysAnswered (old new : FileAnswers) : Type 0 where
       → old.MayGive address given
   pub symbol_at : new.symbol_at ≡ old.symbol_at
   pub section_at : new.section_at ≡ old.section_at
+
+-- the file that the caller gets back, once what a lookup lent is dropped, stays answered
+abbrev pub EndsAnswered : {M : Type 1} {𝓤 : Ura M} → Logic 𝓤 → (F : RattleType)
+    → (F.Denot → FileAnswers) → MutBor F.Denot → SProp 𝓤
+EndsAnswered 𝓛 F answers file =
+    sem 𝓛 (Rests F file (λ new. StaysAnswered (answers file.now) (answers new)))

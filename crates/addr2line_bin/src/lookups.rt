@@ -11,14 +11,12 @@ use addr2line::{
 /// A file that answers lookups.
 pub trait Lookups {
     ghost use Rattle.std.specs.Prelude.{◌≡◌, IfErr, IfOk, Ok, option_map};
-    ghost use Rattle.std.specs.Borrow.{sem};
-    ghost use Rattle.std.specs.Io.BufRead.{Rests};
     ghost use Rattle.elf.specs.declared.error.LoaderError.TheVariants.{OutOfMemory};
     ghost use Rattle.gimli_read.specs.Reading.{result_map};
     ghost use Rattle.addr2line_lines.specs.SeenLocation.{seen_location};
     ghost use Rattle.addr2line_units.specs.FramesLeft.{frames_left};
     ghost use Rattle.addr2line_units.specs.LocationsLeft.{locations_left};
-    ghost use Rattle.addr2line_bin.specs.FileAnswers.{FileAnswers, StaysAnswered};
+    ghost use Rattle.addr2line_bin.specs.FileAnswers.{EndsAnswered, FileAnswers};
 
     /// What it answers.
     ghost answers: { Self → FileAnswers };
@@ -27,14 +25,12 @@ pub trait Lookups {
     fn find_location(&mut self, probe: u64) -> Result<Option<Location<'_>>, LoaderError>
         ensures gives { (answers self.old).MayFind probe
             (result_map (option_map seen_location) result) }
-        ensures* ends { sem 𝓛 (Rests Self.row self.entry
-            (λ new. StaysAnswered (answers self.old) (answers new))) };
+        ensures* ends { EndsAnswered 𝓛 Self.row answers self.entry };
 
     /// The frames of an address.
     fn find_frames(&mut self, probe: u64) -> Result<FrameIter<'_, EndianBytes>, LoaderError>
         ensures gives { (answers self.old).MayGive probe (result_map frames_left result) }
-        ensures* ends { sem 𝓛 (Rests Self.row self.entry
-            (λ new. StaysAnswered (answers self.old) (answers new))) };
+        ensures* ends { EndsAnswered 𝓛 Self.row answers self.entry };
 
     /// The rows that a range of addresses meets. Refused `OutOfMemory` alone.
     fn find_location_range(
@@ -45,8 +41,7 @@ pub trait Lookups {
         ensures gives { IfOk result (λ rows. (answers self.old).spans_in low high
             ≡ Ok (locations_left rows)) }
         ensures refused { IfErr result (λ e. e ≡ OutOfMemory) }
-        ensures* ends { sem 𝓛 (Rests Self.row self.entry
-            (λ new. StaysAnswered (answers self.old) (answers new))) };
+        ensures* ends { EndsAnswered 𝓛 Self.row answers self.entry };
 
     /// The name of the symbol of an address.
     fn find_symbol(&self, probe: u64) -> Option<&str>

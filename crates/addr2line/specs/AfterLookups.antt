@@ -5,7 +5,6 @@
 use Rattle.std.specs.Prelude.{◌≡◌, ◌⊎◌, ℕ, ◌≤◌, Bool, true, false, slice_get, IfErr, Result, Ok, Err}
 use Rattle.gimli_read.specs.declared.error.Error.{Error}
 use Rattle.gimli_read.specs.Reading.{◌>>=◌, ExactlyUnlessOom, WasNotRefused}
-use Rattle.gimli.specs.Sections.{Sections}
 use Rattle.addr2line_units.specs.declared.frames.OnFault.{OnFault}
 use Rattle.addr2line_units.specs.Cover.{cover}
 use Rattle.addr2line_units.specs.FramesLookup.{LookupStop, Waits, LookupAsks, asks_lines_of, function_offset_of, holds_along, is_waiting, main_scope}
@@ -30,18 +29,15 @@ units_in c m = record {
   stop = c.stop;
 }
 
--- whether all is known that a lookup asks the unit of a number for
-abbrev pub has_all_of : ContextState → ℕ → UnitIndex → ℕ → Bool
-has_all_of c probe m n = has_all_at probe (units_in c m) n
-
--- the same, and at most 16 inlined functions stand there
+-- whether all is known that a lookup asks the unit of a number for, and at most 16 inlined
+-- functions stand there
 abbrev pub has_few_of : ContextState → ℕ → UnitIndex → ℕ → Bool
 has_few_of c probe m n = has_few_at probe (units_in c m) n
 
 -- all is known that a lookup of the probe asks for
 abbrev pub IsKnown : OnFault → ContextState → ℕ → Type 0
 IsKnown faults c probe = (m : UnitIndex) → index_units c.sections ≡ Ok m
-    → holds_along (has_all_of c probe m) (asked_of faults c.sections c.answers probe m)
+    → holds_along (has_all_at probe (units_in c m)) (asked_of faults c.sections c.answers probe m)
     (cover probe m.ranges) ≡ true
 
 -- the same, and at most 16 inlined functions stand in each unit that it asks

@@ -102,16 +102,6 @@ abbrev pub ParsesNoMemory : Bool → ContextState → Type 0
 ParsesNoMemory shares c = (m : UnitIndex) → index_units c.sections ≡ Ok m
     → TakeNoneForAll shares c.sections m.units c.parsed
 
--- no lines are parsed but those of the units that the lookup asks for
-abbrev pub LookupParses : ℕ → ContextState → ContextState → Type 0
-LookupParses probe old new = (m : UnitIndex) → index_units old.sections ≡ Ok m
-    → ParsesOnly (AsksFor old.sections m.units probe (cover probe m.ranges)) old.parsed new.parsed
-
--- no lines are parsed but those of the units that the range meets
-abbrev pub RangeLookupParses : ℕ → ℕ → ContextState → ContextState → Type 0
-RangeLookupParses low high old new = (m : UnitIndex) → index_units old.sections ≡ Ok m
-    → ParsesOnly (LeadTo (cover_range low high m.ranges)) old.parsed new.parsed
-
 -- no lines are parsed behind the first fault
 abbrev pub ParsesToFault : ContextState → ContextState → Type 0
 ParsesToFault old new = (m : UnitIndex) → index_units old.sections ≡ Ok m
@@ -131,13 +121,16 @@ pub record Stays (old new : ContextState) : Type 0 where
   pub parsed : StaysParsed old.parsed new.parsed
 
 -- after a lookup of the probe the same lookup parses nothing more, but after OutOfMemory, where
--- something is left to parse; where it was ready, nothing was parsed by it
+-- something is left to parse; no lines are parsed by it but those of the units that it asks for,
+-- and none where it was ready
 pub record AfterLookup {X : Type 0} (probe : ℕ) (result : Result (Option X) Error)
     (old new : ContextState) : Type 0 where
   pub stays : Stays old new
   pub ready : WasNotRefused result → IsReady new probe
   pub memory : IsReady new probe → WasNotRefused result
-  pub only : LookupParses probe old new
+  pub only : (m : UnitIndex) → index_units old.sections ≡ Ok m
+      → ParsesOnly (AsksFor old.sections m.units probe (cover probe m.ranges)) old.parsed
+      new.parsed
   pub same : IsReady old probe → new.parsed ≡ old.parsed
   pub raised : old.looks ≤ new.looks
   pub counted : is_found result ≡ true → old.looks < new.looks
@@ -152,13 +145,15 @@ pub record AfterLookupOver {X : Type 0} (shares : Bool) (probe : ℕ)
       → IfErr result (λ e. location_of old.sections probe ≡ Err e)
 
 -- after a lookup of a range the same lookup parses nothing more, but after OutOfMemory, where
--- something is left to parse; where it was ready, nothing was parsed by it
+-- something is left to parse; no lines are parsed by it but those of the units that the range
+-- meets, and none where it was ready
 pub record AfterRangeLookup {X : Type 0} (low high : ℕ) (result : Result X Error)
     (old new : ContextState) : Type 0 where
   pub stays : Stays old new
   pub ready : WasNotRefused result → IsReadyForRange new low high
   pub memory : IsReadyForRange new low high → WasNotRefused result
-  pub only : RangeLookupParses low high old new
+  pub only : (m : UnitIndex) → index_units old.sections ≡ Ok m
+      → ParsesOnly (LeadTo (cover_range low high m.ranges)) old.parsed new.parsed
   pub same : IsReadyForRange old low high → new.parsed ≡ old.parsed
   pub looks : new.looks ≡ old.looks
 

@@ -50,11 +50,6 @@ StayEnded old new = (probe : ℕ) → WaitsForNone old probe
     → lookup_stop Stop new.sections new.answers probe
     ≡ lookup_stop Stop old.sections old.answers probe
 
--- what was known of each unit whose first answer is the same stays known
-abbrev pub StayKnownUnanswered : ContextState → ContextState → Type 0
-StayKnownUnanswered old new = (n : ℕ) → answer_of new.answers n ≡ answer_of old.answers n
-    → StaysKnownOf n old.known new.known
-
 -- loads of a context were answered by files: the sections are the same, first answers stay, all
 -- lookups of frames give the same, those that wait for none whatever the files are, what was parsed
 -- of lines stays parsed, and what was known of the units that weren't answered stays known
@@ -64,7 +59,8 @@ pub record AfterAnswers (files : Option ReadFiles) (old new : ContextState) : Ty
   pub frames : IfSome files (λ held. GivesSameFrames held old new)
   pub ended : StayEnded old new
   pub parsed : StaysParsed old.parsed new.parsed
-  pub known : StayKnownUnanswered old new
+  pub known : (n : ℕ) → answer_of new.answers n ≡ answer_of old.answers n
+      → StaysKnownOf n old.known new.known
   pub raised : old.looks ≤ new.looks
 
 -- the unit of a number was answered, or nothing was

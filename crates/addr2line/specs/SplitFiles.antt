@@ -103,14 +103,12 @@ abbrev pub split_at_path : ReadFiles → SplitLoad → List ℕ → Option Secti
 split_at_path read load path =
     option_and_then (λ bytes. or_none (split_of read.compressed load bytes)) (read.files path)
 
--- the answer to the load of a unit by the file at a path
-abbrev pub given_at_path : ReadFiles → SplitLoad → List ℕ → Loading (Option Sections)
-given_at_path read load path = utf8_path path >>= λ text. Ok (split_at_path read load text)
-
 -- the answer to the load of a unit
 unfoldable pub given_by_files : ReadFiles → SplitLoad → Loading (Option Sections)
-given_by_files read load = elim (split_path load)
-    [ None ↦ Ok None | Some path ↦ given_at_path read load path ]
+given_by_files read load = elim (split_path load) [
+  | None ↦ Ok None
+  | Some path ↦ utf8_path path >>= λ text. Ok (split_at_path read load text)
+]
 
 -- a refusal that leaves the unit open whose load it refuses
 abbrev pub LeavesOpen : LoaderError → Type 0

@@ -16,11 +16,6 @@ use Rattle.addr2line_lines.specs.References.{Scope}
 abbrev pub items_inside_at : UnitRecord → ℕ → Result (List Item) Error
 items_inside_at u offset = whole_entry_at u offset >>= λ x. Ok x.inside.items
 
--- the subtree of an item among the items after it
-abbrev pub subtree_among : Item → List Item → List Item
-subtree_among x following =
-    (subtree_of {Z = Unit {0}} x (record { items = following; end = Ok tt })).items
-
 -- whether items have one at an offset
 abbrev pub have_item : ℕ → List Item → Bool
 have_item offset items = list_any (λ (x : Item). x.offset == offset) items
@@ -29,7 +24,8 @@ have_item offset items = list_any (λ (x : Item). x.offset == offset) items
 abbrev pub items_around : ℕ → List Item → List Item
 items_around offset [] = []
 items_around offset (x ∷ following) =
-    if have_item offset (subtree_among x following)
+    let subtree = subtree_of {Z = Unit {0}} x (record { items = following; end = Ok tt }) in
+    if have_item offset subtree.items
     then items_around offset following ++ x ∷ []
     else items_around offset following
 

@@ -31,16 +31,11 @@ located files s = record {
 abbrev pub located_in : List (List ℕ) → ℕ → ℕ → Sequence → List LocatedSpan
 located_in files low high s = map (located files) (filter (meets low high) (spans s.end s.rows))
 
--- the rows of all sequences that the range meets
-abbrev pub located_along : LineTable → ℕ → ℕ → List LocatedSpan
-located_along table low high =
-    flat_map (located_in table.files low high)
-    (in_order (begins_sooner start_of end_of) table.sequences)
-
--- those of a range of a unit
+-- the rows of all sequences that the range meets, in a range of a unit
 abbrev pub locations_in_range : LineTable → Range → ℕ → ℕ → List LocatedSpan
 locations_in_range table unit low high =
-    located_along table (max low unit.begin) (min high unit.end)
+    flat_map (located_in table.files (max low unit.begin) (min high unit.end))
+    (in_order (begins_sooner start_of end_of) table.sequences)
 
 -- the range of a sequence
 abbrev pub sequence_range : Sequence → Range

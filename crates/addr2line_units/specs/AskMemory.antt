@@ -20,15 +20,11 @@ abbrev pub is_fault_at_once : List File → List (Result LineRow Error) → Bool
 is_fault_at_once [] (Err e ∷ []) = true
 is_fault_at_once files rows = false
 
--- whether memory may be taken for the lines of a program
-abbrev pub program_takes_memory : Bool → Program → Bool
-program_takes_memory shares p = header_copy_takes_memory shares p.header
-    || not (is_fault_at_once (lines_of p).ahead (lines_of p).left)
-
--- the same, if there is a program
+-- whether memory may be taken for the lines of a program, if there is one
 abbrev pub any_program_takes_memory : Bool → Option Program → Bool
 any_program_takes_memory shares None = false
-any_program_takes_memory shares (Some p) = program_takes_memory shares p
+any_program_takes_memory shares (Some p) = header_copy_takes_memory shares p.header
+    || not (is_fault_at_once (lines_of p).ahead (lines_of p).left)
 
 -- whether memory may be taken for the lines of a unit
 unfoldable pub lines_take_memory : Bool → UnitRecord → Bool

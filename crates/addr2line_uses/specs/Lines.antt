@@ -7,10 +7,7 @@ use Rattle.gimli.specs.Sections.{Sections}
 use Rattle.addr2line_lines.specs.Location.{Location}
 use Rattle.addr2line_units.specs.Located.{location_of}
 
--- the line of a location, if there is one and it is known
-abbrev pub line_in : Option Location → Option ℕ
-line_in found = option_and_then (λ (l : Location). l.line) found
-
 -- the line of an address, if it is known, or the first fault
 abbrev pub line_of : Sections → ℕ → Result (Option ℕ) Error
-line_of d address = result_map line_in (location_of d address)
+line_of d address =
+    result_map (option_and_then (λ (l : Location). l.line)) (location_of d address)

@@ -64,15 +64,11 @@ decompressed_of file n s =
     else packed_in file.endian (layout_of file.class).address_size (bytes_at file.bytes s)
     >>= unpacked_contents file n
 
--- the number of the first section with .zdebug_ for the .debug_ of a name
-abbrev pub number_zdebug : List ℕ → ObjectFile → Option ℕ
-number_zdebug name file = position (is_zdebug (section_names_of file) name) file.sections
-
--- that section, beside its number
+-- the first section with .zdebug_ for the .debug_ of a name, beside its number
 abbrev pub first_zdebug : List ℕ → ObjectFile → Option (ℕ × SectionHeader)
 first_zdebug name file = option_and_then
     (λ n. option_map (λ (s : SectionHeader). (n, s)) (slice_get file.sections n))
-    (number_zdebug name file)
+    (position (is_zdebug (section_names_of file) name) file.sections)
 
 -- the bytes of a section of such a name
 unfoldable pub zdebug_of : ObjectFile → ℕ → SectionHeader → Loading Section

@@ -52,15 +52,11 @@ count_in endian l at bytes = if not (layout_number_at endian l.e_shnum HALF_SIZE
     else if nat_lt (length bytes) (at + l.section_size) then Err BadElf
     else Ok (layout_number_at endian l.sh_size l.address_size (drop at bytes))
 
--- whether the file is relocatable: one that was not linked yet
-abbrev pub is_relocatable_in : RunTimeEndian → Layout → List ℕ → Bool
-is_relocatable_in endian l bytes = layout_number_at endian l.e_type HALF_SIZE bytes == ET_REL
-
 -- the file's header; without section headers its other fields about them aren't looked at
 unfoldable pub header_in : RunTimeEndian → Layout → List ℕ → Loading FileHeader
 header_in endian l bytes = if nat_lt (length bytes) l.header_size then Err BadElf
     else (let start = layout_number_at endian l.e_shoff l.address_size bytes in
-    let is_relocatable = is_relocatable_in endian l bytes in
+    let is_relocatable = layout_number_at endian l.e_type HALF_SIZE bytes == ET_REL in
     if start == 0
     then Ok (record { is_relocatable = is_relocatable; start = 0; count = 0; name_index = 0 })
     else if not (layout_number_at endian l.e_shentsize HALF_SIZE bytes == l.section_size)

@@ -1,5 +1,5 @@
 -- Split files and what they take from the file that they belong to (DWARF 5, section 7.3.2).
-use Rattle.std.specs.Prelude.{ℕ, Option, Some, None, Result, Ok, if◌then◌else◌}
+use Rattle.std.specs.Prelude.{Option, Some, None, Result, Ok, if◌then◌else◌}
 use Rattle.gimli_read.specs.declared.error.Error.{Error}
 use Rattle.gimli_read.specs.declared.value.AttributeValue.{AttributeValue}
 use Rattle.gimli_read.specs.Section.{Section}
@@ -35,15 +35,12 @@ string_fault_if d u (Some value) = fault_of (attr_string_of d u value)
 abbrev pub dwo_name_fault : Sections → UnitRecord → Result (Unit {0}) Error
 dwo_name_fault d u = dwo_name_of u >>= string_fault_if d u
 
--- the base of range lists of a split unit: below version 5 its main unit's
-abbrev pub relocated_rnglists_base : UnitRecord → UnitRecord → ℕ
-relocated_rnglists_base u main =
-    if is_before_5 u.header.encoding.version then main.rnglists_base else u.rnglists_base
-
--- a split unit with the addresses and bases that its main unit relocates
+-- a split unit with the addresses and bases that its main unit relocates: the base of range lists
+-- is its main unit's below version 5
 abbrev pub relocated : UnitRecord → UnitRecord → UnitRecord
 relocated u main = record u {
   low_pc = main.low_pc;
   addr_base = main.addr_base;
-  rnglists_base = relocated_rnglists_base u main;
+  rnglists_base =
+      if is_before_5 u.header.encoding.version then main.rnglists_base else u.rnglists_base;
 }

@@ -6,6 +6,7 @@ use Rattle.std.specs.Option.{option_map_or}
 use Rattle.std.specs.Str.{bytes_eq}
 use Rattle.std.proofs.lemmas.Bool.Decides.{nat_tests}
 use Rattle.std.proofs.lemmas.List.Quantifiers.{position-Some}
+use Rattle.std.proofs.lemmas.Bool.{or_right, and_parts}
 use Rattle.elf.specs.declared.section.SectionHeader.{SectionHeader}
 use Rattle.elf.specs.FileImage.{Image, IsWhole, image_bytes, is_held}
 use Rattle.elf.specs.FileTables.{AreReadable, has_zdebug_name, is_packed, is_readable}
@@ -33,19 +34,15 @@ pub all_of_each : {X : Type 0} (p : X → Bool) (xs : List X) → ((n : ℕ) (x 
 all_of_each p [] each = refl
 all_of_each p (y ∷ ys) each = ap (λ b. b && list_all p ys) (each 0 y refl) ∙ all_of_each p ys (λ n x e. each (suc n) x e)
 
-or_true : (b : Bool) → (b || true) ≡ true
-or_true true = refl
-or_true false = refl
-
 -- where one piece has all bytes of a file, it has those of each section
 pub whole_readable : (image : Image) (names : List ℕ) (sections : List SectionHeader) → IsWhole image → AreReadable image names sections
 whole_readable image names sections whole n s e = by_cases (is_outside (image_bytes image) s) refl
   where
     by_cases : (b : Bool) → is_outside (image_bytes image) s ≡ b → is_readable image names s ≡ true
-    by_cases true h = ap (λ b. not (is_packed names s) || (b || is_held s.offset s.size image)) h ∙ or_true (not (is_packed names s))
+    by_cases true h = ap (λ b. not (is_packed names s) || (b || is_held s.offset s.size image)) h ∙ or_right (not (is_packed names s)) true refl
     by_cases false h =
         let within : s.offset + s.size ≤ length (image_bytes image) = grind (arith, nat_tests) in
-        ap (λ b. not (is_packed names s) || (b || is_held s.offset s.size image)) h ∙ ap (λ b. not (is_packed names s) || b) (whole s.offset s.size within) ∙ or_true (not (is_packed names s))
+        ap (λ b. not (is_packed names s) || (b || is_held s.offset s.size image)) h ∙ ap (λ b. not (is_packed names s) || b) (whole s.offset s.size within) ∙ or_right (not (is_packed names s)) true refl
 
 -- a packed section in the file stands in one piece
 pub readable_is_held : (image : Image) (names : List ℕ) (s : SectionHeader) → is_readable image names s ≡ true → is_packed names s ≡ true → is_outside (image_bytes image) s ≡ false
@@ -59,12 +56,7 @@ zdebug_name names name s h = by_text (table_text_at names s.name) h
   where
     by_text : (t : Option (List ℕ)) → option_map_or (is_zdebug_text name) t false ≡ true → option_map_or (λ text. starts_with nat_eq text zdebug_prefix) t false ≡ true
     by_text None e = absurd cc
-    by_text (Some text) e = middle (starts_with nat_eq name debug_prefix) (starts_with nat_eq text zdebug_prefix) (bytes_eq (drop (length zdebug_prefix) text) (drop (length debug_prefix) name)) e
-      where
-        middle : (a b c : Bool) → (a && (b && c)) ≡ true → b ≡ true
-        middle true true c e = refl
-        middle true false c e = absurd cc
-        middle false b c e = absurd cc
+    by_text (Some text) e = (and_parts (starts_with nat_eq text zdebug_prefix) (bytes_eq (drop (length zdebug_prefix) text) (drop (length debug_prefix) name)) (and_parts (starts_with nat_eq name debug_prefix) (starts_with nat_eq text zdebug_prefix && bytes_eq (drop (length zdebug_prefix) text) (drop (length debug_prefix) name)) e).1).0
 
 -- the element at a place
 get_at : (xs : List SectionHeader) (n : ℕ) (s : SectionHeader) → slice_get xs n ≡ Some s → get_or xs n s ≡ s
@@ -88,7 +80,7 @@ zdebug_is_packed name file n s e = by_place (position (is_zdebug names name) fil
         let passes = (position-Some (is_zdebug names name) file.sections m x at).1 in
         let is : is_zdebug names name x ≡ true = sym (ap (is_zdebug names name) (get_at file.sections m x there)) ∙ passes in
         let named = zdebug_name names name x is in
-        ap (is_packed names) (sym same) ∙ ap (λ b. is_compressed x || b) named ∙ or_true (is_compressed x)
+        ap (is_packed names) (sym same) ∙ ap (λ b. is_compressed x || b) named ∙ or_right (is_compressed x) true refl
 
     by_place : (o : Option ℕ) → position (is_zdebug names name) file.sections ≡ o
         → option_and_then (λ m. option_map {U = ℕ × SectionHeader} (λ x. (m, x)) (slice_get file.sections m)) o ≡ Some (n, s) → is_packed names s ≡ true

@@ -4,8 +4,7 @@ use Rattle.std.proofs.Common.{ℕ, zero, suc, ◌≡◌, ◌≢◌, ◌<◌, ◌
 use Rattle.std.specs.Prelude.{Option, option_map, option_and_then, is_some}
 use Rattle.std.specs.Str.{IsUtf8, encode_utf8_all, is_utf8}
 use Rattle.std.specs.Char.{len_utf8}
-use Rattle.std.proofs.lemmas.Bool.{eqb-true}
-use Rattle.std.proofs.lemmas.Bool.Decides.{nat_tests}
+use Rattle.std.proofs.lemmas.Bool.{eqb-true, and_parts, eq-eqb, ne_eqb}
 use Rattle.std.proofs.lemmas.List.{take-append-drop}
 use Rattle.std.proofs.lemmas.Str.{IsUtf8-nil, IsUtf8-from_ascii, IsUtf8-append, IsUtf8-take, IsUtf8-past_char, IsCharBoundary-from_drop, drop_past_char, len_utf8_bounds, is_utf8-from_IsUtf8, IsUtf8-from_is_utf8}
 use Rattle.elf.specs.SectionBytes.{front_text}
@@ -18,19 +17,13 @@ use Rattle.elf.specs.declared.text_starts.TextStarts.TheVariants.{Everywhere, Ma
 use Rattle.elf.specs.TextStarts.{AreStarts, begins_text, is_ascii_table, text_starts, TextAfter, IsTextDistance}
 use Rattle.elf.proofs.TextLemmas.{front_text_next, front_text_zero}
 
-is_zero : (n : ℕ) → n ≡ 0 → (n == 0) ≡ true
-is_zero n e = grind (arith, nat_tests)
-
-is_nonzero : (n : ℕ) → n ≢ 0 → (n == 0) ≡ false
-is_nonzero n e = grind (arith, nat_tests)
-
 -- at a zero byte the empty text begins
 pub start_at_zero : (tail : List ℕ) → 0 < length tail → slice_index tail 0 ≡ 0 → IsTextDistance tail (Some 0)
 start_at_zero [] some e = absurd (omega arith)
 start_at_zero (b ∷ bytes) some e = (
   [],
   record {
-    is_text = front_text_zero b bytes (is_zero b e);
+    is_text = front_text_zero b bytes (eq-eqb b 0 e);
     in_bytes = omega arith;
     in_text = omega arith;
     front = refl;
@@ -42,11 +35,11 @@ start_at_zero (b ∷ bytes) some e = (
 -- without a zero byte after it no text begins
 pub start_without_zero : (tail : List ℕ) → 0 < length tail → slice_index tail 0 ≢ 0 → IsTextDistance (drop 1 tail) None → IsTextDistance tail None
 start_without_zero [] some e h = absurd (omega arith)
-start_without_zero (b ∷ bytes) some e h = front_text_next b bytes (is_nonzero b e) ∙ ap (option_map (λ t. b ∷ t)) h
+start_without_zero (b ∷ bytes) some e h = front_text_next b bytes (ne_eqb b 0 e) ∙ ap (option_map (λ t. b ∷ t)) h
 
 -- a text with one byte in front
 text_of_next : (b : ℕ) (bytes text : List ℕ) → b ≢ 0 → front_text bytes ≡ Some text → front_text (b ∷ bytes) ≡ Some (b ∷ text)
-text_of_next b bytes text e h = front_text_next b bytes (is_nonzero b e) ∙ ap (option_map (λ t. b ∷ t)) h
+text_of_next b bytes text e h = front_text_next b bytes (ne_eqb b 0 e) ∙ ap (option_map (λ t. b ∷ t)) h
 
 -- what is UTF-8 up to the nearest text begins a text
 pub start_found : (tail : List ℕ) (d : ℕ) → 0 < length tail → slice_index tail 0 ≢ 0 → IsTextDistance (drop 1 tail) (Some d) → IsUtf8 (take (suc d) tail) → IsTextDistance tail (Some 0)
@@ -166,20 +159,16 @@ ascii_tail b bytes zero l ascii ends = nearest_in_ascii b bytes ascii ends
 ascii_tail b [] (suc k) l ascii ends = absurd (omega arith)
 ascii_tail b (c ∷ bytes) (suc k) l ascii ends = ascii_tail c bytes k (omega arith) (λ i. ascii (suc i)) ends
 
-both : (a b : Bool) → (a && b) ≡ true → (a ≡ true) × (b ≡ true)
-both true b e = (refl, e)
-both false b e = absurd (cc)
-
 -- bytes are ASCII where the test of each says so
 ascii_by_test : (bytes : List ℕ) → list_all is_ascii bytes ≡ true → IsAscii bytes
 ascii_by_test [] e = IsAscii-nil
-ascii_by_test (b ∷ bytes) e = let p = both _ _ e in IsAscii-cons b bytes (ltb-true b 128 p.0) (ascii_by_test bytes p.1)
+ascii_by_test (b ∷ bytes) e = let p = and_parts _ _ e in IsAscii-cons b bytes (ltb-true b 128 p.0) (ascii_by_test bytes p.1)
 
 -- at each place of such a table a text begins
 pub starts_everywhere : (table : List ℕ) → is_ascii_table table ≡ true → AreStarts table Everywhere
 starts_everywhere [] e k l = absurd (omega arith)
 starts_everywhere (b ∷ bytes) e k l =
-    let p = both _ _ e in
+    let p = and_parts _ _ e in
     let ascii = ascii_by_test (b ∷ bytes) p.1 in
     let last : suc (length bytes) - 1 ≡ length bytes = omega arith in
     let ends' : get_or (b ∷ bytes) (length bytes) 1 ≡ 0 = subst (λ n. get_or (b ∷ bytes) n 1 ≡ 0) last (eqb-true _ 0 p.0) in
@@ -192,17 +181,17 @@ starts_marked table v e k l = ap (λ (marks : List Bool). get_or marks k false) 
 -- a text begins exactly where its distance is zero
 pub begins_by_distance : (tail : List ℕ) (d : ℕ) → IsTextDistance tail (Some d) → (d == 0) ≡ begins_text tail
 begins_by_distance tail zero h = sym (begins_at_zero tail h)
-begins_by_distance tail (suc d) h = is_nonzero (suc d) (λ e. absurd (omega arith)) ∙ sym (begins_not_further tail (suc d) (λ e. absurd (omega arith)) h)
+begins_by_distance tail (suc d) h = ne_eqb (suc d) 0 (λ e. absurd (omega arith)) ∙ sym (begins_not_further tail (suc d) (λ e. absurd (omega arith)) h)
 
 nonempty_name : (b : ℕ) (o : Option (List ℕ)) → is_some (option_and_then utf8_from (option_map (λ t. b ∷ t) o)) ≡ is_some (option_and_then name_from (option_map (λ t. b ∷ t) o))
 nonempty_name b None = refl
-nonempty_name b (Some t) = sym (ap (λ (v : Bool). is_some (cond v None (utf8_from (b ∷ t)))) (is_nonzero (suc (length t)) (λ e. absurd (omega arith))))
+nonempty_name b (Some t) = sym (ap (λ (v : Bool). is_some (cond v None (utf8_from (b ∷ t)))) (ne_eqb (suc (length t)) 0 (λ e. absurd (omega arith))))
 
 -- a name is a text that is not empty
 pub name_begins : (names : List ℕ) (k : ℕ) → k < length names → slice_index names k ≢ 0
     → begins_text (drop k names) ≡ is_some (option_and_then name_from (front_text (drop k names)))
 name_begins [] k l e = absurd (omega arith)
 name_begins (b ∷ bytes) zero l e =
-    let next = front_text_next b bytes (is_nonzero b e) in
+    let next = front_text_next b bytes (ne_eqb b 0 e) in
     ap (λ (t : Option (List ℕ)). is_some (option_and_then utf8_from t)) next ∙ nonempty_name b (front_text bytes) ∙ sym (ap (λ (t : Option (List ℕ)). is_some (option_and_then name_from t)) next)
 name_begins (b ∷ bytes) (suc k) l e = name_begins bytes k (omega arith) e

@@ -14,7 +14,7 @@ use Rattle.gimli_read.specs.Yields.{next_given}
 use Rattle.gimli.specs.Aranges.{ArangeSet, arange_sets_of}
 use Rattle.gimli.specs.Header.{UnitHeaderFields}
 use Rattle.gimli.specs.Sections.{Sections}
-use Rattle.gimli.specs.CachedTables.{CachedTables, cached_unit_takes_memory, entry_takes_memory, is_cached}
+use Rattle.gimli.specs.CachedTables.{CachedTables, cached_unit_takes_memory, is_cached}
 use Rattle.gimli.specs.Text.{from_offset}
 use Rattle.gimli.specs.Unit.{UnitRecord, unit_by, unit_record_of}
 use Rattle.gimli.specs.UnitsLeft.{all_headers}
@@ -272,13 +272,14 @@ module _ (d : Sections) (h : UnitHeaderFields) (outside : has_abbreviations d h 
 
   pub no_record : unit_record_of d h ≡ Err OffsetOutOfBounds
   unfolding unit_record_of unit_by
-  no_record = ap (λ r. unit_by d h (r >>= table_at)) outside_is
+  no_record = ap (λ r. (unit_by d h (r >>= table_at)).given) outside_is
 
   pub nothing_taken : (shares : Bool) (cache : CachedTables) → cache.dwarf ≡ d → cached_unit_takes_memory shares cache h ≡ false
+  unfolding unit_by
   nothing_taken shares cache same = of_bool (is_cached h.debug_abbrev_offset cache) (from_offset h.debug_abbrev_offset cache.dwarf.debug_abbrev) (ap (λ (s : Sections). from_offset h.debug_abbrev_offset s.debug_abbrev) same ∙ outside_is)
     where
-      of_bool : (b : Bool) (r : Result Section Error) → r ≡ Err OffsetOutOfBounds → (if b then entry_takes_memory shares cache.dwarf h (r >>= table_at) else is_ok r) ≡ false
-      of_bool true r e = ap (λ x. entry_takes_memory shares cache.dwarf h (x >>= table_at)) e
+      of_bool : (b : Bool) (r : Result Section Error) → r ≡ Err OffsetOutOfBounds → (if b then (unit_by cache.dwarf h (r >>= table_at)).takes_memory shares else is_ok r) ≡ false
+      of_bool true r e = ap (λ x. (unit_by cache.dwarf h (x >>= table_at)).takes_memory shares) e
       of_bool false r e = ap is_ok e
 
 -- a unit for which memory was taken, or whose record is read, has abbreviations

@@ -247,15 +247,15 @@ pub low_pc_is : (d : Sections) (e : Encoding) (base : ℕ) (v : Option AddressVa
 low_pc_is d e base None = value
 low_pc_is d e base (Some v) = address_from_is d e base v
 
-pub line_program_of_is : (d : Sections) (e : Encoding) (offset : Option ℕ) → IsByBytes (line_program_of d e offset)
+pub line_program_of_is : (d : Sections) (e : Encoding) (offset : Option ℕ) → IsByBytes (line_program_of d e offset).given
 line_program_of_is d e None = value
 line_program_of_is d e (Some offset) = step (from_offset_is offset d.debug_line) (λ rest. step (line_program_is e.address_size rest) (λ program. value))
 
-pub completed_record_is : (d : Sections) (header : UnitHeaderFields) (table : List Abbrev) (root : RootValues) → IsByBytes (completed_record d header table root)
+pub completed_record_is : (d : Sections) (header : UnitHeaderFields) (table : List Abbrev) (root : RootValues) → IsByBytes (completed_record d header table root).given
 unfolding completed_record
 completed_record_is d header table root = step (step (line_program_of_is d header.encoding root.stmt_list) (λ program. step (low_pc_is d header.encoding _ root.low_pc) (λ low. value))) (λ read. value)
 
-pub unit_by_is : (d : Sections) (header : UnitHeaderFields) (read : Result (List Abbrev) Error) → IsByBytes read → IsByBytes (unit_by d header read)
+pub unit_by_is : (d : Sections) (header : UnitHeaderFields) (read : Result (List Abbrev) Error) → IsByBytes read → IsByBytes (unit_by d header read).given
 unfolding unit_by
 unit_by_is d header read h = step h (λ table. step (root_values_are header.encoding table header.entries) (λ root. completed_record_is d header table root))
 

@@ -1,9 +1,8 @@
--- A unit whose root entry is read has abbreviations, which take memory, and where what the root
--- entry leads to does (on specs/Unit.antt and specs/UnitMemory.antt).
-use Rattle.std.proofs.Common.{◌≡◌, ◌≢◌, ℕ, ◌==◌, ◌||◌, Bool, true, false, cond, List, [], Option, Some, None, unwrap_or, is_ok, IfOk, Result, Ok, Err, refl, ap, sym, ◌∙◌}
-use Rattle.std.proofs.lemmas.Bool.{or_left, or_right}
+-- A unit whose root entry is read has abbreviations, which take memory (on specs/Unit.antt).
+use Rattle.std.proofs.Common.{◌≡◌, ℕ, ◌==◌, ◌||◌, Bool, true, false, cond, List, [], Option, Some, None, IfOk, Result, Ok, Err, refl, ap, sym, ◌∙◌}
+use Rattle.std.proofs.lemmas.Bool.{or_right}
 use Rattle.gimli_read.specs.declared.error.Error.{Error}
-use Rattle.gimli_read.specs.declared.error.Error.TheVariants.{OutOfMemory, UnknownAbbreviation}
+use Rattle.gimli_read.specs.declared.error.Error.TheVariants.{UnknownAbbreviation}
 use Rattle.gimli_read.specs.declared.endian.Encoding.{Encoding}
 use Rattle.gimli_read.specs.Section.{Section}
 use Rattle.gimli_read.specs.Reading.{Reading, ◌>>=◌}
@@ -11,16 +10,13 @@ use Rattle.gimli_read.specs.Leb128.{uleb128_at}
 use Rattle.gimli_read.specs.Abbreviations.{Abbrev}
 use Rattle.gimli_read.specs.Abbrev.{abbreviation_at, table_at, takes_memory}
 use Rattle.gimli_read.proofs.AbbrevLemmas.{table_ends, table_fault, abbreviation_front}
-use Rattle.gimli_line.specs.Header.{Program}
-use Rattle.gimli_line.specs.Program.{line_program_at}
-use Rattle.gimli_line.specs.TableMemory.{line_program_takes_memory}
 use Rattle.gimli.specs.Entry.{entry_code_at, root_specifications, root_attributes, attributes_at}
 use Rattle.gimli.specs.Header.{UnitHeaderFields}
 use Rattle.gimli.specs.Record.{RootValues, root_values_of}
 use Rattle.gimli.specs.Sections.{Sections}
 use Rattle.gimli.specs.Text.{from_offset}
-use Rattle.gimli.specs.Unit.{UnitRecord, completed_record, program_and_low_pc_of, unit_by, unit_record_of}
-use Rattle.gimli.specs.UnitMemory.{abbreviations_take_memory, root_takes_memory, stmt_list_takes_memory, unit_takes_memory}
+use Rattle.gimli.specs.Unit.{UnitRecord, completed_record, unit_by, unit_record_of}
+use Rattle.gimli.specs.UnitMemory.{abbreviations_take_memory, unit_takes_memory}
 
 -- a reading of no value
 record NeverOk {A : Type 0} (r : Result A Error) : Type 0 where
@@ -77,13 +73,13 @@ read_root_takes_memory e rest entries table root h k = at (abbreviation_at [] re
 -- what a unit is whose root entry is read, and that memory may be taken for it
 pub unit_is : (d : Sections) (header : UnitHeaderFields) (shares : Bool) (rest : Section) (table : List Abbrev) (root : RootValues)
     → from_offset header.debug_abbrev_offset d.debug_abbrev ≡ Ok rest → table_at rest ≡ Ok table → root_values_of header.encoding table header.entries ≡ Ok root
-    → (unit_takes_memory shares d header ≡ true) × (unit_record_of d header ≡ completed_record d header table root)
+    → (unit_takes_memory shares d header ≡ true) × (unit_record_of d header ≡ (completed_record d header table root).given)
 unfolding unit_record_of unit_by
 unit_is d header shares rest table root h k l = (
   ap (abbreviations_take_memory shares) h ∙ or_right shares (takes_memory rest) (read_root_takes_memory header.encoding rest header.entries table root k l),
-  ap (λ (r : Result Section Error). (r >>= table_at) >>= λ t. root_values_of header.encoding t header.entries >>= λ v. completed_record d header t v) h
-      ∙ ap (λ (r : Result (List Abbrev) Error). r >>= λ t. root_values_of header.encoding t header.entries >>= λ v. completed_record d header t v) k
-      ∙ ap (λ (r : Result RootValues Error). r >>= λ v. completed_record d header table v) l,
+  ap (λ (r : Result Section Error). (r >>= table_at) >>= λ t. root_values_of header.encoding t header.entries >>= λ v. (completed_record d header t v).given) h
+      ∙ ap (λ (r : Result (List Abbrev) Error). r >>= λ t. root_values_of header.encoding t header.entries >>= λ v. (completed_record d header t v).given) k
+      ∙ ap (λ (r : Result RootValues Error). r >>= λ v. (completed_record d header table v).given) l,
 )
 
 -- so memory may be taken for a unit that is read
@@ -92,36 +88,16 @@ unfolding unit_record_of unit_by
 read_takes_memory shares d header u h = by_rest (from_offset header.debug_abbrev_offset d.debug_abbrev) refl h
   where
     by_root : (rest : Section) (table : List Abbrev) (r : Result RootValues Error) → from_offset header.debug_abbrev_offset d.debug_abbrev ≡ Ok rest → table_at rest ≡ Ok table → root_values_of header.encoding table header.entries ≡ r
-        → (r >>= λ v. completed_record d header table v) ≡ Ok u → unit_takes_memory shares d header ≡ true
+        → (r >>= λ v. (completed_record d header table v).given) ≡ Ok u → unit_takes_memory shares d header ≡ true
     by_root rest table (Err e) a b c p = absurd cc
     by_root rest table (Ok root) a b c p = (unit_is d header shares rest table root a b c).0
 
     by_table : (rest : Section) (r : Result (List Abbrev) Error) → from_offset header.debug_abbrev_offset d.debug_abbrev ≡ Ok rest → table_at rest ≡ r
-        → (r >>= λ t. root_values_of header.encoding t header.entries >>= λ v. completed_record d header t v) ≡ Ok u → unit_takes_memory shares d header ≡ true
+        → (r >>= λ t. root_values_of header.encoding t header.entries >>= λ v. (completed_record d header t v).given) ≡ Ok u → unit_takes_memory shares d header ≡ true
     by_table rest (Err e) a b p = absurd cc
     by_table rest (Ok table) a b p = by_root rest table (root_values_of header.encoding table header.entries) a b refl p
 
     by_rest : (r : Result Section Error) → from_offset header.debug_abbrev_offset d.debug_abbrev ≡ r
-        → ((r >>= table_at) >>= λ t. root_values_of header.encoding t header.entries >>= λ v. completed_record d header t v) ≡ Ok u → unit_takes_memory shares d header ≡ true
+        → ((r >>= table_at) >>= λ t. root_values_of header.encoding t header.entries >>= λ v. (completed_record d header t v).given) ≡ Ok u → unit_takes_memory shares d header ≡ true
     by_rest (Err e) a p = absurd cc
     by_rest (Ok rest) a p = by_table rest (table_at rest) a refl p
-
--- a line program that is read takes memory
-pub program_takes : (shares : Bool) (d : Sections) (e : Encoding) (offset : ℕ) (rest : Section) (p : Program) → from_offset offset d.debug_line ≡ Ok rest → line_program_at e.address_size rest ≡ Ok p → stmt_list_takes_memory shares d e (Some offset) ≡ true
-program_takes shares d e offset rest p h k = rw h (or_right (shares || line_program_takes_memory shares e.address_size rest) _ (ap is_ok k))
-
--- a unit by the line program and the low_pc of its root entry
-module _ (shares : Bool) (d : Sections) (header : UnitHeaderFields) (table : List Abbrev) (root : RootValues) where
-  abbrev start_of : Result (Option Program × ℕ) Error
-  start_of = program_and_low_pc_of d header.encoding (unwrap_or root.addr_base 0) root
-
-  -- their fault is its own, and memory for them is memory for it
-  pub record_refused : (e : Error) → ((stmt_list_takes_memory shares d header.encoding root.stmt_list ≡ true → e ≢ OutOfMemory) → start_of ≡ Err e)
-      → (root_takes_memory shares d header table root ≡ true → e ≢ OutOfMemory) → completed_record d header table root ≡ Err e
-  unfolding completed_record
-  record_refused e h n = rw (h (λ t. n (or_left _ _ t))) refl
-
-  -- where they have no fault memory may be taken
-  pub record_takes : (start : Option Program × ℕ) → start_of ≡ Ok start → root_takes_memory shares d header table root ≡ true
-  unfolding completed_record
-  record_takes start h = or_right (stmt_list_takes_memory shares d header.encoding root.stmt_list) (is_ok (completed_record d header table root)) (rw h refl)

@@ -3,7 +3,7 @@
 -- as its fault.
 -- Own: once the cached tables have as many abbreviations and attributes as the section has bytes,
 -- no more are cached. Tables that don't overlap have fewer, so that all of them are cached.
-use Rattle.std.specs.Prelude.{◌≡◌, ◌≢◌, ◌+◌, ◌-◌, ◌||◌, ℕ, Bool, true, false, List, [], length, fold, Result, Ok, Err, is_ok, IfSome, if◌then◌else◌}
+use Rattle.std.specs.Prelude.{◌≡◌, ◌≢◌, ◌+◌, ◌-◌, ℕ, Bool, true, List, [], length, fold, Result, Ok, Err, is_ok, IfSome, if◌then◌else◌}
 use Rattle.std.specs.List.{list_any}
 use Rattle.std.specs.Ordering.{nat_cmp}
 use Rattle.std.specs.Result.{result_map_both}
@@ -11,13 +11,10 @@ use Rattle.std.specs.BTreeMap.{BTreeMap, get, is_at}
 use Rattle.gimli_read.specs.declared.error.Error.{Error}
 use Rattle.gimli_read.specs.Abbreviations.{Abbrev}
 use Rattle.gimli_read.specs.Section.{Section}
-use Rattle.gimli_line.specs.TableMemory.{takes_memory_after}
 use Rattle.gimli.specs.Header.{UnitHeaderFields}
-use Rattle.gimli.specs.Record.{root_values_of}
 use Rattle.gimli.specs.Sections.{Sections}
 use Rattle.gimli.specs.Text.{from_offset}
-use Rattle.gimli.specs.Unit.{table_from}
-use Rattle.gimli.specs.UnitMemory.{root_takes_memory}
+use Rattle.gimli.specs.Unit.{table_from, unit_by}
 
 -- the sections of a file, the offsets of the tables that are cached, and for how many more
 -- abbreviations and attributes there is room
@@ -61,20 +58,11 @@ abbrev pub AreTablesOf : {T : Type 0} → (T → List Abbrev) → Section → BT
 AreTablesOf see s tables =
     (offset : ℕ) → IfSome (get nat_cmp tables offset) (λ t. table_from offset s ≡ seen_table see t)
 
--- whether memory may be taken for a unit whose table is read: for what its root entry's values lead
--- to, or where readers share their bytes
-abbrev pub entry_takes_memory : Bool → Sections → UnitHeaderFields → Result (List Abbrev) Error
-    → Bool
-entry_takes_memory shares d header (Ok table) =
-    shares || takes_memory_after (root_values_of header.encoding table header.entries)
-    (root_takes_memory shares d header table)
-entry_takes_memory shares d header (Err e) = false
-
 -- whether memory may be taken for the unit of a header: for its table, if that is in the section
 -- and not cached, or for what its root entry says
 abbrev pub cached_unit_takes_memory : Bool → CachedTables → UnitHeaderFields → Bool
 cached_unit_takes_memory shares cache header =
     if is_cached header.debug_abbrev_offset cache
-    then entry_takes_memory shares cache.dwarf header
-    (table_from header.debug_abbrev_offset cache.dwarf.debug_abbrev)
+    then (unit_by cache.dwarf header
+    (table_from header.debug_abbrev_offset cache.dwarf.debug_abbrev)).takes_memory shares
     else is_ok (from_offset header.debug_abbrev_offset cache.dwarf.debug_abbrev)

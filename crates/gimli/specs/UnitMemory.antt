@@ -1,21 +1,15 @@
 -- Where memory may be taken for a unit.
 -- Own: OutOfMemory is an answer only there.
-use Rattle.std.specs.Prelude.{ℕ, ◌||◌, Bool, false, List, Option, Some, None, is_ok, is_some, Result, Ok, Err, if◌then◌else◌}
+use Rattle.std.specs.Prelude.{◌||◌, Bool, false, Option, Some, None, is_some, Result, Ok, Err, if◌then◌else◌}
 use Rattle.std.specs.Option.{option_map_or}
 use Rattle.gimli_read.specs.declared.error.Error.{Error}
-use Rattle.gimli_read.specs.declared.endian.Encoding.{Encoding}
 use Rattle.gimli_read.specs.declared.value.AttributeValue.{AttributeValue}
 use Rattle.gimli_read.specs.Section.{Section}
 use Rattle.gimli_read.specs.HeldBytes.{holds_bytes}
-use Rattle.gimli_read.specs.Abbreviations.{Abbrev}
 use Rattle.gimli_read.specs.Abbrev.{takes_memory}
-use Rattle.gimli_line.specs.Program.{line_program_at}
-use Rattle.gimli_line.specs.TableMemory.{takes_memory_after, line_program_takes_memory}
 use Rattle.gimli.specs.Header.{UnitHeaderFields}
 use Rattle.gimli.specs.Sections.{Sections}
 use Rattle.gimli.specs.Text.{from_offset}
-use Rattle.gimli.specs.Record.{RootValues}
-use Rattle.gimli.specs.Unit.{completed_record}
 
 -- whether something is given
 abbrev pub gives_some : {X : Type 0} → Result (Option X) Error → Bool
@@ -30,22 +24,6 @@ gives_bytes_if (Err e) = false
 -- a value, none where it holds bytes
 abbrev pub if_without_bytes : AttributeValue Section → Option (AttributeValue Section)
 if_without_bytes value = if holds_bytes value then None else Some value
-
--- whether memory may be taken for the line program at the offset that stmt_list gives: for what the
--- header's tables store, for the program once its header is read, or where bytes are shared
-abbrev pub stmt_list_takes_memory : Bool → Sections → Encoding → Option ℕ → Bool
-stmt_list_takes_memory shares d encoding None = false
-stmt_list_takes_memory shares d encoding (Some offset) =
-    takes_memory_after (from_offset offset d.debug_line)
-    (λ rest. shares || line_program_takes_memory shares encoding.address_size rest
-    || is_ok (line_program_at encoding.address_size rest))
-
--- whether memory may be taken for the unit whose root entry has these values: for its line program,
--- or where its record has no fault
-abbrev pub root_takes_memory : Bool → Sections → UnitHeaderFields → List Abbrev → RootValues → Bool
-root_takes_memory shares d header table root =
-    stmt_list_takes_memory shares d header.encoding root.stmt_list
-    || is_ok (completed_record d header table root)
 
 -- whether memory may be taken for the abbreviations from an offset on: for the table's own entries,
 -- or where readers share their bytes

@@ -2,12 +2,13 @@
 
 ghost use Rattle.std.specs.Prelude.{◌≡◌, ◌≢◌, Ok, Err, true, false, is_ok, is_some, IfOk, IfErr, IfSome, OnOk};
 ghost use Rattle.std.specs.Result.{result_map_both};
+ghost use Rattle.gimli_read.specs.Costed.{ExactlyAtCost};
 ghost use Rattle.gimli_read.specs.Reading.{ExactlyUnlessOomIf};
 ghost use Rattle.gimli_read.specs.Abbrev.{table_at};
 ghost use Rattle.gimli_read.specs.declared.error.Error.TheVariants.{OutOfMemory};
 ghost use Rattle.gimli.specs.Text.{from_offset};
 ghost use Rattle.gimli.specs.Unit.{table_from, unit_by, unit_record_of};
-ghost use Rattle.gimli.specs.CachedTables.{empty_cache, is_cached, StaysCached, CachesTable, seen_table, room_after, entry_takes_memory, cached_unit_takes_memory};
+ghost use Rattle.gimli.specs.CachedTables.{empty_cache, is_cached, StaysCached, CachesTable, seen_table, room_after, cached_unit_takes_memory};
 
 use crate::dwarf::Dwarf;
 use crate::record::read_root;
@@ -70,9 +71,8 @@ fn read_unit<R: Reader>(
     header: UnitHeader<R>,
     table: &Result<Rc<Abbreviations>, Error>,
 ) -> Result<Unit<R>, Error>
-    ensures gives { ExactlyUnlessOomIf
-        (entry_takes_memory R.shares dwarf.now header (seen_table (λ a. a.value) table.now))
-        (λ u. u) result (unit_by dwarf.now header (seen_table (λ a. a.value) table.now)) }
+    ensures gives { ExactlyAtCost R.shares (λ u. u) result
+        (unit_by dwarf.now header (seen_table (λ a. a.value) table.now)) }
 {
     let abbreviations = match table {
         Ok(abbreviations) => abbreviations,

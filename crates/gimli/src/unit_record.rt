@@ -1,11 +1,12 @@
 //! Units: headers with what their root entry says.
 
 ghost use Rattle.std.specs.Prelude.{◌≡◌, Ok, Some, box_value, option_map};
+ghost use Rattle.gimli_read.specs.Costed.{ExactlyAtCost};
 ghost use Rattle.gimli_read.specs.Reading.{Exactly, ExactlyUnlessOomFor, ExactlyUnlessOomIf};
 ghost use Rattle.gimli_read.specs.Form.{seen_value};
 ghost use Rattle.gimli.specs.Split.{dwo_name_fault, dwo_name_of, relocated};
 ghost use Rattle.gimli.specs.Unit.{first_base, low_pc_of, line_program_of, name_and_directory_of, program_and_low_pc_of, readable_string, dwo_id_of, completed_record, unit_record_of};
-ghost use Rattle.gimli.specs.UnitMemory.{gives_bytes_if, gives_some, if_without_bytes, stmt_list_takes_memory, root_takes_memory, unit_takes_memory};
+ghost use Rattle.gimli.specs.UnitMemory.{gives_bytes_if, gives_some, if_without_bytes, unit_takes_memory};
 
 use crate::constants::{
     RNGLISTS_HEADER_32, RNGLISTS_HEADER_64, STR_OFFSETS_HEADER_32, STR_OFFSETS_HEADER_64,
@@ -118,9 +119,8 @@ fn read_program_at<R: Reader>(
     encoding: Encoding,
     offset: u64,
 ) -> Result<Option<Box<IncompleteLineProgram<R>>>, Error>
-    ensures gives { ExactlyUnlessOomIf
-        (stmt_list_takes_memory R.shares dwarf.now encoding (Some offset)) (option_map box_value)
-        result (line_program_of dwarf.now encoding (Some offset)) }
+    ensures gives { ExactlyAtCost R.shares (option_map box_value) result
+        (line_program_of dwarf.now encoding (Some offset)) }
 {
     let rest = read_from(&dwarf.debug_line.section, offset)?;
     let program = read_line_program(alloc, rest, encoding.address_size)?;
@@ -134,8 +134,8 @@ fn read_program<R: Reader>(
     encoding: Encoding,
     stmt_list: Option<u64>,
 ) -> Result<Option<Box<IncompleteLineProgram<R>>>, Error>
-    ensures gives { ExactlyUnlessOomIf (stmt_list_takes_memory R.shares dwarf.now encoding stmt_list)
-        (option_map box_value) result (line_program_of dwarf.now encoding stmt_list) }
+    ensures gives { ExactlyAtCost R.shares (option_map box_value) result
+        (line_program_of dwarf.now encoding stmt_list) }
 {
     match stmt_list {
         Some(offset) => read_program_at(alloc, dwarf, encoding, offset),
@@ -184,9 +184,7 @@ fn read_program_and_low_pc<R: Reader>(
     addr_base: u64,
     root: &RootAttributes<R>,
 ) -> Result<(Option<Box<IncompleteLineProgram<R>>>, u64), Error>
-    ensures gives { ExactlyUnlessOomIf
-        (stmt_list_takes_memory R.shares dwarf.now encoding root.now.stmt_list)
-        (λ x. (option_map box_value x.0, x.1)) result
+    ensures gives { ExactlyAtCost R.shares (λ x. (option_map box_value x.0, x.1)) result
         (program_and_low_pc_of dwarf.now encoding addr_base root.now) }
 {
     let line_program = read_program(alloc, dwarf, encoding, root.stmt_list)?;
@@ -223,8 +221,7 @@ pub(crate) fn complete<R: Reader>(
     abbreviations: &Rc<Abbreviations>,
     root: RootAttributes<R>,
 ) -> Result<Unit<R>, Error>
-    ensures gives { ExactlyUnlessOomIf
-        (root_takes_memory R.shares dwarf.now header abbreviations.now.value root) (λ u. u) result
+    ensures gives { ExactlyAtCost R.shares (λ u. u) result
         (completed_record dwarf.now header abbreviations.now.value root) }
 {
     let encoding = header.encoding;

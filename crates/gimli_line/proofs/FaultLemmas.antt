@@ -22,9 +22,10 @@ use Rattle.gimli_line.specs.declared.row.LineRow.{LineRow}
 use Rattle.gimli_line.specs.Encoding.{limit}
 use Rattle.gimli_line.specs.Header.{Header, Program}
 use Rattle.gimli_line.specs.Opcode.{file_with_path_at, file_entry_at, numbers_skipped, standard_at, operand_at, defines, extended_in, extended_at, coded_instruction_at, instruction_at, instructions_of, opcodes_in}
-use Rattle.gimli_line.specs.EntryTables.{times, format_at, formats_at, is_sound_format, EntryValues, no_entry, with_value, values_at, filed, formatted_entry_at, entry_front_at, entry_table_at}
-use Rattle.gimli_line.specs.Tables.{directory_at, file_at, old_tables_at, new_tables_at, tables_at}
-use Rattle.gimli_line.specs.Program.{program_address_size_at, nonzero_at, operations_at, numbers_at, unit_fields_at, line_header_fields_at, line_program_at}
+use Rattle.gimli_line.specs.EntryTables.{times, format_at, is_sound_format, EntryValues, no_entry, with_value, values_at, filed, formatted_entry_at}
+use Rattle.gimli_line.specs.Tables.{directory_at, file_at}
+use Rattle.gimli_line.specs.Stored.{formats_at, entry_front_at, entry_table_at, old_tables_at, new_tables_at, tables_at, line_program_at}
+use Rattle.gimli_line.specs.Program.{program_address_size_at, nonzero_at, operations_at, numbers_at, unit_fields_at, line_header_fields_at}
 use Rattle.gimli_line.specs.Rows.{address_after, address_state, is_end, makes_row, row_after, row_from, past_after, ended, rows_after}
 use Rattle.gimli_line.specs.Lines.{lines_of}
 use Rattle.gimli_line.specs.Steps.{step_registers as step_of, fitting, executed}
@@ -138,7 +139,7 @@ pub format_is : (s : Section) → IsByBytes (format_at s)
 unfolding format_at
 format_is s = step (uleb128_is s) (λ type. step (uleb128_is type.1) (λ form. value))
 
-pub formats_are : (s : Section) → IsByBytes (formats_at s)
+pub formats_are : (s : Section) → IsByBytes (formats_at s).given
 unfolding formats_at
 formats_are s = step (fixed_is 1 s) (λ count. times_are format_is count.0 count.1)
 
@@ -156,13 +157,13 @@ unfolding formatted_entry_at
 entry_is e formats s =
     step (values_are e formats no_entry s) (λ entry. step (filed_is entry.0.path_name entry.0.directory_index) (λ file. value))
 
-pub entry_front_is : (s : Section) → IsByBytes (entry_front_at s)
+pub entry_front_is : (s : Section) → IsByBytes (entry_front_at s).given
 unfolding entry_front_at
 entry_front_is s =
     step (formats_are s) (λ formats. step (uleb128_is formats.1) (λ count.
     step (test (not (count.0 == 0) && not (is_sound_format formats.0)) BadLineHeader (λ p. cc)) (λ u. value)))
 
-pub entry_table_is : (e : Encoding) (s : Section) → IsByBytes (entry_table_at e s)
+pub entry_table_is : (e : Encoding) (s : Section) → IsByBytes (entry_table_at e s).given
 unfolding entry_table_at
 entry_table_is e s = step (entry_front_is s) (λ front. times_are (entry_is e front.0.formats) front.0.count front.1)
 
@@ -175,19 +176,23 @@ unfolding file_at
 file_is s =
     step (null_terminated_is s) (λ path. either (length path.0.bytes == 0) value (step (file_with_path_is path.0 path.1) (λ file. value)))
 
-pub old_tables_are : (s : Section) → IsByBytes (old_tables_at s)
+pub old_tables_are : (s : Section) → IsByBytes (old_tables_at s).given
 unfolding old_tables_at
 old_tables_are s =
     step (collected_is (run_of directory_at s) (run_of_is directory_at directory_is s)) (λ directories.
     step (collected_is (run_of file_at directories.1) (run_of_is file_at file_is directories.1)) (λ files. value))
 
-pub new_tables_are : (e : Encoding) (s : Section) → IsByBytes (new_tables_at e s)
+pub new_tables_are : (e : Encoding) (s : Section) → IsByBytes (new_tables_at e s).given
 unfolding new_tables_at
 new_tables_are e s = step (entry_table_is e s) (λ directories. step (entry_table_is e directories.1) (λ files. value))
 
-pub tables_are : (e : Encoding) (s : Section) → IsByBytes (tables_at e s)
+pub tables_are : (e : Encoding) (s : Section) → IsByBytes (tables_at e s).given
 unfolding tables_at
-tables_are e s = either (is_before_5 e.version) (old_tables_are s) (new_tables_are e s)
+tables_are e s = at (is_before_5 e.version)
+  where
+    at : (b : Bool) → IsByBytes (cond b (old_tables_at s) (new_tables_at e s)).given
+    at true = old_tables_are s
+    at false = new_tables_are e s
 
 -- ---- the header
 program_address_size_is : (version unit_size : ℕ) (s : Section) → IsByBytes (program_address_size_at version unit_size s)
@@ -225,7 +230,7 @@ unfolding line_header_fields_at
 line_header_fields_are unit_size s =
     step (initial_length_is s) (λ length. step (split_is length.0.0 length.1) (λ unit. unit_fields_are unit_size length.0.1 unit.0))
 
-pub line_program_is : (unit_size : ℕ) (s : Section) → IsByBytes (line_program_at unit_size s)
+pub line_program_is : (unit_size : ℕ) (s : Section) → IsByBytes (line_program_at unit_size s).given
 unfolding line_program_at
 line_program_is unit_size s =
     step (line_header_fields_are unit_size s) (λ fields. step (tables_are fields.encoding fields.tables) (λ tables. value))

@@ -14,4 +14,3 @@ pub mod ShortNumbers
 pub mod FirstOpcode
 pub mod Passing
 pub mod InPlace
-pub mod TestFacts

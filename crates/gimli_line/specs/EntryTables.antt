@@ -1,4 +1,4 @@
--- The tables of version 5 (DWARF 5, section 6.2.4.1): entries whose values a format lists.
+-- The entries of the tables of version 5 (DWARF 5, section 6.2.4.1), whose values a format lists.
 -- Own: where a table has entries, its format has exactly one path, of a form of strings; else it is
 -- BadLineHeader, right after the count of the entries.
 -- Own: a directory index of no constant form is 0; of several the last counts.
@@ -9,8 +9,7 @@ use Rattle.gimli_read.specs.declared.error.Error.TheVariants.{BadLineHeader}
 use Rattle.gimli_read.specs.declared.endian.Encoding.{Encoding}
 use Rattle.gimli_read.specs.declared.value.AttributeValue.{AttributeValue}
 use Rattle.gimli_read.specs.Section.{Section}
-use Rattle.gimli_read.specs.Reading.{Reading, ◌>>=◌, refused_if}
-use Rattle.gimli_read.specs.Number.{fixed_at}
+use Rattle.gimli_read.specs.Reading.{Reading, ◌>>=◌}
 use Rattle.gimli_read.specs.Leb128.{uleb128_at}
 use Rattle.gimli_read.specs.Form.{value_at, constant_of}
 use Rattle.gimli_read.specs.StringForm.{is_string_form}
@@ -32,12 +31,6 @@ format_at s = do
   type ← uleb128_at s
   form ← uleb128_at type.1
   Ok (record { content_type = type.0; form = record { 0 = form.0 } }, form.1)
-
--- a count of one byte, and as many formats
-unfoldable pub formats_at : Section → Reading (List EntryFormat)
-formats_at s = do
-  count ← fixed_at 1 s
-  times format_at count.0 count.1
 
 -- whether a value is the path
 abbrev pub is_path : EntryFormat → Bool
@@ -90,17 +83,3 @@ formatted_entry_at e formats s = do
 pub record EntryFront : Type 0 where
   pub formats : List EntryFormat
   pub count : ℕ
-
--- the same, read
-unfoldable pub entry_front_at : Section → Reading EntryFront
-entry_front_at s = do
-  formats ← formats_at s
-  count ← uleb128_at formats.1
-  sound ← refused_if (not (count.0 == 0) && not (is_sound_format formats.0)) BadLineHeader
-  Ok (record { formats = formats.0; count = count.0 }, count.1)
-
--- formats, a count, and as many entries
-unfoldable pub entry_table_at : Encoding → Section → Reading (List File)
-entry_table_at e s = do
-  front ← entry_front_at s
-  times (formatted_entry_at e front.0.formats) front.0.count front.1

@@ -5,7 +5,7 @@ pub mod Opcode
 pub mod EntryTables
 pub mod Tables
 pub mod Program
-pub mod TableMemory
+pub mod Stored
 pub mod Rows
 pub mod Ahead
 pub mod Lines

@@ -1,10 +1,11 @@
 //! The tables of version 5: entries whose values a format lists.
 
-ghost use Rattle.std.specs.Prelude.{◌≡◌, ◌==◌, ◌&&◌, ◌||◌, not, count_by, length, map, Ok};
+ghost use Rattle.std.specs.Prelude.{◌≡◌, ◌==◌, not, false, true, count_by, length, map, Ok};
 ghost use Rattle.gimli_read.specs.Reading.{ExactlyUnlessOomIf, ReadsUnlessOomIf, Reads};
+ghost use Rattle.gimli_read.specs.Costed.{ExactlyAtCost};
 ghost use Rattle.gimli_read.specs.Form.{seen_value};
-ghost use Rattle.gimli_line.specs.EntryTables.{times, format_at, formats_at, is_path, is_bad_path, is_sound_format, no_entry, with_value, values_at, formatted_entry_at, entry_front_at, entry_table_at};
-ghost use Rattle.gimli_line.specs.TableMemory.{gives_first, gives_first_entry, formats_take_memory};
+ghost use Rattle.gimli_line.specs.EntryTables.{format_at, is_path, is_bad_path, is_sound_format, no_entry, with_value, values_at, formatted_entry_at};
+ghost use Rattle.gimli_line.specs.Stored.{stored_times, formats_at, entry_front_at, entry_table_at};
 
 use crate::constants::{DW_LNCT_directory_index, DW_LNCT_path};
 use crate::header::FileEntry;
@@ -59,9 +60,8 @@ fn read_times_format<R: Reader>(
     count: u8,
     input: &mut R,
 ) -> Result<Vec<EntryFormat>, Error>
-    ensures gives { ExactlyUnlessOomIf (gives_first format_at count (R.section input.old))
-        (λ v. (v.items, R.section input.new)) result
-        (times format_at count (R.section input.old)) }
+    ensures gives { ExactlyAtCost R.shares (λ v. (v.items, R.section input.new)) result
+        (stored_times false format_at count (R.section input.old)) }
 {
     let mut formats = Vec::new(alloc);
     for _ in 0..count {
@@ -71,10 +71,10 @@ fn read_times_format<R: Reader>(
 }
 
 // Reads a count, and as many formats.
-#[tactic(auto, unfolding(crate::specs::EntryTables::formats_at))]
+#[tactic(auto, unfolding(crate::specs::Stored::formats_at))]
 fn read_formats<R: Reader>(alloc: Global, input: &mut R) -> Result<Vec<EntryFormat>, Error>
-    ensures gives { ExactlyUnlessOomIf (formats_take_memory (R.section input.old))
-        (λ v. (v.items, R.section input.new)) result (formats_at (R.section input.old)) }
+    ensures gives { ExactlyAtCost R.shares (λ v. (v.items, R.section input.new)) result
+        (formats_at (R.section input.old)) }
 {
     let count = input.read_u8()?;
     read_times_format(alloc, count, input)
@@ -174,10 +174,9 @@ fn read_entries<R: Reader>(
     count: u64,
     input: &mut R,
 ) -> Result<Vec<FileEntry<R>>, Error>
-    ensures gives { ExactlyUnlessOomIf
-        (R.shares || gives_first_entry encoding formats.now count (R.section input.old))
-        (λ v. (v.items, R.section input.new)) result
-        (times (formatted_entry_at encoding formats.now) count (R.section input.old)) }
+    ensures gives { ExactlyAtCost R.shares (λ v. (v.items, R.section input.new)) result
+        (stored_times true (formatted_entry_at encoding formats.now) count
+        (R.section input.old)) }
 {
     let mut files = Vec::new(alloc);
     for _ in 0..count {
@@ -187,9 +186,9 @@ fn read_entries<R: Reader>(
 }
 
 // What stands before the entries of a table: what the values of each are, and how many there are.
-#[tactic(auto, unfolding(crate::specs::EntryTables::entry_front_at))]
+#[tactic(auto, unfolding(crate::specs::Stored::entry_front_at))]
 fn read_front<R: Reader>(alloc: Global, input: &mut R) -> Result<(Vec<EntryFormat>, u64), Error>
-    ensures gives { ExactlyUnlessOomIf (formats_take_memory (R.section input.old))
+    ensures gives { ExactlyAtCost R.shares
         (λ x. (record { formats = x.0.items; count = x.1 }, R.section input.new)) result
         (entry_front_at (R.section input.old)) }
 {
@@ -203,14 +202,13 @@ fn read_front<R: Reader>(alloc: Global, input: &mut R) -> Result<(Vec<EntryForma
 
 /// Reads a table of version 5: directories or files. Takes memory only where bytes are shared, or
 /// the table has a format that can be read.
-#[tactic(auto, unfolding(crate::specs::EntryTables::entry_table_at))]
+#[tactic(auto, unfolding(crate::specs::Stored::entry_table_at))]
 pub(crate) fn read_table<R: Reader>(
     alloc: Global,
     encoding: Encoding,
     input: &mut R,
 ) -> Result<Vec<FileEntry<R>>, Error>
-    ensures gives { ExactlyUnlessOomIf (R.shares || formats_take_memory (R.section input.old))
-        (λ v. (v.items, R.section input.new)) result
+    ensures gives { ExactlyAtCost R.shares (λ v. (v.items, R.section input.new)) result
         (entry_table_at encoding (R.section input.old)) }
 {
     let (formats, count) = read_front(alloc, input)?;

@@ -1,12 +1,12 @@
 //! The tables of a header: directories and files.
 
-ghost use Rattle.std.specs.Prelude.{◌≡◌, ◌||◌, is_ok, map};
+ghost use Rattle.std.specs.Prelude.{◌≡◌, is_ok, map};
 ghost use Rattle.std.specs.Option.{option_map};
-ghost use Rattle.gimli_read.specs.Reading.{ExactlyUnlessOomFor, ExactlyUnlessOomIf, ReadsUnlessOomIf};
+ghost use Rattle.gimli_read.specs.Reading.{ExactlyUnlessOomFor, ReadsUnlessOomIf};
 ghost use Rattle.gimli_read.specs.Form.{seen_value};
-ghost use Rattle.gimli_read.specs.Run.{run_of, collected};
-ghost use Rattle.gimli_line.specs.Tables.{directory_at, file_at, old_tables_at, new_tables_at, tables_at};
-ghost use Rattle.gimli_line.specs.TableMemory.{gives_one, old_tables_take_memory, new_tables_take_memory, tables_take_memory};
+ghost use Rattle.gimli_read.specs.Costed.{ExactlyAtCost, ReadsAtCost};
+ghost use Rattle.gimli_line.specs.Stored.{stored_run, old_tables_at, new_tables_at, tables_at};
+ghost use Rattle.gimli_line.specs.Tables.{directory_at, file_at};
 
 use crate::entry_tables::{paths_of, read_table};
 use crate::header::FileEntry;
@@ -68,10 +68,9 @@ fn read_directories<R: Reader>(
     alloc: Global,
     input: &mut R,
 ) -> Result<Vec<AttributeValue<R>>, Error>
-    ensures gives { ExactlyUnlessOomIf
-        (R.shares || gives_one (directory_at (R.section input.old)))
+    ensures gives { ExactlyAtCost R.shares
         (λ v. (map (seen_value R.section) v.items, R.section input.new)) result
-        (collected (run_of directory_at (R.section input.old))) }
+        (stored_run directory_at (R.section input.old)) }
 {
     let mut directories = Vec::new(alloc);
     while let Some(directory) = read_directory(input)? {
@@ -82,9 +81,8 @@ fn read_directories<R: Reader>(
 
 // The files of versions 2 to 4.
 fn read_files<R: Reader>(alloc: Global, input: &mut R) -> Result<Vec<FileEntry<R>>, Error>
-    ensures gives { ExactlyUnlessOomIf (R.shares || gives_one (file_at (R.section input.old)))
-        (λ v. (v.items, R.section input.new)) result
-        (collected (run_of file_at (R.section input.old))) }
+    ensures gives { ExactlyAtCost R.shares (λ v. (v.items, R.section input.new)) result
+        (stored_run file_at (R.section input.old)) }
 {
     let mut files = Vec::new(alloc);
     while let Some(file) = read_file(input)? {
@@ -94,10 +92,9 @@ fn read_files<R: Reader>(alloc: Global, input: &mut R) -> Result<Vec<FileEntry<R
 }
 
 // The tables of versions 2 to 4.
-#[tactic(auto, unfolding(crate::specs::Tables::old_tables_at))]
+#[tactic(auto, unfolding(crate::specs::Stored::old_tables_at))]
 fn read_old_tables<R: Reader>(alloc: Global, input: &mut R) -> Result<HeaderTables<R>, Error>
-    ensures gives { ReadsUnlessOomIf (R.shares || old_tables_take_memory (R.section input.old))
-        R.section input.old input.new result old_tables_at }
+    ensures gives { ReadsAtCost R.shares R.section input.old input.new result old_tables_at }
 {
     let include_directories = read_directories(alloc, input)?;
     let file_names = read_files(alloc, input)?;
@@ -108,15 +105,14 @@ fn read_old_tables<R: Reader>(alloc: Global, input: &mut R) -> Result<HeaderTabl
 }
 
 // The tables of version 5.
-#[tactic(auto, unfolding(crate::specs::Tables::new_tables_at))]
+#[tactic(auto, unfolding(crate::specs::Stored::new_tables_at))]
 fn read_new_tables<R: Reader>(
     alloc: Global,
     encoding: Encoding,
     input: &mut R,
 ) -> Result<HeaderTables<R>, Error>
-    ensures gives { ReadsUnlessOomIf
-        (R.shares || new_tables_take_memory encoding (R.section input.old))
-        R.section input.old input.new result (new_tables_at encoding) }
+    ensures gives { ReadsAtCost R.shares R.section input.old input.new result
+        (new_tables_at encoding) }
 {
     let directories = read_table(alloc, encoding, input)?;
     let file_names = read_table(alloc, encoding, input)?;
@@ -128,14 +124,14 @@ fn read_new_tables<R: Reader>(
 
 /// Reads the tables of a header. Takes memory only where bytes are shared, or a table has something
 /// to be stored.
-#[tactic(auto, unfolding(crate::specs::Tables::tables_at))]
+#[tactic(auto, unfolding(crate::specs::Stored::tables_at))]
 pub(crate) fn read_tables<R: Reader>(
     alloc: Global,
     encoding: Encoding,
     input: &mut R,
 ) -> Result<HeaderTables<R>, Error>
-    ensures gives { ReadsUnlessOomIf (R.shares || tables_take_memory encoding (R.section input.old))
-        R.section input.old input.new result (tables_at encoding) }
+    ensures gives { ReadsAtCost R.shares R.section input.old input.new result
+        (tables_at encoding) }
 {
     if encoding.version < DWARF_5 {
         return read_old_tables(alloc, input);

@@ -1,6 +1,7 @@
 pub mod Section
 pub mod Version
 pub mod Reading
+pub mod Costed
 pub mod Topmost
 pub mod Number
 pub mod Leb128

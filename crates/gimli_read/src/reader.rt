@@ -69,8 +69,7 @@ pub trait Reader: Clone {
     /// none is taken. A reader that has no room for that notes nothing. Takes no memory.
     fn note_text(&mut self)
         ensures kept { section self.new ≡ section self.old }
-    {
-    }
+    {}
 
     /// The bytes as text, where it was noted that they are UTF-8. Takes no memory.
     fn known_text(&self) -> Option<&str>

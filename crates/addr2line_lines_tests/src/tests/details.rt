@@ -237,7 +237,10 @@ fn functions_that_refer_to_a_faulty_entry_have_its_fault(rt: HostRuntime) {
         ([0x30, 0x20, 0x10, 0x30], [g, fault, fault, g]),
     ];
     for (probes, want) in cases {
-        assert_eq!(rt; answers_of(rt.alloc(), REFERRING, FAULTY_ORIGIN, probes), want);
+        assert_eq!(rt;
+            answers_of(rt.alloc(), REFERRING, FAULTY_ORIGIN, probes),
+            want
+        );
     }
 }
 

@@ -28,7 +28,7 @@ pub returns-clause-memory : goal.returns-clause-memory
 returns-clause-memory g c =
     let s = c.self.inside in
     let e = rw c.find.ensures.gives at c.preload.ensures in
-    rw (sym c.self.view_is) (λ shut. e.none_open (none_open_are s.ranges s.units c.self.invariant c.args.probe shut))
+    rw (sym c.self.view_is) (λ shut. e.memory (none_open_are s.ranges s.units c.self.invariant c.args.probe shut))
 
 pub returns-clause-last : goal.returns-clause-last
 returns-clause-last g c =
@@ -38,7 +38,7 @@ returns-clause-last g c =
     λ q.
     let none = sym c.find.ensures.gives ∙ c.find.ensures.last q in
     none_listed (λ loads. loads.items) (load_of_number d.sections d.units s.units.answers) (cover c.args.probe s.ranges) c.preload.result none
-    (e.none_open (subst (NoneOpen d.sections d.units s.units.answers) (sym none) tt)) e.gives
+    (e.memory (subst (NoneOpen d.sections d.units s.units.answers) (sym none) tt)) e.gives
 
 pub returns-clause-none : goal.returns-clause-none
 returns-clause-none g c =
@@ -48,4 +48,4 @@ returns-clause-none g c =
     rw (sym c.self.view_is) (λ q.
     let none = covers_none s.ranges s.units c.self.invariant c.args.probe q in
     none_listed (λ loads. loads.items) (load_of_number d.sections d.units s.units.answers) (cover c.args.probe s.ranges) c.preload.result none
-    (e.none_open (subst (NoneOpen d.sections d.units s.units.answers) (sym none) tt)) e.gives)
+    (e.memory (subst (NoneOpen d.sections d.units s.units.answers) (sym none) tt)) e.gives)

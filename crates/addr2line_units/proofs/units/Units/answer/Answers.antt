@@ -37,6 +37,6 @@ returns g c =
     let given = option_map (λ x. x.value) c.args.sections in
     let e = rw (c.scope-scope.ensures.gives, sections_seen c.scope-scope.ensures.gives) at c.answer.ensures in
     rw (sym c.self.view_is) (record {
-      after = answered_there i c.args.number there at c.answer.new.self given _ (some_given _ c.args.sections) s.looks (seen_stop s.caches.items s.stop) e.right e.functions (λ h. (e.same h).0) c.answer.result e.answer e.refused e.not_open;
+      after = answered_there i c.args.number there at c.answer.new.self given _ (some_given _ c.args.sections) s.looks (seen_stop s.caches.items s.stop) e.right e.functions (λ h. (e.kept h).0) c.answer.result e.answer e.refused e.none;
       no_memory = λ none. refused_told i c.args.number there at given c.answer.result (e.exact none);
     })

@@ -72,7 +72,7 @@ returns-in_err-found-clause-after g c =
     let found = c.find_frames_in-found in
     let w = record v { lines = found.new.unit; entries = found.new.entries } in
     let e = rw (c.scope-scope.ensures.gives, sections_seen c.scope-scope.ensures.gives) at found.ensures in
-    rw (p.1, p.2, sym c.self.view_is) (after_asked c.self.invariant c.args.probe c.args.number s.looks (seen_stop s.caches.items s.stop) there c.index_mut-cache.ensures.value w c.args.faults found.result e.gives e.stays e.stay e.only e.lines e.ready e.parsed e.memory found.new.looks e.raised FindsNothing _ e.right
+    rw (p.1, p.2, sym c.self.view_is) (after_asked c.self.invariant c.args.probe c.args.number s.looks (seen_stop s.caches.items s.stop) there c.index_mut-cache.ensures.value w c.args.faults found.result e.gives e.unit e.after e.within e.kept e.ready e.known e.memory found.new.looks e.looks FindsNothing _ e.right
     (λ told. oom_before c.args.faults found.result (subst WasNotRefused c.in_err-found.ensures.gives told)) (λ told. subst WasNotRefused (sym c.in_err-found.ensures.gives) (oom_after c.args.faults found.result told)) refl)
 
 pub returns-in_err-found-clause-no_memory : goal.returns-in_err-found-clause-no_memory
@@ -85,7 +85,7 @@ returns-in_err-found-clause-no_memory g c =
     let w = record v { lines = found.new.unit; entries = found.new.entries } in
     let e = rw (c.scope-scope.ensures.gives, sections_seen c.scope-scope.ensures.gives) at found.ensures in
     rw (p.1, p.2) (λ none. subst (λ y. IsFaultAt c.args.probe y c.args.number c.in_err-found.field-0.0) c.self.view_is
-    (refused_alone c.self.invariant c.args.probe c.args.number s.looks (seen_stop s.caches.items s.stop) there c.index_mut-cache.ensures.value w c.args.faults found.result e.gives e.stays e.stay e.only e.lines e.ready e.parsed e.memory found.new.looks e.raised FindsNothing
+    (refused_alone c.self.invariant c.args.probe c.args.number s.looks (seen_stop s.caches.items s.stop) there c.index_mut-cache.ensures.value w c.args.faults found.result e.gives e.unit e.after e.within e.kept e.ready e.known e.memory found.new.looks e.looks FindsNothing
     g.R.Reader.shares e.no_memory c.in_err-found.field-0.0 (sym c.in_err-found.ensures.gives) none))
 
 pub invariant_of-self-2 : goal.invariant_of-self-2
@@ -98,7 +98,7 @@ invariant_of-self-2 g c =
     let w = record v { lines = found.new.unit; entries = found.new.entries } in
     let e = rw (c.scope-scope.ensures.gives, sections_seen c.scope-scope.ensures.gives) at found.ensures in
     rw c.stop_at.ensures.gives (units_with i c.args.number there _ e.read e.right
-    (stop_lendable i c.args.probe c.args.number s.looks (seen_stop s.caches.items s.stop) there c.index_mut-cache.ensures.value w c.args.faults found.result e.gives e.stays e.stay e.only e.lines e.ready e.parsed e.memory e.right e.there _ (sym c.in_ok-found.ensures.gives)))
+    (stop_lendable i c.args.probe c.args.number s.looks (seen_stop s.caches.items s.stop) there c.index_mut-cache.ensures.value w c.args.faults found.result e.gives e.unit e.after e.within e.kept e.ready e.known e.memory e.right e.there _ (sym c.in_ok-found.ensures.gives)))
 
 pub returns-clause-gives : goal.returns-clause-gives
 returns-clause-gives g c =
@@ -119,5 +119,5 @@ returns-clause-after g c =
     let found = c.find_frames_in-found in
     let w = record v { lines = found.new.unit; entries = found.new.entries } in
     let e = rw (c.scope-scope.ensures.gives, sections_seen c.scope-scope.ensures.gives) at found.ensures in
-    rw (sym c.self.view_is) (after_asked c.self.invariant c.args.probe c.args.number s.looks (seen_stop s.caches.items s.stop) there c.index_mut-cache.ensures.value w c.args.faults found.result e.gives e.stays e.stay e.only e.lines e.ready e.parsed e.memory found.new.looks e.raised _ _ e.right
+    rw (sym c.self.view_is) (after_asked c.self.invariant c.args.probe c.args.number s.looks (seen_stop s.caches.items s.stop) there c.index_mut-cache.ensures.value w c.args.faults found.result e.gives e.unit e.after e.within e.kept e.ready e.known e.memory found.new.looks e.looks _ _ e.right
     (λ told. oom_before c.args.faults found.result (subst WasNotRefused c.in_ok-found.ensures.gives told)) (λ told. subst WasNotRefused (sym c.in_ok-found.ensures.gives) (oom_after c.args.faults found.result told)) tt)

@@ -20,7 +20,8 @@ use Rattle.addr2line_lines.specs.InlinedChain.{inlined_chain}
 use Rattle.addr2line_lines.specs.InlinedEntries.{InlinedEntry}
 use Rattle.addr2line_lines.specs.InlinedOrder.{inlined_sooner, inlined_place}
 
--- names, inlined entries and ranges, and the names of entries that are referred to, or their faults
+-- names of functions, inlined entries and ranges, and of entries that are referred to what is known:
+-- their names or faults
 pub record CachedDetails : Type 0 where
   pub names : List (Option Section)
   pub found : FoundInlined
@@ -85,8 +86,8 @@ pub record IsNextPlace (cached more : CachedDetails) (p : FunctionDetail) : Type
   pub ranges_begin : p.ranges_begin ≡ length cached.found.ranges
   pub ranges_end : p.ranges_end ≡ length more.found.ranges
 
--- after a refusal the names, inlined entries and ranges are as before, and after OutOfMemory the
--- names of entries that are referred to as well
+-- after a refusal the functions' names, the inlined entries and their ranges are as before; after
+-- OutOfMemory also what is known of entries that are referred to
 pub record IsRefusedThen (cached more : CachedDetails) (error : Error) : Type 0 where
   pub names : more.names ≡ cached.names
   pub found : more.found ≡ cached.found

@@ -1,7 +1,7 @@
 -- The names that entries of a unit give where they are referred to in that unit, as they are cached
 -- (DWARF 5, sections 2.13.2 and 3.3.8).
 -- Own: a name may be cached when it is found, also that there is none, and its fault too;
--- OutOfMemory never is.
+-- OutOfMemory never is, since no reading gives it.
 use Rattle.std.specs.Prelude.{◌≡◌, ◌⊎◌, List, [], ◌∷◌, ◌++◌, map, Option, option_map, Result}
 use Rattle.std.specs.List.{AllByRecursion}
 use Rattle.std.specs.declared.rc.Rc.{Rc}
@@ -54,7 +54,7 @@ pub record AreNamesMore (scope : Scope) (u : UnitRecord) (old new : List CachedN
   pub right : AreNamesOf scope u new
   pub grown : IsGrown old new
 
--- one more name stands at the end, or nothing changed
+-- one more name, or fault, stands at the end, or nothing changed
 abbrev pub IsOneMoreAtMost : CachedName → List CachedName → List CachedName → Type 0
 IsOneMoreAtMost n old new = (new ≡ old) ⊎ (new ≡ old ++ n ∷ [])
 

@@ -129,7 +129,7 @@ lists_a_range scope u x = elim x.item.entry [
 abbrev pub item_has_children : PlacedItem → Bool
 item_has_children x = elim x.item.entry [ None ↦ false | Some e ↦ e.abbreviation.has_children ]
 
--- whether memory is taken for items: an inlined entry gives a range before any fault, or an entry
+-- whether memory may be taken for items: an inlined entry gives a range before any fault, or an entry
 -- has children, with no fault up to its end
 abbrev pub items_take_memory : Scope → UnitRecord → List PlacedItem → Bool
 items_take_memory scope u [] = false
@@ -137,8 +137,8 @@ items_take_memory scope u (x ∷ items) = lists_a_range scope u x
     || is_ok (with_inlined scope u [] x)
     && (item_has_children x || items_take_memory scope u items)
 
--- whether memory is taken for the details of a function: for its name where it has details, and for
--- the items inside it
+-- whether memory may be taken for the details of a function: for its name where it has details, and
+-- for the items inside it
 abbrev pub detail_takes_memory : Scope → UnitRecord → ℕ → Bool
 detail_takes_memory scope u offset = is_ok (detail_at scope u offset)
     || elim (placed_inside scope u offset)

@@ -69,8 +69,8 @@ impl<R: Reader> Details<R> {
         }
     }
 
-    // Adds the details of a function. A refused one may leave some of its inlined entries, and
-    // names that were found, or a fault of one.
+    // Adds the details of a function. A refused one may leave some of its inlined entries and
+    // ranges, and names of entries that are referred to, or a fault.
     fn add(
         &mut self,
         scope: Scope<'_, R>,

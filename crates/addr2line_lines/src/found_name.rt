@@ -30,7 +30,7 @@ fn duplicate_name<R: Reader>(name: &Option<R>) -> Result<Option<R>, Error>
     }
 }
 
-/// The name, of which it is noted whether it is UTF-8. Takes no memory.
+/// The same name; its reader may note that it is UTF-8. Takes no memory.
 pub(crate) fn note_text<R: Reader>(name: Option<R>) -> Option<R>
     ensures gives { option_map R.section result ≡ option_map R.section name }
 {

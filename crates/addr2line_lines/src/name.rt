@@ -258,8 +258,8 @@ fn referred_name_anew<R: Reader>(
     Ok(FoundName::Own(name))
 }
 
-// The name by the entry at an offset of the unit: the cached one, or it is cached then unless memory
-// is refused for it. So is a fault, but never `OutOfMemory`.
+// The name by the entry at an offset of the unit: the cached one, else it is read, and may be
+// cached then. So may a fault, but never `OutOfMemory`.
 fn name_in_unit<R: Reader>(
     scope: Scope<'_, R>,
     unit: &Unit<R>,
@@ -333,7 +333,7 @@ pub(crate) fn name_by_origin<R: Reader>(
     name_in_unit(scope, unit, offset, names)
 }
 
-// The name after one more attribute of the entry itself.
+/// The name after one more attribute of the entry itself.
 #[tactic(auto, unfolding(crate::specs::Names::with_name))]
 pub(crate) fn take_name<R: Reader>(
     scope: Scope<'_, R>,

@@ -110,14 +110,14 @@ impl<R: Reader> NameCache<R> {
         }
     }
 
-    /// The number of names. Takes no memory.
+    /// The number of names and faults. Takes no memory.
     pub(crate) fn len(&self) -> usize
         ensures gives { result ≡ length (seen_names R.section self.now) }
     {
         self.names.len()
     }
 
-    /// Keeps the first names. Takes no memory.
+    /// Keeps so many of them, the first ones. Takes no memory.
     pub(crate) fn truncate(&mut self, names: usize)
         ensures gives { seen_names R.section self.new
             ≡ take names (seen_names R.section self.old) }
@@ -125,7 +125,8 @@ impl<R: Reader> NameCache<R> {
         self.names.truncate(names);
     }
 
-    /// The name of an entry, or its fault, if it is found in the cache. Takes no memory.
+    /// The name of an entry, or its fault, if it is found in the cache; `None` says nothing of the
+    /// entry. Takes no memory.
     pub(crate) fn find(&self, offset: UnitOffset) -> Option<Result<Rc<Option<R>>, Error>>
         ensures found { IfSome result (λ name. IsKnownAs offset (seen_shared R.section name)
             (seen_names R.section self.now)) }
@@ -184,7 +185,7 @@ impl<R: Reader> NameCache<R> {
         }
     }
 
-    /// Adds the fault of an entry, or nothing where memory is refused.
+    /// Adds the fault of an entry's name, or nothing where memory is refused.
     pub(crate) fn add_fault(&mut self, offset: UnitOffset, error: Error)
         ensures after { IsOneMoreAtMost (name_at_offset offset (Err error))
             (seen_names R.section self.old) (seen_names R.section self.new) }

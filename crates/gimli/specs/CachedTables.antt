@@ -58,8 +58,8 @@ abbrev pub AreTablesOf : {T : Type 0} → (T → List Abbrev) → Section → BT
 AreTablesOf see s tables =
     (offset : ℕ) → IfSome (get nat_cmp tables offset) (λ t. table_from offset s ≡ seen_table see t)
 
--- whether memory may be taken for the unit of a header: for its table, if that is in the section
--- and not cached, or for what its root entry says
+-- whether memory may be taken for the unit of a header: for all of it, where its table isn't cached
+-- and begins in the section; with a cached table for what its root entry says
 abbrev pub cached_unit_takes_memory : Bool → CachedTables → UnitHeaderFields → Bool
 cached_unit_takes_memory shares cache header =
     if is_cached header.debug_abbrev_offset cache

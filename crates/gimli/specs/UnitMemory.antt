@@ -26,7 +26,7 @@ abbrev pub if_without_bytes : AttributeValue Section → Option (AttributeValue 
 if_without_bytes value = if holds_bytes value then None else Some value
 
 -- whether memory may be taken for the abbreviations from an offset on: for the table's own entries,
--- or where readers share their bytes
+-- or where readers share their bytes; none past the section's end
 abbrev pub abbreviations_take_memory : Bool → Result Section Error → Bool
 abbreviations_take_memory shares (Ok rest) = shares || takes_memory rest
 abbreviations_take_memory shares (Err e) = false

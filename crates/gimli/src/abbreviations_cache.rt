@@ -139,9 +139,9 @@ impl<'a, R: Reader> AbbreviationsCache<'a, R> {
     /// it isn't cached.
     ///
     /// Refused as `Dwarf::unit` is. May fail with `OutOfMemory` instead, which is never cached:
-    /// where its table is in the section and not cached; with a cached table where readers share
-    /// their bytes, where its record has no fault, or where the header of its line program has none
-    /// or has something to store. With a cached fault it takes no memory.
+    /// where its table isn't cached and begins in the section; with a cached table where readers
+    /// share their bytes, where its record has no fault, or where the header of its line program
+    /// has no fault or its tables have something to store. With a cached fault it takes no memory.
     pub fn unit(&mut self, alloc: Global, header: UnitHeader<R>) -> Result<Unit<R>, Error>
         ensures gives { ExactlyUnlessOomIf
             (cached_unit_takes_memory R.shares self.old header) (λ u. u) result

@@ -218,7 +218,8 @@ fn read_root_attributes<R: Reader>(
 /// The values of the attributes of a unit's root entry.
 ///
 /// Refused `UnexpectedEof` where no entry is, `MissingUnitDie` at a closing entry,
-/// `UnknownAbbreviation`, what an attribute's value is refused for, and `OutOfMemory`.
+/// `UnknownAbbreviation`, what an attribute's value is refused for, and `OutOfMemory` where readers
+/// share their bytes.
 pub(crate) fn read_root<R: Reader>(
     header: &UnitHeader<R>,
     abbreviations: &Abbreviations,

@@ -111,7 +111,7 @@ fn read_low_pc<R: Reader>(
 }
 
 // The line program at an offset. A call of its own, so that a unit without one doesn't clear what
-// it is stored in. The box comes last, so that a fault of the header takes no memory.
+// it is stored in. The box comes last, so that a header with a fault takes no memory for one.
 #[inline(never)]
 fn read_program_at<R: Reader>(
     alloc: Global,
@@ -212,7 +212,8 @@ fn read_name_and_directory<R: Reader>(
 /// The unit of a header, whose root entry has these values.
 ///
 /// Refused by its line program's header, then by the index of its low_pc. `OutOfMemory` only where
-/// reading that header takes memory, or where neither has a fault.
+/// the record has no fault, or the program's offset is in its section and readers share their
+/// bytes, the header's tables have something to store, or the header has no fault.
 #[tactic(auto, unfolding(crate::specs::Unit::completed_record))]
 pub(crate) fn complete<R: Reader>(
     alloc: Global,
@@ -266,7 +267,8 @@ impl<R: Reader> Dwarf<R> {
     /// (`UnexpectedEof`, `MissingUnitDie`, `UnknownAbbreviation`, `UnknownForm` and what a value is
     /// refused for), its line program's header (`OffsetOutOfBounds` and what a header is refused
     /// for), or the index of its low_pc (`OffsetOutOfBounds`), in this order. May fail with
-    /// `OutOfMemory` instead, where its abbreviations take memory or readers share their bytes.
+    /// `OutOfMemory` instead, where its abbreviations begin in their section, and take memory or
+    /// readers share their bytes.
     #[tactic(auto, unfolding(crate::specs::Unit::unit_record_of, crate::specs::Unit::unit_by))]
     pub fn unit(&self, alloc: Global, header: UnitHeader<R>) -> Result<Unit<R>, Error>
         ensures gives { ExactlyUnlessOomIf (unit_takes_memory R.shares self.now header) (λ u. u)

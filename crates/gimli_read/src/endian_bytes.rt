@@ -17,7 +17,7 @@ use std::str;
 pub struct EndianBytes {
     bytes: Bytes,
     endian: RunTimeEndian,
-    // Whether the bytes are known to be UTF-8.
+    // Set only where all of the bytes are UTF-8.
     is_text: bool,
 }
 

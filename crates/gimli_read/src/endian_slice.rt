@@ -14,7 +14,7 @@ use std::str;
 pub struct EndianSlice<'a> {
     bytes: &'a [u8],
     endian: RunTimeEndian,
-    // Whether the bytes are known to be UTF-8.
+    // Set only where all of the bytes are UTF-8.
     is_text: bool,
 }
 

@@ -65,13 +65,14 @@ pub trait Reader: Clone {
     fn duplicate(&self) -> Result<Self, Error>
         ensures gives { ExactlyUnlessOomFor shares is_ok section result (Ok (section self.now)) };
 
-    /// Notes whether the bytes are UTF-8, so that `to_string_lossy` tests them no more, as long as
-    /// none is taken. A reader that has no room for that notes nothing. Takes no memory.
+    /// May note that the bytes are UTF-8, if they are. As long as none is taken, `to_string_lossy`
+    /// needs no test then. Takes no memory.
     fn note_text(&mut self)
         ensures kept { section self.new ≡ section self.old }
     {}
 
-    /// The bytes as text, where it was noted that they are UTF-8. Takes no memory.
+    /// All of the bytes as text, if it is noted that they are UTF-8; `None` says nothing of them.
+    /// Takes no memory.
     fn known_text(&self) -> Option<&str>
         ensures gives { IfSome result (λ text. text.now ≡ (section self.now).bytes) }
         ensures right { IfSome result (λ _. IsUtf8 (section self.now).bytes) }

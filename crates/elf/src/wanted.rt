@@ -22,13 +22,6 @@ use crate::symbol;
 use gimli_read::Range;
 use std::alloc::{AllocError, Global};
 
-// Sections of fewer bytes are read whatever their names are. So a compressed one of them stands in
-// one piece, and the file isn't copied for it; one of no bytes needs a piece at its place too.
-const SMALL: u64 = 4096;
-
-// Two ranges with at most so many bytes between them are read as one.
-const GAP: u64 = 65536;
-
 // Whether a text is a stem, or one with `.dwo` behind it.
 fn is_stem_text(text: &[u8], stem: &[u8]) -> bool
     ensures gives { result ≡ is_stem_text text.now stem.now }
@@ -317,7 +310,7 @@ fn push_section(
 }
 
 // Where the section headers stand, the two string tables, the symbol table, and the sections that
-// are wanted or small, by where they begin.
+// are wanted, by where they begin. One of no bytes is there too, since it needs a piece at its place.
 fn wanted_ranges(
     alloc: Global,
     sections: &[SectionHeader],
@@ -331,7 +324,7 @@ fn wanted_ranges(
     let symbol_names = symbol::names_number(sections);
     for (number, section) in sections.iter().enumerate() {
         let is_table = number as u64 == name_table || number as u64 == symbol_names;
-        if is_table || section.size < SMALL || is_wanted_section(section, names) {
+        if is_table || is_wanted_section(section, names) {
             push_section(&mut ranges, section, len)?;
         }
     }
@@ -342,7 +335,7 @@ fn wanted_ranges(
     Ok(ranges)
 }
 
-// Ranges in order, and the header before them, those as one that have few bytes between them.
+// Ranges in order, and the header before them, those as one that have no byte between them.
 fn joined(alloc: Global, ranges: &[Range]) -> Result<Vec<Range>, AllocError> {
     let mut all = Vec::new(alloc);
     let mut last = Range {
@@ -350,7 +343,7 @@ fn joined(alloc: Global, ranges: &[Range]) -> Result<Vec<Range>, AllocError> {
         end: EHDR_SIZE_MAX,
     };
     for range in ranges {
-        if range.begin <= last.end.saturating_add(GAP) {
+        if range.begin <= last.end {
             last.end = last.end.max(range.end);
         } else {
             all.push(last)?;

@@ -12,7 +12,7 @@ use std::alloc::{AllocError, Global};
 
 const SHT_SYMTAB: u32 = 2;
 
-// More bytes than stand between two parts that are read as one.
+// Bytes that no lookup asks for, between two parts.
 const APART: usize = 0x12000;
 
 // A file whose sections of debug information, and whose symbols, stand apart.

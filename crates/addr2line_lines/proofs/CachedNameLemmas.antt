@@ -10,7 +10,7 @@ use Rattle.gimli_read.specs.declared.value.AttributeValue.TheVariants as values
 use Rattle.gimli_read.specs.declared.value.UnitOffset.{UnitOffset}
 use Rattle.gimli.specs.Unit.{UnitRecord}
 use Rattle.gimli_read.specs.Section.{Section}
-use Rattle.addr2line_lines.specs.CachedNames.{AreNamesMore, AreNamesOf, CachedName, IsKnownAs, IsNameOf, IsOneMoreAtMost, seen_cached_name, seen_shared}
+use Rattle.addr2line_lines.specs.CachedNames.{AreNamesMore, AreNamesOf, CachedName, IsKnownAs, IsNameOf, IsOneMoreAtMost, boxed_shared, seen_cached_name, seen_shared}
 use Rattle.addr2line_lines.specs.Grown.{IsGrown}
 use Rattle.addr2line_lines.specs.declared.names.CachedName as declared_name
 use Rattle.addr2line_lines.specs.Names.{referred_name}
@@ -41,12 +41,12 @@ pub first_names : (n : ℕ) (old new : List CachedName) → IsGrown old new → 
 first_names n old new h e = ap (λ m. take m new) e ∙ ap (λ v. take (length old) v) h.is ∙ take-append_seam old h.more
 
 -- what is known of a name is known where it is shared
-pub known_shared : {R : Type 0} (see : R → Section) (names : List CachedName) (name : Result (Rc (Option R) Global) Error) (found : Option (Result (Rc (Option R) Global) Error)) (offset : UnitOffset) → IfSome found (λ shared. seen_shared see shared ≡ seen_shared see name) → IsKnownAs offset (seen_shared see name) names → IfSome found (λ shared. IsKnownAs offset (seen_shared see shared) names)
+pub known_shared : {R : Type 0} (see : R → Section) (names : List CachedName) (name : Result (Option Section) Error) (found : Option (Result (Rc (Option R) Global) Error)) (offset : UnitOffset) → IfSome found (λ shared. seen_shared see shared ≡ name) → IsKnownAs offset name names → IfSome found (λ shared. IsKnownAs offset (seen_shared see shared) names)
 known_shared see names name None offset h known = tt
 known_shared see names name (Some shared) offset h known = subst (λ n. IsKnownAs offset n names) (sym h) known
 
 -- what stands at a place is known, where its offset is
-pub known_at : {R : Type 0} (see : R → Section) (xs : List (declared_name.CachedName R)) (n : ℕ) (x : declared_name.CachedName R) (offset : UnitOffset) → slice_get xs n ≡ Some x → x.offset ≡ offset → IsKnownAs offset (seen_shared see x.name) (map (seen_cached_name see) xs)
+pub known_at : {R : Type 0} (see : R → Section) (xs : List (declared_name.CachedName R)) (n : ℕ) (x : declared_name.CachedName R) (offset : UnitOffset) → slice_get xs n ≡ Some x → x.offset ≡ offset → IsKnownAs offset (boxed_shared see x.name) (map (seen_cached_name see) xs)
 known_at see xs n x offset at e = λ scope u all.
-    subst (λ o. referred_name scope u (values.UnitRef o) ≡ seen_shared see x.name) e
+    subst (λ o. referred_name scope u (values.UnitRef o) ≡ boxed_shared see x.name) e
     (all_at (IsNameOf scope u) (map (seen_cached_name see) xs) n (seen_cached_name see x) all (slice_get-map (seen_cached_name see) xs n ∙ ap (option_map (seen_cached_name see)) at))

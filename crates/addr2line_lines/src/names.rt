@@ -1,7 +1,7 @@
 //! The cached names of entries that are referred to.
 
 ghost use Rattle.std.specs.Prelude.{◌≡◌, Err, IfSome, [], length, Ok, option_map, take};
-ghost use Rattle.addr2line_lines.specs.CachedNames.{IsKnownAs, IsOneMoreAtMost, name_at_offset, seen_names, seen_shared};
+ghost use Rattle.addr2line_lines.specs.CachedNames.{IsKnownAs, IsOneMoreAtMost, boxed_shared, name_at_offset, seen_names, seen_shared};
 ghost use Rattle.addr2line_lines.specs.FoundNames.{found_name};
 
 use crate::found_name::{FoundName, note_text};
@@ -23,7 +23,7 @@ const NO_PLACE: u32 = u32::MAX;
 struct CachedName<R: Reader> {
     // Where it begins, in bytes from the start of the unit's length.
     offset: UnitOffset,
-    name: Result<Rc<Option<R>>, Error>,
+    name: Result<Rc<Option<R>>, Box<Error>>,
 }
 
 /// The names that entries of a unit give where they are referred to, or their faults, in the order
@@ -48,13 +48,15 @@ fn share_name<R: Reader>(name: &Rc<Option<R>>) -> Option<Rc<Option<R>>>
 }
 
 // The same, or the fault again.
-fn share<R: Reader>(name: &Result<Rc<Option<R>>, Error>) -> Option<Result<Rc<Option<R>>, Error>>
+fn share<R: Reader>(
+    name: &Result<Rc<Option<R>>, Box<Error>>,
+) -> Option<Result<Rc<Option<R>>, Error>>
     ensures gives { IfSome result (λ shared. seen_shared R.section shared
-        ≡ seen_shared R.section name.now) }
+        ≡ boxed_shared R.section name.now) }
 {
     match name {
         Ok(name) => Some(Ok(share_name(name)?)),
-        Err(error) => Some(Err(*error)),
+        Err(error) => Some(Err(**error)),
     }
 }
 
@@ -144,8 +146,8 @@ impl<R: Reader> NameCache<R> {
     }
 
     // Adds the name of an entry, or its fault, or nothing where memory is refused.
-    fn push(&mut self, offset: UnitOffset, name: Result<Rc<Option<R>>, Error>)
-        ensures after { IsOneMoreAtMost (name_at_offset offset (seen_shared R.section name))
+    fn push(&mut self, offset: UnitOffset, name: Result<Rc<Option<R>>, Box<Error>>)
+        ensures after { IsOneMoreAtMost (name_at_offset offset (boxed_shared R.section name))
             (seen_names R.section self.old) (seen_names R.section self.new) }
     {
         let place = self.names.len();
@@ -190,6 +192,9 @@ impl<R: Reader> NameCache<R> {
         ensures after { IsOneMoreAtMost (name_at_offset offset (Err error))
             (seen_names R.section self.old) (seen_names R.section self.new) }
     {
-        self.push(offset, Err(error));
+        match Box::new(self.alloc, error) {
+            Ok(error) => self.push(offset, Err(error)),
+            Err(_) => {}
+        }
     }
 }

@@ -1,5 +1,6 @@
 use Rattle.std.proofs.Common.{rules, ◌≡◌, Some, slice_get, subst}
 use Rattle.std.proofs.lemmas.Option.{gets}
+use Rattle.addr2line_lines.specs.CachedNames.{boxed_shared}
 use Rattle.addr2line_lines.proofs.CachedNameLemmas.{known_at, known_shared}
 use Rattle.addr2line_lines.proofs.names.NameCache.find.Goals as goal
 
@@ -11,4 +12,4 @@ returns-then-eq g c =
     let there : slice_get c.deref-in-loop-step.result.now n ≡ Some x = search (rules, gets) in
     let same : x.offset ≡ c.args.offset = search rules in
     let known = known_at g.R.Reader.section names n x c.args.offset (subst (λ xs. slice_get xs n ≡ Some x) c.deref-in-loop-step.ensures.value there) same in
-    record { found = known_shared g.R.Reader.section _ x.name c.share.result c.args.offset c.share.ensures.gives known }
+    record { found = known_shared g.R.Reader.section _ (boxed_shared g.R.Reader.section x.name) c.share.result c.args.offset c.share.ensures.gives known }

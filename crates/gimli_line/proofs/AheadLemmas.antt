@@ -1,21 +1,5 @@
 -- The files that are defined before the next row, one instruction on (on specs/Steps.antt and specs/Lines.antt).
-use Rattle.std.proofs.Common.{◌≡◌, ℕ, ◌==◌, false, length, List, [], ◌∷◌, ◌++◌, Option, Some, None, Result, Ok, Err, IfOk, OnErr, refl, sym, ap, ◌∙◌, append_assoc, append-nil}
-use Rattle.gimli_read.specs.declared.error.Error.{Error}
-use Rattle.gimli_read.specs.Section.{Section}
-use Rattle.gimli_read.specs.Reading.{Reading, ◌>>=◌}
-use Rattle.gimli_read.specs.Number.{fixed_at}
-use Rattle.gimli_read.specs.Run.{Run}
-use Rattle.gimli_read.proofs.Steps.{done}
-use Rattle.gimli_line.specs.declared.opcode.Opcode.{Opcode}
-use Rattle.gimli_line.specs.declared.opcode.LineInstruction.{LineInstruction}
-use Rattle.gimli_line.specs.declared.opcode.LineInstruction.TheVariants.{Changes, Defines}
-use Rattle.gimli_line.specs.declared.registers.Registers.{Registers}
-use Rattle.gimli_line.specs.declared.row.LineRow.{LineRow}
-use Rattle.gimli_line.specs.Header.{File, Header}
-use Rattle.gimli_line.specs.Lines.{with_files, HasDefined, IsOver}
-use Rattle.gimli_line.specs.Opcode.{instruction_at, coded_instruction_at, gives_file}
-use Rattle.gimli_line.specs.Steps.{executed, taken, step_instruction}
-use Rattle.gimli_line.specs.Left.{ahead_after, ahead_from, ahead_left, rows_left, files_left}
+use Rattle.gimli_line.proofs.Common.{◌≡◌, ℕ, ◌==◌, false, length, List, [], ◌∷◌, ◌++◌, Option, Some, None, Result, Ok, Err, IfOk, OnErr, refl, sym, ap, ◌∙◌, append_assoc, append-nil, Error, Section, Reading, ◌>>=◌, fixed_at, Run, done, Opcode, LineInstruction, Changes, Defines, Registers, LineRow, File, Header, with_files, HasDefined, IsOver, instruction_at, coded_instruction_at, gives_file, executed, taken, step_instruction, ahead_after, ahead_from, ahead_left, rows_left, files_left}
 use Rattle.gimli_line.proofs.RowsLeft.{State, Ended, run_at, same_run, at_code, at_end, left_end, files_end, step_instruction_is}
 
 ahead_in : Header → Registers → Run (LineInstruction File) Section → List File

@@ -1,23 +1,6 @@
 -- The rows of the registers are the rows of the closed form (on specs/Rows.antt and specs/Steps.antt).
-use Rattle.std.proofs.Common.{◌≡◌, ◌<◌, Bool, true, false, cond, not, ◌&&◌, ◌||◌, nat_lt, List, [], ◌∷◌, Some, None, Result, Ok, Err, refl, sym, ap, ◌∙◌}
-use Rattle.gimli_read.specs.declared.error.Error.{Error}
-use Rattle.gimli_read.specs.declared.error.Error.TheVariants.{AddressOverflow}
-use Rattle.gimli_read.specs.Section.{Section}
-use Rattle.gimli_read.specs.Reading.{◌>>=◌}
-use Rattle.gimli_line.specs.declared.encoding.LineEncoding.{LineEncoding}
-use Rattle.gimli_line.specs.declared.opcode.Opcode.{Opcode}
-use Rattle.gimli_line.specs.declared.opcode.LineInstruction.{LineInstruction}
-use Rattle.gimli_line.specs.declared.opcode.LineInstruction.TheVariants.{Changes, Defines}
-use Rattle.gimli_line.specs.declared.registers.Registers.{Registers}
-use Rattle.gimli_line.specs.declared.row.LineRow.{LineRow}
-use Rattle.gimli_line.specs.Encoding.{limit}
-use Rattle.gimli_line.specs.Rows.{address_state, address_after, row_after, row_from, past_after, rows_after, is_end, makes_row}
+use Rattle.gimli_line.proofs.Common.{◌≡◌, ◌<◌, Bool, true, false, cond, not, ◌&&◌, ◌||◌, nat_lt, List, [], ◌∷◌, Some, None, Result, Ok, Err, refl, sym, ap, ◌∙◌, Error, AddressOverflow, Section, ◌>>=◌, LineEncoding, Opcode, LineInstruction, Changes, Defines, Registers, LineRow, limit, address_state, address_after, row_after, row_from, past_after, rows_after, is_end, makes_row, start_registers, step_registers, fitting, shown_row, row_of, registers_after, executed, with_row_first, continued_rows, rows_from, rows_left, files_left, ahead_after, ahead_from, ahead_left, File, Header, Program, Lines, lines_of, opcodes_in, instructions_of}
 use Rattle.gimli_line.specs.Ahead.{ends_search, files_ahead}
-use Rattle.gimli_line.specs.Steps.{start_registers, step_registers, fitting, shown_row, row_of, registers_after, executed}
-use Rattle.gimli_line.specs.Left.{with_row_first, continued_rows, rows_from, rows_left, files_left, ahead_after, ahead_from, ahead_left}
-use Rattle.gimli_line.specs.Header.{File, Header, Program}
-use Rattle.gimli_line.specs.Lines.{Lines, lines_of}
-use Rattle.gimli_line.specs.Opcode.{opcodes_in, instructions_of}
 use Rattle.gimli_line.proofs.Stepping.{StandsFor, start_stands, step_stands}
 
 row_is : (e : LineEncoding) (r : Registers) (past : List Opcode) (end : Bool) → StandsFor e r past → shown_row r end ≡ row_after e past end

@@ -1,5 +1,5 @@
 -- Quotients of sums.
-use Rattle.std.proofs.Common.{ℕ, ◌≡◌, ◌+◌, ◌*◌, ◌-◌, ◌^◌, ◌/◌, ◌%◌, ◌<◌, ◌≤◌, lit<, arith, ◌∙◌, ap, sym}
+use Rattle.gimli_line.proofs.Common.{ℕ, ◌≡◌, ◌+◌, ◌*◌, ◌-◌, ◌^◌, ◌/◌, ◌%◌, ◌<◌, ◌≤◌, lit<, arith, ◌∙◌, ap, sym}
 use Rattle.std.proofs.Math.Nat.{div-add-mod, add-mul-mod_self_left, add-mul-div_left, mul-le-mul_right, lt_of_mul-lt-mul_left, div-eq_of_lt, mod-lt}
 
 whole : (i n m : ℕ) → i + n ≡ (n % m + i) + m * (n / m)

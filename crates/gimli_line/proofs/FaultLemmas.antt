@@ -1,35 +1,14 @@
 -- No line program gives OutOfMemory, neither in its header nor among its rows (on specs/Program.antt, Lines and those that they stand on).
-use Rattle.std.proofs.Common.{ℕ, zero, suc, ◌-◌, ◌==◌, ◌&&◌, not, Bool, true, false, cond, List, [], ◌∷◌, length, slice_index, Option, Some, None, Result, Ok, Err, nat_lt, nat_le}
-use Rattle.gimli_read.specs.declared.error.Error.{Error}
-use Rattle.gimli_read.specs.declared.error.Error.TheVariants.{AddressOverflow, BadLineHeader, UnknownVersion, UnsupportedAddressSize, UnsupportedSegmentSize}
+use Rattle.gimli_line.proofs.Common.{ℕ, zero, suc, ◌-◌, ◌==◌, ◌&&◌, not, Bool, true, false, cond, List, [], ◌∷◌, length, slice_index, Option, Some, None, Result, Ok, Err, nat_lt, nat_le, Error, AddressOverflow, BadLineHeader, UnknownVersion, UnsupportedAddressSize, UnsupportedSegmentSize, Section, Reading, is_address_size, run_of, DW_LNS_extended_op, DW_LNS_copy, DW_LNS_advance_pc, DW_LNS_advance_line, DW_LNS_set_file, DW_LNS_set_column, DW_LNS_negate_stmt, DW_LNS_set_basic_block, DW_LNS_const_add_pc, DW_LNS_fixed_advance_pc, DW_LNS_set_prologue_end, DW_LNS_set_epilogue_begin, DW_LNS_set_isa, DW_LNE_end_sequence, DW_LNE_set_address, DW_LNE_set_discriminator, LineEncoding, Opcode, AdvancePc, AdvanceLine, SetFile, SetColumn, FixedAdvancePc, SetAddress, Other, Changes, Defines, Registers, LineRow, limit, Header, Program, file_with_path_at, file_entry_at, numbers_skipped, standard_at, operand_at, defines, extended_in, extended_at, coded_instruction_at, instruction_at, instructions_of, opcodes_in, times, format_at, is_sound_format, EntryValues, no_entry, with_value, values_at, filed, formatted_entry_at, directory_at, file_at, address_after, address_state, is_end, makes_row, row_after, row_from, past_after, ended, rows_after, lines_of, fitting, executed, fault_after}
 use Rattle.gimli_read.specs.declared.endian.Encoding.{Encoding}
 use Rattle.gimli_read.specs.declared.endian.Format.{Format}
 use Rattle.gimli_read.specs.declared.value.AttributeValue.{AttributeValue}
-use Rattle.gimli_read.specs.Section.{Section}
 use Rattle.gimli_read.specs.Version.{is_before_4, is_before_5, is_unknown}
-use Rattle.gimli_read.specs.Reading.{Reading}
-use Rattle.gimli_read.specs.Number.{is_address_size}
-use Rattle.gimli_read.specs.Run.{run_of}
 use Rattle.gimli_read.proofs.FaultLemmas.{IsByBytes, AreByBytes, step, either, value, fault, test, moved_fault, mapped_is, run_of_is, collected_is, fixed_is, signed_byte_is, address_size_is, address_is, offset_is, split_is, null_terminated_is, initial_length_is, uleb128_is, sleb128_is, value_is}
-use Rattle.gimli_line.specs.declared.constants.TheConstants.{DW_LNS_extended_op, DW_LNS_copy, DW_LNS_advance_pc, DW_LNS_advance_line, DW_LNS_set_file, DW_LNS_set_column, DW_LNS_negate_stmt, DW_LNS_set_basic_block, DW_LNS_const_add_pc, DW_LNS_fixed_advance_pc, DW_LNS_set_prologue_end, DW_LNS_set_epilogue_begin, DW_LNS_set_isa, DW_LNE_end_sequence, DW_LNE_set_address, DW_LNE_set_discriminator}
-use Rattle.gimli_line.specs.declared.encoding.LineEncoding.{LineEncoding}
 use Rattle.gimli_line.specs.declared.entry_tables.EntryFormat.{EntryFormat}
-use Rattle.gimli_line.specs.declared.opcode.Opcode.{Opcode}
-use Rattle.gimli_line.specs.declared.opcode.Opcode.TheVariants.{AdvancePc, AdvanceLine, SetFile, SetColumn, FixedAdvancePc, SetAddress, Other}
-use Rattle.gimli_line.specs.declared.opcode.LineInstruction.TheVariants.{Changes, Defines}
-use Rattle.gimli_line.specs.declared.registers.Registers.{Registers}
-use Rattle.gimli_line.specs.declared.row.LineRow.{LineRow}
-use Rattle.gimli_line.specs.Encoding.{limit}
-use Rattle.gimli_line.specs.Header.{Header, Program}
-use Rattle.gimli_line.specs.Opcode.{file_with_path_at, file_entry_at, numbers_skipped, standard_at, operand_at, defines, extended_in, extended_at, coded_instruction_at, instruction_at, instructions_of, opcodes_in}
-use Rattle.gimli_line.specs.EntryTables.{times, format_at, is_sound_format, EntryValues, no_entry, with_value, values_at, filed, formatted_entry_at}
-use Rattle.gimli_line.specs.Tables.{directory_at, file_at}
 use Rattle.gimli_line.specs.Stored.{formats_at, entry_front_at, entry_table_at, old_tables_at, new_tables_at, tables_at, line_program_at}
 use Rattle.gimli_line.specs.Program.{program_address_size_at, nonzero_at, operations_at, numbers_at, unit_fields_at, line_header_fields_at}
-use Rattle.gimli_line.specs.Rows.{address_after, address_state, is_end, makes_row, row_after, row_from, past_after, ended, rows_after}
-use Rattle.gimli_line.specs.Lines.{lines_of}
-use Rattle.gimli_line.specs.Steps.{step_registers as step_of, fitting, executed}
-use Rattle.gimli_line.specs.Taking.{fault_after}
+use Rattle.gimli_line.specs.Steps.{step_registers as step_of}
 
 -- ---- instructions
 pub file_with_path_is : (path s : Section) → IsByBytes (file_with_path_at path s)

@@ -1,30 +1,11 @@
 -- The opcode at the front of bytes (on specs/Taking.antt).
-use Rattle.std.proofs.Common.{◌≡◌, ℕ, ◌-◌, ◌<◌, ◌≤◌, ◌==◌, nat_le, nat_lt, Bool, true, false, cond, length, List, ◌∷◌, Option, Some, Result, Ok, Err, drop, ℤ, refl, sym, ap, ◌∙◌, arith, max}
-use Rattle.std.proofs.lemmas.Bool.{le-ltb, le-leb, lt-leb}
-use Rattle.std.proofs.lemmas.Bool.Decides.{nat_tests}
+use Rattle.gimli_line.proofs.Common.{◌≡◌, ℕ, ◌-◌, ◌<◌, ◌≤◌, ◌==◌, nat_le, nat_lt, Bool, true, false, cond, length, List, ◌∷◌, Option, Some, Result, Ok, Err, drop, ℤ, refl, sym, ap, ◌∙◌, arith, max, le-ltb, le-leb, lt-leb, nat_tests, Error, UnexpectedEof, Section, Reading, ◌>>=◌, mapped, fixed_at, number_of, done, DW_LNS_extended_op, LineEncoding, Opcode, Special, Copy, AdvancePc, AdvanceLine, SetFile, SetColumn, ConstAddPc, Other, LineInstruction, Changes, Registers, File, Header, instruction_at, coded_instruction_at, standard_at, extended_at, executed, TakesFirst, TakesOpcode}
 use Rattle.std.proofs.lemmas.Grind.{common_steps}
-use Rattle.gimli_read.specs.declared.error.Error.{Error}
-use Rattle.gimli_read.specs.declared.error.Error.TheVariants.{UnexpectedEof}
 use Rattle.gimli_read.specs.declared.endian.RunTimeEndian.{RunTimeEndian}
 use Rattle.gimli_read.specs.declared.endian.RunTimeEndian.TheVariants.{Little, Big}
-use Rattle.gimli_read.specs.Section.{Section}
-use Rattle.gimli_read.specs.Reading.{Reading, ◌>>=◌, mapped}
-use Rattle.gimli_read.specs.Number.{fixed_at, number_of}
 use Rattle.gimli_read.specs.Leb128.{uleb128_in, sleb128_in, within}
-use Rattle.gimli_read.proofs.Steps.{done}
-use Rattle.gimli_line.specs.declared.constants.TheConstants.{DW_LNS_extended_op}
-use Rattle.gimli_line.specs.declared.encoding.LineEncoding.{LineEncoding}
 use Rattle.gimli_line.specs.declared.frequent.Frequent.{Frequent}
 use Rattle.gimli_line.specs.declared.frequent.Frequent.TheVariants.{Other as NotFrequent, Quiet, Shows}
-use Rattle.gimli_line.specs.declared.opcode.Opcode.{Opcode}
-use Rattle.gimli_line.specs.declared.opcode.Opcode.TheVariants.{Special, Copy, AdvancePc, AdvanceLine, SetFile, SetColumn, ConstAddPc, Other}
-use Rattle.gimli_line.specs.declared.opcode.LineInstruction.{LineInstruction}
-use Rattle.gimli_line.specs.declared.opcode.LineInstruction.TheVariants.{Changes}
-use Rattle.gimli_line.specs.declared.registers.Registers.{Registers}
-use Rattle.gimli_line.specs.Header.{File, Header}
-use Rattle.gimli_line.specs.Opcode.{instruction_at, coded_instruction_at, standard_at, extended_at}
-use Rattle.gimli_line.specs.Steps.{executed}
-use Rattle.gimli_line.specs.Taking.{TakesFirst, TakesOpcode}
 use Rattle.gimli_line.proofs.RowsLeft.{at_code}
 
 abbrev pub at : RunTimeEndian → List ℕ → Section

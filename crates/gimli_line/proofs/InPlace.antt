@@ -1,24 +1,9 @@
 -- Opcodes that change registers in place (on specs/Steps.antt).
-use Rattle.std.proofs.Common.{◌≡◌, ℕ, ℤ, ◌+◌, ◌*◌, ◌/◌, ◌%◌, ◌<◌, ◌&&◌, not, nat_lt, Bool, true, false, cond, Option, Some, None, Result, Ok, Err, refl, sym, ap, ◌∙◌, arith}
+use Rattle.gimli_line.proofs.Common.{◌≡◌, ℕ, ℤ, ◌+◌, ◌*◌, ◌/◌, ◌%◌, ◌<◌, ◌&&◌, not, nat_lt, Bool, true, false, cond, Option, Some, None, Result, Ok, Err, refl, sym, ap, ◌∙◌, arith, lt-ltb, Error, AddressOverflow, Exactly, ◌>>=◌, LineEncoding, Opcode, AdvanceLine, AdvancePc, ConstAddPc, Copy, Other, SetColumn, SetFile, Special, Registers, LineRow, limit, Header, advance, moved, line_advance, is_end, makes_row, TakesOpcode, shown, done, IsRunning, start_registers, advanced, fitting, step_registers, shown_row, row_of, registers_after, executed}
 use Rattle.std.proofs.Math.Nat.{div-one, mod-one}
-use Rattle.std.proofs.lemmas.Bool.{lt-ltb}
 use Rattle.std.specs.Result.{is_err}
-use Rattle.gimli_read.specs.declared.error.Error.{Error}
-use Rattle.gimli_read.specs.declared.error.Error.TheVariants.{AddressOverflow}
-use Rattle.gimli_read.specs.Reading.{Exactly, ◌>>=◌}
-use Rattle.gimli_line.specs.declared.encoding.LineEncoding.{LineEncoding}
-use Rattle.gimli_line.specs.declared.opcode.Opcode.{Opcode}
-use Rattle.gimli_line.specs.declared.opcode.Opcode.TheVariants.{AdvanceLine, AdvancePc, ConstAddPc, Copy, Other, SetColumn, SetFile, Special}
 use Rattle.gimli_line.specs.declared.frequent.Frequent.{Frequent}
 use Rattle.gimli_line.specs.declared.frequent.Frequent.TheVariants.{Other as NotFrequent, Quiet, Shows}
-use Rattle.gimli_line.specs.declared.registers.Registers.{Registers}
-use Rattle.gimli_line.specs.declared.row.LineRow.{LineRow}
-use Rattle.gimli_line.specs.Encoding.{limit}
-use Rattle.gimli_line.specs.Header.{Header}
-use Rattle.gimli_line.specs.Rows.{advance, moved, line_advance, is_end, makes_row}
-use Rattle.gimli_line.specs.Taking.{TakesOpcode, shown}
-use Rattle.gimli_read.proofs.Steps.{done}
-use Rattle.gimli_line.specs.Steps.{IsRunning, start_registers, advanced, fitting, step_registers, shown_row, row_of, registers_after, executed}
 
 abbrev pub Executed : Type 0
 Executed = Option LineRow × Registers

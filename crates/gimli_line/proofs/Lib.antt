@@ -1,3 +1,4 @@
+pub mod Common
 pub mod Division
 pub mod Limits
 pub mod Numbers

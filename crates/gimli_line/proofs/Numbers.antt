@@ -1,13 +1,6 @@
 -- Numbers that nobody looks at, one by one (on specs/Opcode.antt).
-use Rattle.std.proofs.Common.{◌≡◌, ℕ, zero, suc, ◌+◌, ◌<◌, List, [], ◌∷◌, ◌++◌, Ok, Err, refl, sym, ap, ◌∙◌, append_assoc, append-nil, arith}
-use Rattle.gimli_read.specs.declared.error.Error.{Error}
-use Rattle.gimli_read.specs.Section.{Section}
-use Rattle.gimli_read.specs.Reading.{Reading, ◌>>=◌}
-use Rattle.gimli_read.specs.Run.{with_front}
+use Rattle.gimli_line.proofs.Common.{◌≡◌, ℕ, zero, suc, ◌+◌, ◌<◌, List, [], ◌∷◌, ◌++◌, Ok, Err, refl, sym, ap, ◌∙◌, append_assoc, append-nil, arith, Error, Section, Reading, ◌>>=◌, with_front, done, numbers_skipped, times}
 use Rattle.gimli_read.specs.Leb128.{uleb128_at}
-use Rattle.gimli_read.proofs.Steps.{done}
-use Rattle.gimli_line.specs.Opcode.{numbers_skipped}
-use Rattle.gimli_line.specs.EntryTables.{times}
 
 -- one of them stands first
 skipped_step : (n : ℕ) (s : Section) → numbers_skipped (suc n) s ≡ (uleb128_at s >>= λ x. numbers_skipped n x.1)

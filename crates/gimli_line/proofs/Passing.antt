@@ -1,23 +1,7 @@
 -- From one place of a program to a later one (on specs/Taking.antt).
-use Rattle.std.proofs.Common.{◌≡◌, ℕ, ◌+◌, ◌<◌, ◌==◌, false, length, nat_lt, List, [], ◌∷◌, Option, Some, None, Result, Ok, Err, drop, get_or, refl, sym, ap, subst, ◌∙◌, arith}
-use Rattle.std.proofs.lemmas.List.{drop_more, drop-drop}
-use Rattle.std.proofs.lemmas.Bool.Decides.{nat_tests}
-use Rattle.gimli_read.specs.declared.error.Error.{Error}
+use Rattle.gimli_line.proofs.Common.{◌≡◌, ℕ, ◌+◌, ◌<◌, ◌==◌, false, length, nat_lt, List, [], ◌∷◌, Option, Some, None, Result, Ok, Err, drop, get_or, refl, sym, ap, subst, ◌∙◌, arith, drop_more, drop-drop, nat_tests, Error, UnexpectedEof, Section, after, skipped_at, ◌>>=◌, done, guard_ok, LineInstruction, Changes, Registers, LineRow, File, Header, rows_left, ahead_left, instruction_at, Executes, Passes, all_taken, fault_after}
 use Rattle.gimli_read.specs.declared.endian.RunTimeEndian.{RunTimeEndian}
-use Rattle.gimli_read.specs.declared.error.Error.TheVariants.{UnexpectedEof}
-use Rattle.gimli_read.specs.Section.{Section, after}
-use Rattle.gimli_read.specs.Number.{skipped_at}
-use Rattle.gimli_read.specs.Reading.{◌>>=◌}
-use Rattle.gimli_read.proofs.Steps.{done, guard_ok}
-use Rattle.gimli_line.specs.declared.opcode.LineInstruction.{LineInstruction}
-use Rattle.gimli_line.specs.declared.opcode.LineInstruction.TheVariants.{Changes}
-use Rattle.gimli_line.specs.declared.registers.Registers.{Registers}
-use Rattle.gimli_line.specs.declared.row.LineRow.{LineRow}
-use Rattle.gimli_line.specs.Header.{File, Header}
-use Rattle.gimli_line.specs.Left.{rows_left, ahead_left}
-use Rattle.gimli_line.specs.Opcode.{instruction_at}
 use Rattle.gimli_line.specs.Steps.{taken as took_in}
-use Rattle.gimli_line.specs.Taking.{Executes, Passes, all_taken, fault_after}
 use Rattle.gimli_line.proofs.FirstOpcode.{at}
 use Rattle.gimli_line.proofs.RowsLeft.{State, left_more, defines_more}
 use Rattle.gimli_line.proofs.AheadLemmas.{defined_more, defined_none, still_none}

@@ -1,8 +1,5 @@
 -- The fault of a line program by its fields (on specs/Program.antt and specs/Stored.antt).
-use Rattle.std.proofs.Common.{◌≡◌, ℕ, Result, Ok, Err, refl, ap}
-use Rattle.gimli_read.specs.declared.error.Error.{Error}
-use Rattle.gimli_read.specs.Section.{Section}
-use Rattle.gimli_read.specs.Reading.{fault_of}
+use Rattle.gimli_line.proofs.Common.{◌≡◌, ℕ, Result, Ok, Err, refl, ap, Error, Section, fault_of}
 use Rattle.gimli_line.specs.Program.{line_header_fields_at}
 use Rattle.gimli_line.specs.Stored.{line_program_at}
 

@@ -1,20 +1,6 @@
 -- Addresses do not fall before an end (on specs/Rises.antt).
-use Rattle.std.proofs.Common.{◌≡◌, ℕ, ◌+◌, ◌*◌, ◌/◌, ◌%◌, ◌≤◌, Bool, true, false, cond, not, ◌&&◌, ◌||◌, nat_lt, List, [], ◌∷◌, Some, None, Result, Ok, Err, refl, subst, arith}
-use Rattle.std.proofs.lemmas.Bool.Decides.{nat_tests}
-use Rattle.gimli_read.specs.declared.error.Error.{Error}
-use Rattle.gimli_read.specs.declared.error.Error.TheVariants.{AddressOverflow}
-use Rattle.gimli_read.specs.Reading.{◌>>=◌}
-use Rattle.gimli_line.specs.declared.encoding.LineEncoding.{LineEncoding}
-use Rattle.gimli_line.specs.declared.opcode.Opcode.{Opcode}
-use Rattle.gimli_line.specs.declared.opcode.Opcode.TheVariants.{Special, Copy, AdvancePc, AdvanceLine, SetFile, SetColumn, ConstAddPc, FixedAdvancePc, EndSequence, SetAddress, Other}
-use Rattle.gimli_line.specs.declared.registers.Registers.{Registers}
-use Rattle.gimli_line.specs.declared.row.LineRow.{LineRow}
-use Rattle.gimli_line.specs.Encoding.{limit}
-use Rattle.gimli_line.specs.Opcode.{opcodes_in}
+use Rattle.gimli_line.proofs.Common.{◌≡◌, ℕ, ◌+◌, ◌*◌, ◌/◌, ◌%◌, ◌≤◌, Bool, true, false, cond, not, ◌&&◌, ◌||◌, nat_lt, List, [], ◌∷◌, Some, None, Result, Ok, Err, refl, subst, arith, nat_tests, Error, AddressOverflow, ◌>>=◌, LineEncoding, Opcode, Special, Copy, AdvancePc, AdvanceLine, SetFile, SetColumn, ConstAddPc, FixedAdvancePc, EndSequence, SetAddress, Other, Registers, LineRow, limit, opcodes_in, line_advance, moved, is_end, makes_row, ended, start_registers, advanced, placed, fixed_advanced, step_registers, fitting, shown_row, row_of, registers_after, executed, with_row_first, continued_rows, rows_from}
 use Rattle.gimli_line.specs.AddressSize.{is_tombstone}
-use Rattle.gimli_line.specs.Rows.{line_advance, moved, is_end, makes_row, ended}
-use Rattle.gimli_line.specs.Steps.{start_registers, advanced, placed, fixed_advanced, step_registers, fitting, shown_row, row_of, registers_after, executed}
-use Rattle.gimli_line.specs.Left.{with_row_first, continued_rows, rows_from}
 use Rattle.gimli_line.specs.Rises.{rows_before, NeverFalls, RowsRise}
 use Rattle.gimli_line.proofs.ClosedForm.{rows_of-start}
 

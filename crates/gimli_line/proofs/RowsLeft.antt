@@ -1,26 +1,8 @@
 -- The rows that are left, one instruction on (on specs/Steps.antt).
-use Rattle.std.proofs.Common.{◌≡◌, ℕ, ◌-◌, ◌==◌, nat_le, Bool, true, false, cond, length, List, [], ◌∷◌, ◌++◌, Option, Some, None, Result, Ok, Err, refl, sym, ap, ◌∙◌, append_assoc}
+use Rattle.gimli_line.proofs.Common.{◌≡◌, ℕ, ◌-◌, ◌==◌, nat_le, Bool, true, false, cond, length, List, [], ◌∷◌, ◌++◌, Option, Some, None, Result, Ok, Err, refl, sym, ap, ◌∙◌, append_assoc, Error, Section, Reading, ◌>>=◌, fixed_at, Run, done, DW_LNS_extended_op, Opcode, Special, LineInstruction, Changes, Defines, Registers, LineRow, File, Header, instruction_at, coded_instruction_at, extended_at, extended_in, standard_at, instructions_of, opcodes_in, files_in, executed, taken, step_instruction, step_standard, rows_from, continued_rows, with_row_first, rows_left, files_left, DefinesOn, FindsRow, YieldsUnlessOom}
 use Rattle.std.specs.Result.{is_err}
-use Rattle.gimli_read.specs.declared.error.Error.{Error}
-use Rattle.gimli_read.specs.Section.{Section}
-use Rattle.gimli_read.specs.Reading.{Reading, ◌>>=◌}
-use Rattle.gimli_read.specs.Number.{fixed_at}
 use Rattle.gimli_read.specs.Run as runs
-use Rattle.gimli_read.specs.Run.{Run}
-use Rattle.gimli_read.proofs.Steps.{done}
 use Rattle.gimli_read.proofs.RunLemmas.{run_of-step}
-use Rattle.gimli_line.specs.declared.constants.TheConstants.{DW_LNS_extended_op}
-use Rattle.gimli_line.specs.declared.opcode.Opcode.{Opcode}
-use Rattle.gimli_line.specs.declared.opcode.Opcode.TheVariants.{Special}
-use Rattle.gimli_line.specs.declared.opcode.LineInstruction.{LineInstruction}
-use Rattle.gimli_line.specs.declared.opcode.LineInstruction.TheVariants.{Changes, Defines}
-use Rattle.gimli_line.specs.declared.registers.Registers.{Registers}
-use Rattle.gimli_line.specs.declared.row.LineRow.{LineRow}
-use Rattle.gimli_line.specs.Header.{File, Header}
-use Rattle.gimli_line.specs.Opcode.{instruction_at, coded_instruction_at, extended_at, extended_in, standard_at, instructions_of, opcodes_in, files_in}
-use Rattle.gimli_line.specs.Steps.{executed, taken, step_instruction, step_standard}
-use Rattle.gimli_line.specs.Left.{rows_from, continued_rows, with_row_first, rows_left, files_left, DefinesOn, FindsRow}
-use Rattle.gimli_line.specs.Lines.{YieldsUnlessOom}
 use Rattle.gimli_line.proofs.Shortening.{instruction-takes}
 
 abbrev pub State : Type 0

@@ -1,8 +1,6 @@
 -- LEB128 numbers of one byte or two at the front of bytes (on specs/Leb128.antt of gimli_read).
-use Rattle.std.proofs.Common.{◌≡◌, ℕ, ◌+◌, ◌*◌, ◌%◌, ◌/◌, ◌<◌, ◌≤◌, ◌^◌, List, [], ◌∷◌, Ok, true, refl, sym, ap, ◌∙◌, ◌⊎◌, inl, inr, arith, ℤ, pos, negsuc, ◌-◌, ◌-ℤ◌}
-use Rattle.std.proofs.lemmas.Bool.{lt-ltb, le-ltb, cases_lt}
+use Rattle.gimli_line.proofs.Common.{◌≡◌, ℕ, ◌+◌, ◌*◌, ◌%◌, ◌/◌, ◌<◌, ◌≤◌, ◌^◌, List, [], ◌∷◌, Ok, true, refl, sym, ap, ◌∙◌, ◌⊎◌, inl, inr, arith, ℤ, pos, negsuc, ◌-◌, ◌-ℤ◌, lt-ltb, le-ltb, cases_lt, fits_i64}
 use Rattle.std.proofs.lemmas.Grind.{common_steps}
-use Rattle.gimli_read.specs.Number.{fits_i64}
 use Rattle.gimli_read.specs.Leb128.{sleb128_value, uleb128_in, sleb128_in}
 use Rattle.gimli_read.proofs.Leb128Texts.{sleb128_reads}
 use Rattle.gimli_read.proofs.ShortLeb128.{unsigned_byte, unsigned_pair, byte_text, byte_value, pair_text, pair_value}

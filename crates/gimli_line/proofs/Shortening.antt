@@ -1,16 +1,7 @@
 -- Each instruction takes bytes (on specs/Opcode.antt).
-use Rattle.std.proofs.Common.{◌≡◌, ℕ, zero, suc, ◌+◌, ◌-◌, ◌<◌, Bool, true, false, cond, length, slice_index, Option, Some, None, Ok, Err, IfOk, IfSome, nat_le, ◌==◌, refl, length-drop, arith}
+use Rattle.gimli_line.proofs.Common.{◌≡◌, ℕ, zero, suc, ◌+◌, ◌-◌, ◌<◌, Bool, true, false, cond, length, slice_index, Option, Some, None, Ok, Err, IfOk, IfSome, nat_le, ◌==◌, refl, length-drop, arith, Section, Reading, ◌>>=◌, fixed_at, ended_at, null_terminated_at, Shorter, shorter_bind, shorter_then, shorter_if, shorter_ok, shorter_err, shorter_weaker, takes_by, fixed-shorter, split-shorter, uleb128-shorter, sleb128-shorter, TakesBytes, DW_LNS_extended_op, LineInstruction, File, Header, file_with_path_at, numbers_skipped, standard_at, extended_in, extended_at, coded_instruction_at, instruction_at, directory_at, file_at}
 use Rattle.std.specs.List.{position}
 use Rattle.std.proofs.lemmas.List.Quantifiers.{position-Some}
-use Rattle.gimli_read.specs.Section.{Section}
-use Rattle.gimli_read.specs.Reading.{Reading, ◌>>=◌}
-use Rattle.gimli_read.specs.Number.{fixed_at, ended_at, null_terminated_at}
-use Rattle.gimli_read.proofs.Shorter.{Shorter, shorter_bind, shorter_then, shorter_if, shorter_ok, shorter_err, shorter_weaker, takes_by, fixed-shorter, split-shorter, uleb128-shorter, sleb128-shorter, TakesBytes}
-use Rattle.gimli_line.specs.declared.constants.TheConstants.{DW_LNS_extended_op}
-use Rattle.gimli_line.specs.declared.opcode.LineInstruction.{LineInstruction}
-use Rattle.gimli_line.specs.Header.{File, Header}
-use Rattle.gimli_line.specs.Opcode.{file_with_path_at, numbers_skipped, standard_at, extended_in, extended_at, coded_instruction_at, instruction_at}
-use Rattle.gimli_line.specs.Tables.{directory_at, file_at}
 
 numbers-shorter : (n : ℕ) (s : Section) → Shorter (length s.bytes + 1) (numbers_skipped n s)
 unfolding numbers_skipped

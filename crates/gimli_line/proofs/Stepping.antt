@@ -1,14 +1,8 @@
 -- Registers hold what the opcodes of the sequence so far make (on specs/Rows.antt and specs/Steps.antt).
-use Rattle.std.proofs.Common.{ℕ, ◌≡◌, ◌+◌, ◌*◌, ◌/◌, ◌%◌, ◌<◌, Bool, true, false, cond, ◌||◌, nat_lt, List, [], ◌∷◌, arith, ◌∙◌, ap, sym, refl, sum_by}
+use Rattle.gimli_line.proofs.Common.{ℕ, ◌≡◌, ◌+◌, ◌*◌, ◌/◌, ◌%◌, ◌<◌, Bool, true, false, cond, ◌||◌, nat_lt, List, [], ◌∷◌, arith, ◌∙◌, ap, sym, refl, sum_by, LineEncoding, Opcode, Special, Copy, AdvancePc, AdvanceLine, SetFile, SetColumn, ConstAddPc, FixedAdvancePc, EndSequence, SetAddress, Other, Registers, AddressState, address_state, based, address_of, address_after, advance, line_advance, moved, line_after, file_after, column_after, start_registers, advanced, placed, fixed_advanced, step_registers}
 use Rattle.std.proofs.Math.Nat.{mod-eq_of_lt, div-eq_of_lt, mod-lt}
 use Rattle.std.proofs.lemmas.List.Sums.{sum_by-cons}
-use Rattle.gimli_line.specs.declared.encoding.LineEncoding.{LineEncoding}
-use Rattle.gimli_line.specs.declared.opcode.Opcode.{Opcode}
-use Rattle.gimli_line.specs.declared.opcode.Opcode.TheVariants.{Special, Copy, AdvancePc, AdvanceLine, SetFile, SetColumn, ConstAddPc, FixedAdvancePc, EndSequence, SetAddress, Other}
-use Rattle.gimli_line.specs.declared.registers.Registers.{Registers}
 use Rattle.gimli_line.specs.AddressSize.{is_tombstone}
-use Rattle.gimli_line.specs.Rows.{AddressState, address_state, based, address_of, address_after, advance, line_advance, moved, line_after, file_after, column_after}
-use Rattle.gimli_line.specs.Steps.{start_registers, advanced, placed, fixed_advanced, step_registers}
 use Rattle.gimli_line.proofs.Division.{div_sum, mod_sum}
 
 -- the registers hold what the opcodes before make

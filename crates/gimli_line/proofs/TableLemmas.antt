@@ -1,15 +1,8 @@
 -- Values of entries, one by one, and copies (on specs/Tables.antt).
-use Rattle.std.proofs.Common.{◌≡◌, ◌⊎◌, inl, inr, ℕ, ◌+◌, ◌<◌, ◌≤◌, ◌==◌, ◌&&◌, not, true, false, is_ok, Option, Some, List, [], ◌∷◌, ◌++◌, length, map, take, drop, get_or, Ok, Err, refl, sym, ap, ◌∙◌, arith}
-use Rattle.std.proofs.lemmas.Bool.{ne_eqb}
-use Rattle.std.proofs.lemmas.List.{take_more, drop_more, drop_all, get_or-map, length-map}
+use Rattle.gimli_line.proofs.Common.{◌≡◌, ◌⊎◌, inl, inr, ℕ, ◌+◌, ◌<◌, ◌≤◌, ◌==◌, ◌&&◌, not, true, false, is_ok, Option, Some, List, [], ◌∷◌, ◌++◌, length, map, take, drop, get_or, Ok, Err, refl, sym, ap, ◌∙◌, arith, ne_eqb, take_more, drop_more, drop_all, get_or-map, length-map, Error, Section, Reading, ◌>>=◌, value_at, EntryValues, values_at, with_value}
 use Rattle.gimli_read.specs.declared.endian.Encoding.{Encoding}
-use Rattle.gimli_read.specs.declared.error.Error.{Error}
 use Rattle.gimli_read.specs.declared.value.AttributeValue.{AttributeValue}
-use Rattle.gimli_read.specs.Section.{Section}
-use Rattle.gimli_read.specs.Reading.{Reading, ◌>>=◌}
-use Rattle.gimli_read.specs.Form.{value_at}
 use Rattle.gimli_line.specs.declared.entry_tables.EntryFormat.{EntryFormat}
-use Rattle.gimli_line.specs.EntryTables.{EntryValues, values_at, with_value}
 use Rattle.gimli_line.specs.Stored.{gives_one, gives_first}
 
 values_step : (e : Encoding) (f : EntryFormat) (fs : List EntryFormat) (entry : EntryValues) (s : Section) → values_at e (f ∷ fs) entry s ≡ (value_at e f.form.0 s >>= λ x. values_at e fs (with_value f.content_type x.0 entry) x.1)

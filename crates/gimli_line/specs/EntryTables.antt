@@ -2,16 +2,8 @@
 -- Own: where a table has entries, its format has exactly one path, of a form of strings; else it is
 -- BadLineHeader, right after the count of the entries.
 -- Own: a directory index of no constant form is 0; of several the last counts.
-use Rattle.std.specs.Prelude.{ℕ, zero, suc, ◌==◌, ◌&&◌, not, Bool, List, [], ◌∷◌, count_by, Option, Some, None, Result, Ok, Err, if◌then◌else◌}
-use Rattle.std.specs.Option.{unwrap_or}
-use Rattle.gimli_read.specs.declared.error.Error.{Error}
-use Rattle.gimli_read.specs.declared.error.Error.TheVariants.{BadLineHeader}
-use Rattle.gimli_read.specs.declared.endian.Encoding.{Encoding}
+use Rattle.gimli_line.specs.Common.{ℕ, zero, suc, ◌==◌, ◌&&◌, not, Bool, List, [], ◌∷◌, count_by, Option, Some, None, Result, Ok, Err, if◌then◌else◌, unwrap_or, Error, BadLineHeader, Encoding, Section, Reading, ◌>>=◌, uleb128_at, value_at, constant_of}
 use Rattle.gimli_read.specs.declared.value.AttributeValue.{AttributeValue}
-use Rattle.gimli_read.specs.Section.{Section}
-use Rattle.gimli_read.specs.Reading.{Reading, ◌>>=◌}
-use Rattle.gimli_read.specs.Leb128.{uleb128_at}
-use Rattle.gimli_read.specs.Form.{value_at, constant_of}
 use Rattle.gimli_read.specs.StringForm.{is_string_form}
 use Rattle.gimli_line.specs.declared.constants.TheConstants.{DW_LNCT_path, DW_LNCT_directory_index}
 use Rattle.gimli_line.specs.declared.entry_tables.EntryFormat.{EntryFormat}

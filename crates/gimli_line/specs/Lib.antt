@@ -1,3 +1,4 @@
+pub mod Common
 pub mod AddressSize
 pub mod Encoding
 pub mod Header

@@ -1,9 +1,7 @@
 //! Line programs and their rows.
 
-ghost use Rattle.std.specs.Prelude.{◌≡◌, ◌≢◌, ◌<◌, ◌≤◌, [], ◌∷◌, ◌++◌, length, true, false, OnOk, OnErr, IfOk, IfErr, Ok, Err, None};
+ghost use Rattle.gimli_line.specs.Common.{◌≡◌, ◌≢◌, ◌<◌, ◌≤◌, [], ◌∷◌, ◌++◌, length, true, false, OnOk, OnErr, IfOk, IfErr, Ok, Err, None, OutOfMemory, ExactlyUnlessOom, ExactlyUnlessOomIf};
 ghost use Rattle.gimli_read.specs.declared.error.Error.{Error as Fault};
-ghost use Rattle.gimli_read.specs.declared.error.Error.TheVariants.{OutOfMemory};
-ghost use Rattle.gimli_read.specs.Reading.{ExactlyUnlessOom, ExactlyUnlessOomIf};
 ghost use Rattle.gimli_line.specs.Header.{header_copy_takes_memory};
 ghost use Rattle.gimli_line.specs.Lines.{lines_of, YieldsUnlessOom, KeepsFiles, DefinesAhead, IsOver};
 ghost use Rattle.gimli_line.specs.Opcode.{is_file, gives_file, coded_instruction_at};

@@ -1,7 +1,6 @@
 //! The registers of a line program.
 
-ghost use Rattle.std.specs.Prelude.{◌≡◌, ◌+◌, ◌/◌, ◌%◌, ◌^◌, ◌*◌, ◌<◌, ◌≤◌, true, ◌||◌, ◌&&◌, not, nat_lt, pos, ◌+ℤ◌, IfOk, OnErr, OnOk};
-ghost use Rattle.gimli_read.specs.Reading.{Exactly};
+ghost use Rattle.gimli_line.specs.Common.{◌≡◌, ◌+◌, ◌/◌, ◌%◌, ◌^◌, ◌*◌, ◌<◌, ◌≤◌, true, ◌||◌, ◌&&◌, not, nat_lt, pos, ◌+ℤ◌, IfOk, OnErr, OnOk, Exactly};
 ghost use Rattle.gimli_line.specs.declared.opcode.Opcode.TheVariants.{ConstAddPc};
 ghost use Rattle.gimli_line.specs.Encoding.{limit};
 ghost use Rattle.gimli_line.specs.AddressSize.{is_tombstone};

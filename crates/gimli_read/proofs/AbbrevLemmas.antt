@@ -1,16 +1,8 @@
 -- What is read of an abbreviation takes bytes (on specs/Abbrev.antt).
-use Rattle.std.proofs.Common.{◌≡◌, ◌≢◌, ◌⊎◌, inl, inr, is_ok, ℕ, zero, suc, ◌+◌, ◌<◌, List, [], ◌∷◌, ◌++◌, length, Option, Some, None, is_some, Result, Ok, Err, Bool, true, false, cond, IfOk, IfSome, not, ◌==◌, refl, ap, sym, ◌∙◌, arith, add-one}
+use Rattle.gimli_read.proofs.Common.{◌≡◌, ◌≢◌, ◌⊎◌, inl, inr, is_ok, ℕ, zero, suc, ◌+◌, ◌<◌, List, [], ◌∷◌, ◌++◌, length, Option, Some, None, is_some, Result, Ok, Err, Bool, true, false, cond, IfOk, IfSome, not, ◌==◌, refl, ap, sym, ◌∙◌, arith, add-one, DW_FORM_implicit_const, Error, OutOfMemory, BadAbbreviation, Section, Reading, ◌>>=◌, refused_if, uleb128_at, Specification, Abbrev, with_code, HasDistinctCodes, constant_at, coded, is_null, has_null, tells_children, specification_at, specifications_at, declaration_head_at, declaration_at, abbreviation_at, extended, table_within, head_and_pair_at, front_at, takes_memory}
 use Rattle.std.proofs.lemmas.Bool.Decides.{nat_tests}
 use Rattle.gimli_read.specs.declared.constants.TheConstants.{CLOSING_CODE}
-use Rattle.gimli_read.specs.declared.constants.TheConstants.DwForm.{DW_FORM_implicit_const}
 use Rattle.gimli_read.specs.declared.constants.TheConstants.DwTag.{DW_TAG_null}
-use Rattle.gimli_read.specs.declared.error.Error.{Error}
-use Rattle.gimli_read.specs.declared.error.Error.TheVariants.{OutOfMemory, BadAbbreviation}
-use Rattle.gimli_read.specs.Section.{Section}
-use Rattle.gimli_read.specs.Reading.{Reading, ◌>>=◌, refused_if}
-use Rattle.gimli_read.specs.Leb128.{uleb128_at}
-use Rattle.gimli_read.specs.Abbreviations.{Specification, Abbrev, with_code, HasDistinctCodes}
-use Rattle.gimli_read.specs.Abbrev.{constant_at, coded, is_null, has_null, tells_children, specification_at, specifications_at, declaration_head_at, declaration_at, abbreviation_at, extended, table_within, head_and_pair_at, front_at, takes_memory}
 use Rattle.gimli_read.proofs.Shorter.{Shorter, shorter_bind, shorter_then, shorter_if, shorter_err, shorter_ok, fixed-shorter, uleb128-shorter, sleb128-shorter, TakesBytes, takes_by, shorter_by}
 use Rattle.gimli_read.proofs.Steps.{bind_ok, same_value, end_is_none}
 use Rattle.gimli_read.proofs.RunLemmas.{collected-shorter, collected-fault}

@@ -1,7 +1,5 @@
 -- What answers one reading is one answer (on specs/Alike.antt).
-use Rattle.std.proofs.Common.{◌≡◌, Result, Ok, Err, sym, ap, ◌∙◌}
-use Rattle.gimli_read.specs.declared.error.Error.{Error}
-use Rattle.gimli_read.specs.Reading.{result_map, Exactly, ExactlyUnlessOom, WasNotRefused}
+use Rattle.gimli_read.proofs.Common.{◌≡◌, Result, Ok, Err, sym, ap, ◌∙◌, Error, result_map, Exactly, ExactlyUnlessOom, WasNotRefused}
 use Rattle.gimli_read.specs.Alike.{AnswerAlike, AnswerAlikeUnlessOom}
 
 exact_is : {X Z : Type 0} (view : X → Z) (x : Result X Error) (given : Result Z Error) → Exactly view x given → given ≡ result_map view x

@@ -1,18 +1,8 @@
 -- What is read is the text of an attribute, and each such text is read (on specs/Value.antt).
-use Rattle.std.proofs.Common.{◌≡◌, ℕ, ◌==◌, cond, List, [], ◌++◌, Option, Some, None, Ok, refl, sym, ap, subst, ◌∙◌, inl, inr, eq-eqb, ℤ}
-use Rattle.std.proofs.lemmas.Bool.{eqb-true, eqb-false, ne_eqb}
+use Rattle.gimli_read.proofs.Common.{◌≡◌, ℕ, ◌==◌, cond, List, [], ◌++◌, Option, Some, None, Ok, refl, sym, ap, subst, ◌∙◌, inl, inr, eq-eqb, ℤ, eqb-true, eqb-false, ne_eqb, Encoding, DW_FORM_implicit_const, AttributeValue, Specification, Section, Reading, ◌>>=◌, NamedValue, value_at, implicit_of, attribute_at, section_of, IsValue, IsAttributeValue, ReadsAttribute, ReadsAttributeAlone}
 use Rattle.gimli_read.specs.declared.endian.RunTimeEndian.{RunTimeEndian}
-use Rattle.gimli_read.specs.declared.endian.Encoding.{Encoding}
 use Rattle.gimli_read.specs.declared.constants.DwAt.{DwAt}
-use Rattle.gimli_read.specs.declared.constants.TheConstants.DwForm.{DW_FORM_implicit_const}
-use Rattle.gimli_read.specs.declared.value.AttributeValue.{AttributeValue}
 use Rattle.gimli_read.specs.declared.value.AttributeValue.TheVariants as values
-use Rattle.gimli_read.specs.Abbreviations.{Specification}
-use Rattle.gimli_read.specs.Section.{Section}
-use Rattle.gimli_read.specs.Reading.{Reading, ◌>>=◌}
-use Rattle.gimli_read.specs.Form.{NamedValue, value_at, implicit_of, attribute_at}
-use Rattle.gimli_read.specs.Value.{section_of, IsValue, IsAttributeValue}
-use Rattle.gimli_read.specs.ValueLaws.{ReadsAttribute, ReadsAttributeAlone}
 use Rattle.gimli_read.proofs.Steps.{bind_ok, branch_taken, same_rest, same_value}
 use Rattle.gimli_read.proofs.ValueTexts.{value_reads, value_alone}
 

@@ -1,31 +1,13 @@
 -- No reading gives OutOfMemory, which a refused growth alone answers (on specs/Reading.antt and those that stand on it).
-use Rattle.std.proofs.Common.{◌≡◌, ◌≢◌, ℕ, zero, suc, ◌+◌, ◌==◌, not, Bool, true, false, cond, List, [], ◌∷◌, ◌++◌, length, fold, Option, Some, None, is_some, Result, Ok, Err, nat_lt, ap, ℤ, ◌⊎◌, inl, inr, refl}
-use Rattle.std.specs.List.{position, AllByRecursion}
+use Rattle.gimli_read.proofs.Common.{◌≡◌, ◌≢◌, ℕ, zero, suc, ◌+◌, ◌==◌, not, Bool, true, false, cond, List, [], ◌∷◌, ◌++◌, length, fold, Option, Some, None, is_some, Result, Ok, Err, nat_lt, ap, ℤ, ◌⊎◌, inl, inr, refl, position, AllByRecursion, DW_FORM_indirect, DW_FORM_implicit_const, Encoding, Format, Dwarf32, Dwarf64, Error, OutOfMemory, UnexpectedEof, BadLeb128, UnknownReservedLength, UnsupportedAddressSize, BadAbbreviation, UnknownForm, Section, Reading, ◌>>=◌, result_map, fault_of, mapped, refused_if, WasNotRefused, skipped_at, split_at, fixed_at, signed_byte_at, is_address_size, address_size_at, address_at, offset_at, ended_at, null_terminated_at, long_length_at, initial_length_at, fits_u64, fits_i64, cut_after, leb128_text, uleb128_value, sleb128_value, uleb128_in, sleb128_in, uleb128_at, sleb128_at, Run, Next, More, Stop, next_of, continued, run_within, run_of, collected, fold_run, fold_of, listed_with, listed, FormEncoding, Fixed, Address, Offset, AddressOrOffset, Unsigned, Signed, Block1, Block2, Block4, Block, Text, Empty, form_encoding_of, block_at, address_or_offset_at, encoded_at, Specification, Abbrev, with_code, rest_of, direct_at, form_within, form_at, value_at, implicit_of, named_value, attribute_at, attributes_at, total_bytes, constant_at, specified, is_null, has_null, specification_at, specifications_at, tells_children, declaration_head_at, declaration_at, head_and_pair_at, front_at, abbreviation_at, extended, table_within, table_at}
 use Rattle.gimli_read.specs.declared.constants.TheConstants.{FIRST_RESERVED_LENGTH, LENGTH_ESCAPE, CLOSING_CODE}
-use Rattle.gimli_read.specs.declared.constants.TheConstants.DwForm.{DW_FORM_indirect, DW_FORM_implicit_const}
 use Rattle.gimli_read.specs.declared.constants.TheConstants.DwTag.{DW_TAG_null}
 use Rattle.gimli_read.specs.declared.leb128.TheConstants.{MAX_LEB128_LEN}
 use Rattle.gimli_read.specs.declared.abbrev.SizedRun.{SizedRun}
 use Rattle.gimli_read.specs.declared.size.TotalSize.{TotalSize}
-use Rattle.gimli_read.specs.declared.endian.Encoding.{Encoding}
-use Rattle.gimli_read.specs.declared.endian.Format.{Format}
-use Rattle.gimli_read.specs.declared.endian.Format.TheVariants.{Dwarf32, Dwarf64}
-use Rattle.gimli_read.specs.declared.error.Error.{Error}
-use Rattle.gimli_read.specs.declared.error.Error.TheVariants.{OutOfMemory, UnexpectedEof, BadLeb128, UnknownReservedLength, UnsupportedAddressSize, BadAbbreviation, UnknownForm}
-use Rattle.gimli_read.specs.Section.{Section}
 use Rattle.gimli_read.specs.Version.{is_2}
-use Rattle.gimli_read.specs.Reading.{Reading, ◌>>=◌, result_map, fault_of, mapped, refused_if, WasNotRefused}
-use Rattle.gimli_read.specs.Number.{skipped_at, split_at, fixed_at, signed_byte_at, is_address_size, address_size_at, address_at, offset_at, ended_at, null_terminated_at, long_length_at, initial_length_at, fits_u64, fits_i64}
-use Rattle.gimli_read.specs.Leb128.{cut_after, leb128_text, uleb128_value, sleb128_value, uleb128_in, sleb128_in, uleb128_at, sleb128_at}
-use Rattle.gimli_read.specs.Run.{Run, Next, More, Stop, next_of, continued, run_within, run_of, collected, fold_run, fold_of, listed_with, listed}
-use Rattle.gimli_read.specs.FormEncoding.{FormEncoding, Fixed, Address, Offset, AddressOrOffset, Unsigned, Signed, Block1, Block2, Block4, Block, Text, Empty, form_encoding_of}
-use Rattle.gimli_read.specs.EncodedValue.{block_at, address_or_offset_at, encoded_at}
-use Rattle.gimli_read.specs.Abbreviations.{Specification, Abbrev, with_code}
-use Rattle.gimli_read.specs.Form.{rest_of, direct_at, form_within, form_at, value_at, implicit_of, named_value, attribute_at, attributes_at}
 use Rattle.gimli_read.specs.Skip.{rest_after}
-use Rattle.gimli_read.specs.ValueSize.{total_bytes}
 use Rattle.gimli_read.specs.SizedRuns.{runs_rest, rest_after_runs}
-use Rattle.gimli_read.specs.Abbrev.{constant_at, specified, is_null, has_null, specification_at, specifications_at, tells_children, declaration_head_at, declaration_at, head_and_pair_at, front_at, abbreviation_at, extended, table_within, table_at}
 use Rattle.gimli_read.specs.FaultLaws.{NoneWasRefused}
 use Rattle.gimli_read.specs.Yields.{next_given}
 

@@ -1,16 +1,10 @@
 -- What is read is the text of a number, and each such text is read (on specs/Value.antt).
-use Rattle.std.proofs.Common.{◌≡◌, ℕ, suc, false, ltb, List, [], ◌∷◌, ◌++◌, length, take, drop, Ok, refl, sym, ap, ◌∙◌, arith}
-use Rattle.std.proofs.lemmas.Bool.{le-ltb, ltb-false}
-use Rattle.std.proofs.lemmas.List.{length-take, length-append, take-append-drop, append_assoc}
+use Rattle.gimli_read.proofs.Common.{◌≡◌, ℕ, suc, false, ltb, List, [], ◌∷◌, ◌++◌, length, take, drop, Ok, refl, sym, ap, ◌∙◌, arith, le-ltb, ltb-false, length-append, take-append-drop, UnexpectedEof, Section, after, number_of, fixed_at, low_first, high_first, number_in, section_of, IsTextAndRest, ReadsFixed, ReadsFixedAlone}
+use Rattle.std.proofs.lemmas.List.{length-take, append_assoc}
 use Rattle.std.proofs.Math.Seq.{get_or-append_seam, drop-append_seam}
 use Rattle.byteorder.specs.Endian.{big_from, little_from}
-use Rattle.gimli_read.specs.declared.error.Error.TheVariants.{UnexpectedEof}
 use Rattle.gimli_read.specs.declared.endian.RunTimeEndian.{RunTimeEndian}
 use Rattle.gimli_read.specs.declared.endian.RunTimeEndian.TheVariants.{Little, Big}
-use Rattle.gimli_read.specs.Section.{Section, after}
-use Rattle.gimli_read.specs.Number.{number_of, fixed_at}
-use Rattle.gimli_read.specs.Value.{low_first, high_first, number_in, section_of}
-use Rattle.gimli_read.specs.ValueLaws.{IsTextAndRest, ReadsFixed, ReadsFixedAlone}
 use Rattle.gimli_read.proofs.Steps.{guard_ok}
 
 low_read : (front text rest : List ℕ) → little_from (length front) (length text) (front ++ (text ++ rest)) ≡ low_first text

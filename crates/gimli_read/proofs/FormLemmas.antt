@@ -1,11 +1,5 @@
 -- The form that indirections lead to, one at a time (on specs/Form.antt).
-use Rattle.std.proofs.Common.{◌≡◌, ℕ, zero, suc, arith, ◌+◌, ◌<◌, length, true, false, cond, Ok, Err, ◌==◌, refl, ap, ◌∙◌, add-one}
-use Rattle.gimli_read.specs.declared.constants.TheConstants.DwForm.{DW_FORM_indirect}
-use Rattle.gimli_read.specs.declared.error.Error.{Error}
-use Rattle.gimli_read.specs.Section.{Section}
-use Rattle.gimli_read.specs.Reading.{Reading, ◌>>=◌}
-use Rattle.gimli_read.specs.Leb128.{uleb128_at}
-use Rattle.gimli_read.specs.Form.{form_within, form_at}
+use Rattle.gimli_read.proofs.Common.{◌≡◌, ℕ, zero, suc, arith, ◌+◌, ◌<◌, length, true, false, cond, Ok, Err, ◌==◌, refl, ap, ◌∙◌, add-one, DW_FORM_indirect, Error, Section, Reading, ◌>>=◌, uleb128_at, form_within, form_at}
 use Rattle.gimli_read.proofs.Shorter.{Shorter, shorter_at, uleb128-shorter}
 
 -- one number read, and the next one where it is an indirection

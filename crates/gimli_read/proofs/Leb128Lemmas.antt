@@ -1,10 +1,7 @@
 -- Sums of seven bits each (on specs/Leb128.antt).
-use Rattle.std.proofs.Common.{◌≡◌, ℕ, zero, suc, lit<, ◌+◌, ◌*◌, ◌%◌, ◌^◌, ◌<◌, ◌≤◌, List, [], ◌∷◌, ◌++◌, length, take, get_or, refl, sym, ap, ◌∙◌, arith, ◌-◌, pos, negsuc, ◌-ℤ◌}
-use Rattle.std.proofs.lemmas.Grind.{common_steps}
-use Rattle.std.proofs.lemmas.List.{take_more}
+use Rattle.gimli_read.proofs.Common.{◌≡◌, ℕ, zero, suc, lit<, ◌+◌, ◌*◌, ◌%◌, ◌^◌, ◌<◌, ◌≤◌, List, [], ◌∷◌, ◌++◌, length, take, get_or, refl, sym, ap, ◌∙◌, arith, ◌-◌, pos, negsuc, ◌-ℤ◌, common_steps, take_more, sum_from, uleb128_value}
 use Rattle.std.proofs.Math.Nat.{pow-suc, pow-le-pow_right, suc-mul, mul-le-mul_right}
 use Rattle.std.proofs.lemmas.Nat.{pow-add, one_shl}
-use Rattle.gimli_read.specs.Leb128.{sum_from, uleb128_value}
 
 -- one more byte
 pub sum_from-push : (from : ℕ) (bytes : List ℕ) (b : ℕ) → sum_from from (bytes ++ b ∷ []) ≡ sum_from from bytes + b % 128 * 128 ^ (from + length bytes)

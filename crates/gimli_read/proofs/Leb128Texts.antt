@@ -1,14 +1,8 @@
 -- What is read is the text of a number, and each such text is read (on specs/Leb128.antt).
-use Rattle.std.proofs.Common.{◌≡◌, ℕ, ◌+◌, ◌-◌, ◌<◌, ◌≤◌, ◌^◌, Bool, true, false, cond, ltb, nat_lt, List, ◌++◌, length, take, drop, get_or, Option, Some, None, Ok, Err, refl, sym, ap, subst, ◌∙◌, inl, inr, arith}
-use Rattle.std.specs.List.{position}
-use Rattle.std.proofs.lemmas.Bool.{lt-ltb, le-ltb, ltb-true, ltb-false}
-use Rattle.std.proofs.lemmas.List.{take_at, drop_at, length-take, length-append, get_or-take, take-append-drop}
+use Rattle.gimli_read.proofs.Common.{◌≡◌, ℕ, ◌+◌, ◌-◌, ◌<◌, ◌≤◌, ◌^◌, Bool, true, false, cond, ltb, nat_lt, List, ◌++◌, length, take, drop, get_or, Option, Some, None, Ok, Err, refl, sym, ap, subst, ◌∙◌, inl, inr, arith, position, lt-ltb, le-ltb, ltb-true, ltb-false, take_at, drop_at, length-append, get_or-take, take-append-drop, common_steps, BadLeb128, fits_i64, uleb128_value, sleb128_value, cut_after, leb128_text, uleb128_in, sleb128_in, IsLeb128Text, ReadsUleb128, ReadsUleb128Alone, ReadsSleb128, ReadsSleb128Alone}
+use Rattle.std.proofs.lemmas.List.{length-take}
 use Rattle.std.proofs.lemmas.List.Sums.{position_or_len_is}
 use Rattle.std.proofs.lemmas.List.Quantifiers.{position-Some}
-use Rattle.std.proofs.lemmas.Grind.{common_steps}
-use Rattle.gimli_read.specs.declared.error.Error.TheVariants.{BadLeb128}
-use Rattle.gimli_read.specs.Number.{fits_i64}
-use Rattle.gimli_read.specs.Leb128.{uleb128_value, sleb128_value, cut_after, leb128_text, uleb128_in, sleb128_in, IsLeb128Text, ReadsUleb128, ReadsUleb128Alone, ReadsSleb128, ReadsSleb128Alone}
 use Rattle.gimli_read.proofs.Steps.{bind_ok, branch_taken, same_rest, same_value}
 
 position_at : (p : ℕ → Bool) (xs : List ℕ) (i : ℕ) → i < length xs → ((k : ℕ) → k < i → p (get_or xs k 0) ≡ false) → p (get_or xs i 0) ≡ true → position p xs ≡ Some i

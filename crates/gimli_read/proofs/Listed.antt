@@ -1,9 +1,5 @@
 -- The first item of a run as a list of answers (on specs/Run.antt and specs/Yields.antt).
-use Rattle.std.proofs.Common.{◌≡◌, List, [], ◌∷◌, Option, Some, None, Result, Ok, Err, refl, ap, ◌∙◌}
-use Rattle.gimli_read.specs.declared.error.Error.{Error}
-use Rattle.gimli_read.specs.Section.{Section}
-use Rattle.gimli_read.specs.Reading.{Reading, ◌>>=◌}
-use Rattle.gimli_read.specs.Run.{next_of, continued, run_of, listed, listed_with}
+use Rattle.gimli_read.proofs.Common.{◌≡◌, List, [], ◌∷◌, Option, Some, None, Result, Ok, Err, refl, ap, ◌∙◌, Error, Section, Reading, ◌>>=◌, next_of, continued, run_of, listed, listed_with}
 use Rattle.gimli_read.specs.Yields.{next_given}
 use Rattle.gimli_read.proofs.Shorter.{TakesBytes}
 use Rattle.gimli_read.proofs.RunLemmas.{run_of-step}

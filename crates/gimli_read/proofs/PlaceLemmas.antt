@@ -1,14 +1,12 @@
 -- An abbreviation is found by its place or by its pair (on specs/AbbreviationPlaces.antt).
-use Rattle.std.proofs.Common.{◌≡◌, ◌≢◌, ℕ, zero, suc, List, [], ◌∷◌, ◌++◌, length, Option, Some, None, Bool, true, false, cond, ◌==◌, ◌⊎◌, inl, inr, refl, ap, sym, ◌∙◌}
+use Rattle.gimli_read.proofs.Common.{◌≡◌, ◌≢◌, ℕ, zero, suc, List, [], ◌∷◌, ◌++◌, length, Option, Some, None, Bool, true, false, cond, ◌==◌, ◌⊎◌, inl, inr, refl, ap, sym, ◌∙◌, slice_get, eqb-true, Abbrev, with_code, HasDistinctCodes}
 use Rattle.std.specs.Int.{abs_diff}
-use Rattle.std.specs.List.{slice_get}
 use Rattle.std.specs.Ordering.{nat_cmp, is_eq}
 use Rattle.std.specs.declared.cmp.Ordering.{Ordering}
 use Rattle.std.specs.declared.cmp.Ordering.TheVariants.{Less, Equal, Greater}
 use Rattle.std.proofs.lemmas.Map.Lookups.{exact_unsigned}
-use Rattle.std.proofs.lemmas.Bool.{eqb-true, eq-eqb}
+use Rattle.std.proofs.lemmas.Bool.{eq-eqb}
 use Rattle.std.specs.BTreeMap.{BTreeMap, get}
-use Rattle.gimli_read.specs.Abbreviations.{Abbrev, with_code, HasDistinctCodes}
 use Rattle.gimli_read.specs.AbbreviationPlaces.{if_coded, first_code_with, IsPlaced, IsSameApart}
 
 -- what stands anywhere with a code is the abbreviation of the code

@@ -1,9 +1,5 @@
 -- Runs, one step at a time (on specs/Run.antt).
-use Rattle.std.proofs.Common.{◌≡◌, ℕ, zero, suc, ◌+◌, ◌<◌, List, [], ◌∷◌, ◌++◌, length, Option, Some, None, Result, Ok, Err, refl, sym, ap, ◌∙◌, arith, append_assoc, add-one}
-use Rattle.gimli_read.specs.declared.error.Error.{Error}
-use Rattle.gimli_read.specs.Section.{Section}
-use Rattle.gimli_read.specs.Reading.{Reading, ◌>>=◌}
-use Rattle.gimli_read.specs.Run.{Run, Next, More, Stop, next_of, cons, continued, run_within, run_of, collected, with_front, fold_run, fold_of}
+use Rattle.gimli_read.proofs.Common.{◌≡◌, ℕ, zero, suc, ◌+◌, ◌<◌, List, [], ◌∷◌, ◌++◌, length, Option, Some, None, Result, Ok, Err, refl, sym, ap, ◌∙◌, arith, append_assoc, add-one, Error, Section, Reading, ◌>>=◌, Run, Next, More, Stop, next_of, cons, continued, run_within, run_of, collected, with_front, fold_run, fold_of}
 use Rattle.gimli_read.proofs.Shorter.{TakesBytes, shorter_by, Shorter}
 
 -- a step that goes on leaves less

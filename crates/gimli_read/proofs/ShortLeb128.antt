@@ -1,12 +1,7 @@
 -- Numbers of one byte and of two (on specs/Leb128.antt).
-use Rattle.std.proofs.Common.{◌≡◌, ℕ, zero, suc, ◌+◌, ◌*◌, ◌%◌, ◌<◌, ◌≤◌, ◌^◌, List, [], ◌∷◌, length, drop, get_or, Some, Ok, true, refl, sym, ap, ◌∙◌, ◌⊎◌, inl, inr, arith, pos, negsuc, ◌-◌, ◌-ℤ◌, w64, to_z, of_z, ◌/◌, rules}
+use Rattle.gimli_read.proofs.Common.{◌≡◌, ℕ, zero, suc, ◌+◌, ◌*◌, ◌%◌, ◌<◌, ◌≤◌, ◌^◌, List, [], ◌∷◌, length, drop, get_or, Some, Ok, true, refl, sym, ap, ◌∙◌, ◌⊎◌, inl, inr, arith, pos, negsuc, ◌-◌, ◌-ℤ◌, w64, to_z, of_z, ◌/◌, rules, lt-ltb, le-ltb, cases_lt, slice_get, common_steps, fits_i64, uleb128_value, sleb128_value, uleb128_in, sleb128_in, sum_from, IsLeb128Text}
 use Rattle.std.proofs.Math.Facts.{to_z_pos}
 use Rattle.std.proofs.lemmas.Int.{to_z-of_z}
-use Rattle.std.proofs.lemmas.Bool.{lt-ltb, le-ltb, cases_lt}
-use Rattle.std.specs.List.{slice_get}
-use Rattle.std.proofs.lemmas.Grind.{common_steps}
-use Rattle.gimli_read.specs.Number.{fits_i64}
-use Rattle.gimli_read.specs.Leb128.{uleb128_value, sleb128_value, uleb128_in, sleb128_in, sum_from, IsLeb128Text}
 use Rattle.gimli_read.proofs.Leb128Texts.{uleb128_reads, sleb128_reads}
 
 -- a byte below 128 is the text of a number

@@ -1,18 +1,8 @@
 -- What is read takes bytes: each value of a reading leaves less than there was.
-use Rattle.std.proofs.Common.{◌≡◌, ℕ, ◌+◌, ◌<◌, ◌≤◌, List, length, take, Option, Some, None, Result, Ok, Err, Bool, true, false, cond, IfOk, IfSome, nat_lt, ltb, refl, arith, length-drop, length-take, ◌^◌, zero, suc}
-use Rattle.std.specs.List.{position}
-use Rattle.std.proofs.lemmas.Result.{IfOk-at_ok}
+use Rattle.gimli_read.proofs.Common.{◌≡◌, ℕ, ◌+◌, ◌<◌, ◌≤◌, List, length, take, Option, Some, None, Result, Ok, Err, Bool, true, false, cond, IfOk, IfSome, nat_lt, ltb, refl, arith, length-drop, length-take, ◌^◌, zero, suc, position, IfOk-at_ok, Error, UnexpectedEof, BadLeb128, Format, Dwarf32, Dwarf64, Section, first, after, Reading, ◌>>=◌, fits_i64, number_of, fixed_at, skipped_at, split_at, offset_at, long_length_at, initial_length_at, address_at, is_address_size, uleb128_value, sleb128_value, cut_after, leb128_text, uleb128_in, sleb128_in, uleb128_at, sleb128_at}
 use Rattle.std.proofs.lemmas.Bool.Decides.{nat_tests}
 use Rattle.std.proofs.lemmas.List.Quantifiers.{position-Some}
 use Rattle.gimli_read.specs.declared.constants.TheConstants.{FIRST_RESERVED_LENGTH, LENGTH_ESCAPE}
-use Rattle.gimli_read.specs.declared.error.Error.{Error}
-use Rattle.gimli_read.specs.declared.error.Error.TheVariants.{UnexpectedEof, BadLeb128}
-use Rattle.gimli_read.specs.declared.endian.Format.{Format}
-use Rattle.gimli_read.specs.declared.endian.Format.TheVariants.{Dwarf32, Dwarf64}
-use Rattle.gimli_read.specs.Section.{Section, first, after}
-use Rattle.gimli_read.specs.Reading.{Reading, ◌>>=◌}
-use Rattle.gimli_read.specs.Number.{fits_i64, number_of, fixed_at, skipped_at, split_at, offset_at, long_length_at, initial_length_at, address_at, is_address_size}
-use Rattle.gimli_read.specs.Leb128.{uleb128_value, sleb128_value, cut_after, leb128_text, uleb128_in, sleb128_in, uleb128_at, sleb128_at}
 
 -- each value of a reading leaves fewer than n bytes
 pub record Shorter {A : Type 0} (n : ℕ) (r : Reading A) : Type 0 where

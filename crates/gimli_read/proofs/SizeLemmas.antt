@@ -1,25 +1,8 @@
 -- Attributes of known sizes, and attributes one after another (on specs/ValueSize.antt and specs/Skip.antt).
-use Rattle.std.proofs.Common.{◌≡◌, ℕ, suc, add-one, ◌+◌, ◌*◌, ◌<◌, ◌≤◌, ◌==◌, Bool, true, false, cond, ltb, List, [], ◌∷◌, ◌++◌, length, drop, get_or, Option, Some, None, Result, Ok, Err, refl, sym, ap, ◌∙◌, arith, length-drop, drop-drop, ℤ}
-use Rattle.std.proofs.lemmas.Bool.{eqb-true, lt-ltb, le-ltb, ltb-false, ltb-true}
-use Rattle.std.proofs.lemmas.List.{at_drop_more, at_drop_all}
-use Rattle.gimli_read.specs.declared.error.Error.{Error}
-use Rattle.gimli_read.specs.declared.error.Error.TheVariants.{UnexpectedEof, UnsupportedAddressSize}
-use Rattle.gimli_read.specs.declared.endian.Encoding.{Encoding}
-use Rattle.gimli_read.specs.declared.endian.Format.{Format}
-use Rattle.gimli_read.specs.declared.endian.Format.TheVariants.{Dwarf32, Dwarf64}
-use Rattle.gimli_read.specs.declared.constants.TheConstants.DwForm.{DW_FORM_indirect, DW_FORM_implicit_const}
-use Rattle.gimli_read.specs.declared.value.AttributeValue.{AttributeValue}
+use Rattle.gimli_read.proofs.Common.{◌≡◌, ℕ, suc, add-one, ◌+◌, ◌*◌, ◌<◌, ◌≤◌, ◌==◌, Bool, true, false, cond, ltb, List, [], ◌∷◌, ◌++◌, length, drop, get_or, Option, Some, None, Result, Ok, Err, refl, sym, ap, ◌∙◌, arith, length-drop, drop-drop, ℤ, eqb-true, lt-ltb, le-ltb, ltb-false, ltb-true, at_drop_more, at_drop_all, Error, UnexpectedEof, UnsupportedAddressSize, Encoding, Format, Dwarf32, Dwarf64, DW_FORM_indirect, DW_FORM_implicit_const, AttributeValue, Specification, Section, after, Reading, mapped, ◌>>=◌, number_of, fixed_at, skipped_at, address_at, offset_at, is_address_size, offset_size, FormEncoding, Fixed, Address, Offset, AddressOrOffset, Unsigned, Signed, Block1, Block2, Block4, Block, Text, Empty, form_encoding_of, address_or_offset_at, encoded_at, NamedValue, rest_of, direct_at, form_at, value_at, implicit_of, named_value, attribute_at, attributes_at, encoded_size, constant_size, address_bytes, bytes_of, attribute_size, address_or_offset_bytes, counted_bytes, no_size, is_usual, total_bytes, LeavesItsSize}
 use Rattle.gimli_read.specs.declared.size.ValueSize.TheVariants as sizes
 use Rattle.gimli_read.specs.declared.size.CountedSize.{CountedSize}
 use Rattle.gimli_read.specs.declared.size.TotalSize.{TotalSize}
-use Rattle.gimli_read.specs.Abbreviations.{Specification}
-use Rattle.gimli_read.specs.Section.{Section, after}
-use Rattle.gimli_read.specs.Reading.{Reading, mapped, ◌>>=◌}
-use Rattle.gimli_read.specs.Number.{number_of, fixed_at, skipped_at, address_at, offset_at, is_address_size, offset_size}
-use Rattle.gimli_read.specs.FormEncoding.{FormEncoding, Fixed, Address, Offset, AddressOrOffset, Unsigned, Signed, Block1, Block2, Block4, Block, Text, Empty, form_encoding_of}
-use Rattle.gimli_read.specs.EncodedValue.{address_or_offset_at, encoded_at}
-use Rattle.gimli_read.specs.Form.{NamedValue, rest_of, direct_at, form_at, value_at, implicit_of, named_value, attribute_at, attributes_at}
-use Rattle.gimli_read.specs.ValueSize.{encoded_size, constant_size, address_bytes, bytes_of, attribute_size, address_or_offset_bytes, counted_bytes, no_size, is_usual, total_bytes, LeavesItsSize}
 use Rattle.gimli_read.specs.Skip.{rest_after}
 use Rattle.gimli_read.specs.declared.abbrev.SizedRun.{SizedRun}
 use Rattle.gimli_read.specs.SizedRuns.{run_rest, runs_rest, rest_after_runs}

@@ -1,25 +1,9 @@
 -- What a reading leaves is what passing over as many bytes leaves (on specs/Form.antt and specs/ValueSize.antt).
-use Rattle.std.proofs.Common.{◌≡◌, ◌≢◌, ℕ, ◌-◌, ◌≤◌, ◌==◌, Bool, true, false, cond, List, [], ◌∷◌, ◌++◌, length, Option, Some, None, Result, Ok, Err, refl, sym, ap, ◌∙◌, arith}
-use Rattle.std.proofs.lemmas.Bool.{eqb-true}
-use Rattle.std.proofs.lemmas.List.{length-append, append_assoc}
+use Rattle.gimli_read.proofs.Common.{◌≡◌, ◌≢◌, ℕ, ◌-◌, ◌≤◌, ◌==◌, Bool, true, false, cond, List, [], ◌∷◌, ◌++◌, length, Option, Some, None, Result, Ok, Err, refl, sym, ap, ◌∙◌, arith, eqb-true, length-append, Encoding, DW_FORM_indirect, DW_FORM_implicit_const, AttributeValue, Section, Specification, skipped_at, null_terminated_at, uleb128_at, FormEncoding, Fixed, Address, Offset, AddressOrOffset, Unsigned, Signed, Block1, Block2, Block4, Block, Text, Empty, form_encoding_of, block_at, encoded_at, encoded_size, Error, Reading, mapped, ◌>>=◌, Exactly, NamedValue, rest_of, direct_at, form_at, value_at, implicit_of, named_value, attribute_at, attributes_at, section_of, IsTextAndRest}
+use Rattle.std.proofs.lemmas.List.{append_assoc}
 use Rattle.std.proofs.Math.Seq.{drop-append_seam}
-use Rattle.gimli_read.specs.declared.endian.Encoding.{Encoding}
-use Rattle.gimli_read.specs.declared.constants.TheConstants.DwForm.{DW_FORM_indirect, DW_FORM_implicit_const}
-use Rattle.gimli_read.specs.declared.value.AttributeValue.{AttributeValue}
 use Rattle.gimli_read.specs.declared.size.ValueSize.{ValueSize}
 use Rattle.gimli_read.specs.declared.size.ValueSize.TheVariants as sizes
-use Rattle.gimli_read.specs.Section.{Section}
-use Rattle.gimli_read.specs.Abbreviations.{Specification}
-use Rattle.gimli_read.specs.Number.{skipped_at, null_terminated_at}
-use Rattle.gimli_read.specs.Leb128.{uleb128_at}
-use Rattle.gimli_read.specs.FormEncoding.{FormEncoding, Fixed, Address, Offset, AddressOrOffset, Unsigned, Signed, Block1, Block2, Block4, Block, Text, Empty, form_encoding_of}
-use Rattle.gimli_read.specs.EncodedValue.{block_at, encoded_at}
-use Rattle.gimli_read.specs.ValueSize.{encoded_size}
-use Rattle.gimli_read.specs.declared.error.Error.{Error}
-use Rattle.gimli_read.specs.Reading.{Reading, mapped, ◌>>=◌, Exactly}
-use Rattle.gimli_read.specs.Form.{NamedValue, rest_of, direct_at, form_at, value_at, implicit_of, named_value, attribute_at, attributes_at}
-use Rattle.gimli_read.specs.Value.{section_of}
-use Rattle.gimli_read.specs.ValueLaws.{IsTextAndRest}
 use Rattle.gimli_read.proofs.FixedTexts.{not_short}
 use Rattle.gimli_read.proofs.AttributeTexts.{attribute_alone}
 use Rattle.gimli_read.proofs.SizeLemmas.{mapped_leaves, rests_more}

@@ -1,12 +1,5 @@
 -- Small steps on what readings give.
-use Rattle.std.proofs.Common.{◌≡◌, ℕ, ◌+◌, Bool, true, false, cond, ltb, List, length, drop, Option, Some, None, Result, Ok, Err, ◌==◌, ◌⊎◌, inl, inr, refl, ap, sym, ◌∙◌, arith}
-use Rattle.std.specs.List.{position}
-use Rattle.std.proofs.lemmas.Grind.{common_steps}
-use Rattle.gimli_read.specs.declared.error.Error.{Error}
-use Rattle.gimli_read.specs.declared.error.Error.TheVariants.{UnexpectedEof}
-use Rattle.gimli_read.specs.Section.{Section, first, after}
-use Rattle.gimli_read.specs.Reading.{◌>>=◌, ExactlyUnlessOomIf}
-use Rattle.gimli_read.specs.Number.{split_at, skipped_at, ended_at, null_terminated_at}
+use Rattle.gimli_read.proofs.Common.{◌≡◌, ℕ, ◌+◌, Bool, true, false, cond, ltb, List, length, drop, Option, Some, None, Result, Ok, Err, ◌==◌, ◌⊎◌, inl, inr, refl, ap, sym, ◌∙◌, arith, position, common_steps, Error, UnexpectedEof, Section, first, after, ◌>>=◌, ExactlyUnlessOomIf, split_at, skipped_at, ended_at, null_terminated_at}
 
 -- a value that no step reads
 abbrev pub done : {A : Type 0} → A → Result A Error

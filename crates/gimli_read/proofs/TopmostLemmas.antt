@@ -1,7 +1,6 @@
 -- Elements of lists, those that pass a test, and those with the greatest number (on
 -- specs/Topmost.antt).
-use Rattle.std.proofs.Common.{ℕ, ◌≡◌, ◌≤◌, ◌⊎◌, Bool, true, false, cond, ◌&&◌, List, [], ◌∷◌, Some, arith, inl, inr, ◌∙◌, subst, ap, sym, refl}
-use Rattle.std.specs.List.{filter, All}
+use Rattle.gimli_read.proofs.Common.{ℕ, ◌≡◌, ◌≤◌, ◌⊎◌, Bool, true, false, cond, ◌&&◌, List, [], ◌∷◌, Some, arith, inl, inr, ◌∙◌, subst, ap, sym, refl, filter, All}
 use Rattle.std.proofs.lemmas.List.Elements.{All-head, All-tail, All-cons, All-nil}
 use Rattle.gimli_read.specs.Topmost.{greatest, last}
 

@@ -1,14 +1,9 @@
 -- Sizes in a usual unit (on specs/ValueSize.antt).
-use Rattle.std.proofs.Common.{◌≡◌, ℕ, ◌+◌, ◌==◌, ◌&&◌, Bool, true, false, cond, nat_lt, Some, refl, ap, ◌∙◌, arith}
-use Rattle.std.proofs.lemmas.Bool.{eqb-true, ltb-true, and_parts}
-use Rattle.std.proofs.lemmas.Grind.{common_steps}
-use Rattle.gimli_read.specs.declared.endian.Encoding.{Encoding}
+use Rattle.gimli_read.proofs.Common.{◌≡◌, ℕ, ◌+◌, ◌==◌, ◌&&◌, Bool, true, false, cond, nat_lt, Some, refl, ap, ◌∙◌, arith, eqb-true, ltb-true, and_parts, common_steps, Encoding, is_address_size, offset_size, bytes_of, counted_bytes, is_usual, AddsCounted, AddsSize}
 use Rattle.gimli_read.specs.declared.size.TheConstants.{USUAL}
 use Rattle.gimli_read.specs.declared.size.TotalSize.{TotalSize}
 use Rattle.gimli_read.specs.declared.size.ValueSize.{ValueSize}
 use Rattle.gimli_read.specs.declared.size.ValueSize.TheVariants as sizes
-use Rattle.gimli_read.specs.Number.{is_address_size, offset_size}
-use Rattle.gimli_read.specs.ValueSize.{bytes_of, counted_bytes, is_usual, AddsCounted, AddsSize}
 
 -- a value has the same bytes in all usual units
 usual_bytes : (e : Encoding) (size : ValueSize) → is_usual e ≡ true → bytes_of e size ≡ bytes_of USUAL size

@@ -1,27 +1,10 @@
 -- What is read is the text of a value, and each such text is read (on specs/Value.antt).
-use Rattle.std.proofs.Common.{◌≡◌, ◌≢◌, ℕ, zero, suc, ◌+◌, ◌<◌, ◌≤◌, ◌==◌, true, false, cond, ltb, List, [], ◌∷◌, ◌++◌, length, take, drop, get_or, Option, Some, None, Ok, Err, refl, sym, ap, subst, ◌∙◌, inl, inr, arith, eq-eqb}
-use Rattle.std.specs.List.{position}
-use Rattle.std.proofs.lemmas.Bool.{lt-ltb, eqb-true, eqb-false, ne_eqb}
-use Rattle.std.proofs.lemmas.List.{length-take, length-append, get_or-take, take_more, append_assoc, get_or_append_left}
+use Rattle.gimli_read.proofs.Common.{◌≡◌, ◌≢◌, ℕ, zero, suc, ◌+◌, ◌<◌, ◌≤◌, ◌==◌, true, false, cond, ltb, List, [], ◌∷◌, ◌++◌, length, take, drop, get_or, Option, Some, None, Ok, Err, refl, sym, ap, subst, ◌∙◌, inl, inr, arith, eq-eqb, position, lt-ltb, eqb-true, eqb-false, ne_eqb, length-append, get_or-take, take_more, get_or_append_left, UnexpectedEof, UnsupportedAddressSize, Format, Dwarf32, Dwarf64, Encoding, AttributeValue, Section, first, after, Reading, mapped, ◌>>=◌, fixed_at, address_at, offset_at, split_at, ended_at, null_terminated_at, is_address_size, offset_size, IsUleb128, IsSleb128, uleb128_in, sleb128_in, uleb128_at, sleb128_at, direct_at, form_within, form_at, value_at, DW_FORM_indirect, FormEncoding, Fixed, Address, Offset, AddressOrOffset, Unsigned, Signed, Block1, Block2, Block4, Block, Text, Empty, form_encoding_of, block_at, address_or_offset_at, encoded_at, IsFixed, IsAddress, IsOffset, IsAddressOrOffset, IsMadeOf, IsBlock, IsEnded, section_of, IsListedValue, IsIndirectValue, IsTextAndRest, ReadsValue, ReadsValueAlone}
+use Rattle.std.proofs.lemmas.List.{length-take, append_assoc}
 use Rattle.std.proofs.lemmas.List.Sums.{position_or_len_is}
 use Rattle.std.proofs.lemmas.List.Quantifiers.{position-Some}
 use Rattle.std.proofs.Math.Seq.{get_or-append_seam, drop-append_seam, drop-append-add, take-append_seam}
-use Rattle.gimli_read.specs.declared.error.Error.TheVariants.{UnexpectedEof, UnsupportedAddressSize}
 use Rattle.gimli_read.specs.declared.endian.RunTimeEndian.{RunTimeEndian}
-use Rattle.gimli_read.specs.declared.endian.Format.{Format}
-use Rattle.gimli_read.specs.declared.endian.Format.TheVariants.{Dwarf32, Dwarf64}
-use Rattle.gimli_read.specs.declared.endian.Encoding.{Encoding}
-use Rattle.gimli_read.specs.declared.value.AttributeValue.{AttributeValue}
-use Rattle.gimli_read.specs.Section.{Section, first, after}
-use Rattle.gimli_read.specs.Reading.{Reading, mapped, ◌>>=◌}
-use Rattle.gimli_read.specs.Number.{fixed_at, address_at, offset_at, split_at, ended_at, null_terminated_at, is_address_size, offset_size}
-use Rattle.gimli_read.specs.Leb128.{IsUleb128, IsSleb128, uleb128_in, sleb128_in, uleb128_at, sleb128_at}
-use Rattle.gimli_read.specs.Form.{direct_at, form_within, form_at, value_at}
-use Rattle.gimli_read.specs.declared.constants.TheConstants.DwForm.{DW_FORM_indirect}
-use Rattle.gimli_read.specs.FormEncoding.{FormEncoding, Fixed, Address, Offset, AddressOrOffset, Unsigned, Signed, Block1, Block2, Block4, Block, Text, Empty, form_encoding_of}
-use Rattle.gimli_read.specs.EncodedValue.{block_at, address_or_offset_at, encoded_at}
-use Rattle.gimli_read.specs.Value.{IsFixed, IsAddress, IsOffset, IsAddressOrOffset, IsMadeOf, IsBlock, IsEnded, section_of, IsListedValue, IsIndirectValue}
-use Rattle.gimli_read.specs.ValueLaws.{IsTextAndRest, ReadsValue, ReadsValueAlone}
 use Rattle.gimli_read.proofs.Steps.{guard_ok, bind_ok, branch_taken, same_rest, same_value}
 use Rattle.gimli_read.proofs.Leb128Texts.{uleb128_reads, uleb128_alone, sleb128_reads, sleb128_alone}
 use Rattle.gimli_read.proofs.FormLemmas.{form_last, form_more}

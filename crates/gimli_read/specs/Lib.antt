@@ -1,3 +1,4 @@
+pub mod Common
 pub mod Section
 pub mod Version
 pub mod Reading

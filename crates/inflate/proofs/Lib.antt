@@ -1,3 +1,4 @@
+pub mod Common
 pub mod BitsLemmas
 pub mod CodeLemmas
 pub mod ItemLemmas

@@ -1,3 +1,4 @@
+pub mod Common
 pub mod Reading
 pub mod Bits
 pub mod Codes
@@ -5,7 +6,9 @@ pub mod Reader
 pub mod Tables
 pub mod Items
 pub mod Dynamic
+pub mod Costed
+pub mod StoredLength
 pub mod Blocks
 pub mod Stream
-pub mod Memory
+pub mod Inflated
 pub mod CodesOf

@@ -1,6 +1,4 @@
-use Rattle.std.proofs.Common.{◌≡◌, ap, sym, subst}
-use Rattle.std.proofs.lemmas.Result.{err_from_is_err_and}
-use Rattle.gimli_read.specs.Reading.{ExactlyUnlessOomIf}
+use Rattle.gimli.proofs.Common.{◌≡◌, ap, sym, subst, err_from_is_err_and, ExactlyUnlessOomIf}
 use Rattle.gimli.proofs.RecordLemmas.{root_values_by}
 use Rattle.gimli.proofs.record.read_root.Goals as goal
 

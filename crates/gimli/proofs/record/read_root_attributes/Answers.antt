@@ -1,5 +1,4 @@
-use Rattle.std.proofs.Common.{ap, refl, sym, ◌∙◌}
-use Rattle.std.proofs.lemmas.Result.{err_from_is_err_and}
+use Rattle.gimli.proofs.Common.{ap, refl, sym, ◌∙◌, err_from_is_err_and}
 use Rattle.gimli.proofs.RecordLemmas.{root_passes}
 use Rattle.gimli.proofs.WantedLemmas.{wanted_end, wanted_next, wanted_passed}
 use Rattle.gimli.proofs.record.read_root_attributes.Goals as goal

@@ -1,6 +1,4 @@
-use Rattle.std.proofs.Common.{◌≡◌, length}
-use Rattle.gimli.specs.Entry.{attributes_at}
-use Rattle.gimli.specs.Record.{no_root_values, root_values_after}
+use Rattle.gimli.proofs.Common.{◌≡◌, length, attributes_at, no_root_values, root_values_after}
 use Rattle.gimli.proofs.record.read_root_attributes.Given as goal
 
 abbrev pub invariant-loop-next : goal.invariant-loop-next

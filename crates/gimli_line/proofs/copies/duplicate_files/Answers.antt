@@ -1,4 +1,4 @@
-use Rattle.std.proofs.Common.{◌≡◌, ◌∙◌, arith}
+use Rattle.gimli_line.proofs.Common.{◌≡◌, ◌∙◌, arith}
 use Rattle.gimli_line.proofs.TableLemmas.{copied_next}
 use Rattle.gimli_line.proofs.copies.duplicate_files.Goals as goal
 

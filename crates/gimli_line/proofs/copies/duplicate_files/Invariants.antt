@@ -1,4 +1,4 @@
-use Rattle.std.proofs.Common.{◌≡◌, take}
+use Rattle.gimli_line.proofs.Common.{◌≡◌, take}
 use Rattle.gimli_line.proofs.copies.duplicate_files.Given as goal
 
 abbrev pub invariant-loop-file : goal.invariant-loop-file

@@ -1,6 +1,4 @@
-use Rattle.std.proofs.Common.{◌≡◌, ◌++◌, ◌∷◌, [], map, ap, ◌∙◌, arith}
-use Rattle.std.proofs.lemmas.List.{map-append}
-use Rattle.gimli_read.specs.Form.{seen_value}
+use Rattle.gimli_line.proofs.Common.{◌≡◌, ◌++◌, ◌∷◌, [], map, ap, ◌∙◌, arith, map-append, seen_value}
 use Rattle.gimli_line.proofs.TableLemmas.{copied_more}
 use Rattle.gimli_line.proofs.copies.duplicate_values.Goals as goal
 

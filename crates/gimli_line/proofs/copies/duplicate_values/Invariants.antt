@@ -1,5 +1,4 @@
-use Rattle.std.proofs.Common.{◌≡◌, map, take}
-use Rattle.gimli_read.specs.Form.{seen_value}
+use Rattle.gimli_line.proofs.Common.{◌≡◌, map, take, seen_value}
 use Rattle.gimli_line.proofs.copies.duplicate_values.Given as goal
 
 abbrev pub invariant-loop-value : goal.invariant-loop-value

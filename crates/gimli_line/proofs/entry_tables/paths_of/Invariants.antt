@@ -1,5 +1,4 @@
-use Rattle.std.proofs.Common.{◌≡◌, map}
-use Rattle.gimli_read.specs.Form.{seen_value}
+use Rattle.gimli_line.proofs.Common.{◌≡◌, map, seen_value}
 use Rattle.gimli_line.proofs.entry_tables.paths_of.Given as goal
 
 abbrev pub invariant-loop-entry : goal.invariant-loop-entry

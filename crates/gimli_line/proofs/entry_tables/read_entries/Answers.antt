@@ -1,8 +1,4 @@
-use Rattle.std.proofs.Common.{is_ok, inr, refl, ap, sym, ◌∙◌, arith}
-use Rattle.std.proofs.lemmas.Bool.{or_left, or_right}
-use Rattle.std.proofs.lemmas.Result.{err_from_is_err_and}
-use Rattle.gimli_read.proofs.AbbrevLemmas.{begun_by}
-use Rattle.gimli_line.specs.EntryTables.{formatted_entry_at}
+use Rattle.gimli_line.proofs.Common.{is_ok, inr, refl, ap, sym, ◌∙◌, arith, or_left, or_right, err_from_is_err_and, begun_by, formatted_entry_at}
 use Rattle.gimli_line.proofs.Numbers.{times_more, times_fault, times_none}
 use Rattle.gimli_line.proofs.TableLemmas.{first_given}
 use Rattle.gimli_line.proofs.entry_tables.read_entries.Goals as goal

@@ -1,7 +1,4 @@
-use Rattle.std.proofs.Common.{◌≡◌, ◌-◌}
-use Rattle.gimli_read.specs.Run.{with_front}
-use Rattle.gimli_read.proofs.AbbrevLemmas.{IsBegun}
-use Rattle.gimli_line.specs.EntryTables.{times, formatted_entry_at}
+use Rattle.gimli_line.proofs.Common.{◌≡◌, ◌-◌, with_front, IsBegun, times, formatted_entry_at}
 use Rattle.gimli_line.proofs.entry_tables.read_entries.Given as goal
 
 abbrev pub invariant-loop : goal.invariant-loop

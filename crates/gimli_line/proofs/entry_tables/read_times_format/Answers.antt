@@ -1,7 +1,4 @@
-use Rattle.std.proofs.Common.{is_ok, inr, refl, ap, sym, ◌∙◌, arith}
-use Rattle.std.proofs.lemmas.Result.{err_from_is_err_and}
-use Rattle.gimli_read.proofs.AbbrevLemmas.{begun_by}
-use Rattle.gimli_line.specs.EntryTables.{format_at}
+use Rattle.gimli_line.proofs.Common.{is_ok, inr, refl, ap, sym, ◌∙◌, arith, err_from_is_err_and, begun_by, format_at}
 use Rattle.gimli_line.proofs.Numbers.{times_more, times_fault, times_none}
 use Rattle.gimli_line.proofs.TableLemmas.{first_given}
 use Rattle.gimli_line.proofs.entry_tables.read_times_format.Goals as goal

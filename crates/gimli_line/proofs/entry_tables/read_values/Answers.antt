@@ -1,6 +1,4 @@
-use Rattle.std.proofs.Common.{◌+◌, drop, ap, sym, ◌∙◌, arith}
-use Rattle.std.proofs.lemmas.Result.{err_from_is_err_and}
-use Rattle.gimli_line.specs.EntryTables.{values_at}
+use Rattle.gimli_line.proofs.Common.{◌+◌, drop, ap, sym, ◌∙◌, arith, err_from_is_err_and, values_at}
 use Rattle.gimli_line.proofs.TableLemmas.{values_more, values_fault, values_end}
 use Rattle.gimli_line.proofs.entry_tables.read_values.Goals as goal
 

@@ -1,5 +1,4 @@
-use Rattle.std.proofs.Common.{◌≡◌, drop}
-use Rattle.gimli_line.specs.EntryTables.{no_entry, values_at}
+use Rattle.gimli_line.proofs.Common.{◌≡◌, drop, no_entry, values_at}
 use Rattle.gimli_line.proofs.entry_tables.read_values.Given as goal
 
 abbrev pub invariant-loop-format : goal.invariant-loop-format

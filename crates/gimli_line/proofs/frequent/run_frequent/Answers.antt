@@ -1,6 +1,4 @@
-use Rattle.std.proofs.Common.{[], ap, sym, subst, ◌∙◌, drop, arith}
-use Rattle.gimli_line.specs.declared.registers.Registers.{Registers}
-use Rattle.gimli_line.specs.Taking.{Passes}
+use Rattle.gimli_line.proofs.Common.{[], ap, sym, subst, ◌∙◌, drop, arith, Registers, Passes}
 use Rattle.gimli_line.proofs.AheadLemmas.{after_refusal}
 use Rattle.gimli_line.proofs.FirstOpcode.{at}
 use Rattle.gimli_line.proofs.Passing.{quiet_on, row_on, no_fault_on}

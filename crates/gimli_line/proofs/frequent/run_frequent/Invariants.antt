@@ -1,7 +1,5 @@
-use Rattle.std.proofs.Common.{◌-◌, ◌≤◌, length, drop}
+use Rattle.gimli_line.proofs.Common.{◌-◌, ◌≤◌, length, drop, IsRunning, Passes}
 use Rattle.gimli_read.specs.declared.endian.RunTimeEndian.{RunTimeEndian}
-use Rattle.gimli_line.specs.Steps.{IsRunning}
-use Rattle.gimli_line.specs.Taking.{Passes}
 use Rattle.gimli_line.proofs.FirstOpcode.{at}
 use Rattle.gimli_line.proofs.frequent.run_frequent.Given as goal
 

@@ -1,4 +1,4 @@
-use Rattle.std.proofs.Common.{◌≡◌, ◌+◌, ◌*◌, ◌/◌, ◌%◌, ◌-ℤ◌, ℤ, pos, of_z, to_z, w64, rules, ◌∙◌}
+use Rattle.gimli_line.proofs.Common.{◌≡◌, ◌+◌, ◌*◌, ◌/◌, ◌%◌, ◌-ℤ◌, ℤ, pos, of_z, to_z, w64, rules, ◌∙◌}
 use Rattle.std.proofs.lemmas.Int.{to_z-of_z}
 use Rattle.gimli_line.proofs.ShortNumbers.{short_signed, long_signed}
 use Rattle.gimli_line.proofs.frequent.short_signed.Goals as goal

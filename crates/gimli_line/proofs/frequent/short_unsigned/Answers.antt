@@ -1,4 +1,4 @@
-use Rattle.std.proofs.Common.{ℕ, ◌∷◌, Ok, ap, sym, ◌∙◌}
+use Rattle.gimli_line.proofs.Common.{ℕ, ◌∷◌, Ok, ap, sym, ◌∙◌}
 use Rattle.gimli_line.proofs.ShortNumbers.{short_unsigned, long_unsigned}
 use Rattle.gimli_line.proofs.frequent.short_unsigned.Goals as goal
 

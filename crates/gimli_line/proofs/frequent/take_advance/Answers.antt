@@ -1,4 +1,4 @@
-use Rattle.std.proofs.Common.{refl, sym, ◌∙◌}
+use Rattle.gimli_line.proofs.Common.{refl, sym, ◌∙◌}
 use Rattle.gimli_line.proofs.InPlace.{advance_counted, advance_dropped, not_refused}
 use Rattle.gimli_line.proofs.frequent.take_advance.Goals as goal
 

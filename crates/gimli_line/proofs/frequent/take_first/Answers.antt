@@ -1,9 +1,6 @@
-use Rattle.std.proofs.Common.{◌≡◌, ◌∷◌, Ok, drop, ℤ, of_z, to_z, w64, ap, subst, sym, ◌∙◌, arith, rules}
+use Rattle.gimli_line.proofs.Common.{◌≡◌, ◌∷◌, Ok, drop, ℤ, of_z, to_z, w64, ap, subst, sym, ◌∙◌, arith, rules, Copy, AdvancePc, AdvanceLine, SetFile, SetColumn, ConstAddPc, Other, Registers, TakesOpcode}
 use Rattle.std.proofs.lemmas.Int.{to_z-of_z}
-use Rattle.gimli_line.specs.declared.opcode.Opcode.TheVariants.{Copy, AdvancePc, AdvanceLine, SetFile, SetColumn, ConstAddPc, Other}
 use Rattle.gimli_line.specs.declared.frequent.Frequent.TheVariants.{Quiet}
-use Rattle.gimli_line.specs.declared.registers.Registers.{Registers}
-use Rattle.gimli_line.specs.Taking.{TakesOpcode}
 use Rattle.gimli_line.proofs.InPlace.{column_taken, const_add_pc_taken, copy_taken, file_taken, fits, line_taken, other_taken}
 use Rattle.gimli_line.proofs.FirstOpcode.{special_taken, standard_taken, at, copy_is, advance_pc_is, advance_line_is, set_file_is, set_column_is, negate_stmt_is, set_basic_block_is, const_add_pc_is, set_prologue_end_is, set_epilogue_begin_is}
 use Rattle.gimli_line.proofs.frequent.take_first.Goals as goal

@@ -1,6 +1,5 @@
-use Rattle.std.proofs.Common.{◌≡◌, ap, of_z, refl, rules, sym, to_z, w64, ◌∙◌}
+use Rattle.gimli_line.proofs.Common.{◌≡◌, ap, of_z, refl, rules, sym, to_z, w64, ◌∙◌, moved}
 use Rattle.std.proofs.lemmas.Int.{to_z-of_z}
-use Rattle.gimli_line.specs.Rows.{moved}
 use Rattle.gimli_line.proofs.InPlace.{not_refused, special_counted, special_dropped}
 use Rattle.gimli_line.proofs.frequent.take_special.Goals as goal
 

@@ -1,4 +1,4 @@
-use Rattle.gimli_line.specs.Lines.{lines_of}
+use Rattle.gimli_line.proofs.Common.{lines_of}
 use Rattle.gimli_read.proofs.FaultLemmas.{none_refused, not_refused}
 use Rattle.gimli_line.proofs.FaultLemmas.{coded_instruction_is, directory_is, entry_table_is, fault_after_is, file_is, instruction_is, instructions_end, line_header_fields_are, line_program_is, rows_of_are, tables_are}
 use Rattle.gimli_line.proofs.laws.fault_laws.Goals as goal

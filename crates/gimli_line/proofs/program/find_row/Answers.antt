@@ -1,7 +1,4 @@
-use Rattle.std.proofs.Common.{None, sym, ◌∙◌}
-use Rattle.std.proofs.lemmas.Result.{err_from_is_err_and}
-use Rattle.gimli_read.proofs.Shorter.{shorter_by}
-use Rattle.gimli_line.specs.Opcode.{instruction_at}
+use Rattle.gimli_line.proofs.Common.{None, sym, ◌∙◌, err_from_is_err_and, shorter_by, instruction_at}
 use Rattle.gimli_line.proofs.Shortening.{instruction-takes}
 use Rattle.gimli_line.proofs.RowsLeft.{left_end, left_more, left_step_fault, step_whole, at_empty, defines_more}
 use Rattle.gimli_line.proofs.AheadLemmas.{ahead_end, ahead_row, ahead_step_fault, none_ahead, defined_more, defined_all, still_none, defined_kept}

@@ -1,7 +1,4 @@
-use Rattle.std.proofs.Common.{◌≡◌, length}
-use Rattle.gimli_line.specs.Lines.{HasDefined}
-use Rattle.gimli_line.specs.Steps.{IsRunning}
-use Rattle.gimli_line.specs.Left.{rows_left, ahead_left, DefinesOn}
+use Rattle.gimli_line.proofs.Common.{◌≡◌, length, HasDefined, IsRunning, rows_left, ahead_left, DefinesOn}
 use Rattle.gimli_line.proofs.program.find_row.Given as goal
 
 abbrev pub invariant-loop-program : goal.invariant-loop-program

@@ -1,7 +1,4 @@
-use Rattle.std.proofs.Common.{◌≡◌, List, [], ◌∷◌, ◌++◌, Result, Err, sym, ap, ◌∙◌, append-nil}
-use Rattle.gimli_read.specs.declared.error.Error.{Error}
-use Rattle.gimli_line.specs.declared.row.LineRow.{LineRow}
-use Rattle.gimli_line.specs.Taking.{all_taken, fault_after}
+use Rattle.gimli_line.proofs.Common.{◌≡◌, List, [], ◌∷◌, ◌++◌, Result, Err, sym, ap, ◌∙◌, append-nil, Error, LineRow, all_taken, fault_after}
 use Rattle.gimli_line.proofs.RowsLeft.{at_empty, left_end, files_end}
 use Rattle.gimli_line.proofs.program.run.Goals as goal
 

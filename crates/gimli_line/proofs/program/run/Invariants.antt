@@ -1,6 +1,4 @@
-use Rattle.std.proofs.Common.{length}
-use Rattle.gimli_line.specs.Steps.{IsRunning}
-use Rattle.gimli_line.specs.Taking.{Passes}
+use Rattle.gimli_line.proofs.Common.{length, IsRunning, Passes}
 use Rattle.gimli_line.proofs.program.run.Given as goal
 
 abbrev pub invariant-loop-header : goal.invariant-loop-header

@@ -1,7 +1,4 @@
-use Rattle.std.proofs.Common.{◌≡◌, List, ℕ, [], ◌∷◌, Err, drop, sym, subst}
-use Rattle.gimli_read.specs.Section.{Section}
-use Rattle.gimli_line.specs.Left.{rows_left}
-use Rattle.gimli_line.specs.Taking.{Passes}
+use Rattle.gimli_line.proofs.Common.{◌≡◌, List, ℕ, [], ◌∷◌, Err, drop, sym, subst, Section, rows_left, Passes}
 use Rattle.gimli_line.proofs.AheadLemmas.{after_refusal}
 use Rattle.gimli_line.proofs.FirstOpcode.{at}
 use Rattle.gimli_line.proofs.Passing.{skipped_is}

@@ -1,6 +1,4 @@
-use Rattle.std.proofs.lemmas.Result.{err_from_is_err_and}
-use Rattle.gimli_read.proofs.Shorter.{shorter_by}
-use Rattle.gimli_line.specs.Opcode.{instruction_at}
+use Rattle.gimli_line.proofs.Common.{err_from_is_err_and, shorter_by, instruction_at}
 use Rattle.gimli_line.proofs.Shortening.{instruction-takes}
 use Rattle.gimli_line.proofs.RowsLeft.{left_step_fault, step_whole}
 use Rattle.gimli_line.proofs.AheadLemmas.{none_ahead}

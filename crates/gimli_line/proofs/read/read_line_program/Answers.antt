@@ -1,4 +1,4 @@
-use Rattle.std.proofs.lemmas.Result.{err_from_is_err_and}
+use Rattle.gimli_line.proofs.Common.{err_from_is_err_and}
 use Rattle.gimli_line.proofs.ProgramLemmas.{fields_refused}
 use Rattle.gimli_line.proofs.read.read_line_program.Goals as goal
 

@@ -1,4 +1,4 @@
-use Rattle.std.proofs.Common.{sym, arith}
+use Rattle.gimli_line.proofs.Common.{sym, arith}
 use Rattle.gimli_line.proofs.Division.{div_sum, mod_sum}
 use Rattle.gimli_line.proofs.registers.instructions.Goals as goal
 

@@ -1,5 +1,4 @@
-use Rattle.std.proofs.Common.{◌∙◌, sym, arith}
-use Rattle.std.proofs.lemmas.Result.{err_from_is_err_and}
+use Rattle.gimli_line.proofs.Common.{◌∙◌, sym, arith, err_from_is_err_and}
 use Rattle.gimli_line.proofs.Numbers.{skipped_fault, skipped_more, skipped_none}
 use Rattle.gimli_line.proofs.standard.skip_numbers.Goals as goal
 

@@ -1,5 +1,4 @@
-use Rattle.std.proofs.Common.{◌≡◌, ◌-◌}
-use Rattle.gimli_line.specs.Opcode.{numbers_skipped}
+use Rattle.gimli_line.proofs.Common.{◌≡◌, ◌-◌, numbers_skipped}
 use Rattle.gimli_line.proofs.standard.skip_numbers.Given as goal
 
 abbrev pub invariant-loop : goal.invariant-loop

@@ -1,12 +1,5 @@
-use Rattle.std.proofs.Common.{◌≡◌, ◌++◌, ◌∷◌, [], Ok, map, ap, sym, refl, inr, ◌∙◌, append-nil}
-use Rattle.std.proofs.lemmas.Bool.{or_left, or_right}
-use Rattle.std.proofs.lemmas.Result.{err_from_is_err_and}
-use Rattle.std.proofs.lemmas.List.{map-append}
-use Rattle.gimli_read.specs.Run.{with_front}
-use Rattle.gimli_read.proofs.Shorter.{shorter_by}
+use Rattle.gimli_line.proofs.Common.{◌≡◌, ◌++◌, ◌∷◌, [], Ok, map, ap, sym, refl, inr, ◌∙◌, append-nil, or_left, or_right, err_from_is_err_and, map-append, with_front, shorter_by, seen_value, directory_at}
 use Rattle.gimli_read.proofs.RunLemmas.{collected-more, collected-end, collected-fault}
-use Rattle.gimli_read.specs.Form.{seen_value}
-use Rattle.gimli_line.specs.Tables.{directory_at}
 use Rattle.gimli_line.proofs.Shortening.{directory-takes}
 use Rattle.gimli_line.proofs.TableLemmas.{one_given}
 use Rattle.gimli_line.proofs.tables.read_directories.Goals as goal

@@ -1,7 +1,4 @@
-use Rattle.std.proofs.Common.{◌≡◌, map, length}
-use Rattle.gimli_read.specs.Run.{run_of, collected, with_front}
-use Rattle.gimli_read.specs.Form.{seen_value}
-use Rattle.gimli_line.specs.Tables.{directory_at}
+use Rattle.gimli_line.proofs.Common.{◌≡◌, map, length, run_of, collected, with_front, seen_value, directory_at}
 use Rattle.gimli_line.proofs.TableLemmas.{IsGivenOne}
 use Rattle.gimli_line.proofs.tables.read_directories.Given as goal
 

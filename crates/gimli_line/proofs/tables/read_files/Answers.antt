@@ -1,10 +1,5 @@
-use Rattle.std.proofs.Common.{Ok, ap, sym, refl, inr, ◌∙◌, append-nil}
-use Rattle.std.proofs.lemmas.Bool.{or_left, or_right}
-use Rattle.std.proofs.lemmas.Result.{err_from_is_err_and}
-use Rattle.gimli_read.specs.Run.{with_front}
-use Rattle.gimli_read.proofs.Shorter.{shorter_by}
+use Rattle.gimli_line.proofs.Common.{Ok, ap, sym, refl, inr, ◌∙◌, append-nil, or_left, or_right, err_from_is_err_and, with_front, shorter_by, file_at}
 use Rattle.gimli_read.proofs.RunLemmas.{collected-more, collected-end, collected-fault}
-use Rattle.gimli_line.specs.Tables.{file_at}
 use Rattle.gimli_line.proofs.Shortening.{file-takes}
 use Rattle.gimli_line.proofs.TableLemmas.{one_given}
 use Rattle.gimli_line.proofs.tables.read_files.Goals as goal

@@ -1,6 +1,4 @@
-use Rattle.std.proofs.Common.{◌≡◌, length}
-use Rattle.gimli_read.specs.Run.{run_of, collected, with_front}
-use Rattle.gimli_line.specs.Tables.{file_at}
+use Rattle.gimli_line.proofs.Common.{◌≡◌, length, run_of, collected, with_front, file_at}
 use Rattle.gimli_line.proofs.TableLemmas.{IsGivenOne}
 use Rattle.gimli_line.proofs.tables.read_files.Given as goal
 

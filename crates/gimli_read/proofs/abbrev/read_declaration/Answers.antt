@@ -1,11 +1,6 @@
-use Rattle.std.proofs.Common.{◌≡◌, Bool, true, List, is_ok, Ok, Err, refl, sym, ap, ◌∙◌}
-use Rattle.std.proofs.lemmas.Result.{err_from_is_err_and}
+use Rattle.gimli_read.proofs.Common.{◌≡◌, Bool, true, List, is_ok, Ok, Err, refl, sym, ap, ◌∙◌, err_from_is_err_and, Section, Reading, ◌>>=◌, Specification, specification_at, specifications_at, declaration_head_at, head_and_pair_at}
 use Rattle.gimli_read.specs.declared.constants.DwTag.{DwTag}
-use Rattle.gimli_read.specs.Section.{Section}
-use Rattle.gimli_read.specs.Reading.{Reading, ◌>>=◌}
 use Rattle.std.specs.Prelude.{Option}
-use Rattle.gimli_read.specs.Abbreviations.{Specification}
-use Rattle.gimli_read.specs.Abbrev.{specification_at, specifications_at, declaration_head_at, head_and_pair_at}
 use Rattle.gimli_read.proofs.RunLemmas.{collected-fault}
 use Rattle.gimli_read.proofs.AbbrevLemmas.{specification_takes}
 use Rattle.gimli_read.proofs.abbrev.read_declaration.Goals as goal

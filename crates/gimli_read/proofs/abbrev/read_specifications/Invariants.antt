@@ -1,6 +1,4 @@
-use Rattle.std.proofs.Common.{◌≡◌, ◌⊎◌, [], is_ok, length, true}
-use Rattle.gimli_read.specs.Abbrev.{specification_at}
-use Rattle.gimli_read.specs.Run.{collected, run_of, with_front}
+use Rattle.gimli_read.proofs.Common.{◌≡◌, ◌⊎◌, [], is_ok, length, true, specification_at, collected, run_of, with_front}
 use Rattle.gimli_read.proofs.AbbrevLemmas.{IsBegun}
 use Rattle.gimli_read.proofs.abbrev.read_specifications.Given as goal
 

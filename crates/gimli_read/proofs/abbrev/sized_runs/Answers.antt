@@ -1,6 +1,5 @@
-use Rattle.std.proofs.Common.{◌≡◌, sym, ◌∙◌}
+use Rattle.gimli_read.proofs.Common.{◌≡◌, sym, ◌∙◌, no_size, total_bytes}
 use Rattle.gimli_read.proofs.SizeLemmas.{so_far_start, so_far_sized, so_far_other, so_far_end, total_zero}
-use Rattle.gimli_read.specs.ValueSize.{no_size, total_bytes}
 use Rattle.gimli_read.proofs.abbrev.sized_runs.Goals as goal
 use Rattle.gimli_read.proofs.abbrev.sized_runs.Goals.{in-Some, in-None+in_ok-push-in-None}
 

@@ -1,8 +1,4 @@
-use Rattle.std.proofs.Common.{◌≡◌, drop, true}
-use Rattle.gimli_read.specs.declared.endian.Encoding.{Encoding}
-use Rattle.gimli_read.specs.Section.{Section}
-use Rattle.gimli_read.specs.Number.{is_address_size}
-use Rattle.gimli_read.specs.Form.{attributes_at, rest_of}
+use Rattle.gimli_read.proofs.Common.{◌≡◌, drop, true, Encoding, Section, is_address_size, attributes_at, rest_of}
 use Rattle.gimli_read.proofs.SizeLemmas.{so_far}
 use Rattle.gimli_read.proofs.abbrev.sized_runs.Given as goal
 

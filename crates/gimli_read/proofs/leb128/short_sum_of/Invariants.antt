@@ -1,5 +1,4 @@
-use Rattle.std.proofs.Common.{◌≡◌, ◌^◌, take}
-use Rattle.gimli_read.specs.Leb128.{uleb128_value}
+use Rattle.gimli_read.proofs.Common.{◌≡◌, ◌^◌, take, uleb128_value}
 use Rattle.gimli_read.proofs.leb128.short_sum_of.Given as goal
 
 abbrev pub invariant-loop-byte : goal.invariant-loop-byte

@@ -1,5 +1,4 @@
-use Rattle.std.proofs.Common.{sym}
-use Rattle.std.proofs.lemmas.Grind.{pow_more}
+use Rattle.gimli_read.proofs.Common.{sym, pow_more}
 use Rattle.gimli_read.proofs.Leb128Lemmas.{uleb128_value-more}
 use Rattle.gimli_read.proofs.leb128.sum_of.Goals as goal
 

@@ -1,4 +1,4 @@
-use Rattle.std.proofs.Common.{◌==◌}
+use Rattle.gimli_read.proofs.Common.{◌==◌}
 use Rattle.gimli_read.proofs.FirstByte.{position_is}
 use Rattle.gimli_read.proofs.reader.zero_of.Goals as goal
 

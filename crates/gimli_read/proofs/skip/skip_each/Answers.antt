@@ -1,5 +1,4 @@
-use Rattle.std.proofs.Common.{sym, ◌∙◌}
-use Rattle.std.proofs.lemmas.Result.{err_from_is_err_and}
+use Rattle.gimli_read.proofs.Common.{sym, ◌∙◌, err_from_is_err_and}
 use Rattle.gimli_read.proofs.SizeLemmas.{rests_step, rests_fault, rests_end}
 use Rattle.gimli_read.proofs.SkipLemmas.{skipped_exactly}
 use Rattle.gimli_read.proofs.skip.skip_each.Goals as goal

@@ -1,5 +1,4 @@
-use Rattle.std.proofs.Common.{◌≡◌, drop}
-use Rattle.gimli_read.specs.Form.{rest_of, attributes_at}
+use Rattle.gimli_read.proofs.Common.{◌≡◌, drop, rest_of, attributes_at}
 use Rattle.gimli_read.proofs.SizeLemmas.{rests_after}
 use Rattle.gimli_read.proofs.skip.skip_each.Given as goal
 

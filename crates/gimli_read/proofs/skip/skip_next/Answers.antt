@@ -1,4 +1,4 @@
-use Rattle.std.proofs.Common.{◌≡◌, ◌+◌, sym, arith}
+use Rattle.gimli_read.proofs.Common.{◌≡◌, ◌+◌, sym, arith}
 use Rattle.gimli_read.proofs.SizeLemmas.{next_sized}
 use Rattle.gimli_read.proofs.skip.skip_next.Goals as goal
 

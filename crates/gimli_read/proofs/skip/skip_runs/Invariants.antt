@@ -1,4 +1,4 @@
-use Rattle.std.proofs.Common.{◌≡◌, drop}
+use Rattle.gimli_read.proofs.Common.{◌≡◌, drop}
 use Rattle.gimli_read.specs.SizedRuns.{rest_after_runs}
 use Rattle.gimli_read.proofs.skip.skip_runs.Given as goal
 

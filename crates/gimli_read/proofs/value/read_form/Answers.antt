@@ -1,5 +1,4 @@
-use Rattle.std.proofs.Common.{sym, ◌∙◌, eq-eqb, rules}
-use Rattle.std.proofs.lemmas.Result.{err_from_is_err_and}
+use Rattle.gimli_read.proofs.Common.{sym, ◌∙◌, eq-eqb, rules, err_from_is_err_and}
 use Rattle.gimli_read.proofs.FormLemmas.{form_fault, form_more, form_last, form_less}
 use Rattle.gimli_read.proofs.value.read_form.Goals as goal
 

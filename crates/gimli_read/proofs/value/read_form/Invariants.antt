@@ -1,7 +1,4 @@
-use Rattle.std.proofs.Common.{◌≡◌, length, Ok}
-use Rattle.gimli_read.specs.Section.{Section}
-use Rattle.gimli_read.specs.Leb128.{uleb128_at}
-use Rattle.gimli_read.specs.Form.{form_at}
+use Rattle.gimli_read.proofs.Common.{◌≡◌, length, Ok, Section, uleb128_at, form_at}
 use Rattle.gimli_read.proofs.value.read_form.Given as goal
 
 -- the last form read, and where it stood

@@ -1,6 +1,4 @@
-use Rattle.std.proofs.Common.{◌≡◌, ◌+◌, ◌%◌, arith, take, get_or, refl}
-use Rattle.std.proofs.lemmas.List.{take_all}
-use Rattle.inflate.specs.Stream.{adler32_of}
+use Rattle.inflate.proofs.Common.{◌≡◌, ◌+◌, ◌%◌, arith, take, get_or, refl, take_all, adler32_of}
 use Rattle.inflate.proofs.AdlerLemmas.{low_next, high_next}
 use Rattle.inflate.proofs.adler.adler32.Goals as goal
 use Rattle.inflate.proofs.adler.adler32.Goals.{then-high-ge-SUM_LIMIT, else-high-ge-SUM_LIMIT}

@@ -1,5 +1,4 @@
-use Rattle.std.proofs.Common.{◌≡◌, ◌+◌, ◌%◌, ◌<◌, ◌≤◌, ◌^◌, take, sum}
-use Rattle.inflate.specs.Stream.{sums_from}
+use Rattle.inflate.proofs.Common.{◌≡◌, ◌+◌, ◌%◌, ◌<◌, ◌≤◌, ◌^◌, take, sum, sums_from}
 use Rattle.inflate.proofs.adler.adler32.Given as goal
 
 abbrev pub invariant-loop-byte : goal.invariant-loop-byte

@@ -1,4 +1,4 @@
-use Rattle.std.proofs.Common.{◌*◌, ◌/◌, ◌∙◌, ap, arith}
+use Rattle.gimli_line.proofs.Common.{◌*◌, ◌/◌, ◌∙◌, ap, arith}
 use Rattle.gimli_line.proofs.Division.{by_reciprocal}
 use Rattle.gimli_line.proofs.parameters.LineParameters.quotient.Goals as goal
 

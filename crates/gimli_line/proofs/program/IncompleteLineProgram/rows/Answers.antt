@@ -1,6 +1,4 @@
-use Rattle.std.proofs.Common.{◌<◌, Ok, ap, ◌∙◌, sym, subst}
-use Rattle.gimli_line.specs.Header.{Header}
-use Rattle.gimli_line.specs.Lines.{lines_of}
+use Rattle.gimli_line.proofs.Common.{◌<◌, Ok, ap, ◌∙◌, sym, subst, Header, lines_of}
 use Rattle.gimli_line.proofs.ClosedForm.{lines_begin, ok_is}
 use Rattle.gimli_line.proofs.program.IncompleteLineProgram.rows.Goals as goal
 

@@ -1,8 +1,4 @@
-use Rattle.std.proofs.Common.{List, Result, sym, ap, subst, ◌∙◌}
-use Rattle.gimli_read.specs.declared.error.Error.{Error}
-use Rattle.gimli_line.specs.declared.row.LineRow.{LineRow}
-use Rattle.gimli_line.specs.Lines.{Lines, YieldsUnlessOom}
-use Rattle.gimli_line.specs.Left.{rows_left}
+use Rattle.gimli_line.proofs.Common.{List, Result, sym, ap, subst, ◌∙◌, Error, LineRow, Lines, YieldsUnlessOom, rows_left}
 use Rattle.gimli_line.proofs.RowsLeft.{left_none, stopped}
 use Rattle.gimli_line.proofs.AheadLemmas.{over, after_refusal, after_end}
 use Rattle.gimli_line.proofs.program.LineRows.next_row.Goals as goal

@@ -1,6 +1,4 @@
-use Rattle.std.proofs.Common.{subst}
-use Rattle.gimli_line.specs.Lines.{Lines}
-use Rattle.gimli_line.specs.Opcode.{opcodes_in, instructions_of}
+use Rattle.gimli_line.proofs.Common.{subst, Lines, opcodes_in, instructions_of}
 use Rattle.gimli_line.specs.Rises.{rows_before, NeverFalls}
 use Rattle.gimli_line.proofs.Rising.{never_falls}
 use Rattle.gimli_line.proofs.program.LineRows.rises.Goals as goal

@@ -1,6 +1,4 @@
-use Rattle.std.proofs.Common.{List, sym, ap, ◌∙◌}
-use Rattle.std.specs.List.{slice_get}
-use Rattle.gimli_read.specs.Abbreviations.{Abbrev}
+use Rattle.gimli_read.proofs.Common.{List, sym, ap, ◌∙◌, slice_get, Abbrev}
 use Rattle.gimli_read.specs.AbbreviationPlaces.{if_coded}
 use Rattle.gimli_read.proofs.PlaceLemmas.{coded_found, displaced_found, led_to}
 use Rattle.gimli_read.proofs.abbrev.Abbreviations.get.Goals as goal

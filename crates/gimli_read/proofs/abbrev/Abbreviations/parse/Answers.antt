@@ -1,6 +1,4 @@
-use Rattle.std.proofs.Common.{inr, refl, sym, ◌∙◌}
-use Rattle.std.proofs.lemmas.Result.{err_from_is_err_and}
-use Rattle.gimli_read.specs.Abbrev.{front_at}
+use Rattle.gimli_read.proofs.Common.{inr, refl, sym, ◌∙◌, err_from_is_err_and, front_at}
 use Rattle.gimli_read.proofs.AbbrevLemmas.{step_refused, begun_by, abbreviation_front, table_fault, table_ends, table_more, abbreviation_less, abbreviation_new}
 use Rattle.gimli_read.proofs.abbrev.Abbreviations.parse.Goals as goal
 

@@ -1,5 +1,4 @@
-use Rattle.std.proofs.Common.{◌≡◌, length}
-use Rattle.gimli_read.specs.Abbrev.{front_at, table_at}
+use Rattle.gimli_read.proofs.Common.{◌≡◌, length, front_at, table_at}
 use Rattle.gimli_read.proofs.AbbrevLemmas.{table_from, IsBegun}
 use Rattle.gimli_read.proofs.abbrev.Abbreviations.parse.Given as goal
 

@@ -1,5 +1,4 @@
-use Rattle.std.proofs.Common.{length, ap}
-use Rattle.gimli_read.specs.Abbreviations.{Abbrev}
+use Rattle.gimli_read.proofs.Common.{length, ap, Abbrev}
 use Rattle.gimli_read.proofs.AbbrevLemmas.{distinct-push}
 use Rattle.gimli_read.proofs.PlaceLemmas.{placed_apart, placed_first, placed-push}
 use Rattle.gimli_read.proofs.abbrev.Abbreviations.push.Goals as goal

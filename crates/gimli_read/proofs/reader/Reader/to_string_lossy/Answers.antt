@@ -1,4 +1,4 @@
-use Rattle.std.proofs.Common.{sym, ◌∙◌, ◌≡◌}
+use Rattle.gimli_read.proofs.Common.{sym, ◌∙◌, ◌≡◌}
 use Rattle.bstr.proofs.lemmas.EncodeLemmas.{lossy_chars-utf8}
 use Rattle.gimli_read.proofs.reader.Reader.to_string_lossy.Goals as goal
 

@@ -1,6 +1,4 @@
-use Rattle.std.proofs.Common.{◌≡◌, ◌+◌, refl, arith}
-use Rattle.gimli_read.specs.Number.{offset_size}
-use Rattle.gimli_read.specs.ValueSize.{address_or_offset_bytes}
+use Rattle.gimli_read.proofs.Common.{◌≡◌, ◌+◌, refl, arith, offset_size, address_or_offset_bytes}
 use Rattle.gimli_read.proofs.SizeLemmas.{address_known, either_known, more_addresses, more_offsets, more_of_either}
 use Rattle.gimli_read.proofs.size.CountedSize.with.Goals as goal
 

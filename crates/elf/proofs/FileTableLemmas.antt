@@ -1,19 +1,6 @@
 -- Sections that stand in one piece (on specs/FileTables.antt).
-use Rattle.std.proofs.Common.{◌≡◌, ◌∙◌, ◌≤◌, ◌+◌, ℕ, zero, suc, Bool, true, false, ◌&&◌, ◌||◌, not, List, [], ◌∷◌, Option, Some, None, drop, get_or, length, nat_eq, option_map, ap, arith, refl, sym}
-use Rattle.std.specs.Prelude.{slice_get, option_and_then}
-use Rattle.std.specs.List.{list_all, position, starts_with}
-use Rattle.std.specs.Option.{option_map_or}
-use Rattle.std.specs.Str.{bytes_eq}
-use Rattle.std.proofs.lemmas.Bool.Decides.{nat_tests}
+use Rattle.elf.proofs.Common.{◌≡◌, ◌∙◌, ◌≤◌, ◌+◌, ℕ, zero, suc, Bool, true, false, ◌&&◌, ◌||◌, not, List, [], ◌∷◌, Option, Some, None, drop, get_or, length, nat_eq, option_map, ap, arith, refl, sym, slice_get, option_and_then, list_all, position, starts_with, option_map_or, bytes_eq, nat_tests, or_right, and_parts, SectionHeader, Image, IsWhole, image_bytes, is_held, AreReadable, has_zdebug_name, is_packed, is_readable, first_zdebug, ObjectFile, is_outside, table_text_at, debug_prefix, zdebug_prefix, is_compressed, is_zdebug, is_zdebug_text, section_names_of}
 use Rattle.std.proofs.lemmas.List.Quantifiers.{position-Some}
-use Rattle.std.proofs.lemmas.Bool.{or_right, and_parts}
-use Rattle.elf.specs.declared.section.SectionHeader.{SectionHeader}
-use Rattle.elf.specs.FileImage.{Image, IsWhole, image_bytes, is_held}
-use Rattle.elf.specs.FileTables.{AreReadable, has_zdebug_name, is_packed, is_readable}
-use Rattle.elf.specs.Compressed.{first_zdebug}
-use Rattle.elf.specs.ObjectFile.{ObjectFile}
-use Rattle.elf.specs.SectionBytes.{is_outside, table_text_at}
-use Rattle.elf.specs.Sections.{debug_prefix, zdebug_prefix, is_compressed, is_zdebug, is_zdebug_text, section_names_of}
 
 -- what holds of all holds of each
 pub all_at : {X : Type 0} (p : X → Bool) (xs : List X) (n : ℕ) (x : X) → list_all p xs ≡ true → slice_get xs n ≡ Some x → p x ≡ true

@@ -1,19 +1,10 @@
 -- Files of which only pieces were read load as their bytes do (on specs/ImageLaws.antt).
-use Rattle.std.proofs.Common.{◌≡◌, ◌∙◌, ℕ, inl, inr, ◌*◌, true, ◌&&◌, List, Ok, Err, length, drop, ap, arith, refl, subst, sym}
-use Rattle.std.proofs.lemmas.Bool.{and_parts}
-use Rattle.std.proofs.lemmas.List.{take_all}
+use Rattle.elf.proofs.Common.{◌≡◌, ◌∙◌, ℕ, inl, inr, ◌*◌, true, ◌&&◌, List, Ok, Err, length, drop, ap, arith, refl, subst, sym, and_parts, take_all, SectionHeader, Image, IsWhole, Shows, image_bytes, is_held, header_in, ident_in, layout_of, Loading, ObjectFile, name_table_of, object_file_of, object_file_with, has_wanted, or_false, shows_all, shows_sections, shows_tables}
 use Rattle.gimli_read.specs.Reading.{◌>>=◌}
 use Rattle.elf.specs.declared.constants.TheConstants.{EHDR_SIZE_MAX}
 use Rattle.elf.specs.declared.header.Ident.{Ident}
 use Rattle.elf.specs.declared.header.FileHeader.{FileHeader}
-use Rattle.elf.specs.declared.section.SectionHeader.{SectionHeader}
-use Rattle.elf.specs.FileImage.{Image, IsWhole, Shows, image_bytes, is_held}
-use Rattle.elf.specs.Header.{header_in, ident_in}
 use Rattle.elf.specs.ImageLaws.{AnswersAlike, ImagesLoadAlike, LoadAlike, SameButBytes}
-use Rattle.elf.specs.Layout.{layout_of}
-use Rattle.elf.specs.Loading.{Loading}
-use Rattle.elf.specs.ObjectFile.{ObjectFile, name_table_of, object_file_of, object_file_with}
-use Rattle.elf.specs.Wanted.{has_wanted, or_false, shows_all, shows_sections, shows_tables}
 use Rattle.elf.proofs.PartLemmas.{fields_in_header, fields_in_section, header_alike, header_start, header_within, ident_alike, number_alike, sections_alike}
 use Rattle.elf.proofs.ShownAnswers.{answers_alike}
 
@@ -43,7 +34,7 @@ itself_alike : (f : ObjectFile) → AnswersAlike f f
 itself_alike f = record {
   ranges = λ name. refl;
   symbols = λ probe. refl;
-  sections = λ name wanted. record { contents = refl; decompressed = refl; memory = refl };
+  sections = λ name wanted. record { contents = refl; decompressed = refl };
 }
 
 itself : (bytes : List ℕ) (r : Loading ObjectFile) → object_file_of bytes ≡ r → LoadAlike bytes r r

@@ -1,20 +1,11 @@
 -- What the pieces of a file say of its bytes (on specs/FileImage.antt).
-use Rattle.std.proofs.Common.{◌≡◌, ◌∙◌, ℕ, zero, suc, ◌⊎◌, inl, inr, ◌+◌, ◌-◌, ◌≤◌, ◌<◌, Bool, true, false, cond, List, [], ◌∷◌, ◌++◌, Option, Some, None, length, map, take, drop, get_or, replicate, set, is_some, option_map, ap, append-nil, arith, refl, sym, subst}
-use Rattle.std.specs.Prelude.{IfSome}
-use Rattle.std.specs.List.{find, list_all}
-use Rattle.std.proofs.lemmas.Bool.{cases_lt}
-use Rattle.std.proofs.lemmas.Bool.Decides.{nat_tests}
-use Rattle.std.proofs.lemmas.List.{drop-drop, drop-take, drop_more, take-take, get_or-drop, take_more, take_more_set, drop-append-le, take-append-le, length-append, length-replicate, length-drop, length-take-le, get_or_append_left, get_or-append_right}
+use Rattle.elf.proofs.Common.{◌≡◌, ◌∙◌, ℕ, zero, suc, ◌⊎◌, inl, inr, ◌+◌, ◌-◌, ◌≤◌, ◌<◌, Bool, true, false, cond, List, [], ◌∷◌, ◌++◌, Option, Some, None, length, map, take, drop, get_or, replicate, set, is_some, option_map, ap, append-nil, arith, refl, sym, subst, IfSome, find, list_all, cases_lt, nat_tests, drop-drop, drop-take, drop_more, take-take, get_or-drop, take_more, take_more_set, drop-append-le, take-append-le, length-append, length-replicate, length-drop, length-take-le, get_or_append_left, get_or-append_right, RunTimeEndian, Piece, Image, HasPart, IsWhole, ArePiecesInOrder, bytes_from, piece_holds, image_bytes, is_held, piece_end, ArePiecesOf, IsPieceOf, Shows, is_range_of, piece_in, pieces_at, layout_number_at}
 use Rattle.std.proofs.Math.Seq.{drop-append-add}
 use Rattle.byteorder.specs.Endian.{big_from, little_from}
 use Rattle.byteorder.specs.Numbers.{big_from-take, little_from-take}
-use Rattle.gimli_read.specs.declared.endian.RunTimeEndian.{RunTimeEndian}
 use Rattle.gimli_read.specs.declared.endian.RunTimeEndian.TheVariants.{Little, Big}
 use Rattle.gimli_read.specs.Number.{number_of}
 use Rattle.gimli_read.specs.declared.range.Range.{Range}
-use Rattle.elf.specs.declared.image.Piece.{Piece}
-use Rattle.elf.specs.FileImage.{Image, HasPart, IsWhole, ArePiecesInOrder, bytes_from, piece_holds, image_bytes, is_held, piece_end, ArePiecesOf, IsPieceOf, Shows, is_range_of, piece_in, pieces_at}
-use Rattle.elf.specs.Layout.{layout_number_at}
 
 -- where a piece stands that has n bytes at s, behind a place at
 pub record Stands (at s n : ℕ) (p : Piece) : Type 0 where

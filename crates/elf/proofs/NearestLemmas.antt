@@ -1,21 +1,16 @@
 -- Which symbol a probe means, in a sorted table and in the file's own order (on
 -- specs/Symbols.antt and specs/SymbolTable.antt).
-use Rattle.std.proofs.Common.{ℕ, zero, suc, ◌≡◌, ◌<◌, ◌≤◌, ◌⊎◌, Bool, true, false, cond, not, ◌&&◌, List, [], ◌∷◌, Some, None, length, filter, get_or, nat_cmp, nat_le, ◌==◌, arith, inl, inr, ◌∙◌, subst, ap, sym, refl}
+use Rattle.elf.proofs.Common.{ℕ, zero, suc, ◌≡◌, ◌<◌, ◌≤◌, ◌⊎◌, Bool, true, false, cond, not, ◌&&◌, List, [], ◌∷◌, Some, None, length, filter, get_or, nat_cmp, nat_le, ◌==◌, arith, inl, inr, ◌∙◌, subst, ap, sym, refl, All, AllWithin, nat_tests, get_or_default, SymbolEntry, preference, nearest_symbol, precedes, IsSymbolTable, IsBelow, IsAbove}
 use Rattle.std.specs.Cmp.{IsStrictWeakOrder}
 use Rattle.std.specs.Ordering.{is_lt, ordering_then}
-use Rattle.std.specs.List.{All, AllWithin, slice_get}
+use Rattle.std.specs.List.{slice_get}
 use Rattle.std.specs.List.Sorted.{ties, IsNonDecreasingBy}
-use Rattle.std.proofs.lemmas.Bool.Decides.{nat_tests}
 use Rattle.std.proofs.lemmas.Cmp.{on_total, then_total, nat_cmp_total}
-use Rattle.std.proofs.lemmas.List.{get_or_default}
 use Rattle.std.proofs.lemmas.List.Elements.{All-head, All-tail, filter_agree}
 use Rattle.std.proofs.lemmas.List.Sorted.{sorted_far, ranks_by}
 use Rattle.std.proofs.lemmas.Option.{get_or_from_slice_get}
-use Rattle.elf.specs.declared.symbol.SymbolEntry.{SymbolEntry}
 use Rattle.gimli_read.specs.Topmost.{greatest, topmost, last}
 use Rattle.gimli_read.proofs.TopmostLemmas.{In, In-last, In-filter, In-passes, All-passing, filter-filter, greatest_is, last-cond}
-use Rattle.elf.specs.Symbols.{preference, nearest_symbol}
-use Rattle.elf.specs.SymbolTable.{precedes, IsSymbolTable, IsBelow, IsAbove}
 
 module _ {X : Type 0} where
   In-get : (xs : List X) (k : ℕ) (d : X) → k < length xs → In (get_or xs k d) xs

@@ -1,17 +1,11 @@
 -- When a file takes memory (on specs/ObjectFile.antt).
-use Rattle.std.proofs.Common.{ℕ, zero, suc, ◌≡◌, ◌≢◌, ◌∙◌, ◌==◌, true, not, List, [], Ok, Err, length, drop, arith, ap, subst, refl}
-use Rattle.std.proofs.lemmas.Bool.Decides.{nat_tests}
+use Rattle.elf.proofs.Common.{ℕ, zero, suc, ◌≡◌, ◌≢◌, ◌∙◌, ◌==◌, true, not, List, [], Ok, Err, length, drop, arith, ap, subst, refl, nat_tests, RunTimeEndian, layout_of, ident_in, header_in, sections_in, Loading, LoadsUnlessOomFor, ObjectFile, object_file_of, object_file_with, gives_sections}
 use Rattle.gimli_read.specs.Reading.{◌>>=◌}
-use Rattle.gimli_read.specs.declared.endian.RunTimeEndian.{RunTimeEndian}
 use Rattle.elf.specs.declared.layout.Layout.{Layout}
 use Rattle.elf.specs.declared.header.Ident.{Ident}
 use Rattle.elf.specs.declared.header.FileHeader.{FileHeader}
-use Rattle.elf.specs.Layout.{layout_of}
-use Rattle.elf.specs.Header.{ident_in, header_in, sections_in}
 use Rattle.elf.specs.declared.error.LoaderError.{LoaderError}
 use Rattle.elf.specs.declared.error.LoaderError.TheVariants.{OutOfMemory}
-use Rattle.elf.specs.Loading.{Loading, LoadsUnlessOomFor}
-use Rattle.elf.specs.ObjectFile.{ObjectFile, object_file_of, object_file_with, gives_sections}
 
 -- so many section headers are read
 pub sections_length : (o : RunTimeEndian) (l : Layout) (n : ℕ) (bytes : List ℕ) → length (sections_in o l n bytes) ≡ n

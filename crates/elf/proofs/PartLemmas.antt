@@ -1,25 +1,16 @@
 -- Bytes that begin alike, and what is read of them, also by ranges (on specs/Header.antt).
-use Rattle.std.proofs.Common.{◌≡◌, ◌∙◌, ℕ, zero, suc, ◌+◌, ◌-◌, ◌*◌, ◌<◌, ◌≤◌, ◌==◌, Bool, true, false, ◌&&◌, cond, not, List, [], ◌∷◌, Some, None, Ok, Err, is_some, length, take, drop, get_or, nat_eq, nat_le, nat_lt, ap, arith, refl, subst, sym}
+use Rattle.elf.proofs.Common.{◌≡◌, ◌∙◌, ℕ, zero, suc, ◌+◌, ◌-◌, ◌*◌, ◌<◌, ◌≤◌, ◌==◌, Bool, true, false, ◌&&◌, cond, not, List, [], ◌∷◌, Some, None, Ok, Err, is_some, length, take, drop, get_or, nat_eq, nat_le, nat_lt, ap, arith, refl, subst, sym, eqb-true, nat_tests, drop-take, take-take, get_or-take, length-drop, length-take-le, RunTimeEndian, SectionHeader, AreRangesOf, Image, Shows, image_bytes, image_in, is_held, piece_in, magic, has_magic, class_of, endian_of, headers_in, ident_in, header_in, section_in, sections_in, FieldsInHeader, FieldsInSection, layout_of, layout_number_at, Loading}
 use Rattle.std.specs.Prelude.{slice_index}
 use Rattle.std.specs.Cmp.Lexicographic.{pointwise}
-use Rattle.std.proofs.lemmas.Bool.{eqb-true}
-use Rattle.std.proofs.lemmas.Bool.Decides.{nat_tests}
-use Rattle.std.proofs.lemmas.List.{drop-take, take-take, get_or-take, length-drop, length-take-le}
-use Rattle.gimli_read.specs.declared.endian.RunTimeEndian.{RunTimeEndian}
 use Rattle.gimli_read.specs.declared.range.Range.{Range}
 use Rattle.gimli_read.specs.Reading.{◌>>=◌}
 use Rattle.elf.specs.declared.constants.TheConstants.{EHDR_SIZE_MAX, HALF_SIZE, WORD_SIZE, EI_CLASS, EI_DATA, ET_REL}
 use Rattle.elf.specs.declared.error.LoaderError.TheVariants.{NotElf, BadElf}
 use Rattle.elf.specs.declared.header.Ident.{Ident}
 use Rattle.elf.specs.declared.header.FileHeader.{FileHeader}
-use Rattle.elf.specs.declared.section.SectionHeader.{SectionHeader}
 use Rattle.elf.specs.declared.layout.Class.{Class}
 use Rattle.elf.specs.declared.layout.Class.TheVariants.{Elf32, Elf64}
 use Rattle.elf.specs.declared.layout.Layout.{Layout}
-use Rattle.elf.specs.FileImage.{AreRangesOf, Image, Shows, image_bytes, image_in, is_held, piece_in}
-use Rattle.elf.specs.Header.{magic, has_magic, class_of, endian_of, headers_in, ident_in, header_in, section_in, sections_in}
-use Rattle.elf.specs.Layout.{FieldsInHeader, FieldsInSection, layout_of, layout_number_at}
-use Rattle.elf.specs.Loading.{Loading}
 use Rattle.elf.proofs.ImageLemmas.{number_of_shown}
 
 -- the same n bytes at the front give the same m bytes at a place within them

@@ -1,24 +1,9 @@
 -- What two files answer that differ in bytes which lookups don't read (on specs/ImageLaws.antt).
-use Rattle.std.proofs.Common.{◌≡◌, ◌∙◌, ℕ, Bool, true, false, ◌&&◌, ◌||◌, cond, not, List, Option, Some, None, Ok, Err, option_map, ap, refl, sym}
-use Rattle.std.specs.Prelude.{option_and_then}
-use Rattle.std.specs.List.{list_any, position}
-use Rattle.std.specs.Option.{option_map_or}
-use Rattle.std.proofs.lemmas.Bool.{and_parts}
-use Rattle.gimli_read.specs.Reading.{◌>>=◌}
+use Rattle.elf.proofs.Common.{◌≡◌, ◌∙◌, ℕ, Bool, true, false, ◌&&◌, ◌||◌, cond, not, List, Option, Some, None, Ok, Err, option_map, ap, refl, sym, option_and_then, list_any, position, option_map_or, and_parts, SectionHeader, PackedSection, decompressed_of, decompression_of, first_zdebug, missing_decompressed, packed_in, shared_contents, unpacked_contents, zdebug_of, zdebug_packed_in, Image, Shows, image_bytes, is_held, layout_of, CostedLoading, Loading, ObjectFile, bytes_at, is_nobits, is_outside, section_bytes_in, addresses_of, contents_of, empty_contents, first_named, gives_bytes_of_file, is_compressed, is_named, is_zdebug, missing_section, relocates, section_at, section_names_of, section_range_at, NamedAddress, covers, nearest_symbol, symbol_at, symbol_bytes, symbol_entry_name, symbol_names_number, symbol_names_of, symbol_table, usable_in, shows_section, is_shown_at, is_wanted_section, is_wanted_text, shows_sections, shows_tables}
+use Rattle.gimli_read.specs.Costed.{◌>>=◌, free}
 use Rattle.gimli_read.specs.Section.{Section}
 use Rattle.elf.specs.declared.error.LoaderError.TheVariants.{BadElf, CompressedSection, RelocationsNeeded}
-use Rattle.elf.specs.declared.section.SectionHeader.{SectionHeader}
-use Rattle.elf.specs.Compressed.{PackedSection, decompressed_at, decompressed_of, first_zdebug, missing_decompressed, packed_in, unpacked_contents, zdebug_of, zdebug_packed_in}
-use Rattle.elf.specs.DecompressionMemory.{contents_take_memory, decompression_takes_memory, missing_takes_memory, packed_takes_memory, zdebug_takes_memory}
-use Rattle.elf.specs.FileImage.{Image, Shows, image_bytes, is_held}
 use Rattle.elf.specs.ImageLaws.{AnswersAlike}
-use Rattle.elf.specs.Layout.{layout_of}
-use Rattle.elf.specs.Loading.{Loading}
-use Rattle.elf.specs.ObjectFile.{ObjectFile}
-use Rattle.elf.specs.SectionBytes.{bytes_at, is_nobits, is_outside, section_bytes_in}
-use Rattle.elf.specs.Sections.{addresses_of, contents_of, empty_contents, first_named, gives_bytes_of_file, is_compressed, is_named, is_zdebug, missing_section, relocates, section_at, section_names_of, section_range_at}
-use Rattle.elf.specs.Symbols.{NamedAddress, covers, nearest_symbol, symbol_at, symbol_bytes, symbol_entry_name, symbol_names_number, symbol_names_of, symbol_table, usable_in}
-use Rattle.elf.specs.Wanted.{shows_section, is_shown_at, is_wanted_section, is_wanted_text, shows_sections, shows_tables}
 use Rattle.elf.proofs.ShownLemmas.{choose, choose_either, found_in, found_shown, held_same, named_wanted, outside_same, section_same, symbols_same, table_same, zdebug_named_wanted}
 
 -- the file of other bytes
@@ -109,7 +94,7 @@ module _ (image : Image) (bytes : List ℕ) (shows : Shows image bytes) (f : Obj
       (λ x e. contents_same x.0 x.1 (first_shown all name x wanted e))
 
   -- ---- what a section has that is decompressed
-  unpacked_same : (n : ℕ) (r : Loading PackedSection) → (r >>= unpacked_contents of_image n) ≡ (r >>= unpacked_contents of_bytes n)
+  unpacked_same : (n : ℕ) (r : Loading PackedSection) → (free r >>= unpacked_contents of_image n) ≡ (free r >>= unpacked_contents of_bytes n)
   unfolding unpacked_contents
   unpacked_same n (Ok p) = refl
   unpacked_same n (Err e) = refl
@@ -120,63 +105,34 @@ module _ (image : Image) (bytes : List ℕ) (shows : Shows image bytes) (f : Obj
   decompressed_same : (n : ℕ) (s : SectionHeader) → shows_section image s ≡ true → decompressed_of of_image n s ≡ decompressed_of of_bytes n s
   unfolding decompressed_of
   decompressed_same n s h =
-      choose_either {A = Loading Section} (is_nobits s) (is_outside (image_bytes image) s) (is_held s.offset s.size image) (not (is_compressed s)) (contents_of of_image n s) (contents_of of_bytes n s)
-      (packed_by (bytes_at (image_bytes image) s) >>= unpacked_contents of_image n) (packed_by (bytes_at bytes s) >>= unpacked_contents of_bytes n) h (contents_same n s h)
-      (λ k. ap (λ (own : List ℕ). packed_by own >>= unpacked_contents of_image n) (held_same image bytes shows s k) ∙ unpacked_same n (packed_by (bytes_at bytes s)))
-      ∙ ap (λ (b : Bool). cond {A = Loading Section} (is_nobits s || (b || not (is_compressed s))) (contents_of of_bytes n s) (packed_by (bytes_at bytes s) >>= unpacked_contents of_bytes n)) (outside_same image bytes shows s)
+      choose_either {A = CostedLoading Section} (is_nobits s) (is_outside (image_bytes image) s) (is_held s.offset s.size image) (not (is_compressed s)) (shared_contents of_image n s) (shared_contents of_bytes n s)
+      (free (packed_by (bytes_at (image_bytes image) s)) >>= unpacked_contents of_image n) (free (packed_by (bytes_at bytes s)) >>= unpacked_contents of_bytes n) h (ap at_cost (contents_same n s h))
+      (λ k. ap (λ (own : List ℕ). free (packed_by own) >>= unpacked_contents of_image n) (held_same image bytes shows s k) ∙ unpacked_same n (packed_by (bytes_at bytes s)))
+      ∙ ap (λ (b : Bool). cond {A = CostedLoading Section} (is_nobits s || (b || not (is_compressed s))) (shared_contents of_bytes n s) (free (packed_by (bytes_at bytes s)) >>= unpacked_contents of_bytes n)) (outside_same image bytes shows s)
+    where
+      at_cost : Loading Section → CostedLoading Section
+      at_cost given = record { given = given; takes_memory = λ shares. shares && gives_bytes_of_file given }
 
   zdebug_same : (n : ℕ) (s : SectionHeader) → shows_section image s ≡ true → zdebug_of of_image n s ≡ zdebug_of of_bytes n s
   unfolding zdebug_of
   zdebug_same n s h =
-      ap (λ (o : Option (List ℕ)). option_map_or (λ own. zdebug_packed_in own >>= unpacked_contents of_image n) o (Err BadElf)) (section_same image bytes shows s h) ∙ each (section_bytes_in bytes s)
+      ap (λ (o : Option (List ℕ)). option_map_or (λ own. free (zdebug_packed_in own) >>= unpacked_contents of_image n) o (free (Err BadElf))) (section_same image bytes shows s h) ∙ each (section_bytes_in bytes s)
     where
-      each : (o : Option (List ℕ)) → option_map_or (λ own. zdebug_packed_in own >>= unpacked_contents of_image n) o (Err BadElf) ≡ option_map_or (λ own. zdebug_packed_in own >>= unpacked_contents of_bytes n) o (Err BadElf)
+      each : (o : Option (List ℕ)) → option_map_or (λ own. free (zdebug_packed_in own) >>= unpacked_contents of_image n) o (free (Err BadElf)) ≡ option_map_or (λ own. free (zdebug_packed_in own) >>= unpacked_contents of_bytes n) o (free (Err BadElf))
       each None = refl
       each (Some own) = unpacked_same n (zdebug_packed_in own)
 
   missing_decompressed_same : TablesShown → SectionsShown → (name : List ℕ) → is_wanted_text name ≡ true → missing_decompressed name of_image ≡ missing_decompressed name of_bytes
   unfolding missing_decompressed
   missing_decompressed_same t all name wanted =
-      by_found (zdebug_of of_image) (zdebug_of of_bytes) (Ok (empty_contents f)) (Ok (empty_contents f)) (first_zdebug name of_image) (first_zdebug name of_bytes) (zdebug_first_same t name) refl
+      by_found (zdebug_of of_image) (zdebug_of of_bytes) (free (Ok (empty_contents f))) (free (Ok (empty_contents f))) (first_zdebug name of_image) (first_zdebug name of_bytes) (zdebug_first_same t name) refl
       (λ x e. zdebug_same x.0 x.1 (zdebug_first_shown all name x wanted e))
 
-  decompressed_answer_same : TablesShown → SectionsShown → (name : List ℕ) → is_wanted_text name ≡ true → decompressed_at name of_image ≡ decompressed_at name of_bytes
-  unfolding decompressed_at
+  decompressed_answer_same : TablesShown → SectionsShown → (name : List ℕ) → is_wanted_text name ≡ true → decompression_of name of_image ≡ decompression_of name of_bytes
+  unfolding decompression_of
   decompressed_answer_same t all name wanted =
       by_found (decompressed_of of_image) (decompressed_of of_bytes) (missing_decompressed name of_image) (missing_decompressed name of_bytes) (first_named name of_image) (first_named name of_bytes) (first_same t name)
       (missing_decompressed_same t all name wanted) (λ x e. decompressed_same x.0 x.1 (first_shown all name x wanted e))
-
-  -- ---- where that takes memory
-  stream_same : (n : ℕ) (r : Loading PackedSection) → packed_takes_memory of_image n r ≡ packed_takes_memory of_bytes n r
-  stream_same n (Ok p) = refl
-  stream_same n (Err e) = refl
-
-  contents_memory_same : (n : ℕ) (s : SectionHeader) → shows_section image s ≡ true → contents_take_memory of_image n s ≡ contents_take_memory of_bytes n s
-  contents_memory_same n s h =
-      choose_either {A = Bool} (is_nobits s) (is_outside (image_bytes image) s) (is_held s.offset s.size image) (not (is_compressed s)) (gives_bytes_of_file (contents_of of_image n s)) (gives_bytes_of_file (contents_of of_bytes n s))
-      (packed_takes_memory of_image n (packed_by (bytes_at (image_bytes image) s))) (packed_takes_memory of_bytes n (packed_by (bytes_at bytes s))) h (ap gives_bytes_of_file (contents_same n s h))
-      (λ k. ap (λ (own : List ℕ). packed_takes_memory of_image n (packed_by own)) (held_same image bytes shows s k) ∙ stream_same n (packed_by (bytes_at bytes s)))
-      ∙ ap (λ (b : Bool). cond {A = Bool} (is_nobits s || (b || not (is_compressed s))) (gives_bytes_of_file (contents_of of_bytes n s)) (packed_takes_memory of_bytes n (packed_by (bytes_at bytes s)))) (outside_same image bytes shows s)
-
-  zdebug_memory_same : (n : ℕ) (s : SectionHeader) → shows_section image s ≡ true → zdebug_takes_memory of_image n s ≡ zdebug_takes_memory of_bytes n s
-  zdebug_memory_same n s h =
-      ap (λ (o : Option (List ℕ)). option_map_or (λ own. packed_takes_memory of_image n (zdebug_packed_in own)) o false) (section_same image bytes shows s h) ∙ each (section_bytes_in bytes s)
-    where
-      each : (o : Option (List ℕ)) → option_map_or (λ own. packed_takes_memory of_image n (zdebug_packed_in own)) o false ≡ option_map_or (λ own. packed_takes_memory of_bytes n (zdebug_packed_in own)) o false
-      each None = refl
-      each (Some own) = stream_same n (zdebug_packed_in own)
-
-  missing_memory_same : TablesShown → SectionsShown → (name : List ℕ) → is_wanted_text name ≡ true → missing_takes_memory name of_image ≡ missing_takes_memory name of_bytes
-  unfolding missing_takes_memory
-  missing_memory_same t all name wanted =
-      by_found (zdebug_takes_memory of_image) (zdebug_takes_memory of_bytes) false false (first_zdebug name of_image) (first_zdebug name of_bytes) (zdebug_first_same t name) refl
-      (λ x e. zdebug_memory_same x.0 x.1 (zdebug_first_shown all name x wanted e))
-
-  memory_same : TablesShown → SectionsShown → (name : List ℕ) → is_wanted_text name ≡ true → decompression_takes_memory name of_image ≡ decompression_takes_memory name of_bytes
-  unfolding decompression_takes_memory
-  memory_same t all name wanted =
-      by_found (contents_take_memory of_image) (contents_take_memory of_bytes) (missing_takes_memory name of_image) (missing_takes_memory name of_bytes) (first_named name of_image) (first_named name of_bytes) (first_same t name)
-      (missing_memory_same t all name wanted) (λ x e. contents_memory_same x.0 x.1 (first_shown all name x wanted e))
 
   -- ---- all that lookups ask
   pub answers_alike : TablesShown → SectionsShown → AnswersAlike of_image of_bytes
@@ -186,6 +142,5 @@ module _ (image : Image) (bytes : List ℕ) (shows : Shows image bytes) (f : Obj
     sections = λ name wanted. record {
       contents = section_answer_same t all name wanted;
       decompressed = decompressed_answer_same t all name wanted;
-      memory = memory_same t all name wanted;
     };
   }

@@ -1,21 +1,10 @@
 -- Sections that one piece has, and the names of those that are wanted (on specs/Wanted.antt).
-use Rattle.std.proofs.Common.{◌≡◌, ◌∙◌, ◌+◌, ℕ, ◌==◌, Bool, true, false, ◌&&◌, ◌||◌, cond, not, List, [], ◌∷◌, Option, Some, None, drop, length, nat_eq, nat_lt, option_map, take, ap, refl, sym}
-use Rattle.std.specs.Prelude.{codes, slice_get, option_and_then}
+use Rattle.elf.proofs.Common.{◌≡◌, ◌∙◌, ◌+◌, ℕ, ◌==◌, Bool, true, false, ◌&&◌, ◌||◌, cond, not, List, [], ◌∷◌, Option, Some, None, drop, length, nat_eq, nat_lt, option_map, take, ap, refl, sym, codes, slice_get, option_and_then, list_all, position, starts_with, option_map_or, bytes_eq, and_left, and_parts, and_right, eqb-true, SectionHeader, Image, Shows, image_bytes, is_held, bytes_at, is_nobits, is_outside, section_bytes_in, string_table_in, table_text_at, debug_prefix, is_named, is_zdebug, is_zdebug_text, zdebug_prefix, symbol_bytes, symbol_table, shows_section, is_shown_at, is_wanted_section, is_wanted_stem, is_wanted_text}
 use Rattle.std.specs.Cmp.Lexicographic.{pointwise}
-use Rattle.std.specs.List.{list_all, position, starts_with}
-use Rattle.std.specs.Option.{option_map_or}
-use Rattle.std.specs.Str.{bytes_eq}
-use Rattle.std.proofs.lemmas.Bool.{and_left, and_parts, and_right, eqb-true}
 use Rattle.std.proofs.lemmas.List.Quantifiers.{position-Some}
 use Rattle.std.proofs.lemmas.Option.{get_or_from_slice_get}
 use Rattle.std.proofs.lemmas.Slice.Eq.{bytes_eq-Decides}
 use Rattle.elf.specs.declared.constants.TheConstants.{SHN_UNDEF}
-use Rattle.elf.specs.declared.section.SectionHeader.{SectionHeader}
-use Rattle.elf.specs.FileImage.{Image, Shows, image_bytes, is_held}
-use Rattle.elf.specs.SectionBytes.{bytes_at, is_nobits, is_outside, section_bytes_in, string_table_in, table_text_at}
-use Rattle.elf.specs.Sections.{debug_prefix, is_named, is_zdebug, is_zdebug_text, zdebug_prefix}
-use Rattle.elf.specs.Symbols.{symbol_bytes, symbol_table}
-use Rattle.elf.specs.Wanted.{shows_section, is_shown_at, is_wanted_section, is_wanted_stem, is_wanted_text}
 use Rattle.elf.proofs.FileTableLemmas.{all_at}
 
 -- ---- tests

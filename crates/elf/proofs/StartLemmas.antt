@@ -1,20 +1,12 @@
 -- Where texts in UTF-8 begin, from the last place of a table to the first (on
 -- specs/TextStarts.antt).
-use Rattle.std.proofs.Common.{ℕ, zero, suc, ◌≡◌, ◌≢◌, ◌<◌, ◌≤◌, ◌+◌, ◌-◌, Bool, true, false, cond, List, [], ◌∷◌, ◌++◌, Some, None, length, take, drop, Vec, Global, get_or, slice_index, ◌==◌, ◌&&◌, ltb-true, arith, ◌∙◌, ap, sym, subst, refl}
-use Rattle.std.specs.Prelude.{Option, option_map, option_and_then, is_some}
-use Rattle.std.specs.Str.{IsUtf8, encode_utf8_all, is_utf8}
+use Rattle.elf.proofs.Common.{ℕ, zero, suc, ◌≡◌, ◌≢◌, ◌<◌, ◌≤◌, ◌+◌, ◌-◌, Bool, true, false, cond, List, [], ◌∷◌, ◌++◌, Some, None, length, take, drop, Vec, Global, get_or, slice_index, ◌==◌, ◌&&◌, ltb-true, arith, ◌∙◌, ap, sym, subst, refl, option_and_then, IsUtf8, encode_utf8_all, is_utf8, eqb-true, and_parts, eq-eqb, ne_eqb, take-append-drop, front_text, utf8_from, name_from, IsAscii, list_all, AreStarts, begins_text, is_ascii_table, text_starts, TextAfter, IsTextDistance}
+use Rattle.std.specs.Prelude.{Option, option_map, is_some}
 use Rattle.std.specs.Char.{len_utf8}
-use Rattle.std.proofs.lemmas.Bool.{eqb-true, and_parts, eq-eqb, ne_eqb}
-use Rattle.std.proofs.lemmas.List.{take-append-drop}
 use Rattle.std.proofs.lemmas.Str.{IsUtf8-nil, IsUtf8-from_ascii, IsUtf8-append, IsUtf8-take, IsUtf8-past_char, IsCharBoundary-from_drop, drop_past_char, len_utf8_bounds, is_utf8-from_IsUtf8, IsUtf8-from_is_utf8}
-use Rattle.elf.specs.SectionBytes.{front_text}
-use Rattle.elf.specs.Symbols.{utf8_from, name_from}
-use Rattle.std.specs.Str.{IsAscii}
 use Rattle.std.specs.Char.{is_ascii}
-use Rattle.std.specs.List.{list_all}
 use Rattle.std.proofs.lemmas.Str.Ascii.{IsAscii-cons, IsAscii-nil}
 use Rattle.elf.specs.declared.text_starts.TextStarts.TheVariants.{Everywhere, Marked}
-use Rattle.elf.specs.TextStarts.{AreStarts, begins_text, is_ascii_table, text_starts, TextAfter, IsTextDistance}
 use Rattle.elf.proofs.TextLemmas.{front_text_next, front_text_zero}
 
 -- at a zero byte the empty text begins

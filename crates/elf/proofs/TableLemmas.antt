@@ -1,12 +1,7 @@
 -- Things of one size that stand one after another (on specs/Header.antt and specs/Symbols.antt).
-use Rattle.std.proofs.Common.{◌≡◌, ◌∙◌, ◌≤◌, ◌+◌, ◌*◌, ℕ, suc, Bool, true, false, cond, List, [], ◌∷◌, ◌++◌, drop, filter, refl, sym, ap, arith, append-nil, append_assoc}
+use Rattle.elf.proofs.Common.{◌≡◌, ◌∙◌, ◌≤◌, ◌+◌, ◌*◌, ℕ, suc, Bool, true, false, cond, List, [], ◌∷◌, ◌++◌, drop, filter, refl, sym, ap, arith, append-nil, append_assoc, RunTimeEndian, SectionHeader, SymbolEntry, section_in, sections_in, symbol_entry_in, entries_in}
 use Rattle.std.proofs.lemmas.List.Elements.{filter-append}
-use Rattle.gimli_read.specs.declared.endian.RunTimeEndian.{RunTimeEndian}
 use Rattle.elf.specs.declared.layout.Layout.{Layout}
-use Rattle.elf.specs.declared.section.SectionHeader.{SectionHeader}
-use Rattle.elf.specs.declared.symbol.SymbolEntry.{SymbolEntry}
-use Rattle.elf.specs.Header.{section_in, sections_in}
-use Rattle.elf.specs.Symbols.{symbol_entry_in, entries_in}
 
 -- room for the things that are left, once one is read
 pub room_next : (n k size a b : ℕ) → n ≡ suc k → n * size ≤ a → b + size ≡ a → k * size ≤ b

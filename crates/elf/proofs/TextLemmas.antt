@@ -1,10 +1,6 @@
 -- Texts that end before their zero byte (on specs/SectionBytes.antt and specs/Sections.antt).
-use Rattle.std.proofs.Common.{ℕ, zero, suc, ◌≡◌, ◌≤◌, ◌+◌, Bool, true, false, cond, not, List, [], ◌∷◌, Some, None, length, take, nat_lt, nat_le, ◌==◌, arith, ◌∙◌, ap, sym, refl}
-use Rattle.std.specs.Prelude.{Option, option_map, option_and_then}
-use Rattle.std.specs.List.{position_or_len}
-use Rattle.std.proofs.lemmas.Bool.Decides.{nat_tests}
-use Rattle.std.proofs.lemmas.List.{take_all}
-use Rattle.elf.specs.SectionBytes.{front_text}
+use Rattle.elf.proofs.Common.{ℕ, zero, suc, ◌≡◌, ◌≤◌, ◌+◌, Bool, true, false, cond, not, List, [], ◌∷◌, Some, None, length, take, nat_lt, nat_le, ◌==◌, arith, ◌∙◌, ap, sym, refl, option_and_then, position_or_len, nat_tests, take_all, front_text}
+use Rattle.std.specs.Prelude.{Option, option_map}
 
 -- the text, if it has no more than so many bytes
 abbrev pub if_short : ℕ → List ℕ → Option (List ℕ)

@@ -1,14 +1,10 @@
 -- Bytes that are a text, and bytes that are none (on specs/Symbols.antt); bytes that are ASCII.
-use Rattle.std.proofs.Common.{◌≡◌, ◌∙◌, ◌≤◌, ◌&&◌, ℕ, zero, suc, Bool, true, false, cond, List, [], ◌∷◌, Some, None, refl, sym, ap, MatchBool}
-use Rattle.std.proofs.lemmas.Bool.{lt-ltb, le-ltb}
+use Rattle.elf.proofs.Common.{◌≡◌, ◌∙◌, ◌≤◌, ◌&&◌, ℕ, zero, suc, Bool, true, false, cond, List, [], ◌∷◌, Some, None, refl, sym, ap, MatchBool, lt-ltb, le-ltb, list_all, is_utf8, IsAscii, IsNotAscii, IsUtf8, utf8_from}
 use Rattle.std.proofs.Math.Bool.{and-false}
 use native.Mathlib.Omega.{arith}
 use Rattle.std.specs.List.{slice_index}
 use Rattle.std.specs.Char.{is_ascii}
-use Rattle.std.specs.List.{list_all}
-use Rattle.std.specs.Str.{is_utf8, IsAscii, IsNotAscii, IsUtf8}
 use Rattle.std.proofs.lemmas.Str.{IsUtf8-from_is_utf8, is_utf8-from_IsUtf8}
-use Rattle.elf.specs.Symbols.{utf8_from}
 
 pub utf8_some : (text bytes : List ℕ) → text ≡ bytes → IsUtf8 bytes → Some text ≡ utf8_from bytes
 utf8_some text bytes e h = ap Some e ∙ ap (λ (b : Bool). cond b (Some bytes) None) (sym (is_utf8-from_IsUtf8 bytes h))

@@ -6,23 +6,23 @@
 -- tells (BadElf).
 -- Own: a section named .zdebug_ is read in the older form, whatever its flag says; one that is
 -- NOBITS has no header. What a header says of alignment, and its reserved number, aren't looked at.
-use Rattle.std.specs.Prelude.{ℕ, ◌*◌, ◌==◌, ◌||◌, not, List, Option, Ok, Err, if◌then◌else◌, drop, length, nat_eq, nat_lt, codes, option_map, option_and_then}
-use Rattle.std.specs.List.{position, slice_get, starts_with}
-use Rattle.std.specs.Option.{option_map_or}
-use Rattle.gimli_read.specs.declared.endian.RunTimeEndian.{RunTimeEndian}
+-- Own: memory is taken for the stream of a section, once its header and the need of relocations
+-- don't refuse it, and for a part of the file that is shared.
+use Rattle.elf.specs.Common.{ℕ, ◌*◌, ◌==◌, ◌&&◌, ◌||◌, not, List, Option, Ok, Err, if◌then◌else◌, drop, length, nat_eq, nat_lt, codes, option_map, option_and_then, position, starts_with, option_map_or, RunTimeEndian}
+use Rattle.std.specs.List.{slice_get}
 use Rattle.gimli_read.specs.declared.endian.RunTimeEndian.TheVariants.{Big}
-use Rattle.gimli_read.specs.Reading.{◌>>=◌}
+use Rattle.gimli_read.specs.Costed.{◌>>=◌, free}
 use Rattle.gimli_read.specs.Section.{Section}
 use Rattle.inflate.specs.Reading.{OrFault}
-use Rattle.inflate.specs.Stream.{inflated}
+use Rattle.inflate.specs.Inflated.{inflated, stream_takes_memory}
 use Rattle.elf.specs.declared.constants.TheConstants.{WORD_SIZE, ELFCOMPRESS_ZLIB, ZLIB_SIZE, ZLIB_HEADER_SIZE}
 use Rattle.elf.specs.declared.error.LoaderError.TheVariants.{BadElf, CompressedSection, RelocationsNeeded}
 use Rattle.elf.specs.declared.section.SectionHeader.{SectionHeader}
 use Rattle.elf.specs.Layout.{layout_number_at, layout_of}
-use Rattle.elf.specs.Loading.{Loading}
+use Rattle.elf.specs.Loading.{CostedLoading, Loading}
 use Rattle.elf.specs.ObjectFile.{ObjectFile}
 use Rattle.elf.specs.SectionBytes.{bytes_at, is_nobits, is_outside, section_bytes_in}
-use Rattle.elf.specs.Sections.{section_names_of, first_named, is_zdebug, is_compressed, is_relocated, empty_contents, contents_of}
+use Rattle.elf.specs.Sections.{section_names_of, first_named, is_zdebug, is_compressed, is_relocated, empty_contents, contents_of, gives_bytes_of_file}
 
 -- the size that a stream is to have, and the stream
 abbrev pub PackedSection : Type 0
@@ -49,19 +49,30 @@ of_size size (Ok bytes) = if length bytes == size then Ok bytes else Err BadElf
 of_size size (Err e) = Err BadElf
 
 -- what a stream inflates to, if it has the size
-unfoldable pub unpacked_section : PackedSection → Loading (List ℕ)
-unpacked_section p = of_size p.0 (inflated p.0 p.1)
+unfoldable pub unpacked_section : PackedSection → CostedLoading (List ℕ)
+unpacked_section p = record {
+  given = of_size p.0 (inflated p.0 p.1);
+  takes_memory = λ shares. stream_takes_memory p.0 p.1;
+}
 
 -- the bytes of section n in a file's order, which a stream has
-unfoldable pub unpacked_contents : ObjectFile → ℕ → PackedSection → Loading Section
-unpacked_contents file n p = if is_relocated file n then Err RelocationsNeeded
-    else unpacked_section p >>= λ bytes. Ok (record { bytes = bytes; endian = file.endian })
+unfoldable pub unpacked_contents : ObjectFile → ℕ → PackedSection → CostedLoading Section
+unpacked_contents file n p = if is_relocated file n then free (Err RelocationsNeeded)
+    else unpacked_section p >>= λ bytes. free (Ok (record { bytes = bytes; endian = file.endian }))
+
+-- the bytes of section n as they stand in the file
+abbrev pub shared_contents : ObjectFile → ℕ → SectionHeader → CostedLoading Section
+shared_contents file n s = record {
+  given = contents_of file n s;
+  takes_memory = λ shares. shares && gives_bytes_of_file (contents_of file n s);
+}
 
 -- the bytes of section n, decompressed where they are compressed
-unfoldable pub decompressed_of : ObjectFile → ℕ → SectionHeader → Loading Section
+unfoldable pub decompressed_of : ObjectFile → ℕ → SectionHeader → CostedLoading Section
 decompressed_of file n s =
-    if is_nobits s || (is_outside file.bytes s || not (is_compressed s)) then contents_of file n s
-    else packed_in file.endian (layout_of file.class).address_size (bytes_at file.bytes s)
+    if is_nobits s || (is_outside file.bytes s || not (is_compressed s))
+    then shared_contents file n s
+    else free (packed_in file.endian (layout_of file.class).address_size (bytes_at file.bytes s))
     >>= unpacked_contents file n
 
 -- the first section with .zdebug_ for the .debug_ of a name, beside its number
@@ -71,17 +82,21 @@ first_zdebug name file = option_and_then
     (position (is_zdebug (section_names_of file) name) file.sections)
 
 -- the bytes of a section of such a name
-unfoldable pub zdebug_of : ObjectFile → ℕ → SectionHeader → Loading Section
+unfoldable pub zdebug_of : ObjectFile → ℕ → SectionHeader → CostedLoading Section
 zdebug_of file n s = option_map_or
-    (λ bytes. zdebug_packed_in bytes >>= unpacked_contents file n)
-    (section_bytes_in file.bytes s) (Err BadElf)
+    (λ bytes. free (zdebug_packed_in bytes) >>= unpacked_contents file n)
+    (section_bytes_in file.bytes s) (free (Err BadElf))
 
 -- the answer for a name that no section has: no bytes, or those of a section with .zdebug_ for it
-unfoldable pub missing_decompressed : List ℕ → ObjectFile → Loading Section
+unfoldable pub missing_decompressed : List ℕ → ObjectFile → CostedLoading Section
 missing_decompressed name file = option_map_or (λ found. zdebug_of file found.0 found.1)
-    (first_zdebug name file) (Ok (empty_contents file))
+    (first_zdebug name file) (free (Ok (empty_contents file)))
 
 -- the bytes of the first section of a name, decompressed where they are compressed
-unfoldable pub decompressed_at : List ℕ → ObjectFile → Loading Section
-decompressed_at name file = option_map_or (λ found. decompressed_of file found.0 found.1)
+unfoldable pub decompression_of : List ℕ → ObjectFile → CostedLoading Section
+decompression_of name file = option_map_or (λ found. decompressed_of file found.0 found.1)
     (first_named name file) (missing_decompressed name file)
+
+-- the bytes, or the fault
+abbrev pub decompressed_at : List ℕ → ObjectFile → Loading Section
+decompressed_at name file = (decompression_of name file).given

@@ -1,9 +1,8 @@
 -- What is answered of a file of which only some pieces were read, and what the file's own bytes
 -- answer (System V ABI, Object Files).
 -- Own: what pieces are, and which parts of a file lookups want.
-use Rattle.std.specs.Prelude.{◌≡◌, ℕ, true, List, Ok, Err}
-use Rattle.elf.specs.Compressed.{decompressed_at}
-use Rattle.elf.specs.DecompressionMemory.{decompression_takes_memory}
+use Rattle.elf.specs.Common.{◌≡◌, ℕ, true, List, Ok, Err}
+use Rattle.elf.specs.Compressed.{decompression_of}
 use Rattle.elf.specs.FileImage.{Image, Shows, image_bytes}
 use Rattle.elf.specs.Loading.{Loading}
 use Rattle.elf.specs.ObjectFile.{ObjectFile, object_file_of}
@@ -15,12 +14,11 @@ use Rattle.elf.specs.Wanted.{HasWanted, is_wanted_text}
 abbrev pub SameButBytes : List ℕ → ObjectFile → ObjectFile → Type 0
 SameButBytes bytes f g = g ≡ record f { bytes = bytes }
 
--- two files answer alike for the section of a name: as it stands, decompressed, and whether that
+-- two files answer alike for the section of a name: as it stands, and decompressed, with whether that
 -- takes memory
 pub record SectionAlike (name : List ℕ) (f g : ObjectFile) : Type 0 where
   pub contents : section_at name f ≡ section_at name g
-  pub decompressed : decompressed_at name f ≡ decompressed_at name g
-  pub memory : decompression_takes_memory name f ≡ decompression_takes_memory name g
+  pub decompressed : decompression_of name f ≡ decompression_of name g
 
 -- two files answer alike: for the addresses of a section of any name, for the symbol of any probe,
 -- and for each section of debug information that lookups read

@@ -1,3 +1,4 @@
+pub mod Common
 pub mod Loading
 pub mod Text
 pub mod Layout
@@ -11,6 +12,5 @@ pub mod TextStarts
 pub mod SymbolTable
 pub mod FileTables
 pub mod Compressed
-pub mod DecompressionMemory
 pub mod Wanted
 pub mod ImageLaws

@@ -1,10 +1,8 @@
 //! Bytes that are compressed (System V ABI, Object Files: Section Compression).
 
-ghost use Rattle.std.specs.Prelude.{◌≡◌, ◌<◌, length, true, IfOk};
-ghost use Rattle.gimli_read.specs.Reading.{result_map};
+ghost use Rattle.elf.specs.Common.{◌≡◌, ◌<◌, length, true, IfOk, result_map};
 ghost use Rattle.elf.specs.Layout.{layout_of};
-ghost use Rattle.inflate.specs.Memory.{stream_takes_memory};
-ghost use Rattle.elf.specs.Loading.{LoadsUnlessOomIf};
+ghost use Rattle.elf.specs.Loading.{LoadsAtCost};
 ghost use Rattle.elf.specs.Compressed.{packed_in, zdebug_packed_in, unpacked_section};
 
 use crate::constants::{ELFCOMPRESS_ZLIB, WORD_SIZE, ZLIB_HEADER_SIZE, ZLIB_SIZE};
@@ -56,10 +54,9 @@ pub(crate) fn zdebug_packed(bytes: &[u8]) -> Result<(u64, &[u8]), LoaderError>
 /// What a stream inflates to, if it has this size. Takes memory where `inflate` does.
 #[tactic(auto, unfolding(crate::specs::Compressed::unpacked_section))]
 pub(crate) fn unpacked(alloc: Global, size: u64, text: &[u8]) -> Result<Vec<u8>, LoaderError>
-    ensures gives { LoadsUnlessOomIf (stream_takes_memory size text.now) (λ v. v.items) result
-        (unpacked_section (size, text.now)) }
+    ensures gives { LoadsAtCost (λ v. v.items) result (unpacked_section (size, text.now)) }
     ensures memory { IfOk result (λ v. 0 < length v.items
-        → stream_takes_memory size text.now ≡ true) }
+        → (unpacked_section (size, text.now)).takes_memory true ≡ true) }
 {
     match inflate(alloc, text, size) {
         Ok(bytes) => {

@@ -1,10 +1,8 @@
 //! A whole file.
 
-ghost use Rattle.std.specs.Prelude.{◌≡◌, [], Some, false, slice_get, true, option_map, IfErr, IfOk, IsOk};
-ghost use Rattle.gimli_read.specs.Reading.{Exactly};
-ghost use Rattle.elf.specs.Compressed.{first_zdebug, unpacked_contents, decompressed_of, zdebug_of, missing_decompressed, decompressed_at};
-ghost use Rattle.elf.specs.DecompressionMemory.{unpacking_takes_memory, contents_take_memory, zdebug_takes_memory, missing_takes_memory, decompression_takes_memory};
-ghost use Rattle.elf.specs.Loading.{LoadsUnlessOomFor, LoadsUnlessOomIf};
+ghost use Rattle.elf.specs.Common.{◌≡◌, [], Some, false, slice_get, true, option_map, IfErr, IfOk, IsOk, Exactly};
+ghost use Rattle.elf.specs.Compressed.{first_zdebug, unpacked_contents, decompressed_of, zdebug_of, missing_decompressed, decompression_of};
+ghost use Rattle.elf.specs.Loading.{LoadsAtCost, LoadsUnlessOomFor};
 ghost use Rattle.elf.specs.declared.error.LoaderError.TheVariants.{OutOfMemory};
 ghost use Rattle.elf.specs.FileImage.{image_bytes};
 ghost use Rattle.elf.specs.FileTables.{AreReadable, HasTables, is_packed};
@@ -199,14 +197,13 @@ impl ElfFile {
     /// | `OutOfMemory` | a growth was refused; the stream, or a part of the file, takes memory |
     ///
     /// A growth may be refused before the damage of a stream is met.
-    #[tactic(auto, unfolding(crate::specs::Compressed::decompressed_at, crate::specs::DecompressionMemory::decompression_takes_memory))]
+    #[tactic(auto, unfolding(crate::specs::Compressed::decompression_of))]
     pub fn decompressed_section(
         &self,
         alloc: Global,
         name: &str,
     ) -> Result<EndianBytes, LoaderError>
-        ensures gives { LoadsUnlessOomIf (decompression_takes_memory name.now self.now) (λ b. b)
-            result (decompressed_at name.now self.now) }
+        ensures gives { LoadsAtCost (λ b. b) result (decompression_of name.now self.now) }
     {
         match self.first_named(name.as_bytes()) {
             Some((number, section)) => self.decompressed(alloc, number, &section),
@@ -329,8 +326,8 @@ impl ElfFile {
         size: u64,
         text: &[u8],
     ) -> Result<EndianBytes, LoaderError>
-        ensures gives { LoadsUnlessOomIf (unpacking_takes_memory self.now number (size, text.now))
-            (λ b. b) result (unpacked_contents self.now number (size, text.now)) }
+        ensures gives { LoadsAtCost (λ b. b) result
+            (unpacked_contents self.now number (size, text.now)) }
     {
         if self.is_relocatable && section::is_relocated(&self.sections, number) {
             return Err(LoaderError::RelocationsNeeded);
@@ -365,8 +362,8 @@ impl ElfFile {
         section: &SectionHeader,
     ) -> Result<EndianBytes, LoaderError>
         requires of_number { slice_get self.now.sections number ≡ Some section.now }
-        ensures gives { LoadsUnlessOomIf (contents_take_memory self.now number section.now)
-            (λ b. b) result (decompressed_of self.now number section.now) }
+        ensures gives { LoadsAtCost (λ b. b) result
+            (decompressed_of self.now number section.now) }
     {
         if section.is_nobits() || section.is_outside(&self.file) || !section.is_compressed() {
             return self.contents(number, section);
@@ -402,8 +399,7 @@ impl ElfFile {
     ) -> Result<EndianBytes, LoaderError>
         requires of_number { slice_get self.now.sections number ≡ Some section.now }
         requires packed { is_packed (section_names_of self.now) section.now ≡ true }
-        ensures gives { LoadsUnlessOomIf (zdebug_takes_memory self.now number section.now) (λ b. b)
-            result (zdebug_of self.now number section.now) }
+        ensures gives { LoadsAtCost (λ b. b) result (zdebug_of self.now number section.now) }
     {
         let Some(own) = self.packed_bytes_in(number, section) else {
             return Err(LoaderError::BadElf);
@@ -422,10 +418,9 @@ impl ElfFile {
     }
 
     // The answer for a name that no section has.
-    #[tactic(auto, unfolding(crate::specs::Compressed::missing_decompressed, crate::specs::DecompressionMemory::missing_takes_memory))]
+    #[tactic(auto, unfolding(crate::specs::Compressed::missing_decompressed))]
     fn missing_decompressed(&self, alloc: Global, name: &[u8]) -> Result<EndianBytes, LoaderError>
-        ensures gives { LoadsUnlessOomIf (missing_takes_memory name.now self.now) (λ b. b) result
-            (missing_decompressed name.now self.now) }
+        ensures gives { LoadsAtCost (λ b. b) result (missing_decompressed name.now self.now) }
     {
         match self.first_zdebug(name) {
             Some((number, section)) => self.zdebug(alloc, number, &section),

@@ -6,27 +6,28 @@ use Rattle.gimli_read.specs.declared.value.AttributeValue.TheVariants as values
 use Rattle.gimli_read.proofs.Steps.{bind_ok, branch_taken, same_rest, same_value}
 use Rattle.gimli_read.proofs.ValueTexts.{value_reads, value_alone}
 
-abbrev of_parts : DwAt → AttributeValue Section → NamedValue
-of_parts name value = record { name = name; value = value }
+-- an attribute of a name
+abbrev pub attribute_of : DwAt → AttributeValue Section → NamedValue
+attribute_of name value = record { name = name; value = value }
 
 -- a value that the abbreviation has, and one that is read
 abbrev implicit_read : Specification → Section → Reading (NamedValue)
-implicit_read x s = implicit_of x.constant >>= λ value. Ok (of_parts x.name value, s)
+implicit_read x s = implicit_of x.constant >>= λ value. Ok (attribute_of x.name value, s)
 
 abbrev value_read : Encoding → Specification → Section → Reading (NamedValue)
-value_read e x s = value_at e x.form.0 s >>= λ value. Ok (of_parts x.name value.0, value.1)
+value_read e x s = value_at e x.form.0 s >>= λ value. Ok (attribute_of x.name value.0, value.1)
 
-by_name : (x : Specification) (a : NamedValue) (rest : Section) → a.name ≡ x.name → ◌≡◌ {A = Reading (NamedValue)} (Ok (of_parts x.name a.value, rest)) (Ok (a, rest))
-by_name x a rest h = ap (λ n. Ok (of_parts n a.value, rest)) (sym h)
+by_name : (x : Specification) (a : NamedValue) (rest : Section) → a.name ≡ x.name → ◌≡◌ {A = Reading (NamedValue)} (Ok (attribute_of x.name a.value, rest)) (Ok (a, rest))
+by_name x a rest h = ap (λ n. Ok (attribute_of n a.value, rest)) (sym h)
 
 valued_reads : (e : Encoding) (order : RunTimeEndian) (x : Specification) (text rest : List ℕ) (a : NamedValue) → a.name ≡ x.name → IsAttributeValue e order x text a.value → attribute_at e x (section_of order (text ++ rest)) ≡ Ok (a, section_of order rest)
 unfolding attribute_at
 valued_reads e order x text rest a named (inl u) =
     let s = section_of order (text ++ rest) in
-    ap (λ b. cond b (implicit_read x s) (value_read e x s)) (eq-eqb _ _ u.0) ∙ ap (λ c. implicit_of c >>= λ value. Ok (of_parts x.name value, s)) u.2.1 ∙ ap (λ v. Ok (of_parts x.name v, s)) (sym u.2.2) ∙ ap (λ t. Ok (of_parts x.name a.value, section_of order (t ++ rest))) u.1 ∙ by_name x a (section_of order rest) named
+    ap (λ b. cond b (implicit_read x s) (value_read e x s)) (eq-eqb _ _ u.0) ∙ ap (λ c. implicit_of c >>= λ value. Ok (attribute_of x.name value, s)) u.2.1 ∙ ap (λ v. Ok (attribute_of x.name v, s)) (sym u.2.2) ∙ ap (λ t. Ok (attribute_of x.name a.value, section_of order (t ++ rest))) u.1 ∙ by_name x a (section_of order rest) named
 valued_reads e order x text rest a named (inr u) =
     let s = section_of order (text ++ rest) in
-    ap (λ b. cond b (implicit_read x s) (value_read e x s)) (ne_eqb _ _ u.0) ∙ ap (λ r. r >>= λ value. Ok (of_parts x.name value.0, value.1)) (value_reads e order x.form.0 text rest a.value u.1) ∙ by_name x a (section_of order rest) named
+    ap (λ b. cond b (implicit_read x s) (value_read e x s)) (ne_eqb _ _ u.0) ∙ ap (λ r. r >>= λ value. Ok (attribute_of x.name value.0, value.1)) (value_reads e order x.form.0 text rest a.value u.1) ∙ by_name x a (section_of order rest) named
 
 pub attribute_reads : ReadsAttribute
 attribute_reads e order x text rest a u = valued_reads e order x text rest a u.named u.valued
@@ -40,20 +41,20 @@ unfolding attribute_at
 attribute_alone e x s rest a h =
     elim (branch_taken (x.form.0 == DW_FORM_implicit_const.0) (implicit_read x s) (value_read e x s) (Ok (a, rest)) h) [
       | inl c ↦
-          let b = bind_ok (implicit_of x.constant) (λ value. Ok (of_parts x.name value, s)) (a, rest) c.1 in
-          let is : of_parts x.name b.0 ≡ a = same_value (of_parts x.name b.0, s) (a, rest) b.2 in
+          let b = bind_ok (implicit_of x.constant) (λ value. Ok (attribute_of x.name value, s)) (a, rest) c.1 in
+          let is : attribute_of x.name b.0 ≡ a = same_value (attribute_of x.name b.0, s) (a, rest) b.2 in
           let i = implicit_is x.constant b.0 b.1 in (
             [],
             record {
               named = sym (ap (λ y. y.name) is);
               valued = inl (eqb-true _ _ c.0, refl, (i.0, i.1, sym (ap (λ y. y.value) is) ∙ i.2));
             },
-            same_rest (of_parts x.name b.0, s) (a, rest) b.2,
+            same_rest (attribute_of x.name b.0, s) (a, rest) b.2,
           )
       | inr c ↦
-          let b = bind_ok (value_at e x.form.0 s) (λ value. Ok (of_parts x.name value.0, value.1)) (a, rest) c.1 in
-          let is : of_parts x.name b.0.0 ≡ a = same_value (of_parts x.name b.0.0, b.0.1) (a, rest) b.2 in
-          let left : b.0.1 ≡ rest = same_rest (of_parts x.name b.0.0, b.0.1) (a, rest) b.2 in
+          let b = bind_ok (value_at e x.form.0 s) (λ value. Ok (attribute_of x.name value.0, value.1)) (a, rest) c.1 in
+          let is : attribute_of x.name b.0.0 ≡ a = same_value (attribute_of x.name b.0.0, b.0.1) (a, rest) b.2 in
+          let left : b.0.1 ≡ rest = same_rest (attribute_of x.name b.0.0, b.0.1) (a, rest) b.2 in
           let v = value_alone e x.form.0 s b.0.1 b.0.0 b.1 in (
             v.0,
             record {

@@ -8,24 +8,28 @@ use Rattle.gimli_read.specs.Reading.{ExactlyUnlessOomIf}
 use Rattle.gimli_read.specs.Reading as reading
 
 -- a value or a fault, and whether memory may be taken for it, where readers share their bytes or not
-pub record Costed (A : Type 0) : Type 0 where
-  pub given : Result A Error
+pub record CostedOr (E A : Type 0) : Type 0 where
+  pub given : Result A E
   pub takes_memory : Bool → Bool
+
+-- the same with faults of readings
+abbrev pub Costed : Type 0 → Type 0
+Costed A = CostedOr Error A
 
 -- the same of a reading
 abbrev pub CostedReading : Type 0 → Type 0
 CostedReading A = Costed (A × Section)
 
 -- what is given without memory
-abbrev pub free : {A : Type 0} → Result A Error → Costed A
+abbrev pub free : {E A : Type 0} → Result A E → CostedOr E A
 free given = record { given = given; takes_memory = λ shares. false }
 
 -- what takes parts of the bytes, where it can be read
-abbrev pub parts : {A : Type 0} → Result A Error → Costed A
+abbrev pub parts : {E A : Type 0} → Result A E → CostedOr E A
 parts given = record { given = given; takes_memory = λ shares. shares && is_ok given }
 
 -- what takes parts of the bytes on the way to its value, or to its fault
-abbrev pub parts_on_the_way : {A : Type 0} → Result A Error → Costed A
+abbrev pub parts_on_the_way : {E A : Type 0} → Result A E → CostedOr E A
 parts_on_the_way given = record { given = given; takes_memory = λ shares. shares }
 
 -- room, where something is stored
@@ -33,13 +37,13 @@ abbrev pub room_if : Bool → Costed (Unit {0})
 room_if stores = record { given = Ok tt; takes_memory = λ shares. stores }
 
 -- whether memory is taken after a reading, where it has no fault
-abbrev pub takes_memory_after : {A : Type 0} → Result A Error → (A → Bool) → Bool
+abbrev pub takes_memory_after : {E A : Type 0} → Result A E → (A → Bool) → Bool
 takes_memory_after (Ok x) takes = takes x
 takes_memory_after (Err e) takes = false
 
 infixl 10 ◌>>=◌
 -- one step, and the next one where there was no fault
-abbrev pub ◌>>=◌ : {A B : Type 0} → Costed A → (A → Costed B) → Costed B
+abbrev pub ◌>>=◌ : {E A B : Type 0} → CostedOr E A → (A → CostedOr E B) → CostedOr E B
 c >>= f = record {
   given = reading.◌>>=◌ c.given (λ x. (f x).given);
   takes_memory = λ shares.

@@ -1,5 +1,4 @@
-use Rattle.std.proofs.Common.{arith}
-use Rattle.std.proofs.lemmas.Bool.Decides.{nat_tests}
+use Rattle.elf.proofs.Common.{arith, nat_tests}
 use Rattle.elf.proofs.ImageLemmas.{next_in_order}
 use Rattle.elf.proofs.image.are_in_order.Goals as goal
 use Rattle.elf.proofs.image.are_in_order.Goals.{then-piece-end-via-then-piece-end, then-piece-end-via-else-piece-end+then-own-len, then-piece-end-via-else-piece-end+else-own-len+then-piece-len}

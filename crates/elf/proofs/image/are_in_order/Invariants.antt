@@ -1,5 +1,4 @@
-use Rattle.std.proofs.Common.{◌≤◌, drop}
-use Rattle.elf.specs.FileImage.{ArePiecesInOrder}
+use Rattle.elf.proofs.Common.{◌≤◌, drop, ArePiecesInOrder}
 use Rattle.elf.proofs.image.are_in_order.Given as goal
 
 abbrev pub invariant-loop-piece : goal.invariant-loop-piece

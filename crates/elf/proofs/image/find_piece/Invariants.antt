@@ -1,6 +1,4 @@
-use Rattle.std.proofs.Common.{◌≡◌, drop}
-use Rattle.std.specs.List.{find}
-use Rattle.elf.specs.FileImage.{piece_holds}
+use Rattle.elf.proofs.Common.{◌≡◌, drop, find, piece_holds}
 use Rattle.elf.proofs.image.find_piece.Given as goal
 
 abbrev pub invariant-loop-piece : goal.invariant-loop-piece

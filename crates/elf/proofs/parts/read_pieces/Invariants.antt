@@ -1,5 +1,5 @@
-use Rattle.std.specs.Prelude.{◌≡◌, IfSome, Some, take}
-use Rattle.elf.specs.FileImage.{pieces_at}
+use Rattle.elf.proofs.Common.{IfSome, pieces_at}
+use Rattle.std.specs.Prelude.{◌≡◌, Some, take}
 use Rattle.elf.proofs.parts.read_pieces.Given as goal
 
 abbrev pub invariant-loop-range : goal.invariant-loop-range

@@ -1,7 +1,4 @@
-use Rattle.std.proofs.Common.{rules, ◌≡◌, ◌∙◌, ◌+◌, ◌-◌, suc, ap, drop, arith, sym}
-use Rattle.std.proofs.lemmas.List.{drop-drop}
-use Rattle.elf.specs.FileImage.{image_bytes}
-use Rattle.elf.specs.Layout.{layout_of}
+use Rattle.elf.proofs.Common.{rules, ◌≡◌, ◌∙◌, ◌+◌, ◌-◌, suc, ap, drop, arith, sym, drop-drop, image_bytes, layout_of}
 use Rattle.elf.proofs.TableLemmas.{room_after, sections_next, sections_end}
 use Rattle.elf.proofs.section.headers.Goals as goal
 

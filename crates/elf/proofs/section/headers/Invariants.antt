@@ -1,7 +1,4 @@
-use Rattle.std.proofs.Common.{◌≡◌, ◌≤◌, ◌+◌, ◌*◌, ◌-◌, ◌++◌, drop, length}
-use Rattle.elf.specs.FileImage.{image_bytes}
-use Rattle.elf.specs.Layout.{layout_of}
-use Rattle.elf.specs.Header.{sections_in}
+use Rattle.elf.proofs.Common.{◌≡◌, ◌≤◌, ◌+◌, ◌*◌, ◌-◌, ◌++◌, drop, length, image_bytes, layout_of, sections_in}
 use Rattle.elf.proofs.section.headers.Given as goal
 
 abbrev pub invariant-loop : goal.invariant-loop

@@ -1,6 +1,4 @@
-use Rattle.std.proofs.Common.{rules, ◌≡◌, ◌∙◌, ◌+◌, ℕ, List, suc, ap, sym, arith, take, option_map}
-use Rattle.std.specs.Prelude.{option_and_then}
-use Rattle.elf.specs.SectionBytes.{front_text, short_text_at}
+use Rattle.elf.proofs.Common.{rules, ◌≡◌, ◌∙◌, ◌+◌, ℕ, List, suc, ap, sym, arith, take, option_map, option_and_then, front_text, short_text_at}
 use Rattle.elf.proofs.TextLemmas.{if_short, front_text_within, front_text_all}
 use Rattle.elf.proofs.section.short_text_at.Goals as goal
 

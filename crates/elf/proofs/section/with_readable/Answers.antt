@@ -1,9 +1,5 @@
-use Rattle.std.proofs.Common.{◌≡◌, ◌∙◌, true, false, Result, Ok, Err, sym}
-use Rattle.std.specs.Prelude.{IfOk}
-use Rattle.std.specs.List.{list_all}
+use Rattle.elf.proofs.Common.{◌≡◌, ◌∙◌, true, false, Result, Ok, Err, sym, IfOk, list_all, Image, IsWhole, AreReadable, is_readable}
 use Rattle.elf.specs.declared.error.LoaderError.{LoaderError}
-use Rattle.elf.specs.FileImage.{Image, IsWhole}
-use Rattle.elf.specs.FileTables.{AreReadable, is_readable}
 use Rattle.elf.proofs.FileTableLemmas.{all_at, all_of_each, whole_readable}
 use Rattle.elf.proofs.section.with_readable.Goals as goal
 

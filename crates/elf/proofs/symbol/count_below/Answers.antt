@@ -1,6 +1,5 @@
-use Rattle.std.proofs.Common.{rules, nat_le}
+use Rattle.elf.proofs.Common.{rules, nat_le, SymbolEntry}
 use Rattle.std.proofs.lemmas.List.Sorted.{IsPartitionPoint-from_clause, IsPartitionedBy-leb}
-use Rattle.elf.specs.declared.symbol.SymbolEntry.{SymbolEntry}
 use Rattle.elf.proofs.symbol.count_below.Goals as goal
 
 pub returns-clause-gives : goal.returns-clause-gives

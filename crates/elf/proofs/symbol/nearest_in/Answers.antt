@@ -1,7 +1,5 @@
-use Rattle.std.proofs.Common.{◌≡◌, ◌∙◌, ◌<◌, ◌-◌, ℕ, suc, length, inl, inr, subst, arith}
-use Rattle.std.specs.List.{AllWithin}
+use Rattle.elf.proofs.Common.{◌≡◌, ◌∙◌, ◌<◌, ◌-◌, ℕ, suc, length, inl, inr, subst, arith, AllWithin, IsBelow, IsAbove}
 use Rattle.std.proofs.lemmas.Option.{slice_get_cases}
-use Rattle.elf.specs.SymbolTable.{IsBelow, IsAbove}
 use Rattle.elf.proofs.NearestLemmas.{nearest_none, nearest_is, rises}
 use Rattle.elf.proofs.symbol.nearest_in.Goals as goal
 

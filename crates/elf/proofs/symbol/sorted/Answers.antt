@@ -1,8 +1,5 @@
-use Rattle.std.proofs.Common.{rules, ℕ, subst, List}
+use Rattle.elf.proofs.Common.{rules, ℕ, subst, List, SymbolEntry, preference, IsSymbolTable}
 use Rattle.std.proofs.lemmas.List.Sorted.{answers_always}
-use Rattle.elf.specs.declared.symbol.SymbolEntry.{SymbolEntry}
-use Rattle.elf.specs.Symbols.{preference}
-use Rattle.elf.specs.SymbolTable.{IsSymbolTable}
 use Rattle.elf.proofs.symbol.sorted.Goals as goal
 
 pub returns : goal.returns

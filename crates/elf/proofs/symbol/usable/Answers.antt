@@ -1,6 +1,4 @@
-use Rattle.std.proofs.Common.{◌≡◌, ◌∙◌, ◌+◌, ◌-◌, ◌/◌, ℕ, suc, ap, drop, filter, length, arith, rules}
-use Rattle.elf.specs.Layout.{layout_of}
-use Rattle.elf.specs.Symbols.{is_usable, entries_in}
+use Rattle.elf.proofs.Common.{◌≡◌, ◌∙◌, ◌+◌, ◌-◌, ◌/◌, ℕ, suc, ap, drop, filter, length, arith, rules, layout_of, is_usable, entries_in}
 use Rattle.elf.proofs.TableLemmas.{room_first, room_next, entries_next, entries_none, entries_end}
 use Rattle.elf.proofs.symbol.usable.Goals as goal
 

@@ -1,7 +1,4 @@
-use Rattle.std.proofs.Common.{◌≡◌, ◌≤◌, ◌*◌, ◌-◌, ◌++◌, length, filter}
-use Rattle.elf.specs.Layout.{layout_of}
-use Rattle.elf.specs.Symbols.{is_usable, entries_in}
-use Rattle.elf.specs.TextStarts.{AreStarts}
+use Rattle.elf.proofs.Common.{◌≡◌, ◌≤◌, ◌*◌, ◌-◌, ◌++◌, length, filter, layout_of, is_usable, entries_in, AreStarts}
 use Rattle.elf.proofs.symbol.usable.Given as goal
 
 abbrev pub invariant-loop : goal.invariant-loop

@@ -1,6 +1,5 @@
-use Rattle.std.proofs.Common.{ℕ, sym, subst}
+use Rattle.elf.proofs.Common.{ℕ, sym, subst, IsTextDistance}
 use Rattle.std.specs.Prelude.{Option}
-use Rattle.elf.specs.TextStarts.{IsTextDistance}
 use Rattle.elf.proofs.StartLemmas.{begins_by_distance, begins_not_without}
 use Rattle.elf.proofs.text_starts.is_start.Goals as goal
 

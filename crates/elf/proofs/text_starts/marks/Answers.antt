@@ -1,6 +1,4 @@
-use Rattle.std.proofs.Common.{ℕ, Bool, List, [], ◌∷◌, ◌++◌, suc, ◌≡◌, ◌∙◌, ◌+◌, ◌-◌, ◌<◌, ap, subst, sym, drop, length, reverse, arith}
-use Rattle.std.proofs.lemmas.List.{drop-drop, reverse-append}
-use Rattle.elf.specs.TextStarts.{begins_text, text_starts, IsTextDistance}
+use Rattle.elf.proofs.Common.{ℕ, Bool, List, [], ◌∷◌, ◌++◌, suc, ◌≡◌, ◌∙◌, ◌+◌, ◌-◌, ◌<◌, ap, subst, sym, drop, length, reverse, arith, drop-drop, reverse-append, begins_text, text_starts, IsTextDistance}
 use Rattle.elf.proofs.StartLemmas.{starts_next}
 use Rattle.elf.proofs.text_starts.marks.Goals as goal
 

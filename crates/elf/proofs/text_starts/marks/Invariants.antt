@@ -1,5 +1,4 @@
-use Rattle.std.proofs.Common.{◌≡◌, ◌-◌, length, drop, reverse}
-use Rattle.elf.specs.TextStarts.{text_starts, IsTextDistance}
+use Rattle.elf.proofs.Common.{◌≡◌, ◌-◌, length, drop, reverse, text_starts, IsTextDistance}
 use Rattle.elf.proofs.text_starts.marks.Given as goal
 
 abbrev pub invariant-loop-read : goal.invariant-loop-read

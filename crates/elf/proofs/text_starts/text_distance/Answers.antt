@@ -1,7 +1,5 @@
-use Rattle.std.proofs.Common.{ℕ, suc, Some, ◌≡◌, ◌+◌, ◌<◌, subst, sym, drop, take, arith}
+use Rattle.elf.proofs.Common.{ℕ, suc, Some, ◌≡◌, ◌+◌, ◌<◌, subst, sym, drop, take, arith, IsUtf8, IsTextDistance}
 use Rattle.std.specs.Prelude.{Option}
-use Rattle.std.specs.Str.{IsUtf8}
-use Rattle.elf.specs.TextStarts.{IsTextDistance}
 use Rattle.elf.proofs.StartLemmas.{start_found, start_broken, start_far}
 use Rattle.elf.proofs.text_starts.text_distance.Goals as goal
 

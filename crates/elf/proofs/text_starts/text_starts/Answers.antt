@@ -1,4 +1,4 @@
-use Rattle.std.proofs.Common.{◌∙◌, sym}
+use Rattle.elf.proofs.Common.{◌∙◌, sym}
 use Rattle.elf.proofs.StartLemmas.{starts_everywhere, starts_marked}
 use Rattle.elf.proofs.text_starts.text_starts.Goals as goal
 

@@ -1,8 +1,4 @@
-use Rattle.std.proofs.Common.{◌≡◌, ◌∙◌, ◌≤◌, ℕ, List, Option, Some, None, arith, length, subst, sym}
-use Rattle.std.specs.Prelude.{IfSome}
-use Rattle.std.proofs.lemmas.Bool.Decides.{nat_tests}
-use Rattle.elf.specs.FileImage.{AreRangesOf, Image, Shows, image_in}
-use Rattle.elf.specs.Header.{headers_in}
+use Rattle.elf.proofs.Common.{◌≡◌, ◌∙◌, ◌≤◌, ℕ, List, Option, Some, None, arith, length, subst, sym, IfSome, nat_tests, AreRangesOf, Image, Shows, image_in, headers_in}
 use Rattle.elf.proofs.PartLemmas.{headers_read}
 use Rattle.elf.proofs.wanted.read_section_headers.Goals as goal
 

@@ -1,14 +1,4 @@
-use Rattle.std.proofs.Common.{rules, ◌≡◌, ◌∙◌, ℕ, ◌*◌, ◌-◌, ◌&&◌, ◌||◌, Bool, true, not, List, ap, arith, drop, sym}
-use Rattle.std.specs.List.{list_all}
-use Rattle.std.specs.Option.{option_map_or}
-use Rattle.elf.specs.declared.section.SectionHeader.{SectionHeader}
-use Rattle.elf.specs.FileImage.{image_bytes, is_held}
-use Rattle.elf.specs.Header.{sections_in}
-use Rattle.elf.specs.Layout.{layout_of}
-use Rattle.elf.specs.ObjectFile.{name_table_of, object_file_with}
-use Rattle.elf.specs.SectionBytes.{string_table_in}
-use Rattle.elf.specs.Symbols.{symbol_names_number, symbol_table}
-use Rattle.elf.specs.Wanted.{shows_section, is_shown_at, is_wanted_section, shows_sections, shows_tables}
+use Rattle.elf.proofs.Common.{rules, ◌≡◌, ◌∙◌, ℕ, ◌*◌, ◌-◌, ◌&&◌, ◌||◌, Bool, true, not, List, ap, arith, drop, sym, list_all, option_map_or, SectionHeader, image_bytes, is_held, sections_in, layout_of, name_table_of, object_file_with, string_table_in, symbol_names_number, symbol_table, shows_section, is_shown_at, is_wanted_section, shows_sections, shows_tables}
 use Rattle.elf.proofs.wanted.shows_all.Goals as goal
 
 pub returns : goal.returns

@@ -1,11 +1,4 @@
-use Rattle.std.proofs.Common.{◌∙◌, ℕ, List, ap, subst, sym}
-use Rattle.elf.specs.declared.symbol.SymbolEntry.{SymbolEntry}
-use Rattle.elf.specs.FileImage.{image_bytes}
-use Rattle.elf.specs.Layout.{layout_of}
-use Rattle.elf.specs.SectionBytes.{string_table_in}
-use Rattle.elf.specs.ObjectFile.{ObjectFile}
-use Rattle.elf.specs.Symbols.{nearest_symbol, symbols_of, symbol_names_number, symbol_bytes, usable_in}
-use Rattle.elf.specs.SymbolTable.{IsSymbolTable}
+use Rattle.elf.proofs.Common.{◌∙◌, ℕ, List, ap, subst, sym, SymbolEntry, image_bytes, layout_of, string_table_in, ObjectFile, nearest_symbol, symbols_of, symbol_names_number, symbol_bytes, usable_in, IsSymbolTable}
 use Rattle.elf.proofs.file.ElfFile.nearest.Goals as goal
 
 pub returns : goal.returns

@@ -1,10 +1,4 @@
-use Rattle.std.proofs.Common.{◌≡◌, ◌∙◌, List, Some, false, true, ℕ, ap}
-use Rattle.std.specs.Prelude.{slice_get}
-use Rattle.elf.specs.FileImage.{image_bytes}
-use Rattle.elf.specs.FileTables.{is_packed}
-use Rattle.elf.specs.ObjectFile.{ObjectFile}
-use Rattle.elf.specs.SectionBytes.{is_outside}
-use Rattle.elf.specs.Sections.{section_names_of}
+use Rattle.elf.proofs.Common.{◌≡◌, ◌∙◌, List, Some, false, true, ℕ, ap, slice_get, image_bytes, is_packed, ObjectFile, is_outside, section_names_of}
 use Rattle.elf.proofs.FileTableLemmas.{readable_is_held}
 use Rattle.elf.proofs.file.ElfFile.packed_bytes.Goals as goal
 

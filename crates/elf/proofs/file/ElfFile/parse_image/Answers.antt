@@ -1,9 +1,5 @@
-use Rattle.std.proofs.Common.{◌≡◌, ◌≢◌, ◌∙◌, List, ℕ, [], subst, sym}
+use Rattle.elf.proofs.Common.{◌≡◌, ◌≢◌, ◌∙◌, List, ℕ, [], subst, sym, SectionHeader, image_bytes, AreReadable, HasTables, layout_of}
 use Rattle.std.proofs.lemmas.Result.{err_from_is_err_and}
-use Rattle.elf.specs.declared.section.SectionHeader.{SectionHeader}
-use Rattle.elf.specs.FileImage.{image_bytes}
-use Rattle.elf.specs.FileTables.{AreReadable, HasTables}
-use Rattle.elf.specs.Layout.{layout_of}
 use Rattle.elf.proofs.ParseLemmas.{memory_refused, no_sections, takes_memory}
 use Rattle.elf.proofs.file.ElfFile.parse_image.Goals as goal
 

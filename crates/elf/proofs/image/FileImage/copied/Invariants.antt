@@ -1,5 +1,4 @@
-use Rattle.std.proofs.Common.{◌≡◌, drop, take}
-use Rattle.elf.specs.FileImage.{image_bytes}
+use Rattle.elf.proofs.Common.{◌≡◌, drop, take, image_bytes}
 use Rattle.elf.proofs.image.FileImage.copied.Given as goal
 
 abbrev pub invariant-loop-i : goal.invariant-loop-i

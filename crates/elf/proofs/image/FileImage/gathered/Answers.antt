@@ -1,6 +1,4 @@
-use Rattle.std.proofs.Common.{arith, length, ◌<◌, ◌∙◌}
-use Rattle.std.proofs.lemmas.List.{length-set}
-use Rattle.elf.specs.FileImage.{image_bytes}
+use Rattle.elf.proofs.Common.{arith, length, ◌<◌, ◌∙◌, length-set, image_bytes}
 use Rattle.elf.proofs.ImageLemmas.{one_more}
 use Rattle.elf.proofs.image.FileImage.gathered.Goals as goal
 

@@ -1,5 +1,4 @@
-use Rattle.std.proofs.Common.{◌∙◌, ◌∷◌, length, ap, sym}
-use Rattle.elf.specs.FileImage.{Image, image_bytes}
+use Rattle.elf.proofs.Common.{◌∙◌, ◌∷◌, length, ap, sym, Image, image_bytes}
 use Rattle.elf.proofs.ImageLemmas.{bytes_length}
 use Rattle.elf.proofs.image.FileImage.len.Goals as goal
 

@@ -1,6 +1,4 @@
-use Rattle.std.proofs.Common.{◌∙◌, take, drop, ap, le_refl}
-use Rattle.std.proofs.lemmas.List.{take-take}
-use Rattle.elf.specs.FileImage.{image_bytes}
+use Rattle.elf.proofs.Common.{◌∙◌, take, drop, ap, le_refl, take-take, image_bytes}
 use Rattle.elf.proofs.ImageLemmas.{number_shown}
 use Rattle.elf.proofs.image.FileImage.number.Goals as goal
 

@@ -1,7 +1,4 @@
-use Rattle.std.proofs.Common.{◌≡◌, ◌∙◌, ◌<◌, ◌∷◌, List, ap, arith, length, refl, sym, subst}
-use Rattle.std.proofs.lemmas.Bool.Decides.{nat_tests}
-use Rattle.elf.specs.declared.image.Piece.{Piece}
-use Rattle.elf.specs.FileImage.{ArePiecesInOrder, Image, Shows}
+use Rattle.elf.proofs.Common.{◌≡◌, ◌∙◌, ◌<◌, ◌∷◌, List, ap, arith, length, refl, sym, subst, nat_tests, Piece, ArePiecesInOrder, Image, Shows}
 use Rattle.elf.proofs.ImageLemmas.{first_and_rest, pieces_show}
 use Rattle.elf.proofs.image.FileImage.of_pieces.Goals as goal
 

@@ -1,8 +1,4 @@
-use Rattle.std.proofs.Common.{◌≡◌, ◌∙◌, ◌∷◌, List, None, Bor, get_or, is_some, option_map, ap, subst}
-use Rattle.std.specs.Prelude.{IfSome}
-use Rattle.std.specs.List.{find}
-use Rattle.elf.specs.declared.image.Piece.{Piece}
-use Rattle.elf.specs.FileImage.{Image, HasPart, piece_holds, image_bytes, is_held}
+use Rattle.elf.proofs.Common.{◌≡◌, ◌∙◌, ◌∷◌, List, None, Bor, get_or, is_some, option_map, ap, subst, IfSome, find, Piece, Image, HasPart, piece_holds, image_bytes, is_held}
 use Rattle.elf.proofs.ImageLemmas.{piece_found}
 use Rattle.elf.proofs.image.FileImage.piece.Goals as goal
 

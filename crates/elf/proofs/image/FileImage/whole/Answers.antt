@@ -1,6 +1,4 @@
-use Rattle.std.proofs.Common.{◌∙◌, ◌∷◌, List, ap, refl, subst, sym}
-use Rattle.elf.specs.declared.image.Piece.{Piece}
-use Rattle.elf.specs.FileImage.{IsWhole, image_bytes}
+use Rattle.elf.proofs.Common.{◌∙◌, ◌∷◌, List, ap, refl, subst, sym, Piece, IsWhole, image_bytes}
 use Rattle.elf.proofs.ImageLemmas.{whole_image}
 use Rattle.elf.proofs.image.FileImage.whole.Goals as goal
 

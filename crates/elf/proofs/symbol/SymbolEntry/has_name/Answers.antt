@@ -1,4 +1,4 @@
-use Rattle.std.proofs.Common.{◌∙◌}
+use Rattle.elf.proofs.Common.{◌∙◌}
 use Rattle.elf.proofs.StartLemmas.{name_begins}
 use Rattle.elf.proofs.symbol.SymbolEntry.has_name.Goals as goal
 

@@ -8,7 +8,10 @@
 -- NOBITS has no header. What a header says of alignment, and its reserved number, aren't looked at.
 -- Own: memory is taken for the stream of a section, once its header and the need of relocations
 -- don't refuse it, and for a part of the file that is shared.
-use Rattle.elf.specs.Common.{ℕ, ◌*◌, ◌==◌, ◌&&◌, ◌||◌, not, List, Option, Ok, Err, if◌then◌else◌, drop, length, nat_eq, nat_lt, codes, option_map, option_and_then, position, starts_with, option_map_or, RunTimeEndian}
+use Rattle.std.specs.List.{position, starts_with}
+use Rattle.std.specs.Option.{option_map_or}
+use Rattle.std.specs.Prelude.{ℕ, ◌*◌, ◌==◌, ◌&&◌, ◌||◌, not, List, Option, Ok, Err, if◌then◌else◌, drop, length, nat_eq, nat_lt, codes, option_map, option_and_then}
+use Rattle.elf.specs.Common.{RunTimeEndian}
 use Rattle.std.specs.List.{slice_get}
 use Rattle.gimli_read.specs.declared.endian.RunTimeEndian.TheVariants.{Big}
 use Rattle.gimli_read.specs.Costed.{◌>>=◌, free}

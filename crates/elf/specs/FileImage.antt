@@ -1,6 +1,7 @@
 -- The bytes of a file of which only some pieces were read.
 -- Own: zeros stand for the bytes that no piece has.
-use Rattle.elf.specs.Common.{◌≡◌, ℕ, ◌+◌, ◌-◌, ◌≤◌, ◌&&◌, Bool, true, cond, List, [], ◌∷◌, ◌++◌, Option, None, Some, drop, is_some, length, map, nat_le, replicate, take, find, list_all}
+use Rattle.std.specs.List.{find, list_all}
+use Rattle.std.specs.Prelude.{◌≡◌, ℕ, ◌+◌, ◌-◌, ◌≤◌, ◌&&◌, Bool, true, cond, List, [], ◌∷◌, ◌++◌, Option, None, Some, drop, is_some, length, map, nat_le, replicate, take}
 use Rattle.gimli_read.specs.declared.endian.RunTimeEndian.TheVariants.{Little}
 use Rattle.gimli_read.specs.declared.range.Range.{Range}
 use Rattle.elf.specs.declared.image.Piece.{Piece}

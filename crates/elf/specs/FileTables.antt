@@ -1,6 +1,9 @@
 -- What is kept of a file beside its bytes, as the private functions see it: its string tables, its
 -- symbols, and which sections stand in one piece.
-use Rattle.elf.specs.Common.{◌≡◌, ℕ, ◌||◌, Bool, true, false, not, List, Some, nat_eq, slice_get, starts_with, option_map_or, RunTimeEndian}
+use Rattle.std.specs.List.{starts_with}
+use Rattle.std.specs.Option.{option_map_or}
+use Rattle.std.specs.Prelude.{◌≡◌, ℕ, ◌||◌, Bool, true, false, not, List, Some, nat_eq, slice_get}
+use Rattle.elf.specs.Common.{RunTimeEndian}
 use Rattle.gimli_read.specs.Section.{Section}
 use Rattle.elf.specs.declared.layout.Class.{Class}
 use Rattle.elf.specs.declared.section.SectionHeader.{SectionHeader}

@@ -3,7 +3,9 @@
 -- Own: a file without the whole magic is NotElf; one that has it, but no class or data byte,
 -- another value of these, or not the whole header of its class, is BadElf, and so are section
 -- headers outside the file or of another size than the class's.
-use Rattle.elf.specs.Common.{ℕ, zero, suc, ◌+◌, ◌*◌, ◌==◌, Bool, not, List, [], ◌∷◌, Option, Some, None, Ok, Err, if◌then◌else◌, drop, length, slice_index, nat_eq, nat_le, nat_lt, codes, starts_with, RunTimeEndian, ◌>>=◌}
+use Rattle.std.specs.List.{starts_with}
+use Rattle.std.specs.Prelude.{ℕ, zero, suc, ◌+◌, ◌*◌, ◌==◌, Bool, not, List, [], ◌∷◌, Option, Some, None, Ok, Err, if◌then◌else◌, drop, length, slice_index, nat_eq, nat_le, nat_lt, codes}
+use Rattle.elf.specs.Common.{RunTimeEndian, ◌>>=◌}
 use Rattle.gimli_read.specs.declared.endian.RunTimeEndian.TheVariants.{Little, Big}
 use Rattle.elf.specs.declared.constants.TheConstants.{HALF_SIZE, WORD_SIZE, ELFMAG0, EI_CLASS, EI_DATA, ELFCLASS32, ELFCLASS64, ELFDATA2LSB, ELFDATA2MSB, ET_REL}
 use Rattle.elf.specs.declared.error.LoaderError.TheVariants.{NotElf, BadElf}

@@ -1,7 +1,7 @@
 -- What is answered of a file of which only some pieces were read, and what the file's own bytes
 -- answer (System V ABI, Object Files).
 -- Own: what pieces are, and which parts of a file lookups want.
-use Rattle.elf.specs.Common.{◌≡◌, ℕ, true, List, Ok, Err}
+use Rattle.std.specs.Prelude.{◌≡◌, ℕ, true, List, Ok, Err}
 use Rattle.elf.specs.Compressed.{decompression_of}
 use Rattle.elf.specs.FileImage.{Image, Shows, image_bytes}
 use Rattle.elf.specs.Loading.{Loading}

@@ -1,6 +1,7 @@
 -- Where the fields of an ELF file's headers and symbols stand, for files of 32 and of 64 bits
 -- (System V ABI, Object Files: ELF Header, Sections, Symbol Table).
-use Rattle.elf.specs.Common.{ℕ, ◌+◌, ◌≤◌, List, drop, RunTimeEndian}
+use Rattle.std.specs.Prelude.{ℕ, ◌+◌, ◌≤◌, List, drop}
+use Rattle.elf.specs.Common.{RunTimeEndian}
 use Rattle.gimli_read.specs.Number.{number_of}
 use Rattle.elf.specs.declared.constants.TheConstants.{HALF_SIZE, WORD_SIZE}
 use Rattle.elf.specs.declared.layout.Class.{Class}

@@ -2,7 +2,8 @@
 -- A loading gives a value, or the first fault in the order of its steps.
 -- Own: the definitions of loadings are written without OutOfMemory, which stands for a refused
 -- growth alone; no law says so.
-use Rattle.elf.specs.Common.{◌≡◌, ◌≢◌, Bool, true, Result, ExactlyUnless, ExactlyUnlessFor, ExactlyWhere}
+use Rattle.std.specs.Prelude.{◌≡◌, ◌≢◌, Bool, true, Result}
+use Rattle.elf.specs.Common.{ExactlyUnless, ExactlyUnlessFor, ExactlyWhere}
 use Rattle.gimli_read.specs.Costed.{CostedOr}
 use Rattle.elf.specs.declared.error.LoaderError.{LoaderError}
 use Rattle.elf.specs.declared.error.LoaderError.TheVariants.{OutOfMemory}

@@ -1,6 +1,8 @@
 -- What an ELF file's bytes say as a whole (System V ABI, Object Files).
 -- Own: the byte EI_DATA of the file alone gives the byte order, of its sections too.
-use Rattle.elf.specs.Common.{ℕ, ◌==◌, Bool, false, not, List, Ok, Err, if◌then◌else◌, drop, length, option_map_or, RunTimeEndian, ◌>>=◌}
+use Rattle.std.specs.Option.{option_map_or}
+use Rattle.std.specs.Prelude.{ℕ, ◌==◌, Bool, false, not, List, Ok, Err, if◌then◌else◌, drop, length}
+use Rattle.elf.specs.Common.{RunTimeEndian, ◌>>=◌}
 use Rattle.std.specs.List.{slice_get}
 use Rattle.elf.specs.declared.constants.TheConstants.{SHN_XINDEX}
 use Rattle.elf.specs.declared.layout.Class.{Class}

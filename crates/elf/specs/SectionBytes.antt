@@ -3,7 +3,9 @@
 -- Own: section 0 is no string table (SHN_UNDEF), and a string table outside the file is an empty
 -- one.
 -- Own: a text outside its table, or without its zero byte, is no text.
-use Rattle.elf.specs.Common.{ℕ, ◌+◌, ◌==◌, Bool, List, [], Option, Some, None, if◌then◌else◌, drop, take, length, nat_le, nat_lt, option_map, option_and_then, position, option_map_or}
+use Rattle.std.specs.List.{position}
+use Rattle.std.specs.Option.{option_map_or}
+use Rattle.std.specs.Prelude.{ℕ, ◌+◌, ◌==◌, Bool, List, [], Option, Some, None, if◌then◌else◌, drop, take, length, nat_le, nat_lt, option_map, option_and_then}
 use Rattle.std.specs.List.{slice_get}
 use Rattle.elf.specs.declared.constants.TheConstants.{SHN_UNDEF, SHT_NOBITS}
 use Rattle.elf.specs.declared.section.SectionHeader.{SectionHeader}

@@ -3,7 +3,10 @@
 -- Own: refused, in this order, are a section outside the file, a compressed one, and one that
 -- still needs relocations; a missing one is compressed where .zdebug_ stands in place of the
 -- .debug_ of its name.
-use Rattle.elf.specs.Common.{ℕ, ◌+◌, ◌==◌, ◌&&◌, ◌||◌, Bool, false, not, List, [], Option, Some, None, Ok, Err, if◌then◌else◌, drop, length, nat_eq, codes, bit_and, option_map, option_and_then, bytes_eq, position, starts_with, list_any, option_map_or}
+use Rattle.std.specs.List.{position, starts_with, list_any}
+use Rattle.std.specs.Option.{option_map_or}
+use Rattle.std.specs.Prelude.{ℕ, ◌+◌, ◌==◌, ◌&&◌, ◌||◌, Bool, false, not, List, [], Option, Some, None, Ok, Err, if◌then◌else◌, drop, length, nat_eq, codes, bit_and, option_map, option_and_then}
+use Rattle.std.specs.Str.{bytes_eq}
 use Rattle.std.specs.List.{slice_get}
 use Rattle.gimli_read.specs.Section.{Section}
 use Rattle.gimli_read.specs.Number.{fits_u64}

@@ -1,5 +1,5 @@
 -- The sorted table of symbols, as the private functions see it.
-use Rattle.elf.specs.Common.{◌≡◌, ℕ, Bool, true, false, List, nat_le}
+use Rattle.std.specs.Prelude.{◌≡◌, ℕ, Bool, true, false, List, nat_le}
 use Rattle.std.specs.Ordering.{is_lt, nat_cmp, ordering_then}
 use Rattle.std.specs.List.Sorted.{IsSortedBy, IsStableBy}
 use Rattle.elf.specs.declared.symbol.SymbolEntry.{SymbolEntry}

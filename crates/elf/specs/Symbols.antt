@@ -6,7 +6,11 @@
 -- Own: a probe's symbol is the one with the greatest address not above it, if its size is 0 or
 -- the probe is below its end. Of several at one address OBJECT and FUNC come before NOTYPE, then
 -- the binds GLOBAL and WEAK before others, then the later entry before the earlier.
-use Rattle.elf.specs.Common.{ℕ, zero, suc, ◌+◌, ◌/◌, ◌%◌, ◌==◌, ◌&&◌, ◌||◌, Bool, not, List, [], ◌∷◌, Option, Some, None, if◌then◌else◌, drop, length, filter, slice_index, nat_le, nat_lt, is_some, option_map, option_and_then, find, is_utf8, option_map_or, option_or, RunTimeEndian}
+use Rattle.std.specs.List.{find}
+use Rattle.std.specs.Option.{option_map_or, option_or}
+use Rattle.std.specs.Prelude.{ℕ, zero, suc, ◌+◌, ◌/◌, ◌%◌, ◌==◌, ◌&&◌, ◌||◌, Bool, not, List, [], ◌∷◌, Option, Some, None, if◌then◌else◌, drop, length, filter, slice_index, nat_le, nat_lt, is_some, option_map, option_and_then}
+use Rattle.std.specs.Str.{is_utf8}
+use Rattle.elf.specs.Common.{RunTimeEndian}
 use Rattle.gimli_read.specs.Topmost.{topmost, last}
 use Rattle.elf.specs.declared.constants.TheConstants.{HALF_SIZE, WORD_SIZE, SHN_UNDEF, SHT_SYMTAB, SHT_DYNSYM, ST_TYPE_COUNT, STT_NOTYPE, STT_OBJECT, STT_FUNC, STB_GLOBAL, STB_WEAK}
 use Rattle.elf.specs.declared.layout.Layout.{Layout}

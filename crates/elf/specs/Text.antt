@@ -1,7 +1,7 @@
 -- The texts of the refusals of a loader, and its refusal for a refused reading of DWARF.
 -- Own: a refusal has one text, in lower case; that of a DWARF reading is the reading's own.
 -- Own: OutOfMemory is one refusal, wherever a growth was refused.
-use Rattle.elf.specs.Common.{ℕ, List, codes}
+use Rattle.std.specs.Prelude.{ℕ, List, codes}
 use Rattle.gimli_read.specs.declared.error.Error.{Error}
 use Rattle.gimli_read.specs.declared.error.Error.TheVariants as reading
 use Rattle.gimli_read.specs.Text as dwarf

@@ -1,5 +1,7 @@
 -- At which places of a string table texts in UTF-8 begin, as the private functions see it.
-use Rattle.elf.specs.Common.{◌≡◌, ℕ, ◌-◌, ◌<◌, ◌≤◌, ◌==◌, ◌&&◌, Bool, true, false, List, [], ◌∷◌, Option, Some, None, length, take, drop, get_or, is_some, option_and_then, list_all, IsUtf8}
+use Rattle.std.specs.List.{list_all}
+use Rattle.std.specs.Prelude.{◌≡◌, ℕ, ◌-◌, ◌<◌, ◌≤◌, ◌==◌, ◌&&◌, Bool, true, false, List, [], ◌∷◌, Option, Some, None, length, take, drop, get_or, is_some, option_and_then}
+use Rattle.std.specs.Str.{IsUtf8}
 use Rattle.std.specs.Char.{is_ascii}
 use Rattle.elf.specs.SectionBytes.{front_text}
 use Rattle.elf.specs.Symbols.{utf8_from}

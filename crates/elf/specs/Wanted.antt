@@ -3,7 +3,11 @@
 -- Own: they are the file's header, the section headers, the names of the sections, the symbols with
 -- their names, and the sections of debug information that lookups know by name, with .debug_ or
 -- .zdebug_ before it and perhaps .dwo behind it.
-use Rattle.elf.specs.Common.{◌≡◌, ◌⊎◌, ℕ, ◌*◌, ◌&&◌, ◌||◌, Bool, false, true, not, List, ◌==◌, Ok, Err, drop, length, nat_eq, codes, slice_get, list_all, starts_with, option_map_or, bytes_eq, ◌>>=◌}
+use Rattle.std.specs.List.{list_all, starts_with}
+use Rattle.std.specs.Option.{option_map_or}
+use Rattle.std.specs.Prelude.{◌≡◌, ◌⊎◌, ℕ, ◌*◌, ◌&&◌, ◌||◌, Bool, false, true, not, List, ◌==◌, Ok, Err, drop, length, nat_eq, codes, slice_get}
+use Rattle.std.specs.Str.{bytes_eq}
+use Rattle.elf.specs.Common.{◌>>=◌}
 use Rattle.elf.specs.declared.constants.TheConstants.{EHDR_SIZE_MAX}
 use Rattle.elf.specs.declared.header.FileHeader.{FileHeader}
 use Rattle.elf.specs.declared.header.Ident.{Ident}

@@ -1,6 +1,7 @@
 //! Bytes that are compressed (System V ABI, Object Files: Section Compression).
 
-ghost use Rattle.elf.specs.Common.{◌≡◌, ◌<◌, length, true, IfOk, result_map};
+ghost use Rattle.std.specs.Prelude.{◌≡◌, ◌<◌, length, true, IfOk};
+ghost use Rattle.elf.specs.Common.{result_map};
 ghost use Rattle.elf.specs.Layout.{layout_of};
 ghost use Rattle.elf.specs.Loading.{LoadsAtCost};
 ghost use Rattle.elf.specs.Compressed.{packed_in, zdebug_packed_in, unpacked_section};

@@ -1,6 +1,6 @@
 //! Why a file was refused.
 
-ghost use Rattle.elf.specs.Common.{◌≡◌, Some};
+ghost use Rattle.std.specs.Prelude.{◌≡◌, Some};
 ghost use Rattle.elf.specs.declared.error.LoaderError.TheVariants.{OutOfMemory};
 ghost use Rattle.elf.specs.Text.{loader_text_of, loader_error_of};
 

@@ -1,6 +1,7 @@
 //! A whole file.
 
-ghost use Rattle.elf.specs.Common.{◌≡◌, [], Some, false, slice_get, true, option_map, IfErr, IfOk, IsOk, Exactly};
+ghost use Rattle.std.specs.Prelude.{◌≡◌, [], Some, false, slice_get, true, option_map, IfErr, IfOk, IsOk};
+ghost use Rattle.elf.specs.Common.{Exactly};
 ghost use Rattle.elf.specs.Compressed.{first_zdebug, unpacked_contents, decompressed_of, zdebug_of, missing_decompressed, decompression_of};
 ghost use Rattle.elf.specs.Loading.{LoadsAtCost, LoadsUnlessOomFor};
 ghost use Rattle.elf.specs.declared.error.LoaderError.TheVariants.{OutOfMemory};

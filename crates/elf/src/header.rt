@@ -1,6 +1,6 @@
 //! The file's own header (System V ABI, Object Files: ELF Header).
 
-ghost use Rattle.elf.specs.Common.{◌≡◌, ◌≤◌, ◌+◌, ◌*◌, length, IfOk};
+ghost use Rattle.std.specs.Prelude.{◌≡◌, ◌≤◌, ◌+◌, ◌*◌, length, IfOk};
 ghost use Rattle.elf.specs.FileImage.{image_bytes};
 ghost use Rattle.elf.specs.Layout.{layout_of};
 ghost use Rattle.elf.specs.Header.{class_of, endian_of, has_magic, ident_in, count_in, header_in};

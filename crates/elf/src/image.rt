@@ -1,6 +1,7 @@
 //! The bytes of a file of which only some pieces were read.
 
-ghost use Rattle.elf.specs.Common.{◌≡◌, ◌≤◌, ◌+◌, ◌-◌, ℕ, List, ◌∷◌, length, take, drop, get_or, is_some, option_map, IfErr, IfOk, IfSome, None, Ok, true, find};
+ghost use Rattle.std.specs.List.{find};
+ghost use Rattle.std.specs.Prelude.{◌≡◌, ◌≤◌, ◌+◌, ◌-◌, ℕ, List, ◌∷◌, length, take, drop, get_or, is_some, option_map, IfErr, IfOk, IfSome, None, Ok, true};
 ghost use Rattle.elf.specs.FileImage.{ArePiecesInOrder, ArePiecesOf, HasPart, IsWhole, Shows, piece_holds, image_bytes, is_held};
 ghost use Rattle.elf.specs.declared.layout.Class.TheVariants as class;
 ghost use Rattle.elf.specs.declared.error.LoaderError.TheVariants.{OutOfMemory};

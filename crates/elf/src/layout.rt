@@ -1,6 +1,6 @@
 //! Where the fields of headers and symbols stand (System V ABI, Object Files).
 
-ghost use Rattle.elf.specs.Common.{◌≡◌, ◌≤◌, ◌+◌, length};
+ghost use Rattle.std.specs.Prelude.{◌≡◌, ◌≤◌, ◌+◌, length};
 ghost use Rattle.elf.specs.declared.constants.TheConstants.{HALF_SIZE, WORD_SIZE};
 ghost use Rattle.elf.specs.declared.layout.Class.TheVariants as class;
 ghost use Rattle.elf.specs.Layout.{layout_number_at, layout_of, AddressSizeBounds, FieldsInHeader, FieldsInSection, FieldsInSymbol};

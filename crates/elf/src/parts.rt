@@ -1,6 +1,6 @@
 //! Parts of a file.
 
-ghost use Rattle.elf.specs.Common.{◌≡◌, IfOk, IfSome, Some, is_some, option_map, true};
+ghost use Rattle.std.specs.Prelude.{◌≡◌, IfOk, IfSome, Some, is_some, option_map, true};
 ghost use Rattle.elf.specs.FileImage.{AreRangesOf, IsWhole, Shows, image_in, piece_at, pieces_at};
 
 use crate::image::{FileImage, Piece};

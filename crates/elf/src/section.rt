@@ -1,6 +1,8 @@
 //! Section headers, and the bytes of a section (System V ABI, Object Files: Sections).
 
-ghost use Rattle.elf.specs.Common.{◌≡◌, ◌≤◌, ◌+◌, ◌*◌, [], length, drop, option_map, IfErr, IfOk, IsOk, Ok, list_all, list_any, position, option_map_or};
+ghost use Rattle.std.specs.List.{list_all, list_any, position};
+ghost use Rattle.std.specs.Option.{option_map_or};
+ghost use Rattle.std.specs.Prelude.{◌≡◌, ◌≤◌, ◌+◌, ◌*◌, [], length, drop, option_map, IfErr, IfOk, IsOk, Ok};
 ghost use Rattle.elf.specs.declared.error.LoaderError.TheVariants.{OutOfMemory};
 ghost use Rattle.elf.specs.FileImage.{image_bytes};
 ghost use Rattle.elf.specs.FileTables.{AreReadable, has_zdebug_name, is_packed, is_readable};

@@ -1,6 +1,7 @@
 //! Symbols (System V ABI, Object Files: Symbol Table).
 
-ghost use Rattle.elf.specs.Common.{◌≡◌, ◌≤◌, ◌==◌, ℕ, List, [], ◌∷◌, ◌++◌, length, false, filter, is_some, option_map, true, OnOk, IfErr, IfOk, IsOk, find};
+ghost use Rattle.std.specs.List.{find};
+ghost use Rattle.std.specs.Prelude.{◌≡◌, ◌≤◌, ◌==◌, ℕ, List, [], ◌∷◌, ◌++◌, length, false, filter, is_some, option_map, true, OnOk, IfErr, IfOk, IsOk};
 ghost use Rattle.std.specs.List.{slice_get};
 ghost use Rattle.elf.specs.declared.error.LoaderError.TheVariants.{OutOfMemory};
 ghost use Rattle.elf.specs.FileImage.{image_bytes};

@@ -4,7 +4,8 @@
 //! once, and no text is read for each symbol that has it: from its last byte to its first, unless
 //! it is ASCII alone, as most tables are.
 
-ghost use Rattle.elf.specs.Common.{◌≡◌, ◌<◌, length, drop, true, IfOk, IsOk, list_all};
+ghost use Rattle.std.specs.List.{list_all};
+ghost use Rattle.std.specs.Prelude.{◌≡◌, ◌<◌, length, drop, true, IfOk, IsOk};
 ghost use Rattle.std.specs.Char.{is_ascii};
 ghost use Rattle.elf.specs.TextStarts.{AreStarts, begins_at, begins_text, is_ascii_table, text_starts, IsTextDistance};
 

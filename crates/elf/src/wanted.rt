@@ -1,6 +1,8 @@
 //! The parts of a file that lookups read.
 
-ghost use Rattle.elf.specs.Common.{◌≡◌, ◌≤◌, ◌+◌, ◌*◌, ◌==◌, ◌&&◌, ◌||◌, is_some, length, not, option_map, true, IfOk, IfSome, list_all, option_map_or};
+ghost use Rattle.std.specs.List.{list_all};
+ghost use Rattle.std.specs.Option.{option_map_or};
+ghost use Rattle.std.specs.Prelude.{◌≡◌, ◌≤◌, ◌+◌, ◌*◌, ◌==◌, ◌&&◌, ◌||◌, is_some, length, not, option_map, true, IfOk, IfSome};
 ghost use Rattle.gimli_read.specs.Number.{fits_u64};
 ghost use Rattle.elf.specs.declared.constants.TheConstants.{SHN_UNDEF};
 ghost use Rattle.elf.specs.FileImage.{Shows, image_bytes};

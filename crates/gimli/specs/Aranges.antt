@@ -4,7 +4,8 @@
 -- UnsupportedAddressSize, and a segment size other than 0 is UnsupportedSegmentSize.
 -- Own: pairs of length 0, pairs whose sum passes the greatest address, and a tail that is shorter
 -- than a pair are passed over.
-use Rattle.gimli.specs.Common.{ℕ, ◌+◌, ◌-◌, ◌*◌, ◌%◌, ◌==◌, ◌||◌, not, nat_lt, List, length, filter_map, Option, Some, None, Result, Ok, if◌then◌else◌, Error, UnknownVersion, UnsupportedSegmentSize, Format, Range, Section, Reading, mapped, ◌>>=◌, refused_if, address_at, address_size_at, fixed_at, offset_at, skipped_at, split_at, initial_length_at, run_of, listed, greatest_address}
+use Rattle.std.specs.Prelude.{ℕ, ◌+◌, ◌-◌, ◌*◌, ◌%◌, ◌==◌, ◌||◌, not, nat_lt, List, length, filter_map, Option, Some, None, Result, Ok, if◌then◌else◌}
+use Rattle.gimli.specs.Common.{Error, UnknownVersion, UnsupportedSegmentSize, Format, Range, Section, Reading, mapped, ◌>>=◌, refused_if, address_at, address_size_at, fixed_at, offset_at, skipped_at, split_at, initial_length_at, run_of, listed, greatest_address}
 use Rattle.gimli_read.specs.declared.value.DebugInfoOffset.{DebugInfoOffset}
 use Rattle.gimli.specs.declared.constants.TheConstants.{ARANGES_VERSION}
 

@@ -1,7 +1,4 @@
 -- What specs and contracts of this crate cite of the crates below, handed on. Declares nothing.
-pub use Rattle.std.specs.List.{All, AllByRecursion, flat_map, list_any, position, slice_get}
-pub use Rattle.std.specs.Prelude.{Bool, Err, IfErr, IfOk, IfSome, IsOk, List, None, Ok, OnErr, OnOk, Option, Result, Some, [], box_value, codes, drop, false, filter_map, fold, if◌then◌else◌, int_lt, is_ok, is_some, length, nat_le, nat_lt, negsuc, not, option_and_then, option_map, pos, suc, take, true, unsigned_abs, unwrap_or, zero, ℕ, ℤ, ◌%◌, ◌&&◌, ◌*◌, ◌++◌, ◌+ℤ◌, ◌+◌, ◌-◌, ◌<ℤ◌, ◌<◌, ◌==◌, ◌^◌, ◌||◌, ◌∷◌, ◌≡◌, ◌≢◌, ◌≤◌}
-pub use Rattle.std.specs.Result.{result_map_both, result_ok}
 pub use Rattle.gimli_read.specs.Abbreviations.{Abbrev, Specification, with_code}
 pub use Rattle.gimli_read.specs.Form.{NamedValue, constant_of, rest_of, seen_value}
 unfoldable pub use Rattle.gimli_read.specs.Form.{attribute_at, attributes_at}

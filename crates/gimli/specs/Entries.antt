@@ -1,7 +1,8 @@
 -- The entries of a unit from an offset on (DWARF 5, section 7.5).
 -- Own: an offset counts from the start of the unit's length, and is valid from the end of the
 -- header to below the unit's end; any other is OffsetOutOfBounds.
-use Rattle.gimli.specs.Common.{ℕ, ◌+◌, ◌-◌, nat_lt, List, length, Option, Some, None, Result, Ok, Err, if◌then◌else◌, Error, OffsetOutOfBounds, Abbrev, Section, after, NamedValue}
+use Rattle.std.specs.Prelude.{ℕ, ◌+◌, ◌-◌, nat_lt, List, length, Option, Some, None, Result, Ok, Err, if◌then◌else◌}
+use Rattle.gimli.specs.Common.{Error, OffsetOutOfBounds, Abbrev, Section, after, NamedValue}
 use Rattle.gimli.specs.Header.{UnitHeaderFields}
 use Rattle.gimli.specs.Entry.{EntryUnit, root_attributes}
 use Rattle.gimli.specs.Unit.{UnitRecord}

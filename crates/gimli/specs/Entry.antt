@@ -1,6 +1,7 @@
 -- Entries (DWARF 5, sections 2.3 and 7.5.2): a code, and the values of the attributes that its
 -- abbreviation lists.
-use Rattle.gimli.specs.Common.{◌==◌, ℕ, ◌+ℤ◌, ℤ, pos, negsuc, Bool, List, Option, Some, None, Result, Ok, Err, if◌then◌else◌, Error, UnknownAbbreviation, MissingUnitDie, Encoding, Section, Reading, ◌>>=◌, Abbrev, Specification, with_code, NamedValue}
+use Rattle.std.specs.Prelude.{◌==◌, ℕ, ◌+ℤ◌, ℤ, pos, negsuc, Bool, List, Option, Some, None, Result, Ok, Err, if◌then◌else◌}
+use Rattle.gimli.specs.Common.{Error, UnknownAbbreviation, MissingUnitDie, Encoding, Section, Reading, ◌>>=◌, Abbrev, Specification, with_code, NamedValue}
 use Rattle.gimli_read.specs.declared.constants.TheConstants.{CLOSING_CODE}
 use Rattle.gimli_read.specs.Leb128.{uleb128_at}
 unfoldable pub use Rattle.gimli_read.specs.Form.{attributes_at}

@@ -1,7 +1,8 @@
 -- A place among the entries of a unit (DWARF 5, section 7.5.2), as `EntriesRaw` goes from entry to
 -- entry, and as the private functions above it see what it reads. What is read there is said in
 -- Entry and Items, which know no place.
-use Rattle.gimli.specs.Common.{◌+◌, ◌<◌, ◌≤◌, ◌^◌, ℕ, ℤ, pos, unsigned_abs, List, length, Option, Some, None, Result, Ok, Error, Abbrev, ◌>>=◌, Run, Section}
+use Rattle.std.specs.Prelude.{◌+◌, ◌<◌, ◌≤◌, ◌^◌, ℕ, ℤ, pos, unsigned_abs, List, length, Option, Some, None, Result, Ok}
+use Rattle.gimli.specs.Common.{Error, Abbrev, ◌>>=◌, Run, Section}
 use Rattle.gimli.specs.Entries.{entry_bytes_from, entry_unit}
 use Rattle.gimli.specs.Entry.{EntryUnit, depth_after_entry, depth_after_closing, entry_code_at}
 use Rattle.gimli.specs.Header.{UnitHeaderFields}

@@ -2,7 +2,8 @@
 -- fault.
 -- Own: a refused growth alone answers OutOfMemory, so only where a contract allows it beside what
 -- is given.
-use Rattle.gimli.specs.Common.{ℕ, List, Option, IfOk, ℤ, Encoding, Format, AttributeValue, Abbrev, WasNotRefused, Run, Section}
+use Rattle.std.specs.Prelude.{ℕ, List, Option, IfOk, ℤ}
+use Rattle.gimli.specs.Common.{Encoding, Format, AttributeValue, Abbrev, WasNotRefused, Run, Section}
 use Rattle.gimli_read.specs.FaultLaws.{NoneWasRefused}
 use Rattle.gimli.specs.declared.record.AddressValue.{AddressValue}
 use Rattle.gimli.specs.Aranges.{arange_set_at, arange_sets_of}

@@ -1,7 +1,8 @@
 -- The headers of units (DWARF 5, section 7.5.1; DWARF 4, section 7.5.1.1).
 -- Own: versions 2 to 5; another is UnknownVersion. A unit type other than those of section 7.5.1 is
 -- UnknownUnitType.
-use Rattle.gimli.specs.Common.{ℕ, ◌-◌, ◌==◌, length, Option, Some, None, Result, Ok, Err, if◌then◌else◌, Error, UnknownVersion, UnknownUnitType, Format, Section, is_unknown, is_before_5, Reading, mapped, ◌>>=◌, refused_if, fixed_at, offset_at, skipped_at, split_at, initial_length_at, address_size_at, Run, run_of, Encoding}
+use Rattle.std.specs.Prelude.{ℕ, ◌-◌, ◌==◌, length, Option, Some, None, Result, Ok, Err, if◌then◌else◌}
+use Rattle.gimli.specs.Common.{Error, UnknownVersion, UnknownUnitType, Format, Section, is_unknown, is_before_5, Reading, mapped, ◌>>=◌, refused_if, fixed_at, offset_at, skipped_at, split_at, initial_length_at, address_size_at, Run, run_of, Encoding}
 use Rattle.gimli_read.specs.declared.constants.TheConstants.{DWARF_5}
 use Rattle.gimli.specs.declared.constants.TheConstants.{DW_UT_compile, DW_UT_type, DW_UT_partial, DW_UT_skeleton, DW_UT_split_compile, DW_UT_split_type}
 use Rattle.gimli.specs.declared.unit.UnitType.{UnitType}

@@ -2,7 +2,8 @@
 -- end lists of children, in the order of their bytes.
 -- Own: depths count from where the reading begins, and a closing entry takes one also below 0.
 -- Own: a subtree that isn't closed before the items end is UnexpectedEof.
-use Rattle.gimli.specs.Common.{ℕ, zero, suc, ◌+◌, ◌-◌, ◌==◌, ℤ, pos, int_lt, List, [], ◌∷◌, length, Option, Some, None, Result, Ok, Err, if◌then◌else◌, Error, UnexpectedEof, Abbrev, Section, Reading, ◌>>=◌, NamedValue, attributes_at, Run, cons}
+use Rattle.std.specs.Prelude.{ℕ, zero, suc, ◌+◌, ◌-◌, ◌==◌, ℤ, pos, int_lt, List, [], ◌∷◌, length, Option, Some, None, Result, Ok, Err, if◌then◌else◌}
+use Rattle.gimli.specs.Common.{Error, UnexpectedEof, Abbrev, Section, Reading, ◌>>=◌, NamedValue, attributes_at, Run, cons}
 use Rattle.gimli.specs.Entry.{EntryUnit, depth_after_entry, depth_after_closing, entry_code_at}
 use Rattle.gimli.specs.Entries.{entry_bytes_from, entry_unit}
 use Rattle.gimli.specs.Unit.{UnitRecord}

@@ -1,7 +1,7 @@
 -- Offsets in .debug_info and in a unit (DWARF 5, section 7.5.1).
 -- Own: an offset in a unit counts from the start of the unit's length, and is valid from the end of
 -- the header to below the unit's end.
-use Rattle.gimli.specs.Common.{ℕ, ◌-◌, ◌||◌, nat_lt, nat_le, Option, Some, None, if◌then◌else◌}
+use Rattle.std.specs.Prelude.{ℕ, ◌-◌, ◌||◌, nat_lt, nat_le, Option, Some, None, if◌then◌else◌}
 use Rattle.gimli.specs.Header.{UnitHeaderFields}
 use Rattle.gimli.specs.Entries.{unit_length}
 

@@ -2,7 +2,8 @@
 -- 7.23).
 -- Own: a kind that section 7.25 doesn't list is UnknownRangeListEntry. A list that the section's
 -- end cuts is UnexpectedEof.
-use Rattle.gimli.specs.Common.{ℕ, ◌==◌, ◌&&◌, Option, Some, None, Ok, Err, if◌then◌else◌, UnknownRangeListEntry, Encoding, Section, is_before_5, Reading, mapped, ◌>>=◌, fixed_at, address_at, Run, run_of, greatest_address}
+use Rattle.std.specs.Prelude.{ℕ, ◌==◌, ◌&&◌, Option, Some, None, Ok, Err, if◌then◌else◌}
+use Rattle.gimli.specs.Common.{UnknownRangeListEntry, Encoding, Section, is_before_5, Reading, mapped, ◌>>=◌, fixed_at, address_at, Run, run_of, greatest_address}
 use Rattle.gimli_read.specs.Leb128.{uleb128_at}
 use Rattle.gimli.specs.declared.constants.TheConstants.{DW_RLE_end_of_list, DW_RLE_base_addressx, DW_RLE_startx_endx, DW_RLE_startx_length, DW_RLE_offset_pair, DW_RLE_base_address, DW_RLE_start_end, DW_RLE_start_length}
 use Rattle.gimli.specs.declared.rnglists.RangeListEntry.{RangeListEntry}

@@ -3,7 +3,8 @@
 -- reversed, or begins at all ones or all ones less one, and so are offsets from such a base.
 -- Own: an offset past the section's end is OffsetOutOfBounds. An entry is read whole before the
 -- addresses of its indexes are, and each of these is read, also where the range is passed over.
-use Rattle.gimli.specs.Common.{ℕ, ◌+◌, ◌%◌, not, nat_lt, List, [], ◌∷◌, Option, Some, None, Result, Ok, Err, if◌then◌else◌, Error, UnsupportedAddressSize, Range, Section, is_before_5, ◌>>=◌, refused_if, is_address_size, address_limit, is_tombstone}
+use Rattle.std.specs.Prelude.{ℕ, ◌+◌, ◌%◌, not, nat_lt, List, [], ◌∷◌, Option, Some, None, Result, Ok, Err, if◌then◌else◌}
+use Rattle.gimli.specs.Common.{Error, UnsupportedAddressSize, Range, Section, is_before_5, ◌>>=◌, refused_if, is_address_size, address_limit, is_tombstone}
 use Rattle.gimli.specs.declared.rnglists.RangeListEntry.{RangeListEntry}
 use Rattle.gimli.specs.declared.rnglists.RangeListEntry.TheVariants.{BaseAddressx, StartxEndx, StartxLength, OffsetPair, BaseAddress, StartEnd, StartLength}
 use Rattle.gimli.specs.RangeListEntries.{range_list_entries}

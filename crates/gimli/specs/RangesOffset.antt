@@ -3,7 +3,8 @@
 -- Own: the forms of a section offset are those under stmt_list. In a split file below version 5 it
 -- counts from the unit's rnglists_base.
 -- Own: an offset of 2^64 or more is OffsetOutOfBounds.
-use Rattle.gimli.specs.Common.{ℕ, ◌+◌, Option, Some, None, Result, Ok, Err, if◌then◌else◌, Error, OffsetOutOfBounds, AttributeValue, Section, is_before_5, ◌>>=◌, fits_u64, offset_size}
+use Rattle.std.specs.Prelude.{ℕ, ◌+◌, Option, Some, None, Result, Ok, Err, if◌then◌else◌}
+use Rattle.gimli.specs.Common.{Error, OffsetOutOfBounds, AttributeValue, Section, is_before_5, ◌>>=◌, fits_u64, offset_size}
 use Rattle.gimli_read.specs.declared.value.AttributeValue.TheVariants as values
 use Rattle.gimli.specs.declared.dwarf.DwarfFileType.{DwarfFileType}
 use Rattle.gimli.specs.declared.dwarf.DwarfFileType.TheVariants.{Main, Dwo}

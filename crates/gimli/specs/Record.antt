@@ -4,7 +4,8 @@
 -- data4 and data8 of the offset's width under stmt_list in versions 2 and 3; GNU_dwo_id is a
 -- constant. A name or a directory that can't be read counts as none. GNU_dwo_name names a split
 -- file below version 5, dwo_name from then on, in any form.
-use Rattle.gimli.specs.Common.{ℕ, ◌==◌, ◌||◌, List, fold, Option, Some, None, Result, Ok, if◌then◌else◌, Error, Encoding, Format, AttributeValue, Section, is_before_4, is_before_5, Reading, ◌>>=◌, NamedValue, constant_of, Abbrev}
+use Rattle.std.specs.Prelude.{ℕ, ◌==◌, ◌||◌, List, fold, Option, Some, None, Result, Ok, if◌then◌else◌}
+use Rattle.gimli.specs.Common.{Error, Encoding, Format, AttributeValue, Section, is_before_4, is_before_5, Reading, ◌>>=◌, NamedValue, constant_of, Abbrev}
 use Rattle.std.specs.Option.{option_or}
 use Rattle.gimli_read.specs.declared.constants.TheConstants.DwAt.{DW_AT_name, DW_AT_comp_dir, DW_AT_low_pc, DW_AT_stmt_list, DW_AT_str_offsets_base, DW_AT_addr_base, DW_AT_GNU_addr_base, DW_AT_rnglists_base, DW_AT_GNU_ranges_base, DW_AT_GNU_dwo_id, DW_AT_GNU_dwo_name, DW_AT_dwo_name}
 use Rattle.gimli_read.specs.declared.constants.DwAt.{DwAt}

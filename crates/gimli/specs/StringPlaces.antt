@@ -1,5 +1,6 @@
 -- Where the string of a value stands, as the private functions see it (on specs/Text.antt).
-use Rattle.gimli.specs.Common.{ℕ, Option, None, Some, Result, Ok, Err, Error, ExpectedString, NoSupplementary, Format, AttributeValue, Section, ◌>>=◌, offset_size}
+use Rattle.std.specs.Prelude.{ℕ, Option, None, Some, Result, Ok, Err}
+use Rattle.gimli.specs.Common.{Error, ExpectedString, NoSupplementary, Format, AttributeValue, Section, ◌>>=◌, offset_size}
 use Rattle.gimli_read.specs.declared.value.AttributeValue.TheVariants as values
 use Rattle.gimli.specs.declared.text.StringPlace.{StringPlace}
 use Rattle.gimli.specs.declared.text.StringPlace.TheVariants.{InValue, InSection}

@@ -3,7 +3,8 @@
 -- isn't wholly in it.
 -- Own: a value of no string form is ExpectedString, and a string of a supplementary file that isn't
 -- there is NoSupplementary.
-use Rattle.gimli.specs.Common.{ℕ, ◌+◌, ◌*◌, Bool, false, nat_lt, length, Option, Some, None, Result, Ok, Err, if◌then◌else◌, Error, OffsetOutOfBounds, ExpectedString, NoSupplementary, Format, AttributeValue, Section, after, ◌>>=◌, address_at, null_terminated_at, offset_size}
+use Rattle.std.specs.Prelude.{ℕ, ◌+◌, ◌*◌, Bool, false, nat_lt, length, Option, Some, None, Result, Ok, Err, if◌then◌else◌}
+use Rattle.gimli.specs.Common.{Error, OffsetOutOfBounds, ExpectedString, NoSupplementary, Format, AttributeValue, Section, after, ◌>>=◌, address_at, null_terminated_at, offset_size}
 use Rattle.gimli_read.specs.declared.value.AttributeValue.TheVariants as values
 use Rattle.gimli.specs.Sections.{Sections, SupSections}
 

@@ -2,7 +2,9 @@
 -- Own: bases begin at 0; in a version 5 unit of a split file at the end of the table's header.
 -- Own: the record is faulty by its abbreviations, its root entry, its line program's header, or the
 -- index of its low_pc, in this order. A name or a directory that can't be read counts as none.
-use Rattle.gimli.specs.Common.{ℕ, true, List, option_map, option_and_then, Option, Some, None, Result, Ok, unwrap_or, if◌then◌else◌, result_ok, Error, Encoding, Format, AttributeValue, Section, is_5, Abbrev}
+use Rattle.std.specs.Prelude.{ℕ, true, List, option_map, option_and_then, Option, Some, None, Result, Ok, unwrap_or, if◌then◌else◌}
+use Rattle.std.specs.Result.{result_ok}
+use Rattle.gimli.specs.Common.{Error, Encoding, Format, AttributeValue, Section, is_5, Abbrev}
 use Rattle.gimli_read.specs.declared.endian.Format.TheVariants.{Dwarf32, Dwarf64}
 use Rattle.gimli_read.specs.Reading as reading
 use Rattle.gimli_read.specs.Costed.{Costed, ◌>>=◌, free, parts, parts_on_the_way, room_if}

@@ -1,6 +1,8 @@
 //! Abbreviation tables that units share.
 
-ghost use Rattle.gimli.specs.Common.{◌≡◌, ◌≢◌, Ok, Err, true, false, is_ok, is_some, IfOk, IfErr, IfSome, OnOk, result_map_both, ExactlyUnlessOomIf, OutOfMemory};
+ghost use Rattle.std.specs.Prelude.{◌≡◌, ◌≢◌, Ok, Err, true, false, is_ok, is_some, IfOk, IfErr, IfSome, OnOk};
+ghost use Rattle.std.specs.Result.{result_map_both};
+ghost use Rattle.gimli.specs.Common.{ExactlyUnlessOomIf, OutOfMemory};
 ghost use Rattle.gimli_read.specs.Costed.{ExactlyAtCost};
 ghost use Rattle.gimli_read.specs.Abbrev.{table_at};
 ghost use Rattle.gimli.specs.Text.{from_offset};

@@ -1,6 +1,6 @@
 //! The sections of DWARF (DWARF 5, section 7.5 and appendix B).
 
-ghost use Rattle.gimli.specs.Common.{◌≡◌};
+ghost use Rattle.std.specs.Prelude.{◌≡◌};
 
 /// `.debug_abbrev`: abbreviation tables.
 #[derive(Drop)]

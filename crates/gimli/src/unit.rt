@@ -1,6 +1,6 @@
 //! Units and what their headers say.
 
-ghost use Rattle.gimli.specs.Common.{◌≡◌, ℕ, option_map};
+ghost use Rattle.std.specs.Prelude.{◌≡◌, ℕ, option_map};
 ghost use Rattle.gimli.specs.Offsets.{unit_offset_of};
 
 use gimli_read::{DebugInfoOffset, Encoding, EndianSlice, Format, Reader, UnitOffset};

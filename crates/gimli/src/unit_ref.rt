@@ -1,6 +1,7 @@
 //! A unit with the sections that it is read from.
 
-ghost use Rattle.gimli.specs.Common.{◌≡◌, is_ok, option_map, Exactly, ExactlyUnlessOomFor, seen_value};
+ghost use Rattle.std.specs.Prelude.{◌≡◌, is_ok, option_map};
+ghost use Rattle.gimli.specs.Common.{Exactly, ExactlyUnlessOomFor, seen_value};
 ghost use Rattle.gimli.specs.Text.{indexed_number, string_takes_memory};
 ghost use Rattle.gimli.specs.Unit.{attr_string_of};
 ghost use Rattle.gimli.specs.Entries.{entry_bytes_from};

@@ -1,6 +1,6 @@
 -- The addresses of a size in bytes (DWARF 5, section 7.3).
 -- Own: all ones and all ones less one stand for code that is not there.
-use Rattle.gimli_line.specs.Common.{ℕ, ◌+◌, ◌-◌, ◌*◌, ◌^◌, Bool, nat_le}
+use Rattle.std.specs.Prelude.{ℕ, ◌+◌, ◌-◌, ◌*◌, ◌^◌, Bool, nat_le}
 
 -- how many addresses a size has
 abbrev pub address_limit : ℕ → ℕ

@@ -1,6 +1,6 @@
 -- The files that a line program defines before its next row (DWARF 5, section 6.2.5.3: an opcode
 -- adds a file to the header's while the program runs).
-use Rattle.gimli_line.specs.Common.{◌||◌, ◌&&◌, not, Bool, List, [], ◌∷◌, nat_lt, if◌then◌else◌}
+use Rattle.std.specs.Prelude.{◌||◌, ◌&&◌, not, Bool, List, [], ◌∷◌, nat_lt, if◌then◌else◌}
 use Rattle.gimli_line.specs.declared.encoding.LineEncoding.{LineEncoding}
 use Rattle.gimli_line.specs.declared.opcode.Opcode.{Opcode}
 use Rattle.gimli_line.specs.declared.opcode.LineInstruction.{LineInstruction}

@@ -1,6 +1,4 @@
 -- What specs and contracts of this crate cite of the crates below, handed on. Declares nothing.
-pub use Rattle.std.specs.Option.{option_map, unwrap_or}
-pub use Rattle.std.specs.Prelude.{Bool, Err, IfErr, IfOk, IfSome, List, None, Ok, OnErr, OnOk, Option, Result, Some, [], count_by, drop, false, fold, if◌then◌else◌, is_ok, is_some, length, map, nat_le, nat_lt, negsuc, not, pos, slice_get, slice_index, suc, sum_by, true, zero, ℕ, ℤ, ◌%◌, ◌&&◌, ◌*◌, ◌++◌, ◌+ℤ◌, ◌+◌, ◌-ℤ◌, ◌-◌, ◌/◌, ◌<◌, ◌==◌, ◌^◌, ◌||◌, ◌∷◌, ◌≡◌, ◌≢◌, ◌≤◌}
 pub use Rattle.gimli_read.specs.Costed.{Costed, CostedReading, ExactlyAtCost, ReadsAtCost, free, parts, room_if}
 pub use Rattle.gimli_read.specs.Form.{constant_of, seen_value}
 unfoldable pub use Rattle.gimli_read.specs.Form.{value_at}

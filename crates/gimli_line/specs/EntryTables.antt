@@ -2,7 +2,9 @@
 -- Own: where a table has entries, its format has exactly one path, of a form of strings; else it is
 -- BadLineHeader, right after the count of the entries.
 -- Own: a directory index of no constant form is 0; of several the last counts.
-use Rattle.gimli_line.specs.Common.{ℕ, zero, suc, ◌==◌, ◌&&◌, not, Bool, List, [], ◌∷◌, count_by, Option, Some, None, Result, Ok, Err, if◌then◌else◌, unwrap_or, Error, BadLineHeader, Encoding, Section, Reading, ◌>>=◌, uleb128_at, value_at, constant_of}
+use Rattle.std.specs.Option.{unwrap_or}
+use Rattle.std.specs.Prelude.{ℕ, zero, suc, ◌==◌, ◌&&◌, not, Bool, List, [], ◌∷◌, count_by, Option, Some, None, Result, Ok, Err, if◌then◌else◌}
+use Rattle.gimli_line.specs.Common.{Error, BadLineHeader, Encoding, Section, Reading, ◌>>=◌, uleb128_at, value_at, constant_of}
 use Rattle.gimli_read.specs.declared.value.AttributeValue.{AttributeValue}
 use Rattle.gimli_read.specs.StringForm.{is_string_form}
 use Rattle.gimli_line.specs.declared.constants.TheConstants.{DW_LNCT_path, DW_LNCT_directory_index}

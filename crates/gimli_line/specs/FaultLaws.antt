@@ -2,7 +2,8 @@
 -- gives a value or another fault.
 -- Own: a refused growth alone answers OutOfMemory, so only where a contract allows it beside what
 -- is given.
-use Rattle.gimli_line.specs.Common.{ℕ, Encoding, WasNotRefused, Section}
+use Rattle.std.specs.Prelude.{ℕ}
+use Rattle.gimli_line.specs.Common.{Encoding, WasNotRefused, Section}
 use Rattle.gimli_read.specs.FaultLaws.{NoneWasRefused}
 use Rattle.gimli_line.specs.Header.{Header, Program}
 use Rattle.gimli_line.specs.Lines.{lines_of}

@@ -1,6 +1,7 @@
 -- What a line program's header and its tables say (DWARF 5, section 6.2.4), and what a program has.
 -- Own: OutOfMemory is an answer to a copy of a header only where memory may be taken for it.
-use Rattle.gimli_line.specs.Common.{◌≡◌, ◌++◌, ℕ, ◌-◌, ◌==◌, ◌||◌, not, Bool, false, List, length, slice_get, Option, Some, None, if◌then◌else◌, Encoding, Section, is_before_5}
+use Rattle.std.specs.Prelude.{◌≡◌, ◌++◌, ℕ, ◌-◌, ◌==◌, ◌||◌, not, Bool, false, List, length, slice_get, Option, Some, None, if◌then◌else◌}
+use Rattle.gimli_line.specs.Common.{Encoding, Section, is_before_5}
 use Rattle.gimli_read.specs.declared.value.AttributeValue.{AttributeValue}
 use Rattle.gimli_read.specs.HeldBytes.{holds_bytes}
 use Rattle.gimli_line.specs.declared.encoding.LineEncoding.{LineEncoding}

@@ -1,6 +1,7 @@
 -- What is left of a line program, as the private functions see it: by registers, one opcode at a
 -- time. That its rows and files are those of Rows is proved.
-use Rattle.gimli_line.specs.Common.{◌≡◌, ◌≢◌, List, [], ◌∷◌, Option, Some, None, Result, Ok, Err, Error, OutOfMemory, Section}
+use Rattle.std.specs.Prelude.{◌≡◌, ◌≢◌, List, [], ◌∷◌, Option, Some, None, Result, Ok, Err}
+use Rattle.gimli_line.specs.Common.{Error, OutOfMemory, Section}
 use Rattle.gimli_line.specs.declared.encoding.LineEncoding.{LineEncoding}
 use Rattle.gimli_line.specs.declared.opcode.Opcode.{Opcode}
 use Rattle.gimli_line.specs.declared.opcode.LineInstruction.{LineInstruction}

@@ -1,6 +1,7 @@
 -- What a line program gives (DWARF 5, section 6.2), and what is left of it.
 -- Own: OutOfMemory may come in place of the next row only where a file is defined before it.
-use Rattle.gimli_line.specs.Common.{◌≡◌, ◌≢◌, ◌++◌, List, [], ◌∷◌, Option, Some, None, Result, Ok, Err, Error, OutOfMemory}
+use Rattle.std.specs.Prelude.{◌≡◌, ◌≢◌, ◌++◌, List, [], ◌∷◌, Option, Some, None, Result, Ok, Err}
+use Rattle.gimli_line.specs.Common.{Error, OutOfMemory}
 use Rattle.gimli_line.specs.declared.row.LineRow.{LineRow}
 use Rattle.gimli_line.specs.Header.{File, Header, Program, KeepsFilesOf}
 use Rattle.gimli_line.specs.Opcode.{instructions_of, files_in}

@@ -1,7 +1,8 @@
 -- The opcodes of a line program (DWARF 5, sections 6.2.5 and 7.22).
 -- Own: a standard opcode that isn't known has as many LEB128 numbers as the header says.
 -- Own: bytes of an extended opcode that follow its operand are skipped.
-use Rattle.gimli_line.specs.Common.{ℕ, zero, suc, ◌-◌, ◌==◌, ◌&&◌, List, [], ◌∷◌, length, slice_index, Option, Some, None, Ok, Err, nat_le, if◌then◌else◌, Bool, true, false, Section, is_before_5, Reading, mapped, ◌>>=◌, fixed_at, address_at, split_at, null_terminated_at, uleb128_at, sleb128_at, Run, run_of}
+use Rattle.std.specs.Prelude.{ℕ, zero, suc, ◌-◌, ◌==◌, ◌&&◌, List, [], ◌∷◌, length, slice_index, Option, Some, None, Ok, Err, nat_le, if◌then◌else◌, Bool, true, false}
+use Rattle.gimli_line.specs.Common.{Section, is_before_5, Reading, mapped, ◌>>=◌, fixed_at, address_at, split_at, null_terminated_at, uleb128_at, sleb128_at, Run, run_of}
 use Rattle.gimli_read.specs.declared.value.AttributeValue.TheVariants.{String}
 use Rattle.gimli_line.specs.declared.opcode.Opcode.{Opcode}
 use Rattle.gimli_line.specs.declared.opcode.Opcode.TheVariants.{Special, Copy, AdvancePc, AdvanceLine, SetFile, SetColumn, ConstAddPc, FixedAdvancePc, EndSequence, SetAddress, Other}

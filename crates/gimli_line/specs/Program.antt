@@ -1,6 +1,7 @@
 -- The header of a line program up to its tables (DWARF 5, section 6.2.4).
 -- Own: versions 2 to 4 have the unit's address size. A zero that may not be is BadLineHeader.
-use Rattle.gimli_line.specs.Common.{ℕ, ◌-◌, ◌==◌, not, Result, Ok, if◌then◌else◌, Error, UnknownVersion, UnsupportedAddressSize, UnsupportedSegmentSize, BadLineHeader, Encoding, Section, is_unknown, is_before_4, is_before_5, Reading, ◌>>=◌, refused_if, fixed_at, signed_byte_at, offset_at, split_at, initial_length_at, is_address_size, address_size_at}
+use Rattle.std.specs.Prelude.{ℕ, ◌-◌, ◌==◌, not, Result, Ok, if◌then◌else◌}
+use Rattle.gimli_line.specs.Common.{Error, UnknownVersion, UnsupportedAddressSize, UnsupportedSegmentSize, BadLineHeader, Encoding, Section, is_unknown, is_before_4, is_before_5, Reading, ◌>>=◌, refused_if, fixed_at, signed_byte_at, offset_at, split_at, initial_length_at, is_address_size, address_size_at}
 use Rattle.gimli_read.specs.declared.endian.Format.{Format}
 use Rattle.gimli_line.specs.declared.encoding.LineEncoding.{LineEncoding}
 

@@ -1,6 +1,7 @@
 -- What rows mean to one who walks code: within a sequence addresses do not fall (DWARF 5, section
 -- 6.2.1).
-use Rattle.gimli_line.specs.Common.{◌≡◌, ◌<◌, ◌≤◌, List, [], ◌∷◌, false, Result, Ok, Err, Error, Section, Run}
+use Rattle.std.specs.Prelude.{◌≡◌, ◌<◌, ◌≤◌, List, [], ◌∷◌, false, Result, Ok, Err}
+use Rattle.gimli_line.specs.Common.{Error, Section, Run}
 use Rattle.gimli_line.specs.declared.encoding.LineEncoding.{LineEncoding}
 use Rattle.gimli_line.specs.declared.opcode.LineInstruction.{LineInstruction}
 use Rattle.gimli_line.specs.declared.row.LineRow.{LineRow}

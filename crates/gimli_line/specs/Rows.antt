@@ -3,7 +3,8 @@
 -- Own: AddressOverflow stands at the first opcode after which the address passes the address size.
 -- Own: an address of all ones, of all ones less one, or below the current one starts dropping: no
 -- rows, and no changes of the address, until one that is none of these, or the sequence's end.
-use Rattle.gimli_line.specs.Common.{ℕ, ◌+◌, ◌-◌, ◌*◌, ◌/◌, ◌%◌, ◌^◌, ℤ, pos, negsuc, ◌+ℤ◌, Bool, true, false, ◌||◌, ◌&&◌, not, List, [], ◌∷◌, Result, Ok, Err, sum_by, nat_lt, if◌then◌else◌, Error, AddressOverflow, Run}
+use Rattle.std.specs.Prelude.{ℕ, ◌+◌, ◌-◌, ◌*◌, ◌/◌, ◌%◌, ◌^◌, ℤ, pos, negsuc, ◌+ℤ◌, Bool, true, false, ◌||◌, ◌&&◌, not, List, [], ◌∷◌, Result, Ok, Err, sum_by, nat_lt, if◌then◌else◌}
+use Rattle.gimli_line.specs.Common.{Error, AddressOverflow, Run}
 use Rattle.gimli_line.specs.declared.encoding.LineEncoding.{LineEncoding}
 use Rattle.gimli_line.specs.declared.opcode.Opcode.{Opcode}
 use Rattle.gimli_line.specs.declared.opcode.Opcode.TheVariants.{Special, Copy, AdvancePc, AdvanceLine, SetFile, SetColumn, ConstAddPc, FixedAdvancePc, EndSequence, SetAddress}

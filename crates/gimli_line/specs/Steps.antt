@@ -1,6 +1,7 @@
 -- Line programs as the private functions see them: registers, one opcode at a time. That the rows
 -- are those of Rows is proved.
-use Rattle.gimli_line.specs.Common.{◌++◌, ℕ, ◌+◌, ◌-◌, ◌*◌, ◌/◌, ◌%◌, ◌<◌, Bool, true, false, ◌||◌, ◌&&◌, not, [], ◌∷◌, Option, Some, None, Result, Ok, Err, nat_lt, nat_le, ◌==◌, if◌then◌else◌, Error, AddressOverflow, Section, ◌>>=◌}
+use Rattle.std.specs.Prelude.{◌++◌, ℕ, ◌+◌, ◌-◌, ◌*◌, ◌/◌, ◌%◌, ◌<◌, Bool, true, false, ◌||◌, ◌&&◌, not, [], ◌∷◌, Option, Some, None, Result, Ok, Err, nat_lt, nat_le, ◌==◌, if◌then◌else◌}
+use Rattle.gimli_line.specs.Common.{Error, AddressOverflow, Section, ◌>>=◌}
 use Rattle.gimli_line.specs.declared.constants.TheConstants.{DW_LNS_extended_op}
 use Rattle.gimli_line.specs.declared.encoding.LineEncoding.{LineEncoding}
 use Rattle.gimli_line.specs.declared.opcode.Opcode.{Opcode}

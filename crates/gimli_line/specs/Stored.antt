@@ -2,7 +2,8 @@
 -- opcodes (DWARF 5, sections 6.2.4 and 6.2.4.1), with where memory may be taken for them.
 -- Own: a table takes memory where something of it can be read: a directory, a file, or what an
 -- entry's values are. Where readers share their bytes, so does each part that may have some.
-use Rattle.gimli_line.specs.Common.{ℕ, ◌==◌, ◌&&◌, ◌||◌, not, Bool, true, false, is_ok, is_some, List, length, map, Option, Ok, Err, if◌then◌else◌, BadLineHeader, Encoding, Section, is_before_5, Reading, refused_if, fixed_at, uleb128_at, run_of, collected, Costed, CostedReading, free, parts, room_if}
+use Rattle.std.specs.Prelude.{ℕ, ◌==◌, ◌&&◌, ◌||◌, not, Bool, true, false, is_ok, is_some, List, length, map, Option, Ok, Err, if◌then◌else◌}
+use Rattle.gimli_line.specs.Common.{BadLineHeader, Encoding, Section, is_before_5, Reading, refused_if, fixed_at, uleb128_at, run_of, collected, Costed, CostedReading, free, parts, room_if}
 use Rattle.gimli_line.specs.declared.entry_tables.EntryFormat.{EntryFormat}
 use Rattle.gimli_read.specs.Costed.{◌>>=◌}
 use Rattle.gimli_line.specs.EntryTables.{EntryFront, times, format_at, formatted_entry_at, is_sound_format}

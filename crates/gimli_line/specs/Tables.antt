@@ -1,6 +1,7 @@
 -- What the tables of a line program's header have (DWARF 5, section 6.2.4; DWARF 2 to 4, section
 -- 6.2.4).
-use Rattle.gimli_line.specs.Common.{◌==◌, List, length, Option, Some, None, Ok, if◌then◌else◌, Section, Reading, ◌>>=◌, null_terminated_at}
+use Rattle.std.specs.Prelude.{◌==◌, List, length, Option, Some, None, Ok, if◌then◌else◌}
+use Rattle.gimli_line.specs.Common.{Section, Reading, ◌>>=◌, null_terminated_at}
 use Rattle.gimli_read.specs.declared.value.AttributeValue.{AttributeValue}
 use Rattle.gimli_read.specs.declared.value.AttributeValue.TheVariants.{String}
 use Rattle.gimli_line.specs.Header.{File}

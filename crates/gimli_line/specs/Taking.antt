@@ -1,5 +1,6 @@
 -- Rows that go to a sink one after another (DWARF 5, section 6.2.5: opcodes append rows in turn).
-use Rattle.gimli_line.specs.Common.{◌≡◌, ℕ, ◌≤◌, ◌<◌, List, [], ◌∷◌, Result, Ok, Err, Option, Some, None, false, drop, fold, if◌then◌else◌, Error, Section}
+use Rattle.std.specs.Prelude.{◌≡◌, ℕ, ◌≤◌, ◌<◌, List, [], ◌∷◌, Result, Ok, Err, Option, Some, None, false, drop, fold, if◌then◌else◌}
+use Rattle.gimli_line.specs.Common.{Error, Section}
 use Rattle.gimli_read.specs.declared.endian.RunTimeEndian.{RunTimeEndian}
 use Rattle.gimli_line.specs.declared.encoding.LineEncoding.{LineEncoding}
 use Rattle.gimli_line.specs.declared.frequent.Frequent.{Frequent}

@@ -1,6 +1,7 @@
 //! Addresses of a size.
 
-ghost use Rattle.gimli_line.specs.Common.{◌≡◌, ◌+◌, true, is_address_size};
+ghost use Rattle.std.specs.Prelude.{◌≡◌, ◌+◌, true};
+ghost use Rattle.gimli_line.specs.Common.{is_address_size};
 ghost use Rattle.gimli_line.specs.AddressSize.{address_limit, greatest_address};
 
 /// The greatest address of a size in bytes: all ones. Takes no memory.

@@ -1,6 +1,7 @@
 //! Values, files and headers twice: their readers are duplicated.
 
-ghost use Rattle.gimli_line.specs.Common.{◌&&◌, ◌==◌, ◌≡◌, length, map, not, Ok, ExactlyUnlessOomIf, seen_value};
+ghost use Rattle.std.specs.Prelude.{◌&&◌, ◌==◌, ◌≡◌, length, map, not, Ok};
+ghost use Rattle.gimli_line.specs.Common.{ExactlyUnlessOomIf, seen_value};
 ghost use Rattle.gimli_read.specs.HeldBytes.{holds_bytes};
 ghost use Rattle.gimli_line.specs.Header.{header_copy_takes_memory};
 

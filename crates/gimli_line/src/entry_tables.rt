@@ -1,6 +1,7 @@
 //! The tables of version 5: entries whose values a format lists.
 
-ghost use Rattle.gimli_line.specs.Common.{◌≡◌, ◌==◌, not, false, true, count_by, length, map, Ok, ExactlyUnlessOomIf, ReadsUnlessOomIf, Reads, ExactlyAtCost, seen_value};
+ghost use Rattle.std.specs.Prelude.{◌≡◌, ◌==◌, not, false, true, count_by, length, map, Ok};
+ghost use Rattle.gimli_line.specs.Common.{ExactlyUnlessOomIf, ReadsUnlessOomIf, Reads, ExactlyAtCost, seen_value};
 ghost use Rattle.gimli_line.specs.EntryTables.{format_at, is_path, is_bad_path, is_sound_format, no_entry, with_value, values_at, formatted_entry_at};
 ghost use Rattle.gimli_line.specs.Stored.{stored_times, formats_at, entry_front_at, entry_table_at};
 

@@ -1,6 +1,8 @@
 //! Files and directories by their index.
 
-ghost use Rattle.gimli_line.specs.Common.{◌&&◌, ◌≡◌, Ok, map, option_map, ExactlyUnlessOomIf, seen_value};
+ghost use Rattle.std.specs.Option.{option_map};
+ghost use Rattle.std.specs.Prelude.{◌&&◌, ◌≡◌, Ok, map};
+ghost use Rattle.gimli_line.specs.Common.{ExactlyUnlessOomIf, seen_value};
 ghost use Rattle.gimli_read.specs.HeldBytes.{holds_bytes};
 ghost use Rattle.gimli_line.specs.Header.{entry_of, file_of, directory_of, is_in_bytes};
 

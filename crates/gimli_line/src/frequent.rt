@@ -1,6 +1,7 @@
 //! The frequent opcodes of line programs, which are run on bytes. None of them takes memory.
 
-ghost use Rattle.gimli_line.specs.Common.{◌≡◌, ◌≤◌, ◌<◌, ℕ, List, [], ◌∷◌, length, drop, false, IfOk, IfSome, OnOk, OnErr, Ok, Err, pos, ◌-ℤ◌, Error, uleb128_in, sleb128_in};
+ghost use Rattle.std.specs.Prelude.{◌≡◌, ◌≤◌, ◌<◌, ℕ, List, [], ◌∷◌, length, drop, false, IfOk, IfSome, OnOk, OnErr, Ok, Err, pos, ◌-ℤ◌};
+ghost use Rattle.gimli_line.specs.Common.{Error, uleb128_in, sleb128_in};
 ghost use Rattle.gimli_read.specs.declared.endian.RunTimeEndian.{RunTimeEndian};
 ghost use Rattle.gimli_line.specs.Left.{rows_left};
 ghost use Rattle.gimli_line.specs.declared.opcode.Opcode.TheVariants.{AdvancePc, Special};

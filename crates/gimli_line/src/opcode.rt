@@ -1,6 +1,7 @@
 //! The opcodes of line programs.
 
-ghost use Rattle.gimli_line.specs.Common.{◌≡◌, ◌==◌, ◌&&◌, false, nat_lt, IfErr, Err, Exactly, ReadsUnlessOomIf, ExactlyUnlessOomFor, Reads, fault_of, null_terminated_at};
+ghost use Rattle.std.specs.Prelude.{◌≡◌, ◌==◌, ◌&&◌, false, nat_lt, IfErr, Err};
+ghost use Rattle.gimli_line.specs.Common.{Exactly, ReadsUnlessOomIf, ExactlyUnlessOomFor, Reads, fault_of, null_terminated_at};
 ghost use Rattle.gimli_line.specs.Opcode.{file_with_path_at, file_entry_at, operand_at, defines, extended_in, extended_at, gives_file};
 
 use crate::constants::{

@@ -1,6 +1,7 @@
 //! The numbers of a header, prepared once for all opcodes.
 
-ghost use Rattle.gimli_line.specs.Common.{◌≡◌, ◌+◌, ◌/◌, ◌%◌, ◌<◌, ◌||◌, true, nat_lt, is_address_size};
+ghost use Rattle.std.specs.Prelude.{◌≡◌, ◌+◌, ◌/◌, ◌%◌, ◌<◌, ◌||◌, true, nat_lt};
+ghost use Rattle.gimli_line.specs.Common.{is_address_size};
 ghost use Rattle.gimli_line.specs.Encoding.{limit};
 ghost use Rattle.gimli_line.specs.declared.parameters.TheConstants.{RECIPROCAL_SCALE};
 

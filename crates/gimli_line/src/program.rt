@@ -1,6 +1,7 @@
 //! Line programs and their rows.
 
-ghost use Rattle.gimli_line.specs.Common.{◌≡◌, ◌≢◌, ◌<◌, ◌≤◌, [], ◌∷◌, ◌++◌, length, true, false, OnOk, OnErr, IfOk, IfErr, Ok, Err, None, OutOfMemory, ExactlyUnlessOom, ExactlyUnlessOomIf};
+ghost use Rattle.std.specs.Prelude.{◌≡◌, ◌≢◌, ◌<◌, ◌≤◌, [], ◌∷◌, ◌++◌, length, true, false, OnOk, OnErr, IfOk, IfErr, Ok, Err, None};
+ghost use Rattle.gimli_line.specs.Common.{OutOfMemory, ExactlyUnlessOom, ExactlyUnlessOomIf};
 ghost use Rattle.gimli_read.specs.declared.error.Error.{Error as Fault};
 ghost use Rattle.gimli_line.specs.Header.{header_copy_takes_memory};
 ghost use Rattle.gimli_line.specs.Lines.{lines_of, YieldsUnlessOom, KeepsFiles, DefinesAhead, IsOver};

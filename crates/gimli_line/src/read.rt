@@ -1,6 +1,7 @@
 //! Reading the header of a line program.
 
-ghost use Rattle.gimli_line.specs.Common.{◌≡◌, ◌<◌, true, IfOk, Exactly, ExactlyUnlessOomIf, Reads, fault_of, is_address_size, ExactlyAtCost};
+ghost use Rattle.std.specs.Prelude.{◌≡◌, ◌<◌, true, IfOk};
+ghost use Rattle.gimli_line.specs.Common.{Exactly, ExactlyUnlessOomIf, Reads, fault_of, is_address_size, ExactlyAtCost};
 ghost use Rattle.gimli_line.specs.Program.{program_address_size_at, nonzero_at, operations_at, numbers_at, unit_fields_at, line_header_fields_at};
 ghost use Rattle.gimli_line.specs.Stored.{line_program_at};
 

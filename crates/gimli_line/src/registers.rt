@@ -1,6 +1,7 @@
 //! The registers of a line program.
 
-ghost use Rattle.gimli_line.specs.Common.{◌≡◌, ◌+◌, ◌/◌, ◌%◌, ◌^◌, ◌*◌, ◌<◌, ◌≤◌, true, ◌||◌, ◌&&◌, not, nat_lt, pos, ◌+ℤ◌, IfOk, OnErr, OnOk, Exactly};
+ghost use Rattle.std.specs.Prelude.{◌≡◌, ◌+◌, ◌/◌, ◌%◌, ◌^◌, ◌*◌, ◌<◌, ◌≤◌, true, ◌||◌, ◌&&◌, not, nat_lt, pos, ◌+ℤ◌, IfOk, OnErr, OnOk};
+ghost use Rattle.gimli_line.specs.Common.{Exactly};
 ghost use Rattle.gimli_line.specs.declared.opcode.Opcode.TheVariants.{ConstAddPc};
 ghost use Rattle.gimli_line.specs.Encoding.{limit};
 ghost use Rattle.gimli_line.specs.AddressSize.{is_tombstone};

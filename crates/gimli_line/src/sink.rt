@@ -1,6 +1,6 @@
 //! What takes rows.
 
-ghost use Rattle.gimli_line.specs.Common.{◌≡◌, OnOk};
+ghost use Rattle.std.specs.Prelude.{◌≡◌, OnOk};
 
 use crate::row::LineRow;
 use std::alloc::AllocError;

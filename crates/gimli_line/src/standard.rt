@@ -1,6 +1,7 @@
 //! The standard opcodes of line programs.
 
-ghost use Rattle.gimli_line.specs.Common.{◌≡◌, ◌<◌, ◌-◌, OnOk, slice_index, Exactly, Reads};
+ghost use Rattle.std.specs.Prelude.{◌≡◌, ◌<◌, ◌-◌, OnOk, slice_index};
+ghost use Rattle.gimli_line.specs.Common.{Exactly, Reads};
 ghost use Rattle.gimli_line.specs.Opcode.{numbers_skipped, standard_at};
 ghost use Rattle.gimli_line.specs.Steps.{IsRunning, step_standard};
 

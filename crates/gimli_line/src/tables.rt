@@ -1,6 +1,8 @@
 //! The tables of a header: directories and files.
 
-ghost use Rattle.gimli_line.specs.Common.{◌≡◌, is_ok, map, option_map, ExactlyUnlessOomFor, ReadsUnlessOomIf, seen_value, ExactlyAtCost, ReadsAtCost};
+ghost use Rattle.std.specs.Option.{option_map};
+ghost use Rattle.std.specs.Prelude.{◌≡◌, is_ok, map};
+ghost use Rattle.gimli_line.specs.Common.{ExactlyUnlessOomFor, ReadsUnlessOomIf, seen_value, ExactlyAtCost, ReadsAtCost};
 ghost use Rattle.gimli_line.specs.Stored.{stored_run, old_tables_at, new_tables_at, tables_at};
 ghost use Rattle.gimli_line.specs.Tables.{directory_at, file_at};
 

@@ -2,7 +2,7 @@
 -- Own: the section's end where a code would stand ends the table too.
 -- Own: a repeated code, tag 0, a children byte other than DW_CHILDREN_no and DW_CHILDREN_yes, and
 -- exactly one zero in a pair are BadAbbreviation, each at its field.
-use Rattle.gimli_read.specs.Common.{ℕ, zero, Bool, is_ok, suc, ◌+◌, ◌==◌, ◌||◌, ◌&&◌, not, List, [], ◌∷◌, ◌++◌, length, Option, Some, None, is_some, Result, Ok, Err, if◌then◌else◌, ℤ}
+use Rattle.std.specs.Prelude.{ℕ, zero, Bool, is_ok, suc, ◌+◌, ◌==◌, ◌||◌, ◌&&◌, not, List, [], ◌∷◌, ◌++◌, length, Option, Some, None, is_some, Result, Ok, Err, if◌then◌else◌, ℤ}
 use Rattle.gimli_read.specs.declared.constants.DwTag.{DwTag}
 use Rattle.gimli_read.specs.declared.error.Error.{Error}
 use Rattle.gimli_read.specs.declared.error.Error.TheVariants.{BadAbbreviation, UnexpectedEof}

@@ -1,5 +1,5 @@
 -- What an abbreviation table is seen as (DWARF 5, section 7.5.3).
-use Rattle.gimli_read.specs.Common.{◌≡◌, ℕ, ◌==◌, Bool, List, [], ◌∷◌, find, Option, None, ℤ}
+use Rattle.std.specs.Prelude.{◌≡◌, ℕ, ◌==◌, Bool, List, [], ◌∷◌, find, Option, None, ℤ}
 use Rattle.gimli_read.specs.declared.constants.DwAt.{DwAt}
 use Rattle.gimli_read.specs.declared.constants.DwForm.{DwForm}
 use Rattle.gimli_read.specs.declared.constants.DwTag.{DwTag}

@@ -1,7 +1,7 @@
 -- Answers of two readers to one reading (DWARF 5, section 7.5: what a section says is in its bytes
 -- and their order).
 -- Own: memory may be refused at one reader and not at the other.
-use Rattle.gimli_read.specs.Common.{◌≡◌, Result}
+use Rattle.std.specs.Prelude.{◌≡◌, Result}
 use Rattle.gimli_read.specs.declared.error.Error.{Error}
 use Rattle.gimli_read.specs.Section.{Section}
 use Rattle.gimli_read.specs.Reading.{result_map, Exactly, ExactlyUnlessOom, WasNotRefused}

@@ -1,7 +1,7 @@
 -- What is given, and whether memory may be taken on the way to it, as one value: the steps stand
 -- once, and both are read off.
 -- Own: of the steps of a `do` each takes its memory only where those before it have no fault.
-use Rattle.gimli_read.specs.Common.{◌&&◌, ◌||◌, Bool, false, is_ok, Result, Ok, Err}
+use Rattle.std.specs.Prelude.{◌&&◌, ◌||◌, Bool, false, is_ok, Result, Ok, Err}
 use Rattle.gimli_read.specs.declared.error.Error.{Error}
 use Rattle.gimli_read.specs.Section.{Section}
 use Rattle.gimli_read.specs.Reading.{ExactlyUnlessOomIf}

@@ -1,6 +1,6 @@
 -- The value of a form, as the form is encoded (DWARF 5, sections 7.5.5 and 7.5.6).
 -- Own: a form that is not listed is UnknownForm where a value of it is read.
-use Rattle.gimli_read.specs.Common.{ℕ, Option, Some, None, Ok, Err, if◌then◌else◌}
+use Rattle.std.specs.Prelude.{ℕ, Option, Some, None, Ok, Err, if◌then◌else◌}
 use Rattle.gimli_read.specs.declared.endian.Encoding.{Encoding}
 use Rattle.gimli_read.specs.declared.error.Error.TheVariants.{UnknownForm}
 use Rattle.gimli_read.specs.declared.value.AttributeValue.{AttributeValue}

@@ -1,7 +1,8 @@
 -- No reading gives OutOfMemory: whatever the bytes are, it gives a value or another fault.
 -- Own: a refused growth alone answers OutOfMemory, so only where a contract allows it beside what
 -- is given.
-use Rattle.gimli_read.specs.Common.{ℕ, List, Result, AllByRecursion}
+use Rattle.std.specs.List.{AllByRecursion}
+use Rattle.std.specs.Prelude.{ℕ, List, Result}
 use Rattle.gimli_read.specs.declared.abbrev.SizedRun.{SizedRun}
 use Rattle.gimli_read.specs.declared.endian.Encoding.{Encoding}
 use Rattle.gimli_read.specs.declared.endian.Format.{Format}

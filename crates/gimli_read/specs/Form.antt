@@ -1,7 +1,7 @@
 -- The value of an attribute by its form (DWARF 5, sections 7.5.5 and 7.5.6).
 -- Own: a form that is not listed is UnknownForm where a value of it is read; so is DW_FORM_indirect
 -- to DW_FORM_implicit_const, whose value stands in the abbreviation.
-use Rattle.gimli_read.specs.Common.{ℕ, zero, suc, ◌+◌, ◌==◌, length, List, [], ◌∷◌, Option, Some, None, Result, Ok, Err, if◌then◌else◌, ℤ, pos, negsuc}
+use Rattle.std.specs.Prelude.{ℕ, zero, suc, ◌+◌, ◌==◌, length, List, [], ◌∷◌, Option, Some, None, Result, Ok, Err, if◌then◌else◌, ℤ, pos, negsuc}
 use Rattle.gimli_read.specs.declared.error.Error.{Error}
 use Rattle.gimli_read.specs.declared.error.Error.TheVariants.{UnknownForm, UnexpectedEof}
 use Rattle.gimli_read.specs.declared.endian.Encoding.{Encoding}

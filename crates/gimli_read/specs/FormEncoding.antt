@@ -2,7 +2,7 @@
 -- 7.5.5 and 7.5.6).
 -- Own: the GNU forms. DW_FORM_indirect is not listed, nor is DW_FORM_implicit_const, whose value
 -- stands in the abbreviation.
-use Rattle.gimli_read.specs.Common.{ℕ, ◌==◌, not, true, List, [], ◌∷◌, ◌++◌, Option, Some, None, if◌then◌else◌, ℤ}
+use Rattle.std.specs.Prelude.{ℕ, ◌==◌, not, true, List, [], ◌∷◌, ◌++◌, Option, Some, None, if◌then◌else◌, ℤ}
 use Rattle.gimli_read.specs.declared.constants.DwForm.{DwForm}
 use Rattle.gimli_read.specs.declared.constants.TheConstants.DwForm.{DW_FORM_addr, DW_FORM_addrx, DW_FORM_GNU_addr_index, DW_FORM_addrx1, DW_FORM_addrx2, DW_FORM_addrx3, DW_FORM_addrx4, DW_FORM_block1, DW_FORM_block2, DW_FORM_block4, DW_FORM_block, DW_FORM_exprloc, DW_FORM_data1, DW_FORM_data2, DW_FORM_data4, DW_FORM_data8, DW_FORM_data16, DW_FORM_sdata, DW_FORM_udata, DW_FORM_flag, DW_FORM_flag_present, DW_FORM_sec_offset, DW_FORM_loclistx, DW_FORM_rnglistx, DW_FORM_string, DW_FORM_strp, DW_FORM_line_strp, DW_FORM_strp_sup, DW_FORM_GNU_strp_alt, DW_FORM_strx, DW_FORM_GNU_str_index, DW_FORM_strx1, DW_FORM_strx2, DW_FORM_strx3, DW_FORM_strx4, DW_FORM_ref1, DW_FORM_ref2, DW_FORM_ref4, DW_FORM_ref8, DW_FORM_ref_udata, DW_FORM_ref_addr, DW_FORM_ref_sup4, DW_FORM_ref_sup8, DW_FORM_GNU_ref_alt, DW_FORM_ref_sig8}
 use Rattle.gimli_read.specs.declared.value.AttributeValue.{AttributeValue}

@@ -1,6 +1,6 @@
 -- Whether a value holds bytes of its section (DWARF 5, section 7.5.5: a block, an expression and a
 -- string are bytes; every other value is a number). Where bytes are shared, only these are counted.
-use Rattle.gimli_read.specs.Common.{Bool, true, false, Result, Ok, Err}
+use Rattle.std.specs.Prelude.{Bool, true, false, Result, Ok, Err}
 use Rattle.gimli_read.specs.declared.error.Error.{Error}
 use Rattle.gimli_read.specs.declared.value.AttributeValue.{AttributeValue}
 use Rattle.gimli_read.specs.declared.value.AttributeValue.TheVariants as values

@@ -1,7 +1,8 @@
 -- LEB128 numbers (DWARF 5, section 7.6): seven bits of the number in each byte, the lowest first,
 -- and the last byte alone is below 128.
 -- Own: at most ten bytes, and a value of 64 bits; anything else is BadLeb128.
-use Rattle.gimli_read.specs.Common.{◌≡◌, ℕ, suc, ◌+◌, ◌-◌, ◌*◌, ◌%◌, ◌^◌, ◌<◌, ◌≤◌, List, [], ◌∷◌, ◌++◌, length, take, drop, slice_index, true, Option, Some, None, Result, Ok, Err, nat_lt, if◌then◌else◌, ℤ, pos, ◌-ℤ◌, position}
+use Rattle.std.specs.List.{position}
+use Rattle.std.specs.Prelude.{◌≡◌, ℕ, suc, ◌+◌, ◌-◌, ◌*◌, ◌%◌, ◌^◌, ◌<◌, ◌≤◌, List, [], ◌∷◌, ◌++◌, length, take, drop, slice_index, true, Option, Some, None, Result, Ok, Err, nat_lt, if◌then◌else◌, ℤ, pos, ◌-ℤ◌}
 use Rattle.gimli_read.specs.declared.leb128.TheConstants.{MAX_LEB128_LEN}
 use Rattle.gimli_read.specs.declared.error.Error.{Error}
 use Rattle.gimli_read.specs.declared.error.Error.TheVariants.{UnexpectedEof, BadLeb128}

@@ -1,4 +1,3 @@
-pub mod Common
 pub mod Section
 pub mod Version
 pub mod Reading

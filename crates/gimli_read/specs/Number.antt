@@ -2,7 +2,8 @@
 -- 7.32).
 -- Own: a reading past the end of the section is UnexpectedEof.
 -- Own: an address size other than 1, 2, 4 and 8 is UnsupportedAddressSize.
-use Rattle.gimli_read.specs.Common.{ℕ, ◌+◌, ◌^◌, ◌==◌, ◌||◌, not, Bool, List, length, slice_index, Option, Some, None, Ok, Err, nat_lt, if◌then◌else◌, ℤ, pos, negsuc, position}
+use Rattle.std.specs.List.{position}
+use Rattle.std.specs.Prelude.{ℕ, ◌+◌, ◌^◌, ◌==◌, ◌||◌, not, Bool, List, length, slice_index, Option, Some, None, Ok, Err, nat_lt, if◌then◌else◌, ℤ, pos, negsuc}
 use Rattle.std.specs.Int.{w8, cast_signed}
 use Rattle.byteorder.specs.Endian.{big_number, little_number}
 use Rattle.gimli_read.specs.declared.constants.TheConstants.{FIRST_RESERVED_LENGTH, LENGTH_ESCAPE}

@@ -1,6 +1,6 @@
 -- Values of frequent forms that are numbers (DWARF 5, section 7.5.5).
 -- Own: which forms these are; of an implicit constant one that isn't negative.
-use Rattle.gimli_read.specs.Common.{◌==◌, ◌||◌, Bool, Option, Some, None, option_and_then, option_map, Ok, if◌then◌else◌, ℕ, ℤ}
+use Rattle.std.specs.Prelude.{◌==◌, ◌||◌, Bool, Option, Some, None, option_and_then, option_map, Ok, if◌then◌else◌, ℕ, ℤ}
 use Rattle.gimli_read.specs.declared.constants.DwForm.{DwForm}
 use Rattle.gimli_read.specs.declared.constants.TheConstants.DwForm.{DW_FORM_addr, DW_FORM_data1, DW_FORM_data2, DW_FORM_data4, DW_FORM_data8, DW_FORM_implicit_const, DW_FORM_ref4, DW_FORM_udata}
 use Rattle.gimli_read.specs.declared.endian.Encoding.{Encoding}

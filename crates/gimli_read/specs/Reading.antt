@@ -4,7 +4,7 @@
 -- Own: no reading gives OutOfMemory, which a refused growth alone answers.
 -- The words for steps and answers serve every kind of fault; `Reading`, `Reads` and those with Oom
 -- in their names are for the faults of sections.
-use Rattle.gimli_read.specs.Common.{◌≡◌, ◌≢◌, Bool, true, is_ok, Result, Ok, Err, if◌then◌else◌}
+use Rattle.std.specs.Prelude.{◌≡◌, ◌≢◌, Bool, true, is_ok, Result, Ok, Err, if◌then◌else◌}
 use Rattle.std.specs.Result.{result_map_both}
 use Rattle.gimli_read.specs.declared.error.Error.{Error}
 use Rattle.gimli_read.specs.declared.error.Error.TheVariants.{OutOfMemory}

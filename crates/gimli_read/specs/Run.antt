@@ -1,6 +1,6 @@
 -- Runs: what is read part by part, up to the end or the first fault.
 -- Own: a run keeps the parts before its fault, since they count where the fault is never met.
-use Rattle.gimli_read.specs.Common.{ℕ, zero, suc, ◌+◌, ◌++◌, length, List, [], ◌∷◌, Option, Some, None, Result, Ok, Err}
+use Rattle.std.specs.Prelude.{ℕ, zero, suc, ◌+◌, ◌++◌, length, List, [], ◌∷◌, Option, Some, None, Result, Ok, Err}
 use Rattle.gimli_read.specs.declared.error.Error.{Error}
 use Rattle.gimli_read.specs.declared.error.Error.TheVariants.{UnexpectedEof}
 use Rattle.gimli_read.specs.Section.{Section}

@@ -1,6 +1,6 @@
 -- A section, or what is left of one (DWARF 5, section 7.5: sections are bytes in the byte order of
 -- the target).
-use Rattle.gimli_read.specs.Common.{ℕ, List, take, drop}
+use Rattle.std.specs.Prelude.{ℕ, List, take, drop}
 use Rattle.gimli_read.specs.declared.endian.RunTimeEndian.{RunTimeEndian}
 
 -- bytes and the order of those of a number

@@ -1,6 +1,6 @@
 -- The attributes of an entry in runs, as the private functions see it: values of known sizes, which
 -- are passed over together, and after them an attribute of another size (DWARF 5, section 7.5.6).
-use Rattle.gimli_read.specs.Common.{◌≡◌, true, List, [], ◌∷◌, Result, Ok}
+use Rattle.std.specs.Prelude.{◌≡◌, true, List, [], ◌∷◌, Result, Ok}
 use Rattle.gimli_read.specs.declared.abbrev.SizedRun.{SizedRun}
 use Rattle.gimli_read.specs.declared.endian.Encoding.{Encoding}
 use Rattle.gimli_read.specs.declared.error.Error.{Error}

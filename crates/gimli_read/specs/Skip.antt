@@ -1,5 +1,5 @@
 -- Passing over attributes, as the private functions see it (DWARF 5, section 7.5.5).
-use Rattle.gimli_read.specs.Common.{◌≡◌, ℕ, Result, Ok, Err}
+use Rattle.std.specs.Prelude.{◌≡◌, ℕ, Result, Ok, Err}
 use Rattle.gimli_read.specs.declared.endian.Encoding.{Encoding}
 use Rattle.gimli_read.specs.declared.error.Error.{Error}
 use Rattle.gimli_read.specs.Section.{Section}

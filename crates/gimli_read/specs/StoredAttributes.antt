@@ -1,5 +1,5 @@
 -- How an abbreviation stores its attributes, as the private functions see it.
-use Rattle.gimli_read.specs.Common.{List, [], ◌∷◌}
+use Rattle.std.specs.Prelude.{List, [], ◌∷◌}
 use Rattle.gimli_read.specs.declared.abbrev.StoredAttributes.{StoredAttributes}
 use Rattle.gimli_read.specs.declared.abbrev.StoredAttributes.TheVariants as stored
 use Rattle.gimli_read.specs.Abbreviations.{Specification}

@@ -1,6 +1,6 @@
 -- The forms of strings (DWARF 5, section 7.5.5): those whose values the table of forms makes
 -- strings.
-use Rattle.gimli_read.specs.Common.{ℕ, Bool, true, false, [], Option, Some, None, pos}
+use Rattle.std.specs.Prelude.{ℕ, Bool, true, false, [], Option, Some, None, pos}
 use Rattle.gimli_read.specs.declared.endian.RunTimeEndian.TheVariants.{Little}
 use Rattle.gimli_read.specs.declared.value.AttributeValue.{AttributeValue}
 use Rattle.gimli_read.specs.declared.value.AttributeValue.TheVariants as values

@@ -1,6 +1,7 @@
 -- Bytes as text, and the texts of the refusals.
 -- Own: bytes that are no UTF-8 are replaced by U+FFFD; a refusal has one text, in lower case.
-use Rattle.gimli_read.specs.Common.{ℕ, List, codes, encode_utf8_all}
+use Rattle.std.specs.Prelude.{ℕ, List, codes}
+use Rattle.std.specs.Str.{encode_utf8_all}
 use Rattle.bstr.specs.Utf8.{lossy_chars}
 use Rattle.gimli_read.specs.declared.error.Error.{Error}
 use Rattle.gimli_read.specs.declared.error.Error.TheVariants.{OutOfMemory, UnexpectedEof, BadLeb128, UnknownReservedLength, UnknownVersion, UnknownUnitType, UnsupportedAddressSize, UnsupportedSegmentSize, BadAbbreviation, UnknownAbbreviation, UnknownForm, MissingUnitDie, OffsetOutOfBounds, ExpectedString, NoSupplementary, NoEntryAtGivenOffset, UnknownRangeListEntry, BadLineHeader, AddressOverflow, UnknownToken}

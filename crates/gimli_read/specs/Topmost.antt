@@ -1,5 +1,5 @@
 -- Words for a choice among the elements of a list.
-use Rattle.gimli_read.specs.Common.{ℕ, ◌==◌, max, List, [], ◌∷◌, filter, Option, Some, None}
+use Rattle.std.specs.Prelude.{ℕ, ◌==◌, max, List, [], ◌∷◌, filter, Option, Some, None}
 
 -- the greatest number of an element, 0 where there is none
 abbrev pub greatest : {X : Type 0} → (X → ℕ) → List X → ℕ

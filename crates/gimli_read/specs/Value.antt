@@ -1,7 +1,7 @@
 -- The values of attributes as a relation of texts (DWARF 5, sections 7.5.5 and 7.5.6): the text of
 -- a form's value, and which value it is.
 -- Own: a form that is not listed has no value, nor has DW_FORM_indirect to DW_FORM_implicit_const.
-use Rattle.gimli_read.specs.Common.{◌≡◌, ◌≢◌, ◌⊎◌, ℕ, zero, suc, ◌+◌, ◌*◌, ◌^◌, ◌<◌, true, List, [], ◌∷◌, ◌++◌, length, slice_index, Option, Some, None, ℤ}
+use Rattle.std.specs.Prelude.{◌≡◌, ◌≢◌, ◌⊎◌, ℕ, zero, suc, ◌+◌, ◌*◌, ◌^◌, ◌<◌, true, List, [], ◌∷◌, ◌++◌, length, slice_index, Option, Some, None, ℤ}
 use Rattle.gimli_read.specs.declared.constants.TheConstants.{DWARF_2}
 use Rattle.gimli_read.specs.declared.constants.TheConstants.DwForm.{DW_FORM_indirect, DW_FORM_implicit_const}
 use Rattle.gimli_read.specs.declared.endian.RunTimeEndian.{RunTimeEndian}

@@ -1,6 +1,6 @@
 -- What the readings of numbers, values and attributes have to do with their texts (DWARF 5, section
 -- 7.5): each text is read, whatever follows, and nothing else is.
-use Rattle.gimli_read.specs.Common.{◌≡◌, ℕ, List, ◌++◌, Ok}
+use Rattle.std.specs.Prelude.{◌≡◌, ℕ, List, ◌++◌, Ok}
 use Rattle.gimli_read.specs.declared.endian.RunTimeEndian.{RunTimeEndian}
 use Rattle.gimli_read.specs.declared.endian.Encoding.{Encoding}
 use Rattle.gimli_read.specs.declared.value.AttributeValue.{AttributeValue}

@@ -1,6 +1,6 @@
 -- How many bytes values take whose form alone says so (DWARF 5, sections 7.5.5 and 7.5.6).
 -- Own: an address of a size other than 1, 2, 4 and 8 has none, since no such value is read.
-use Rattle.gimli_read.specs.Common.{◌≡◌, ℕ, ◌+◌, ◌*◌, ◌==◌, ◌&&◌, nat_lt, Bool, true, Option, Some, None, if◌then◌else◌, ℤ}
+use Rattle.std.specs.Prelude.{◌≡◌, ℕ, ◌+◌, ◌*◌, ◌==◌, ◌&&◌, nat_lt, Bool, true, Option, Some, None, if◌then◌else◌, ℤ}
 use Rattle.gimli_read.specs.declared.constants.TheConstants.{DWARF_2}
 use Rattle.gimli_read.specs.declared.constants.TheConstants.DwForm.{DW_FORM_implicit_const}
 use Rattle.gimli_read.specs.declared.endian.Encoding.{Encoding}

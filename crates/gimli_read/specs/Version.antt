@@ -1,5 +1,5 @@
 -- Versions of the standard that differ in what is read.
-use Rattle.gimli_read.specs.Common.{ℕ, ◌==◌, ◌||◌, Bool, nat_lt}
+use Rattle.std.specs.Prelude.{ℕ, ◌==◌, ◌||◌, Bool, nat_lt}
 use Rattle.gimli_read.specs.declared.constants.TheConstants.{DWARF_2, DWARF_4, DWARF_5}
 
 -- whether a version is none of those that are read: 2 to 5

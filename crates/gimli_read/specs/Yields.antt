@@ -1,7 +1,7 @@
 -- What one call of an iterator gives of the items that are left, of which at most one is a fault,
 -- the last.
 -- Own: after a fault nothing is left.
-use Rattle.gimli_read.specs.Common.{◌≡◌, List, [], ◌∷◌, Option, Some, None, Result, Ok, Err}
+use Rattle.std.specs.Prelude.{◌≡◌, List, [], ◌∷◌, Option, Some, None, Result, Ok, Err}
 use Rattle.gimli_read.specs.declared.error.Error.{Error}
 
 -- the call gave the first item that was left, and these are left

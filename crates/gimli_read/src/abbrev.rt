@@ -1,6 +1,7 @@
 //! Abbreviation tables.
 
-ghost use Rattle.gimli_read.specs.Common.{◌≡◌, ◌≢◌, [], ◌∷◌, ◌++◌, None, Some, IfOk, IfErr, IsOk, OnErr, OnOk, is_ok, is_some, length, option_copied, slice_get};
+ghost use Rattle.std.specs.List.{slice_get};
+ghost use Rattle.std.specs.Prelude.{◌≡◌, ◌≢◌, [], ◌∷◌, ◌++◌, None, Some, IfOk, IfErr, IsOk, OnErr, OnOk, is_ok, is_some, length, option_copied};
 ghost use Rattle.std.specs.Ordering.{nat_cmp};
 ghost use Rattle.std.specs.BTreeMap.{get};
 ghost use Rattle.gimli_read.specs.Reading.{ExactlyUnlessOomIf, Reads, ReadsUnlessOomIf};

@@ -1,7 +1,7 @@
 //! Constants of DWARF (DWARF 5, sections 7.5.3 to 7.5.6 and 7.12), by the names of the standard,
 //! where it has one.
 
-ghost use Rattle.gimli_read.specs.Common.{◌≡◌};
+ghost use Rattle.std.specs.Prelude.{◌≡◌};
 ghost use Rattle.gimli_read.specs.StringForm.{is_string_form};
 
 /// The tag of an entry: the kind of thing that it describes (DWARF 5, section 7.5.3).

@@ -1,6 +1,6 @@
 //! Byte orders, and the two formats of DWARF.
 
-ghost use Rattle.gimli_read.specs.Common.{◌≡◌};
+ghost use Rattle.std.specs.Prelude.{◌≡◌};
 ghost use Rattle.gimli_read.specs.Number.{offset_size};
 
 /// The order of a number's bytes.

@@ -1,6 +1,6 @@
 //! A reader that shares its bytes.
 
-ghost use Rattle.gimli_read.specs.Common.{◌≡◌, length, true, is_ok, IsOk, OnErr};
+ghost use Rattle.std.specs.Prelude.{◌≡◌, length, true, is_ok, IsOk, OnErr};
 ghost use Rattle.gimli_read.specs.Number.{split_at};
 ghost use Rattle.gimli_read.specs.Reading.{ReadsPartUnlessOom};
 ghost use Rattle.gimli_read.specs.Section.{Section};

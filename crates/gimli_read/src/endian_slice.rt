@@ -1,6 +1,6 @@
 //! A reader that borrows its bytes.
 
-ghost use Rattle.gimli_read.specs.Common.{◌≡◌};
+ghost use Rattle.std.specs.Prelude.{◌≡◌};
 ghost use Rattle.gimli_read.specs.Section.{Section};
 
 use crate::endian::RunTimeEndian;

@@ -1,6 +1,6 @@
 //! Why a reading was refused.
 
-ghost use Rattle.gimli_read.specs.Common.{◌≡◌, Some};
+ghost use Rattle.std.specs.Prelude.{◌≡◌, Some};
 ghost use Rattle.gimli_read.specs.declared.error.Error.TheVariants.{OutOfMemory};
 ghost use Rattle.gimli_read.specs.Text.{text_of};
 

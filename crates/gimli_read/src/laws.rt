@@ -1,6 +1,6 @@
 //! Laws of readings and readers: functions with a contract and no code.
 
-ghost use Rattle.gimli_read.specs.Common.{◌≡◌, true, false};
+ghost use Rattle.std.specs.Prelude.{◌≡◌, true, false};
 ghost use Rattle.gimli_read.specs.Leb128.{Leb128Laws};
 ghost use Rattle.gimli_read.specs.Alike.{AnswersAlike};
 ghost use Rattle.gimli_read.specs.FaultLaws.{ReadingsAreNotRefused};

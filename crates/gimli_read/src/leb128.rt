@@ -1,6 +1,7 @@
 //! LEB128 numbers (DWARF 5, section 7.6).
 
-ghost use Rattle.gimli_read.specs.Common.{◌≡◌, ◌≤◌, ◌<◌, ◌^◌, [], ◌∷◌, length, drop, nat_lt, IfOk, position};
+ghost use Rattle.std.specs.List.{position};
+ghost use Rattle.std.specs.Prelude.{◌≡◌, ◌≤◌, ◌<◌, ◌^◌, [], ◌∷◌, length, drop, nat_lt, IfOk};
 ghost use Rattle.gimli_read.specs.Reading.{Exactly};
 ghost use Rattle.gimli_read.specs.declared.leb128.TheConstants.{MAX_LEB128_LEN};
 ghost use Rattle.gimli_read.specs.Leb128.{uleb128_value, sleb128_value, leb128_text, uleb128_in, sleb128_in};

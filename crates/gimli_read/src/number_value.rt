@@ -1,6 +1,6 @@
 //! Values of frequent forms, read as plain numbers.
 
-ghost use Rattle.gimli_read.specs.Common.{◌≡◌, None, Ok};
+ghost use Rattle.std.specs.Prelude.{◌≡◌, None, Ok};
 ghost use Rattle.gimli_read.specs.Reading.{Reads};
 ghost use Rattle.gimli_read.specs.NumberValue.{implicit_number, number_address, number_at, number_constant};
 

@@ -1,6 +1,8 @@
 //! Reading from the front of a section.
 
-ghost use Rattle.gimli_read.specs.Common.{◌≡◌, ◌==◌, true, length, is_ok, IfOk, IfErr, IfSome, MatchBool, OnErr, IsOk, Ok, position, IsUtf8};
+ghost use Rattle.std.specs.List.{position};
+ghost use Rattle.std.specs.Prelude.{◌≡◌, ◌==◌, true, length, is_ok, IfOk, IfErr, IfSome, MatchBool, OnErr, IsOk, Ok};
+ghost use Rattle.std.specs.Str.{IsUtf8};
 ghost use Rattle.std.specs.Cow.{cow_str_bytes};
 ghost use Rattle.gimli_read.specs.declared.error.Error.TheVariants.{OutOfMemory};
 ghost use Rattle.gimli_read.specs.Text.{lossy_text};

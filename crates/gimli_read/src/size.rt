@@ -1,6 +1,6 @@
 //! How many bytes values take whose form alone says so.
 
-ghost use Rattle.gimli_read.specs.Common.{◌≡◌, ◌+◌, Some, IfSome, true};
+ghost use Rattle.std.specs.Prelude.{◌≡◌, ◌+◌, Some, IfSome, true};
 ghost use Rattle.gimli_read.specs.FormEncoding.{form_encoding_of};
 ghost use Rattle.gimli_read.specs.Number.{is_address_size};
 ghost use Rattle.gimli_read.specs.ValueSize.{encoded_size, address_bytes, bytes_of, counted_bytes, no_size, is_usual, total_bytes, AddsCounted, AddsSize};

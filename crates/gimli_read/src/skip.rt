@@ -1,6 +1,6 @@
 //! Passing over the values of attributes.
 
-ghost use Rattle.gimli_read.specs.Common.{◌≡◌, OnErr};
+ghost use Rattle.std.specs.Prelude.{◌≡◌, OnErr};
 ghost use Rattle.gimli_read.specs.Reading.{Exactly};
 ghost use Rattle.gimli_read.specs.Number.{null_terminated_at};
 ghost use Rattle.gimli_read.specs.Leb128.{uleb128_at};

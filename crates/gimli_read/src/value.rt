@@ -1,6 +1,6 @@
 //! The values of attributes, by form.
 
-ghost use Rattle.gimli_read.specs.Common.{◌≡◌, OnErr};
+ghost use Rattle.std.specs.Prelude.{◌≡◌, OnErr};
 ghost use Rattle.gimli_read.specs.Reading.{Exactly, Reads, ReadsUnlessOomFor};
 ghost use Rattle.gimli_read.specs.HeldBytes.{gives_attribute_bytes, ReadsValueUnlessOom};
 ghost use Rattle.gimli_read.specs.Number.{fixed_at};

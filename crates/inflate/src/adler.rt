@@ -1,6 +1,6 @@
 //! The sum of a stream's output (RFC 1950, section 2.2).
 
-ghost use Rattle.inflate.specs.Common.{◌≡◌};
+ghost use Rattle.std.specs.Prelude.{◌≡◌};
 ghost use Rattle.inflate.specs.Stream.{adler32_of};
 
 use crate::constants::ADLER_BASE;

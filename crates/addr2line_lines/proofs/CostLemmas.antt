@@ -6,7 +6,7 @@ use Rattle.gimli_read.specs.declared.error.Error.TheVariants.{OutOfMemory}
 use Rattle.gimli_read.specs.Costed.{Costed, ◌>>=◌, free, takes_memory_after}
 use Rattle.gimli_read.specs.Reading as reading
 use Rattle.gimli_read.proofs.Steps.{bind_ok}
-use Rattle.addr2line_lines.specs.CostedSteps.{then_room_if}
+use Rattle.addr2line_lines.specs.CostedSteps.{map_at_cost, then_room_if}
 use Rattle.addr2line_lines.proofs.FunctionLemmas.{or_first, or_more, or_second}
 
 or_both : (a b c d : Bool) → (a ≡ true → c ≡ true) → (b ≡ true → d ≡ true) → (a || b) ≡ true → (c || d) ≡ true
@@ -57,34 +57,24 @@ rest_next c f x h = record {
 pub room_part : {A : Type 0} (stores : Bool) (c : Costed A) → IsPartOf c (then_room_if stores c)
 room_part stores c = record { fault = λ e h. h; takes = λ shares t. or_first (c.takes_memory shares) (is_ok c.given && stores) t }
 
--- a step whose value is made into another, where more follows
-pub made_part : {A B D : Type 0} (c : Costed A) (make : A → D) (f : A → Costed B) → IsPartOf (c >>= λ x. free (Ok (make x))) (c >>= f)
-made_part {A} {B} {D} c make f = record {
-  fault = λ e. by_given e c.given;
-  takes = λ shares. or_both (c.takes_memory shares) _ (c.takes_memory shares) _ (λ t. t) (by_takes shares c.given);
-}
+-- a reading whose value is made into another, and one where more follows
+pub map_part : {A B : Type 0} (make : A → B) (c : Costed A) → IsPartOf c (map_at_cost make c)
+map_part make c = record { fault = λ e h. ap (λ r. reading.◌>>=◌ r (λ x. Ok (make x))) h; takes = λ shares t. t }
+
+pub made_part : {A B D : Type 0} (make : A → D) (c : Costed A) (f : A → Costed B) → IsPartOf (map_at_cost make c) (c >>= f)
+made_part {A} {B} {D} make c f = record { fault = λ e. by_given e c.given; takes = (first_part c f).takes }
   where
     by_given : (e : Error) (r : Result A Error) → reading.◌>>=◌ {B = D} r (λ x. Ok (make x)) ≡ Err e → reading.◌>>=◌ r (λ x. (f x).given) ≡ Err e
     by_given e (Ok x) h = absurd cc
     by_given e (Err d) h = let same : d ≡ e = cc in ap Err same
 
-    by_takes : (shares : Bool) (r : Result A Error) → takes_memory_after r (λ x. false) ≡ true → takes_memory_after r (λ x. (f x).takes_memory shares) ≡ true
-    by_takes shares (Ok x) t = absurd cc
-    by_takes shares (Err d) t = absurd cc
-
--- three steps, by the first
-pub rest_steps : {A B D : Type 0} (c : Costed A) (f : A → Costed B) (g : B → Costed D) → IsRestOf (c >>= λ x. f x >>= g) ((c >>= f) >>= g)
-rest_steps {A} {B} {D} c f g = record { given = by_given c.given; takes = λ shares. by_takes shares (c.takes_memory shares) c.given }
+-- two steps, of which the value is made into another
+pub rest_map : {A B D : Type 0} (c : Costed A) (f : A → Costed B) (make : B → D) → IsRestOf (c >>= λ x. map_at_cost make (f x)) (map_at_cost make (c >>= f))
+rest_map {A} {B} {D} c f make = record { given = by_given c.given; takes = λ shares t. t }
   where
-    by_given : (r : Result A Error) → reading.◌>>=◌ (reading.◌>>=◌ r (λ x. (f x).given)) (λ y. (g y).given) ≡ reading.◌>>=◌ r (λ x. reading.◌>>=◌ (f x).given (λ y. (g y).given))
+    by_given : (r : Result A Error) → reading.◌>>=◌ {B = D} (reading.◌>>=◌ r (λ x. (f x).given)) (λ y. Ok (make y)) ≡ reading.◌>>=◌ r (λ x. reading.◌>>=◌ (f x).given (λ y. Ok (make y)))
     by_given (Ok x) = refl
     by_given (Err e) = refl
-
-    by_takes : (shares b : Bool) (r : Result A Error) → (b || takes_memory_after r (λ x. (f x).takes_memory shares || takes_memory_after (f x).given (λ y. (g y).takes_memory shares))) ≡ true
-        → ((b || takes_memory_after r (λ x. (f x).takes_memory shares)) || takes_memory_after (reading.◌>>=◌ r (λ x. (f x).given)) (λ y. (g y).takes_memory shares)) ≡ true
-    by_takes shares true r t = refl
-    by_takes shares false (Ok x) t = t
-    by_takes shares false (Err e) t = t
 
 -- where readers share their bytes or not, it counts beside the parts that they take
 pub beside_parts : (shares : Bool) (takes : Bool → Bool) → (shares || takes shares) ≡ true → (shares || takes false) ≡ true
@@ -98,8 +88,8 @@ TakesIfRead {A} c = (x : A) (shares : Bool) → c.given ≡ Ok x → c.takes_mem
 pub room_takes : {A : Type 0} (c : Costed A) → TakesIfRead (then_room_if true c)
 room_takes c x shares h = or_second (c.takes_memory shares) (is_ok c.given && true) (ap (λ r. is_ok r && true) h)
 
-pub first_takes : {A B : Type 0} (c : Costed A) (f : A → Costed B) → TakesIfRead c → TakesIfRead (c >>= f)
-first_takes c f h y shares k = let a = bind_ok c.given (λ x. (f x).given) y k in (first_part c f).takes shares (h a.0 shares a.1)
+pub map_takes : {A B : Type 0} (make : A → B) (c : Costed A) → TakesIfRead c → TakesIfRead (map_at_cost make c)
+map_takes make c h y shares k = let a = bind_ok c.given (λ x. Ok (make x)) y k in h a.0 shares a.1
 
 pub next_takes : {A B : Type 0} (c : Costed A) (f : A → Costed B) → ((x : A) → TakesIfRead (f x)) → TakesIfRead (c >>= f)
 next_takes c f h y shares k = let a = bind_ok c.given (λ x. (f x).given) y k in (rest_next c f a.0 a.1).takes shares (h a.0 y shares a.2)
@@ -135,22 +125,23 @@ pub agrees_after : {A C D : Type 0} {next : D → C} {ends : D → Type 0} (r : 
 agrees_after (Ok x) f g h = h x
 agrees_after (Err e) f g h = record { given = refl; takes = λ shares t. t }
 
+-- values that are made into others
+pub agrees_map : {A B C D : Type 0} {make : B → A} {holds : B → Type 0} {next : D → C} {ends : D → Type 0} {c : Costed A} {d : Costed B} (f : A → C) (g : B → D)
+    → Agrees make holds c d → ((x : B) → holds x → (f (make x) ≡ next (g x)) × ends (g x)) → Agrees next ends (map_at_cost f c) (map_at_cost g d)
+agrees_map {A} {B} {C} {D} {make} {holds} {next} {ends} {c} {d} f g h more = record { given = by_given c.given d.given h.given; takes = h.takes }
+  where
+    by_given : (r : Result A Error) (q : Result B Error) → AgreesGiven make holds r q → AgreesGiven next ends (reading.◌>>=◌ r (λ x. Ok (f x))) (reading.◌>>=◌ q (λ x. Ok (g x)))
+    by_given r (Ok x) k = let m = more x k.1 in (ap (λ v. reading.◌>>=◌ v (λ y. Ok (f y))) k.0 ∙ ap Ok m.0, m.1)
+    by_given r (Err e) k = ap (λ v. reading.◌>>=◌ v (λ y. Ok (f y))) k
+
 -- a value of the other reading that is made into one more
 pub agrees_made : {A B D : Type 0} {make : B → A} {holds : B → Type 0} {next : D → A} {ends : D → Type 0} {c : Costed A} {d : Costed B} (g : B → D)
-    → Agrees make holds c d → ((x : B) → holds x → (make x ≡ next (g x)) × ends (g x)) → Agrees next ends c (d >>= λ x. free (Ok (g x)))
-agrees_made {A} {B} {D} {make} {holds} {next} {ends} {c} {d} g h more = record {
-  given = by_given c.given d.given h.given;
-  takes = λ shares. by_takes (d.takes_memory shares) (c.takes_memory shares) d.given (h.takes shares);
-}
+    → Agrees make holds c d → ((x : B) → holds x → (make x ≡ next (g x)) × ends (g x)) → Agrees next ends c (map_at_cost g d)
+agrees_made {A} {B} {D} {make} {holds} {next} {ends} {c} {d} g h more = record { given = by_given c.given d.given h.given; takes = h.takes }
   where
     by_given : (r : Result A Error) (q : Result B Error) → AgreesGiven make holds r q → AgreesGiven next ends r (reading.◌>>=◌ q (λ x. Ok (g x)))
     by_given r (Ok x) k = let m = more x k.1 in (k.0 ∙ ap Ok m.0, m.1)
     by_given r (Err e) k = k
-
-    by_takes : (a b : Bool) (q : Result B Error) → (a ≡ true → b ≡ true) → (a || takes_memory_after q (λ x. false)) ≡ true → b ≡ true
-    by_takes true b q k t = k refl
-    by_takes false b (Ok x) k t = absurd cc
-    by_takes false b (Err e) k t = absurd cc
 
 -- room after both, or after the first
 pub agrees_room : {A B : Type 0} {make : B → A} {holds : B → Type 0} {c : Costed A} {d : Costed B} (stores : Bool) → Agrees make holds c d → Agrees make holds (then_room_if stores c) (then_room_if stores d)

@@ -24,7 +24,7 @@ use Rattle.addr2line_lines.specs.declared.inlined.CallSite.{CallSite}
 use Rattle.addr2line_lines.specs.InlinedEntries.{InlinedAttributes, inlined_attributes_of, no_inlined_attributes, or_with_inlined_attribute, with_call, with_inlined_attribute}
 use Rattle.addr2line_lines.specs.FoundInlined.{FoundInlined, with_inlined_found}
 use Rattle.addr2line_lines.specs.FoundItems.{entry_found_at, with_entry_found}
-use Rattle.addr2line_lines.specs.CostedSteps.{stored_if}
+use Rattle.addr2line_lines.specs.CostedSteps.{map_at_cost, stored_if}
 use Rattle.addr2line_lines.specs.FoundAttributes.{IsReadIf, IsTakenIn, inlined_attributes_after, is_call, is_inlined_attribute}
 use Rattle.addr2line_lines.specs.FoundRanges.{is_range_name}
 use Rattle.addr2line_lines.specs.OpenEntries.{is_inlined_kind, is_listed, kind_of}
@@ -230,7 +230,7 @@ module _ (scope : Scope) (u : UnitRecord) (around : List Kind) (offset : ℕ) (a
 
   -- that of an entry that is listed or isn't, and what is left
   abbrev entry_read : Bool → Reading (List NamedValue) → Costed (FoundInlined × Section)
-  entry_read listed read = costed.◌>>=◌ (free read) (λ x. costed.◌>>=◌ (cond {A = Costed FoundInlined} listed (costed.◌>>=◌ (free (inlined_attributes_of scope u x.0)) listed_found) (free (Ok found))) (λ more. free (Ok (more, x.1))))
+  entry_read listed read = costed.◌>>=◌ (free read) (λ x. map_at_cost (λ more. (more, x.1)) (cond {A = Costed FoundInlined} listed (costed.◌>>=◌ (free (inlined_attributes_of scope u x.0)) listed_found) (free (Ok found))))
 
   listed_is : (listed : Bool) → is_listed (kind_of a) around ≡ listed → entry_found_at scope u around offset a left found ≡ entry_read listed read_left
   listed_is listed h = ap (λ b. entry_read b read_left) h
@@ -243,13 +243,13 @@ module _ (scope : Scope) (u : UnitRecord) (around : List Kind) (offset : ℕ) (a
       by_read (Err g) k = let same : g ≡ f = cc in ap Err same
 
   pub entry-listed : (x : InlinedAttributes) (rest : Section) → is_listed (kind_of a) around ≡ true → inlined_attributes_after scope u (Ok no_inlined_attributes) read_left ≡ Ok x → rest_of read_left ≡ Ok rest
-      → entry_found_at scope u around offset a left found ≡ costed.◌>>=◌ (listed_found x) (λ more. free (Ok (more, rest)))
+      → entry_found_at scope u around offset a left found ≡ map_at_cost (λ more. (more, rest)) (listed_found x)
   entry-listed x rest h k l = listed_is true h ∙ by_read read_left k l
     where
-      by_read : (read : Reading (List NamedValue)) → inlined_attributes_after scope u (Ok no_inlined_attributes) read ≡ Ok x → rest_of read ≡ Ok rest → entry_read true read ≡ costed.◌>>=◌ (listed_found x) (λ more. free (Ok (more, rest)))
+      by_read : (read : Reading (List NamedValue)) → inlined_attributes_after scope u (Ok no_inlined_attributes) read ≡ Ok x → rest_of read ≡ Ok rest → entry_read true read ≡ map_at_cost (λ more. (more, rest)) (listed_found x)
       by_read (Ok y) k l =
-          ap (λ r. costed.◌>>=◌ {B = FoundInlined × Section} (costed.◌>>=◌ (free r) listed_found) (λ more. free (Ok (more, y.1)))) k
-          ∙ ap (λ (s : Section). costed.◌>>=◌ {B = FoundInlined × Section} (listed_found x) (λ more. free (Ok (more, s)))) (let same : y.1 ≡ rest = cc in same)
+          ap (λ r. map_at_cost {B = FoundInlined × Section} (λ more. (more, y.1)) (costed.◌>>=◌ (free r) listed_found)) k
+          ∙ ap (λ (s : Section). map_at_cost {B = FoundInlined × Section} (λ more. (more, s)) (listed_found x)) (let same : y.1 ≡ rest = cc in same)
       by_read (Err g) k l = absurd cc
 
   pub entry-other : (may : Bool) (rest : Section) (r : Result (Unit {0}) Error) → is_listed (kind_of a) around ≡ false → Exactly (λ _. rest) r (rest_of read_left)

@@ -2,14 +2,14 @@
 use Rattle.std.proofs.Common.{◌≡◌, ℕ, ◌<◌, ◌++◌, Bool, true, List, [], ◌∷◌, append-nil, length, map, Option, Result, Ok, Err, refl, ap, subst, sym, ◌∙◌, arith}
 use Rattle.gimli_read.specs.declared.error.Error.{Error}
 use Rattle.gimli_read.specs.declared.range.Range.{Range}
-use Rattle.gimli_read.specs.Costed.{Costed, ◌>>=◌, free}
+use Rattle.gimli_read.specs.Costed.{Costed, free}
 use Rattle.gimli_read.specs.Reading as reading
 use Rattle.gimli_read.specs.Section.{Section}
 use Rattle.gimli.specs.Sections.{Sections}
 use Rattle.gimli.specs.Unit.{UnitRecord}
 use Rattle.addr2line_lines.specs.declared.function.RangeAttributes.{RangeAttributes}
 use Rattle.addr2line_lines.specs.declared.picks.InlinedFunctionAddress.{InlinedFunctionAddress}
-use Rattle.addr2line_lines.specs.CostedSteps.{then_room_if}
+use Rattle.addr2line_lines.specs.CostedSteps.{map_at_cost, then_room_if}
 use Rattle.addr2line_lines.specs.Details.{Detail, WholeEntry, detail_at, inlined_in, stored_detail_at, whole_entry_at}
 use Rattle.addr2line_lines.specs.FoundDetails.{detail_found_at}
 use Rattle.addr2line_lines.specs.FoundInlined.{FoundInlined, inlined_address, with_inlined_ranges}
@@ -17,7 +17,7 @@ use Rattle.addr2line_lines.specs.InlinedEntries.{InlinedRange}
 use Rattle.addr2line_lines.specs.Names.{name_of}
 use Rattle.addr2line_lines.specs.RangeAttributes.{attribute_ranges, gives_a_range}
 use Rattle.addr2line_lines.specs.References.{Scope}
-use Rattle.addr2line_lines.proofs.CostLemmas.{AgreesGiven, TakesIfRead, first_takes, next_takes, room_takes}
+use Rattle.addr2line_lines.proofs.CostLemmas.{AgreesGiven, TakesIfRead, map_takes, next_takes, room_takes}
 use Rattle.addr2line_lines.proofs.DetailOrder.{IsFrom, detail_agrees, detail_made}
 use Rattle.addr2line_lines.proofs.FunctionMemory.{listed_well}
 use Rattle.addr2line_lines.proofs.WholeEntries.{detail_of}
@@ -36,13 +36,13 @@ module _ (scope : Scope) (u : UnitRecord) (offset : ℕ) where
   detail_takes : TakesIfRead (stored_detail_at scope u offset)
   unfolding stored_detail_at
   detail_takes =
-      next_takes (free (whole_entry_at u offset)) (detail_of scope u offset) (λ x. next_takes (free (name_of scope u x.entry.attributes)) (named x) (λ name. first_takes (then_room_if true (inlined_in scope u x.inside)) (made name) (room_takes (inlined_in scope u x.inside))))
+      next_takes (free (whole_entry_at u offset)) (detail_of scope u offset) (λ x. next_takes (free (name_of scope u x.entry.attributes)) (named x) (λ name. map_takes (made name) (then_room_if true (inlined_in scope u x.inside)) (room_takes (inlined_in scope u x.inside))))
     where
-      made : Option Section → List InlinedRange → Costed Detail
-      made name inlined = free (Ok (record { name = name; inlined = inlined }))
+      made : Option Section → List InlinedRange → Detail
+      made name inlined = record { name = name; inlined = inlined }
 
       named : WholeEntry → Option Section → Costed Detail
-      named x name = then_room_if true (inlined_in scope u x.inside) >>= made name
+      named x name = map_at_cost (made name) (then_room_if true (inlined_in scope u x.inside))
 
   -- so memory may be taken where they are found
   pub found_takes : (found : FoundInlined) (x : Option Section × FoundInlined) (shares : Bool) → (detail_found_at scope u offset found).given ≡ Ok x → (stored_detail_at scope u offset).takes_memory shares ≡ true

@@ -29,7 +29,7 @@ use Rattle.addr2line_lines.specs.Details.{Detail, detail_at, inlined_in, is_in_f
 use Rattle.addr2line_lines.specs.InlinedEntries.{InlinedAttributes, InlinedRange, inlined_attributes_of, inlined_entry, inlined_ranges, is_inlined}
 use Rattle.addr2line_lines.specs.FoundItems.{FoundAround, inside_found, with_entry_found, with_item_found}
 use Rattle.addr2line_lines.specs.FoundInlined.{FoundInlined, inlined_more, range_among, found_ranges_from, with_inlined_found}
-use Rattle.addr2line_lines.specs.CostedSteps.{fold_at_cost, stored_if, then_room_if}
+use Rattle.addr2line_lines.specs.CostedSteps.{fold_at_cost, map_at_cost, stored_if, then_room_if}
 use Rattle.addr2line_lines.specs.FoundDetails.{abbreviation_of, detail_found_at, function_found_at}
 use Rattle.addr2line_lines.specs.OpenEntries.{closed_once, is_inlined_kind, is_listed, is_subprogram_kind, kind_of, opened}
 use Rattle.addr2line_lines.specs.FoundNames.{name_after}
@@ -37,8 +37,7 @@ use Rattle.addr2line_lines.specs.Functions.{is_subprogram}
 use Rattle.addr2line_lines.specs.Names.{name_of}
 use Rattle.addr2line_lines.specs.RangeAttributes.{attribute_ranges, gives_a_range}
 use Rattle.addr2line_lines.specs.References.{Scope}
-use Rattle.addr2line_lines.proofs.CostLemmas.{Agrees, AgreesGiven, IsPartOf, agrees_after, agrees_made, agrees_room, agrees_then, room_more}
-use Rattle.addr2line_lines.proofs.FunctionLemmas.{or_first}
+use Rattle.addr2line_lines.proofs.CostLemmas.{Agrees, AgreesGiven, IsPartOf, agrees_after, agrees_made, agrees_map, agrees_room, agrees_then, room_more}
 use Rattle.addr2line_lines.proofs.DetailRanges.{AreFrom, more_places, more_ranges, none_from}
 use Rattle.addr2line_lines.proofs.NestingLemmas.{coded}
 use Rattle.addr2line_lines.proofs.WholeEntries.{detail_is, detail_read}
@@ -109,11 +108,8 @@ module _ (scope : Scope) (u : UnitRecord) (before n : ℕ) where
       read : Result InlinedAttributes Error
       read = inlined_attributes_of scope u e.attributes
 
-      ranges_of : InlinedAttributes → Costed (List Range)
-      ranges_of a = stored_if (gives_a_range scope.file.sections u a.ranges) (attribute_ranges scope.file.sections u a.ranges)
-
       wanted_of : ℕ → InlinedAttributes → Costed (List InlinedRange)
-      wanted_of m a = ranges_of a >>= λ ranges. free (Ok (found_ranges_from n found ++ inlined_ranges m x.offset a ranges))
+      wanted_of m a = map_at_cost (λ ranges. found_ranges_from n found ++ inlined_ranges m x.offset a ranges) (stored_if (gives_a_range scope.file.sections u a.ranges) (attribute_ranges scope.file.sections u a.ranges))
 
       wanted : Bool → ℕ → Costed (List InlinedRange)
       wanted b m = cond b (free read >>= wanted_of m) (free (Ok (found_ranges_from n found)))
@@ -130,10 +126,7 @@ module _ (scope : Scope) (u : UnitRecord) (before n : ℕ) where
       by_ranges a (Err f) = refl
 
       by_attributes : (a : InlinedAttributes) → AgreesInlined before n (wanted_of (count_by is_inlined up) a) (given_of (count_by is_inlined up) a)
-      by_attributes a = record {
-        given = by_ranges a (attribute_ranges scope.file.sections u a.ranges);
-        takes = λ shares t. or_first (gives_a_range scope.file.sections u a.ranges) _ t;
-      }
+      by_attributes a = record { given = by_ranges a (attribute_ranges scope.file.sections u a.ranges); takes = λ shares t. t }
 
       by_test : (b : Bool) → AgreesInlined before n (wanted b (count_by is_inlined up)) (given b (count_by is_inlined up))
       by_test true = agrees_after read (wanted_of (count_by is_inlined up)) (given_of (count_by is_inlined up)) by_attributes
@@ -173,10 +166,10 @@ module _ (scope : Scope) (u : UnitRecord) (before n : ℕ) where
       by_step rest more q = subst (λ k. AgreesRest more.found (record { found = more.found; around = k })) (sym q.around) (rest more.found q.found)
 
   inside_agrees : (unit : EntryUnit) (c : EntryCursor) (found : FoundInlined) → AreFrom before n found → let inside = items_inside (pos 0) c.depth (items_left unit c).items (items_left unit c).end in
-      AgreesInlined before n (fold_at_cost (with_inlined scope u) (found_ranges_from n found) (placed_items [] inside.items) inside.end >>= λ f. free (Ok f.0)) (inside_found scope u unit c (record { found = found; around = [] }))
+      AgreesInlined before n (map_at_cost (λ f. f.0) (fold_at_cost (with_inlined scope u) (found_ranges_from n found) (placed_items [] inside.items) inside.end)) (inside_found scope u unit c (record { found = found; around = [] }))
   inside_agrees unit c found all =
       let inside = items_inside (pos 0) c.depth (items_left unit c).items (items_left unit c).end in
-      agrees_then (λ f. free (Ok f.0)) (λ more. free (Ok more.0.found)) (fold_agrees inside.items inside.end [] found all) (λ more q. record { given = (refl, q); takes = λ shares t. t })
+      agrees_map (λ f. f.0) (λ more. more.0.found) (fold_agrees inside.items inside.end [] found all) (λ more q. (refl, q))
 
 -- a unit's offset is below its end
 pub some_left : (header : UnitHeaderFields) (offset : ℕ) (s : Section) → entry_bytes_from header (Some offset) ≡ Ok s → (length s.bytes == 0) ≡ false
@@ -211,8 +204,8 @@ module _ (scope : Scope) (u : UnitRecord) (offset : ℕ) (found : FoundInlined) 
   before = length found.entries
 
   by_inside : (name : Option Section) (c : Costed (List InlinedRange)) (d : Costed FoundInlined) → AgreesInlined before n c d
-      → AgreesDetail (then_room_if true c >>= λ inlined. free (Ok (record { name = name; inlined = inlined }))) (d >>= λ more. free (Ok (name, more)))
-  by_inside name c d h = agrees_then (λ inlined. free (Ok (record { name = name; inlined = inlined }))) (λ more. free (Ok (name, more))) (room_more true h) (λ more q. record { given = (refl, q); takes = λ shares t. t })
+      → AgreesDetail (map_at_cost (λ inlined. record { name = name; inlined = inlined }) (then_room_if true c)) (map_at_cost (λ more. (name, more)) d)
+  by_inside name c d h = agrees_map (λ inlined. record { name = name; inlined = inlined }) (λ more. (name, more)) (room_more true h) (λ more q. (refl, q))
 
   -- what stands inside a function whose entry was read
   inlined_agrees : (unit : EntryUnit) (x : Item) (c : EntryCursor) → x.depth ≡ pos 0 → c.depth ≡ depth_after x → AgreesInlined before n (inlined_in scope u (subtree_of x (items_left unit c))) (inside_found scope u unit c (record { found = found; around = [] }))
@@ -225,7 +218,7 @@ module _ (scope : Scope) (u : UnitRecord) (offset : ℕ) (found : FoundInlined) 
       inlined_of : List InlinedRange → ℤ → ℤ → Costed (List InlinedRange)
       inlined_of xs d now =
           let inside = items_inside d now (items_left unit c).items (items_left unit c).end in
-          fold_at_cost (with_inlined scope u) xs (placed_items [] inside.items) inside.end >>= λ f. free (Ok f.0)
+          map_at_cost (λ f. f.0) (fold_at_cost (with_inlined scope u) xs (placed_items [] inside.items) inside.end)
 
   abbrev found_of : EntriesLeft → Result (Option Abbrev × EntryCursor) Error → Costed (Option Section × FoundInlined)
   found_of left r = free r >>= λ code. free (abbreviation_of offset code.0) >>= λ a. function_found_at scope u left.unit code.1 found a
@@ -239,13 +232,13 @@ module _ (scope : Scope) (u : UnitRecord) (offset : ℕ) (found : FoundInlined) 
       left = entries_at u.header u.abbreviations s
 
       named_item : (x : Item) (c : EntryCursor) → x.depth ≡ pos 0 → c.depth ≡ depth_after x → (r : Result (Option Section) Error)
-          → AgreesDetail (free r >>= λ name. then_room_if true (inlined_in scope u (subtree_of x (items_left left.unit c))) >>= λ inlined. free (Ok (record { name = name; inlined = inlined })))
-          (free r >>= λ name. inside_found scope u left.unit c (record { found = found; around = [] }) >>= λ more. free (Ok (name, more)))
+          → AgreesDetail (free r >>= λ name. map_at_cost (λ inlined. record { name = name; inlined = inlined }) (then_room_if true (inlined_in scope u (subtree_of x (items_left left.unit c)))))
+          (free r >>= λ name. map_at_cost (λ more. (name, more)) (inside_found scope u left.unit c (record { found = found; around = [] })))
       named_item x c d e r = agrees_after r _ _ (λ name. by_inside name _ _ (inlined_agrees left.unit x c d e))
 
       by_read : (a : Abbrev) (t : EntryCursor) → entry_abbreviation_at left.unit.abbreviations left.cursor ≡ Ok (Some a, t) → (r : Reading (List NamedValue)) → attributes_at u.header.encoding a.attributes t.left ≡ r
           → AgreesDetail (detail_read scope u offset left (reading.◌>>=◌ {B = Option Item × EntryCursor} r (λ x. Ok (Some (item_here left.unit left.cursor (Some (record { abbreviation = a; attributes = x.0 }))), record { left = x.1; depth = t.depth }))))
-          (free (name_after scope u (Ok None) r) >>= λ name. free (rest_of r) >>= λ rest. inside_found scope u left.unit (record { left = rest; depth = t.depth }) (record { found = found; around = [] }) >>= λ more. free (Ok (name, more)))
+          (free (name_after scope u (Ok None) r) >>= λ name. free (rest_of r) >>= λ rest. map_at_cost (λ more. (name, more)) (inside_found scope u left.unit (record { left = rest; depth = t.depth }) (record { found = found; around = [] })))
       by_read a t q (Err f) k = record { given = refl; takes = λ shares t. t }
       by_read a t q (Ok x) k =
           let item = item_here left.unit left.cursor (Some (record { abbreviation = a; attributes = x.0 })) in

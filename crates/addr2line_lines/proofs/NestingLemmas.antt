@@ -8,7 +8,7 @@ use Rattle.gimli_read.specs.declared.error.Error.{Error}
 use Rattle.gimli_read.specs.declared.error.Error.TheVariants.{OutOfMemory, UnexpectedEof}
 use Rattle.gimli_read.specs.Abbreviations.{Abbrev, with_code}
 use Rattle.gimli_read.specs.Form.{NamedValue, rest_of}
-use Rattle.gimli_read.specs.Costed.{Costed, ◌>>=◌, free, takes_memory_after}
+use Rattle.gimli_read.specs.Costed.{Costed, ◌>>=◌, free}
 use Rattle.gimli_read.specs.Reading.{Reading, ExactlyUnlessOomIf}
 use Rattle.gimli_read.specs.Reading as reading
 use Rattle.gimli_read.specs.Run.{Run, cons, fold_run}
@@ -25,7 +25,7 @@ use Rattle.gimli.proofs.ItemReads.{items_end, items_fault, items_more}
 use Rattle.addr2line_lines.specs.declared.nesting.Kind.{Kind}
 use Rattle.addr2line_lines.specs.FoundItems.{FoundAround, entry_found_at, inside_found, item_found_at, with_entry_found, with_item_found}
 use Rattle.addr2line_lines.specs.FoundInlined.{FoundInlined, IsFoundMore, inlined_address, inlined_more, with_inlined_found, with_inlined_ranges}
-use Rattle.addr2line_lines.specs.CostedSteps.{fold_at_cost, then_room_if}
+use Rattle.addr2line_lines.specs.CostedSteps.{fold_at_cost, map_at_cost, then_room_if}
 use Rattle.addr2line_lines.specs.Grown.{IsGrown}
 use Rattle.addr2line_lines.specs.FoundDetails.{abbreviation_of, detail_found_at, function_found_at}
 use Rattle.addr2line_lines.specs.OpenEntries.{closed_once, kind_of, opened}
@@ -36,7 +36,7 @@ use Rattle.gimli_read.specs.declared.range.Range.{Range}
 use Rattle.gimli.specs.Sections.{Sections}
 use Rattle.addr2line_lines.specs.declared.picks.InlinedFunctionAddress.{InlinedFunctionAddress}
 use Rattle.addr2line_lines.specs.References.{Scope}
-use Rattle.addr2line_lines.proofs.CostLemmas.{IsPartOf, IsRestOf, first_part, made_part, part_on, rest_next, rest_on, rest_part, rest_steps}
+use Rattle.addr2line_lines.proofs.CostLemmas.{IsPartOf, IsRestOf, first_part, made_part, part_on, rest_map, rest_next, rest_on, rest_part}
 use Rattle.addr2line_lines.proofs.DetailLemmas.{empty_code, entry-rest}
 use Rattle.addr2line_lines.proofs.FunctionLemmas.{closing_shorter, entry_shorter}
 
@@ -72,7 +72,7 @@ opened_more kinds more kind has_children around b h k = ap reverse h ∙ reverse
 -- the items inside a function, one at a time
 module _ (scope : Scope) (u : UnitRecord) (unit : EntryUnit) where
   abbrev pub item_read : FoundAround → Result (Option Item × EntryCursor) Error → Costed (FoundAround × EntryCursor)
-  item_read state r = free r >>= λ x. elim x.0 [ None ↦ free (Err UnexpectedEof) | Some item ↦ with_item_found scope u state item >>= λ more. free (Ok (more, x.1)) ]
+  item_read state r = free r >>= λ x. elim x.0 [ None ↦ free (Err UnexpectedEof) | Some item ↦ map_at_cost (λ more. (more, x.1)) (with_item_found scope u state item) ]
 
   pub coded : (c : EntryCursor) → (length c.left.bytes == 0) ≡ false → next_item_at unit c ≡ reading.◌>>=◌ (entry_abbreviation_at unit.abbreviations c) (λ x. item_from unit c x)
   coded c h = item_is unit c ∙ ap (λ b. cond b (Ok (None, c)) (reading.◌>>=◌ (entry_abbreviation_at unit.abbreviations c) (λ x. item_from unit c x))) h
@@ -102,7 +102,7 @@ module _ (scope : Scope) (u : UnitRecord) (unit : EntryUnit) where
 
   -- an entry that is found, and room for it while it is open
   abbrev pub entry_opened : EntryCursor → EntryCursor → FoundAround → Abbrev → Costed (FoundAround × EntryCursor)
-  entry_opened c t state a = then_room_if a.has_children (entry_found_at scope u state.around (next_offset_of unit c) a t.left state.found) >>= λ m. free (Ok (after_entry state a t m))
+  entry_opened c t state a = map_at_cost (after_entry state a t) (then_room_if a.has_children (entry_found_at scope u state.around (next_offset_of unit c) a t.left state.found))
 
   pub item-entry : (c t : EntryCursor) (state : FoundAround) (a : Abbrev) → u.header.encoding ≡ unit.encoding → entry_abbreviation_at unit.abbreviations c ≡ Ok (Some a, t) → IsRestOf (entry_opened c t state a) (item_found_at scope u unit c state)
   item-entry c t state a e h =
@@ -121,16 +121,15 @@ module _ (scope : Scope) (u : UnitRecord) (unit : EntryUnit) where
       by_found s (Ok m) = refl
       by_found s (Err f) = refl
 
-      by_takes : (s : Section) (takes opens : Bool) (r : Result FoundInlined Error)
-          → (((takes || takes_memory_after r (λ more. false)) || is_ok (reading.◌>>=◌ {B = FoundInlined × Section} r (λ more. Ok (more, s))) && opens) || takes_memory_after (reading.◌>>=◌ {B = FoundInlined × Section} r (λ more. Ok (more, s))) (λ m. false)) ≡ true
-          → (((takes || is_ok r && opens) || takes_memory_after r (λ more. false)) || takes_memory_after (reading.◌>>=◌ {B = FoundAround} r (λ more. Ok (record { found = more; around = opened (kind_of a) a.has_children state.around }))) (λ more. false)) ≡ true
-      by_takes s true opens r k = refl
-      by_takes s false true (Ok m) k = refl
-      by_takes s false false (Ok m) k = k
-      by_takes s false opens (Err f) k = k
+      same_well : (s : Section) (r : Result FoundInlined Error) → is_ok (reading.◌>>=◌ {B = FoundInlined × Section} r (λ more. Ok (more, s))) ≡ is_ok r
+      same_well s (Ok m) = refl
+      same_well s (Err f) = refl
 
-      by_read : (read : Reading (List NamedValue)) → IsRestOf (then_room_if a.has_children (free read >>= λ x. entry x.0 >>= λ more. free (Ok (more, x.1))) >>= λ m. free (Ok (after_entry state a t m))) (read_of read)
-      by_read (Ok x) = record { given = by_found x.1 (entry x.0).given; takes = λ shares. by_takes x.1 ((entry x.0).takes_memory shares) a.has_children (entry x.0).given }
+      by_read : (read : Reading (List NamedValue)) → IsRestOf (map_at_cost (after_entry state a t) (then_room_if a.has_children (free read >>= λ x. map_at_cost (λ more. (more, x.1)) (entry x.0)))) (read_of read)
+      by_read (Ok x) = record {
+        given = by_found x.1 (entry x.0).given;
+        takes = λ shares k. ap (λ b. (entry x.0).takes_memory shares || b && a.has_children) (sym (same_well x.1 (entry x.0).given)) ∙ k;
+      }
       by_read (Err f) = record { given = refl; takes = λ shares k. k }
 
   -- a call leaves less
@@ -144,7 +143,7 @@ module _ (scope : Scope) (u : UnitRecord) (unit : EntryUnit) where
 
   -- what is found of a run of items
   abbrev folded : FoundAround → Run Item (Unit {0}) → Costed FoundInlined
-  folded state r = fold_at_cost (with_item_found scope u) state r.items r.end >>= λ more. free (Ok more.0.found)
+  folded state r = map_at_cost (λ more. more.0.found) (fold_at_cost (with_item_found scope u) state r.items r.end)
 
   abbrev inside_of : FoundAround → ℤ → Run Item Section → Costed FoundInlined
   inside_of state now r = folded state (items_inside (pos 0) now r.items r.end)
@@ -165,7 +164,7 @@ module _ (scope : Scope) (u : UnitRecord) (unit : EntryUnit) where
 
   folded_with : (state : FoundAround) (x : Item) (r : Run Item (Unit {0})) → IsRestOf (with_item_found scope u state x >>= λ more. folded more r) (folded state (cons x r))
   unfolding fold_run
-  folded_with state x r = rest_steps (with_item_found scope u state x) (λ more. fold_at_cost (with_item_found scope u) more r.items r.end) (λ more. free (Ok more.0.found))
+  folded_with state x r = rest_map (with_item_found scope u state x) (λ more. fold_at_cost (with_item_found scope u) more r.items r.end) (λ more. more.0.found)
 
   at_item : (c t : EntryCursor) (state : FoundAround) (x : Item) → int_lt (pos 0) c.depth ≡ true → next_item_at unit c ≡ Ok (Some x, t)
       → IsRestOf (with_item_found scope u state x >>= λ more. inside_found scope u unit t more) (inside_found scope u unit c state)
@@ -206,11 +205,11 @@ module _ (scope : Scope) (u : UnitRecord) (unit : EntryUnit) where
         fault = λ e k. (let same : UnexpectedEof ≡ e = cc in ap (λ r. (inside_of state c.depth r).given) (items_end unit c t q) ∙ ap (λ r. (folded state r).given) (no_more c.depth (Ok t.left) h) ∙ ap Err same);
         takes = λ shares t. absurd cc;
       }
-      by_cases (Ok (Some x, t)) q = part_on (made_part (with_item_found scope u state x) (λ more. (more, t)) (λ more. inside_found scope u unit t more)) (rest_part (at_item c t state x h q))
+      by_cases (Ok (Some x, t)) q = part_on (made_part (λ more. (more, t)) (with_item_found scope u state x) (λ more. inside_found scope u unit t more)) (rest_part (at_item c t state x h q))
 
   -- a function whose attributes follow
   abbrev pub named_found : Option Section → Costed FoundInlined → Costed (Option Section × FoundInlined)
-  named_found name c = c >>= λ more. free (Ok (name, more))
+  named_found name c = map_at_cost (λ more. (name, more)) c
 
   pub name-part : (c : EntryCursor) (found : FoundInlined) (a : Abbrev) → IsPartOf (free (name_after scope u (Ok None) (attributes_at u.header.encoding a.attributes c.left))) (function_found_at scope u unit c found a)
   name-part c found a =

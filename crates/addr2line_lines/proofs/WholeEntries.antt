@@ -13,7 +13,7 @@ use Rattle.gimli.specs.EntryCursor.{EntriesLeft, EntryCursor, entries_at, entrie
 use Rattle.gimli.specs.Items.{Entry, Item, items_from, subtree_of}
 use Rattle.gimli.specs.Unit.{UnitRecord}
 use Rattle.gimli.proofs.ItemReads.{items_end, items_fault, items_more}
-use Rattle.addr2line_lines.specs.CostedSteps.{then_room_if}
+use Rattle.addr2line_lines.specs.CostedSteps.{map_at_cost, then_room_if}
 use Rattle.addr2line_lines.specs.Details.{Detail, WholeEntry, first_whole, inlined_in, stored_detail_at, whole_entry_at}
 use Rattle.addr2line_lines.specs.Names.{name_of}
 use Rattle.addr2line_lines.specs.References.{Scope}
@@ -60,7 +60,7 @@ whole_is u offset = by_bytes (entry_bytes_from u.header (Some offset))
 module _ (scope : Scope) (u : UnitRecord) (offset : ℕ) where
   -- the details of a function, of which the item at a place is the entry
   abbrev pub detail_of : WholeEntry → Costed Detail
-  detail_of x = costed.◌>>=◌ (free (name_of scope u x.entry.attributes)) (λ name. costed.◌>>=◌ (then_room_if true (inlined_in scope u x.inside)) (λ inlined. free (Ok (record { name = name; inlined = inlined }))))
+  detail_of x = costed.◌>>=◌ (free (name_of scope u x.entry.attributes)) (λ name. map_at_cost (λ inlined. record { name = name; inlined = inlined }) (then_room_if true (inlined_in scope u x.inside)))
 
   abbrev pub detail_read : EntriesLeft → Result (Option Item × EntryCursor) Error → Costed Detail
   detail_read left r = costed.◌>>=◌ (free r) (λ next. costed.◌>>=◌ (free (item_entry offset next.0)) (λ x. detail_of (record { entry = x.1; inside = subtree_of x.0 (items_left left.unit next.1) })))

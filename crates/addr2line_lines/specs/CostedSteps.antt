@@ -1,7 +1,8 @@
 -- Steps of a `Costed` that store something: room for it, and steps along items.
-use Rattle.std.specs.Prelude.{◌&&◌, ◌||◌, Bool, false, is_ok, List, [], ◌∷◌, Result}
+use Rattle.std.specs.Prelude.{◌&&◌, ◌||◌, Bool, false, is_ok, List, [], ◌∷◌, Result, Ok}
 use Rattle.gimli_read.specs.declared.error.Error.{Error}
 use Rattle.gimli_read.specs.Costed.{Costed, takes_memory_after}
+use Rattle.gimli_read.specs.Reading as reading
 use Rattle.gimli_read.specs.Run.{fold_run}
 
 -- what is stored on the way to its value, or to its fault, if something is stored then
@@ -13,6 +14,13 @@ abbrev pub then_room_if : {A : Type 0} → Bool → Costed A → Costed A
 then_room_if stores c = record {
   given = c.given;
   takes_memory = λ shares. c.takes_memory shares || is_ok c.given && stores;
+}
+
+-- with its value made into another
+abbrev pub map_at_cost : {A B : Type 0} → (A → B) → Costed A → Costed B
+map_at_cost make c = record {
+  given = reading.◌>>=◌ c.given (λ x. Ok (make x));
+  takes_memory = c.takes_memory;
 }
 
 -- where parts of the bytes are taken on the way

@@ -12,7 +12,7 @@ use Rattle.gimli_read.specs.Run.{Run}
 use Rattle.gimli_read.specs.Section.{Section}
 use Rattle.gimli.specs.Items.{Entry, Item, items_at, subtree_of}
 use Rattle.gimli.specs.Unit.{UnitRecord}
-use Rattle.addr2line_lines.specs.CostedSteps.{fold_at_cost, stored_if, then_room_if}
+use Rattle.addr2line_lines.specs.CostedSteps.{fold_at_cost, map_at_cost, stored_if, then_room_if}
 use Rattle.addr2line_lines.specs.Functions.{is_subprogram}
 use Rattle.addr2line_lines.specs.Names.{name_of}
 use Rattle.addr2line_lines.specs.RangeAttributes.{attribute_ranges, gives_a_range}
@@ -56,9 +56,10 @@ abbrev pub with_inlined_entry
     : Scope → UnitRecord → List InlinedRange → PlacedItem → Entry → Costed (List InlinedRange)
 with_inlined_entry scope u found x e =
     free (inlined_attributes_of scope u e.attributes) >>= λ a.
-    stored_if (gives_a_range scope.file.sections u a.ranges)
-    (attribute_ranges scope.file.sections u a.ranges) >>= λ ranges.
-    free (Ok (found ++ inlined_ranges (count_by is_inlined x.around) x.item.offset a ranges))
+    map_at_cost
+    (λ ranges. found ++ inlined_ranges (count_by is_inlined x.around) x.item.offset a ranges)
+    (stored_if (gives_a_range scope.file.sections u a.ranges)
+    (attribute_ranges scope.file.sections u a.ranges))
 
 -- those after one more item, if it is an inlined entry and in no nested subprogram; an entry with
 -- children is stored while it is open
@@ -76,9 +77,8 @@ with_inlined scope u found x = elim x.item.entry [
 -- fault
 abbrev pub inlined_in
     : Scope → UnitRecord → Run Item (Unit {0}) → Costed (List InlinedRange)
-inlined_in scope u inside =
-    fold_at_cost (with_inlined scope u) [] (placed_items [] inside.items) inside.end
-    >>= λ found. free (Ok found.0)
+inlined_in scope u inside = map_at_cost (λ found. found.0)
+    (fold_at_cost (with_inlined scope u) [] (placed_items [] inside.items) inside.end)
 
 -- an entry, and the items inside it
 pub record WholeEntry : Type 0 where
@@ -106,8 +106,8 @@ unfoldable pub stored_detail_at : Scope → UnitRecord → ℕ → Costed Detail
 stored_detail_at scope u offset = do
   function ← free (whole_entry_at u offset)
   name ← free (name_of scope u function.entry.attributes)
-  inlined ← then_room_if true (inlined_in scope u function.inside)
-  free (Ok (record { name = name; inlined = inlined }))
+  map_at_cost (λ inlined. record { name = name; inlined = inlined })
+      (then_room_if true (inlined_in scope u function.inside))
 
 -- the details alone
 abbrev pub detail_at : Scope → UnitRecord → ℕ → Result Detail Error

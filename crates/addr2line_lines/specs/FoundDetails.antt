@@ -9,6 +9,7 @@ use Rattle.gimli_read.specs.Section.{Section}
 use Rattle.gimli.specs.Entry.{EntryUnit, attributes_at}
 use Rattle.gimli.specs.EntryCursor.{EntryCursor, entries_from, entry_abbreviation_at}
 use Rattle.gimli.specs.Unit.{UnitRecord}
+use Rattle.addr2line_lines.specs.CostedSteps.{map_at_cost}
 use Rattle.addr2line_lines.specs.References.{Scope}
 use Rattle.addr2line_lines.specs.FoundNames.{name_after}
 use Rattle.addr2line_lines.specs.FoundInlined.{FoundInlined}
@@ -25,8 +26,8 @@ abbrev pub function_found_at : Scope → UnitRecord → EntryUnit → EntryCurso
 function_found_at scope u unit cursor found a =
     let read = attributes_at u.header.encoding a.attributes cursor.left in
     free (name_after scope u (Ok None) read) >>= λ name. free (rest_of read) >>= λ rest.
-    inside_found scope u unit (record { left = rest; depth = cursor.depth })
-    (record { found = found; around = [] }) >>= λ more. free (Ok (name, more))
+    map_at_cost (λ more. (name, more)) (inside_found scope u unit
+    (record { left = rest; depth = cursor.depth }) (record { found = found; around = [] }))
 
 -- the name of the function whose entry begins at an offset, and what was found after it
 unfoldable pub detail_found_at : Scope → UnitRecord → ℕ → FoundInlined

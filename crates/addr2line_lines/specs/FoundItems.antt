@@ -10,7 +10,7 @@ use Rattle.gimli.specs.EntryCursor.{EntryCursor, items_left, next_item_at}
 use Rattle.gimli.specs.Unit.{UnitRecord}
 use Rattle.addr2line_lines.specs.declared.inlined_lists.InlinedLists.{InlinedLists}
 use Rattle.addr2line_lines.specs.declared.nesting.Kind.{Kind}
-use Rattle.addr2line_lines.specs.CostedSteps.{fold_at_cost, stored_if, then_room_if}
+use Rattle.addr2line_lines.specs.CostedSteps.{fold_at_cost, map_at_cost, stored_if, then_room_if}
 use Rattle.addr2line_lines.specs.InlinedEntries.{inlined_attributes_of}
 use Rattle.addr2line_lines.specs.RangeAttributes.{gives_a_range}
 use Rattle.addr2line_lines.specs.References.{Scope}
@@ -41,20 +41,21 @@ abbrev pub entry_found_at : Scope → UnitRecord → List Kind → ℕ → Abbre
     → Costed (FoundInlined × Section)
 entry_found_at scope u around offset a left found =
     free (attributes_at u.header.encoding a.attributes left) >>= λ x.
-    with_entry_found scope u around offset found (record { abbreviation = a; attributes = x.0 })
-    >>= λ more. free (Ok (more, x.1))
+    map_at_cost (λ more. (more, x.1)) (with_entry_found scope u around offset found
+    (record { abbreviation = a; attributes = x.0 }))
 
 -- after one more item; an entry with children is stored while it is open
 abbrev pub with_item_found : Scope → UnitRecord → FoundAround → Item → Costed FoundAround
 with_item_found scope u state x = elim x.entry [
   | None ↦ free (Ok (record { found = state.found; around = closed_once state.around }))
-  | Some e ↦ then_room_if e.abbreviation.has_children
-      (with_entry_found scope u state.around x.offset state.found e) >>= λ more.
-      free (Ok (record {
+  | Some e ↦ map_at_cost
+      (λ more. record {
         found = more;
         around =
             opened (kind_of e.abbreviation) e.abbreviation.has_children state.around;
-      }))
+      })
+      (then_room_if e.abbreviation.has_children
+      (with_entry_found scope u state.around x.offset state.found e))
 ]
 
 -- after the next item, and where it ends
@@ -62,7 +63,7 @@ abbrev pub item_found_at : Scope → UnitRecord → EntryUnit → EntryCursor �
     → Costed (FoundAround × EntryCursor)
 item_found_at scope u unit cursor state = free (next_item_at unit cursor) >>= λ x. elim x.0 [
   | None ↦ free (Err UnexpectedEof)
-  | Some item ↦ with_item_found scope u state item >>= λ more. free (Ok (more, x.1))
+  | Some item ↦ map_at_cost (λ more. (more, x.1)) (with_item_found scope u state item)
 ]
 
 -- after the items that are left of a function
@@ -71,5 +72,5 @@ abbrev pub inside_found : Scope → UnitRecord → EntryUnit → EntryCursor →
 inside_found scope u unit cursor state =
     let items = items_left unit cursor in
     let inside = items_inside (pos 0) cursor.depth items.items items.end in
-    fold_at_cost (with_item_found scope u) state inside.items inside.end
-    >>= λ more. free (Ok more.0.found)
+    map_at_cost (λ more. more.0.found)
+    (fold_at_cost (with_item_found scope u) state inside.items inside.end)

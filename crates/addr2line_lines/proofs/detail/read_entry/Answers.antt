@@ -44,7 +44,7 @@ returns-in_ok-attributes-clause-gives g c =
     (subst (λ v. Added scope.file.sections v c.depth.result) c.new-unit.ensures.unit (subst (λ d. Added d c.new-unit.result.unit.now c.depth.result) c.new-unit.ensures.dwarf c.add.ensures.gives)) in
     let is = entry-listed scope u around c.args.offset.0 a left found _ _ listed gives rest in
     beside_if _ _ c.add.result _ _ _ _
-    (λ well. or_second g.R.Reader.shares _ (ap (λ x. x.takes_memory g.R.Reader.shares) is ∙ or_first _ _ well))
+    (λ well. or_second g.R.Reader.shares _ (ap (λ x. x.takes_memory g.R.Reader.shares) is ∙ well))
     (ap (λ x. x.given) is) added
 
 pub returns-else-lists-clause-gives : goal.returns-else-lists-clause-gives

@@ -1,12 +1,11 @@
 use Rattle.std.proofs.Common.{[], Ok, ap, option_map, subst, sym, ◌∙◌}
 use Rattle.std.proofs.lemmas.Result.{err_from_is_err_and}
-use Rattle.gimli_read.specs.Costed.{free}
 use Rattle.gimli_read.specs.Reading.{◌>>=◌}
 use Rattle.addr2line_lines.specs.FoundInlined.{seen_lists}
 use Rattle.addr2line_lines.specs.FoundItems.{inside_found, seen_around}
 use Rattle.addr2line_lines.specs.SeenScope.{seen_scope}
 use Rattle.addr2line_lines.proofs.CachedNameLemmas.{names_on}
-use Rattle.addr2line_lines.proofs.CostLemmas.{IsPartOf, first_part, refused_part}
+use Rattle.addr2line_lines.proofs.CostLemmas.{IsPartOf, map_part, refused_part}
 use Rattle.addr2line_lines.proofs.FunctionLemmas.{or_first}
 use Rattle.addr2line_lines.proofs.NestingLemmas.{found_same, function-found, name-part}
 use Rattle.addr2line_lines.proofs.detail.read_function.Goals as goal
@@ -26,7 +25,7 @@ returns-in_err-read_inside g c =
     let rest = rw c.attributes.ensures.gives at c.in_ok-name.ensures.left in
     let found = function-found scope u c.args.entries.now.unit c.args.entries.now.cursor _ _ (seen_lists c.args.found.now) c.args.abbreviation.now _ name rest c.in_ok-name.ensures.depth c.in_ok-name.ensures.unit in
     let inside = inside_found scope u c.read_name.new.entries.unit c.read_name.new.entries.cursor (seen_around c.args.found.now []) in
-    let part = subst (IsPartOf inside) (sym found) (first_part inside (λ more. free (Ok (option_map g.R.Reader.section c.in_ok-name.name, more)))) in
+    let part = subst (IsPartOf inside) (sym found) (map_part (λ more. (option_map g.R.Reader.section c.in_ok-name.name, more)) inside) in
     record { gives = rw (p.1, p.2) (refused_part g.R.Reader.shares _ part c.in_err-read_inside.ensures.gives); kept = c.in_err-read_inside.ensures.kept; names = names_on scope u _ _ _ c.in_ok-name.ensures.names c.in_err-read_inside.ensures.names }
 
 pub returns : goal.returns

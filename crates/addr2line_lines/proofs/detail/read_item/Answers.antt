@@ -11,8 +11,8 @@ use Rattle.addr2line_lines.specs.FoundItems.{FoundAround, entry_found_at, item_f
 use Rattle.addr2line_lines.specs.FoundInlined.{FoundInlined, seen_lists}
 use Rattle.addr2line_lines.specs.OpenEntries.{kind_of, opened}
 use Rattle.addr2line_lines.proofs.CachedNameLemmas.{names_same}
-use Rattle.addr2line_lines.proofs.CostLemmas.{IsPartOf, first_part, part_on, refused_part, rest_part, room_part}
-use Rattle.addr2line_lines.proofs.FunctionLemmas.{or_first, or_second}
+use Rattle.addr2line_lines.proofs.CostLemmas.{IsPartOf, map_part, part_on, refused_part, rest_part, room_part}
+use Rattle.addr2line_lines.proofs.FunctionLemmas.{or_second}
 use Rattle.addr2line_lines.proofs.NestingLemmas.{after_entry, code-fault, entered, entry-shorter, found_same, item-closing, item-entry, item-shorter}
 use Rattle.addr2line_lines.proofs.RangeLemmas.{on_ok}
 use Rattle.addr2line_lines.proofs.detail.read_item.Goals as goal
@@ -38,7 +38,8 @@ returns-in_err-read_entry-in-Some-clause-gives g c =
     let t = c.read_abbreviation.new.self.cursor in
     let code = rw c.in-Some.is at c.in_ok-read_abbreviation.ensures.gives in
     let rest = item-entry scope u unit start t state a (sym c.requires.encoding) code in
-    let part = part_on (room_part a.has_children (entry_found_at scope u around (next_offset_of unit start) a t.left lists)) (part_on (first_part (then_room_if a.has_children (entry_found_at scope u around (next_offset_of unit start) a t.left lists)) _) (rest_part rest)) in
+    let entry = entry_found_at scope u around (next_offset_of unit start) a t.left lists in
+    let part = part_on (room_part a.has_children entry) (part_on (map_part (after_entry scope u unit state a t) (then_room_if a.has_children entry)) (rest_part rest)) in
     rw (p.1, p.2) (refused_part g.R.Reader.shares _ (subst (λ o. IsPartOf (entry_found_at scope u around o a t.left lists) (item_found_at scope u unit start state)) (sym c.next_offset-offset.ensures.gives) part) c.in_err-read_entry-in-Some.ensures.gives)
 
 pub returns-in-None-clause-gives : goal.returns-in-None-clause-gives
@@ -77,7 +78,7 @@ returns-in_ok-read_entry-in-Some-clause-gives g c =
     let entry = entry_found_at scope u around (next_offset_of unit start) a t.left lists in
     let found = ap (λ o. (entry_found_at scope u around o a t.left lists).given) (sym c.next_offset-offset.ensures.gives) ∙ c.in_ok-read_entry-in-Some.ensures.gives in
     entered _ c.has_children.result c.enter.result made c.enter.new.self (opened c.kind_of.result c.has_children.result around) _
-    (λ opens. or_second g.R.Reader.shares _ (rest.takes g.R.Reader.shares (or_first _ _ (or_second (entry.takes_memory g.R.Reader.shares) _ (ap (λ r. is_ok r && a.has_children) found ∙ sym c.has_children.ensures.gives ∙ opens)))))
+    (λ opens. or_second g.R.Reader.shares _ (rest.takes g.R.Reader.shares (or_second (entry.takes_memory g.R.Reader.shares) _ (ap (λ r. is_ok r && a.has_children) found ∙ sym c.has_children.ensures.gives ∙ opens))))
     (rest.given ∙ ap (λ (r : Result (FoundInlined × Section) Fault). r >>= λ m. Ok (after_entry scope u unit state a t m)) found
     ∙ ap (λ z. Ok (at (opened (kind_of a) a.has_children around) z)) (sym c.in_ok-read_entry-in-Some.ensures.depth)
     ∙ ap (λ k. Ok (made (opened k a.has_children around))) (sym c.kind_of.ensures.gives)

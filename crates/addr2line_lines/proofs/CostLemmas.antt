@@ -24,10 +24,10 @@ pub record IsRestOf {A : Type 0} (rest whole : Costed A) : Type 0 where
   pub takes : (shares : Bool) → rest.takes_memory shares ≡ true → whole.takes_memory shares ≡ true
 
 -- a refused part refuses the whole
-pub refused_part : {A B : Type 0} {part : Costed A} {whole : Costed B} (shares : Bool) (e : Error) → IsPartOf part whole → (((shares || part.takes_memory shares) ≡ true → e ≢ OutOfMemory) → part.given ≡ Err e)
-    → ((shares || whole.takes_memory shares) ≡ true → e ≢ OutOfMemory) → whole.given ≡ Err e
+pub refused_part : {A B : Type 0} {part : Costed A} {whole : Costed B} (shares : Bool) (e : Error) → IsPartOf part whole → (((shares || part.takes_memory false) ≡ true → e ≢ OutOfMemory) → part.given ≡ Err e)
+    → ((shares || whole.takes_memory false) ≡ true → e ≢ OutOfMemory) → whole.given ≡ Err e
 refused_part {part = part} {whole = whole} shares e h given ne =
-    h.fault e (given (λ takes. ne (or_more shares (part.takes_memory shares) (whole.takes_memory shares) (h.takes shares) takes)))
+    h.fault e (given (λ takes. ne (or_more shares (part.takes_memory false) (whole.takes_memory false) (h.takes false) takes)))
 
 pub part_on : {A B C : Type 0} {a : Costed A} {b : Costed B} {c : Costed C} → IsPartOf a b → IsPartOf b c → IsPartOf a c
 part_on h k = record { fault = λ e q. k.fault e (h.fault e q); takes = λ shares t. k.takes shares (h.takes shares t) }
@@ -75,11 +75,6 @@ rest_map {A} {B} {D} c f make = record { given = by_given c.given; takes = λ sh
     by_given : (r : Result A Error) → reading.◌>>=◌ {B = D} (reading.◌>>=◌ r (λ x. (f x).given)) (λ y. Ok (make y)) ≡ reading.◌>>=◌ r (λ x. reading.◌>>=◌ (f x).given (λ y. Ok (make y)))
     by_given (Ok x) = refl
     by_given (Err e) = refl
-
--- where readers share their bytes or not, it counts beside the parts that they take
-pub beside_parts : (shares : Bool) (takes : Bool → Bool) → (shares || takes shares) ≡ true → (shares || takes false) ≡ true
-beside_parts true takes t = refl
-beside_parts false takes t = t
 
 -- a reading takes memory where it has no fault
 abbrev pub TakesIfRead : {A : Type 0} → Costed A → Type 0

@@ -1,5 +1,5 @@
 -- Where memory is taken for the details of a function (on specs/Details.antt).
-use Rattle.std.proofs.Common.{◌≡◌, ℕ, ◌<◌, ◌++◌, Bool, true, List, [], ◌∷◌, append-nil, length, map, Option, Result, Ok, Err, refl, ap, subst, sym, ◌∙◌, arith}
+use Rattle.std.proofs.Common.{◌≡◌, ℕ, ◌<◌, ◌++◌, true, false, List, [], ◌∷◌, append-nil, length, map, Option, Result, Ok, Err, refl, ap, subst, sym, ◌∙◌, arith}
 use Rattle.gimli_read.specs.declared.error.Error.{Error}
 use Rattle.gimli_read.specs.declared.range.Range.{Range}
 use Rattle.gimli_read.specs.Costed.{Costed, free}
@@ -10,7 +10,7 @@ use Rattle.gimli.specs.Unit.{UnitRecord}
 use Rattle.addr2line_lines.specs.declared.function.RangeAttributes.{RangeAttributes}
 use Rattle.addr2line_lines.specs.declared.picks.InlinedFunctionAddress.{InlinedFunctionAddress}
 use Rattle.addr2line_lines.specs.CostedSteps.{map_at_cost, then_room_if}
-use Rattle.addr2line_lines.specs.Details.{Detail, WholeEntry, detail_at, inlined_in, stored_detail_at, whole_entry_at}
+use Rattle.addr2line_lines.specs.Details.{Detail, WholeEntry, detail_at, detail_takes_memory, inlined_in, stored_detail_at, whole_entry_at}
 use Rattle.addr2line_lines.specs.FoundDetails.{detail_found_at}
 use Rattle.addr2line_lines.specs.FoundInlined.{FoundInlined, inlined_address, with_inlined_ranges}
 use Rattle.addr2line_lines.specs.InlinedEntries.{InlinedRange}
@@ -45,5 +45,5 @@ module _ (scope : Scope) (u : UnitRecord) (offset : ℕ) where
       named x name = map_at_cost (made name) (then_room_if true (inlined_in scope u x.inside))
 
   -- so memory may be taken where they are found
-  pub found_takes : (found : FoundInlined) (x : Option Section × FoundInlined) (shares : Bool) → (detail_found_at scope u offset found).given ≡ Ok x → (stored_detail_at scope u offset).takes_memory shares ≡ true
-  found_takes found x shares h = detail_takes (detail_made scope u offset found x) shares (subst (AgreesGiven (detail_made scope u offset found) (IsFrom scope u offset found) (detail_at scope u offset)) h (detail_agrees scope u offset found).given).0
+  pub found_takes : (found : FoundInlined) (x : Option Section × FoundInlined) → (detail_found_at scope u offset found).given ≡ Ok x → detail_takes_memory scope u offset ≡ true
+  found_takes found x h = detail_takes (detail_made scope u offset found x) false (subst (AgreesGiven (detail_made scope u offset found) (IsFrom scope u offset found) (detail_at scope u offset)) h (detail_agrees scope u offset found).given).0

@@ -25,7 +25,7 @@ map_at_cost make c = record {
 
 -- where parts of the bytes are taken on the way
 abbrev pub on_parts : {A : Type 0} → Costed A → Costed A
-on_parts c = record { given = c.given; takes_memory = λ shares. shares || c.takes_memory shares }
+on_parts c = record { given = c.given; takes_memory = λ shares. shares || c.takes_memory false }
 
 -- whether memory is taken for one of the items, with no fault before it
 abbrev pub some_takes : {A X : Type 0} → (A → X → Costed A) → A → List X → Bool → Bool

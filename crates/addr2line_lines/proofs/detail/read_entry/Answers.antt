@@ -1,4 +1,4 @@
-use Rattle.std.proofs.Common.{ℕ, ap, subst, sym, ◌∙◌}
+use Rattle.std.proofs.Common.{ℕ, false, ap, subst, sym, ◌∙◌}
 use Rattle.std.proofs.lemmas.Result.{err_from_is_err_and}
 use Rattle.gimli_read.specs.Reading.{ExactlyUnlessOomIf}
 use Rattle.gimli.specs.Sections.{Sections}
@@ -44,7 +44,7 @@ returns-in_ok-attributes-clause-gives g c =
     (subst (λ v. Added scope.file.sections v c.depth.result) c.new-unit.ensures.unit (subst (λ d. Added d c.new-unit.result.unit.now c.depth.result) c.new-unit.ensures.dwarf c.add.ensures.gives)) in
     let is = entry-listed scope u around c.args.offset.0 a left found _ _ listed gives rest in
     beside_if _ _ c.add.result _ _ _ _
-    (λ well. or_second g.R.Reader.shares _ (ap (λ x. x.takes_memory g.R.Reader.shares) is ∙ well))
+    (λ well. or_second g.R.Reader.shares _ (ap (λ x. x.takes_memory false) is ∙ well))
     (ap (λ x. x.given) is) added
 
 pub returns-else-lists-clause-gives : goal.returns-else-lists-clause-gives

@@ -1,4 +1,4 @@
-use Rattle.std.proofs.Common.{◌&&◌, ℤ, List, Ok, Result, is_ok, subst, sym, ap, ◌∙◌}
+use Rattle.std.proofs.Common.{◌&&◌, ℤ, List, Ok, Result, false, is_ok, subst, sym, ap, ◌∙◌}
 use Rattle.std.proofs.lemmas.Result.{err_from_is_err_and}
 use Rattle.gimli_read.specs.declared.error.Error.{Error as Fault}
 use Rattle.gimli_read.specs.Reading.{◌>>=◌}
@@ -78,7 +78,7 @@ returns-in_ok-read_entry-in-Some-clause-gives g c =
     let entry = entry_found_at scope u around (next_offset_of unit start) a t.left lists in
     let found = ap (λ o. (entry_found_at scope u around o a t.left lists).given) (sym c.next_offset-offset.ensures.gives) ∙ c.in_ok-read_entry-in-Some.ensures.gives in
     entered _ c.has_children.result c.enter.result made c.enter.new.self (opened c.kind_of.result c.has_children.result around) _
-    (λ opens. or_second g.R.Reader.shares _ (rest.takes g.R.Reader.shares (or_second (entry.takes_memory g.R.Reader.shares) _ (ap (λ r. is_ok r && a.has_children) found ∙ sym c.has_children.ensures.gives ∙ opens))))
+    (λ opens. or_second g.R.Reader.shares _ (rest.takes false (or_second (entry.takes_memory false) _ (ap (λ r. is_ok r && a.has_children) found ∙ sym c.has_children.ensures.gives ∙ opens))))
     (rest.given ∙ ap (λ (r : Result (FoundInlined × Section) Fault). r >>= λ m. Ok (after_entry scope u unit state a t m)) found
     ∙ ap (λ z. Ok (at (opened (kind_of a) a.has_children around) z)) (sym c.in_ok-read_entry-in-Some.ensures.depth)
     ∙ ap (λ k. Ok (made (opened k a.has_children around))) (sym c.kind_of.ensures.gives)

@@ -25,7 +25,7 @@ returns-in_err-read-clause-gives g c =
 pub returns-in_err-push-clause-gives : goal.returns-in_err-push-clause-gives
 returns-in_err-push-clause-gives g c =
     let p = err_from_is_err_and c.from_residual-in_err-push.result c.from_residual-in_err-push.ensures.1 in
-    let whole = found_takes (seen_scope c.args.scope) c.args.unit.now c.args.offset.0 (seen_lists c.args.self.now.inlined) _ g.R.Reader.shares c.in_ok-read.ensures.gives in
+    let whole = found_takes (seen_scope c.args.scope) c.args.unit.now c.args.offset.0 (seen_lists c.args.self.now.inlined) _ c.in_ok-read.ensures.gives in
     rw (p.1, p.2) (λ ne. absurd (ne (or_second g.R.Reader.shares _ whole) refl))
 
 module _ (g : Over) (c : goal.After-len-2 g) where

@@ -94,23 +94,24 @@ abbrev pub AgreesGiven : {A B : Type 0} → (B → A) → (B → Type 0) → Res
 AgreesGiven make holds r (Ok x) = (r ≡ Ok (make x)) × holds x
 AgreesGiven make holds r (Err e) = r ≡ Err e
 
+-- one step more of each
+pub given_then : {A B C D : Type 0} (make : B → A) (holds : B → Type 0) (next : D → C) (ends : D → Type 0) (f : A → Result C Error) (g : B → Result D Error) → ((x : B) → holds x → AgreesGiven next ends (f (make x)) (g x))
+    → (r : Result A Error) (q : Result B Error) → AgreesGiven make holds r q → AgreesGiven next ends (reading.◌>>=◌ r f) (reading.◌>>=◌ q g)
+given_then make holds next ends f g more r (Ok x) k = subst (λ v. AgreesGiven next ends (reading.◌>>=◌ v f) (g x)) (sym k.0) (more x k.1)
+given_then make holds next ends f g more r (Err e) k = ap (λ v. reading.◌>>=◌ v f) k
+
 -- the same of readings, of which the first takes memory where the other does
 pub record Agrees {A B : Type 0} (make : B → A) (holds : B → Type 0) (c : Costed A) (d : Costed B) : Type 0 where
   pub given : AgreesGiven make holds c.given d.given
   pub takes : (shares : Bool) → d.takes_memory shares ≡ true → c.takes_memory shares ≡ true
 
--- one step more of each
 pub agrees_then : {A B C D : Type 0} {make : B → A} {holds : B → Type 0} {next : D → C} {ends : D → Type 0} {c : Costed A} {d : Costed B} (f : A → Costed C) (g : B → Costed D)
     → Agrees make holds c d → ((x : B) → holds x → Agrees next ends (f (make x)) (g x)) → Agrees next ends (c >>= f) (d >>= g)
 agrees_then {A} {B} {C} {D} {make} {holds} {next} {ends} {c} {d} f g h more = record {
-  given = by_given c.given d.given h.given;
+  given = given_then make holds next ends (λ x. (f x).given) (λ x. (g x).given) (λ x k. (more x k).given) c.given d.given h.given;
   takes = λ shares. or_both (d.takes_memory shares) _ (c.takes_memory shares) _ (h.takes shares) (by_takes shares c.given d.given h.given);
 }
   where
-    by_given : (r : Result A Error) (q : Result B Error) → AgreesGiven make holds r q → AgreesGiven next ends (reading.◌>>=◌ r (λ x. (f x).given)) (reading.◌>>=◌ q (λ x. (g x).given))
-    by_given r (Ok x) k = subst (λ v. AgreesGiven next ends (reading.◌>>=◌ v (λ y. (f y).given)) (g x).given) (sym k.0) (more x k.1).given
-    by_given r (Err e) k = ap (λ v. reading.◌>>=◌ v (λ y. (f y).given)) k
-
     by_takes : (shares : Bool) (r : Result A Error) (q : Result B Error) → AgreesGiven make holds r q → takes_memory_after q (λ x. (g x).takes_memory shares) ≡ true → takes_memory_after r (λ x. (f x).takes_memory shares) ≡ true
     by_takes shares r (Ok x) k t = ap (λ v. takes_memory_after v (λ y. (f y).takes_memory shares)) k.0 ∙ (more x k.1).takes shares t
     by_takes shares r (Err e) k t = absurd cc
@@ -123,11 +124,10 @@ agrees_after (Err e) f g h = record { given = refl; takes = λ shares t. t }
 -- values that are made into others
 pub agrees_map : {A B C D : Type 0} {make : B → A} {holds : B → Type 0} {next : D → C} {ends : D → Type 0} {c : Costed A} {d : Costed B} (f : A → C) (g : B → D)
     → Agrees make holds c d → ((x : B) → holds x → (f (make x) ≡ next (g x)) × ends (g x)) → Agrees next ends (map_at_cost f c) (map_at_cost g d)
-agrees_map {A} {B} {C} {D} {make} {holds} {next} {ends} {c} {d} f g h more = record { given = by_given c.given d.given h.given; takes = h.takes }
-  where
-    by_given : (r : Result A Error) (q : Result B Error) → AgreesGiven make holds r q → AgreesGiven next ends (reading.◌>>=◌ r (λ x. Ok (f x))) (reading.◌>>=◌ q (λ x. Ok (g x)))
-    by_given r (Ok x) k = let m = more x k.1 in (ap (λ v. reading.◌>>=◌ v (λ y. Ok (f y))) k.0 ∙ ap Ok m.0, m.1)
-    by_given r (Err e) k = ap (λ v. reading.◌>>=◌ v (λ y. Ok (f y))) k
+agrees_map {make = make} {holds = holds} {next = next} {ends = ends} {c = c} {d = d} f g h more = record {
+  given = given_then make holds next ends (λ x. Ok (f x)) (λ x. Ok (g x)) (λ x k. (let m = more x k in (ap Ok m.0, m.1))) c.given d.given h.given;
+  takes = h.takes;
+}
 
 -- a value of the other reading that is made into one more
 pub agrees_made : {A B D : Type 0} {make : B → A} {holds : B → Type 0} {next : D → A} {ends : D → Type 0} {c : Costed A} {d : Costed B} (g : B → D)

@@ -1,5 +1,5 @@
 -- The attributes of inlined entries and functions, one at a time (on specs/FoundAttributes.antt).
-use Rattle.std.proofs.Common.{◌≡◌, ℕ, ◌+◌, ◌<◌, ◌≤◌, ◌⊎◌, ◌==◌, ◌&&◌, ◌||◌, Bool, true, false, cond, List, [], ◌∷◌, drop, fold, get_or, inl, inr, length, Option, Some, None, Result, Ok, Err, refl, ap, subst, sym, ◌∙◌, count_by}
+use Rattle.std.proofs.Common.{◌≡◌, ℕ, ◌+◌, ◌<◌, ◌≤◌, ◌⊎◌, ◌==◌, ◌||◌, Bool, true, false, cond, List, [], ◌∷◌, drop, fold, get_or, inl, inr, length, Option, Some, None, Result, Ok, Err, refl, ap, subst, sym, ◌∙◌, count_by}
 use Rattle.std.proofs.lemmas.Bool.{eqb-true}
 use Rattle.std.proofs.lemmas.List.{at_drop_more, at_drop_all}
 use Rattle.gimli_read.specs.declared.constants.DwAt.{DwAt}
@@ -10,6 +10,8 @@ use Rattle.gimli_read.specs.declared.endian.Encoding.{Encoding}
 use Rattle.gimli_read.specs.Abbreviations.{Abbrev, Specification}
 use Rattle.gimli_read.specs.Leb128.{uleb128_at, uleb128_in}
 use Rattle.gimli_read.specs.Form.{NamedValue, attribute_at, rest_of}
+use Rattle.gimli_read.specs.Costed.{Costed, free}
+use Rattle.gimli_read.specs.Costed as costed
 use Rattle.gimli_read.specs.Reading.{Reading, ◌>>=◌, Exactly, ExactlyUnlessOomIf}
 use Rattle.gimli_read.specs.Section.{Section}
 use Rattle.gimli.specs.Entry.{attributes_at}
@@ -20,7 +22,9 @@ use Rattle.addr2line_lines.specs.declared.function.RangeAttributes.{RangeAttribu
 use Rattle.addr2line_lines.specs.declared.nesting.Kind.{Kind}
 use Rattle.addr2line_lines.specs.declared.inlined.CallSite.{CallSite}
 use Rattle.addr2line_lines.specs.InlinedEntries.{InlinedAttributes, inlined_attributes_of, no_inlined_attributes, or_with_inlined_attribute, with_call, with_inlined_attribute}
-use Rattle.addr2line_lines.specs.FoundInlined.{FoundInlined, entry_found_at, read_lists_a_range, with_entry_found, with_inlined_found}
+use Rattle.addr2line_lines.specs.FoundInlined.{FoundInlined, with_inlined_found}
+use Rattle.addr2line_lines.specs.FoundItems.{entry_found_at, with_entry_found}
+use Rattle.addr2line_lines.specs.CostedSteps.{map_at_cost, stored_if}
 use Rattle.addr2line_lines.specs.FoundAttributes.{IsReadIf, IsTakenIn, inlined_attributes_after, is_call, is_inlined_attribute}
 use Rattle.addr2line_lines.specs.FoundRanges.{is_range_name}
 use Rattle.addr2line_lines.specs.OpenEntries.{is_inlined_kind, is_listed, kind_of}
@@ -215,81 +219,64 @@ name_said scope u x given left name o wanted p w = elim p.said [
     same (Ok y) h = nameless scope u y p.attribute h
     same (Err f) h = refl
 
--- what is found, and what is left
-abbrev pub listed_before : Section → Result FoundInlined Error → Result (FoundInlined × Section) Error
-listed_before rest r = r >>= λ more. Ok (more, rest)
-
-pub same_added : (d e : Sections) (u v : UnitRecord) (m n : ℕ) (offset : ℕ) (found : FoundInlined) (x : InlinedAttributes) → d ≡ e → u ≡ v → m ≡ n → with_inlined_found d u offset m found x ≡ with_inlined_found e v offset n found x
-same_added d e u v m n offset found x a b c = ap (λ y. with_inlined_found y u offset m found x) a ∙ ap (λ y. with_inlined_found e y offset m found x) b ∙ ap (λ y. with_inlined_found e v offset y found x) c
-
 -- an entry whose attributes follow
 module _ (scope : Scope) (u : UnitRecord) (around : List Kind) (offset : ℕ) (a : Abbrev) (left : Section) (found : FoundInlined) where
-  abbrev entry_read : Reading (List NamedValue) → Result (FoundInlined × Section) Error
-  entry_read read = read >>= λ x. with_entry_found scope u around offset found (record { abbreviation = a; attributes = x.0 }) >>= λ more. Ok (more, x.1)
+  abbrev read_left : Reading (List NamedValue)
+  read_left = attributes_at u.header.encoding a.attributes left
 
-  abbrev listed_read : Reading (List NamedValue) → Result (FoundInlined × Section) Error
-  listed_read read = read >>= λ x. (inlined_attributes_of scope u x.0 >>= λ y. with_inlined_found scope.file.sections u offset (count_by is_inlined_kind around) found y) >>= λ more. Ok (more, x.1)
+  -- what is found of the attributes of a listed entry
+  abbrev pub listed_found : InlinedAttributes → Costed FoundInlined
+  listed_found y = stored_if (gives_a_range scope.file.sections u y.ranges) (with_inlined_found scope.file.sections u offset (count_by is_inlined_kind around) found y)
 
-  listed_is : is_listed (kind_of a) around ≡ true → (read : Reading (List NamedValue)) → entry_read read ≡ listed_read read
-  listed_is h (Err f) = refl
-  listed_is h (Ok x) = ap (λ b. ◌>>=◌ {B = FoundInlined × Section} (cond b (inlined_attributes_of scope u x.0 >>= λ y. with_inlined_found scope.file.sections u offset (count_by is_inlined_kind around) found y) (Ok found)) (λ more. Ok (more, x.1))) h
+  -- that of an entry that is listed or isn't, and what is left
+  abbrev entry_read : Bool → Reading (List NamedValue) → Costed (FoundInlined × Section)
+  entry_read listed read = costed.◌>>=◌ (free read) (λ x. map_at_cost (λ more. (more, x.1)) (cond {A = Costed FoundInlined} listed (costed.◌>>=◌ (free (inlined_attributes_of scope u x.0)) listed_found) (free (Ok found))))
 
-  pub entry-fault : (f : Error) → is_listed (kind_of a) around ≡ true → inlined_attributes_after scope u (Ok no_inlined_attributes) (attributes_at u.header.encoding a.attributes left) ≡ Err f
-      → entry_found_at scope u around offset a left found ≡ Err f
-  entry-fault f h k = listed_is h (attributes_at u.header.encoding a.attributes left) ∙ by_read (attributes_at u.header.encoding a.attributes left) k
+  listed_is : (listed : Bool) → is_listed (kind_of a) around ≡ listed → entry_found_at scope u around offset a left found ≡ entry_read listed read_left
+  listed_is listed h = ap (λ b. entry_read b read_left) h
+
+  pub entry-fault : (f : Error) → is_listed (kind_of a) around ≡ true → inlined_attributes_after scope u (Ok no_inlined_attributes) read_left ≡ Err f → (entry_found_at scope u around offset a left found).given ≡ Err f
+  entry-fault f h k = ap (λ c. c.given) (listed_is true h) ∙ by_read read_left k
     where
-      by_read : (read : Reading (List NamedValue)) → inlined_attributes_after scope u (Ok no_inlined_attributes) read ≡ Err f → listed_read read ≡ Err f
-      by_read (Ok x) k = ap (λ r. ◌>>=◌ {B = FoundInlined × Section} (r >>= λ y. with_inlined_found scope.file.sections u offset (count_by is_inlined_kind around) found y) (λ more. Ok (more, x.1))) k
+      by_read : (read : Reading (List NamedValue)) → inlined_attributes_after scope u (Ok no_inlined_attributes) read ≡ Err f → (entry_read true read).given ≡ Err f
+      by_read (Ok x) k = ap (λ r. ◌>>=◌ {B = FoundInlined × Section} (r >>= λ y. (listed_found y).given) (λ more. Ok (more, x.1))) k
       by_read (Err g) k = let same : g ≡ f = cc in ap Err same
 
-  pub entry-listed : (x : InlinedAttributes) (rest : Section) → is_listed (kind_of a) around ≡ true → inlined_attributes_after scope u (Ok no_inlined_attributes) (attributes_at u.header.encoding a.attributes left) ≡ Ok x
-      → rest_of (attributes_at u.header.encoding a.attributes left) ≡ Ok rest
-      → entry_found_at scope u around offset a left found ≡ (with_inlined_found scope.file.sections u offset (count_by is_inlined_kind around) found x >>= λ more. Ok (more, rest))
-  entry-listed x rest h k l = listed_is h (attributes_at u.header.encoding a.attributes left) ∙ by_read (attributes_at u.header.encoding a.attributes left) k l
+  pub entry-listed : (x : InlinedAttributes) (rest : Section) → is_listed (kind_of a) around ≡ true → inlined_attributes_after scope u (Ok no_inlined_attributes) read_left ≡ Ok x → rest_of read_left ≡ Ok rest
+      → entry_found_at scope u around offset a left found ≡ map_at_cost (λ more. (more, rest)) (listed_found x)
+  entry-listed x rest h k l = listed_is true h ∙ by_read read_left k l
     where
-      by_read : (read : Reading (List NamedValue)) → inlined_attributes_after scope u (Ok no_inlined_attributes) read ≡ Ok x → rest_of read ≡ Ok rest
-          → listed_read read ≡ (with_inlined_found scope.file.sections u offset (count_by is_inlined_kind around) found x >>= λ more. Ok (more, rest))
+      by_read : (read : Reading (List NamedValue)) → inlined_attributes_after scope u (Ok no_inlined_attributes) read ≡ Ok x → rest_of read ≡ Ok rest → entry_read true read ≡ map_at_cost (λ more. (more, rest)) (listed_found x)
       by_read (Ok y) k l =
-          ap (λ r. ◌>>=◌ {B = FoundInlined × Section} (r >>= λ z. with_inlined_found scope.file.sections u offset (count_by is_inlined_kind around) found z) (λ more. Ok (more, y.1))) k
-          ∙ ap (λ (s : Section). ◌>>=◌ {B = FoundInlined × Section} (with_inlined_found scope.file.sections u offset (count_by is_inlined_kind around) found x) (λ more. Ok (more, s))) (let same : y.1 ≡ rest = cc in same)
+          ap (λ r. map_at_cost {B = FoundInlined × Section} (λ more. (more, y.1)) (costed.◌>>=◌ (free r) listed_found)) k
+          ∙ ap (λ (s : Section). map_at_cost {B = FoundInlined × Section} (λ more. (more, s)) (listed_found x)) (let same : y.1 ≡ rest = cc in same)
       by_read (Err g) k l = absurd cc
 
-  pub entry-other : (may : Bool) (rest : Section) (r : Result (Unit {0}) Error) → is_listed (kind_of a) around ≡ false → Exactly (λ _. rest) r (rest_of (attributes_at u.header.encoding a.attributes left))
-      → ExactlyUnlessOomIf may (λ _. (found, rest)) r (entry_found_at scope u around offset a left found)
+  pub entry-other : (may : Bool) (rest : Section) (r : Result (Unit {0}) Error) → is_listed (kind_of a) around ≡ false → Exactly (λ _. rest) r (rest_of read_left)
+      → ExactlyUnlessOomIf may (λ _. (found, rest)) r (entry_found_at scope u around offset a left found).given
   entry-other may rest r h k = by_answer r k
     where
-      other_is : (read : Reading (List NamedValue)) → entry_read read ≡ (rest_of read >>= λ s. Ok (found, s))
+      other_is : (read : Reading (List NamedValue)) → (entry_read false read).given ≡ (rest_of read >>= λ s. Ok (found, s))
       other_is (Err f) = refl
-      other_is (Ok x) = ap (λ b. ◌>>=◌ {B = FoundInlined × Section} (cond b (inlined_attributes_of scope u x.0 >>= λ y. with_inlined_found scope.file.sections u offset (count_by is_inlined_kind around) found y) (Ok found)) (λ more. Ok (more, x.1))) h
+      other_is (Ok x) = refl
 
-      by_answer : (r : Result (Unit {0}) Error) → Exactly (λ _. rest) r (rest_of (attributes_at u.header.encoding a.attributes left)) → ExactlyUnlessOomIf may (λ _. (found, rest)) r (entry_found_at scope u around offset a left found)
-      by_answer (Ok z) k = other_is (attributes_at u.header.encoding a.attributes left) ∙ ap (λ v. ◌>>=◌ {B = FoundInlined × Section} v (λ s. Ok (found, s))) k
-      by_answer (Err f) k = λ _. other_is (attributes_at u.header.encoding a.attributes left) ∙ ap (λ v. ◌>>=◌ {B = FoundInlined × Section} v (λ s. Ok (found, s))) k
+      whole : (entry_found_at scope u around offset a left found).given ≡ (rest_of read_left >>= λ s. Ok (found, s))
+      whole = ap (λ c. c.given) (listed_is false h) ∙ other_is read_left
 
-  -- where the attributes of a listed entry give a range, it lists one
-  pub entry-takes : (d : Sections) (v : UnitRecord) (x : InlinedAttributes) → d ≡ scope.file.sections → v ≡ u → is_listed (kind_of a) around ≡ true → inlined_attributes_after scope u (Ok no_inlined_attributes) (attributes_at u.header.encoding a.attributes left) ≡ Ok x
-      → gives_a_range d v x.ranges ≡ true → read_lists_a_range scope u around a (attributes_at u.header.encoding a.attributes left) ≡ true
-  entry-takes d v x p q h k g = by_read (attributes_at u.header.encoding a.attributes left) k
-    where
-      given : Result InlinedAttributes Error → Bool
-      given r = elim r [ Ok y ↦ gives_a_range scope.file.sections u y.ranges | Err f ↦ false ]
-
-      by_read : (read : Reading (List NamedValue)) → inlined_attributes_after scope u (Ok no_inlined_attributes) read ≡ Ok x → read_lists_a_range scope u around a read ≡ true
-      by_read (Ok y) k =
-          ap (λ b. b && given (inlined_attributes_of scope u y.0)) h ∙ ap given k
-          ∙ ap (λ (e : Sections). gives_a_range e u x.ranges) (sym p) ∙ ap (λ (w : UnitRecord). gives_a_range d w x.ranges) (sym q) ∙ g
-      by_read (Err f) k = absurd cc
+      by_answer : (r : Result (Unit {0}) Error) → Exactly (λ _. rest) r (rest_of read_left) → ExactlyUnlessOomIf may (λ _. (found, rest)) r (entry_found_at scope u around offset a left found).given
+      by_answer (Ok z) k = whole ∙ ap (λ v. ◌>>=◌ {B = FoundInlined × Section} v (λ s. Ok (found, s))) k
+      by_answer (Err f) k = λ _. whole ∙ ap (λ v. ◌>>=◌ {B = FoundInlined × Section} v (λ s. Ok (found, s))) k
 
   -- what is left after an entry is what its attributes leave
-  pub entry-rest : (more : FoundInlined) (rest : Section) → entry_found_at scope u around offset a left found ≡ Ok (more, rest) → rest_of (attributes_at u.header.encoding a.attributes left) ≡ Ok rest
-  entry-rest more rest h = by_read (attributes_at u.header.encoding a.attributes left) h
+  pub entry-rest : (more : FoundInlined) (rest : Section) → (entry_found_at scope u around offset a left found).given ≡ Ok (more, rest) → rest_of read_left ≡ Ok rest
+  entry-rest more rest h = by_read read_left h
     where
       by_found : (r : Result FoundInlined Error) (s : Section) → ◌>>=◌ {B = FoundInlined × Section} r (λ m. Ok (m, s)) ≡ Ok (more, rest) → s ≡ rest
       by_found (Ok m) s h = let p : ◌≡◌ {A = FoundInlined × Section} (m, s) (more, rest) = cc in ap (λ x. x.1) p
       by_found (Err f) s h = absurd cc
 
-      by_read : (read : Reading (List NamedValue)) → entry_read read ≡ Ok (more, rest) → rest_of read ≡ Ok rest
-      by_read (Ok x) h = ap Ok (by_found (with_entry_found scope u around offset found (record { abbreviation = a; attributes = x.0 })) x.1 h)
+      by_read : (read : Reading (List NamedValue)) → (entry_read (is_listed (kind_of a) around) read).given ≡ Ok (more, rest) → rest_of read ≡ Ok rest
+      by_read (Ok x) h = ap Ok (by_found (with_entry_found scope u around offset found (record { abbreviation = a; attributes = x.0 })).given x.1 h)
       by_read (Err f) h = absurd cc
 
 -- the code of no bytes

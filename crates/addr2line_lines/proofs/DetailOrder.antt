@@ -10,8 +10,10 @@ use Rattle.gimli_read.specs.declared.error.Error.TheVariants.{OffsetOutOfBounds}
 use Rattle.gimli_read.specs.declared.range.Range.{Range}
 use Rattle.gimli_read.specs.Abbreviations.{Abbrev}
 use Rattle.gimli_read.specs.Form.{NamedValue, rest_of}
-use Rattle.gimli_read.specs.Reading.{Reading, ◌>>=◌}
-use Rattle.gimli_read.specs.Run.{Run, fold_run}
+use Rattle.gimli_read.specs.Costed.{Costed, ◌>>=◌, free}
+use Rattle.gimli_read.specs.Reading.{Reading}
+use Rattle.gimli_read.specs.Reading as reading
+use Rattle.gimli_read.specs.Run.{fold_run}
 use Rattle.gimli_read.specs.Section.{Section, after}
 use Rattle.gimli.specs.Entries.{entry_bytes_from, unit_length}
 use Rattle.gimli.specs.Entry.{EntryUnit, attributes_at}
@@ -23,17 +25,19 @@ use Rattle.gimli.specs.Unit.{UnitRecord}
 use Rattle.gimli.proofs.ItemLemmas.{next_is}
 use Rattle.addr2line_lines.specs.declared.nesting.Kind.{Kind}
 use Rattle.addr2line_lines.specs.declared.nesting.Kind.TheVariants.{Inlined, Other, Subprogram}
-use Rattle.addr2line_lines.specs.Details.{Detail, detail_at, inlined_in, is_in_function, open_after, placed_items, with_inlined}
+use Rattle.addr2line_lines.specs.Details.{Detail, detail_at, inlined_in, is_in_function, open_after, placed_items, stored_detail_at, with_inlined, with_inlined_entry}
 use Rattle.addr2line_lines.specs.InlinedEntries.{InlinedAttributes, InlinedRange, inlined_attributes_of, inlined_entry, inlined_ranges, is_inlined}
-use Rattle.addr2line_lines.specs.FoundItems.{FoundAround, inside_found, with_item_found}
-use Rattle.addr2line_lines.specs.FoundInlined.{FoundInlined, inlined_more, range_among, found_ranges_from, with_entry_found, with_inlined_found}
+use Rattle.addr2line_lines.specs.FoundItems.{FoundAround, inside_found, with_entry_found, with_item_found}
+use Rattle.addr2line_lines.specs.FoundInlined.{FoundInlined, inlined_more, range_among, found_ranges_from, with_inlined_found}
+use Rattle.addr2line_lines.specs.CostedSteps.{fold_at_cost, map_at_cost, stored_if, then_room_if}
 use Rattle.addr2line_lines.specs.FoundDetails.{abbreviation_of, detail_found_at, function_found_at}
 use Rattle.addr2line_lines.specs.OpenEntries.{closed_once, is_inlined_kind, is_listed, is_subprogram_kind, kind_of, opened}
 use Rattle.addr2line_lines.specs.FoundNames.{name_after}
 use Rattle.addr2line_lines.specs.Functions.{is_subprogram}
 use Rattle.addr2line_lines.specs.Names.{name_of}
-use Rattle.addr2line_lines.specs.RangeAttributes.{attribute_ranges}
+use Rattle.addr2line_lines.specs.RangeAttributes.{attribute_ranges, gives_a_range}
 use Rattle.addr2line_lines.specs.References.{Scope}
+use Rattle.addr2line_lines.proofs.CostLemmas.{Agrees, AgreesGiven, IsPartOf, agrees_after, agrees_made, agrees_map, agrees_room, agrees_then, room_more}
 use Rattle.addr2line_lines.proofs.DetailRanges.{AreFrom, more_places, more_ranges, none_from}
 use Rattle.addr2line_lines.proofs.NestingLemmas.{coded}
 use Rattle.addr2line_lines.proofs.WholeEntries.{detail_is, detail_read}
@@ -75,13 +79,8 @@ listed_is a x up =
     ∙ ap (λ n. is_inlined a && (n == 0)) (counted is_subprogram is_subprogram_kind (λ b. subprogram_at b.tag.0) up)
 
 -- the ranges are those of what was found from a place on; or both are faulty
-abbrev pub Agrees : ℕ → ℕ → Result (List InlinedRange) Error → Result FoundInlined Error → Type 0
-Agrees before n w (Ok more) = (w ≡ Ok (found_ranges_from n more)) × AreFrom before n more
-Agrees before n w (Err e) = w ≡ Err e
-
-abbrev AgreesAround : ℕ → ℕ → List Abbrev → Result (List InlinedRange) Error → Result FoundAround Error → Type 0
-AgreesAround before n up w (Ok more) = (w ≡ Ok (found_ranges_from n more.found)) × AreFrom before n more.found × (more.around ≡ map kind_of up)
-AgreesAround before n up w (Err e) = w ≡ Err e
+abbrev AgreesInlined : ℕ → ℕ → Costed (List InlinedRange) → Costed FoundInlined → Type 0
+AgreesInlined before n c d = Agrees (found_ranges_from n) (AreFrom before n) c d
 
 pub closed_is : (up : List Abbrev) (x : Item) → x.entry ≡ None → closed_once (map kind_of up) ≡ map kind_of (open_after up x)
 closed_is [] x h = ap (λ o. map kind_of (elim o [ None ↦ [] | Some e ↦ cond e.abbreviation.has_children (e.abbreviation ∷ []) [] ])) (sym h)
@@ -97,80 +96,80 @@ opened_is up a = by_children a.has_children
 module _ (scope : Scope) (u : UnitRecord) (before n : ℕ) where
   -- one more entry
   entry_agrees : (up : List Abbrev) (x : Item) (e : Entry) (found : FoundInlined) → AreFrom before n found
-      → Agrees before n (cond (is_inlined e.abbreviation && is_in_function (record { item = x; around = up })) (inlined_attributes_of scope u e.attributes >>= λ a. attribute_ranges scope.file.sections u a.ranges >>= λ ranges. Ok (found_ranges_from n found ++ inlined_ranges (count_by is_inlined up) x.offset a ranges)) (Ok (found_ranges_from n found)))
+      → AgreesInlined before n (cond (is_inlined e.abbreviation && is_in_function (record { item = x; around = up })) (with_inlined_entry scope u (found_ranges_from n found) (record { item = x; around = up }) e) (free (Ok (found_ranges_from n found))))
       (with_entry_found scope u (map kind_of up) x.offset found e)
   entry_agrees up x e found all =
-      subst (λ m. Agrees before n (wanted (is_inlined e.abbreviation && is_in_function (record { item = x; around = up })) (count_by is_inlined up)) (given (is_listed (kind_of e.abbreviation) (map kind_of up)) m)) (sym depth)
-      (subst (λ b. Agrees before n (wanted (is_inlined e.abbreviation && is_in_function (record { item = x; around = up })) (count_by is_inlined up)) (given b (count_by is_inlined up))) (sym (listed_is e.abbreviation x up))
-      (by_test (is_inlined e.abbreviation && is_in_function (record { item = x; around = up }))))
+      subst (λ m. AgreesInlined before n (wanted is_there (count_by is_inlined up)) (given (is_listed (kind_of e.abbreviation) (map kind_of up)) m)) (sym (counted is_inlined is_inlined_kind (λ b. inlined_at b.tag.0) up))
+      (subst (λ b. AgreesInlined before n (wanted is_there (count_by is_inlined up)) (given b (count_by is_inlined up))) (sym (listed_is e.abbreviation x up)) (by_test is_there))
     where
-      depth : count_by is_inlined_kind (map kind_of up) ≡ count_by is_inlined up
-      depth = counted is_inlined is_inlined_kind (λ b. inlined_at b.tag.0) up
+      is_there : Bool
+      is_there = is_inlined e.abbreviation && is_in_function (record { item = x; around = up })
 
       read : Result InlinedAttributes Error
       read = inlined_attributes_of scope u e.attributes
 
-      wanted : Bool → ℕ → Result (List InlinedRange) Error
-      wanted b m = cond b (read >>= λ a. attribute_ranges scope.file.sections u a.ranges >>= λ ranges. Ok (found_ranges_from n found ++ inlined_ranges m x.offset a ranges)) (Ok (found_ranges_from n found))
+      wanted_of : ℕ → InlinedAttributes → Costed (List InlinedRange)
+      wanted_of m a = map_at_cost (λ ranges. found_ranges_from n found ++ inlined_ranges m x.offset a ranges) (stored_if (gives_a_range scope.file.sections u a.ranges) (attribute_ranges scope.file.sections u a.ranges))
 
-      given : Bool → ℕ → Result FoundInlined Error
-      given b m = cond b (read >>= λ y. with_inlined_found scope.file.sections u x.offset m found y) (Ok found)
+      wanted : Bool → ℕ → Costed (List InlinedRange)
+      wanted b m = cond b (free read >>= wanted_of m) (free (Ok (found_ranges_from n found)))
 
-      by_ranges : (a : InlinedAttributes) (r : Result (List Range) Error) → Agrees before n (r >>= λ ranges. Ok (found_ranges_from n found ++ inlined_ranges (count_by is_inlined up) x.offset a ranges)) (r >>= λ ranges. Ok (inlined_more found (inlined_entry x.offset a) (count_by is_inlined up) ranges))
+      given_of : ℕ → InlinedAttributes → Costed FoundInlined
+      given_of m a = stored_if (gives_a_range scope.file.sections u a.ranges) (with_inlined_found scope.file.sections u x.offset m found a)
+
+      given : Bool → ℕ → Costed FoundInlined
+      given b m = cond b (free read >>= given_of m) (free (Ok found))
+
+      by_ranges : (a : InlinedAttributes) (r : Result (List Range) Error)
+          → AgreesGiven (found_ranges_from n) (AreFrom before n) (reading.◌>>=◌ r (λ ranges. Ok (found_ranges_from n found ++ inlined_ranges (count_by is_inlined up) x.offset a ranges))) (reading.◌>>=◌ r (λ ranges. Ok (inlined_more found (inlined_entry x.offset a) (count_by is_inlined up) ranges)))
       by_ranges a (Ok ranges) = (ap Ok (sym (more_ranges before n found (inlined_entry x.offset a) (count_by is_inlined up) ranges all)), more_places before n found (inlined_entry x.offset a) (count_by is_inlined up) ranges all)
       by_ranges a (Err f) = refl
 
-      by_read : (r : Result InlinedAttributes Error) → Agrees before n (r >>= λ a. attribute_ranges scope.file.sections u a.ranges >>= λ ranges. Ok (found_ranges_from n found ++ inlined_ranges (count_by is_inlined up) x.offset a ranges)) (r >>= λ y. with_inlined_found scope.file.sections u x.offset (count_by is_inlined up) found y)
-      by_read (Ok a) = by_ranges a (attribute_ranges scope.file.sections u a.ranges)
-      by_read (Err f) = refl
+      by_attributes : (a : InlinedAttributes) → AgreesInlined before n (wanted_of (count_by is_inlined up) a) (given_of (count_by is_inlined up) a)
+      by_attributes a = record { given = by_ranges a (attribute_ranges scope.file.sections u a.ranges); takes = λ shares t. t }
 
-      by_test : (b : Bool) → Agrees before n (wanted b (count_by is_inlined up)) (given b (count_by is_inlined up))
-      by_test true = by_read read
-      by_test false = (refl, all)
+      by_test : (b : Bool) → AgreesInlined before n (wanted b (count_by is_inlined up)) (given b (count_by is_inlined up))
+      by_test true = agrees_after read (wanted_of (count_by is_inlined up)) (given_of (count_by is_inlined up)) by_attributes
+      by_test false = record { given = (refl, all); takes = λ shares t. t }
+
+  -- what is found and open after an item
+  record AreFromAround (up : List Abbrev) (more : FoundAround) : Type 0 where
+    pub found : AreFrom before n more.found
+    pub around : more.around ≡ map kind_of up
 
   -- one more item
   item_agrees : (up : List Abbrev) (offset : ℕ) (depth : ℤ) (o : Option Entry) (found : FoundInlined) → AreFrom before n found
-      → AgreesAround before n (open_after up (record { offset = offset; depth = depth; entry = o })) (with_inlined scope u (found_ranges_from n found) (record { item = record { offset = offset; depth = depth; entry = o }; around = up }))
+      → Agrees (λ (m : FoundAround). found_ranges_from n m.found) (AreFromAround (open_after up (record { offset = offset; depth = depth; entry = o }))) (with_inlined scope u (found_ranges_from n found) (record { item = record { offset = offset; depth = depth; entry = o }; around = up }))
       (with_item_found scope u (record { found = found; around = map kind_of up }) (record { offset = offset; depth = depth; entry = o }))
-  item_agrees up offset depth None found all = (refl, all, closed_is up (record { offset = offset; depth = depth; entry = None }) refl)
-  item_agrees up offset depth (Some e) found all = by_entry _ _ (entry_agrees up (record { offset = offset; depth = depth; entry = Some e }) e found all)
-    where
-      by_entry : (w : Result (List InlinedRange) Error) (m : Result FoundInlined Error) → Agrees before n w m
-          → AgreesAround before n (cond e.abbreviation.has_children (e.abbreviation ∷ up) up) w (◌>>=◌ {B = FoundAround} m (λ more. Ok (record { found = more; around = opened (kind_of e.abbreviation) e.abbreviation.has_children (map kind_of up) })))
-      by_entry w (Ok more) h = (h.0, h.1, opened_is up e.abbreviation)
-      by_entry w (Err f) h = h
-
-  abbrev AgreesEnd : Result (List InlinedRange × Unit {0}) Error → Result (FoundAround × Unit {0}) Error → Type 0
-  AgreesEnd w (Ok m) = (w ≡ Ok (found_ranges_from n m.0.found, m.1)) × AreFrom before n m.0.found
-  AgreesEnd w (Err e) = w ≡ Err e
+  item_agrees up offset depth None found all =
+      record { given = (refl, record { found = all; around = closed_is up (record { offset = offset; depth = depth; entry = None }) refl }); takes = λ shares t. t }
+  item_agrees up offset depth (Some e) found all =
+      agrees_made (λ (more : FoundInlined). record { found = more; around = opened (kind_of e.abbreviation) e.abbreviation.has_children (map kind_of up) })
+      (agrees_room e.abbreviation.has_children (entry_agrees up (record { offset = offset; depth = depth; entry = Some e }) e found all))
+      (λ more q. (refl, record { found = q; around = opened_is up e.abbreviation }))
 
   fold_agrees : (items : List Item) (end : Result (Unit {0}) Error) (up : List Abbrev) (found : FoundInlined) → AreFrom before n found
-      → AgreesEnd (fold_run (with_inlined scope u) (found_ranges_from n found) (placed_items up items) end) (fold_run (with_item_found scope u) (record { found = found; around = map kind_of up }) items end)
+      → Agrees (λ (m : FoundAround × Unit {0}). (found_ranges_from n m.0.found, m.1)) (λ m. AreFrom before n m.0.found) (fold_at_cost (with_inlined scope u) (found_ranges_from n found) (placed_items up items) end)
+      (fold_at_cost (with_item_found scope u) (record { found = found; around = map kind_of up }) items end)
   unfolding fold_run
-  fold_agrees [] (Ok z) up found all = (refl, all)
-  fold_agrees [] (Err e) up found all = refl
-  fold_agrees (x ∷ xs) end up found all = by_step _ _ (item_agrees up x.offset x.depth x.entry found all) (λ more. fold_agrees xs end (open_after up x) more)
+  fold_agrees [] (Ok z) up found all = record { given = (refl, all); takes = λ shares t. t }
+  fold_agrees [] (Err e) up found all = record { given = refl; takes = λ shares t. t }
+  fold_agrees (x ∷ xs) end up found all =
+      agrees_then (λ ranges. fold_at_cost (with_inlined scope u) ranges (placed_items (open_after up x) xs) end) (λ more. fold_at_cost (with_item_found scope u) more xs end)
+      (item_agrees up x.offset x.depth x.entry found all) (by_step (λ more. fold_agrees xs end (open_after up x) more))
     where
-      by_step : (w : Result (List InlinedRange) Error) (m : Result FoundAround Error) → AgreesAround before n (open_after up x) w m
-          → ((more : FoundInlined) → AreFrom before n more → AgreesEnd (fold_run (with_inlined scope u) (found_ranges_from n more) (placed_items (open_after up x) xs) end) (fold_run (with_item_found scope u) (record { found = more; around = map kind_of (open_after up x) }) xs end))
-          → AgreesEnd (w >>= λ b. fold_run (with_inlined scope u) b (placed_items (open_after up x) xs) end) (m >>= λ b. fold_run (with_item_found scope u) b xs end)
-      by_step w (Ok more) h rest =
-          subst (λ v. AgreesEnd (v >>= λ b. fold_run (with_inlined scope u) b (placed_items (open_after up x) xs) end) (fold_run (with_item_found scope u) more xs end)) (sym h.0)
-          (subst (λ k. AgreesEnd (fold_run (with_inlined scope u) (found_ranges_from n more.found) (placed_items (open_after up x) xs) end) (fold_run (with_item_found scope u) (record { found = more.found; around = k }) xs end)) (sym h.2) (rest more.found h.1))
-      by_step w (Err e) h rest = ap (λ v. v >>= λ b. fold_run (with_inlined scope u) b (placed_items (open_after up x) xs) end) h
+      AgreesRest : FoundInlined → FoundAround → Type 0
+      AgreesRest found more = Agrees (λ (m : FoundAround × Unit {0}). (found_ranges_from n m.0.found, m.1)) (λ m. AreFrom before n m.0.found) (fold_at_cost (with_inlined scope u) (found_ranges_from n found) (placed_items (open_after up x) xs) end)
+          (fold_at_cost (with_item_found scope u) more xs end)
 
-  abbrev inlined_run : FoundInlined → Run Item (Unit {0}) → Result (List InlinedRange) Error
-  inlined_run found inside = fold_run (with_inlined scope u) (found_ranges_from n found) (placed_items [] inside.items) inside.end >>= λ f. Ok f.0
+      by_step : ((more : FoundInlined) → AreFrom before n more → AgreesRest more (record { found = more; around = map kind_of (open_after up x) })) → (more : FoundAround) → AreFromAround (open_after up x) more → AgreesRest more.found more
+      by_step rest more q = subst (λ k. AgreesRest more.found (record { found = more.found; around = k })) (sym q.around) (rest more.found q.found)
 
-  inside_agrees : (unit : EntryUnit) (c : EntryCursor) (found : FoundInlined) → AreFrom before n found
-      → Agrees before n (inlined_run found (items_inside (pos 0) c.depth (items_left unit c).items (items_left unit c).end)) (inside_found scope u unit c (record { found = found; around = [] }))
+  inside_agrees : (unit : EntryUnit) (c : EntryCursor) (found : FoundInlined) → AreFrom before n found → let inside = items_inside (pos 0) c.depth (items_left unit c).items (items_left unit c).end in
+      AgreesInlined before n (map_at_cost (λ f. f.0) (fold_at_cost (with_inlined scope u) (found_ranges_from n found) (placed_items [] inside.items) inside.end)) (inside_found scope u unit c (record { found = found; around = [] }))
   inside_agrees unit c found all =
       let inside = items_inside (pos 0) c.depth (items_left unit c).items (items_left unit c).end in
-      last _ _ (fold_agrees inside.items inside.end [] found all)
-    where
-      last : (w : Result (List InlinedRange × Unit {0}) Error) (m : Result (FoundAround × Unit {0}) Error) → AgreesEnd w m → Agrees before n (w >>= λ f. Ok f.0) (m >>= λ more. Ok more.0.found)
-      last w (Ok m) h = (ap (λ r. r >>= λ f. Ok f.0) h.0, h.1)
-      last w (Err e) h = ap (λ r. r >>= λ f. Ok f.0) h
+      agrees_map (λ f. f.0) (λ more. more.0.found) (fold_agrees inside.items inside.end [] found all) (λ more q. (refl, q))
 
 -- a unit's offset is below its end
 pub some_left : (header : UnitHeaderFields) (offset : ℕ) (s : Section) → entry_bytes_from header (Some offset) ≡ Ok s → (length s.bytes == 0) ≡ false
@@ -189,9 +188,14 @@ some_left header offset s h = by_start (nat_lt offset header.header_length) refl
 
 module _ (scope : Scope) (u : UnitRecord) (offset : ℕ) (found : FoundInlined) where
   -- the details are those of what was found; or both are faulty
-  abbrev pub AgreesDetail : Result Detail Error → Result (Option Section × FoundInlined) Error → Type 0
-  AgreesDetail w (Ok m) = (w ≡ Ok (record { name = m.0; inlined = found_ranges_from (length found.ranges) m.1 })) × AreFrom (length found.entries) (length found.ranges) m.1
-  AgreesDetail w (Err e) = w ≡ Err e
+  abbrev pub detail_made : Option Section × FoundInlined → Detail
+  detail_made m = record { name = m.0; inlined = found_ranges_from (length found.ranges) m.1 }
+
+  abbrev pub IsFrom : Option Section × FoundInlined → Type 0
+  IsFrom m = AreFrom (length found.entries) (length found.ranges) m.1
+
+  abbrev AgreesDetail : Costed Detail → Costed (Option Section × FoundInlined) → Type 0
+  AgreesDetail c d = Agrees detail_made IsFrom c d
 
   abbrev n : ℕ
   n = length found.ranges
@@ -199,29 +203,25 @@ module _ (scope : Scope) (u : UnitRecord) (offset : ℕ) (found : FoundInlined) 
   abbrev before : ℕ
   before = length found.entries
 
-  abbrev detailed : Option Section → Result (List InlinedRange) Error → Result Detail Error
-  detailed name r = r >>= λ inlined. Ok (record { name = name; inlined = inlined })
-
-  by_inside : (name : Option Section) (w : Result (List InlinedRange) Error) (m : Result FoundInlined Error) → Agrees before n w m → AgreesDetail (detailed name w) (◌>>=◌ {B = Option Section × FoundInlined} m (λ more. Ok (name, more)))
-  by_inside name w (Ok more) h = (ap (detailed name) h.0, h.1)
-  by_inside name w (Err f) h = ap (detailed name) h
+  by_inside : (name : Option Section) (c : Costed (List InlinedRange)) (d : Costed FoundInlined) → AgreesInlined before n c d
+      → AgreesDetail (map_at_cost (λ inlined. record { name = name; inlined = inlined }) (then_room_if true c)) (map_at_cost (λ more. (name, more)) d)
+  by_inside name c d h = agrees_map (λ inlined. record { name = name; inlined = inlined }) (λ more. (name, more)) (room_more true h) (λ more q. (refl, q))
 
   -- what stands inside a function whose entry was read
-  inlined_agrees : (unit : EntryUnit) (x : Item) (c : EntryCursor) → x.depth ≡ pos 0 → c.depth ≡ depth_after x → Agrees before n (inlined_in scope u (subtree_of x (items_left unit c))) (inside_found scope u unit c (record { found = found; around = [] }))
+  inlined_agrees : (unit : EntryUnit) (x : Item) (c : EntryCursor) → x.depth ≡ pos 0 → c.depth ≡ depth_after x → AgreesInlined before n (inlined_in scope u (subtree_of x (items_left unit c))) (inside_found scope u unit c (record { found = found; around = [] }))
   inlined_agrees unit x c d e =
-      let items = items_left unit c in
-      subst (λ z. Agrees before n (inlined_of [] z (depth_after x)) (inside_found scope u unit c (record { found = found; around = [] }))) (sym d)
-      (subst (λ z. Agrees before n (inlined_of [] (pos 0) z) (inside_found scope u unit c (record { found = found; around = [] }))) e
-      (subst (λ xs. Agrees before n (inlined_of xs (pos 0) c.depth) (inside_found scope u unit c (record { found = found; around = [] }))) (ap (λ xs. map (range_among found.entries) xs) (drop-length found.ranges))
+      subst (λ z. AgreesInlined before n (inlined_of [] z (depth_after x)) (inside_found scope u unit c (record { found = found; around = [] }))) (sym d)
+      (subst (λ z. AgreesInlined before n (inlined_of [] (pos 0) z) (inside_found scope u unit c (record { found = found; around = [] }))) e
+      (subst (λ xs. AgreesInlined before n (inlined_of xs (pos 0) c.depth) (inside_found scope u unit c (record { found = found; around = [] }))) (ap (λ xs. map (range_among found.entries) xs) (drop-length found.ranges))
       (inside_agrees scope u before n unit c found (none_from found))))
     where
-      inlined_of : List InlinedRange → ℤ → ℤ → Result (List InlinedRange) Error
+      inlined_of : List InlinedRange → ℤ → ℤ → Costed (List InlinedRange)
       inlined_of xs d now =
           let inside = items_inside d now (items_left unit c).items (items_left unit c).end in
-          fold_run (with_inlined scope u) xs (placed_items [] inside.items) inside.end >>= λ f. Ok f.0
+          map_at_cost (λ f. f.0) (fold_at_cost (with_inlined scope u) xs (placed_items [] inside.items) inside.end)
 
-  abbrev found_of : EntriesLeft → Result (Option Abbrev × EntryCursor) Error → Result (Option Section × FoundInlined) Error
-  found_of left r = r >>= λ code. abbreviation_of offset code.0 >>= λ a. function_found_at scope u left.unit code.1 found a
+  abbrev found_of : EntriesLeft → Result (Option Abbrev × EntryCursor) Error → Costed (Option Section × FoundInlined)
+  found_of left r = free r >>= λ code. free (abbreviation_of offset code.0) >>= λ a. function_found_at scope u left.unit code.1 found a
 
   left_agrees : (s : Section) → (length s.bytes == 0) ≡ false → let left = entries_at u.header u.abbreviations s in AgreesDetail (detail_read scope u offset left (next_item_at left.unit left.cursor)) (found_of left (entry_abbreviation_at left.unit.abbreviations left.cursor))
   left_agrees s some =
@@ -232,36 +232,37 @@ module _ (scope : Scope) (u : UnitRecord) (offset : ℕ) (found : FoundInlined) 
       left = entries_at u.header u.abbreviations s
 
       named_item : (x : Item) (c : EntryCursor) → x.depth ≡ pos 0 → c.depth ≡ depth_after x → (r : Result (Option Section) Error)
-          → AgreesDetail (r >>= λ name. detailed name (inlined_in scope u (subtree_of x (items_left left.unit c)))) (◌>>=◌ {B = Option Section × FoundInlined} r (λ name. inside_found scope u left.unit c (record { found = found; around = [] }) >>= λ more. Ok (name, more)))
-      named_item x c d e (Err f) = refl
-      named_item x c d e (Ok name) = by_inside name _ _ (inlined_agrees left.unit x c d e)
+          → AgreesDetail (free r >>= λ name. map_at_cost (λ inlined. record { name = name; inlined = inlined }) (then_room_if true (inlined_in scope u (subtree_of x (items_left left.unit c)))))
+          (free r >>= λ name. map_at_cost (λ more. (name, more)) (inside_found scope u left.unit c (record { found = found; around = [] })))
+      named_item x c d e r = agrees_after r _ _ (λ name. by_inside name _ _ (inlined_agrees left.unit x c d e))
 
       by_read : (a : Abbrev) (t : EntryCursor) → entry_abbreviation_at left.unit.abbreviations left.cursor ≡ Ok (Some a, t) → (r : Reading (List NamedValue)) → attributes_at u.header.encoding a.attributes t.left ≡ r
-          → AgreesDetail (detail_read scope u offset left (◌>>=◌ {B = Option Item × EntryCursor} r (λ x. Ok (Some (item_here left.unit left.cursor (Some (record { abbreviation = a; attributes = x.0 }))), record { left = x.1; depth = t.depth }))))
-          (name_after scope u (Ok None) r >>= λ name. rest_of r >>= λ rest. ◌>>=◌ {B = Option Section × FoundInlined} (inside_found scope u left.unit (record { left = rest; depth = t.depth }) (record { found = found; around = [] })) (λ more. Ok (name, more)))
-      by_read a t q (Err f) k = refl
+          → AgreesDetail (detail_read scope u offset left (reading.◌>>=◌ {B = Option Item × EntryCursor} r (λ x. Ok (Some (item_here left.unit left.cursor (Some (record { abbreviation = a; attributes = x.0 }))), record { left = x.1; depth = t.depth }))))
+          (free (name_after scope u (Ok None) r) >>= λ name. free (rest_of r) >>= λ rest. map_at_cost (λ more. (name, more)) (inside_found scope u left.unit (record { left = rest; depth = t.depth }) (record { found = found; around = [] })))
+      by_read a t q (Err f) k = record { given = refl; takes = λ shares t. t }
       by_read a t q (Ok x) k =
           let item = item_here left.unit left.cursor (Some (record { abbreviation = a; attributes = x.0 })) in
           let end : EntryCursor = record { left = x.1; depth = t.depth } in
-          let is : next_item_at left.unit left.cursor ≡ Ok (Some item, end) = coded scope u left.unit left.cursor some ∙ ap (λ r. r >>= λ y. item_from left.unit left.cursor y) q
-          ∙ ap (λ (r : Reading (List NamedValue)). ◌>>=◌ {B = Option Item × EntryCursor} r (λ y. Ok (Some (item_here left.unit left.cursor (Some (record { abbreviation = a; attributes = y.0 }))), record { left = y.1; depth = t.depth }))) k in
+          let is : next_item_at left.unit left.cursor ≡ Ok (Some item, end) = coded scope u left.unit left.cursor some ∙ ap (λ r. reading.◌>>=◌ r (λ y. item_from left.unit left.cursor y)) q
+          ∙ ap (λ (r : Reading (List NamedValue)). reading.◌>>=◌ {B = Option Item × EntryCursor} r (λ y. Ok (Some (item_here left.unit left.cursor (Some (record { abbreviation = a; attributes = y.0 }))), record { left = y.1; depth = t.depth }))) k in
           let next = next_is left.unit left.cursor end item is in
           named_item item end refl next.after (name_of scope u x.0)
 
-      by_code : (r : Result (Option Abbrev × EntryCursor) Error) → entry_abbreviation_at left.unit.abbreviations left.cursor ≡ r → AgreesDetail (detail_read scope u offset left (r >>= λ y. item_from left.unit left.cursor y)) (found_of left r)
-      by_code (Err f) q = refl
-      by_code (Ok (None, t)) q = refl
+      by_code : (r : Result (Option Abbrev × EntryCursor) Error) → entry_abbreviation_at left.unit.abbreviations left.cursor ≡ r → AgreesDetail (detail_read scope u offset left (reading.◌>>=◌ r (λ y. item_from left.unit left.cursor y))) (found_of left r)
+      by_code (Err f) q = record { given = refl; takes = λ shares t. t }
+      by_code (Ok (None, t)) q = record { given = refl; takes = λ shares t. t }
       by_code (Ok (Some a, t)) q = by_read a t q (attributes_at u.header.encoding a.attributes t.left) refl
 
   -- the details of a function are what is found of it
-  pub detail_agrees : AgreesDetail (detail_at scope u offset) (detail_found_at scope u offset found)
+  pub detail_agrees : Agrees detail_made IsFrom (stored_detail_at scope u offset) (detail_found_at scope u offset found)
   unfolding detail_found_at
-  detail_agrees = subst (λ w. AgreesDetail w (detail_found_at scope u offset found)) (sym (detail_is scope u offset)) (by_bytes (entry_bytes_from u.header (Some offset)) refl)
+  detail_agrees = subst (λ c. AgreesDetail c (detail_found_at scope u offset found)) (sym (detail_is scope u offset)) (by_bytes (entry_bytes_from u.header (Some offset)) refl)
     where
       by_bytes : (r : Result Section Error) → entry_bytes_from u.header (Some offset) ≡ r
-          → AgreesDetail ((r >>= λ s. Ok (entries_at u.header u.abbreviations s)) >>= λ left. detail_read scope u offset left (next_item_at left.unit left.cursor)) ((r >>= λ s. Ok (entries_at u.header u.abbreviations s)) >>= λ left. found_of left (entry_abbreviation_at left.unit.abbreviations left.cursor))
-      by_bytes (Err f) q = refl
+          → AgreesDetail (free (reading.◌>>=◌ r (λ s. Ok (entries_at u.header u.abbreviations s))) >>= λ left. detail_read scope u offset left (next_item_at left.unit left.cursor)) (free (reading.◌>>=◌ r (λ s. Ok (entries_at u.header u.abbreviations s))) >>= λ left. found_of left (entry_abbreviation_at left.unit.abbreviations left.cursor))
+      by_bytes (Err f) q = record { given = refl; takes = λ shares t. t }
       by_bytes (Ok s) q = left_agrees s (some_left u.header offset s q)
 
-pub detail_refused : (scope : Scope) (u : UnitRecord) (offset : ℕ) (found : FoundInlined) (e : Error) → detail_found_at scope u offset found ≡ Err e → detail_at scope u offset ≡ Err e
-detail_refused scope u offset found e h = subst (AgreesDetail scope u offset found (detail_at scope u offset)) h (detail_agrees scope u offset found)
+  -- so is a fault
+  pub detail_part : IsPartOf (detail_found_at scope u offset found) (stored_detail_at scope u offset)
+  detail_part = record { fault = λ e h. subst (AgreesGiven detail_made IsFrom (detail_at scope u offset)) h detail_agrees.given; takes = detail_agrees.takes }

@@ -24,7 +24,8 @@ use Rattle.addr2line_lines.specs.CachedDetails.{AreDetailsMore, IsDetailPlace, I
 use Rattle.addr2line_lines.specs.InlineRoom.{exceeds_inline_room, inline_room}
 use Rattle.addr2line_lines.specs.Pick.{at_or_below, candidate, if_past, pick}
 use Rattle.addr2line_lines.specs.References.{Scope}
-use Rattle.addr2line_lines.proofs.DetailOrder.{AgreesDetail, detail_agrees}
+use Rattle.addr2line_lines.proofs.CostLemmas.{AgreesGiven}
+use Rattle.addr2line_lines.proofs.DetailOrder.{IsFrom, detail_agrees, detail_made}
 use Rattle.addr2line_lines.proofs.DetailRanges.{among, before_more, ranges_stay}
 use Rattle.addr2line_lines.proofs.InlinedOrder.{inlined_order, length_in_order, listed_chain}
 use Rattle.addr2line_lines.proofs.NestingLemmas.{found_same, grown_not}
@@ -71,10 +72,10 @@ pub record AreCachedAt (name : Option Section) (found listed : FoundInlined) (d 
   pub listed_is : p.listed.value.elements ≡ listed.ranges
   pub ranges : d.found.ranges ≡ sorted_from p.ranges_begin listed.ranges
 
-module _ (scope : Scope) (u : UnitRecord) (offset : ℕ) (name : Option Section) (found listed : FoundInlined) (read : detail_found_at scope u offset found ≡ Ok (name, listed))
+module _ (scope : Scope) (u : UnitRecord) (offset : ℕ) (name : Option Section) (found listed : FoundInlined) (read : (detail_found_at scope u offset found).given ≡ Ok (name, listed))
     (d : CachedDetails) (p : FunctionDetail) (at : AreCachedAt name found listed d p) where
-  agrees : AgreesDetail scope u offset found (detail_at scope u offset) (Ok (name, listed))
-  agrees = subst (AgreesDetail scope u offset found (detail_at scope u offset)) read (detail_agrees scope u offset found)
+  agrees : AgreesGiven (detail_made scope u offset found) (IsFrom scope u offset found) (detail_at scope u offset) (Ok (name, listed))
+  agrees = subst (AgreesGiven (detail_made scope u offset found) (IsFrom scope u offset found) (detail_at scope u offset)) read (detail_agrees scope u offset found).given
 
   run_is : listed_ranges p ≡ drop (length found.ranges) listed.ranges
   run_is = ap (λ n. drop n p.listed.value.elements) at.ranges_begin ∙ ap (λ xs. drop (length found.ranges) xs) at.listed_is

@@ -1,5 +1,5 @@
 -- No reading of a unit's lines, functions or details gives OutOfMemory (on specs/UnitLines.antt, Functions, Details and those that they stand on).
-use Rattle.std.proofs.Common.{ℕ, zero, suc, ◌==◌, ◌&&◌, List, [], ◌∷◌, map, Option, Some, None, IfOk, Result, Ok, Err}
+use Rattle.std.proofs.Common.{ℕ, zero, suc, ◌==◌, ◌&&◌, Bool, true, false, cond, List, [], ◌∷◌, map, Option, Some, None, IfOk, Result, Ok, Err}
 use Rattle.gimli_read.specs.declared.constants.TheConstants.DwAt.{DW_AT_low_pc, DW_AT_high_pc, DW_AT_ranges, DW_AT_name}
 use Rattle.gimli_read.specs.declared.error.Error.{Error}
 use Rattle.gimli_read.specs.declared.error.Error.TheVariants.{NoEntryAtGivenOffset}
@@ -8,6 +8,7 @@ use Rattle.gimli_read.specs.declared.value.AttributeValue.{AttributeValue}
 use Rattle.gimli_read.specs.declared.value.AttributeValue.TheVariants as values
 use Rattle.gimli_read.specs.Abbreviations.{Abbrev, Specification}
 use Rattle.gimli_read.specs.Form.{NamedValue}
+use Rattle.gimli_read.specs.Costed.{free}
 use Rattle.gimli_read.specs.Reading.{◌>>=◌}
 use Rattle.gimli_read.specs.Run.{Run}
 use Rattle.gimli_read.specs.Section.{Section}
@@ -30,7 +31,7 @@ use Rattle.addr2line_lines.specs.Functions.{FunctionRange, is_subprogram, entry_
 use Rattle.addr2line_lines.specs.References.{FileRecord, EntryPlace, Scope, unit_at, entry_in, sup_scope, entry_in_sup, referred}
 use Rattle.addr2line_lines.specs.Names.{is_linkage_name, is_origin, NameOrOrigin, no_name, with_name_or_origin, linkage_name_of, named_at, entry_specifications, visited, most_visited, name_within, referred_name, or_referred_name, with_name, or_with_name, name_of}
 use Rattle.addr2line_lines.specs.InlinedEntries.{InlinedAttributes, InlinedRange, no_inlined_attributes, is_inlined, with_inlined_attribute, or_with_inlined_attribute, inlined_attributes_of}
-use Rattle.addr2line_lines.specs.Details.{PlacedItem, placed_items, is_in_function, with_inlined, inlined_in, WholeEntry, first_whole, whole_entry_at, detail_at}
+use Rattle.addr2line_lines.specs.Details.{PlacedItem, placed_items, is_in_function, with_inlined, with_inlined_entry, inlined_in, WholeEntry, first_whole, whole_entry_at, detail_at, stored_detail_at}
 use Rattle.addr2line_lines.specs.FunctionTable.{CachedFunction}
 use Rattle.addr2line_lines.specs.FunctionDetails.{details_fault}
 use Rattle.addr2line_lines.specs.ItemsAround.{items_inside_at}
@@ -182,14 +183,20 @@ pub inlined_attributes_are : (scope : Scope) (u : UnitRecord) (attributes : List
 inlined_attributes_are scope u attributes =
     fold_is (or_with_inlined_attribute scope u) (λ r a h. step h (λ x. with_inlined_attribute_is scope u x a)) (Ok no_inlined_attributes) value attributes
 
-with_inlined_is : (scope : Scope) (u : UnitRecord) (found : List InlinedRange) (x : PlacedItem) → IsByBytes (with_inlined scope u found x)
-with_inlined_is scope u found x =
-    by_option x.item.entry value (λ e. either (is_inlined e.abbreviation && is_in_function x)
-    (step (inlined_attributes_are scope u e.attributes) (λ a. step (attribute_ranges_are scope.file.sections u a.ranges) (λ ranges. value))) value)
+with_inlined_is : (scope : Scope) (u : UnitRecord) (found : List InlinedRange) (x : PlacedItem) → IsByBytes (with_inlined scope u found x).given
+with_inlined_is scope u found x = by_entry x.item.entry
+  where
+    by_test : (e : Entry) (listed : Bool) → IsByBytes (cond listed (with_inlined_entry scope u found x e) (free (Ok found))).given
+    by_test e true = step (inlined_attributes_are scope u e.attributes) (λ a. step (attribute_ranges_are scope.file.sections u a.ranges) (λ ranges. value))
+    by_test e false = value
 
-pub inlined_in_is : (scope : Scope) (u : UnitRecord) (inside : Run Item (Unit {0})) → IsByBytes inside.end → IsByBytes (inlined_in scope u inside)
+    by_entry : (o : Option Entry) → IsByBytes (with_inlined scope u found (record { item = record { offset = x.item.offset; depth = x.item.depth; entry = o }; around = x.around })).given
+    by_entry None = value
+    by_entry (Some e) = by_test e (is_inlined e.abbreviation && is_in_function x)
+
+pub inlined_in_is : (scope : Scope) (u : UnitRecord) (inside : Run Item (Unit {0})) → IsByBytes inside.end → IsByBytes (inlined_in scope u inside).given
 inlined_in_is scope u inside h =
-    step (fold_run_is (with_inlined scope u) (with_inlined_is scope u) [] (placed_items [] inside.items) inside.end h) (λ found. value)
+    step (fold_run_is (λ found x. (with_inlined scope u found x).given) (with_inlined_is scope u) [] (placed_items [] inside.items) inside.end h) (λ found. value)
 
 -- a whole entry, of which the items inside end by the bytes, and what follows it
 after_first : {A : Type 0} {next : WholeEntry → Result A Error} → ((x : WholeEntry) → IsByBytes x.inside.end → IsByBytes (next x))
@@ -216,7 +223,7 @@ pub items_inside_are : (u : UnitRecord) (offset : ℕ) → IsByBytes (items_insi
 items_inside_are u offset = after_whole (λ x h. value) u offset
 
 pub detail_is : (scope : Scope) (u : UnitRecord) (offset : ℕ) → IsByBytes (detail_at scope u offset)
-unfolding detail_at
+unfolding stored_detail_at
 detail_is scope u offset =
     after_whole (λ x h. step (name_is scope u x.entry.attributes) (λ name. step (inlined_in_is scope u x.inside h) (λ inlined. value))) u offset
 

@@ -27,6 +27,7 @@ use Rattle.addr2line_lines.specs.Functions.{FunctionRange, entries_of, entry_ran
 use Rattle.addr2line_lines.specs.FoundFunctions.{FoundFunctions, AreFunctions, IsPlaceIn, function_address, found_in, found_more, function_range_of, none_found, with_attributes, with_found}
 use Rattle.addr2line_lines.specs.Segments.{address_begin, address_end, address_function, shortest_function_at}
 use Rattle.addr2line_lines.specs.Shortest.{shortest, holds, IsNoLonger}
+use Rattle.addr2line_lines.proofs.CostLemmas.{AgreesGiven, given_then}
 use Rattle.addr2line_lines.proofs.ListedFunctions.{entries_more, ranges_below}
 use Rattle.addr2line_lines.proofs.OrderLemmas.{All-in}
 use Rattle.gimli_read.proofs.TopmostLemmas.{In}
@@ -81,13 +82,8 @@ more_in_place found offset (r ∷ ranges) all =
     (All-map (IsPlaceIn (found.offsets ++ o ∷ [])) (function_address (length found.offsets)) (r ∷ ranges) (λ k d l. omega arith))
 
 -- the ranges are those of what was found, whose places are those of functions; or both are faulty
-abbrev pub Agrees : Result (List FunctionRange) Error → Result FoundFunctions Error → Type 0
-Agrees w (Ok more) = (w ≡ Ok (ranges_found more)) × AreInPlace more
-Agrees w (Err e) = w ≡ Err e
-
-abbrev AgreesEnd : Result (List FunctionRange × Section) Error → Result (FoundFunctions × Section) Error → Type 0
-AgreesEnd w (Ok m) = (w ≡ Ok (ranges_found m.0, m.1)) × AreInPlace m.0
-AgreesEnd w (Err e) = w ≡ Err e
+abbrev pub AgreesFound : Result (List FunctionRange) Error → Result FoundFunctions Error → Type 0
+AgreesFound w m = AgreesGiven ranges_found AreInPlace w m
 
 -- the functions begin one after another, below an offset
 record IsBelow (offsets : List UnitOffset) (n : ℕ) : Type 0 where
@@ -154,42 +150,36 @@ module _ (d : Sections) (u : UnitRecord) where
   abbrev grown : FoundFunctions → ℕ → Result (List Range) Error → Result (List FunctionRange) Error
   grown found offset r = r >>= λ ranges. Ok (ranges_found found ++ map (λ (r : Range). record { offset = offset; range = r }) ranges)
 
-  agree_at : (found : FoundFunctions) (offset : ℕ) (o : Option Entry) → AreInPlace found → Agrees (function_with (ranges_found found) offset o) (found_with found offset o)
+  agree_at : (found : FoundFunctions) (offset : ℕ) (o : Option Entry) → AreInPlace found → AgreesFound (function_with (ranges_found found) offset o) (found_with found offset o)
   agree_at found offset None all = (refl, all)
   agree_at found offset (Some e) all = by_test (is_subprogram e.abbreviation)
     where
-      by_ranges : (r : Result (List Range) Error) → Agrees (grown found offset r) (r >>= λ ranges. Ok (found_more found offset ranges))
+      by_ranges : (r : Result (List Range) Error) → AgreesFound (grown found offset r) (r >>= λ ranges. Ok (found_more found offset ranges))
       by_ranges (Ok ranges) = (ap Ok (sym (more_ranges found offset ranges all)), more_in_place found offset ranges all)
       by_ranges (Err f) = refl
 
-      by_attributes : (r : Result RangeAttributes Error) → Agrees (grown found offset (r >>= λ v. attribute_ranges d u v)) (r >>= λ v. with_attributes d u v offset found)
+      by_attributes : (r : Result RangeAttributes Error) → AgreesFound (grown found offset (r >>= λ v. attribute_ranges d u v)) (r >>= λ v. with_attributes d u v offset found)
       by_attributes (Ok v) = by_ranges (attribute_ranges d u v)
       by_attributes (Err f) = refl
 
-      by_test : (b : Bool) → Agrees (cond b (grown found offset (entry_ranges d u e)) (Ok (ranges_found found))) (cond b (range_attributes_of d u e.attributes >>= λ r. with_attributes d u r offset found) (Ok found))
+      by_test : (b : Bool) → AgreesFound (cond b (grown found offset (entry_ranges d u e)) (Ok (ranges_found found))) (cond b (range_attributes_of d u e.attributes >>= λ r. with_attributes d u r offset found) (Ok found))
       by_test true = by_attributes (range_attributes_of d u e.attributes)
       by_test false = (refl, all)
 
-  fold_agrees : (items : List Item) (end : Result Section Error) (found : FoundFunctions) → AreInPlace found → AgreesEnd (fold_run (with_function d u) (ranges_found found) items end) (fold_run (with_found d u) found items end)
+  fold_agrees : (items : List Item) (end : Result Section Error) (found : FoundFunctions) → AreInPlace found
+      → AgreesGiven (λ m. (ranges_found m.0, m.1)) (λ (m : FoundFunctions × Section). AreInPlace m.0) (fold_run (with_function d u) (ranges_found found) items end) (fold_run (with_found d u) found items end)
   unfolding fold_run
   fold_agrees [] (Ok z) found all = (refl, all)
   fold_agrees [] (Err e) found all = refl
-  fold_agrees (x ∷ xs) end found all = by_step (with_function d u (ranges_found found) x) (with_found d u found x) (agree_at found x.offset x.entry all) (λ more. fold_agrees xs end more)
-    where
-      by_step : (w : Result (List FunctionRange) Error) (m : Result FoundFunctions Error) → Agrees w m
-          → ((more : FoundFunctions) → AreInPlace more → AgreesEnd (fold_run (with_function d u) (ranges_found more) xs end) (fold_run (with_found d u) more xs end))
-          → AgreesEnd (w >>= λ b. fold_run (with_function d u) b xs end) (m >>= λ b. fold_run (with_found d u) b xs end)
-      by_step w (Ok more) h rest = subst (λ v. AgreesEnd (v >>= λ b. fold_run (with_function d u) b xs end) (fold_run (with_found d u) more xs end)) (sym h.0) (rest more h.1)
-      by_step w (Err e) h rest = ap (λ v. v >>= λ b. fold_run (with_function d u) b xs end) h
-
-  last_agrees : (w : Result (List FunctionRange × Section) Error) (m : Result (FoundFunctions × Section) Error) → AgreesEnd w m → Agrees (w >>= λ f. Ok f.0) (m >>= λ more. Ok more.0)
-  last_agrees w (Ok p) h = (ap (λ r. r >>= λ f. Ok f.0) h.0, h.1)
-  last_agrees w (Err e) h = ap (λ r. r >>= λ f. Ok f.0) h
+  fold_agrees (x ∷ xs) end found all =
+      given_then ranges_found AreInPlace (λ m. (ranges_found m.0, m.1)) (λ m. AreInPlace m.0) (λ b. fold_run (with_function d u) b xs end) (λ b. fold_run (with_found d u) b xs end) (λ more. fold_agrees xs end more)
+      (with_function d u (ranges_found found) x) (with_found d u found x) (agree_at found x.offset x.entry all)
 
   -- the functions of a unit are those that are found
-  pub functions_agree : Agrees (functions_of d u) (found_in d u)
+  pub functions_agree : AgreesFound (functions_of d u) (found_in d u)
   functions_agree =
-      last_agrees (fold_run (with_function d u) [] (items_of u).items (items_of u).end) (fold_run (with_found d u) none_found (items_of u).items (items_of u).end)
+      given_then (λ m. (ranges_found m.0, m.1)) (λ m. AreInPlace m.0) ranges_found AreInPlace (λ f. Ok f.0) (λ more. Ok more.0) (λ more k. (refl, k))
+      (fold_run (with_function d u) [] (items_of u).items (items_of u).end) (fold_run (with_found d u) none_found (items_of u).items (items_of u).end)
       (fold_agrees (items_of u).items (items_of u).end none_found (λ k e l. absurd (omega arith)))
 
   below_with : (found more : FoundFunctions) (offset n : ℕ) (o : Option Entry) → found_with found offset o ≡ Ok more → AreFoundBelow found offset → offset < n → AreFoundBelow more n

@@ -52,5 +52,6 @@ pub mod CachedNameLemmas
 pub mod DetailRanges
 pub mod DetailOrder
 pub mod DetailPlaces
+pub mod CostLemmas
 pub mod DetailMemory
 pub mod FaultLemmas

@@ -4,11 +4,12 @@ use Rattle.std.specs.List.{AllByRecursion, AllZip}
 use Rattle.std.proofs.lemmas.List.Elements.{length_all_zip}
 use Rattle.gimli_read.specs.declared.error.Error.{Error}
 use Rattle.gimli_read.specs.declared.error.Error.TheVariants.{OutOfMemory}
-use Rattle.gimli_read.specs.Reading.{◌>>=◌, ExactlyUnlessOomIf, fault_of}
+use Rattle.gimli_read.specs.Costed.{ExactlyAtCost}
+use Rattle.gimli_read.specs.Reading.{◌>>=◌, fault_of}
 use Rattle.gimli.specs.Unit.{UnitRecord}
 use Rattle.addr2line_lines.specs.Details.{Detail, detail_at}
 use Rattle.addr2line_lines.specs.Grown.{IsGrown}
-use Rattle.addr2line_lines.specs.FunctionDetails.{AreCachedToFault, AreDetailsOf, AreUnread, HasDetail, IsCachedToFault, IsDetailOf, IsFunctionMore, IsReadAt, IsReadOf, IsReadOnce, IsTableMore, IsWithDetail, details_fault, details_take_memory, read_fault, cached_takes_memory}
+use Rattle.addr2line_lines.specs.FunctionDetails.{AreCachedToFault, AreDetailsOf, AreUnread, HasDetail, IsCachedToFault, IsDetailOf, IsFunctionMore, IsReadAt, IsReadOf, IsReadOnce, IsTableMore, IsWithDetail, details_fault, details_take_memory, read_fault, read_once}
 use Rattle.addr2line_lines.specs.FunctionTable.{CachedFunction, FunctionTable}
 use Rattle.addr2line_lines.specs.References.{Scope}
 use Rattle.addr2line_lines.proofs.FunctionCacheLemmas.{no_more}
@@ -276,7 +277,7 @@ one_read shares scope u old now next n h l k well =
           ∙ ap (λ r. r >>= λ _. details_fault scope u (drop (suc n) now.functions)) (step.well (all_at (IsDetailOf scope u) now.functions n at.0 (h.right all) at.1))
           ∙ ap (details_fault scope u) (sym next_left);
       takes = λ e. h.takes (ap (details_take_memory shares scope u) left
-          ∙ or_second (cached_takes_memory shares scope u (Some at.0)) (is_ok (read_fault scope u (Some at.0)) && details_take_memory shares scope u (drop (suc n) now.functions))
+          ∙ or_second ((read_once scope u (Some at.0)).takes_memory shares) (is_ok (read_fault scope u (Some at.0)) && details_take_memory shares scope u (drop (suc n) now.functions))
           (ap (λ o. is_ok (read_fault scope u o) && details_take_memory shares scope u (drop (suc n) now.functions)) (sym at.1)
           ∙ ap (λ r. is_ok r && details_take_memory shares scope u (drop (suc n) now.functions)) well ∙ ap (details_take_memory shares scope u) (sym next_left) ∙ e));
       cached = subst (λ fs. AllByRecursion HasDetail (take (suc n) fs)) (sym step.functions) (take_set HasDetail now.functions n step.now h.cached step.has);
@@ -285,15 +286,15 @@ one_read shares scope u old now next n h l k well =
 
 -- a detail is refused
 pub fault_read : (shares : Bool) (scope : Scope) (u : UnitRecord) (old now : FunctionTable) (n : ℕ) (e : Error) → IsReadTo shares scope u old now n → n < length old.functions
-    → ExactlyUnlessOomIf {X = Unit {0}} (cached_takes_memory shares scope u (slice_get now.functions n)) (λ x. x) (Err e) (read_fault scope u (slice_get now.functions n)) → AreDetailsOf scope u old
+    → ExactlyAtCost {X = Unit {0}} shares (λ x. x) (Err e) (read_once scope u (slice_get now.functions n)) → AreDetailsOf scope u old
     → (details_take_memory shares scope u old.functions ≡ true → e ≢ OutOfMemory) → details_fault scope u old.functions ≡ Err e
 fault_read shares scope u old now n e h l exact all ne =
     let same = same_number shares scope u old now n h in
     let at = some_at now.functions n (omega arith) in
     let rest = drop (suc n) now.functions in
     let left : drop n now.functions ≡ at.0 ∷ rest = drop_at now.functions n at.0 at.1 in
-    let takes : cached_takes_memory shares scope u (slice_get now.functions n) ≡ true → details_take_memory shares scope u old.functions ≡ true = λ t. h.takes (ap (details_take_memory shares scope u) left
-    ∙ or_first (cached_takes_memory shares scope u (Some at.0)) (is_ok (read_fault scope u (Some at.0)) && details_take_memory shares scope u rest) (ap (cached_takes_memory shares scope u) (sym at.1) ∙ t)) in
+    let takes : (read_once scope u (slice_get now.functions n)).takes_memory shares ≡ true → details_take_memory shares scope u old.functions ≡ true = λ t. h.takes (ap (details_take_memory shares scope u) left
+    ∙ or_first ((read_once scope u (Some at.0)).takes_memory shares) (is_ok (read_fault scope u (Some at.0)) && details_take_memory shares scope u rest) (ap (λ o. (read_once scope u o).takes_memory shares) (sym at.1) ∙ t)) in
     let faulty = sym (fault_is scope u at.0 (all_at (IsDetailOf scope u) now.functions n at.0 (h.right all) at.1)) ∙ ap (read_fault scope u) (sym at.1) ∙ exact (λ t. ne (takes t)) in
     h.fault all ∙ ap (details_fault scope u) left ∙ ap (λ r. r >>= λ _. details_fault scope u rest) faulty
 

@@ -1,8 +1,10 @@
 -- The entry at an offset of its unit and the items inside it, by places among the entries (on
 -- specs/Details.antt).
-use Rattle.std.proofs.Common.{◌≡◌, ℕ, List, [], Option, Some, None, Result, Ok, Err, refl, ap, ◌∙◌, pos}
+use Rattle.std.proofs.Common.{◌≡◌, ℕ, true, [], Option, Some, None, Result, Ok, Err, refl, ap, ◌∙◌, pos}
 use Rattle.gimli_read.specs.declared.error.Error.{Error}
 use Rattle.gimli_read.specs.declared.error.Error.TheVariants.{NoEntryAtGivenOffset}
+use Rattle.gimli_read.specs.Costed.{Costed, free}
+use Rattle.gimli_read.specs.Costed as costed
 use Rattle.gimli_read.specs.Reading.{◌>>=◌}
 use Rattle.gimli_read.specs.Run.{Run}
 use Rattle.gimli_read.specs.Section.{Section}
@@ -11,7 +13,8 @@ use Rattle.gimli.specs.EntryCursor.{EntriesLeft, EntryCursor, entries_at, entrie
 use Rattle.gimli.specs.Items.{Entry, Item, items_from, subtree_of}
 use Rattle.gimli.specs.Unit.{UnitRecord}
 use Rattle.gimli.proofs.ItemReads.{items_end, items_fault, items_more}
-use Rattle.addr2line_lines.specs.Details.{Detail, PlacedItem, WholeEntry, detail_at, first_whole, inlined_in, placed_inside, placed_items, whole_entry_at}
+use Rattle.addr2line_lines.specs.CostedSteps.{map_at_cost, then_room_if}
+use Rattle.addr2line_lines.specs.Details.{Detail, WholeEntry, first_whole, inlined_in, stored_detail_at, whole_entry_at}
 use Rattle.addr2line_lines.specs.Names.{name_of}
 use Rattle.addr2line_lines.specs.References.{Scope}
 
@@ -56,37 +59,26 @@ whole_is u offset = by_bytes (entry_bytes_from u.header (Some offset))
 
 module _ (scope : Scope) (u : UnitRecord) (offset : ℕ) where
   -- the details of a function, of which the item at a place is the entry
-  abbrev pub detail_of : WholeEntry → Result Detail Error
-  detail_of x = name_of scope u x.entry.attributes >>= λ name. inlined_in scope u x.inside >>= λ inlined. Ok (record { name = name; inlined = inlined })
+  abbrev pub detail_of : WholeEntry → Costed Detail
+  detail_of x = costed.◌>>=◌ (free (name_of scope u x.entry.attributes)) (λ name. map_at_cost (λ inlined. record { name = name; inlined = inlined }) (then_room_if true (inlined_in scope u x.inside)))
 
-  abbrev pub detail_read : EntriesLeft → Result (Option Item × EntryCursor) Error → Result Detail Error
-  detail_read left r = r >>= λ next. item_entry offset next.0 >>= λ x. detail_of (record { entry = x.1; inside = subtree_of x.0 (items_left left.unit next.1) })
+  abbrev pub detail_read : EntriesLeft → Result (Option Item × EntryCursor) Error → Costed Detail
+  detail_read left r = costed.◌>>=◌ (free r) (λ next. costed.◌>>=◌ (free (item_entry offset next.0)) (λ x. detail_of (record { entry = x.1; inside = subtree_of x.0 (items_left left.unit next.1) })))
 
-  -- the items inside it, with the entries that are open around each
-  abbrev pub placed_of : WholeEntry → Result (List PlacedItem) Error
-  placed_of x = name_of scope u x.entry.attributes >>= λ name. Ok (placed_items [] x.inside.items)
-
-  abbrev pub placed_read : EntriesLeft → Result (Option Item × EntryCursor) Error → Result (List PlacedItem) Error
-  placed_read left r = r >>= λ next. item_entry offset next.0 >>= λ x. placed_of (record { entry = x.1; inside = subtree_of x.0 (items_left left.unit next.1) })
-
-  nested : {A : Type 0} (f : WholeEntry → Result A Error) (r : Result EntriesLeft Error)
-      → ((r >>= λ left. whole_read offset left (next_item_at left.unit left.cursor)) >>= f)
-      ≡ (r >>= λ left. next_item_at left.unit left.cursor >>= λ next. item_entry offset next.0 >>= λ x. f (record { entry = x.1; inside = subtree_of x.0 (items_left left.unit next.1) }))
-  nested {A} f (Err e) = refl
-  nested {A} f (Ok left) = by_item (next_item_at left.unit left.cursor)
+  nested : (r : Result EntriesLeft Error) → costed.◌>>=◌ (free (r >>= λ left. whole_read offset left (next_item_at left.unit left.cursor))) detail_of ≡ costed.◌>>=◌ (free r) (λ left. detail_read left (next_item_at left.unit left.cursor))
+  nested (Err e) = refl
+  nested (Ok left) = by_item (next_item_at left.unit left.cursor)
     where
-      by_entry : (d : EntryCursor) (r : Result (Item × Entry) Error) → ((r >>= λ x. Ok (record { entry = x.1; inside = subtree_of x.0 (items_left left.unit d) })) >>= f) ≡ (r >>= λ x. f (record { entry = x.1; inside = subtree_of x.0 (items_left left.unit d) }))
+      by_entry : (d : EntryCursor) (r : Result (Item × Entry) Error)
+          → costed.◌>>=◌ (free (r >>= λ x. Ok (record { entry = x.1; inside = subtree_of x.0 (items_left left.unit d) }))) detail_of
+          ≡ costed.◌>>=◌ (free r) (λ x. detail_of (record { entry = x.1; inside = subtree_of x.0 (items_left left.unit d) }))
       by_entry d (Ok x) = refl
       by_entry d (Err e) = refl
 
-      by_item : (r : Result (Option Item × EntryCursor) Error) → (whole_read offset left r >>= f) ≡ (r >>= λ next. item_entry offset next.0 >>= λ x. f (record { entry = x.1; inside = subtree_of x.0 (items_left left.unit next.1) }))
+      by_item : (r : Result (Option Item × EntryCursor) Error) → costed.◌>>=◌ (free (whole_read offset left r)) detail_of ≡ detail_read left r
       by_item (Ok next) = by_entry next.1 (item_entry offset next.0)
       by_item (Err e) = refl
 
-  pub detail_is : detail_at scope u offset ≡ (entries_from u (Some offset) >>= λ left. detail_read left (next_item_at left.unit left.cursor))
-  unfolding detail_at
-  detail_is = ap (λ r. r >>= detail_of) (whole_is u offset) ∙ nested detail_of (entries_from u (Some offset))
-
-  pub placed_is : placed_inside scope u offset ≡ (entries_from u (Some offset) >>= λ left. placed_read left (next_item_at left.unit left.cursor))
-  unfolding placed_inside
-  placed_is = ap (λ r. r >>= placed_of) (whole_is u offset) ∙ nested placed_of (entries_from u (Some offset))
+  pub detail_is : stored_detail_at scope u offset ≡ costed.◌>>=◌ (free (entries_from u (Some offset))) (λ left. detail_read left (next_item_at left.unit left.cursor))
+  unfolding stored_detail_at
+  detail_is = ap (λ r. costed.◌>>=◌ (free r) detail_of) (whole_is u offset) ∙ nested (entries_from u (Some offset))

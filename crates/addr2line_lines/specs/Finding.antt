@@ -1,7 +1,9 @@
 -- Calls that add to what was found, as the private functions see them.
 use Rattle.std.specs.Prelude.{Bool, Result}
 use Rattle.gimli_read.specs.declared.error.Error.{Error}
+use Rattle.gimli_read.specs.Costed.{Costed, ExactlyAtCost}
 use Rattle.gimli_read.specs.Reading.{ExactlyUnlessOomIf}
+use Rattle.addr2line_lines.specs.CostedSteps.{on_parts}
 
 -- a call that moves from a place to another found what is found there after what was found before;
 -- OutOfMemory is an answer only if memory may be taken
@@ -9,3 +11,9 @@ abbrev pub FindsUnlessOomIf : {P F X : Type 0} → Bool → P → P → F → F 
     → (P → F → Result (F × P) Error) → Type 0
 FindsUnlessOomIf may from to old new result finding =
     ExactlyUnlessOomIf may (λ _. (new, to)) result (finding from old)
+
+-- the same of a finding with the memory that it takes, which is by parts of the bytes
+abbrev pub FindsAtCost : {P F X : Type 0} → Bool → P → P → F → F → Result X Error
+    → (P → F → Costed (F × P)) → Type 0
+FindsAtCost shares from to old new result finding =
+    ExactlyAtCost shares (λ _. (new, to)) result (on_parts (finding from old))

@@ -1,28 +1,20 @@
 -- The inlined entries of a function and their ranges as they are found, as the private functions
 -- see them.
-use Rattle.std.specs.Prelude.{ℕ, ◌<◌, ◌&&◌, Bool, false, List, [], ◌∷◌, ◌++◌, drop, map, length, slice_index_or, take, Option, None, option_map, Result, Ok, Err, if◌then◌else◌, count_by}
+use Rattle.std.specs.Prelude.{ℕ, ◌<◌, List, [], ◌∷◌, ◌++◌, drop, map, length, slice_index_or, take, Option, None, option_map, Result, Ok}
 use Rattle.gimli_read.specs.declared.error.Error.{Error}
 use Rattle.gimli_read.specs.declared.range.Range.{Range}
-use Rattle.gimli_read.specs.Abbreviations.{Abbrev}
-use Rattle.gimli_read.specs.Form.{NamedValue}
-use Rattle.gimli_read.specs.Reading.{Reading, ◌>>=◌}
+use Rattle.gimli_read.specs.Reading.{◌>>=◌}
 use Rattle.gimli_read.specs.Section.{Section}
-use Rattle.gimli.specs.Entry.{attributes_at}
-use Rattle.gimli.specs.Items.{Entry}
 use Rattle.gimli.specs.Ranges.{ranges_at}
 use Rattle.gimli.specs.Sections.{Sections}
 use Rattle.gimli.specs.Unit.{UnitRecord}
 use Rattle.addr2line_lines.specs.declared.inlined_lists.InlinedLists.{InlinedLists}
 use Rattle.addr2line_lines.specs.declared.function.RangeAttributes.{RangeAttributes}
 use Rattle.addr2line_lines.specs.declared.picks.InlinedFunctionAddress.{InlinedFunctionAddress}
-use Rattle.addr2line_lines.specs.declared.nesting.Kind.{Kind}
 use Rattle.addr2line_lines.specs.Grown.{IsGrown}
-use Rattle.addr2line_lines.specs.InlinedEntries.{InlinedAttributes, InlinedEntry, InlinedRange, inlined_attributes_of, inlined_entry, no_call}
-use Rattle.addr2line_lines.specs.Details.{inlined_gives_a_range}
+use Rattle.addr2line_lines.specs.InlinedEntries.{InlinedAttributes, InlinedEntry, InlinedRange, inlined_entry, no_call}
 use Rattle.addr2line_lines.specs.InlinedOrder.{inlined_range_of}
 use Rattle.addr2line_lines.specs.RangeAttributes.{all_ranges, attribute_ranges}
-use Rattle.addr2line_lines.specs.References.{Scope}
-use Rattle.addr2line_lines.specs.OpenEntries.{kind_of, is_inlined_kind, is_listed}
 
 -- inlined entries, and the ranges by their places
 pub record FoundInlined : Type 0 where
@@ -94,40 +86,6 @@ abbrev pub with_inlined_found : Sections → UnitRecord → ℕ → ℕ → Foun
     → Result FoundInlined Error
 with_inlined_found d u offset depth found x = attribute_ranges d u x.ranges >>= λ ranges.
     Ok (inlined_more found (inlined_entry offset x) depth ranges)
-
--- that of an entry around which others are open
-abbrev pub with_entry_found : Scope → UnitRecord → List Kind → ℕ → FoundInlined → Entry
-    → Result FoundInlined Error
-with_entry_found scope u around offset found e =
-    if is_listed (kind_of e.abbreviation) around
-    then (inlined_attributes_of scope u e.attributes >>= λ x. with_inlined_found
-    scope.file.sections u offset (count_by is_inlined_kind around) found x)
-    else Ok found
-
--- that of an entry whose attributes follow, and what is left after these
-abbrev pub entry_found_at : Scope → UnitRecord → List Kind → ℕ → Abbrev → Section → FoundInlined
-    → Result (FoundInlined × Section) Error
-entry_found_at scope u around offset a left found =
-    attributes_at u.header.encoding a.attributes left >>= λ x.
-    with_entry_found scope u around offset found (record { abbreviation = a; attributes = x.0 })
-    >>= λ more. Ok (more, x.1)
-
--- whether an entry is an inlined one in no nested subprogram that gives a range before any fault
-abbrev pub entry_lists_a_range : Scope → UnitRecord → List Kind → Entry → Bool
-entry_lists_a_range scope u around e =
-    is_listed (kind_of e.abbreviation) around && inlined_gives_a_range scope u e
-
--- the same, of an entry whose attributes are read
-abbrev pub read_lists_a_range
-    : Scope → UnitRecord → List Kind → Abbrev → Reading (List NamedValue) → Bool
-read_lists_a_range scope u around a (Ok x) =
-    entry_lists_a_range scope u around (record { abbreviation = a; attributes = x.0 })
-read_lists_a_range scope u around a (Err e) = false
-
--- the same, of an entry whose attributes follow
-abbrev pub lists_a_range_at : Scope → UnitRecord → List Kind → Abbrev → Section → Bool
-lists_a_range_at scope u around a left =
-    read_lists_a_range scope u around a (attributes_at u.header.encoding a.attributes left)
 
 -- a place is that of an inlined entry
 abbrev pub IsPlaceAmong : List InlinedEntry → InlinedFunctionAddress → Type 0

@@ -5,9 +5,11 @@ use Rattle.std.specs.Prelude.{◌≡◌, ◌≢◌, ℕ, ◌&&◌, ◌||◌, Boo
 use Rattle.std.specs.List.{AllByRecursion, AllZip}
 use Rattle.gimli_read.specs.declared.error.Error.{Error}
 use Rattle.gimli_read.specs.declared.error.Error.TheVariants.{OutOfMemory}
+use Rattle.gimli_read.specs.Costed.{Costed, free}
 use Rattle.gimli_read.specs.Reading.{◌>>=◌, fault_of}
 use Rattle.gimli.specs.Unit.{UnitRecord}
-use Rattle.addr2line_lines.specs.Details.{Detail, detail_at, detail_takes_memory}
+use Rattle.addr2line_lines.specs.CostedSteps.{on_parts}
+use Rattle.addr2line_lines.specs.Details.{Detail, detail_at, stored_detail_at}
 use Rattle.addr2line_lines.specs.Grown.{IsGrown}
 use Rattle.addr2line_lines.specs.References.{Scope}
 use Rattle.addr2line_lines.specs.FunctionTable.{CachedFunction, FunctionTable, AreListed}
@@ -40,18 +42,19 @@ IsReadOnce scope u n f (Some detail) old result new = (result ≡ fault_of detai
 IsReadOnce scope u n f None old result new =
     IsCachedThen n f (detail_at scope u f.offset) old result new
 
--- whether memory may be taken for the detail of a function: nothing is cached of the function, and
--- readers share their bytes, or memory is taken for what it has
-abbrev pub cached_takes_memory : Bool → Scope → UnitRecord → Option CachedFunction → Bool
-cached_takes_memory shares scope u None = false
-cached_takes_memory shares scope u (Some f) =
-    not (is_some f.detail) && (shares || detail_takes_memory scope u f.offset)
+-- whether the detail of a function can be read, by what is cached of it or by its entries; memory
+-- may be taken where nothing is cached of it
+abbrev pub read_once : Scope → UnitRecord → Option CachedFunction → Costed (Unit {0})
+read_once scope u None = free (Ok tt)
+read_once scope u (Some f) = record {
+  given = elim f.detail [ None ↦ fault_of (detail_at scope u f.offset) | Some d ↦ fault_of d ];
+  takes_memory = λ shares. not (is_some f.detail)
+      && (on_parts (stored_detail_at scope u f.offset)).takes_memory shares;
+}
 
--- whether the detail of a function can be read, by what is cached of it or by its entries
+-- its fault alone
 abbrev pub read_fault : Scope → UnitRecord → Option CachedFunction → Result (Unit {0}) Error
-read_fault scope u None = Ok tt
-read_fault scope u (Some f) =
-    elim f.detail [ None ↦ fault_of (detail_at scope u f.offset) | Some d ↦ fault_of d ]
+read_fault scope u f = (read_once scope u f).given
 
 -- the same of the function of a place, by the function; past the last one nothing is read
 abbrev pub IsReadOf : Scope → UnitRecord → ℕ → Option CachedFunction → FunctionTable
@@ -99,7 +102,8 @@ details_fault scope u (f ∷ functions) =
 -- or for those after it where that of the first can be read
 abbrev pub details_take_memory : Bool → Scope → UnitRecord → List CachedFunction → Bool
 details_take_memory shares scope u [] = false
-details_take_memory shares scope u (f ∷ functions) = cached_takes_memory shares scope u (Some f)
+details_take_memory shares scope u (f ∷ functions) =
+    (read_once scope u (Some f)).takes_memory shares
     || is_ok (read_fault scope u (Some f)) && details_take_memory shares scope u functions
 
 -- the detail of a function is cached, and has no fault

@@ -8,6 +8,7 @@ pub mod StoredRows
 pub mod Pick
 pub mod InOrder
 pub mod Grown
+pub mod CostedSteps
 pub mod Finding
 pub mod Packed
 pub mod Building

@@ -1,16 +1,18 @@
 //! The details of functions.
 
-ghost use Rattle.std.specs.Prelude.{◌≡◌, ◌<◌, ◌||◌, [], None, Ok, OnOk, int_lt, length, option_map, pos};
+ghost use Rattle.std.specs.Prelude.{◌≡◌, ◌<◌, [], None, Ok, OnOk, int_lt, length, option_map, pos};
 ghost use Rattle.gimli_read.specs.Form.{rest_of};
 ghost use Rattle.gimli_read.specs.Reading.{ExactlyUnlessOomIf};
 ghost use Rattle.gimli.specs.Entry.{attributes_at};
-ghost use Rattle.addr2line_lines.specs.Finding.{FindsUnlessOomIf};
+ghost use Rattle.gimli_read.specs.Costed.{ExactlyAtCost};
+ghost use Rattle.addr2line_lines.specs.CostedSteps.{on_parts};
+ghost use Rattle.addr2line_lines.specs.Finding.{FindsAtCost};
 ghost use Rattle.addr2line_lines.specs.CachedNames.{AreNamesMore, AreNamesOf, seen_names};
-ghost use Rattle.addr2line_lines.specs.FoundInlined.{IsFoundMore, entry_found_at, lists_a_range_at, named_lists, seen_lists};
+ghost use Rattle.addr2line_lines.specs.FoundInlined.{IsFoundMore, named_lists, seen_lists};
 ghost use Rattle.addr2line_lines.specs.FoundAttributes.{IsTakenIn};
 ghost use Rattle.addr2line_lines.specs.FoundNames.{found_name, with_read_name, name_after};
-ghost use Rattle.addr2line_lines.specs.FoundDetails.{detail_found_at, detail_takes_memory_at, function_found_at, is_memory_taken, takes_memory_inside};
-ghost use Rattle.addr2line_lines.specs.FoundItems.{inside_found, inside_takes_memory, item_found_at, next_item_takes_memory, seen_around};
+ghost use Rattle.addr2line_lines.specs.FoundDetails.{detail_found_at, function_found_at};
+ghost use Rattle.addr2line_lines.specs.FoundItems.{entry_found_at, inside_found, item_found_at, seen_around};
 ghost use Rattle.addr2line_lines.specs.References.{IsScope};
 ghost use Rattle.addr2line_lines.specs.SeenScope.{seen_scope};
 
@@ -119,9 +121,8 @@ fn read_entry<R: Reader>(
     requires in_order { IsScope (seen_scope scope) }
     requires names { AreNamesOf (seen_scope scope) unit.now (seen_names R.section names.old) }
     requires encoding { entries.old.unit.encoding ≡ unit.now.header.encoding }
-    ensures gives { FindsUnlessOomIf (R.shares || lists_a_range_at (seen_scope scope.entry) unit.now
-        nesting.now abbreviation.now entries.old.cursor.left) entries.old.cursor.left
-        entries.new.cursor.left (seen_lists found.old) (seen_lists found.new) result
+    ensures gives { FindsAtCost R.shares entries.old.cursor.left entries.new.cursor.left
+        (seen_lists found.old) (seen_lists found.new) result
         (entry_found_at (seen_scope scope.entry) unit.now nesting.now offset.0 abbreviation.now) }
     ensures kept { IsFoundMore (seen_lists found.old) (seen_lists found.new) }
     ensures unit { entries.new.unit ≡ entries.old.unit }
@@ -151,10 +152,9 @@ fn read_item<R: Reader>(
     requires in_order { IsScope (seen_scope scope) }
     requires names { AreNamesOf (seen_scope scope) unit.now (seen_names R.section names.old) }
     requires encoding { entries.old.unit.encoding ≡ unit.now.header.encoding }
-    ensures gives { FindsUnlessOomIf (R.shares || next_item_takes_memory (seen_scope scope.entry)
-        unit.now entries.old (seen_around found.old nesting.old)) entries.old.cursor
-        entries.new.cursor (seen_around found.old nesting.old) (seen_around found.new nesting.new)
-        result (item_found_at (seen_scope scope.entry) unit.now entries.old.unit) }
+    ensures gives { FindsAtCost R.shares entries.old.cursor entries.new.cursor
+        (seen_around found.old nesting.old) (seen_around found.new nesting.new) result
+        (item_found_at (seen_scope scope.entry) unit.now entries.old.unit) }
     ensures kept { IsFoundMore (seen_lists found.old) (seen_lists found.new) }
     ensures unit { entries.new.unit ≡ entries.old.unit }
     ensures shorter { OnOk result
@@ -203,10 +203,9 @@ fn read_inside<R: Reader>(
     requires in_order { IsScope (seen_scope scope) }
     requires names { AreNamesOf (seen_scope scope) unit.now (seen_names R.section names.old) }
     requires encoding { entries.old.unit.encoding ≡ unit.now.header.encoding }
-    ensures gives { ExactlyUnlessOomIf (R.shares || inside_takes_memory (seen_scope scope.entry)
-        unit.now entries.old.unit entries.old.cursor (seen_around found.old []))
-        (λ _. seen_lists found.new) result (inside_found (seen_scope scope.entry)
-        unit.now entries.old.unit entries.old.cursor (seen_around found.old [])) }
+    ensures gives { ExactlyAtCost R.shares (λ _. seen_lists found.new) result
+        (on_parts (inside_found (seen_scope scope.entry) unit.now entries.old.unit
+        entries.old.cursor (seen_around found.old []))) }
     ensures kept { IsFoundMore (seen_lists found.old) (seen_lists found.new) }
     ensures names { AreNamesMore (seen_scope scope.entry) unit.now
         (seen_names R.section names.old) (seen_names R.section names.new) }
@@ -232,10 +231,9 @@ fn read_function<R: Reader>(
     requires in_order { IsScope (seen_scope scope) }
     requires names { AreNamesOf (seen_scope scope) unit.now (seen_names R.section names.old) }
     requires encoding { entries.old.unit.encoding ≡ unit.now.header.encoding }
-    ensures gives { ExactlyUnlessOomIf (R.shares || takes_memory_inside (seen_scope scope.entry)
-        unit.now entries.old.unit entries.old.cursor (seen_lists found.old) abbreviation.now)
-        (named_lists R.section found.new) result (function_found_at (seen_scope scope.entry)
-        unit.now entries.old.unit entries.old.cursor (seen_lists found.old) abbreviation.now) }
+    ensures gives { ExactlyAtCost R.shares (named_lists R.section found.new) result
+        (on_parts (function_found_at (seen_scope scope.entry) unit.now entries.old.unit
+        entries.old.cursor (seen_lists found.old) abbreviation.now)) }
     ensures kept { IsFoundMore (seen_lists found.old) (seen_lists found.new) }
     ensures names { AreNamesMore (seen_scope scope.entry) unit.now
         (seen_names R.section names.old) (seen_names R.section names.new) }
@@ -256,10 +254,8 @@ pub(crate) fn read_detail<R: Reader>(
 ) -> Result<Option<R>, Error>
     requires in_order { IsScope (seen_scope scope) }
     requires names { AreNamesOf (seen_scope scope) unit.now (seen_names R.section names.old) }
-    ensures gives { ExactlyUnlessOomIf (R.shares || is_memory_taken (detail_takes_memory_at
-        (seen_scope scope.entry) unit.now offset.0 (seen_lists found.old)))
-        (named_lists R.section found.new) result
-        (detail_found_at (seen_scope scope.entry) unit.now offset.0 (seen_lists found.old)) }
+    ensures gives { ExactlyAtCost R.shares (named_lists R.section found.new) result (on_parts
+        (detail_found_at (seen_scope scope.entry) unit.now offset.0 (seen_lists found.old))) }
     ensures kept { IsFoundMore (seen_lists found.old) (seen_lists found.new) }
     ensures names { AreNamesMore (seen_scope scope.entry) unit.now
         (seen_names R.section names.old) (seen_names R.section names.new) }

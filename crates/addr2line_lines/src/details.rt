@@ -1,9 +1,11 @@
 //! The cached details of the functions of a view, one after another.
 
 ghost use Rattle.std.specs.List.{AllByRecursion};
-ghost use Rattle.std.specs.Prelude.{◌≡◌, ◌<◌, ◌||◌, [], IfErr, IfOk, OnErr, Ok, length, map, option_map, slice_get};
+ghost use Rattle.std.specs.Prelude.{◌≡◌, ◌<◌, [], IfErr, IfOk, OnErr, Ok, length, map, option_map, slice_get};
 ghost use Rattle.gimli_read.specs.Reading.{ExactlyUnlessOomIf};
-ghost use Rattle.addr2line_lines.specs.Details.{detail_at, detail_takes_memory};
+ghost use Rattle.gimli_read.specs.Costed.{ExactlyAtCost};
+ghost use Rattle.addr2line_lines.specs.CostedSteps.{on_parts};
+ghost use Rattle.addr2line_lines.specs.Details.{stored_detail_at};
 ghost use Rattle.addr2line_lines.specs.FoundInlined.{entry_among, none_inlined};
 ghost use Rattle.addr2line_lines.specs.CachedNames.{AreNamesMore, AreNamesOf};
 ghost use Rattle.addr2line_lines.specs.CachedDetails.{AreDetailsMore, IsDetailPlace, IsNextPlace, IsRefusedThen, cached_chain, detail_of, seen_details};
@@ -80,10 +82,8 @@ impl<R: Reader> Details<R> {
         requires in_order { IsScope (seen_scope scope) }
         requires known { AreNamesOf (seen_scope scope) unit.now
             (seen_details R.section self.old).known }
-        ensures gives { ExactlyUnlessOomIf
-            (R.shares || detail_takes_memory (seen_scope scope.entry) unit.now offset.0)
-            (detail_of (seen_details R.section self.new)) result
-            (detail_at (seen_scope scope.entry) unit.now offset.0) }
+        ensures gives { ExactlyAtCost R.shares (detail_of (seen_details R.section self.new)) result
+            (on_parts (stored_detail_at (seen_scope scope.entry) unit.now offset.0)) }
         ensures kept { AreDetailsMore (seen_details R.section self.old)
             (seen_details R.section self.new) }
         ensures there { IfOk result (IsDetailPlace (seen_details R.section self.new)) }
@@ -140,10 +140,8 @@ impl<R: Reader> Details<R> {
         requires in_order { IsScope (seen_scope scope) }
         requires known { AreNamesOf (seen_scope scope) unit.now
             (seen_details R.section self.old).known }
-        ensures gives { ExactlyUnlessOomIf
-            (R.shares || detail_takes_memory (seen_scope scope.entry) unit.now offset.0)
-            (detail_of (seen_details R.section self.new)) result
-            (detail_at (seen_scope scope.entry) unit.now offset.0) }
+        ensures gives { ExactlyAtCost R.shares (detail_of (seen_details R.section self.new)) result
+            (on_parts (stored_detail_at (seen_scope scope.entry) unit.now offset.0)) }
         ensures kept { AreDetailsMore (seen_details R.section self.old)
             (seen_details R.section self.new) }
         ensures there { IfOk result (IsDetailPlace (seen_details R.section self.new)) }

@@ -3,6 +3,7 @@
 ghost use Rattle.std.specs.List.{AllByRecursion};
 ghost use Rattle.std.specs.Prelude.{◌≡◌, ◌≢◌, ◌<◌, ◌==◌, [], Err, false, length, map, option_and_then, option_map, slice_get, IfOk, IfSome, None, Ok, OnOk, Some};
 ghost use Rattle.gimli_read.specs.declared.error.Error.TheVariants.{OutOfMemory};
+ghost use Rattle.gimli_read.specs.Costed.{ExactlyAtCost};
 ghost use Rattle.gimli_read.specs.Reading.{ExactlyUnlessOomIf};
 ghost use Rattle.addr2line_lines.specs.CachedNames.{AreNamesOf};
 ghost use Rattle.addr2line_lines.specs.Finding.{FindsUnlessOomIf};
@@ -10,7 +11,7 @@ ghost use Rattle.addr2line_lines.specs.InlinedChain.{inlined_chain};
 ghost use Rattle.addr2line_lines.specs.FoundInlined.{entry_among};
 ghost use Rattle.addr2line_lines.specs.FoundRanges.{is_function};
 ghost use Rattle.addr2line_lines.specs.FunctionCache.{read_at};
-ghost use Rattle.addr2line_lines.specs.FunctionDetails.{AreCachedToFault, AreDetailsOf, AreUnread, HasDetail, IsReadAt, IsTableMore, details_fault, details_take_memory, read_fault, cached_takes_memory};
+ghost use Rattle.addr2line_lines.specs.FunctionDetails.{AreCachedToFault, AreDetailsOf, AreUnread, HasDetail, IsReadAt, IsTableMore, details_fault, details_take_memory, read_once};
 ghost use Rattle.addr2line_lines.specs.FunctionTable.{AreListed, cached_inlined, cached_name, function_place_at, cached_offset_at};
 ghost use Rattle.addr2line_lines.specs.Functions.{function_offset_at, functions_of, functions_take_memory, is_subprogram};
 ghost use Rattle.addr2line_lines.specs.InlineRoom.{exceeds_inline_room};
@@ -301,9 +302,8 @@ impl<R: Reader> Functions<R> {
         requires in_order { IsScope (seen_scope scope) }
         requires names { AreNamesOf (seen_scope scope) unit.now self.old.names }
         ensures gives { IsReadAt (seen_scope scope.entry) unit.now place self.old result self.new }
-        ensures exact { ExactlyUnlessOomIf (cached_takes_memory R.shares (seen_scope scope.entry)
-            unit.now (slice_get self.old.functions place)) (λ x. x) result
-            (read_fault (seen_scope scope.entry) unit.now (slice_get self.old.functions place)) }
+        ensures exact { ExactlyAtCost R.shares (λ x. x) result (read_once (seen_scope scope.entry)
+            unit.now (slice_get self.old.functions place)) }
         ensures names { AreNamesOf (seen_scope scope.entry) unit.now self.new.names }
     {
         let Some(function) = self.functions.get(place) else {
@@ -367,9 +367,8 @@ impl<R: Reader> Functions<R> {
         requires unread { slice_get self.old.functions place
             ≡ Some (record { offset = offset.0; detail = None }) }
         ensures gives { IsReadAt (seen_scope scope.entry) unit.now place self.old result self.new }
-        ensures exact { ExactlyUnlessOomIf (cached_takes_memory R.shares (seen_scope scope.entry)
-            unit.now (slice_get self.old.functions place)) (λ x. x) result
-            (read_fault (seen_scope scope.entry) unit.now (slice_get self.old.functions place)) }
+        ensures exact { ExactlyAtCost R.shares (λ x. x) result (read_once (seen_scope scope.entry)
+            unit.now (slice_get self.old.functions place)) }
         ensures names { AreNamesOf (seen_scope scope.entry) unit.now self.new.names }
     {
         match self.details.read(scope, unit, offset) {

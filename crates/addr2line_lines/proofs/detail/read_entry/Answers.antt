@@ -1,13 +1,17 @@
-use Rattle.std.proofs.Common.{ap, sym, ◌∙◌}
+use Rattle.std.proofs.Common.{ℕ, false, ap, subst, sym, ◌∙◌}
 use Rattle.std.proofs.lemmas.Result.{err_from_is_err_and}
+use Rattle.gimli_read.specs.Reading.{ExactlyUnlessOomIf}
+use Rattle.gimli.specs.Sections.{Sections}
+use Rattle.gimli.specs.Unit.{UnitRecord}
 use Rattle.addr2line_lines.specs.OpenEntries.{is_listed}
 use Rattle.addr2line_lines.specs.FoundAttributes.{seen_attributes}
-use Rattle.addr2line_lines.specs.FoundInlined.{seen_lists}
+use Rattle.addr2line_lines.specs.RangeAttributes.{gives_a_range}
+use Rattle.addr2line_lines.specs.FoundInlined.{seen_lists, with_inlined_found}
 use Rattle.addr2line_lines.specs.SeenScope.{seen_scope}
 use Rattle.addr2line_lines.proofs.FunctionLemmas.{beside_if, or_first, or_second}
 use Rattle.addr2line_lines.proofs.NestingLemmas.{found_same}
 use Rattle.addr2line_lines.proofs.CachedNameLemmas.{names_same}
-use Rattle.addr2line_lines.proofs.DetailLemmas.{entry-fault, entry-listed, entry-other, entry-takes, listed_before, same_added}
+use Rattle.addr2line_lines.proofs.DetailLemmas.{entry-fault, entry-listed, entry-other}
 use Rattle.addr2line_lines.proofs.detail.read_entry.Goals as goal
 
 pub returns-in_err-attributes-clause-gives : goal.returns-in_err-attributes-clause-gives
@@ -34,11 +38,14 @@ returns-in_ok-attributes-clause-gives g c =
     let listed = ap (λ k. is_listed k c.args.nesting.now) (sym c.kind_of.ensures.gives) ∙ sym c.if-lists.ensures.gives in
     let gives = rw c.attributes-specifications.ensures.gives at c.in_ok-attributes.ensures.gives in
     let rest = rw c.attributes-specifications.ensures.gives at c.in_ok-attributes.ensures.left in
-    let same = same_added _ _ _ _ _ _ c.args.offset.0 found (seen_attributes g.R.Reader.section c.in_ok-attributes.attributes) c.new-unit.ensures.dwarf c.new-unit.ensures.unit c.depth.ensures.gives in
+    let x = seen_attributes g.R.Reader.section c.in_ok-attributes.attributes in
+    let Added : Sections → UnitRecord → ℕ → Type 0 = λ d v n. ExactlyUnlessOomIf (gives_a_range d v x.ranges) (λ _. seen_lists c.add.new.self) c.add.result (with_inlined_found d v c.args.offset.0 n found x) in
+    let added = subst (λ n. Added scope.file.sections u n) c.depth.ensures.gives
+    (subst (λ v. Added scope.file.sections v c.depth.result) c.new-unit.ensures.unit (subst (λ d. Added d c.new-unit.result.unit.now c.depth.result) c.new-unit.ensures.dwarf c.add.ensures.gives)) in
+    let is = entry-listed scope u around c.args.offset.0 a left found _ _ listed gives rest in
     beside_if _ _ c.add.result _ _ _ _
-    (λ well. or_second g.R.Reader.shares _ (entry-takes scope u around c.args.offset.0 a left found _ _ (seen_attributes g.R.Reader.section c.in_ok-attributes.attributes) c.new-unit.ensures.dwarf c.new-unit.ensures.unit listed gives well))
-    (entry-listed scope u around c.args.offset.0 a left found _ _ listed gives rest ∙ ap (listed_before c.read_inlined_attributes.new.entries.cursor.left) (sym same))
-    c.add.ensures.gives
+    (λ well. or_second g.R.Reader.shares _ (ap (λ x. x.takes_memory false) is ∙ well))
+    (ap (λ x. x.given) is) added
 
 pub returns-else-lists-clause-gives : goal.returns-else-lists-clause-gives
 returns-else-lists-clause-gives g c =

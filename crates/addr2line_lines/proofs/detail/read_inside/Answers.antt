@@ -1,20 +1,18 @@
-use Rattle.std.proofs.Common.{List, sym, ap, ◌∙◌}
+use Rattle.std.proofs.Common.{[], List, subst, sym, ap, ◌∙◌}
 use Rattle.std.proofs.lemmas.Result.{err_from_is_err_and}
 use Rattle.addr2line_lines.specs.declared.nesting.Kind.{Kind}
-use Rattle.addr2line_lines.specs.FoundItems.{inside_found, inside_takes_memory, seen_around}
+use Rattle.addr2line_lines.specs.FoundItems.{inside_found, seen_around}
 use Rattle.addr2line_lines.specs.SeenScope.{seen_scope}
 use Rattle.addr2line_lines.proofs.CachedNameLemmas.{names_on, names_same}
-use Rattle.addr2line_lines.proofs.DetailMemory.{inside_more, inside_next}
-use Rattle.addr2line_lines.proofs.FunctionLemmas.{or_more}
-use Rattle.addr2line_lines.proofs.NestingLemmas.{found_on, found_same, inside-end, inside-fault, inside-step}
+use Rattle.addr2line_lines.proofs.CostLemmas.{IsRestOf, part_on, refused_part, rest_on, rest_part, rest_same}
+use Rattle.addr2line_lines.proofs.NestingLemmas.{found_on, found_same, inside-end, inside-part, inside-step}
 use Rattle.addr2line_lines.proofs.detail.read_inside.Goals as goal
 
 pub loop-scope-init : goal.loop-scope-init
 loop-scope-init g c =
-    let scope = seen_scope c.args.scope in
+    let whole = inside_found (seen_scope c.args.scope) c.args.unit.now c.args.entries.now.unit c.args.entries.now.cursor (seen_around c.args.found.now []) in
     record {
-      gives = ap (λ (k : List Kind). inside_found scope c.args.unit.now c.args.entries.now.unit c.args.entries.now.cursor (seen_around c.args.found.now k)) c.clear.ensures.gives;
-      takes = λ t. ap (λ (k : List Kind). inside_takes_memory scope c.args.unit.now c.args.entries.now.unit c.args.entries.now.cursor (seen_around c.args.found.now k)) (sym c.clear.ensures.gives) ∙ t;
+      rest = subst (λ (k : List Kind). IsRestOf (inside_found (seen_scope c.args.scope) c.args.unit.now c.args.entries.now.unit c.args.entries.now.cursor (seen_around c.args.found.now k)) whole) (sym c.clear.ensures.gives) (rest_same whole);
       kept = found_same _;
       unit = c.requires.encoding;
       names = names_same (seen_scope c.args.scope) c.args.unit.now _ c.requires.names;
@@ -26,10 +24,9 @@ loop-scope-preserved g c =
     let u = c.args.unit.now in
     let i = c.loop-scope.invariant in
     let now = c.read_item.new in
+    let step = inside-step scope u _ _ _ _ _ (sym c.loop-scope-test.ensures.gives) c.in_ok-read_item.ensures.gives in
     record {
-      gives = ap (λ v. inside_found scope u v now.entries.cursor (seen_around now.found now.nesting)) c.in_ok-read_item.ensures.unit
-          ∙ sym (inside-step scope u _ _ _ _ _ (sym c.loop-scope-test.ensures.gives) c.in_ok-read_item.ensures.gives) ∙ i.gives;
-      takes = λ t. i.takes (inside_more scope u _ _ _ _ _ (sym c.loop-scope-test.ensures.gives) c.in_ok-read_item.ensures.gives (ap (λ v. inside_takes_memory scope u v now.entries.cursor (seen_around now.found now.nesting)) (sym c.in_ok-read_item.ensures.unit) ∙ t));
+      rest = rest_on (subst (λ v. IsRestOf (inside_found scope u v now.entries.cursor (seen_around now.found now.nesting)) (inside_found scope u c.loop-scope.entries.unit c.loop-scope.entries.cursor (seen_around c.loop-scope.found c.loop-scope.nesting))) (sym c.in_ok-read_item.ensures.unit) step) i.rest;
       kept = found_on _ _ _ i.kept c.in_ok-read_item.ensures.kept;
       unit = ap (λ v. v.encoding) c.in_ok-read_item.ensures.unit ∙ i.unit;
       names = names_on scope u _ _ _ i.names c.in_ok-read_item.ensures.names;
@@ -39,12 +36,13 @@ pub returns-in_err-read_item : goal.returns-in_err-read_item
 returns-in_err-read_item g c =
     let p = err_from_is_err_and c.from_residual.result c.from_residual.ensures.1 in
     let i = c.loop-scope.invariant in
-    record { gives = rw (p.1, p.2) (λ ne. sym i.gives ∙ inside-fault (seen_scope c.args.scope) c.args.unit.now _ _ _ _ (sym c.loop-scope-test.ensures.gives) (c.in_err-read_item.ensures.gives (λ takes. ne (or_more g.R.Reader.shares _ _ (λ t. i.takes (inside_next (seen_scope c.args.scope) c.args.unit.now _ _ _ (sym c.loop-scope-test.ensures.gives) t)) takes)))); kept = found_on _ _ _ i.kept c.in_err-read_item.ensures.kept; names = names_on (seen_scope c.args.scope) c.args.unit.now _ _ _ i.names c.in_err-read_item.ensures.names }
+    let part = part_on (inside-part (seen_scope c.args.scope) c.args.unit.now _ _ _ (sym c.loop-scope-test.ensures.gives)) (rest_part i.rest) in
+    record { gives = rw (p.1, p.2) (refused_part g.R.Reader.shares _ part c.in_err-read_item.ensures.gives); kept = found_on _ _ _ i.kept c.in_err-read_item.ensures.kept; names = names_on (seen_scope c.args.scope) c.args.unit.now _ _ _ i.names c.in_err-read_item.ensures.names }
 
 pub returns : goal.returns
 returns g c =
     let i = c.loop-scope.invariant in
-    record { gives = sym i.gives ∙ inside-end (seen_scope c.args.scope) c.args.unit.now _ _ _ (sym c.loop-scope-test.ensures.gives); kept = i.kept; names = i.names }
+    record { gives = i.rest.given ∙ inside-end (seen_scope c.args.scope) c.args.unit.now _ _ _ (sym c.loop-scope-test.ensures.gives); kept = i.kept; names = i.names }
 
 pub read_item-requires-clause-names : goal.read_item-requires-clause-names
 read_item-requires-clause-names g c = c.loop-scope.invariant.names.right

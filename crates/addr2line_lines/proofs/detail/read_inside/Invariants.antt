@@ -1,8 +1,9 @@
-use Rattle.std.proofs.Common.{◌≡◌, [], length, true}
+use Rattle.std.proofs.Common.{◌≡◌, [], length}
 use Rattle.addr2line_lines.specs.CachedNames.{AreNamesMore, seen_names}
 use Rattle.addr2line_lines.specs.FoundInlined.{IsFoundMore, seen_lists}
-use Rattle.addr2line_lines.specs.FoundItems.{inside_found, inside_takes_memory, seen_around}
+use Rattle.addr2line_lines.specs.FoundItems.{inside_found, seen_around}
 use Rattle.addr2line_lines.specs.SeenScope.{seen_scope}
+use Rattle.addr2line_lines.proofs.CostLemmas.{IsRestOf}
 use Rattle.addr2line_lines.proofs.detail.read_inside.Given as goal
 
 abbrev pub invariant-loop-scope : goal.invariant-loop-scope
@@ -10,8 +11,7 @@ invariant-loop-scope g l =
     let scope = seen_scope l.fn.scope in
     let u = l.unit in
     record {
-      gives : inside_found scope u l.entries.unit l.entries.cursor (seen_around l.found l.nesting) ≡ inside_found scope u l.fn.entries.unit l.fn.entries.cursor (seen_around l.fn.found []);
-      takes : inside_takes_memory scope u l.entries.unit l.entries.cursor (seen_around l.found l.nesting) ≡ true → inside_takes_memory scope u l.fn.entries.unit l.fn.entries.cursor (seen_around l.fn.found []) ≡ true;
+      rest : IsRestOf (inside_found scope u l.entries.unit l.entries.cursor (seen_around l.found l.nesting)) (inside_found scope u l.fn.entries.unit l.fn.entries.cursor (seen_around l.fn.found []));
       kept : IsFoundMore (seen_lists l.fn.found) (seen_lists l.found);
       unit : l.entries.unit.encoding ≡ u.header.encoding;
       names : AreNamesMore scope u (seen_names g.R.Reader.section l.fn.names) (seen_names g.R.Reader.section l.names);

@@ -1,17 +1,18 @@
-use Rattle.std.proofs.Common.{ℕ, ℤ, List, Ok, Result, sym, ap, ◌∙◌}
+use Rattle.std.proofs.Common.{◌&&◌, ℤ, List, Ok, Result, false, is_ok, subst, sym, ap, ◌∙◌}
 use Rattle.std.proofs.lemmas.Result.{err_from_is_err_and}
 use Rattle.gimli_read.specs.declared.error.Error.{Error as Fault}
 use Rattle.gimli_read.specs.Reading.{◌>>=◌}
 use Rattle.gimli_read.specs.Section.{Section}
-use Rattle.gimli.specs.EntryCursor.{EntryCursor}
+use Rattle.gimli.specs.EntryCursor.{EntryCursor, next_offset_of}
 use Rattle.addr2line_lines.specs.declared.nesting.Kind.{Kind}
 use Rattle.addr2line_lines.specs.SeenScope.{seen_scope}
-use Rattle.addr2line_lines.specs.FoundItems.{FoundAround, seen_around}
-use Rattle.addr2line_lines.specs.FoundInlined.{FoundInlined, entry_found_at, seen_lists}
+use Rattle.addr2line_lines.specs.CostedSteps.{then_room_if}
+use Rattle.addr2line_lines.specs.FoundItems.{FoundAround, entry_found_at, item_found_at, seen_around}
+use Rattle.addr2line_lines.specs.FoundInlined.{FoundInlined, seen_lists}
 use Rattle.addr2line_lines.specs.OpenEntries.{kind_of, opened}
 use Rattle.addr2line_lines.proofs.CachedNameLemmas.{names_same}
-use Rattle.addr2line_lines.proofs.DetailMemory.{children_take, listed_takes}
-use Rattle.addr2line_lines.proofs.FunctionLemmas.{or_more, or_second}
+use Rattle.addr2line_lines.proofs.CostLemmas.{IsPartOf, map_part, part_on, refused_part, rest_part, room_part}
+use Rattle.addr2line_lines.proofs.FunctionLemmas.{or_second}
 use Rattle.addr2line_lines.proofs.NestingLemmas.{after_entry, code-fault, entered, entry-shorter, found_same, item-closing, item-entry, item-shorter}
 use Rattle.addr2line_lines.proofs.RangeLemmas.{on_ok}
 use Rattle.addr2line_lines.proofs.detail.read_item.Goals as goal
@@ -36,10 +37,10 @@ returns-in_err-read_entry-in-Some-clause-gives g c =
     let a = c.in-Some.abbreviation.now in
     let t = c.read_abbreviation.new.self.cursor in
     let code = rw c.in-Some.is at c.in_ok-read_abbreviation.ensures.gives in
-    let place : ℕ → Result (FoundInlined × Section) Fault = λ o. entry_found_at scope u around o a t.left lists in
-    let finish : Result (FoundInlined × Section) Fault → Result (FoundAround × EntryCursor) Fault = λ r. r >>= λ m. Ok (after_entry scope u unit state a t m) in
-    let entry = item-entry scope u unit start t state a (sym c.requires.encoding) code in
-    rw (p.1, p.2) (λ ne. entry ∙ ap finish (ap place (sym c.next_offset-offset.ensures.gives) ∙ c.in_err-read_entry-in-Some.ensures.gives (λ takes. ne (or_more g.R.Reader.shares _ _ (listed_takes scope u unit start t state a (sym c.requires.encoding) code) takes))))
+    let rest = item-entry scope u unit start t state a (sym c.requires.encoding) code in
+    let entry = entry_found_at scope u around (next_offset_of unit start) a t.left lists in
+    let part = part_on (room_part a.has_children entry) (part_on (map_part (after_entry scope u unit state a t) (then_room_if a.has_children entry)) (rest_part rest)) in
+    rw (p.1, p.2) (refused_part g.R.Reader.shares _ (subst (λ o. IsPartOf (entry_found_at scope u around o a t.left lists) (item_found_at scope u unit start state)) (sym c.next_offset-offset.ensures.gives) part) c.in_err-read_entry-in-Some.ensures.gives)
 
 pub returns-in-None-clause-gives : goal.returns-in-None-clause-gives
 returns-in-None-clause-gives g c =
@@ -69,17 +70,16 @@ returns-in_ok-read_entry-in-Some-clause-gives g c =
     let a = c.in-Some.abbreviation.now in
     let t = c.read_abbreviation.new.self.cursor in
     let code = rw c.in-Some.is at c.in_ok-read_abbreviation.ensures.gives in
-    let place : ℕ → Result (FoundInlined × Section) Fault = λ o. entry_found_at scope u around o a t.left lists in
-    let finish : Result (FoundInlined × Section) Fault → Result (FoundAround × EntryCursor) Fault = λ r. r >>= λ m. Ok (after_entry scope u unit state a t m) in
-    let entry = item-entry scope u unit start t state a (sym c.requires.encoding) code in
+    let rest = item-entry scope u unit start t state a (sym c.requires.encoding) code in
     let more = seen_lists c.read_entry.new.found in
     let end = c.read_entry.new.entries.cursor in
     let at : List Kind → ℤ → FoundAround × EntryCursor = λ k z. (record { found = more; around = k }, record { left = end.left; depth = z }) in
     let made : List Kind → FoundAround × EntryCursor = λ k. (record { found = more; around = k }, end) in
-    let found = ap place (sym c.next_offset-offset.ensures.gives) ∙ c.in_ok-read_entry-in-Some.ensures.gives in
+    let entry = entry_found_at scope u around (next_offset_of unit start) a t.left lists in
+    let found = ap (λ o. (entry_found_at scope u around o a t.left lists).given) (sym c.next_offset-offset.ensures.gives) ∙ c.in_ok-read_entry-in-Some.ensures.gives in
     entered _ c.has_children.result c.enter.result made c.enter.new.self (opened c.kind_of.result c.has_children.result around) _
-    (λ opens. or_second g.R.Reader.shares _ (children_take scope u unit start t state a _ (sym c.requires.encoding) code found (sym c.has_children.ensures.gives ∙ opens)))
-    (entry ∙ ap finish found
+    (λ opens. or_second g.R.Reader.shares _ (rest.takes false (or_second (entry.takes_memory false) _ (ap (λ r. is_ok r && a.has_children) found ∙ sym c.has_children.ensures.gives ∙ opens))))
+    (rest.given ∙ ap (λ (r : Result (FoundInlined × Section) Fault). r >>= λ m. Ok (after_entry scope u unit state a t m)) found
     ∙ ap (λ z. Ok (at (opened (kind_of a) a.has_children around) z)) (sym c.in_ok-read_entry-in-Some.ensures.depth)
     ∙ ap (λ k. Ok (made (opened k a.has_children around))) (sym c.kind_of.ensures.gives)
     ∙ ap (λ b. Ok (made (opened c.kind_of.result b around))) (sym c.has_children.ensures.gives))

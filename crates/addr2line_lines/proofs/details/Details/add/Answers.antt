@@ -7,10 +7,11 @@ use Rattle.addr2line_lines.specs.FoundInlined.{FoundInlined, seen_lists}
 use Rattle.addr2line_lines.specs.Grown.{IsGrown}
 use Rattle.addr2line_lines.specs.CachedDetails.{CachedDetails, seen_details}
 use Rattle.addr2line_lines.specs.SeenScope.{seen_scope}
-use Rattle.addr2line_lines.proofs.DetailMemory.{detail_takes, found_takes}
-use Rattle.addr2line_lines.proofs.DetailOrder.{detail_refused}
+use Rattle.addr2line_lines.proofs.CostLemmas.{refused_part}
+use Rattle.addr2line_lines.proofs.DetailMemory.{found_takes}
+use Rattle.addr2line_lines.proofs.DetailOrder.{detail_part}
 use Rattle.addr2line_lines.proofs.DetailPlaces.{AreCachedAt, detail_cached, last_name, place_cached, sorted_more}
-use Rattle.addr2line_lines.proofs.FunctionLemmas.{or_more, or_second}
+use Rattle.addr2line_lines.proofs.FunctionLemmas.{or_second}
 use Rattle.addr2line_lines.proofs.NestingLemmas.{grown_by, grown_not}
 use Rattle.addr2line_lines.proofs.details.Details.add.Given.{Over}
 use Rattle.addr2line_lines.proofs.details.Details.add.Goals as goal
@@ -18,7 +19,7 @@ use Rattle.addr2line_lines.proofs.details.Details.add.Goals as goal
 pub returns-in_err-read-clause-gives : goal.returns-in_err-read-clause-gives
 returns-in_err-read-clause-gives g c =
     let p = err_from_is_err_and c.from_residual.result c.from_residual.ensures.1 in
-    rw (p.1, p.2) (λ ne. detail_refused (seen_scope c.args.scope) c.args.unit.now c.args.offset.0 (seen_lists c.args.self.now.inlined) _ (c.in_err-read.ensures.gives (λ t. ne (or_more g.R.Reader.shares _ _ (detail_takes (seen_scope c.args.scope) c.args.unit.now c.args.offset.0 (seen_lists c.args.self.now.inlined)) t))))
+    rw (p.1, p.2) (refused_part g.R.Reader.shares _ (detail_part (seen_scope c.args.scope) c.args.unit.now c.args.offset.0 (seen_lists c.args.self.now.inlined)) c.in_err-read.ensures.gives)
 
 -- memory may be taken, as the detail was read
 pub returns-in_err-push-clause-gives : goal.returns-in_err-push-clause-gives

@@ -12,7 +12,7 @@ use Rattle.addr2line_lines.specs.CachedDetails.{CachedDetails, seen_details}
 use Rattle.addr2line_lines.proofs.FunctionCacheLemmas.{runs_unread, seen_unread}
 use Rattle.addr2line_lines.proofs.FunctionLemmas.{or_second}
 use Rattle.addr2line_lines.proofs.FunctionMemory.{found_has}
-use Rattle.addr2line_lines.proofs.FunctionOrder.{Agrees, are_functions, functions_agree}
+use Rattle.addr2line_lines.proofs.FunctionOrder.{AgreesFound, are_functions, functions_agree}
 use Rattle.addr2line_lines.proofs.ListedFunctions.{offsets_seen}
 use Rattle.addr2line_lines.proofs.functions.Functions.parse.Goals as goal
 
@@ -25,7 +25,7 @@ returns-in_err-functions g c =
     let d = c.args.unit.dwarf.now in
     let u = c.args.unit.unit.now in
     record {
-      gives = rw (p.1, p.2) (λ ne. subst (Agrees (functions_of d u)) (c.in_err-functions.ensures.gives ne) (functions_agree d u));
+      gives = rw (p.1, p.2) (λ ne. subst (AgreesFound (functions_of d u)) (c.in_err-functions.ensures.gives ne) (functions_agree d u));
       empty = rw p.1 tt;
       right = rw p.1 tt;
       names = rw p.1 tt;
@@ -54,7 +54,7 @@ returns g c =
     let u = c.args.unit.unit.now in
     let found = seen_functions c.in_ok-functions.field-0 in
     let listed = ok_is _ _ c.in_ok-addresses.ensures.gives in
-    let a = subst (Agrees (functions_of d u)) c.in_ok-functions.ensures.gives (functions_agree d u) in
+    let a = subst (AgreesFound (functions_of d u)) c.in_ok-functions.ensures.gives (functions_agree d u) in
     record {
       gives = a.0 ∙ ap (λ xs. Ok (map (function_range_of found.offsets) xs)) listed;
       empty = seen_unread (seen_details g.R.Reader.section c.new-2.result) _ c.in_ok-functions.ensures.empty;

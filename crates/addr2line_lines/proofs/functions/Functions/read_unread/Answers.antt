@@ -5,7 +5,7 @@ use Rattle.addr2line_lines.specs.declared.functions.LazyFunction.{LazyFunction}
 use Rattle.addr2line_lines.specs.Details.{detail_at}
 use Rattle.gimli_read.specs.Reading.{fault_of}
 use Rattle.addr2line_lines.specs.FunctionTable.{FunctionTable}
-use Rattle.addr2line_lines.specs.FunctionDetails.{IsReadAt, read_fault, cached_takes_memory}
+use Rattle.addr2line_lines.specs.FunctionDetails.{IsReadAt, read_fault, read_once}
 use Rattle.addr2line_lines.specs.CachedNames.{AreNamesOf}
 use Rattle.addr2line_lines.specs.CachedDetails.{IsRefusedThen, seen_details}
 use Rattle.addr2line_lines.specs.SeenScope.{seen_scope}
@@ -95,7 +95,7 @@ pub returns-in-OutOfMemory-clause-exact : goal.returns-in-OutOfMemory-clause-exa
 returns-in-OutOfMemory-clause-exact g c =
     let scope = seen_scope c.args.scope in
     let u = c.args.unit.now in
-    λ h. ap (read_fault scope u) c.requires.unread ∙ ap fault_of (c.in-Err.ensures.gives (λ t. h (ap (cached_takes_memory g.R.Reader.shares scope u) c.requires.unread ∙ t)))
+    λ h. ap (read_fault scope u) c.requires.unread ∙ ap fault_of (c.in-Err.ensures.gives (λ t. h (ap (λ o. (read_once scope u o).takes_memory g.R.Reader.shares) c.requires.unread ∙ t)))
 
 pub returns-in-OutOfMemory-clause-gives : goal.returns-in-OutOfMemory-clause-gives
 returns-in-OutOfMemory-clause-gives g c =

@@ -14,9 +14,10 @@ use Rattle.gimli_read.specs.Reading.{Reading, ◌>>=◌, refused_if}
 use Rattle.gimli_read.specs.Number.{address_at, fits_u64, is_address_size, offset_size}
 use Rattle.gimli_read.specs.Leb128.{uleb128_at}
 use Rattle.gimli_read.specs.Run.{Run, cons, run_of}
+use Rattle.gimli_read.specs.Form.{NamedValue}
 use Rattle.gimli_read.specs.Abbreviations.{Abbrev, with_code}
 use Rattle.gimli_read.specs.FaultLaws.{NoneWasRefused}
-use Rattle.gimli_read.proofs.FaultLemmas.{IsByBytes, AreByBytes, step, either, value, fault, test, ends, moved_fault, mapped_is, fault_of_is, skipped_is, split_is, fixed_is, address_size_is, address_is, offset_is, null_terminated_is, initial_length_is, uleb128_is, attributes_are, table_is, run_of_is, listed_are, none_refused}
+use Rattle.gimli_read.proofs.FaultLemmas.{IsByBytes, AreByBytes, step, either, value, fault, test, ends, moved_fault, mapped_is, fault_of_is, fold_is, skipped_is, split_is, fixed_is, address_size_is, address_is, offset_is, null_terminated_is, initial_length_is, uleb128_is, attributes_are, table_is, run_of_is, listed_are, none_refused}
 use Rattle.gimli_line.proofs.FaultLemmas.{line_program_is}
 use Rattle.gimli.specs.declared.constants.TheConstants.{DW_UT_compile, DW_UT_type, DW_UT_partial, DW_UT_skeleton, DW_UT_split_compile, DW_UT_split_type, ARANGES_VERSION, DW_RLE_end_of_list, DW_RLE_base_addressx, DW_RLE_startx_endx, DW_RLE_startx_length, DW_RLE_offset_pair, DW_RLE_base_address, DW_RLE_start_end, DW_RLE_start_length}
 use Rattle.gimli.specs.declared.record.AddressValue.{AddressValue}
@@ -26,6 +27,7 @@ use Rattle.gimli.specs.declared.rnglists.RangeListEntry.TheVariants.{BaseAddress
 use Rattle.gimli.specs.declared.unit.UnitType.{UnitType}
 use Rattle.gimli.specs.declared.unit.UnitType.TheVariants.{Compile, TypeUnit, Partial, Skeleton, SplitCompile, SplitType}
 use Rattle.gimli.specs.Sections.{Sections, SupSections}
+use Rattle.gimli.specs.TakenAttributes.{taken_in}
 use Rattle.gimli.specs.Text.{from_offset, string_at, string_length_at, indexed_number, indexed_string, sup_string_at, string_of}
 use Rattle.gimli.specs.StringPlaces.{sup_strings, string_place_of}
 use Rattle.gimli.specs.Header.{UnitHeaderFields, unit_type_of, unit_type_at, dwo_id_at, signature_at, type_fields_at, fields_5_at, fields_4_at, header_fields_at, unit_header_at, next_header_at}
@@ -392,3 +394,7 @@ pub ranges_offset_is : (d : Sections) (u : UnitRecord) (v : AttributeValue Secti
 unfolding ranges_offset_of
 ranges_offset_is d u (values.DebugRngListsIndex index) = rnglists_offset_is d u index
 ranges_offset_is d u v = with_base_is d u (line_offset u.header.encoding v)
+
+-- ---- attributes that are taken in one after another
+pub taken_in_is : {Y : Type 0} (more : Y → NamedValue → Result Y Error) → ((y : Y) (a : NamedValue) → IsByBytes (more y a)) → (said : Y) (attributes : List NamedValue) → IsByBytes (taken_in more (Ok said) attributes)
+taken_in_is more each said attributes = fold_is (λ y a. y >>= λ x. more x a) (λ r a h. step h (λ x. each x a)) (Ok said) value attributes

@@ -16,7 +16,7 @@ use Rattle.gimli_read.specs.declared.value.AttributeValue.{AttributeValue}
 use Rattle.gimli_read.specs.declared.value.AttributeValue.TheVariants as values
 use Rattle.gimli_read.specs.Section.{Section}
 use Rattle.gimli_read.specs.Version.{is_before_4, is_before_5}
-use Rattle.gimli_read.specs.Reading.{Reading, ◌>>=◌}
+use Rattle.gimli_read.specs.Reading.{◌>>=◌}
 use Rattle.gimli_read.specs.Form.{NamedValue, constant_of}
 use Rattle.gimli_read.specs.Abbreviations.{Abbrev}
 use Rattle.gimli.specs.declared.record.AddressValue.{AddressValue}
@@ -100,12 +100,6 @@ no_root_values = record {
   dwo_id = None;
   dwo_name = None;
 }
-
--- the values after the attributes that a reading gives
-abbrev pub root_values_after : Encoding → RootValues → Reading (List NamedValue)
-    → Result RootValues Error
-root_values_after encoding root read =
-    read >>= λ x. Ok (fold (with_root_attribute encoding) root x.0)
 
 -- the values of the attributes of a unit's root entry
 unfoldable pub root_values_of : Encoding → List Abbrev → Section → Result RootValues Error

@@ -1,8 +1,8 @@
 //! What the root entry of a unit says for lookups.
 
 ghost use Rattle.std.specs.Prelude.{◌≡◌};
-ghost use Rattle.gimli_read.specs.Reading.{Exactly, ExactlyUnlessOomIf};
-ghost use Rattle.addr2line_units.specs.UnitAttributes.{language_after, language_of_number, no_unit_attributes, unit_attributes, with_unit_attribute};
+ghost use Rattle.gimli_read.specs.Reading.{ExactlyUnlessOomIf};
+ghost use Rattle.addr2line_units.specs.UnitAttributes.{language_after, language_of_number, no_unit_attributes, unit_attributes};
 
 use addr2line_lines::RangeAttributes;
 use gimli::read::{Attribute, DwAt, DwLang, Error, NumberValue, Reader};
@@ -49,21 +49,6 @@ impl UnitAttributes {
             ranges: RangeAttributes::new(),
             language: None,
         }
-    }
-
-    // Takes one more attribute in.
-    #[tactic(auto, unfolding(crate::specs::UnitAttributes::with_unit_attribute))]
-    fn take<R: Reader>(
-        self,
-        unit: UnitRef<'_, R>,
-        attribute: Attribute<R>,
-    ) -> Result<UnitAttributes, Error>
-        ensures gives { Exactly (λ a. a) result (with_unit_attribute unit.entry.dwarf.now
-            unit.entry.unit.now self attribute) }
-    {
-        let language = language_after(self.language, &attribute);
-        let ranges = self.ranges.take(unit, attribute)?;
-        Ok(UnitAttributes { ranges, language })
     }
 }
 
@@ -114,13 +99,16 @@ impl<R: Reader> AttributeSink<R, Attribute<R>> for UnitSink<'_, R> {
 
     ghost Grows = { λ _ _ _. Unit {0} };
 
+    #[tactic(auto, unfolding(crate::specs::UnitAttributes::with_unit_attribute))]
     fn take(
         &self,
         found: &mut UnitAttributes,
         attribute: Attribute<R>,
         _cache: &mut (),
     ) -> Result<(), Error> {
-        *found = found.take(self.unit, attribute)?;
+        let language = language_after(found.language, &attribute);
+        found.ranges = found.ranges.take(self.unit, attribute)?;
+        found.language = language;
         Ok(())
     }
 

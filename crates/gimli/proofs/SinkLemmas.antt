@@ -1,5 +1,6 @@
 -- Attributes that are taken in one after another, or passed over (on specs/TakenAttributes.antt).
 use Rattle.std.proofs.Common.{◌≡◌, ℕ, ◌+◌, ◌<◌, ◌≤◌, ◌==◌, Bool, true, false, cond, List, drop, get_or, length, Option, Some, None, Result, Ok, Err, refl, ap, subst, sym, ◌∙◌, ℤ, pos, negsuc}
+use Rattle.std.specs.Result.{result_err}
 use Rattle.std.proofs.lemmas.List.{at_drop_more, at_drop_all}
 use Rattle.gimli_read.specs.declared.constants.DwAt.{DwAt}
 use Rattle.gimli_read.specs.declared.constants.TheConstants.DwForm.{DW_FORM_implicit_const}
@@ -14,7 +15,7 @@ use Rattle.gimli_read.specs.NumberValue.{implicit_number, is_number_form, number
 use Rattle.gimli_read.specs.Reading.{Reading, ◌>>=◌, ExactlyUnlessOomIf}
 use Rattle.gimli_read.specs.Section.{Section}
 use Rattle.gimli_read.proofs.SizeLemmas.{rests_more}
-use Rattle.gimli.specs.AttributeSinks.{IsTakenIn, SaysNothingElse}
+use Rattle.gimli.specs.AttributeSinks.{IsTakenIn, SaysNothingElse, or_fault}
 use Rattle.gimli.specs.TakenAttributes.{taken_after}
 use Rattle.gimli.proofs.WantedLemmas.{PassesOver, fold_passes}
 
@@ -76,6 +77,11 @@ number_fault e x s f h = by_form (x.form.0 == DW_FORM_implicit_const.0) (is_numb
     by_form true c h = absurd cc
     by_form false true h = read (attribute_at e x s) h
     by_form false false h = absurd cc
+
+-- what is found after an answer, or its fault
+pub or_its_fault : {X Y : Type 0} (may : Bool) (view : X → Y) (found : X) (result : Result (Unit {0}) Error) (given : Result Y Error) → ExactlyUnlessOomIf may (λ _. view found) result given → ExactlyUnlessOomIf may view (or_fault found (result_err result)) given
+or_its_fault may view found (Ok x) given h = h
+or_its_fault may view found (Err e) given h = h
 
 -- an answer after one more attribute
 pub taken : {X Y : Type 0} (may : Bool) (view : X → Y) (more : Y → Result Y Error) (found next : Result X Error) (given : Result Y Error) → ExactlyUnlessOomIf may view found given → IsTakenIn may view more found next → ExactlyUnlessOomIf may view next (given >>= more)

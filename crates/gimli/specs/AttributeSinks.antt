@@ -42,13 +42,6 @@ abbrev pub IsTakenIn : {X Y : Type 0} → Bool → (X → Y) → (Y → Result Y
 IsTakenIn may view more (Ok x) result = ExactlyUnlessOomIf may view result (more (view x))
 IsTakenIn may view more (Err e) result = result ≡ Err e
 
--- the same, where the attribute's value is a number
-abbrev pub IsNumberTakenIn : {X Y : Type 0} → Bool → (X → Y) → (Y → NamedValue → Result Y Error)
-    → DwAt → NumberValue → Result X Error → Result X Error → Type 0
-IsNumberTakenIn may view more name number old result =
-    (value : AttributeValue Section) → number_if value ≡ Some number
-    → IsTakenIn may view (λ y. more y (record { name = name; value = value })) old result
-
 -- a number was read, which was wanted; or none, which was wanted of no value that is one, and nothing
 -- was read; or what is given is the fault
 abbrev pub IsNumberRead : Bool → Section → Section → Result (Option NumberValue) Error

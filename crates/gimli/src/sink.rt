@@ -4,7 +4,7 @@ ghost use Rattle.std.specs.Prelude.{◌≡◌, true, Ok, OnOk};
 ghost use Rattle.gimli_read.specs.Form.{attribute_at, attributes_at, rest_of};
 ghost use Rattle.gimli_read.specs.NumberValue.{number_at};
 ghost use Rattle.gimli_read.specs.Reading.{Exactly, ExactlyUnlessOomIf};
-ghost use Rattle.gimli.specs.AttributeSinks.{IsGrowth, IsNextRead, IsNumberRead, IsNumberTakenIn, IsSeenSame, IsTakenIn, SaysNothingElse, or_fault};
+ghost use Rattle.gimli.specs.AttributeSinks.{IsGrowth, IsNextRead, IsNumberRead, IsSeenSame, SaysNothingElse, or_fault};
 ghost use Rattle.gimli.specs.TakenAttributes.{taken_after};
 
 use crate::entries::EntriesRaw;
@@ -148,49 +148,6 @@ fn read_number_if<R: Reader>(
     }
 }
 
-// Takes one more attribute in, unless there is a fault, and answers the fault that there is.
-#[inline(always)]
-fn take_unless<R: Reader, S: AttributeSink<R, Attribute<R>>>(
-    sink: &S,
-    found: &mut S::Found,
-    fault: Option<Error>,
-    attribute: Attribute<R>,
-    cache: &mut S::Cache,
-) -> Option<Error>
-    requires cache { S.Grows sink.now cache.old cache.old }
-    requires seen { IsSeenSame S.seen }
-    ensures gives { IsTakenIn R.shares S.said (λ y. S.with_attribute sink.now y attribute)
-        (or_fault found.old fault) (or_fault found.new result) }
-    ensures after { S.Grows sink.now cache.old cache.new }
-{
-    match fault {
-        Some(error) => Some(error),
-        None => sink.take(found, attribute, cache).err(),
-    }
-}
-
-// Takes a number in, as `take_unless` does an attribute.
-#[inline(always)]
-fn take_number_unless<R: Reader, S: AttributeSink<R, Attribute<R>>>(
-    sink: &S,
-    found: &mut S::Found,
-    fault: Option<Error>,
-    name: DwAt,
-    number: NumberValue,
-    cache: &mut S::Cache,
-) -> Option<Error>
-    requires cache { S.Grows sink.now cache.old cache.old }
-    requires named { S.Numbers.wanted name ≡ true }
-    ensures gives { IsNumberTakenIn R.shares S.said (S.with_attribute sink.now) name number
-        (or_fault found.old fault) (or_fault found.new result) }
-    ensures after { S.Grows sink.now cache.old cache.new }
-{
-    match fault {
-        Some(error) => Some(error),
-        None => sink.take_number(found, name, number, cache).err(),
-    }
-}
-
 // Reads the next attribute and takes it in, unless there is a fault, and answers the fault that
 // there is. A number is read without a value being made.
 #[inline(always)]
@@ -214,10 +171,16 @@ fn read_next<R: Reader, S: AttributeSink<R, Attribute<R>>>(
     let name = specification.name();
     let wanted = S::Numbers::is_wanted_name(name);
     if let Some(number) = read_number_if(entries, specification, wanted)? {
-        return Ok(take_number_unless(sink, found, fault, name, number, cache));
+        return match fault {
+            Some(error) => Ok(Some(error)),
+            None => Ok(sink.take_number(found, name, number, cache).err()),
+        };
     }
     let attribute = entries.read_attribute(specification)?;
-    Ok(take_unless(sink, found, fault, attribute, cache))
+    match fault {
+        Some(error) => Ok(Some(error)),
+        None => Ok(sink.take(found, attribute, cache).err()),
+    }
 }
 
 /// Reads the attributes of specifications, and takes in those that are asked for.

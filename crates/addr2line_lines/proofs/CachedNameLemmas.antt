@@ -8,9 +8,10 @@ use Rattle.std.proofs.Math.Seq.{take-append_seam}
 use Rattle.gimli_read.specs.declared.error.Error.{Error}
 use Rattle.gimli_read.specs.declared.value.AttributeValue.TheVariants as values
 use Rattle.gimli_read.specs.declared.value.UnitOffset.{UnitOffset}
+use Rattle.gimli.specs.AttributeSinks.{IsGrowth}
 use Rattle.gimli.specs.Unit.{UnitRecord}
 use Rattle.gimli_read.specs.Section.{Section}
-use Rattle.addr2line_lines.specs.CachedNames.{AreNamesMore, AreNamesOf, CachedName, IsKnownAs, IsNameOf, IsOneMoreAtMost, boxed_shared, seen_cached_name, seen_shared}
+use Rattle.addr2line_lines.specs.CachedNames.{AreNamesMore, AreNamesOf, CachedName, GrowNames, IsKnownAs, IsNameOf, IsOneMoreAtMost, boxed_shared, seen_cached_name, seen_names, seen_shared}
 use Rattle.addr2line_lines.specs.Grown.{IsGrown}
 use Rattle.addr2line_lines.specs.declared.names.CachedName as declared_name
 use Rattle.addr2line_lines.specs.Names.{referred_name}
@@ -25,6 +26,13 @@ names_same scope u names right = record { right = right; grown = grown_not names
 -- more is cached twice
 pub names_on : (scope : Scope) (u : UnitRecord) (a b c : List CachedName) → AreNamesMore scope u a b → AreNamesMore scope u b c → AreNamesMore scope u a c
 names_on scope u a b c h k = record { right = k.right; grown = grown_on a b c h.grown k.grown }
+
+-- so they grow from any state on
+pub names_growth : (scope : Scope) (u : UnitRecord) {R : Type 0} (see : R → Section) → IsGrowth (λ old new. GrowNames scope u (seen_names see old) (seen_names see new))
+names_growth scope u see = record {
+  again = λ old new h. (h.0, names_same scope u (seen_names see new) h.1.right);
+  on = λ old between new h k. (h.0, names_on scope u (seen_names see old) (seen_names see between) (seen_names see new) h.1 k.1);
+}
 
 all_one_more : {X : Type 0} (P : X → Type 0) (xs : List X) (x : X) → AllByRecursion P xs → P x → AllByRecursion P (xs ++ x ∷ [])
 all_one_more P [] x all p = (p, tt)

@@ -1,13 +1,11 @@
 -- The attributes of inlined entries and functions, one at a time (on specs/FoundAttributes.antt).
-use Rattle.std.proofs.Common.{◌≡◌, ℕ, ◌+◌, ◌<◌, ◌≤◌, ◌⊎◌, ◌==◌, ◌||◌, Bool, true, false, cond, List, [], ◌∷◌, drop, fold, get_or, inl, inr, length, Option, Some, None, Result, Ok, Err, refl, ap, subst, sym, ◌∙◌, count_by}
+use Rattle.std.proofs.Common.{◌≡◌, ℕ, ◌+◌, ◌<◌, ◌≤◌, ◌⊎◌, ◌==◌, ◌||◌, Bool, true, false, cond, List, [], ◌∷◌, drop, fold, get_or, inl, inr, length, Option, Some, None, Result, Ok, Err, refl, ap, subst, sym, ◌∙◌, count_by, ◌&&◌}
 use Rattle.std.proofs.lemmas.Bool.{eqb-true}
-use Rattle.std.proofs.lemmas.List.{at_drop_more, at_drop_all}
 use Rattle.gimli_read.specs.declared.constants.DwAt.{DwAt}
 use Rattle.gimli_read.specs.declared.constants.TheConstants.DwAt.{DW_AT_call_column, DW_AT_call_file, DW_AT_call_line, DW_AT_high_pc, DW_AT_low_pc, DW_AT_name, DW_AT_ranges}
 use Rattle.gimli_read.specs.declared.error.Error.{Error}
 use Rattle.gimli_read.specs.declared.error.Error.TheVariants.{UnexpectedEof}
-use Rattle.gimli_read.specs.declared.endian.Encoding.{Encoding}
-use Rattle.gimli_read.specs.Abbreviations.{Abbrev, Specification}
+use Rattle.gimli_read.specs.Abbreviations.{Abbrev}
 use Rattle.gimli_read.specs.Leb128.{uleb128_at, uleb128_in}
 use Rattle.gimli_read.specs.Form.{NamedValue, attribute_at, rest_of}
 use Rattle.gimli_read.specs.Costed.{Costed, free}
@@ -17,21 +15,21 @@ use Rattle.gimli_read.specs.Section.{Section}
 use Rattle.gimli.specs.Entry.{attributes_at}
 use Rattle.gimli.specs.Sections.{Sections}
 use Rattle.gimli.specs.Unit.{UnitRecord}
-use Rattle.gimli.proofs.WantedLemmas.{named}
 use Rattle.addr2line_lines.specs.declared.function.RangeAttributes.{RangeAttributes}
 use Rattle.addr2line_lines.specs.declared.nesting.Kind.{Kind}
 use Rattle.addr2line_lines.specs.declared.inlined.CallSite.{CallSite}
-use Rattle.addr2line_lines.specs.InlinedEntries.{InlinedAttributes, inlined_attributes_of, no_inlined_attributes, or_with_inlined_attribute, with_call, with_inlined_attribute}
+use Rattle.addr2line_lines.specs.InlinedEntries.{InlinedAttributes, inlined_attributes_of, no_inlined_attributes, with_call, with_inlined_attribute}
 use Rattle.addr2line_lines.specs.FoundInlined.{FoundInlined, with_inlined_found}
 use Rattle.addr2line_lines.specs.FoundItems.{entry_found_at, with_entry_found}
 use Rattle.addr2line_lines.specs.CostedSteps.{map_at_cost, stored_if}
-use Rattle.addr2line_lines.specs.FoundAttributes.{IsReadIf, IsTakenIn, inlined_attributes_after, is_call, is_inlined_attribute}
+use Rattle.addr2line_lines.specs.FoundAttributes.{inlined_attributes_after, is_call, is_inlined_attribute}
 use Rattle.addr2line_lines.specs.FoundRanges.{is_range_name}
 use Rattle.addr2line_lines.specs.OpenEntries.{is_inlined_kind, is_listed, kind_of}
-use Rattle.addr2line_lines.specs.FoundNames.{is_name_attribute, with_read_name}
-use Rattle.addr2line_lines.specs.Names.{is_linkage_name, is_origin, or_with_name, with_name}
+use Rattle.addr2line_lines.specs.FoundNames.{is_name_attribute}
+use Rattle.addr2line_lines.specs.Names.{is_linkage_name, is_origin, with_name}
 use Rattle.addr2line_lines.specs.RangeAttributes.{gives_a_range, with_range_attribute}
 use Rattle.addr2line_lines.specs.References.{Scope}
+use Rattle.addr2line_lines.proofs.FoundRanges.{rangeless}
 
 -- none of two tests
 pub neither : (b c : Bool) → (b || c) ≡ false → (b ≡ false) × (c ≡ false)
@@ -79,14 +77,6 @@ module _ (scope : Scope) (u : UnitRecord) where
       let q = neither (is_linkage_name a.name) (a.name.0 == DW_AT_name.0) p.0 in
       second _ _ _ q.0 ∙ second _ _ _ q.1 ∙ second _ _ _ p.1
 
-  -- an attribute that says nothing of the ranges
-  pub rangeless : (d : Sections) (r : RangeAttributes) (a : NamedValue) → is_range_name a.name ≡ false → with_range_attribute d u r a ≡ Ok r
-  unfolding with_range_attribute
-  rangeless d r a h =
-      let p = neither (a.name.0 == DW_AT_low_pc.0 || a.name.0 == DW_AT_high_pc.0) (a.name.0 == DW_AT_ranges.0) h in
-      let q = neither (a.name.0 == DW_AT_low_pc.0) (a.name.0 == DW_AT_high_pc.0) p.0 in
-      second _ _ _ q.0 ∙ second _ _ _ q.1 ∙ second _ _ _ p.1
-
   -- an attribute that says nothing of the call
   callless : (version : ℕ) (call : CallSite) (a : NamedValue) → is_call a.name ≡ false → with_call version call a ≡ call
   callless version call a h =
@@ -115,7 +105,7 @@ module _ (scope : Scope) (u : UnitRecord) where
   -- an attribute that says nothing of the ranges
   other_attribute : (x : InlinedAttributes) (a : NamedValue) → is_range_name a.name ≡ false → with_inlined_attribute scope u x a ≡ with_name_of x a x.ranges (with_name scope u x.name a)
   unfolding with_inlined_attribute
-  other_attribute x a h = ap (λ r. r >>= λ ranges. with_name_of x a ranges (with_name scope u x.name a)) (rangeless scope.file.sections x.ranges a h)
+  other_attribute x a h = ap (λ r. r >>= λ ranges. with_name_of x a ranges (with_name scope u x.name a)) (rangeless scope.file.sections u x.ranges a h)
 
   -- an attribute of the call, which alone changes
   pub call_taken : (x : InlinedAttributes) (a : NamedValue) → is_call a.name ≡ true
@@ -137,87 +127,12 @@ module _ (scope : Scope) (u : UnitRecord) where
       other_attribute x a h ∙ ap (λ (call : CallSite). with_name scope u x.name a >>= λ name. Ok (record { ranges = x.ranges; name = name; call = call })) (callless u.header.encoding.version x.call a c)
 
   -- an attribute that says nothing of an inlined entry
-  unwanted : (x : InlinedAttributes) (a : NamedValue) → is_inlined_attribute a.name ≡ false → with_inlined_attribute scope u x a ≡ Ok x
+  pub unwanted : (x : InlinedAttributes) (a : NamedValue) → is_inlined_attribute a.name ≡ false → with_inlined_attribute scope u x a ≡ Ok x
   unwanted x a h =
       let p = neither (is_range_name a.name || is_name_attribute a.name) (is_call a.name) h in
       let q = neither (is_range_name a.name) (is_name_attribute a.name) p.0 in
       other_attribute x a q.0 ∙ ap (with_name_of x a x.ranges) (nameless x.name a q.1) ∙ ap (with_call_of x) (callless u.header.encoding.version x.call a p.1)
 
--- what attributes say that are read, one at a time
-module _ {A : Type 0} (f : Result A Error → NamedValue → Result A Error) (e : Encoding) (x : Result A Error) (xs : List Specification) (i : ℕ) where
-  abbrev after : Result A Error → Reading (List NamedValue) → Result A Error
-  after y read = read >>= λ z. fold f y z.0
-
-  abbrev next : Reading NamedValue → Result A Error
-  next read = after x (read >>= λ a. attributes_at e (drop (i + 1) xs) a.1 >>= λ more. Ok (a.0 ∷ more.0, more.1))
-
-  pub fold-more : (s : Specification) (left t : Section) (a : NamedValue) → i < length xs → attribute_at e (get_or xs i s) left ≡ Ok (a, t)
-      → after x (attributes_at e (drop i xs) left) ≡ after (f x a) (attributes_at e (drop (i + 1) xs) t)
-  unfolding attributes_at
-  fold-more s left t a h k =
-      at_drop_more (λ ys. after x (attributes_at e ys left)) xs i s h ∙ ap next k ∙ front (attributes_at e (drop (i + 1) xs) t)
-    where
-      front : (read : Reading (List NamedValue)) → after x (read >>= λ more. Ok (a ∷ more.0, more.1)) ≡ after (f x a) read
-      front (Ok y) = refl
-      front (Err y) = refl
-
-  pub fold-fault : (s : Specification) (left : Section) (g : Error) → i < length xs → attribute_at e (get_or xs i s) left ≡ Err g
-      → after x (attributes_at e (drop i xs) left) ≡ Err g
-  unfolding attributes_at
-  fold-fault s left g h k = at_drop_more (λ ys. after x (attributes_at e ys left)) xs i s h ∙ ap next k
-
-  pub fold-end : (left : Section) → length xs ≤ i → after x (attributes_at e (drop i xs) left) ≡ x
-  unfolding attributes_at
-  fold-end left h = at_drop_all (λ ys. after x (attributes_at e ys left)) xs i h
-
--- an answer after one more attribute
-pub taken : {X Y : Type 0} (may : Bool) (view : X → Y) (more : Y → Result Y Error) (found next : Result X Error) (given : Result Y Error) → ExactlyUnlessOomIf may view found given → IsTakenIn may view more found next → ExactlyUnlessOomIf may view next (given >>= more)
-taken may view more (Ok x) next given h t = subst (λ g. ExactlyUnlessOomIf may view next (g >>= more)) (sym h) t
-taken may view more (Err e) next given h t = subst (λ r. ExactlyUnlessOomIf may view r (given >>= more)) (sym t) (λ k. ap (λ g. g >>= more) (h k))
-
--- an attribute that was read or passed over, and what it says
-pub record Passed (given : Reading NamedValue) (left : Section) (name : DwAt) (o : Option NamedValue) (wanted : Bool) : Type 0 where
-  pub attribute : NamedValue
-  pub is : given ≡ Ok (attribute, left)
-  pub said : (o ≡ Some attribute) ⊎ ((o ≡ None) × (attribute.name ≡ name) × (wanted ≡ false))
-
-pub passed : (may wanted : Bool) (e : Encoding) (x : Specification) (s left : Section) (o : Option NamedValue) → IsReadIf may wanted left (Ok o) (attribute_at e x s) → Passed (attribute_at e x s) left x.name o wanted
-passed may wanted e x s left (Some a) h = record { attribute = a; is = h; said = inl refl }
-passed may wanted e x s left None h = by_read (attribute_at e x s) refl h.0
-  where
-    by_read : (r : Reading NamedValue) → attribute_at e x s ≡ r → rest_of r ≡ Ok left → Passed (attribute_at e x s) left x.name None wanted
-    by_read (Ok a) k l = let is : attribute_at e x s ≡ Ok (a.0, left) = k ∙ ap (λ r. Ok (a.0, r)) (let same : a.1 ≡ left = cc in same) in record { attribute = a.0; is = is; said = inr (refl, named e x s left a.0 is, h.1) }
-    by_read (Err f) k l = absurd cc
-
--- passing over one attribute
-pub one_rest : (e : Encoding) (x : Specification) (s : Section) → rest_of (attribute_at e x s) ≡ rest_of (attributes_at e (x ∷ []) s)
-unfolding attributes_at
-one_rest e x s = by_read (attribute_at e x s)
-  where
-    by_read : (r : Reading NamedValue) → rest_of r ≡ rest_of (r >>= λ a. attributes_at e [] a.1 >>= λ more. Ok (a.0 ∷ more.0, more.1))
-    by_read (Ok a) = refl
-    by_read (Err f) = refl
-
-pub no_rest : {A : Type 0} (r : Reading A) (f : Error) → rest_of r ≡ Err f → r ≡ Err f
-no_rest (Ok a) f h = absurd cc
-no_rest (Err g) f h = let same : g ≡ f = cc in ap Err same
-
--- an attribute that says nothing of an inlined entry changes nothing
-pub still : (scope : Scope) (u : UnitRecord) (x : Result InlinedAttributes Error) (a : NamedValue) → is_inlined_attribute a.name ≡ false → or_with_inlined_attribute scope u x a ≡ x
-still scope u (Ok x) a h = unwanted scope u x a h
-still scope u (Err f) a h = refl
-
--- an attribute that was passed over says nothing of a name
-pub name_said : (scope : Scope) (u : UnitRecord) (x : Result (Option Section) Error) (given : Reading NamedValue) (left : Section) (name : DwAt) (o : Option NamedValue) (wanted : Bool) → (p : Passed given left name o wanted) → wanted ≡ is_name_attribute name
-    → or_with_name scope u x p.attribute ≡ (x >>= λ y. with_read_name scope u y o)
-name_said scope u x given left name o wanted p w = elim p.said [
-  | inl e ↦ ap (λ v. x >>= λ y. with_read_name scope u y v) (sym e)
-  | inr h ↦ same x (ap is_name_attribute h.1 ∙ sym w ∙ h.2) ∙ ap (λ v. x >>= λ y. with_read_name scope u y v) (sym h.0)
-]
-  where
-    same : (r : Result (Option Section) Error) → is_name_attribute p.attribute.name ≡ false → or_with_name scope u r p.attribute ≡ (r >>= λ y. Ok y)
-    same (Ok y) h = nameless scope u y p.attribute h
-    same (Err f) h = refl
 
 -- an entry whose attributes follow
 module _ (scope : Scope) (u : UnitRecord) (around : List Kind) (offset : ℕ) (a : Abbrev) (left : Section) (found : FoundInlined) where

@@ -13,7 +13,7 @@ use Rattle.gimli_read.specs.Reading.{◌>>=◌}
 use Rattle.gimli_read.specs.Run.{Run}
 use Rattle.gimli_read.specs.Section.{Section}
 use Rattle.gimli_read.specs.Version.{is_before_5}
-use Rattle.gimli_read.proofs.FaultLemmas.{IsByBytes, AreByBytes, step, either, value, fault, moved_fault, result_map_is, fault_of_is, fold_is, fold_run_is, fold_of_is, attribute_is}
+use Rattle.gimli_read.proofs.FaultLemmas.{IsByBytes, AreByBytes, step, either, value, fault, moved_fault, result_map_is, fault_of_is, fold_run_is, fold_of_is, attribute_is}
 use Rattle.gimli_line.specs.Header.{File, Header, Program}
 use Rattle.gimli_line.specs.Lines.{lines_of}
 use Rattle.gimli_line.proofs.FaultLemmas.{rows_of_are}
@@ -21,16 +21,16 @@ use Rattle.gimli.specs.Items.{Entry, Item, items_of, items_at, subtree_of}
 use Rattle.gimli.specs.Ranges.{ranges_at}
 use Rattle.gimli.specs.Sections.{Sections}
 use Rattle.gimli.specs.Unit.{UnitRecord}
-use Rattle.gimli.proofs.FaultLemmas.{attr_string_is, indexed_number_is, ranges_offset_is, ranges_are, list_items_are, entry_bytes_is, entry_code_is, items_of_end, items_at_end, subtree_end}
+use Rattle.gimli.proofs.FaultLemmas.{attr_string_is, indexed_number_is, ranges_offset_is, ranges_are, list_items_are, entry_bytes_is, entry_code_is, items_of_end, items_at_end, subtree_end, taken_in_is}
 use Rattle.addr2line_lines.specs.declared.function.RangeAttributes.{RangeAttributes}
 use Rattle.addr2line_lines.specs.Rows.{read_all}
 use Rattle.addr2line_lines.specs.FileTexts.{optional_string, file_directory, text_of_file, texts_of, file_texts}
 use Rattle.addr2line_lines.specs.UnitLines.{program_lines, lines_in, unit_lines}
-use Rattle.addr2line_lines.specs.RangeAttributes.{attr_address, no_range_attributes, with_range_attribute, or_with_range_attribute, range_attributes_of, ranges_of, all_ranges, attribute_ranges}
+use Rattle.addr2line_lines.specs.RangeAttributes.{attr_address, no_range_attributes, with_range_attribute, range_attributes_of, ranges_of, all_ranges, attribute_ranges}
 use Rattle.addr2line_lines.specs.Functions.{FunctionRange, is_subprogram, entry_ranges, with_function, functions_of}
 use Rattle.addr2line_lines.specs.References.{FileRecord, EntryPlace, Scope, unit_at, entry_in, sup_scope, entry_in_sup, referred}
-use Rattle.addr2line_lines.specs.Names.{is_linkage_name, is_origin, NameOrOrigin, no_name, with_name_or_origin, linkage_name_of, named_at, entry_specifications, visited, most_visited, name_within, referred_name, or_referred_name, with_name, or_with_name, name_of}
-use Rattle.addr2line_lines.specs.InlinedEntries.{InlinedAttributes, InlinedRange, no_inlined_attributes, is_inlined, with_inlined_attribute, or_with_inlined_attribute, inlined_attributes_of}
+use Rattle.addr2line_lines.specs.Names.{is_linkage_name, is_origin, NameOrOrigin, no_name, with_name_or_origin, linkage_name_of, named_at, entry_specifications, visited, most_visited, name_within, referred_name, or_referred_name, with_name, name_of}
+use Rattle.addr2line_lines.specs.InlinedEntries.{InlinedAttributes, InlinedRange, no_inlined_attributes, is_inlined, with_inlined_attribute, inlined_attributes_of}
 use Rattle.addr2line_lines.specs.Details.{PlacedItem, placed_items, is_in_function, with_inlined, with_inlined_entry, inlined_in, WholeEntry, first_whole, whole_entry_at, detail_at, stored_detail_at}
 use Rattle.addr2line_lines.specs.FunctionTable.{CachedFunction}
 use Rattle.addr2line_lines.specs.FunctionDetails.{details_fault}
@@ -94,7 +94,7 @@ with_range_attribute_is d u r a =
 
 pub range_attributes_are : (d : Sections) (u : UnitRecord) (attributes : List NamedValue) → IsByBytes (range_attributes_of d u attributes)
 range_attributes_are d u attributes =
-    fold_is (or_with_range_attribute d u) (λ r a h. step h (λ x. with_range_attribute_is d u x a)) (Ok no_range_attributes) value attributes
+    taken_in_is (with_range_attribute d u) (with_range_attribute_is d u) no_range_attributes attributes
 
 -- all ranges of a list, or its first fault
 all_ranges_are : (list : Result (List (Result Range Error)) Error) → IsByBytes list → IfOk list (λ ranges. AreByBytes ranges) → IsByBytes (all_ranges list)
@@ -171,7 +171,7 @@ with_name_is scope u name a =
     (either (is_origin a.name) (or_referred_name_is scope u name a.value) value))
 
 pub name_is : (scope : Scope) (u : UnitRecord) (attributes : List NamedValue) → IsByBytes (name_of scope u attributes)
-name_is scope u attributes = fold_is (or_with_name scope u) (λ r a h. step h (λ x. with_name_is scope u x a)) (Ok None) value attributes
+name_is scope u attributes = taken_in_is (with_name scope u) (with_name_is scope u) None attributes
 
 -- ---- inlined entries and details
 with_inlined_attribute_is : (scope : Scope) (u : UnitRecord) (x : InlinedAttributes) (a : NamedValue) → IsByBytes (with_inlined_attribute scope u x a)
@@ -181,7 +181,7 @@ with_inlined_attribute_is scope u x a =
 
 pub inlined_attributes_are : (scope : Scope) (u : UnitRecord) (attributes : List NamedValue) → IsByBytes (inlined_attributes_of scope u attributes)
 inlined_attributes_are scope u attributes =
-    fold_is (or_with_inlined_attribute scope u) (λ r a h. step h (λ x. with_inlined_attribute_is scope u x a)) (Ok no_inlined_attributes) value attributes
+    taken_in_is (with_inlined_attribute scope u) (with_inlined_attribute_is scope u) no_inlined_attributes attributes
 
 with_inlined_is : (scope : Scope) (u : UnitRecord) (found : List InlinedRange) (x : PlacedItem) → IsByBytes (with_inlined scope u found x).given
 with_inlined_is scope u found x = by_entry x.item.entry

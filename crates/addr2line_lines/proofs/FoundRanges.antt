@@ -13,12 +13,13 @@ use Rattle.gimli.specs.EntryCursor.{EntryCursor, entry_abbreviation_at, next_off
 use Rattle.gimli.specs.Sections.{Sections}
 use Rattle.gimli.specs.Unit.{UnitRecord}
 use Rattle.gimli.specs.WantedAttributes.{HasNoWanted}
-use Rattle.gimli.proofs.WantedLemmas.{PassesOver, fold_passes, wanted_end}
+use Rattle.gimli.proofs.SinkLemmas.{taken_passes}
+use Rattle.gimli.proofs.WantedLemmas.{wanted_end}
 use Rattle.addr2line_lines.specs.declared.function.RangeAttributes.{RangeAttributes}
 use Rattle.addr2line_lines.specs.FoundFunctions.{FoundFunctions, next_found_at}
 use Rattle.addr2line_lines.specs.FoundRanges.{is_function, is_range_specification, is_range_name}
 use Rattle.addr2line_lines.specs.Functions.{is_subprogram}
-use Rattle.addr2line_lines.specs.RangeAttributes.{no_range_attributes, or_with_range_attribute, range_attributes_after, with_range_attribute}
+use Rattle.addr2line_lines.specs.RangeAttributes.{no_range_attributes, range_attributes_after, with_range_attribute}
 use Rattle.addr2line_lines.proofs.FunctionLemmas.{function_fault, function_found, other_found}
 use Rattle.addr2line_lines.proofs.NameLemmas.{none_of}
 
@@ -36,25 +37,15 @@ none_holds p (x ∷ xs) h (suc k) d l = none_holds p xs (rest (p x) h) k d (omeg
     rest true h = absurd cc
     rest false h = h
 
-module _ (d : Sections) (u : UnitRecord) (e : Encoding) where
-  -- an attribute of another name says nothing of ranges
-  rangeless : (r : RangeAttributes) (a : NamedValue) → is_range_name a.name ≡ false → with_range_attribute d u r a ≡ Ok r
-  unfolding with_range_attribute
-  rangeless r a h =
-      let p = none_of (a.name.0 == DW_AT_low_pc.0) (a.name.0 == DW_AT_high_pc.0) (a.name.0 == DW_AT_ranges.0) h in
-      second _ _ _ p.0 ∙ second _ _ _ p.1 ∙ second _ _ _ p.2
-    where
-      second : {A : Type 0} (b : Bool) (x y : A) → b ≡ false → cond b x y ≡ y
-      second b x y h = ap (λ c. cond c x y) h
-
-  or_rangeless : (r : Result RangeAttributes Error) (a : NamedValue) → is_range_name a.name ≡ false → or_with_range_attribute d u r a ≡ r
-  or_rangeless (Ok r) a h = rangeless r a h
-  or_rangeless (Err f) a h = refl
-
-  -- so others are passed over
-  pub range_passes : (r : Result RangeAttributes Error)
-      → PassesOver e is_range_name (λ xs left. range_attributes_after d u r (attributes_at e xs left)) (λ xs a. range_attributes_after d u (or_with_range_attribute d u r a.0) (attributes_at e xs a.1)) (λ _. r)
-  range_passes r = fold_passes e is_range_name (or_with_range_attribute d u) (λ x. x) or_rangeless r
+-- an attribute of another name says nothing of ranges
+pub rangeless : (d : Sections) (u : UnitRecord) (r : RangeAttributes) (a : NamedValue) → is_range_name a.name ≡ false → with_range_attribute d u r a ≡ Ok r
+unfolding with_range_attribute
+rangeless d u r a h =
+    let p = none_of (a.name.0 == DW_AT_low_pc.0) (a.name.0 == DW_AT_high_pc.0) (a.name.0 == DW_AT_ranges.0) h in
+    second _ _ _ p.0 ∙ second _ _ _ p.1 ∙ second _ _ _ p.2
+  where
+    second : {A : Type 0} (b : Bool) (x y : A) → b ≡ false → cond b x y ≡ y
+    second b x y h = ap (λ c. cond c x y) h
 
 -- an entry whose abbreviation isn't that of functions with ranges is passed over
 module _ (d : Sections) (u : UnitRecord) (unit : EntryUnit) where
@@ -63,7 +54,7 @@ module _ (d : Sections) (u : UnitRecord) (unit : EntryUnit) where
   no_function_found may c t s found a e r h k q n m g = by_kind (is_subprogram a) refl n r g
     where
       none : HasNoWanted is_range_name a.attributes → (left : Result Section Error) → rest_of (attributes_at e a.attributes t.left) ≡ left → range_attributes_after d u (Ok no_range_attributes) (attributes_at e a.attributes t.left) ≡ (left >>= λ z. Ok no_range_attributes)
-      none rangeless left g = wanted_end (range_passes d u e (Ok no_range_attributes)) rangeless g
+      none others left g = wanted_end (taken_passes e is_range_name (with_range_attribute d u) (rangeless d u) (Ok no_range_attributes)) others g
 
       by_kind : (b : Bool) → is_subprogram a ≡ b → (b && list_any is_range_specification a.attributes) ≡ false → (r : Result (Unit {0}) Error) → Exactly (λ _. s.left) r (rest_of (attributes_at e a.attributes t.left)) → ExactlyUnlessOomIf may (λ _. (found, s)) r (next_found_at d u unit c found)
       by_kind false is n r g = other_found d u unit may c t s found a e r h k q is m g

@@ -39,14 +39,12 @@ pub mod WholeEntries
 pub mod ItemsAround
 pub mod NestedInlined
 pub mod ReferenceLemmas
-pub mod PassLemmas
 pub mod NameLemmas
 pub mod UnitOrder
 pub mod NameChains
 pub mod DetailLemmas
 pub mod NumberLemmas
 pub mod FoundRanges
-pub mod WantedLemmas
 pub mod NestingLemmas
 pub mod CachedNameLemmas
 pub mod DetailRanges

@@ -1,26 +1,23 @@
 -- Numbers among the attributes of inlined entries (on specs/FoundNumbers.antt).
-use Rattle.std.proofs.Common.{◌≡◌, ℕ, ◌==◌, ◌||◌, Bool, true, false, cond, Option, Some, None, Result, Ok, Err, refl, ap, subst, sym, ◌∙◌, ℤ, pos, negsuc}
+use Rattle.std.proofs.Common.{◌≡◌, ℕ, ◌==◌, ◌||◌, Bool, true, false, Option, Some, None, Result, Ok, refl, ap, subst, ◌∙◌, pos, negsuc}
 use Rattle.std.specs.Option.{option_or}
 use Rattle.gimli_read.specs.declared.constants.DwAt.{DwAt}
 use Rattle.gimli_read.specs.declared.constants.TheConstants.DwAt.{DW_AT_abstract_origin, DW_AT_high_pc, DW_AT_low_pc, DW_AT_ranges, DW_AT_specification}
-use Rattle.gimli_read.specs.declared.constants.TheConstants.DwForm.{DW_FORM_implicit_const}
-use Rattle.gimli_read.specs.declared.endian.Encoding.{Encoding}
 use Rattle.gimli_read.specs.declared.error.Error.{Error}
 use Rattle.gimli_read.specs.declared.number_value.NumberValue.{NumberValue}
 use Rattle.gimli_read.specs.declared.number_value.NumberValue.TheVariants as numbers
 use Rattle.gimli_read.specs.declared.value.AttributeValue.{AttributeValue}
 use Rattle.gimli_read.specs.declared.value.AttributeValue.TheVariants as values
 use Rattle.gimli_read.specs.declared.value.UnitOffset.{UnitOffset}
-use Rattle.gimli_read.specs.Abbreviations.{Specification}
-use Rattle.gimli_read.specs.Form.{NamedValue, attribute_at, constant_of, implicit_of, named_value, value_at}
-use Rattle.gimli_read.specs.NumberValue.{implicit_number, is_number_form, number_address, number_at, number_constant, number_if}
-use Rattle.gimli_read.specs.Reading.{Reading, ◌>>=◌, ExactlyUnlessOomIf}
+use Rattle.gimli_read.specs.Form.{NamedValue, constant_of}
+use Rattle.gimli_read.specs.NumberValue.{number_address, number_constant, number_if}
+use Rattle.gimli_read.specs.Reading.{◌>>=◌}
 use Rattle.gimli_read.specs.Section.{Section}
 use Rattle.gimli.specs.Sections.{Sections}
 use Rattle.gimli.specs.Unit.{UnitRecord}
 use Rattle.addr2line_lines.specs.declared.function.RangeAttributes.{RangeAttributes}
 use Rattle.addr2line_lines.specs.InlinedEntries.{InlinedAttributes, with_call_constant, with_inlined_attribute}
-use Rattle.addr2line_lines.specs.FoundAttributes.{IsTakenIn, is_call, or_fault}
+use Rattle.addr2line_lines.specs.FoundAttributes.{is_call}
 use Rattle.addr2line_lines.specs.FoundNumbers.{is_number_name, with_range_number}
 use Rattle.addr2line_lines.specs.FoundRanges.{is_address_name, is_range_name}
 use Rattle.addr2line_lines.specs.Names.{is_origin, or_referred_name, with_name}
@@ -70,6 +67,12 @@ as_address d u v n h = by_number (λ w m. attr_address d u w ≡ Ok (number_addr
 abbrev pub name_by_number : Scope → UnitRecord → Option Section → NumberValue → Result (Option Section) Error
 name_by_number scope u found (numbers.UnitRef offset) = or_referred_name scope u found (values.UnitRef offset)
 name_by_number scope u found _ = Ok found
+
+-- where it is none
+pub no_reference : (scope : Scope) (u : UnitRecord) (found : Option Section) (n : NumberValue) → ((offset : UnitOffset) → n ≡ numbers.UnitRef offset → ⊥) → name_by_number scope u found n ≡ Ok found
+no_reference scope u found (numbers.UnitRef offset) h = absurd (h offset refl)
+no_reference scope u found (numbers.Address x) h = refl
+no_reference scope u found (numbers.Constant x) h = refl
 
 -- another value refers to no entry
 unreferred : (scope : Scope) (u : UnitRecord) (found : Option Section) (v : AttributeValue Section) → referred scope u v ≡ Ok None → or_referred_name scope u found v ≡ Ok found
@@ -148,66 +151,3 @@ module _ (scope : Scope) (u : UnitRecord) (x : InlinedAttributes) (name : DwAt) 
   origin_number c r h =
       name_taken scope u x (attribute_of name v) c r
       ∙ ap (λ (given : Result (Option Section) Error). given >>= λ named. Ok (record { ranges = x.ranges; name = named; call = x.call })) (origin_name scope u x.name name v (origin_is name c r h) ∙ as_reference scope u x.name v n is)
-
--- what was taken in without a fault, where there may be one before
-pub unfaulted : {X Y : Type 0} (may : Bool) (view : X → Y) (more : Y → Result Y Error) (old new : X) (fault : Option Error) → more (view old) ≡ Ok (view new) → IsTakenIn may view more (or_fault old fault) (or_fault new fault)
-unfaulted may view more old new None h = h
-unfaulted may view more old new (Some e) h = refl
-
--- the same as one equality
-pub taken_unfaulted : {X : Type 0} (more : X → Result X Error) (old new : X) (fault : Option Error) → more old ≡ Ok new → or_fault new fault ≡ (or_fault old fault >>= more)
-taken_unfaulted more old new None h = sym h
-taken_unfaulted more old new (Some e) h = refl
-
--- what is given with an attribute, in other words
-pub taken_alike : {X Y : Type 0} (may : Bool) (view : X → Y) (more other : Y → Result Y Error) (old result : Result X Error) → ((y : Y) → more y ≡ other y) → IsTakenIn may view other old result → IsTakenIn may view more old result
-taken_alike may view more other (Ok x) result same h = subst (ExactlyUnlessOomIf may view result) (sym (same (view x))) h
-taken_alike may view more other (Err e) result same h = h
-
-none_is_some : (n : NumberValue) (s t : Section) → ◌≡◌ {A = Reading (Option NumberValue)} (Ok (None, s)) (Ok (Some n, t)) → ◌≡◌ {A = Option NumberValue} None (Some n)
-none_is_some n s t h = ap (λ (y : Option NumberValue × Section). y.0) (let same : ◌≡◌ {A = Option NumberValue × Section} (None, s) (Some n, t) = cc in same)
-
--- an attribute whose value was read as a number
-pub record ReadAsNumber (given : Reading NamedValue) (left : Section) (n : NumberValue) : Type 0 where
-  pub attribute : NamedValue
-  pub is : given ≡ Ok (attribute, left)
-  pub number : number_if attribute.value ≡ Some n
-
-pub number_read : (e : Encoding) (x : Specification) (s t : Section) (n : NumberValue) → number_at e x s ≡ Ok (Some n, t) → ReadAsNumber (attribute_at e x s) t n
-unfolding attribute_at
-number_read e x s t n h = by_form (x.form.0 == DW_FORM_implicit_const.0) refl (is_number_form x.form) h
-  where
-    named_constant : Option ℤ → Reading NamedValue
-    named_constant o = implicit_of o >>= λ value. Ok (named_value x value, s)
-
-    by_constant : (o : Option ℤ) → attribute_at e x s ≡ named_constant o → ◌≡◌ {A = Reading (Option NumberValue)} (Ok (implicit_number o, s)) (Ok (Some n, t)) → ReadAsNumber (attribute_at e x s) t n
-    by_constant None is h = absurd (let no = none_is_some n s t h in cc)
-    by_constant (Some (pos m)) is h =
-        let same : ◌≡◌ {A = Option NumberValue × Section} (Some (numbers.Constant m), s) (Some n, t) = cc in
-        record { attribute = named_value x (values.Sdata (pos m)); is = is ∙ ap (λ (y : Option NumberValue × Section). Ok (named_value x (values.Sdata (pos m)), y.1)) same; number = ap (λ (y : Option NumberValue × Section). y.0) same }
-    by_constant (Some (negsuc m)) is h = absurd (let no = none_is_some n s t h in cc)
-
-    read : (r : Reading NamedValue) → attribute_at e x s ≡ r → ◌≡◌ {A = Reading (Option NumberValue)} (r >>= λ a. Ok (number_if a.0.value, a.1)) (Ok (Some n, t)) → ReadAsNumber (attribute_at e x s) t n
-    read (Ok a) is h =
-        let same : ◌≡◌ {A = Option NumberValue × Section} (number_if a.0.value, a.1) (Some n, t) = cc in
-        record { attribute = a.0; is = is ∙ ap (λ (y : Option NumberValue × Section). Ok (a.0, y.1)) same; number = ap (λ (y : Option NumberValue × Section). y.0) same }
-    read (Err f) is h = absurd cc
-
-    by_form : (b : Bool) → (x.form.0 == DW_FORM_implicit_const.0) ≡ b → (c : Bool) → ◌≡◌ {A = Reading (Option NumberValue)} (cond b (Ok (implicit_number x.constant, s)) (cond c (attribute_at e x s >>= λ a. Ok (number_if a.0.value, a.1)) (Ok (None, s)))) (Ok (Some n, t))
-        → ReadAsNumber (attribute_at e x s) t n
-    by_form true is c h = by_constant x.constant (ap (λ b. cond b (named_constant x.constant) (value_at e x.form.0 s >>= λ v. Ok (named_value x v.0, v.1))) is) h
-    by_form false is true h = read (attribute_at e x s) refl h
-    by_form false is false h = absurd (let no = none_is_some n s t h in cc)
-
--- its fault is the attribute's
-pub number_fault : (e : Encoding) (x : Specification) (s : Section) (f : Error) → number_at e x s ≡ Err f → attribute_at e x s ≡ Err f
-number_fault e x s f h = by_form (x.form.0 == DW_FORM_implicit_const.0) (is_number_form x.form) h
-  where
-    read : (r : Reading NamedValue) → ◌≡◌ {A = Reading (Option NumberValue)} (r >>= λ a. Ok (number_if a.0.value, a.1)) (Err f) → r ≡ Err f
-    read (Ok a) h = absurd cc
-    read (Err g) h = let same : g ≡ f = cc in ap Err same
-
-    by_form : (b c : Bool) → ◌≡◌ {A = Reading (Option NumberValue)} (cond b (Ok (implicit_number x.constant, s)) (cond c (attribute_at e x s >>= λ a. Ok (number_if a.0.value, a.1)) (Ok (None, s)))) (Err f) → attribute_at e x s ≡ Err f
-    by_form true c h = absurd cc
-    by_form false true h = read (attribute_at e x s) h
-    by_form false false h = absurd cc

@@ -17,7 +17,7 @@ use Rattle.addr2line_lines.specs.declared.names.CachedName as declared_name
 use Rattle.addr2line_lines.specs.declared.names.NameCache.{NameCache}
 use Rattle.addr2line_lines.specs.Grown.{IsGrown}
 use Rattle.addr2line_lines.specs.Names.{referred_name}
-use Rattle.addr2line_lines.specs.References.{Scope}
+use Rattle.addr2line_lines.specs.References.{IsScope, Scope}
 
 -- the name that an entry gives, or the fault of that, by where the entry begins, in bytes from the
 -- start of the unit's length
@@ -60,6 +60,10 @@ AreNamesOf scope u names = AllByRecursion (IsNameOf scope u) names
 pub record AreNamesMore (scope : Scope) (u : UnitRecord) (old new : List CachedName) : Type 0 where
   pub right : AreNamesOf scope u new
   pub grown : IsGrown old new
+
+-- the same, where references lead somewhere
+abbrev pub GrowNames : Scope → UnitRecord → List CachedName → List CachedName → Type 0
+GrowNames scope u old new = IsScope scope × AreNamesMore scope u old new
 
 -- one more name, or fault, stands at the end, or nothing changed
 abbrev pub IsOneMoreAtMost : CachedName → List CachedName → List CachedName → Type 0

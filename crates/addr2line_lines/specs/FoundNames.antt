@@ -1,20 +1,21 @@
 -- Names as they are found, and the units and entries that references lead to, as the private
 -- functions see them.
-use Rattle.std.specs.Prelude.{ℕ, ◌≡◌, ◌==◌, ◌||◌, leb, Bool, true, false, List, fold, Option, Some, None, option_map, Result, Ok}
+use Rattle.std.specs.Prelude.{ℕ, ◌≡◌, ◌==◌, ◌||◌, leb, Bool, true, false, List, Option, Some, option_map, Result}
 use Rattle.std.specs.Option.{option_or}
 use Rattle.gimli_read.specs.declared.constants.DwAt.{DwAt}
 use Rattle.gimli_read.specs.declared.constants.TheConstants.DwAt.{DW_AT_name}
 use Rattle.gimli_read.specs.declared.error.Error.{Error}
 use Rattle.gimli_read.specs.declared.value.AttributeValue.{AttributeValue}
 use Rattle.gimli_read.specs.Form.{NamedValue, seen_value}
-use Rattle.gimli_read.specs.Reading.{Reading, ◌>>=◌}
+use Rattle.gimli_read.specs.Reading.{Reading}
 use Rattle.gimli_read.specs.Section.{Section}
+use Rattle.gimli.specs.TakenAttributes.{taken_after}
 use Rattle.gimli.specs.Unit.{UnitRecord}
 use Rattle.addr2line_lines.specs.declared.references.EntryPlace.{EntryPlace as EntryPlaceOf}
 use Rattle.addr2line_lines.specs.declared.found_name.FoundName.{FoundName}
 use Rattle.addr2line_lines.specs.declared.found_name.FoundName.TheVariants.{Own, Shared}
 use Rattle.addr2line_lines.specs.declared.name.NameOrOrigin.{NameOrOrigin as NameOrOriginOf}
-use Rattle.addr2line_lines.specs.Names.{NameOrOrigin, is_linkage_name, is_origin, linkage_name_of, or_with_name, with_name, with_name_or_origin}
+use Rattle.addr2line_lines.specs.Names.{NameOrOrigin, is_linkage_name, is_origin, linkage_name_of, with_name, with_name_or_origin}
 use Rattle.addr2line_lines.specs.References.{EntryPlace, Scope}
 use Rattle.addr2line_lines.specs.SeenScope.{seen_scope}
 
@@ -66,13 +67,7 @@ with_string string found = record found { name = option_or string found.name }
 abbrev pub with_origin : AttributeValue Section → NameOrOrigin → NameOrOrigin
 with_origin value found = record found { origin = Some value }
 
--- one more attribute of a function, if it was wanted
-abbrev pub with_read_name : Scope → UnitRecord → Option Section → Option NamedValue
-    → Result (Option Section) Error
-with_read_name scope u name None = Ok name
-with_read_name scope u name (Some a) = with_name scope u name a
-
 -- the name by attributes that are read, after those that were read before
 abbrev pub name_after : Scope → UnitRecord → Result (Option Section) Error
     → Reading (List NamedValue) → Result (Option Section) Error
-name_after scope u name read = read >>= λ y. fold (or_with_name scope u) name y.0
+name_after scope u name read = taken_after (with_name scope u) name read

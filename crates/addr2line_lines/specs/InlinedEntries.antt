@@ -3,7 +3,7 @@
 -- Own: of call_file a constant counts that is above 0, or any in version 5; call_line and
 -- call_column keep their low 32 bits, and are 0 where they are no constant. The last of each
 -- counts.
-use Rattle.std.specs.Prelude.{ℕ, ◌==◌, ◌||◌, nat_lt, Bool, List, fold, map, Option, Some, None, option_and_then, unwrap_or, Result, Ok, if◌then◌else◌}
+use Rattle.std.specs.Prelude.{ℕ, ◌==◌, ◌||◌, nat_lt, Bool, List, map, Option, Some, None, option_and_then, unwrap_or, Result, Ok, if◌then◌else◌}
 use Rattle.std.specs.Option.{option_or}
 use Rattle.gimli_read.specs.declared.constants.DwAt.{DwAt}
 use Rattle.gimli_read.specs.declared.constants.TheConstants.DwAt.{DW_AT_call_column, DW_AT_call_file, DW_AT_call_line}
@@ -15,6 +15,7 @@ use Rattle.gimli_read.specs.Form.{NamedValue, constant_of}
 use Rattle.gimli_read.specs.Reading.{◌>>=◌}
 use Rattle.gimli_read.specs.Section.{Section}
 use Rattle.gimli_read.specs.Version.{is_5}
+use Rattle.gimli.specs.TakenAttributes.{taken_in}
 use Rattle.gimli.specs.Unit.{UnitRecord}
 use Rattle.addr2line_lines.specs.declared.function.RangeAttributes.{RangeAttributes}
 use Rattle.addr2line_lines.specs.declared.inlined.CallSite.{CallSite}
@@ -89,17 +90,11 @@ with_inlined_attribute scope u x a = do
     call = with_call u.header.encoding.version x.call a;
   })
 
--- the same, where no attribute before has a fault
-abbrev pub or_with_inlined_attribute
-    : Scope → UnitRecord → Result InlinedAttributes Error → NamedValue
-    → Result InlinedAttributes Error
-or_with_inlined_attribute scope u x a = x >>= λ found. with_inlined_attribute scope u found a
-
 -- what the attributes of an inlined entry say, or the first fault among them
 abbrev pub inlined_attributes_of : Scope → UnitRecord → List NamedValue
     → Result InlinedAttributes Error
 inlined_attributes_of scope u attributes =
-    fold (or_with_inlined_attribute scope u) (Ok no_inlined_attributes) attributes
+    taken_in (with_inlined_attribute scope u) (Ok no_inlined_attributes) attributes
 
 -- the entry of these attributes
 abbrev pub inlined_entry : ℕ → InlinedAttributes → InlinedEntry

@@ -3,7 +3,7 @@
 -- else the first attribute that gives a name, by itself or by the entry that it refers to.
 -- Own: of an entry that is referred to, the first linkage name counts and ends its reading, else
 -- the last name, else the entry that its last reference names; at most 16 such entries are visited.
-use Rattle.std.specs.Prelude.{ℕ, zero, suc, ◌==◌, ◌||◌, Bool, List, [], ◌∷◌, fold, Option, Some, None, Result, Ok, Err, if◌then◌else◌}
+use Rattle.std.specs.Prelude.{ℕ, zero, suc, ◌==◌, ◌||◌, Bool, List, [], ◌∷◌, Option, Some, None, Result, Ok, Err, if◌then◌else◌}
 use Rattle.std.specs.Option.{option_or}
 use Rattle.std.specs.Result.{result_ok}
 use Rattle.gimli_read.specs.declared.constants.DwAt.{DwAt}
@@ -17,6 +17,7 @@ use Rattle.gimli_read.specs.Reading.{◌>>=◌}
 use Rattle.gimli_read.specs.Section.{Section}
 use Rattle.gimli.specs.Entries.{entry_bytes_from}
 use Rattle.gimli.specs.Entry.{entry_code_at}
+use Rattle.gimli.specs.TakenAttributes.{taken_in}
 use Rattle.gimli.specs.Unit.{UnitRecord, attr_string_of}
 use Rattle.addr2line_lines.specs.References.{EntryPlace, Scope, referred}
 
@@ -115,11 +116,6 @@ with_name scope u name a =
     else if is_origin a.name then or_referred_name scope u name a.value
     else Ok name
 
--- the same, where no attribute before has a fault
-abbrev pub or_with_name : Scope → UnitRecord → Result (Option Section) Error → NamedValue
-    → Result (Option Section) Error
-or_with_name scope u name a = name >>= λ x. with_name scope u x a
-
 -- the name of an entry by its attributes, or the first fault of a reference
 abbrev pub name_of : Scope → UnitRecord → List NamedValue → Result (Option Section) Error
-name_of scope u attributes = fold (or_with_name scope u) (Ok None) attributes
+name_of scope u attributes = taken_in (with_name scope u) (Ok None) attributes

@@ -3,7 +3,7 @@
 -- of ranges the last, also where its value is of another class and stands for no list.
 -- Own: a range list counts before low_pc, also an empty one, and its fault is the answer; a high_pc
 -- address counts before a size, whose sum wraps at 64 bits. Empty and reversed ranges are dropped.
-use Rattle.std.specs.Prelude.{ℕ, ◌+◌, ◌%◌, ◌^◌, ◌==◌, nat_lt, Bool, true, false, List, [], ◌∷◌, map, fold, Option, Some, None, Result, Ok, if◌then◌else◌}
+use Rattle.std.specs.Prelude.{ℕ, ◌+◌, ◌%◌, ◌^◌, ◌==◌, nat_lt, Bool, true, false, List, [], ◌∷◌, map, Option, Some, None, Result, Ok, if◌then◌else◌}
 use Rattle.std.specs.Option.{option_or}
 use Rattle.gimli_read.specs.declared.error.Error.{Error}
 use Rattle.gimli_read.specs.declared.range.Range.{Range}
@@ -16,6 +16,7 @@ use Rattle.gimli_read.specs.Form.{NamedValue, constant_of}
 use Rattle.gimli.specs.Ranges.{ranges_at}
 use Rattle.gimli.specs.RangesOffset.{ranges_offset_of}
 use Rattle.gimli.specs.Sections.{Sections}
+use Rattle.gimli.specs.TakenAttributes.{taken_after, taken_in}
 use Rattle.gimli.specs.Text.{indexed_number}
 use Rattle.gimli.specs.Unit.{UnitRecord}
 use Rattle.addr2line_lines.specs.declared.function.RangeAttributes.{RangeAttributes}
@@ -47,22 +48,16 @@ with_range_attribute d u r a =
     Ok (record r { ranges_offset = offset }))
     else Ok r
 
--- one more attribute, where none before it has a fault
-abbrev pub or_with_range_attribute
-    : Sections → UnitRecord → Result RangeAttributes Error → NamedValue
-    → Result RangeAttributes Error
-or_with_range_attribute d u r a = r >>= λ x. with_range_attribute d u x a
-
 -- what attributes say, the last of each counting, or the first fault of an address's index
 abbrev pub range_attributes_of
     : Sections → UnitRecord → List NamedValue → Result RangeAttributes Error
 range_attributes_of d u attributes =
-    fold (or_with_range_attribute d u) (Ok no_range_attributes) attributes
+    taken_in (with_range_attribute d u) (Ok no_range_attributes) attributes
 
 -- what attributes that are read say, after those that were read before
 abbrev pub range_attributes_after : Sections → UnitRecord → Result RangeAttributes Error
     → Reading (List NamedValue) → Result RangeAttributes Error
-range_attributes_after d u r read = read >>= λ x. fold (or_with_range_attribute d u) r x.0
+range_attributes_after d u r read = taken_after (with_range_attribute d u) r read
 
 -- a range, unless it is empty or reversed
 abbrev pub range_between : ℕ → ℕ → List Range

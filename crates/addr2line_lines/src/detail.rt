@@ -9,79 +9,24 @@ ghost use Rattle.addr2line_lines.specs.CostedSteps.{on_parts};
 ghost use Rattle.addr2line_lines.specs.Finding.{FindsAtCost};
 ghost use Rattle.addr2line_lines.specs.CachedNames.{AreNamesMore, AreNamesOf, seen_names};
 ghost use Rattle.addr2line_lines.specs.FoundInlined.{IsFoundMore, named_lists, seen_lists};
-ghost use Rattle.addr2line_lines.specs.FoundAttributes.{IsTakenIn};
-ghost use Rattle.addr2line_lines.specs.FoundNames.{found_name, with_read_name, name_after};
+ghost use Rattle.addr2line_lines.specs.FoundNames.{name_after};
 ghost use Rattle.addr2line_lines.specs.FoundDetails.{detail_found_at, function_found_at};
 ghost use Rattle.addr2line_lines.specs.FoundItems.{entry_found_at, inside_found, item_found_at, seen_around};
 ghost use Rattle.addr2line_lines.specs.References.{IsScope};
 ghost use Rattle.addr2line_lines.specs.SeenScope.{seen_scope};
 
 use crate::found_name::FoundName;
-use crate::inlined::{read_attribute_if, read_inlined_attributes};
+use crate::inlined::read_inlined_attributes;
 use crate::inlined_lists::InlinedLists;
-use crate::name::{is_name_attribute, take_name};
+use crate::name::NameSink;
 use crate::names::NameCache;
 use crate::nesting::{Nesting, kind_of};
 use crate::references::Scope;
-use gimli::read::{Abbreviation, Attribute, AttributeSpecification, Error, Reader, UnitOffset};
-use gimli::{EntriesRaw, Unit, UnitRef};
+use gimli::read::{Abbreviation, AttributeSpecification, Error, Reader, UnitOffset};
+use gimli::{EntriesRaw, Unit, UnitRef, take_attributes};
 
-// Takes one more attribute of a function in, if it is wanted and none before it has a fault.
-fn with_attribute<R: Reader>(
-    scope: Scope<'_, R>,
-    unit: &Unit<R>,
-    name: Result<FoundName<R>, Error>,
-    attribute: Option<Attribute<R>>,
-    names: &mut NameCache<R>,
-) -> Result<FoundName<R>, Error>
-    requires in_order { IsScope (seen_scope scope) }
-    requires names { AreNamesOf (seen_scope scope) unit.now (seen_names R.section names.old) }
-    ensures gives { IsTakenIn R.shares (found_name R.section)
-        (λ x. with_read_name (seen_scope scope.entry) unit.now x attribute) name result }
-    ensures names { AreNamesMore (seen_scope scope.entry) unit.now
-        (seen_names R.section names.old) (seen_names R.section names.new) }
-{
-    match name {
-        Ok(name) => match attribute {
-            Some(attribute) => take_name(scope, unit, name, attribute, names),
-            None => Ok(name),
-        },
-        Err(error) => Err(error),
-    }
-}
-
-// The name by the attributes of specifications. A value that can't be read is a fault before that
-// of a reference, so the first of these waits until all are read.
-fn find_name<R: Reader>(
-    scope: Scope<'_, R>,
-    unit: &Unit<R>,
-    entries: &mut EntriesRaw<'_, R>,
-    specifications: &[AttributeSpecification],
-    names: &mut NameCache<R>,
-) -> Result<FoundName<R>, Error>
-    requires in_order { IsScope (seen_scope scope) }
-    requires names { AreNamesOf (seen_scope scope) unit.now (seen_names R.section names.old) }
-    requires encoding { entries.old.unit.encoding ≡ unit.now.header.encoding }
-    ensures gives { ExactlyUnlessOomIf R.shares (found_name R.section) result
-        (name_after (seen_scope scope.entry) unit.now (Ok None)
-        (attributes_at unit.now.header.encoding specifications.now entries.old.cursor.left)) }
-    ensures left { OnOk result (rest_of (attributes_at unit.now.header.encoding
-        specifications.now entries.old.cursor.left) ≡ Ok entries.new.cursor.left) }
-    ensures unit { entries.new.unit ≡ entries.old.unit }
-    ensures depth { entries.new.cursor.depth ≡ entries.old.cursor.depth }
-    ensures names { AreNamesMore (seen_scope scope.entry) unit.now
-        (seen_names R.section names.old) (seen_names R.section names.new) }
-{
-    let mut name = Ok(FoundName::none());
-    for specification in specifications {
-        let wanted = is_name_attribute(specification.name());
-        let attribute = read_attribute_if(entries, *specification, wanted)?;
-        name = with_attribute(scope, unit, name, attribute, names);
-    }
-    name
-}
-
-// The name by the attributes of specifications, for the function alone.
+// The name by the attributes of specifications, for the function alone. A value that can't be read
+// is a fault before that of a reference, so the first of these waits until all are read.
 fn read_name<R: Reader>(
     scope: Scope<'_, R>,
     unit: &Unit<R>,
@@ -102,7 +47,8 @@ fn read_name<R: Reader>(
     ensures names { AreNamesMore (seen_scope scope.entry) unit.now
         (seen_names R.section names.old) (seen_names R.section names.new) }
 {
-    let name = find_name(scope, unit, entries, specifications, names)?;
+    let sink = NameSink { scope, unit };
+    let name = take_attributes(&sink, entries, specifications, FoundName::none(), names)?;
     name.own()
 }
 

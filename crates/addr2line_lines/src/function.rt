@@ -4,19 +4,17 @@ ghost use Rattle.std.specs.Prelude.{◌≡◌, Ok, OnOk};
 ghost use Rattle.std.specs.List.{list_any};
 ghost use Rattle.std.specs.Option.{option_to_list};
 ghost use Rattle.gimli_read.specs.Reading.{Exactly, ExactlyUnlessOomIf};
-ghost use Rattle.gimli_read.specs.Form.{attribute_at, rest_of, seen_value};
-ghost use Rattle.gimli_read.specs.NumberValue.{number_at};
+ghost use Rattle.gimli_read.specs.Form.{rest_of, seen_value};
 ghost use Rattle.gimli.specs.Entry.{attributes_at};
 ghost use Rattle.gimli.specs.Ranges.{ranges_at};
 ghost use Rattle.addr2line_lines.specs.FoundRanges.{is_address_name, is_range_specification, is_range_name};
-ghost use Rattle.addr2line_lines.specs.FoundAttributes.{or_fault};
-ghost use Rattle.addr2line_lines.specs.FoundNumbers.{IsNextRead, IsNumberRead, with_range_number};
-ghost use Rattle.addr2line_lines.specs.RangeAttributes.{attr_address, no_range_attributes, with_range_attribute, or_with_range_attribute, range_attributes_after, range_between, ranges_of, all_ranges, attribute_ranges, begins_well, gives_a_range};
+ghost use Rattle.addr2line_lines.specs.FoundNumbers.{with_range_number};
+ghost use Rattle.addr2line_lines.specs.RangeAttributes.{attr_address, no_range_attributes, with_range_attribute, range_attributes_after, range_between, ranges_of, all_ranges, attribute_ranges, begins_well, gives_a_range};
 
 use gimli::read::{
     Attribute, AttributeSpecification, AttributeValue, DwAt, Error, NumberValue, Range, Reader,
 };
-use gimli::{EntriesRaw, UnitRef, WantedNames, split_at_wanted};
+use gimli::{AttributeSink, EntriesRaw, UnitRef, WantedNames, take_attributes};
 use std::alloc::Global;
 
 /// What the attributes of an entry say of its addresses, the last of each counting.
@@ -142,55 +140,6 @@ impl RangeAttributes {
         }
     }
 
-    // Takes one more attribute in, unless there is a fault, and answers the fault that there is.
-    fn take_unless<R: Reader>(
-        &mut self,
-        unit: UnitRef<'_, R>,
-        fault: Option<Error>,
-        attribute: Attribute<R>,
-    ) -> Option<Error>
-        ensures gives { or_fault self.new result ≡ or_with_range_attribute
-            unit.entry.dwarf.now unit.entry.unit.now (or_fault self.old fault) attribute }
-    {
-        match fault {
-            Some(error) => Some(error),
-            None => match self.take(unit, attribute) {
-                Ok(ranges) => {
-                    *self = ranges;
-                    None
-                }
-                Err(error) => Some(error),
-            },
-        }
-    }
-
-    // Reads the next attribute and takes it in, unless there is a fault, and answers the fault that
-    // there is. A number is read without a value being made.
-    #[inline(always)]
-    fn read_next<R: Reader>(
-        &mut self,
-        unit: UnitRef<'_, R>,
-        entries: &mut EntriesRaw<'_, R>,
-        fault: Option<Error>,
-        specification: AttributeSpecification,
-    ) -> Result<Option<Error>, Error>
-        ensures gives { IsNextRead R.shares (λ a old new. new ≡ or_with_range_attribute
-            unit.entry.dwarf.now unit.entry.unit.now old a) entries.new.cursor.left
-            (attribute_at entries.old.unit.encoding specification entries.old.cursor.left)
-            (or_fault self.old fault) self.new result }
-        ensures unit { entries.new.unit ≡ entries.old.unit }
-        ensures depth { entries.new.cursor.depth ≡ entries.old.cursor.depth }
-    {
-        let name = specification.name();
-        let wanted = is_address_name(name);
-        if let Some(number) = read_number_if(entries, specification, wanted)? {
-            self.take_number(name, number);
-            return Ok(fault);
-        }
-        let attribute = entries.read_attribute(specification)?;
-        Ok(self.take_unless(unit, fault, attribute))
-    }
-
     /// The range from low_pc on: up to the high_pc address, else of the size; none where it is
     /// empty or reversed. It counts only where there is no range list. Takes no memory.
     pub fn range(&self) -> Option<Range>
@@ -221,26 +170,6 @@ pub(crate) fn is_address_name(name: DwAt) -> bool
     name == DwAt::DW_AT_low_pc || name == DwAt::DW_AT_high_pc
 }
 
-/// Reads the next attribute as a number, if it is wanted so and one of a frequent form; else reads
-/// nothing.
-#[inline(always)]
-pub(crate) fn read_number_if<R: Reader>(
-    entries: &mut EntriesRaw<'_, R>,
-    specification: AttributeSpecification,
-    wanted: bool,
-) -> Result<Option<NumberValue>, Error>
-    ensures gives { IsNumberRead wanted entries.old.cursor.left entries.new.cursor.left result
-        (number_at entries.old.unit.encoding specification entries.old.cursor.left) }
-    ensures unit { entries.new.unit ≡ entries.old.unit }
-    ensures depth { entries.new.cursor.depth ≡ entries.old.cursor.depth }
-{
-    if wanted {
-        entries.read_number(specification)
-    } else {
-        Ok(None)
-    }
-}
-
 /// Whether any of these attributes says of its entry's ranges. Takes no memory. Source: DWARF 5,
 /// section 2.17.
 pub(crate) fn has_range_attribute(specifications: &[AttributeSpecification]) -> bool
@@ -264,6 +193,74 @@ impl WantedNames for RangeWanted {
     }
 }
 
+// Those of them that say where addresses begin or end.
+struct RangeNumbers;
+
+impl WantedNames for RangeNumbers {
+    ghost use Rattle.addr2line_lines.specs.FoundRanges.{is_address_name};
+
+    ghost wanted = { is_address_name };
+
+    #[inline(always)]
+    fn is_wanted_name(name: DwAt) -> bool {
+        is_address_name(name)
+    }
+}
+
+// Takes range attributes of an entry of a unit in.
+#[derive(Drop)]
+struct RangeSink<'a, R: Reader> {
+    unit: UnitRef<'a, R>,
+}
+
+impl<R: Reader> AttributeSink<R, Attribute<R>> for RangeSink<'_, R> {
+    ghost use Rattle.addr2line_lines.specs.declared.function.RangeAttributes.{RangeAttributes};
+    ghost use Rattle.addr2line_lines.specs.RangeAttributes.{with_range_attribute};
+
+    type Names = RangeWanted;
+
+    type Numbers = RangeNumbers;
+
+    type Found = RangeAttributes;
+
+    type Cache = ();
+
+    const FEW_BETWEEN: bool = false;
+
+    ghost seen = { λ a. a };
+
+    ghost Said = { RangeAttributes };
+
+    ghost said = { λ r. r };
+
+    ghost with_attribute = { λ s r a.
+        with_range_attribute s.unit.dwarf.now s.unit.unit.now r a };
+
+    ghost Grows = { λ _ _ _. Unit {0} };
+
+    fn take(
+        &self,
+        found: &mut RangeAttributes,
+        attribute: Attribute<R>,
+        _cache: &mut (),
+    ) -> Result<(), Error> {
+        *found = found.take(self.unit, attribute)?;
+        Ok(())
+    }
+
+    #[inline(always)]
+    fn take_number(
+        &self,
+        found: &mut RangeAttributes,
+        name: DwAt,
+        number: NumberValue,
+        _cache: &mut (),
+    ) -> Result<(), Error> {
+        found.take_number(name, number);
+        Ok(())
+    }
+}
+
 /// The range attributes among those of specifications. A value that can't be read is a fault before
 /// that of an index, of an address or a range list, so the first of these waits until all values are
 /// read.
@@ -282,19 +279,14 @@ pub(crate) fn read_range_attributes<R: Reader>(
     ensures unit { entries.new.unit ≡ entries.old.unit }
     ensures depth { entries.new.cursor.depth ≡ entries.old.cursor.depth }
 {
-    let mut ranges = RangeAttributes::new();
-    let mut fault = None;
-    let mut rest = specifications;
-    while let Some(next) = split_at_wanted::<RangeWanted>(rest) {
-        entries.skip_attributes(next.before)?;
-        fault = ranges.read_next(unit, entries, fault, next.specification)?;
-        rest = next.after;
-    }
-    entries.skip_attributes(rest)?;
-    match fault {
-        Some(error) => Err(error),
-        None => Ok(ranges),
-    }
+    let sink = RangeSink { unit };
+    take_attributes(
+        &sink,
+        entries,
+        specifications,
+        RangeAttributes::new(),
+        &mut (),
+    )
 }
 
 // The ranges of the range list at an offset, in its order.

@@ -1,27 +1,25 @@
 //! Inlined entries: what their attributes say.
 
-ghost use Rattle.std.specs.Prelude.{◌≡◌, Ok, OnOk, option_and_then, true};
+ghost use Rattle.std.specs.Prelude.{◌≡◌, Ok, OnOk, option_and_then};
 ghost use Rattle.std.specs.Option.{option_or};
-ghost use Rattle.gimli_read.specs.Form.{attribute_at, rest_of};
+ghost use Rattle.gimli_read.specs.Form.{rest_of};
 ghost use Rattle.gimli_read.specs.Reading.{ExactlyUnlessOomIf};
 ghost use Rattle.gimli.specs.Entry.{attributes_at};
 ghost use Rattle.addr2line_lines.specs.CachedNames.{AreNamesMore, AreNamesOf, seen_names};
-ghost use Rattle.addr2line_lines.specs.InlinedEntries.{constant_bits, counted_file, no_call, no_inlined_attributes, with_call_constant, with_inlined_attribute};
-ghost use Rattle.addr2line_lines.specs.FoundAttributes.{IsReadIf, IsTakenIn, inlined_attributes_after, is_call, or_fault, seen_attributes};
-ghost use Rattle.addr2line_lines.specs.FoundNumbers.{IsNextRead, IsNumberTaken, is_number_name, with_origin_name};
+ghost use Rattle.addr2line_lines.specs.InlinedEntries.{constant_bits, counted_file, no_call, no_inlined_attributes, with_call_constant};
+ghost use Rattle.addr2line_lines.specs.FoundAttributes.{inlined_attributes_after, is_call, seen_attributes};
+ghost use Rattle.addr2line_lines.specs.FoundNumbers.{is_number_name};
 ghost use Rattle.addr2line_lines.specs.References.{IsScope};
 ghost use Rattle.addr2line_lines.specs.SeenScope.{seen_scope};
 
 use crate::found_name::FoundName;
-use crate::function::{RangeAttributes, is_address_name, is_range_name, read_number_if};
-use crate::name::{is_name_attribute, is_origin, name_by_origin, pass_over, take_name};
+use crate::function::{RangeAttributes, is_address_name, is_range_name};
+use crate::name::{is_name_attribute, is_origin, name_by_origin, take_name};
 use crate::names::NameCache;
 use crate::references::Scope;
 use crate::row::low_bits;
-use gimli::read::{
-    Attribute, AttributeSpecification, DWARF_5, DwAt, Error, NumberValue, Reader, UnitOffset,
-};
-use gimli::{EntriesRaw, Unit, UnitRef, WantedNames, split_at_wanted};
+use gimli::read::{Attribute, AttributeSpecification, DWARF_5, DwAt, Error, NumberValue, Reader};
+use gimli::{AttributeSink, EntriesRaw, Unit, UnitRef, WantedNames, take_attributes};
 
 /// Where a function was called that is inlined.
 #[derive(Clone, Copy)]
@@ -137,164 +135,6 @@ impl<R: Reader> InlinedAttributes<R> {
             call: CallSite::new(),
         }
     }
-
-    // Takes one more attribute in.
-    fn take(
-        &mut self,
-        scope: Scope<'_, R>,
-        unit: &Unit<R>,
-        attribute: Attribute<R>,
-        names: &mut NameCache<R>,
-    ) -> Result<(), Error>
-        requires in_order { IsScope (seen_scope scope) }
-        requires names { AreNamesOf (seen_scope scope) unit.now (seen_names R.section names.old) }
-        ensures gives { ExactlyUnlessOomIf R.shares (λ _. seen_attributes R.section self.new) result
-            (with_inlined_attribute (seen_scope scope.entry) unit.now
-            (seen_attributes R.section self.old) attribute) }
-        ensures names { AreNamesMore (seen_scope scope.entry) unit.now
-            (seen_names R.section names.old) (seen_names R.section names.new) }
-    {
-        let name = attribute.name();
-        if is_call(name) {
-            let constant = attribute.udata_value();
-            self.call = self.call.take(unit.header.version(), name, constant);
-        } else if is_range_name(name) {
-            let unit = UnitRef::new(scope.file.dwarf, unit);
-            self.ranges = self.ranges.take(unit, attribute)?;
-        } else {
-            let before = self.name.take();
-            self.name = take_name(scope, unit, before, attribute, names)?;
-        }
-        Ok(())
-    }
-
-    // Takes one more attribute in, unless there is a fault, and answers the fault that there is.
-    fn take_unless(
-        &mut self,
-        scope: Scope<'_, R>,
-        unit: &Unit<R>,
-        fault: Option<Error>,
-        attribute: Attribute<R>,
-        names: &mut NameCache<R>,
-    ) -> Option<Error>
-        requires in_order { IsScope (seen_scope scope) }
-        requires names { AreNamesOf (seen_scope scope) unit.now (seen_names R.section names.old) }
-        ensures gives { IsTakenIn R.shares (seen_attributes R.section)
-            (λ x. with_inlined_attribute (seen_scope scope.entry) unit.now x attribute)
-            (or_fault self.old fault) (or_fault self.new result) }
-        ensures names { AreNamesMore (seen_scope scope.entry) unit.now
-            (seen_names R.section names.old) (seen_names R.section names.new) }
-    {
-        match fault {
-            Some(error) => Some(error),
-            None => match self.take(scope, unit, attribute, names) {
-                Ok(()) => None,
-                Err(error) => Some(error),
-            },
-        }
-    }
-
-    // Takes a reference to an entry of the unit in, unless there is a fault, and answers the fault
-    // that there is.
-    fn take_origin(
-        &mut self,
-        scope: Scope<'_, R>,
-        unit: &Unit<R>,
-        fault: Option<Error>,
-        offset: UnitOffset,
-        names: &mut NameCache<R>,
-    ) -> Option<Error>
-        requires in_order { IsScope (seen_scope scope) }
-        requires names { AreNamesOf (seen_scope scope) unit.now (seen_names R.section names.old) }
-        ensures gives { IsTakenIn R.shares (seen_attributes R.section)
-            (λ x. with_origin_name (seen_scope scope.entry) unit.now x offset)
-            (or_fault self.old fault) (or_fault self.new result) }
-        ensures names { AreNamesMore (seen_scope scope.entry) unit.now
-            (seen_names R.section names.old) (seen_names R.section names.new) }
-    {
-        match fault {
-            Some(error) => Some(error),
-            None => {
-                let before = self.name.take();
-                match name_by_origin(scope, unit, before, offset, names) {
-                    Ok(name) => {
-                        self.name = name;
-                        None
-                    }
-                    Err(error) => Some(error),
-                }
-            }
-        }
-    }
-
-    // Takes a number in, as `take_unless` does an attribute.
-    #[inline(always)]
-    fn take_number(
-        &mut self,
-        scope: Scope<'_, R>,
-        unit: &Unit<R>,
-        fault: Option<Error>,
-        name: DwAt,
-        number: NumberValue,
-        names: &mut NameCache<R>,
-    ) -> Option<Error>
-        requires in_order { IsScope (seen_scope scope) }
-        requires names { AreNamesOf (seen_scope scope) unit.now (seen_names R.section names.old) }
-        requires named { is_number_name name ≡ true }
-        ensures gives { IsNumberTaken R.shares (seen_attributes R.section)
-            (λ a x. with_inlined_attribute (seen_scope scope.entry) unit.now x a) name number
-            (or_fault self.old fault) (or_fault self.new result) }
-        ensures names { AreNamesMore (seen_scope scope.entry) unit.now
-            (seen_names R.section names.old) (seen_names R.section names.new) }
-    {
-        if is_call(name) {
-            self.call = self
-                .call
-                .take(unit.header.version(), name, number.constant());
-            return fault;
-        }
-        if is_range_name(name) {
-            self.ranges.take_number(name, number);
-            return fault;
-        }
-        match number {
-            NumberValue::UnitRef(offset) => self.take_origin(scope, unit, fault, offset, names),
-            NumberValue::Address(_) => fault,
-            NumberValue::Constant(_) => fault,
-        }
-    }
-
-    // Reads the next attribute and takes it in, unless there is a fault, and answers the fault that
-    // there is. A number is read without a value being made.
-    #[inline(always)]
-    fn read_next(
-        &mut self,
-        scope: Scope<'_, R>,
-        unit: &Unit<R>,
-        entries: &mut EntriesRaw<'_, R>,
-        fault: Option<Error>,
-        specification: AttributeSpecification,
-        names: &mut NameCache<R>,
-    ) -> Result<Option<Error>, Error>
-        requires in_order { IsScope (seen_scope scope) }
-        requires names { AreNamesOf (seen_scope scope) unit.now (seen_names R.section names.old) }
-        ensures gives { IsNextRead R.shares (λ a. IsTakenIn R.shares (seen_attributes R.section)
-            (λ x. with_inlined_attribute (seen_scope scope.entry) unit.now x a))
-            entries.new.cursor.left (attribute_at entries.old.unit.encoding specification
-            entries.old.cursor.left) (or_fault self.old fault) self.new result }
-        ensures unit { entries.new.unit ≡ entries.old.unit }
-        ensures depth { entries.new.cursor.depth ≡ entries.old.cursor.depth }
-        ensures names { AreNamesMore (seen_scope scope.entry) unit.now
-            (seen_names R.section names.old) (seen_names R.section names.new) }
-    {
-        let name = specification.name();
-        let wanted = is_number_name(name);
-        if let Some(number) = read_number_if(entries, specification, wanted)? {
-            return Ok(self.take_number(scope, unit, fault, name, number, names));
-        }
-        let attribute = entries.read_attribute(specification)?;
-        Ok(self.take_unless(scope, unit, fault, attribute, names))
-    }
 }
 
 // The attributes that say something of an inlined entry.
@@ -310,22 +150,95 @@ impl WantedNames for InlinedWanted {
     }
 }
 
-// Reads the next attribute, if it is wanted; else passes over it.
-pub(crate) fn read_attribute_if<R: Reader>(
-    entries: &mut EntriesRaw<'_, R>,
-    specification: AttributeSpecification,
-    wanted: bool,
-) -> Result<Option<Attribute<R>>, Error>
-    ensures gives { IsReadIf R.shares wanted entries.new.cursor.left result (attribute_at
-        entries.old.unit.encoding specification entries.old.cursor.left) }
-    ensures unit { entries.new.unit ≡ entries.old.unit }
-    ensures depth { entries.new.cursor.depth ≡ entries.old.cursor.depth }
-{
-    if wanted {
-        Ok(Some(entries.read_attribute(specification)?))
-    } else {
-        entries.skip_attributes(&[specification])?;
-        Ok(None)
+// Those of them whose values are mostly numbers.
+struct InlinedNumbers;
+
+impl WantedNames for InlinedNumbers {
+    ghost use Rattle.addr2line_lines.specs.FoundNumbers.{is_number_name};
+
+    ghost wanted = { is_number_name };
+
+    #[inline(always)]
+    fn is_wanted_name(name: DwAt) -> bool {
+        is_number_name(name)
+    }
+}
+
+// Takes in what attributes say of an inlined entry of a unit.
+#[derive(Drop)]
+struct InlinedSink<'a, R: Reader> {
+    scope: Scope<'a, R>,
+    unit: &'a Unit<R>,
+}
+
+impl<R: Reader> AttributeSink<R, Attribute<R>> for InlinedSink<'_, R> {
+    ghost use Rattle.addr2line_lines.specs.CachedNames.{GrowNames, seen_names};
+    ghost use Rattle.addr2line_lines.specs.FoundAttributes.{seen_attributes};
+    ghost use Rattle.addr2line_lines.specs.InlinedEntries.{InlinedAttributes, with_inlined_attribute};
+    ghost use Rattle.addr2line_lines.specs.SeenScope.{seen_scope};
+
+    type Names = InlinedWanted;
+
+    type Numbers = InlinedNumbers;
+
+    type Found = InlinedAttributes<R>;
+
+    type Cache = NameCache<R>;
+
+    const FEW_BETWEEN: bool = true;
+
+    ghost seen = { λ a. a };
+
+    ghost Said = { InlinedAttributes };
+
+    ghost said = { seen_attributes R.section };
+
+    ghost with_attribute = { λ s x a.
+        with_inlined_attribute (seen_scope s.scope) s.unit.now x a };
+
+    ghost Grows = { λ s old new. GrowNames (seen_scope s.scope) s.unit.now
+        (seen_names R.section old) (seen_names R.section new) };
+
+    fn take(
+        &self,
+        found: &mut InlinedAttributes<R>,
+        attribute: Attribute<R>,
+        names: &mut NameCache<R>,
+    ) -> Result<(), Error> {
+        let unit = self.unit;
+        let name = attribute.name();
+        if is_call(name) {
+            let constant = attribute.udata_value();
+            found.call = found.call.take(unit.header.version(), name, constant);
+        } else if is_range_name(name) {
+            let unit = UnitRef::new(self.scope.file.dwarf, unit);
+            found.ranges = found.ranges.take(unit, attribute)?;
+        } else {
+            let before = found.name.take();
+            found.name = take_name(self.scope, unit, before, attribute, names)?;
+        }
+        Ok(())
+    }
+
+    #[inline(always)]
+    fn take_number(
+        &self,
+        found: &mut InlinedAttributes<R>,
+        name: DwAt,
+        number: NumberValue,
+        names: &mut NameCache<R>,
+    ) -> Result<(), Error> {
+        let unit = self.unit;
+        if is_call(name) {
+            let constant = number.constant();
+            found.call = found.call.take(unit.header.version(), name, constant);
+        } else if is_range_name(name) {
+            found.ranges.take_number(name, number);
+        } else if let NumberValue::UnitRef(offset) = number {
+            let before = found.name.take();
+            found.name = name_by_origin(self.scope, unit, before, offset, names)?;
+        }
+        Ok(())
     }
 }
 
@@ -351,17 +264,12 @@ pub(crate) fn read_inlined_attributes<R: Reader>(
     ensures names { AreNamesMore (seen_scope scope.entry) unit.now
         (seen_names R.section names.old) (seen_names R.section names.new) }
 {
-    let mut found = InlinedAttributes::new();
-    let mut fault = None;
-    let mut rest = specifications;
-    while let Some(next) = split_at_wanted::<InlinedWanted>(rest) {
-        pass_over(entries, next.before)?;
-        fault = found.read_next(scope, unit, entries, fault, next.specification, names)?;
-        rest = next.after;
-    }
-    pass_over(entries, rest)?;
-    match fault {
-        Some(error) => Err(error),
-        None => Ok(found),
-    }
+    let sink = InlinedSink { scope, unit };
+    take_attributes(
+        &sink,
+        entries,
+        specifications,
+        InlinedAttributes::new(),
+        names,
+    )
 }

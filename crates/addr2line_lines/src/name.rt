@@ -2,9 +2,8 @@
 
 ghost use Rattle.std.specs.Prelude.{◌≡◌, Ok, option_map};
 ghost use Rattle.gimli_read.specs.declared.value.AttributeValue.TheVariants as values;
-ghost use Rattle.gimli_read.specs.Form.{rest_of, seen_value};
-ghost use Rattle.gimli_read.specs.Reading.{Exactly, ExactlyUnlessOomIf};
-ghost use Rattle.gimli.specs.Entry.{attributes_at};
+ghost use Rattle.gimli_read.specs.Form.{seen_value};
+ghost use Rattle.gimli_read.specs.Reading.{ExactlyUnlessOomIf};
 ghost use Rattle.addr2line_lines.specs.CachedNames.{AreNamesMore, AreNamesOf, seen_names};
 ghost use Rattle.addr2line_lines.specs.FoundNames.{found_name, is_name_attribute, linkage_and_found, seen_name_or_origin, seen_place, with_linkage, with_origin, with_string};
 ghost use Rattle.addr2line_lines.specs.Names.{is_linkage_name, is_origin, named_at, no_name, or_referred_name, readable, referred_name, visited, with_name};
@@ -15,9 +14,11 @@ use crate::found_name::FoundName;
 use crate::names::NameCache;
 use crate::references::{EntryPlace, Scope, referred};
 use gimli::read::{
-    Attribute, AttributeSpecification, AttributeValue, DwAt, Error, Reader, UnitOffset,
+    Attribute, AttributeSpecification, AttributeValue, DwAt, Error, NumberValue, Reader, UnitOffset,
 };
-use gimli::{EntriesRaw, Unit, UnitRef, WantedNames, split_at_wanted};
+use gimli::{
+    AttributeSink, EntriesRaw, NoNames, Unit, UnitRef, WantedNames, pass_over, split_at_wanted,
+};
 
 // The most entries that are visited for one name.
 const MOST_VISITED: u64 = 16;
@@ -44,8 +45,8 @@ pub(crate) fn is_name_attribute(name: DwAt) -> bool
     is_linkage_name(name) || name == DwAt::DW_AT_name || is_origin(name)
 }
 
-// The attributes that may give their entry a name.
-struct NameWanted;
+/// The attributes that may give their entry a name.
+pub(crate) struct NameWanted;
 
 impl WantedNames for NameWanted {
     ghost use Rattle.addr2line_lines.specs.FoundNames.{is_name_attribute};
@@ -140,24 +141,6 @@ impl<R: Reader> NameOrOrigin<R> {
         }
         Ok(None)
     }
-}
-
-/// Passes over attributes, one at a time: mostly there are none, or two. Refused as
-/// `EntriesRaw::skip_attributes` is. Takes no memory.
-#[inline(always)]
-pub(crate) fn pass_over<R: Reader>(
-    entries: &mut EntriesRaw<'_, R>,
-    specifications: &[AttributeSpecification],
-) -> Result<(), Error>
-    ensures gives { Exactly (λ _. entries.new.cursor.left) result (rest_of (attributes_at
-        entries.old.unit.encoding specifications.now entries.old.cursor.left)) }
-    ensures unit { entries.new.unit ≡ entries.old.unit }
-    ensures depth { entries.new.cursor.depth ≡ entries.old.cursor.depth }
-{
-    for specification in specifications {
-        entries.skip_attribute(*specification)?;
-    }
-    Ok(())
 }
 
 // What an entry says of its name, by its attributes up to the first linkage name.
@@ -364,5 +347,65 @@ pub(crate) fn take_name<R: Reader>(
         referred_name_once(scope, unit, value, names)
     } else {
         Ok(FoundName::none())
+    }
+}
+
+/// Takes in what attributes say of the name of an entry of a unit.
+#[derive(Drop)]
+pub(crate) struct NameSink<'a, R: Reader> {
+    /// Where references of the entry lead.
+    pub(crate) scope: Scope<'a, R>,
+    /// The unit.
+    pub(crate) unit: &'a Unit<R>,
+}
+
+impl<R: Reader> AttributeSink<R, Attribute<R>> for NameSink<'_, R> {
+    ghost use Rattle.std.specs.Prelude.{Option};
+    ghost use Rattle.gimli_read.specs.Section.{Section};
+    ghost use Rattle.addr2line_lines.specs.CachedNames.{GrowNames, seen_names};
+    ghost use Rattle.addr2line_lines.specs.FoundNames.{found_name};
+    ghost use Rattle.addr2line_lines.specs.Names.{with_name};
+    ghost use Rattle.addr2line_lines.specs.SeenScope.{seen_scope};
+
+    type Names = NameWanted;
+
+    type Numbers = NoNames;
+
+    type Found = FoundName<R>;
+
+    type Cache = NameCache<R>;
+
+    const FEW_BETWEEN: bool = true;
+
+    ghost seen = { λ a. a };
+
+    ghost Said = { Option Section };
+
+    ghost said = { found_name R.section };
+
+    ghost with_attribute = { λ s name a. with_name (seen_scope s.scope) s.unit.now name a };
+
+    ghost Grows = { λ s old new. GrowNames (seen_scope s.scope) s.unit.now
+        (seen_names R.section old) (seen_names R.section new) };
+
+    fn take(
+        &self,
+        found: &mut FoundName<R>,
+        attribute: Attribute<R>,
+        names: &mut NameCache<R>,
+    ) -> Result<(), Error> {
+        let before = found.take();
+        *found = take_name(self.scope, self.unit, before, attribute, names)?;
+        Ok(())
+    }
+
+    fn take_number(
+        &self,
+        _found: &mut FoundName<R>,
+        _name: DwAt,
+        _number: NumberValue,
+        _names: &mut NameCache<R>,
+    ) -> Result<(), Error> {
+        Ok(())
     }
 }

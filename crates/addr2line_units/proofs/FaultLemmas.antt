@@ -7,14 +7,14 @@ use Rattle.gimli_read.specs.FaultLaws.{NoneWasRefused}
 use Rattle.gimli_read.specs.Form.{NamedValue}
 use Rattle.gimli_read.specs.Reading.{◌>>=◌, WasNotRefused}
 use Rattle.gimli_read.specs.Section.{Section}
-use Rattle.gimli_read.proofs.FaultLemmas.{IsByBytes, AreByBytes, step, either, value, fault, moved_fault, fault_of_is, fold_is, are_joined, not_refused, none_refused}
+use Rattle.gimli_read.proofs.FaultLemmas.{IsByBytes, AreByBytes, step, either, value, fault, moved_fault, fault_of_is, are_joined, not_refused, none_refused}
 use Rattle.gimli.specs.declared.unit.DwoId.{DwoId}
 use Rattle.gimli.specs.Header.{UnitHeaderFields}
 use Rattle.gimli.specs.Sections.{Sections, SupSections}
 use Rattle.gimli.specs.Unit.{UnitRecord, unit_record_of}
 use Rattle.gimli.specs.UnitsLeft.{all_headers}
 use Rattle.gimli.specs.Aranges.{arange_sets_of}
-use Rattle.gimli.proofs.FaultLemmas.{all_headers_are, arange_sets_are, dwo_name_is, root_attributes_of_are, unit_record_is}
+use Rattle.gimli.proofs.FaultLemmas.{all_headers_are, arange_sets_are, dwo_name_is, root_attributes_of_are, taken_in_is, unit_record_is}
 use Rattle.addr2line_lines.specs.declared.function.RangeAttributes.{RangeAttributes}
 use Rattle.addr2line_lines.specs.Functions.{entries_of, function_offset_at}
 use Rattle.addr2line_lines.specs.Location.{LineTable, Location}
@@ -30,7 +30,7 @@ use Rattle.addr2line_units.specs.declared.parses.ReadingDepth.{ReadingDepth}
 use Rattle.addr2line_units.specs.declared.parses.ReadingDepth.TheVariants as depths
 use Rattle.addr2line_units.specs.Cover.{cover, cover_range}
 use Rattle.addr2line_units.specs.UnitAranges.{aranges_at, aranges_in}
-use Rattle.addr2line_units.specs.UnitAttributes.{no_unit_attributes, with_unit_attribute, or_with_unit_attribute, unit_attributes}
+use Rattle.addr2line_units.specs.UnitAttributes.{no_unit_attributes, with_unit_attribute, unit_attributes}
 use Rattle.addr2line_units.specs.RangedUnits.{IndexedUnit, is_type_unit, is_partial, or_attribute_ranges, listed_unit_ranges, listed_in_unit, unless_faulty, unit_of_header, units_of, ranged_units}
 use Rattle.addr2line_units.specs.UnitIndex.{UnitIndex, sup_unit_of_header, sup_sections, sup_units, index_units}
 use Rattle.addr2line_units.specs.UnitsState.{UnitsState, new_units, asked_by, stop_of}
@@ -55,7 +55,7 @@ with_unit_attribute_is d u r a = step (with_range_attribute_is d u r.ranges a) (
 pub unit_attributes_are : (d : Sections) (u : UnitRecord) → IsByBytes (unit_attributes d u)
 unit_attributes_are d u =
     step (root_attributes_of_are u) (λ attributes.
-    fold_is (or_with_unit_attribute d u) (λ r a h. step h (λ x. with_unit_attribute_is d u x a)) (Ok no_unit_attributes) value attributes)
+    taken_in_is (with_unit_attribute d u) (with_unit_attribute_is d u) no_unit_attributes attributes)
 
 or_ranges_are : (d : Sections) (u : UnitRecord) (a : RangeAttributes) (listed : List Range) → IsByBytes (or_attribute_ranges d u a listed)
 or_ranges_are d u a [] = attribute_ranges_are d u a

@@ -1,16 +1,17 @@
 -- What the root entry of a unit says for lookups: its addresses (DWARF 5, section 2.17) and its
 -- language (section 3.1.1).
 -- Own: the last language that is a constant of at most 65535 counts.
-use Rattle.std.specs.Prelude.{ℕ, ◌==◌, ◌^◌, nat_lt, List, fold, Option, Some, None, option_and_then, Result, Ok, if◌then◌else◌}
+use Rattle.std.specs.Prelude.{ℕ, ◌==◌, ◌^◌, nat_lt, Option, Some, None, option_and_then, Result, Ok, if◌then◌else◌}
 use Rattle.std.specs.Option.{option_or}
 use Rattle.gimli_read.specs.declared.error.Error.{Error}
 use Rattle.gimli_read.specs.declared.constants.DwLang.{DwLang}
 use Rattle.gimli_read.specs.declared.constants.TheConstants.DwAt.{DW_AT_language}
 use Rattle.gimli_read.specs.declared.value.AttributeValue.{AttributeValue}
 use Rattle.gimli_read.specs.Section.{Section}
-use Rattle.gimli_read.specs.Reading.{Reading, ◌>>=◌}
+use Rattle.gimli_read.specs.Reading.{◌>>=◌}
 use Rattle.gimli_read.specs.Form.{NamedValue, constant_of}
 use Rattle.gimli.specs.Sections.{Sections}
+use Rattle.gimli.specs.TakenAttributes.{taken_in}
 use Rattle.gimli.specs.Unit.{UnitRecord}
 use Rattle.gimli.specs.Entries.{root_attributes_of}
 use Rattle.addr2line_lines.specs.RangeAttributes.{no_range_attributes, with_range_attribute}
@@ -40,19 +41,9 @@ with_unit_attribute d u r a =
     with_range_attribute d u r.ranges a >>= λ ranges.
     Ok (record { ranges = ranges; language = language_after r.language a })
 
--- one more attribute, where none before it has a fault
-abbrev pub or_with_unit_attribute
-    : Sections → UnitRecord → Result UnitAttributes Error → NamedValue → Result UnitAttributes Error
-or_with_unit_attribute d u r a = r >>= λ x. with_unit_attribute d u x a
-
 -- what the attributes of a unit's root entry say, the last of each counting, or the first fault of
 -- an index of an address or of a range list
 abbrev pub unit_attributes : Sections → UnitRecord → Result UnitAttributes Error
 unit_attributes d u =
     root_attributes_of u
-    >>= λ attributes. fold (or_with_unit_attribute d u) (Ok no_unit_attributes) attributes
-
--- what attributes that are read say, after those that were read before
-abbrev pub unit_attributes_after : Sections → UnitRecord → Result UnitAttributes Error
-    → Reading (List NamedValue) → Result UnitAttributes Error
-unit_attributes_after d u r read = read >>= λ x. fold (or_with_unit_attribute d u) r x.0
+    >>= λ attributes. taken_in (with_unit_attribute d u) (Ok no_unit_attributes) attributes

@@ -1,13 +1,12 @@
 //! What the root entry of a unit says for lookups.
 
-ghost use Rattle.std.specs.Prelude.{◌≡◌, Ok};
-ghost use Rattle.gimli_read.specs.Reading.{Exactly, ExactlyUnlessOomIf};
-ghost use Rattle.gimli.specs.Entry.{attributes_at};
-ghost use Rattle.addr2line_units.specs.UnitAttributes.{language_after, language_of_number, no_unit_attributes, or_with_unit_attribute, unit_attributes, unit_attributes_after, with_unit_attribute};
+ghost use Rattle.std.specs.Prelude.{◌≡◌};
+ghost use Rattle.gimli_read.specs.Reading.{ExactlyUnlessOomIf};
+ghost use Rattle.addr2line_units.specs.UnitAttributes.{language_after, language_of_number, no_unit_attributes, unit_attributes};
 
 use addr2line_lines::RangeAttributes;
-use gimli::read::{Attribute, AttributeSpecification, DwAt, DwLang, Error, Reader};
-use gimli::{EntriesRaw, UnitRef, WantedNames, split_at_wanted};
+use gimli::read::{Attribute, DwAt, DwLang, Error, NumberValue, Reader};
+use gimli::{AttributeSink, NoNames, UnitRef, WantedNames, take_attributes};
 
 /// What the attributes of a root entry say, the last of each counting.
 #[derive(Clone, Copy)]
@@ -51,36 +50,6 @@ impl UnitAttributes {
             language: None,
         }
     }
-
-    // Takes one more attribute in.
-    #[tactic(auto, unfolding(crate::specs::UnitAttributes::with_unit_attribute))]
-    fn take<R: Reader>(
-        self,
-        unit: UnitRef<'_, R>,
-        attribute: Attribute<R>,
-    ) -> Result<UnitAttributes, Error>
-        ensures gives { Exactly (λ a. a) result (with_unit_attribute unit.entry.dwarf.now
-            unit.entry.unit.now self attribute) }
-    {
-        let language = language_after(self.language, &attribute);
-        let ranges = self.ranges.take(unit, attribute)?;
-        Ok(UnitAttributes { ranges, language })
-    }
-}
-
-// Takes one more attribute in, where none before it has a fault.
-fn with_attribute<R: Reader>(
-    unit: UnitRef<'_, R>,
-    attributes: Result<UnitAttributes, Error>,
-    attribute: Attribute<R>,
-) -> Result<UnitAttributes, Error>
-    ensures gives { result ≡ or_with_unit_attribute unit.entry.dwarf.now unit.entry.unit.now
-        attributes attribute }
-{
-    match attributes {
-        Ok(attributes) => attributes.take(unit, attribute),
-        Err(error) => Err(error),
-    }
 }
 
 // The attributes that say of their unit's addresses or language.
@@ -99,29 +68,59 @@ impl WantedNames for UnitWanted {
     }
 }
 
-// What the attributes of specifications say; others are passed over. A value that can't be read is
-// a fault before that of an index, so the first of these waits until all values are read.
-fn read_attributes<R: Reader>(
-    unit: UnitRef<'_, R>,
-    entries: &mut EntriesRaw<'_, R>,
-    specifications: &[AttributeSpecification],
-) -> Result<UnitAttributes, Error>
-    requires encoding { entries.old.unit.encoding ≡ unit.unit.now.header.encoding }
-    ensures gives { ExactlyUnlessOomIf R.shares (λ a. a) result (unit_attributes_after
-        unit.entry.dwarf.now unit.entry.unit.now (Ok no_unit_attributes)
-        (attributes_at unit.entry.unit.now.header.encoding specifications.now
-        entries.old.cursor.left)) }
-{
-    let mut attributes = Ok(UnitAttributes::new());
-    let mut rest = specifications;
-    while let Some(next) = split_at_wanted::<UnitWanted>(rest) {
-        entries.skip_attributes(next.before)?;
-        let attribute = entries.read_attribute(next.specification)?;
-        attributes = with_attribute(unit, attributes, attribute);
-        rest = next.after;
+// Takes in what the root entry of a unit says.
+#[derive(Drop)]
+struct UnitSink<'a, R: Reader> {
+    unit: UnitRef<'a, R>,
+}
+
+impl<R: Reader> AttributeSink<R, Attribute<R>> for UnitSink<'_, R> {
+    ghost use Rattle.addr2line_units.specs.declared.attributes.UnitAttributes.{UnitAttributes};
+    ghost use Rattle.addr2line_units.specs.UnitAttributes.{with_unit_attribute};
+
+    type Names = UnitWanted;
+
+    type Numbers = NoNames;
+
+    type Found = UnitAttributes;
+
+    type Cache = ();
+
+    const FEW_BETWEEN: bool = false;
+
+    ghost seen = { λ a. a };
+
+    ghost Said = { UnitAttributes };
+
+    ghost said = { λ r. r };
+
+    ghost with_attribute = { λ s r a.
+        with_unit_attribute s.unit.dwarf.now s.unit.unit.now r a };
+
+    ghost Grows = { λ _ _ _. Unit {0} };
+
+    #[tactic(auto, unfolding(crate::specs::UnitAttributes::with_unit_attribute))]
+    fn take(
+        &self,
+        found: &mut UnitAttributes,
+        attribute: Attribute<R>,
+        _cache: &mut (),
+    ) -> Result<(), Error> {
+        let language = language_after(found.language, &attribute);
+        found.ranges = found.ranges.take(self.unit, attribute)?;
+        found.language = language;
+        Ok(())
     }
-    entries.skip_attributes(rest)?;
-    attributes
+
+    fn take_number(
+        &self,
+        _found: &mut UnitAttributes,
+        _name: DwAt,
+        _number: NumberValue,
+        _cache: &mut (),
+    ) -> Result<(), Error> {
+        Ok(())
+    }
 }
 
 /// What the root entry of a unit says for lookups.
@@ -136,7 +135,17 @@ pub fn read_unit_attributes<R: Reader>(unit: UnitRef<'_, R>) -> Result<UnitAttri
 {
     let mut entries = unit.entries_raw(None)?;
     match entries.read_abbreviation()? {
-        Some(abbreviation) => read_attributes(unit, &mut entries, abbreviation.attributes()),
+        Some(abbreviation) => {
+            let specifications = abbreviation.attributes();
+            let found = UnitAttributes::new();
+            take_attributes(
+                &UnitSink { unit },
+                &mut entries,
+                specifications,
+                found,
+                &mut (),
+            )
+        }
         None => Err(Error::MissingUnitDie),
     }
 }

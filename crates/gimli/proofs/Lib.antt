@@ -1,4 +1,3 @@
-pub mod Common
 pub mod FaultLemmas
 pub mod ArangeLemmas
 pub mod UpToEnd
@@ -14,6 +13,7 @@ pub mod ItemTexts
 pub mod SubtreeLemmas
 pub mod UnitTexts
 pub mod WantedLemmas
+pub mod SinkLemmas
 pub mod RecordLemmas
 pub mod StringLemmas
 pub mod StringPlaces

@@ -1,9 +1,19 @@
 -- The attributes of a unit's root entry (on specs/Record.antt).
-use Rattle.gimli.proofs.Common.{◌≡◌, ◌==◌, ◌||◌, Bool, true, false, cond, List, fold, Option, Some, None, Result, Ok, Err, refl, ap, ◌∙◌, or_parts, or_from, Error, Encoding, Abbrev, Reading, ◌>>=◌, NamedValue, constant_of, is_before_5, attributes_at, entry_code_at, root_attributes, root_specifications, EntryCursor, depth_after_code, entry_abbreviation_at, RootValues, address_value, dwo_name_attribute, line_offset, no_root_values, section_offset, with_root_attribute, root_values_after, root_values_of}
+use Rattle.std.proofs.Common.{◌≡◌, ◌==◌, ◌||◌, Bool, true, false, cond, List, [], ◌∷◌, fold, Option, Some, None, Result, Ok, Err, refl, ap, sym, ◌∙◌}
+use Rattle.std.proofs.lemmas.Bool.{or_parts, or_from}
 use Rattle.gimli_read.specs.declared.constants.TheConstants.DwAt.{DW_AT_name, DW_AT_comp_dir, DW_AT_low_pc, DW_AT_stmt_list, DW_AT_str_offsets_base, DW_AT_addr_base, DW_AT_GNU_addr_base, DW_AT_rnglists_base, DW_AT_GNU_ranges_base, DW_AT_GNU_dwo_id, DW_AT_GNU_dwo_name, DW_AT_dwo_name}
 use Rattle.std.specs.Option.{option_or}
+use Rattle.gimli_read.specs.declared.error.Error.{Error}
+use Rattle.gimli_read.specs.declared.endian.Encoding.{Encoding}
+use Rattle.gimli_read.specs.Abbreviations.{Abbrev}
+use Rattle.gimli_read.specs.Reading.{Reading, ◌>>=◌}
+use Rattle.gimli_read.specs.Form.{NamedValue, constant_of}
+use Rattle.gimli_read.specs.Version.{is_before_5}
+use Rattle.gimli.specs.Entry.{attributes_at, entry_code_at, root_attributes, root_specifications}
+use Rattle.gimli.specs.EntryCursor.{EntryCursor, depth_after_code, entry_abbreviation_at}
+use Rattle.gimli.specs.Record.{RootValues, address_value, dwo_name_attribute, line_offset, no_root_values, section_offset, with_root_attribute, root_values_of}
+use Rattle.gimli.specs.TakenAttributes.{taken_after, taken_in}
 use Rattle.gimli.specs.WantedAttributes.{is_root_name}
-use Rattle.gimli.proofs.WantedLemmas.{PassesOver, fold_passes}
 
 -- a test that fails
 pass : {X : Type 0} (b : Bool) (x y z : X) → b ≡ false → y ≡ z → cond b x y ≡ z
@@ -33,7 +43,7 @@ pass_all a b c d e f g h i j k l p q r s t u v w y z none last =
     pass a p _ z nb.0 (pass b q _ z nb.1 (pass c r _ z nc.1 (pass d s _ z nd.1 (pass e t _ z ne.1 (pass (f || g) u _ z (or_from f g nf.1 ng.1) (pass (h || i) v _ z (or_from h i nh.1 ni.1) (pass j w y z nj.1 (last nk.1 nl.1))))))))
 
 -- an attribute of no such name changes nothing
-still_root : (e : Encoding) (root : RootValues) (a : NamedValue) → is_root_name a.name ≡ false → with_root_attribute e root a ≡ root
+pub still_root : (e : Encoding) (root : RootValues) (a : NamedValue) → is_root_name a.name ≡ false → with_root_attribute e root a ≡ root
 still_root e root a h =
     let n = a.name.0 in
     pass_all
@@ -53,27 +63,32 @@ still_root e root a h =
     h
     (no_split_file (is_before_5 e.version) root a)
 
--- so others are passed over
-pub root_passes : (e : Encoding) (root : RootValues) → PassesOver e is_root_name (λ xs left. root_values_after e root (attributes_at e xs left)) (λ xs a. root_values_after e (with_root_attribute e root a.0) (attributes_at e xs a.1)) (λ _. Ok root)
-root_passes e root = fold_passes e is_root_name (with_root_attribute e) Ok (still_root e) root
+-- the values after the attributes that a reading gives
+abbrev pub root_values_after : Encoding → Reading (List NamedValue) → Result RootValues Error
+root_values_after e read = taken_after (λ root a. Ok (with_root_attribute e root a)) (Ok no_root_values) read
+
+-- attributes that are taken in without a fault
+all_taken : (e : Encoding) (root : RootValues) (xs : List NamedValue) → taken_in (λ r a. Ok (with_root_attribute e r a)) (Ok root) xs ≡ Ok (fold (with_root_attribute e) root xs)
+all_taken e root [] = refl
+all_taken e root (a ∷ xs) = all_taken e (with_root_attribute e root a) xs
 
 -- the values of a root entry, by the place where it begins
 pub root_values_is : (e : Encoding) (table : List Abbrev) (c : EntryCursor)
-    → root_values_of e table c.left ≡ (entry_abbreviation_at table c >>= λ root. root_specifications root.0 >>= λ specifications. root_values_after e no_root_values (attributes_at e specifications root.1.left))
+    → root_values_of e table c.left ≡ (entry_abbreviation_at table c >>= λ root. root_specifications root.0 >>= λ specifications. root_values_after e (attributes_at e specifications root.1.left))
 unfolding root_values_of root_attributes entry_abbreviation_at
 root_values_is e table c = at (entry_code_at table c.left)
   where
-    read : (r : Reading (List NamedValue)) → ((r >>= λ a. Ok a.0) >>= λ attributes. Ok (fold (with_root_attribute e) no_root_values attributes)) ≡ root_values_after e no_root_values r
-    read (Ok x) = refl
+    read : (r : Reading (List NamedValue)) → ((r >>= λ a. Ok a.0) >>= λ attributes. Ok (fold (with_root_attribute e) no_root_values attributes)) ≡ root_values_after e r
+    read (Ok x) = sym (all_taken e no_root_values x.0)
     read (Err f) = refl
 
     at : (r : Reading (Option Abbrev)) → ((r >>= λ root. root_specifications root.0 >>= λ specifications. attributes_at e specifications root.1 >>= λ a. Ok a.0) >>= λ attributes. Ok (fold (with_root_attribute e) no_root_values attributes))
-        ≡ (◌>>=◌ {B = Option Abbrev × EntryCursor} r (λ code. Ok (code.0, record { left = code.1; depth = depth_after_code code.0 c.depth })) >>= λ root. root_specifications root.0 >>= λ specifications. root_values_after e no_root_values (attributes_at e specifications root.1.left))
+        ≡ (◌>>=◌ {B = Option Abbrev × EntryCursor} r (λ code. Ok (code.0, record { left = code.1; depth = depth_after_code code.0 c.depth })) >>= λ root. root_specifications root.0 >>= λ specifications. root_values_after e (attributes_at e specifications root.1.left))
     at (Ok (None, t)) = refl
     at (Ok (Some a, t)) = read (attributes_at e a.attributes t)
     at (Err f) = refl
 
 -- the same, once its code is read, or isn't
 pub root_values_by : (e : Encoding) (table : List Abbrev) (c : EntryCursor) (r : Result (Option Abbrev × EntryCursor) Error) → entry_abbreviation_at table c ≡ r
-    → root_values_of e table c.left ≡ (r >>= λ root. root_specifications root.0 >>= λ specifications. root_values_after e no_root_values (attributes_at e specifications root.1.left))
-root_values_by e table c r h = root_values_is e table c ∙ ap (λ (q : Result (Option Abbrev × EntryCursor) Error). q >>= λ root. root_specifications root.0 >>= λ specifications. root_values_after e no_root_values (attributes_at e specifications root.1.left)) h
+    → root_values_of e table c.left ≡ (r >>= λ root. root_specifications root.0 >>= λ specifications. root_values_after e (attributes_at e specifications root.1.left))
+root_values_by e table c r h = root_values_is e table c ∙ ap (λ (q : Result (Option Abbrev × EntryCursor) Error). q >>= λ root. root_specifications root.0 >>= λ specifications. root_values_after e (attributes_at e specifications root.1.left)) h

@@ -3,12 +3,14 @@
 -- as its fault.
 -- Own: once the cached tables have as many abbreviations and attributes as the section has bytes,
 -- no more are cached. Tables that don't overlap have fewer, so that all of them are cached.
-use Rattle.std.specs.List.{list_any}
 use Rattle.std.specs.Prelude.{◌≡◌, ◌≢◌, ◌+◌, ◌-◌, ℕ, Bool, true, List, [], length, fold, Result, Ok, Err, is_ok, IfSome, if◌then◌else◌}
-use Rattle.std.specs.Result.{result_map_both}
-use Rattle.gimli.specs.Common.{Error, Abbrev, Section}
+use Rattle.std.specs.List.{list_any}
 use Rattle.std.specs.Ordering.{nat_cmp}
+use Rattle.std.specs.Result.{result_map_both}
 use Rattle.std.specs.BTreeMap.{BTreeMap, get, is_at}
+use Rattle.gimli_read.specs.declared.error.Error.{Error}
+use Rattle.gimli_read.specs.Abbreviations.{Abbrev}
+use Rattle.gimli_read.specs.Section.{Section}
 use Rattle.gimli.specs.Header.{UnitHeaderFields}
 use Rattle.gimli.specs.Sections.{Sections}
 use Rattle.gimli.specs.Text.{from_offset}

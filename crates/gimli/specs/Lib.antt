@@ -1,4 +1,3 @@
-pub mod Common
 pub mod Header
 pub mod UnitsLeft
 pub mod Sections
@@ -7,6 +6,8 @@ pub mod StringPlaces
 pub mod Entry
 pub mod Record
 pub mod WantedAttributes
+pub mod TakenAttributes
+pub mod AttributeSinks
 pub mod Unit
 pub mod UnitMemory
 pub mod CachedTables

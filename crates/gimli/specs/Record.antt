@@ -5,12 +5,20 @@
 -- constant. A name or a directory that can't be read counts as none. GNU_dwo_name names a split
 -- file below version 5, dwo_name from then on, in any form.
 use Rattle.std.specs.Prelude.{ℕ, ◌==◌, ◌||◌, List, fold, Option, Some, None, Result, Ok, if◌then◌else◌}
-use Rattle.gimli.specs.Common.{Error, Encoding, Format, AttributeValue, Section, is_before_4, is_before_5, Reading, ◌>>=◌, NamedValue, constant_of, Abbrev}
 use Rattle.std.specs.Option.{option_or}
+use Rattle.gimli_read.specs.declared.error.Error.{Error}
 use Rattle.gimli_read.specs.declared.constants.TheConstants.DwAt.{DW_AT_name, DW_AT_comp_dir, DW_AT_low_pc, DW_AT_stmt_list, DW_AT_str_offsets_base, DW_AT_addr_base, DW_AT_GNU_addr_base, DW_AT_rnglists_base, DW_AT_GNU_ranges_base, DW_AT_GNU_dwo_id, DW_AT_GNU_dwo_name, DW_AT_dwo_name}
 use Rattle.gimli_read.specs.declared.constants.DwAt.{DwAt}
+use Rattle.gimli_read.specs.declared.endian.Encoding.{Encoding}
+use Rattle.gimli_read.specs.declared.endian.Format.{Format}
 use Rattle.gimli_read.specs.declared.endian.Format.TheVariants.{Dwarf32, Dwarf64}
+use Rattle.gimli_read.specs.declared.value.AttributeValue.{AttributeValue}
 use Rattle.gimli_read.specs.declared.value.AttributeValue.TheVariants as values
+use Rattle.gimli_read.specs.Section.{Section}
+use Rattle.gimli_read.specs.Version.{is_before_4, is_before_5}
+use Rattle.gimli_read.specs.Reading.{◌>>=◌}
+use Rattle.gimli_read.specs.Form.{NamedValue, constant_of}
+use Rattle.gimli_read.specs.Abbreviations.{Abbrev}
 use Rattle.gimli.specs.declared.record.AddressValue.{AddressValue}
 use Rattle.gimli.specs.declared.record.AddressValue.TheVariants.{Address, Index}
 use Rattle.gimli.specs.Entry.{root_attributes}
@@ -92,12 +100,6 @@ no_root_values = record {
   dwo_id = None;
   dwo_name = None;
 }
-
--- the values after the attributes that a reading gives
-abbrev pub root_values_after : Encoding → RootValues → Reading (List NamedValue)
-    → Result RootValues Error
-root_values_after encoding root read =
-    read >>= λ x. Ok (fold (with_root_attribute encoding) root x.0)
 
 -- the values of the attributes of a unit's root entry
 unfoldable pub root_values_of : Encoding → List Abbrev → Section → Result RootValues Error

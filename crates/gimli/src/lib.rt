@@ -14,6 +14,7 @@ mod ranges_offset;
 mod record;
 mod rnglists;
 mod sections;
+mod sink;
 mod text;
 mod unit;
 mod unit_record;
@@ -32,6 +33,7 @@ pub use crate::sections::{
     DebugAbbrev, DebugAddr, DebugAranges, DebugInfo, DebugLine, DebugLineStr, DebugRanges,
     DebugRngLists, DebugStr, DebugStrOffsets,
 };
+pub use crate::sink::{AttributeSink, NoNames, pass_over, take_attributes};
 pub use crate::unit::{DwoId, ToUnitOffset, UnitHeader, UnitType};
 pub use crate::unit_record::Unit;
 pub use crate::unit_ref::UnitRef;

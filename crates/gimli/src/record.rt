@@ -1,16 +1,17 @@
 //! The record of a unit: what its root entry's attributes give.
 
 ghost use Rattle.std.specs.Prelude.{◌≡◌};
-ghost use Rattle.gimli.specs.Common.{ExactlyUnlessOomIf, seen_value};
-ghost use Rattle.gimli.specs.Entry.{attributes_at};
-ghost use Rattle.gimli.specs.Record.{address_value, section_offset, line_offset, dwo_name_attribute, with_root_attribute, no_root_values, root_values_after, root_values_of};
+ghost use Rattle.gimli_read.specs.Reading.{ExactlyUnlessOomIf};
+ghost use Rattle.gimli_read.specs.Form.{seen_value};
+ghost use Rattle.gimli.specs.Record.{address_value, section_offset, line_offset, dwo_name_attribute, with_root_attribute, no_root_values, root_values_of};
 
 use crate::entries::EntriesRaw;
+use crate::sink::{AttributeSink, NoNames, take_attributes};
 use crate::unit::UnitHeader;
-use crate::wanted::{WantedNames, split_at_wanted};
+use crate::wanted::WantedNames;
 use gimli_read::{
-    Abbreviations, Attribute, AttributeSpecification, AttributeValue, DWARF_4, DWARF_5, DwAt,
-    Encoding, Error, Format, Reader,
+    Abbreviations, Attribute, AttributeValue, DWARF_4, DWARF_5, DwAt, Encoding, Error, Format,
+    NumberValue, Reader,
 };
 use std::marker::Model;
 
@@ -191,27 +192,56 @@ impl WantedNames for RootWanted {
     }
 }
 
-// The values of the attributes of an entry. Those that give none are passed over.
-fn read_root_attributes<R: Reader>(
-    entries: &mut EntriesRaw<'_, R>,
+// Takes in the attributes of a root entry, whose values are of an encoding.
+#[derive(Clone, Copy)]
+struct RootSink {
     encoding: Encoding,
-    specifications: &[AttributeSpecification],
-) -> Result<RootAttributes<R>, Error>
-    requires encoding { entries.old.unit.encoding ≡ encoding }
-    ensures gives { ExactlyUnlessOomIf R.shares (λ r. r) result
-        (root_values_after encoding no_root_values
-        (attributes_at encoding specifications.now entries.old.cursor.left)) }
-{
-    let mut root = RootAttributes::new();
-    let mut rest = specifications;
-    while let Some(next) = split_at_wanted::<RootWanted>(rest) {
-        entries.skip_attributes(next.before)?;
-        let attribute = entries.read_attribute(next.specification)?;
-        root.take(encoding, attribute);
-        rest = next.after;
+}
+
+impl<R: Reader> AttributeSink<R, Attribute<R>> for RootSink {
+    ghost use Rattle.std.specs.Prelude.{Ok};
+    ghost use Rattle.gimli.specs.Record.{RootValues, with_root_attribute};
+
+    type Names = RootWanted;
+
+    type Numbers = NoNames;
+
+    type Found = RootAttributes<R>;
+
+    type Cache = ();
+
+    const FEW_BETWEEN: bool = false;
+
+    ghost seen = { λ a. a };
+
+    ghost Said = { RootValues };
+
+    ghost said = { λ root. root };
+
+    ghost with_attribute = { λ s root a. Ok (with_root_attribute s.encoding root a) };
+
+    ghost Grows = { λ _ _ _. Unit {0} };
+
+    #[inline(always)]
+    fn take(
+        &self,
+        found: &mut RootAttributes<R>,
+        attribute: Attribute<R>,
+        _cache: &mut (),
+    ) -> Result<(), Error> {
+        found.take(self.encoding, attribute);
+        Ok(())
     }
-    entries.skip_attributes(rest)?;
-    Ok(root)
+
+    fn take_number(
+        &self,
+        _found: &mut RootAttributes<R>,
+        _name: DwAt,
+        _number: NumberValue,
+        _cache: &mut (),
+    ) -> Result<(), Error> {
+        Ok(())
+    }
 }
 
 /// The values of the attributes of a unit's root entry.
@@ -229,7 +259,12 @@ pub(crate) fn read_root<R: Reader>(
     let mut entries = EntriesRaw::new(header, abbreviations, header.entries.duplicate()?);
     match entries.read_abbreviation()? {
         Some(abbreviation) => {
-            read_root_attributes(&mut entries, header.encoding, abbreviation.attributes())
+            let sink = RootSink {
+                encoding: header.encoding,
+            };
+            let root = RootAttributes::new();
+            let specifications = abbreviation.attributes();
+            take_attributes(&sink, &mut entries, specifications, root, &mut ())
         }
         None => Err(Error::MissingUnitDie),
     }

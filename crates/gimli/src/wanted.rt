@@ -1,7 +1,7 @@
 //! Attributes that are asked for by their names, among others.
 
-ghost use Rattle.std.specs.List.{position};
 ghost use Rattle.std.specs.Prelude.{◌≡◌, ◌<◌, true, None, IfSome, length};
+ghost use Rattle.std.specs.List.{position};
 ghost use Rattle.gimli.specs.WantedAttributes.{HasNoWanted, IsSplitAtWanted, is_wanted_specification};
 
 use gimli_read::{AttributeSpecification, DwAt};

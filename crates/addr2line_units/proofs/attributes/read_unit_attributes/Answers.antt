@@ -1,7 +1,7 @@
-use Rattle.std.proofs.Common.{sym, subst}
+use Rattle.std.proofs.Common.{ap, sym, subst, ◌∙◌}
 use Rattle.std.proofs.lemmas.Result.{err_from_is_err_and}
 use Rattle.gimli_read.specs.Reading.{ExactlyUnlessOomIf}
-use Rattle.addr2line_units.proofs.AttributeLemmas.{attributes-by}
+use Rattle.addr2line_units.proofs.AttributeLemmas.{attributes-by, encoding-of, unit_others}
 use Rattle.addr2line_units.proofs.attributes.read_unit_attributes.Goals as goal
 
 pub returns-in_err-abbreviation : goal.returns-in_err-abbreviation
@@ -12,10 +12,14 @@ returns-in_err-abbreviation g c =
 pub returns-in-Some : goal.returns-in-Some
 returns-in-Some g c =
     let code = rw c.in-Some.is at c.in_ok-abbreviation.ensures.gives in
-    let given = rw c.attributes.ensures.gives at c.read_attributes.ensures.gives in
-    record { gives = subst (ExactlyUnlessOomIf g.R.Reader.shares (λ a. a) c.read_attributes.result) (sym (attributes-by _ _ _ _ c.in_ok-entries.ensures.gives code)) given }
+    let encoding = ap (λ v. v.encoding) c.in_ok-abbreviation.ensures.unit ∙ encoding-of c.args.unit.dwarf.now c.args.unit.unit.now _ c.in_ok-entries.ensures.gives in
+    let given = rw (encoding, c.new-found.ensures.gives, c.attributes-specifications.ensures.gives) at c.take_attributes.ensures.gives in
+    record { gives = subst (ExactlyUnlessOomIf g.R.Reader.shares (λ a. a) c.take_attributes.result) (sym (attributes-by _ _ _ _ c.in_ok-entries.ensures.gives code)) given }
 
 pub returns : goal.returns
 returns g c =
     let code = rw c.in-None.is at c.in_ok-abbreviation.ensures.gives in
     record { gives = λ ne. attributes-by _ _ _ _ c.in_ok-entries.ensures.gives code }
+
+pub take_attributes-requires-clause-others : goal.take_attributes-requires-clause-others
+take_attributes-requires-clause-others g c = unit_others c.args.unit.dwarf.now c.args.unit.unit.now

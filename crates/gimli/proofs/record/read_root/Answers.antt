@@ -1,5 +1,7 @@
-use Rattle.gimli.proofs.Common.{◌≡◌, ap, sym, subst, err_from_is_err_and, ExactlyUnlessOomIf}
-use Rattle.gimli.proofs.RecordLemmas.{root_values_by}
+use Rattle.std.proofs.Common.{◌≡◌, Ok, ap, sym, subst, ◌∙◌}
+use Rattle.std.proofs.lemmas.Result.{err_from_is_err_and}
+use Rattle.gimli_read.specs.Reading.{ExactlyUnlessOomIf}
+use Rattle.gimli.proofs.RecordLemmas.{root_values_by, still_root}
 use Rattle.gimli.proofs.record.read_root.Goals as goal
 
 pub returns-in_err-abbreviation : goal.returns-in_err-abbreviation
@@ -14,11 +16,15 @@ returns-in-Some g c =
     let same : g.R.Reader.section c.in_ok-duplicate.field-0 ≡ c.args.header.now.entries = (let d = c.in_ok-duplicate.ensures.gives in let e = ap (λ h. h.entries) c.header.view_is in cc) in
     let code = rw (c.new-entries.ensures.gives, same, c.in-Some.is) at c.in_ok-abbreviation.ensures.gives in
     let sizes : c.header.inside.encoding ≡ c.args.header.now.encoding = ap (λ h. h.encoding) c.header.view_is in
-    let given = rw sizes at (rw c.attributes.ensures.gives at c.read_root_attributes.ensures.gives) in
-    record { gives = subst (ExactlyUnlessOomIf g.R.Reader.shares (λ r. r) c.read_root_attributes.result) (sym (root_values_by _ _ _ _ code)) given }
+    let encoding = ap (λ u. u.encoding) (c.in_ok-abbreviation.ensures.unit ∙ ap (λ e. e.unit) c.new-entries.ensures.gives) in
+    let given = rw (encoding, c.new-root.ensures.gives, c.attributes-specifications.ensures.gives, sizes) at c.take_attributes.ensures.gives in
+    record { gives = subst (ExactlyUnlessOomIf g.R.Reader.shares (λ r. r) c.take_attributes.result) (sym (root_values_by _ _ _ _ code)) given }
 
 pub returns : goal.returns
 returns g c =
     let same : g.R.Reader.section c.in_ok-duplicate.field-0 ≡ c.args.header.now.entries = (let d = c.in_ok-duplicate.ensures.gives in let e = ap (λ h. h.entries) c.header.view_is in cc) in
     let code = rw (c.new-entries.ensures.gives, same, c.in-None.is) at c.in_ok-abbreviation.ensures.gives in
     record { gives = λ ne. root_values_by _ _ _ _ code }
+
+pub take_attributes-requires-clause-others : goal.take_attributes-requires-clause-others
+take_attributes-requires-clause-others g c = λ root a h. ap Ok (still_root c.header.inside.encoding root a h)

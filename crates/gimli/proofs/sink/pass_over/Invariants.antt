@@ -1,7 +1,7 @@
 use Rattle.std.proofs.Common.{◌≡◌, drop}
 use Rattle.gimli_read.specs.Form.{rest_of}
-use Rattle.gimli.specs.Entry.{attributes_at}
-use Rattle.addr2line_lines.proofs.name.pass_over.Given as goal
+use Rattle.gimli_read.specs.Form.{attributes_at}
+use Rattle.gimli.proofs.sink.pass_over.Given as goal
 
 abbrev pub invariant-loop-specification : goal.invariant-loop-specification
 invariant-loop-specification g l =

@@ -1,8 +1,7 @@
 use Rattle.std.proofs.Common.{ap, sym, ◌∙◌}
 use Rattle.std.proofs.lemmas.Result.{err_from_is_err_and}
-use Rattle.addr2line_lines.proofs.PassLemmas.{pass_next}
-use Rattle.addr2line_lines.proofs.RangeLemmas.{rest-end}
-use Rattle.addr2line_lines.proofs.name.pass_over.Goals as goal
+use Rattle.gimli.proofs.SinkLemmas.{pass_next, rest-end}
+use Rattle.gimli.proofs.sink.pass_over.Goals as goal
 
 pub returns-in_err-skip_attribute-clause-gives : goal.returns-in_err-skip_attribute-clause-gives
 returns-in_err-skip_attribute-clause-gives g c =

@@ -63,6 +63,7 @@ module _ {X : Type 0} where
   given_fault [] f e = cc
   given_fault (Ok y ∷ ys) f e = cc
   given_fault (Err y ∷ ys) f e = let same : y ≡ f = cc in ap (λ z. Err z ∷ ys) same
+
 -- a list that isn't empty has a length
 pub some_there : {X : Type 0} (xs : List X) → (xs ≡ [] → ⊥) → nat_lt 0 (length xs) ≡ true
 some_there [] some = absurd (some refl)
@@ -97,8 +98,8 @@ module _ (d : Sections) (m : IndexState) where
       of_parts
       (ap (λ xs. m.units ++ xs) (map-append indexed_of us vs) ∙ sym (append_assoc m.units (map indexed_of us) (map indexed_of vs)))
       (ap (λ rs. m.ranges ++ rs) (ranges_append d (length m.units) us vs)
-          ∙ sym (append_assoc m.ranges (unit_ranges_from d (length m.units) us) (unit_ranges_from d (length m.units + length us) vs))
-          ∙ ap (λ k. (m.ranges ++ unit_ranges_from d (length m.units) us) ++ unit_ranges_from d k vs) (sym (length-append m.units (map indexed_of us) ∙ ap (λ k. length m.units + k) (length-map us indexed_of))))
+      ∙ sym (append_assoc m.ranges (unit_ranges_from d (length m.units) us) (unit_ranges_from d (length m.units + length us) vs))
+      ∙ ap (λ k. (m.ranges ++ unit_ranges_from d (length m.units) us) ++ unit_ranges_from d k vs) (sym (length-append m.units (map indexed_of us) ∙ ap (λ k. length m.units + k) (length-map us indexed_of))))
       (ap (λ xs. m.parsed ++ xs) (map-append has_lines us vs) ∙ sym (append_assoc m.parsed (map has_lines us) (map has_lines vs)))
 
 -- what is left after one more is less

@@ -159,8 +159,8 @@ pushed d us rs u old new given ranges now own lang parsed more =
     of_parts
     (indexed_push d us rs u new own ∙ ap (λ l. indexed_units us rs ++ record { unit = u; language = l } ∷ []) lang)
     (more
-        ∙ ap (λ n. ranges ++ map (range_of_unit n) (unit_ranges d (ranged_seen u old given))) (sym (as_many_indexed d us rs own))
-        ∙ ap (λ rs. ranges ++ rs) (sym (append-nil (map (range_of_unit (length (indexed_units us rs))) (unit_ranges d (ranged_seen u old given))))))
+    ∙ ap (λ n. ranges ++ map (range_of_unit n) (unit_ranges d (ranged_seen u old given))) (sym (as_many_indexed d us rs own))
+    ∙ ap (λ rs. ranges ++ rs) (sym (append-nil (map (range_of_unit (length (indexed_units us rs))) (unit_ranges d (ranged_seen u old given))))))
     (parsed_push rs new ∙ ap (λ b. parsed_units rs ++ b ∷ []) parsed)
   where
     of_parts : {a b : List IndexedUnit} {p q : List UnitRange} {v w : List Bool} → a ≡ b → p ≡ q → v ≡ w → ◌≡◌ {A = IndexState} (record { units = a; ranges = p; parsed = v }) (record { units = b; ranges = q; parsed = w })

@@ -88,10 +88,7 @@ module _ {R : Type 0} (d : Sections) (us : List UnitRecord) (cs : List (UnitCach
       of_units (Ok units) h =
           ap (λ (r : Result (List UnitRecord) Error). r >>= λ s. all (map indexed_of units) (unit_ranges_from d 0 units) s) f
           ∙ ap (λ (x : IndexState). all x.units x.ranges sup.units.items) (ok_is (index_of d units) index h)
-      of_units (Err x) h = absurd (err_ok h)
-        where
-          err_ok : ◌≡◌ {A = Result IndexState Error} (Err x) (Ok index) → ⊥
-          err_ok k = cc
+      of_units (Err x) h = absurd cc
 
   pub are_units : AreUnits (scope_in d us sup) cs stops.FindsNothing
   are_units = record {
@@ -129,10 +126,7 @@ module _ {R : Type 0} (d : Sections) (us : List UnitRecord) (cs : List (UnitCach
           ∙ ap (λ xs. state (first_state d units sup.units.items).scope (index_of d units) xs (nothing_known_of units)) (no_more_answers units)
           ∙ ap (λ xs. state (first_state d units sup.units.items).scope (index_of d units) (no_answers_of (unit_records (map indexed_of units))) xs) (no_more_known units)
           ∙ ap of_index (ok_is (index_of d units) index h)
-      of_units (Err x) h = absurd (err_ok h)
-        where
-          err_ok : ◌≡◌ {A = Result IndexState Error} (Err x) (Ok index) → ⊥
-          err_ok k = cc
+      of_units (Err x) h = absurd cc
 
 -- a fault of the supplementary file refuses the units
 pub sup_fault : (d : Sections) (i : IndexState) (f : Error) → (ranged_units d >>= λ units. Ok (index_of d units)) ≡ Ok i → sup_units d.sup ≡ Err f → new_units d ≡ Err f
@@ -143,10 +137,7 @@ sup_fault d i f e h = of_units (ranged_units d) e
 
     of_units : (r : Result (List RangedUnit) Error) → (r >>= λ units. Ok (index_of d units)) ≡ Ok i → (r >>= λ units. sup_units d.sup >>= λ s. state units s) ≡ Err f
     of_units (Ok units) k = ap (λ (r : Result (List UnitRecord) Error). r >>= λ s. state units s) h
-    of_units (Err x) k = absurd (err_ok k)
-      where
-        err_ok : ◌≡◌ {A = Result IndexState Error} (Err x) (Ok i) → ⊥
-        err_ok l = cc
+    of_units (Err x) k = absurd cc
 
 -- a fault of a unit does
 pub units_fault : (d : Sections) (f : Error) → (ranged_units d >>= λ units. Ok (index_of d units)) ≡ Err f → new_units d ≡ Err f
@@ -156,14 +147,8 @@ units_fault d f e = of_units (ranged_units d) e
     state units s = Ok (first_state d units s, unit_ranges_from d 0 units)
 
     of_units : (r : Result (List RangedUnit) Error) → (r >>= λ units. Ok (index_of d units)) ≡ Err f → (r >>= λ units. sup_units d.sup >>= λ s. state units s) ≡ Err f
-    of_units (Ok units) k = absurd (ok_err k)
-      where
-        ok_err : ◌≡◌ {A = Result IndexState Error} (Ok (index_of d units)) (Err f) → ⊥
-        ok_err l = cc
-    of_units (Err x) k = same k
-      where
-        same : ◌≡◌ {A = Result IndexState Error} (Err x) (Err f) → ◌≡◌ {A = Result (UnitsState × List UnitRange) Error} (Err x) (Err f)
-        same l = cc
+    of_units (Ok units) k = absurd cc
+    of_units (Err x) k = let is : x ≡ f = cc in ap (λ e. Err e) is
 
 -- the units with their ranges, as the private functions read them
 pub index_is : (d : Sections) → (index_read d).given ≡ (ranged_units d >>= λ units. Ok (index_of d units))

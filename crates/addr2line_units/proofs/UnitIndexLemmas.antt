@@ -37,27 +37,15 @@ module _ {X : Type 0} where
 
   pub given_some : (left rest : List (Result X Error)) (x : X) → next_given left ≡ Ok (Some x, rest) → left ≡ Ok x ∷ rest
   unfolding first second
-  given_some [] rest x e = absurd (none_some (ap first e))
-    where
-      none_some : ◌≡◌ {A = Option X} None (Some x) → ⊥
-      none_some k = cc
+  given_some [] rest x e = let none : ◌≡◌ {A = Option X} None (Some x) = ap first e in absurd cc
   given_some (Ok y ∷ ys) rest x e = ap (λ z. Ok z ∷ ys) (some_is y x (ap first e)) ∙ ap (λ zs. Ok x ∷ zs) (ap (second ys) e)
-  given_some (Err y ∷ ys) rest x e = absurd (err_ok e)
-    where
-      err_ok : ◌≡◌ {A = Result (Option X × List (Result X Error)) Error} (Err y) (Ok (Some x, rest)) → ⊥
-      err_ok k = cc
+  given_some (Err y ∷ ys) rest x e = absurd cc
 
   pub given_none : (left rest : List (Result X Error)) → next_given left ≡ Ok (None, rest) → left ≡ []
   unfolding first
   given_none [] rest e = refl
-  given_none (Ok y ∷ ys) rest e = absurd (some_none (ap first e))
-    where
-      some_none : ◌≡◌ {A = Option X} (Some y) None → ⊥
-      some_none k = cc
-  given_none (Err y ∷ ys) rest e = absurd (err_ok e)
-    where
-      err_ok : ◌≡◌ {A = Result (Option X × List (Result X Error)) Error} (Err y) (Ok (None, rest)) → ⊥
-      err_ok k = cc
+  given_none (Ok y ∷ ys) rest e = let none : ◌≡◌ {A = Option X} (Some y) None = ap first e in absurd cc
+  given_none (Err y ∷ ys) rest e = absurd cc
 
   pub given_fault : (left : List (Result X Error)) (f : Error) → next_given left ≡ Err f → left ≡ Err f ∷ drop 1 left
   given_fault [] f e = cc
@@ -114,10 +102,7 @@ module _ (d : Sections) (h : UnitHeaderFields) (outside : has_abbreviations d h 
       of_bool : (b : Bool) → is_ok {T = Section} (if b then Err OffsetOutOfBounds else Ok (after h.debug_abbrev_offset d.debug_abbrev)) ≡ false
           → ◌≡◌ {A = Result Section Error} (if b then Err OffsetOutOfBounds else Ok (after h.debug_abbrev_offset d.debug_abbrev)) (Err OffsetOutOfBounds)
       of_bool true e = refl
-      of_bool false e = absurd (true_false e)
-        where
-          true_false : true ≡ false → ⊥
-          true_false k = cc
+      of_bool false e = cc
 
   pub no_record : unit_record_of d h ≡ Err OffsetOutOfBounds
   unfolding unit_record_of unit_by
@@ -141,25 +126,16 @@ module _ (d : Sections) (h : UnitHeaderFields) where
       of_bool false f = absurd (f refl)
 
   pub where_taken : (shares : Bool) (cache : CachedTables) → cache.dwarf ≡ d → ((cached_unit_takes_memory shares cache h ≡ true → OutOfMemory ≢ OutOfMemory) → unit_record_of d h ≡ Err OutOfMemory) → has_abbreviations d h ≡ true
-  where_taken shares cache same gives = unless_outside (λ outside. other (sym (no_record d h outside) ∙ gives (λ takes. absurd (true_false (sym takes ∙ nothing_taken d h outside shares cache same)))))
-    where
-      other : ◌≡◌ {A = Result UnitRecord Error} (Err OffsetOutOfBounds) (Err OutOfMemory) → ⊥
-      other k = cc
-
-      true_false : true ≡ false → ⊥
-      true_false k = cc
+  where_taken shares cache same gives = unless_outside (λ outside.
+      let other : ◌≡◌ {A = Result UnitRecord Error} (Err OffsetOutOfBounds) (Err OutOfMemory) =
+      sym (no_record d h outside) ∙ gives (λ takes. let no : true ≡ false = sym takes ∙ nothing_taken d h outside shares cache same in absurd cc) in
+      cc)
 
   pub where_read : (u : UnitRecord) → unit_record_of d h ≡ Ok u → has_abbreviations d h ≡ true
-  where_read u e = unless_outside (λ outside. other (sym (no_record d h outside) ∙ e))
-    where
-      other : ◌≡◌ {A = Result UnitRecord Error} (Err OffsetOutOfBounds) (Ok u) → ⊥
-      other k = cc
+  where_read u e = unless_outside (λ outside. let other : ◌≡◌ {A = Result UnitRecord Error} (Err OffsetOutOfBounds) (Ok u) = sym (no_record d h outside) ∙ e in cc)
 
   pub where_found : (u : UnitRecord) → ◌≡◌ {A = Result (Option UnitRecord) Error} (Ok (result_ok (unit_record_of d h))) (Ok (Some u)) → has_abbreviations d h ≡ true
-  where_found u e = unless_outside (λ outside. other (sym (ap (λ r. Ok (result_ok r)) (no_record d h outside)) ∙ e))
-    where
-      other : ◌≡◌ {A = Result (Option UnitRecord) Error} (Ok None) (Ok (Some u)) → ⊥
-      other k = cc
+  where_found u e = unless_outside (λ outside. let other : ◌≡◌ {A = Result (Option UnitRecord) Error} (Ok None) (Ok (Some u)) = sym (ap (λ r. Ok (result_ok r)) (no_record d h outside)) ∙ e in cc)
 
   pub takes_unit : (shares : Bool) (aranges : List UnitArange) → is_type_unit h.unit_type ≡ false → has_abbreviations d h ≡ true → (unit_of_header d aranges h).takes_memory shares ≡ true
   unfolding unit_of_header
@@ -169,15 +145,12 @@ module _ (d : Sections) (h : UnitHeaderFields) where
   unfolding unit_of_header
   where_kept shares aranges u e = of_bool (is_type_unit h.unit_type) e
     where
-      none_some : ◌≡◌ {A = Result (Option RangedUnit) Error} (Ok None) (Ok (Some u)) → ⊥
-      none_some k = cc
-
       read : Bool → Costed (Option RangedUnit)
       read b = if b then free (Ok None) else by_abbreviations d h (unless_faulty d aranges (unit_record_of d h))
 
       of_bool : (b : Bool) → (read b).given ≡ Ok (Some u) → (read b).takes_memory shares ≡ true
-      of_bool true k = absurd (none_some k)
-      of_bool false k = unless_outside (λ outside. none_some (sym (ap (unless_faulty d aranges) (no_record d h outside)) ∙ k))
+      of_bool true k = absurd cc
+      of_bool false k = unless_outside (λ outside. let none : ◌≡◌ {A = Result (Option RangedUnit) Error} (Ok None) (Ok (Some u)) = sym (ap (unless_faulty d aranges) (no_record d h outside)) ∙ k in cc)
 
   pub kept_fault : (aranges : List UnitArange) (u : UnitRecord) (f : Error) → is_type_unit h.unit_type ≡ false → unit_record_of d h ≡ Ok u → ranged_unit d aranges u ≡ Err f → (unit_of_header d aranges h).given ≡ Err f
   unfolding unit_of_header

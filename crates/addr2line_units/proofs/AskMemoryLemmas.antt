@@ -11,6 +11,7 @@ use Rattle.gimli.specs.Sections.{Sections}
 use Rattle.gimli.specs.Unit.{UnitRecord}
 use Rattle.addr2line_lines.specs.FileTexts.{file_texts}
 use Rattle.addr2line_lines.specs.FunctionDetails.{details_take_memory}
+use Rattle.addr2line_lines.specs.FunctionTable.{FunctionTable}
 use Rattle.addr2line_lines.specs.Functions.{functions_take_memory}
 use Rattle.addr2line_lines.specs.Location.{LineTable, line_table_of}
 use Rattle.addr2line_lines.specs.References.{Scope}
@@ -19,7 +20,7 @@ use Rattle.addr2line_lines.specs.UnitLines.{IsFaultAtOnce, lines_in, program_lin
 use Rattle.addr2line_units.specs.declared.entries.LazyFunctions.{LazyFunctions}
 use Rattle.addr2line_units.specs.declared.entries.LazyFunctions.TheVariants as lazy
 use Rattle.addr2line_units.specs.AskMemory.{any_program_takes_memory, is_fault_at_once, lines_take_memory}
-use Rattle.addr2line_units.specs.CachedFunctions.{AreFunctionsOf, find_takes_memory, reading_takes_memory, table_takes_memory}
+use Rattle.addr2line_units.specs.CachedFunctions.{AreFunctionsOf, IsTableOf, cached_takes_memory, find_takes_memory, reading_takes_memory, table_takes_memory}
 use Rattle.addr2line_units.specs.CachedLines.{lines_result}
 use Rattle.gimli_read.proofs.FaultLemmas.{not_refused}
 use Rattle.addr2line_lines.proofs.FaultLemmas.{unit_lines_are}
@@ -89,28 +90,26 @@ module _ {X : Type 0} (shares : Bool) (x : X) where
   lines_took u some exact none = read_of_program u.line_program some exact none
 
 -- functions that take no memory take none however many of them are cached
-pub find_takes_none : {R : Type 0} (shares : Bool) (scope : Scope) (view : UnitRecord) (probe : ℕ) (f : LazyFunctions R) → AreFunctionsOf scope view f → functions_take_memory shares scope.file.sections view ≡ false
-    → find_takes_memory shares scope view probe f ≡ false
-find_takes_none shares scope view probe lazy.Unread right none = none
-find_takes_none shares scope view probe lazy.Absent right none = refl
-find_takes_none shares scope view probe (lazy.Read t) right none = by_test (table_takes_memory probe t.value) refl
-  where
-    by_test : (b : Bool) → table_takes_memory probe t.value ≡ b → table_takes_memory probe t.value ≡ false
-    by_test true e = let no : false ≡ true = sym none ∙ place_takes shares scope view t.value right probe e in absurd cc
-    by_test false e = e
-find_takes_none shares scope view probe (lazy.Faulty e) right none = refl
+module _ {R : Type 0} (shares : Bool) (scope : Scope) (view : UnitRecord) (f : LazyFunctions R) (right : AreFunctionsOf scope view f) (none : functions_take_memory shares scope.file.sections view ≡ false) where
+  cached_takes_none : (takes : FunctionTable → Bool) → ((t : FunctionTable) → IsTableOf scope view t → takes t ≡ true → functions_take_memory shares scope.file.sections view ≡ true) → cached_takes_memory shares scope view takes f ≡ false
+  cached_takes_none takes some = by_functions f right
+    where
+      by_test : (t : FunctionTable) → IsTableOf scope view t → (b : Bool) → takes t ≡ b → takes t ≡ false
+      by_test t is true e = let no : false ≡ true = sym none ∙ some t is e in absurd cc
+      by_test t is false e = e
 
--- nor to read all their details
-pub reading_takes_none : {R : Type 0} (shares : Bool) (scope : Scope) (view : UnitRecord) (f : LazyFunctions R) → AreFunctionsOf scope view f → functions_take_memory shares scope.file.sections view ≡ false
-    → reading_takes_memory shares scope view f ≡ false
-reading_takes_none shares scope view lazy.Unread right none = none
-reading_takes_none shares scope view lazy.Absent right none = refl
-reading_takes_none shares scope view (lazy.Read t) right none = by_test (details_take_memory shares scope view t.value.functions) refl
-  where
-    by_test : (b : Bool) → details_take_memory shares scope view t.value.functions ≡ b → details_take_memory shares scope view t.value.functions ≡ false
-    by_test true e = let no : false ≡ true = sym none ∙ details_take shares scope view t.value right e in absurd cc
-    by_test false e = e
-reading_takes_none shares scope view (lazy.Faulty e) right none = refl
+      by_functions : (x : LazyFunctions R) → AreFunctionsOf scope view x → cached_takes_memory shares scope view takes x ≡ false
+      by_functions lazy.Unread is = none
+      by_functions lazy.Absent is = refl
+      by_functions (lazy.Read t) is = by_test t.value is (takes t.value) refl
+      by_functions (lazy.Faulty e) is = refl
+
+  pub find_takes_none : (probe : ℕ) → find_takes_memory shares scope view probe f ≡ false
+  find_takes_none probe = cached_takes_none (table_takes_memory probe) (λ t is. place_takes shares scope view t is probe)
+
+  -- nor to read all their details
+  pub reading_takes_none : reading_takes_memory shares scope view f ≡ false
+  reading_takes_none = cached_takes_none (λ (t : FunctionTable). details_take_memory shares scope view t.functions) (λ t is. details_take shares scope view t is)
 
 -- where lines are parsed, or take no memory, a refusal is what is given
 pub alone_if_none : {X : Type 0} (parsed takes : Bool) (e : Error) (given : Result X Error) → (parsed || not takes) ≡ true → (parsed ≡ true → e ≢ OutOfMemory) → (e ≢ OutOfMemory → given ≡ Err e) → (takes ≡ false → given ≡ Err e) → given ≡ Err e

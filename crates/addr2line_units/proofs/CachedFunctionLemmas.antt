@@ -15,7 +15,7 @@ use Rattle.addr2line_lines.specs.Details.{Detail, detail_at}
 use Rattle.addr2line_lines.specs.InlinedEntries.{InlinedEntry}
 use Rattle.addr2line_lines.specs.InlinedChain.{inlined_chain}
 use Rattle.addr2line_lines.specs.FoundInlined.{entry_among}
-use Rattle.addr2line_lines.specs.Functions.{FunctionRange, entries_of, function_offset_at, functions_of}
+use Rattle.addr2line_lines.specs.Functions.{FunctionRange, entries_of, function_offset_at, functions_of, functions_take_memory}
 use Rattle.addr2line_lines.specs.FunctionDetails.{AreDetailsOf, AreUnread, HasDetail, IsDetailOf, IsFunctionMore, IsReadAt, IsReadOf, IsReadOnce, IsTableMore, IsWithDetail, details_fault, details_take_memory}
 use Rattle.addr2line_lines.specs.FunctionTable.{AreListed, CachedFunction, FunctionTable, cached_detail, cached_inlined, cached_name, function_place_at, inlined_of_detail, name_of_detail, cached_offset_at}
 use Rattle.addr2line_lines.specs.Location.{Location}
@@ -29,7 +29,7 @@ use Rattle.addr2line_units.specs.declared.entries.LazyFunctions.{LazyFunctions}
 use Rattle.addr2line_units.specs.declared.entries.LazyFunctions.TheVariants as lazy
 use Rattle.addr2line_units.specs.Frames.{FrameRecord, found_frames, found_function, frames_from, function_at, function_from}
 use Rattle.addr2line_units.proofs.FunctionMemoryLemmas.{details_take, place_takes}
-use Rattle.addr2line_units.specs.CachedFunctions.{ArePlacesIn, IsTableOf, ReadsNoOther, StayFunctions, cached_inlined_at, cached_detail_takes_memory, details_at, find_takes_memory, function_of_place, functions_fault, cached_functions, place_takes_memory, reading_takes_memory, table_takes_memory, were_read}
+use Rattle.addr2line_units.specs.CachedFunctions.{ArePlacesIn, IsTableOf, ReadsNoOther, StayFunctions, cached_inlined_at, cached_detail_takes_memory, cached_takes_memory, details_at, find_takes_memory, function_of_place, functions_fault, cached_functions, place_takes_memory, reading_takes_memory, table_takes_memory, were_read}
 
 -- whether an error is that of memory
 pub memory_or_not : (e : Error) → (e ≡ OutOfMemory) ⊎ (e ≢ OutOfMemory)
@@ -358,29 +358,24 @@ no_fault_of scope view e = ap (λ (r : Result (List FunctionRange) Error). r >>=
 -- functions that were read stay as they are, and others are read
 module _ {R : Type 0} (old mid : LazyFunctions R) (kept : were_read old ≡ true → (mid ≡ old)) where
   -- functions that are cached were cached before, or weren't read
-  pub memory_before : (shares : Bool) (scope : Scope) (view : UnitRecord) (t : Box FunctionTable Global) (probe : ℕ) → mid ≡ lazy.Read t → IsTableOf scope view t.value → table_takes_memory probe t.value ≡ true → find_takes_memory shares scope view probe old ≡ true
-  memory_before shares scope view t probe e is_table h = by_old old refl
-    where
-      by_old : (x : LazyFunctions R) → old ≡ x → find_takes_memory shares scope view probe x ≡ true
-      by_old lazy.Unread q = place_takes shares scope view t.value is_table probe h
-      by_old lazy.Absent q = let is : lazy.Read t ≡ lazy.Absent = sym e ∙ kept (ap were_read q) ∙ q in absurd cc
-      by_old (lazy.Read s) q =
-          let is : lazy.Read t ≡ lazy.Read s = sym e ∙ kept (ap were_read q) ∙ q in
-          let same : t ≡ s = cc in
-          ap (λ (u : Box FunctionTable Global). table_takes_memory probe u.value) (sym same) ∙ h
-      by_old (lazy.Faulty x) q = let is : lazy.Read t ≡ lazy.Faulty x = sym e ∙ kept (ap were_read q) ∙ q in absurd cc
+  module _ (shares : Bool) (scope : Scope) (view : UnitRecord) (t : Box FunctionTable Global) (read : mid ≡ lazy.Read t) (is_table : IsTableOf scope view t.value) where
+    taken_before : (takes : FunctionTable → Bool) → (takes t.value ≡ true → functions_take_memory shares scope.file.sections view ≡ true) → takes t.value ≡ true → cached_takes_memory shares scope view takes old ≡ true
+    taken_before takes some h = by_old old refl
+      where
+        by_old : (x : LazyFunctions R) → old ≡ x → cached_takes_memory shares scope view takes x ≡ true
+        by_old lazy.Unread q = some h
+        by_old lazy.Absent q = let is : lazy.Read t ≡ lazy.Absent = sym read ∙ kept (ap were_read q) ∙ q in absurd cc
+        by_old (lazy.Read s) q =
+            let is : lazy.Read t ≡ lazy.Read s = sym read ∙ kept (ap were_read q) ∙ q in
+            let same : t ≡ s = cc in
+            ap (λ (u : Box FunctionTable Global). takes u.value) (sym same) ∙ h
+        by_old (lazy.Faulty x) q = let is : lazy.Read t ≡ lazy.Faulty x = sym read ∙ kept (ap were_read q) ∙ q in absurd cc
 
-  pub reading_before : (shares : Bool) (scope : Scope) (view : UnitRecord) (t : Box FunctionTable Global) → mid ≡ lazy.Read t → IsTableOf scope view t.value → details_take_memory shares scope view t.value.functions ≡ true → reading_takes_memory shares scope view old ≡ true
-  reading_before shares scope view t e is_table h = by_old old refl
-    where
-      by_old : (x : LazyFunctions R) → old ≡ x → reading_takes_memory shares scope view x ≡ true
-      by_old lazy.Unread q = details_take shares scope view t.value is_table h
-      by_old lazy.Absent q = let is : lazy.Read t ≡ lazy.Absent = sym e ∙ kept (ap were_read q) ∙ q in absurd cc
-      by_old (lazy.Read s) q =
-          let is : lazy.Read t ≡ lazy.Read s = sym e ∙ kept (ap were_read q) ∙ q in
-          let same : t ≡ s = cc in
-          ap (λ (u : Box FunctionTable Global). details_take_memory shares scope view u.value.functions) (sym same) ∙ h
-      by_old (lazy.Faulty x) q = let is : lazy.Read t ≡ lazy.Faulty x = sym e ∙ kept (ap were_read q) ∙ q in absurd cc
+    pub memory_before : (probe : ℕ) → table_takes_memory probe t.value ≡ true → find_takes_memory shares scope view probe old ≡ true
+    memory_before probe h = taken_before (table_takes_memory probe) (place_takes shares scope view t.value is_table probe) h
+
+    pub reading_before : details_take_memory shares scope view t.value.functions ≡ true → reading_takes_memory shares scope view old ≡ true
+    reading_before h = taken_before (λ (u : FunctionTable). details_take_memory shares scope view u.functions) (details_take shares scope view t.value is_table) h
 
   pub stay_read : (t new : Box FunctionTable Global) → mid ≡ lazy.Read t → IsTableMore t.value new.value → StayFunctions old (lazy.Read new)
   stay_read t new e more = by_old old refl

@@ -1,8 +1,9 @@
 -- Nothing that units, their views, lines and functions give is OutOfMemory (on the specs of this crate).
-use Rattle.std.proofs.Common.{ℕ, List, [], ◌∷◌, map, is_some, slice_get, Option, Some, None, IfSome, IfOk, Result, Ok, Err}
+use Rattle.std.proofs.Common.{ℕ, Bool, true, false, if◌then◌else◌, List, [], ◌∷◌, map, is_some, slice_get, Option, Some, None, IfSome, IfOk, Result, Ok, Err}
 use Rattle.gimli_read.specs.declared.error.Error.{Error}
 use Rattle.gimli_read.specs.declared.error.Error.TheVariants.{UnknownToken}
 use Rattle.gimli_read.specs.declared.range.Range.{Range}
+use Rattle.gimli_read.specs.Costed.{Costed, free}
 use Rattle.gimli_read.specs.FaultLaws.{NoneWasRefused}
 use Rattle.gimli_read.specs.Form.{NamedValue}
 use Rattle.gimli_read.specs.Reading.{◌>>=◌, WasNotRefused}
@@ -31,7 +32,8 @@ use Rattle.addr2line_units.specs.declared.parses.ReadingDepth.TheVariants as dep
 use Rattle.addr2line_units.specs.Cover.{cover, cover_range}
 use Rattle.addr2line_units.specs.UnitAranges.{aranges_at, aranges_in}
 use Rattle.addr2line_units.specs.UnitAttributes.{no_unit_attributes, with_unit_attribute, unit_attributes}
-use Rattle.addr2line_units.specs.RangedUnits.{IndexedUnit, is_type_unit, is_partial, or_attribute_ranges, listed_unit_ranges, listed_in_unit, unless_faulty, unit_of_header, units_of, ranged_units}
+use Rattle.addr2line_units.specs.HeaderUnits.{by_abbreviations, units_of}
+use Rattle.addr2line_units.specs.RangedUnits.{IndexedUnit, is_type_unit, is_partial, or_attribute_ranges, listed_unit_ranges, listed_in_unit, unless_faulty, unit_of_header, ranged_units}
 use Rattle.addr2line_units.specs.UnitIndex.{UnitIndex, sup_unit_of_header, sup_sections, sup_units, index_units}
 use Rattle.addr2line_units.specs.UnitsState.{UnitsState, new_units, asked_by, stop_of}
 use Rattle.addr2line_units.specs.Views.{FirstAnswers, View, SplitLoad, split_name_of, first_of, first_unit, answered_view, load_by, load_of_unit, verdict_by, verdict, is_open, decided_answer, view_scope}
@@ -72,16 +74,17 @@ unless_faulty_is : (d : Sections) (aranges : List UnitArange) (r : Result UnitRe
 unless_faulty_is d aranges (Err e) = value
 unless_faulty_is d aranges (Ok u) = step (step (listed_in_unit_is d aranges u) (λ x. value)) (λ x. value)
 
-pub unit_of_header_is : (d : Sections) (aranges : List UnitArange) (h : UnitHeaderFields) → IsByBytes (unit_of_header d aranges h)
+pub unit_of_header_is : (d : Sections) (aranges : List UnitArange) (h : UnitHeaderFields) → IsByBytes (unit_of_header d aranges h).given
 unfolding unit_of_header
-unit_of_header_is d aranges h = either (is_type_unit h.unit_type) value (unless_faulty_is d aranges (unit_record_of d h))
+unit_of_header_is d aranges h = at (is_type_unit h.unit_type)
+  where
+    at : (b : Bool) → IsByBytes (if b then free (Ok None) else by_abbreviations d h (unless_faulty d aranges (unit_record_of d h))).given
+    at true = value
+    at false = unless_faulty_is d aranges (unit_record_of d h)
 
-units_read : {U : Type 0} (read : UnitHeaderFields → Result (Option U) Error) → ((h : UnitHeaderFields) → IsByBytes (read h)) → (headers : List (Result UnitHeaderFields Error)) → AreByBytes headers → AreByBytes (map (λ h. h >>= read) headers)
-units_read read k [] h = tt
-units_read read k (r ∷ rs) h = (step h.0 (λ x. k x), units_read read k rs h.1)
-
-units_are : {U : Type 0} (read : UnitHeaderFields → Result (Option U) Error) → ((h : UnitHeaderFields) → IsByBytes (read h)) → (headers : List (Result UnitHeaderFields Error)) → AreByBytes headers → IsByBytes (units_of read headers)
-units_are read k headers h = step (read_all_is (map (λ h. h >>= read) headers) (units_read read k headers h)) (λ units. value)
+units_are : {U : Type 0} (read : UnitHeaderFields → Costed (Option U)) → ((h : UnitHeaderFields) → IsByBytes (read h).given) → (headers : List (Result UnitHeaderFields Error)) → AreByBytes headers → IsByBytes (units_of read headers).given
+units_are read k [] h = value
+units_are read k (r ∷ rs) h = step (step h.0 k) (λ unit. step (units_are read k rs h.1) (λ units. value))
 
 pub ranged_units_are : (d : Sections) → IsByBytes (ranged_units d)
 ranged_units_are d = step (aranges_are d.debug_aranges) (λ aranges. units_are (unit_of_header d aranges) (unit_of_header_is d aranges) (all_headers d.debug_info) (all_headers_are d.debug_info))

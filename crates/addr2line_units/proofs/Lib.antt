@@ -6,6 +6,7 @@ pub mod LegacyPlain
 pub mod LegacyProofs
 pub mod AttributeLemmas
 pub mod ArangeLemmas
+pub mod HeaderUnitLemmas
 pub mod UnitIndexLemmas
 pub mod UnitsLemmas
 pub mod UnitLemmas

@@ -15,7 +15,7 @@ use Rattle.addr2line_units.specs.declared.unit.UnitLines.{UnitLines}
 use Rattle.addr2line_units.specs.declared.entries.UnitCache.{UnitCache}
 use Rattle.addr2line_units.specs.AfterUnits.{AfterLines}
 use Rattle.addr2line_units.specs.AskedUnits.{AfterCachingAt, AfterRowAt}
-use Rattle.addr2line_units.specs.AskMemory.{any_lines_take_memory, lines_of_take_memory, lines_take_memory}
+use Rattle.addr2line_units.specs.AskMemory.{lines_of_take_memory, lines_take_memory}
 use Rattle.addr2line_units.specs.CachedLines.{AreLinesOf, CachesResult, StaysUnit, StayUnits, cached_files, indexed_unit, is_uncached, lines_result, lines_result_at, parsed_units, unit_row}
 use Rattle.addr2line_units.specs.FramesLookup.{FindsNothing, LookupStop}
 use Rattle.addr2line_units.specs.Located.{is_found, location_in, looks_in}
@@ -75,7 +75,7 @@ module _ {R : Type 0} {scope : Scope} {cs : List (UnitCache R)} {last : FramesSt
       indexed = unit_at us cs n u c (unit_within i n there) within (unit_is i n there) at
 
       takes_is : (shares : Bool) → lines_of_take_memory shares old.units n ≡ lines_take_memory shares u
-      takes_is shares = ap (any_lines_take_memory shares) indexed
+      takes_is shares = rw (indexed, lines_of_take_memory) refl
 
       module _ (l : UnitLines) where
         abbrev with_lines : UnitCache R

@@ -1,24 +1,27 @@
 -- The units of a context as they are read (on specs/UnitsState.antt and specs/StoredUnits.antt).
-use Rattle.std.proofs.Common.{◌≡◌, ◌&&◌, ◌||◌, Bool, true, false, List, [], ◌∷◌, map, Option, Some, None, option_map, Result, Ok, Err, refl, sym, ap, subst, ◌∙◌}
-use Rattle.std.specs.Prelude.{is_ok}
+use Rattle.std.proofs.Common.{◌≡◌, List, [], ◌∷◌, map, Option, Some, None, option_map, Result, Ok, Err, refl, sym, ap, subst, ◌∙◌}
 use Rattle.gimli_read.specs.declared.error.Error.{Error}
 use Rattle.gimli_read.specs.Reading.{◌>>=◌}
 use Rattle.gimli.specs.Sections.{Sections, SupSections}
 use Rattle.gimli.specs.Unit.{UnitRecord}
+use Rattle.gimli.specs.UnitsLeft.{all_headers}
 use Rattle.addr2line_lines.specs.References.{FileRecord, IsScope, Scope}
 use Rattle.addr2line_units.specs.declared.frames.FramesStop.TheVariants as stops
+use Rattle.addr2line_units.specs.declared.index.UnitArange.{UnitArange}
 use Rattle.addr2line_units.specs.declared.index.UnitRange.{UnitRange}
 use Rattle.addr2line_units.specs.declared.sup.SupUnits.{SupUnits}
 use Rattle.addr2line_units.specs.declared.entries.UnitCache.{UnitCache}
 use Rattle.addr2line_units.specs.CachedLines.{HaveLinesOf, indexed_units, parsed_units}
 use Rattle.addr2line_units.specs.CachedUnits.{AreFreshOf, answers_in}
 use Rattle.addr2line_units.specs.FramesLookup.{FindsNothing, main_scope}
-use Rattle.addr2line_units.specs.Indexed.{IndexState, context_takes_memory, index_of, index_takes_memory, sup_takes_memory}
+use Rattle.addr2line_units.specs.Indexed.{IndexState, index_of, index_read}
+use Rattle.addr2line_units.specs.HeaderUnits.{units_of}
 use Rattle.addr2line_units.specs.CachedKnown.{known_in}
 use Rattle.addr2line_units.specs.KnownEntries.{KnownEntries, NothingKnown}
-use Rattle.addr2line_units.specs.RangedUnits.{IndexedUnit, RangedUnit, indexed_of, ranged_units, unit_ranges_from, unit_records}
+use Rattle.addr2line_units.specs.RangedUnits.{IndexedUnit, RangedUnit, indexed_of, ranged_units, unit_of_header, unit_ranges_from, unit_records}
 use Rattle.addr2line_units.specs.SeenUnit.{scope_in}
 use Rattle.addr2line_units.specs.StoredUnits.{AreUnits, seen_units}
+use Rattle.addr2line_units.specs.UnitAranges.{aranges_in}
 use Rattle.addr2line_units.specs.UnitIndex.{UnitIndex, index_units, sup_sections, sup_units}
 use Rattle.addr2line_units.specs.UnitsState.{UnitsState, first_state, new_units}
 use Rattle.addr2line_units.specs.Views.{FirstAnswers}
@@ -85,10 +88,7 @@ module _ {R : Type 0} (d : Sections) (us : List UnitRecord) (cs : List (UnitCach
       of_units (Ok units) h =
           ap (λ (r : Result (List UnitRecord) Error). r >>= λ s. all (map indexed_of units) (unit_ranges_from d 0 units) s) f
           ∙ ap (λ (x : IndexState). all x.units x.ranges sup.units.items) (ok_is (index_of d units) index h)
-      of_units (Err x) h = absurd (err_ok h)
-        where
-          err_ok : ◌≡◌ {A = Result IndexState Error} (Err x) (Ok index) → ⊥
-          err_ok k = cc
+      of_units (Err x) h = absurd cc
 
   pub are_units : AreUnits (scope_in d us sup) cs stops.FindsNothing
   are_units = record {
@@ -126,10 +126,7 @@ module _ {R : Type 0} (d : Sections) (us : List UnitRecord) (cs : List (UnitCach
           ∙ ap (λ xs. state (first_state d units sup.units.items).scope (index_of d units) xs (nothing_known_of units)) (no_more_answers units)
           ∙ ap (λ xs. state (first_state d units sup.units.items).scope (index_of d units) (no_answers_of (unit_records (map indexed_of units))) xs) (no_more_known units)
           ∙ ap of_index (ok_is (index_of d units) index h)
-      of_units (Err x) h = absurd (err_ok h)
-        where
-          err_ok : ◌≡◌ {A = Result IndexState Error} (Err x) (Ok index) → ⊥
-          err_ok k = cc
+      of_units (Err x) h = absurd cc
 
 -- a fault of the supplementary file refuses the units
 pub sup_fault : (d : Sections) (i : IndexState) (f : Error) → (ranged_units d >>= λ units. Ok (index_of d units)) ≡ Ok i → sup_units d.sup ≡ Err f → new_units d ≡ Err f
@@ -140,10 +137,7 @@ sup_fault d i f e h = of_units (ranged_units d) e
 
     of_units : (r : Result (List RangedUnit) Error) → (r >>= λ units. Ok (index_of d units)) ≡ Ok i → (r >>= λ units. sup_units d.sup >>= λ s. state units s) ≡ Err f
     of_units (Ok units) k = ap (λ (r : Result (List UnitRecord) Error). r >>= λ s. state units s) h
-    of_units (Err x) k = absurd (err_ok k)
-      where
-        err_ok : ◌≡◌ {A = Result IndexState Error} (Err x) (Ok i) → ⊥
-        err_ok l = cc
+    of_units (Err x) k = absurd cc
 
 -- a fault of a unit does
 pub units_fault : (d : Sections) (f : Error) → (ranged_units d >>= λ units. Ok (index_of d units)) ≡ Err f → new_units d ≡ Err f
@@ -153,30 +147,20 @@ units_fault d f e = of_units (ranged_units d) e
     state units s = Ok (first_state d units s, unit_ranges_from d 0 units)
 
     of_units : (r : Result (List RangedUnit) Error) → (r >>= λ units. Ok (index_of d units)) ≡ Err f → (r >>= λ units. sup_units d.sup >>= λ s. state units s) ≡ Err f
-    of_units (Ok units) k = absurd (ok_err k)
-      where
-        ok_err : ◌≡◌ {A = Result IndexState Error} (Ok (index_of d units)) (Err f) → ⊥
-        ok_err l = cc
-    of_units (Err x) k = same k
-      where
-        same : ◌≡◌ {A = Result IndexState Error} (Err x) (Err f) → ◌≡◌ {A = Result (UnitsState × List UnitRange) Error} (Err x) (Err f)
-        same l = cc
+    of_units (Ok units) k = absurd cc
+    of_units (Err x) k = let is : x ≡ f = cc in ap (λ e. Err e) is
 
--- memory may be taken for a context where it may be for its units
-pub units_memory : (shares : Bool) (d : Sections) → index_takes_memory shares d ≡ true → context_takes_memory shares d ≡ true
-units_memory shares d e = ap (λ b. b || (is_ok (ranged_units d) && sup_takes_memory shares d.sup)) e
-
--- memory may be taken for a context where it may be for its supplementary file
-pub sup_memory : (shares : Bool) (d : Sections) (i : IndexState) → (ranged_units d >>= λ units. Ok (index_of d units)) ≡ Ok i → sup_takes_memory shares d.sup ≡ true → context_takes_memory shares d ≡ true
-sup_memory shares d i made e = ap (λ b. index_takes_memory shares d || (b && sup_takes_memory shares d.sup)) (of_units (ranged_units d) made) ∙ ap (λ b. index_takes_memory shares d || b) e ∙ or_true (index_takes_memory shares d)
+-- the units with their ranges, as the private functions read them
+pub index_is : (d : Sections) → (index_read d).given ≡ (ranged_units d >>= λ units. Ok (index_of d units))
+index_is d = of_aranges (aranges_in d.debug_aranges)
   where
-    of_units : (r : Result (List RangedUnit) Error) → (r >>= λ units. Ok (index_of d units)) ≡ Ok i → is_ok r ≡ true
-    of_units (Ok units) h = refl
-    of_units (Err x) h = absurd (err_ok h)
-      where
-        err_ok : ◌≡◌ {A = Result IndexState Error} (Err x) (Ok i) → ⊥
-        err_ok k = cc
+    units : List UnitArange → Result (List RangedUnit) Error
+    units aranges = (units_of (unit_of_header d aranges) (all_headers d.debug_info)).given
 
-    or_true : (b : Bool) → (b || true) ≡ true
-    or_true true = refl
-    or_true false = refl
+    of_units : (r : Result (List RangedUnit) Error) → ((r >>= λ us. Ok (index_of d us)) >>= λ index. Ok index) ≡ (r >>= λ us. Ok (index_of d us))
+    of_units (Ok us) = refl
+    of_units (Err e) = refl
+
+    of_aranges : (r : Result (List UnitArange) Error) → ((r >>= λ xs. Ok xs) >>= λ aranges. (units aranges >>= λ us. Ok (index_of d us)) >>= λ index. Ok index) ≡ ((r >>= λ aranges. units aranges) >>= λ us. Ok (index_of d us))
+    of_aranges (Ok aranges) = of_units (units aranges)
+    of_aranges (Err e) = refl

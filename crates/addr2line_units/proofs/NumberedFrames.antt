@@ -12,7 +12,7 @@ use Rattle.addr2line_lines.specs.References.{Scope}
 use Rattle.addr2line_units.specs.declared.entries.UnitCache.{UnitCache}
 use Rattle.addr2line_units.specs.declared.entries.UnitFrames.{UnitFrames}
 use Rattle.addr2line_units.specs.declared.entries.UnitFrames.TheVariants as found
-use Rattle.addr2line_units.specs.AskMemory.{any_lines_take_memory, functions_in_take_memory, lines_of_take_memory, lines_take_memory}
+use Rattle.addr2line_units.specs.AskMemory.{functions_in_take_memory, lines_of_take_memory, lines_take_memory}
 use Rattle.addr2line_units.specs.CachedLines.{indexed_unit, indexed_units, is_uncached, parsed_units}
 use Rattle.addr2line_units.specs.FramesLookup.{asks_lines_of, frames_of_number, function_offset_of, functions_of_take_memory, inlined_at_number}
 use Rattle.addr2line_units.specs.CachedEntries.{AreFramesIn, AsksNoMemoryIn, frames_of_place, has_entries, first_answer_of}
@@ -79,7 +79,7 @@ module _ {R : Type 0} (scope : Scope) (probe : ℕ) (us : List UnitRecord) (cs :
     functions_take shares = rw (unit_is, functions_of_take_memory, answer_is) refl
 
     pub lines_take : (shares : Bool) → lines_of_take_memory shares (indexed_units us cs) n ≡ lines_take_memory shares u
-    lines_take shares = ap (any_lines_take_memory shares) unit_is
+    lines_take shares = rw (unit_is, lines_of_take_memory) refl
 
     there : slice_get (set cs n w) n ≡ Some w
     there = got_set cs n w h

@@ -2,6 +2,7 @@
 -- specs/Parsed.antt).
 use Rattle.std.proofs.Common.{◌≡◌, ℕ, zero, suc, ◌+◌, ◌-◌, ◌≤◌, ◌<◌, Bool, true, false, not, ◌&&◌, ◌||◌, List, [], ◌∷◌, ◌++◌, length, map, drop, add-one, get_or, Option, Some, None, slice_get, Result, Ok, Err, is_ok, refl, sym, ap, subst, arith, ◌∙◌, ◌⊎◌, inl, inr}
 use Rattle.std.proofs.Math.ListN.{drop_of_length-le, set}
+use Rattle.std.proofs.lemmas.List.{append-nil}
 use Rattle.std.proofs.lemmas.List.Sums.{sum_by-cons}
 use Rattle.gimli_read.specs.declared.error.Error.{Error}
 use Rattle.gimli_read.specs.declared.range.Range.{Range}
@@ -15,7 +16,7 @@ use Rattle.addr2line_units.specs.declared.unit.LazyLines.{LazyLines}
 use Rattle.addr2line_units.specs.declared.unit.UnitLines.{UnitLines}
 use Rattle.addr2line_units.specs.declared.entries.UnitCache.{UnitCache}
 use Rattle.addr2line_units.specs.declared.index.UnitRange.{UnitRange}
-use Rattle.addr2line_units.specs.Indexed.{IndexState, ranged_seen, with_ranged}
+use Rattle.addr2line_units.specs.Indexed.{IndexState, appended, ranged_seen}
 use Rattle.addr2line_units.specs.RangedUnits.{IndexedUnit, has_lines, range_of_unit, unit_ranges}
 use Rattle.addr2line_units.specs.Located.{all_lines, first_location, lines_of_unit, location_in, looks_along, looks_in, or_first_location}
 use Rattle.addr2line_units.specs.Cover.{holds_until}
@@ -153,11 +154,13 @@ parsed_push (y ∷ rs) r = ap (λ bs. is_parsed y.lines ∷ bs) (parsed_push rs 
 pub pushed : {R : Type 0} (d : Sections) (us : List UnitRecord) (rs : List (UnitCache R)) (u : UnitRecord) (old : UnitLines) (new : UnitCache R) (given : List Range) (ranges now : List UnitRange) → HaveLinesOf d us rs → new.lines.lang ≡ old.lang → is_parsed new.lines ≡ has_lines (ranged_seen u old given)
     → now ≡ ranges ++ map (range_of_unit (length rs)) (unit_ranges d (ranged_seen u old given))
     → ◌≡◌ {A = IndexState} (record { units = indexed_units (us ++ u ∷ []) (rs ++ new ∷ []); ranges = now; parsed = parsed_units (rs ++ new ∷ []) })
-    (with_ranged d (record { units = indexed_units us rs; ranges = ranges; parsed = parsed_units rs }) (ranged_seen u old given))
+    (appended d (record { units = indexed_units us rs; ranges = ranges; parsed = parsed_units rs }) (ranged_seen u old given ∷ []))
 pushed d us rs u old new given ranges now own lang parsed more =
     of_parts
     (indexed_push d us rs u new own ∙ ap (λ l. indexed_units us rs ++ record { unit = u; language = l } ∷ []) lang)
-    (more ∙ ap (λ n. ranges ++ map (range_of_unit n) (unit_ranges d (ranged_seen u old given))) (sym (as_many_indexed d us rs own)))
+    (more
+    ∙ ap (λ n. ranges ++ map (range_of_unit n) (unit_ranges d (ranged_seen u old given))) (sym (as_many_indexed d us rs own))
+    ∙ ap (λ rs. ranges ++ rs) (sym (append-nil (map (range_of_unit (length (indexed_units us rs))) (unit_ranges d (ranged_seen u old given))))))
     (parsed_push rs new ∙ ap (λ b. parsed_units rs ++ b ∷ []) parsed)
   where
     of_parts : {a b : List IndexedUnit} {p q : List UnitRange} {v w : List Bool} → a ≡ b → p ≡ q → v ≡ w → ◌≡◌ {A = IndexState} (record { units = a; ranges = p; parsed = v }) (record { units = b; ranges = q; parsed = w })

@@ -30,14 +30,10 @@ any_program_takes_memory shares (Some p) = header_copy_takes_memory shares p.hea
 unfoldable pub lines_take_memory : Bool → UnitRecord → Bool
 lines_take_memory shares u = any_program_takes_memory shares u.line_program
 
--- the same, if there is a unit
-abbrev pub any_lines_take_memory : Bool → Option IndexedUnit → Bool
-any_lines_take_memory shares None = false
-any_lines_take_memory shares (Some u) = lines_take_memory shares u.unit
-
 -- the same of the unit of a number
 abbrev pub lines_of_take_memory : Bool → List IndexedUnit → ℕ → Bool
-lines_of_take_memory shares units n = any_lines_take_memory shares (slice_get units n)
+lines_of_take_memory shares units n = elim (slice_get units n)
+    [ None ↦ false | Some u ↦ lines_take_memory shares u.unit ]
 
 -- whether memory may be taken for the functions of a view: none are read where there is no view, or
 -- where it has a fault

@@ -113,14 +113,20 @@ place_takes_memory probe t (Some n) = cached_detail_takes_memory probe (cached_d
 abbrev pub table_takes_memory : ℕ → FunctionTable → Bool
 table_takes_memory probe t = place_takes_memory probe t (function_place_at probe t)
 
--- the same of what is cached of a view; where its functions weren't read, whether they take memory
+-- whether memory may be taken for the functions of a view, where they weren't read, or for
+-- something of those that are cached
+abbrev pub cached_takes_memory : {R : Type 0} → Bool → Scope → UnitRecord → (FunctionTable → Bool)
+    → LazyFunctions R → Bool
+cached_takes_memory shares scope view takes lazy.Unread =
+    functions_take_memory shares scope.file.sections view
+cached_takes_memory shares scope view takes (lazy.Read t) = takes (box_value t)
+cached_takes_memory shares scope view takes _ = false
+
+-- the same to find the function at the probe
 abbrev pub find_takes_memory : {R : Type 0} → Bool → Scope → UnitRecord → ℕ → LazyFunctions R
     → Bool
-find_takes_memory shares scope view probe lazy.Unread =
-    functions_take_memory shares scope.file.sections view
-find_takes_memory shares scope view probe lazy.Absent = false
-find_takes_memory shares scope view probe (lazy.Read t) = table_takes_memory probe (box_value t)
-find_takes_memory shares scope view probe (lazy.Faulty e) = false
+find_takes_memory shares scope view probe f =
+    cached_takes_memory shares scope view (table_takes_memory probe) f
 
 -- whether a fault is one that is cached: any but OutOfMemory
 abbrev pub is_cached_fault : Error → Bool
@@ -160,12 +166,7 @@ abbrev pub functions_fault : Scope → UnitRecord → Result (Unit {0}) Error
 functions_fault scope view = functions_of scope.file.sections view >>= λ ranges.
     details_at scope view (entries_of ranges)
 
--- whether memory may be taken to read the functions of a view with all details: for the functions,
--- where they weren't read, or for details of those that are cached
+-- whether memory may be taken to read the functions of a view with all details
 abbrev pub reading_takes_memory : {R : Type 0} → Bool → Scope → UnitRecord → LazyFunctions R → Bool
-reading_takes_memory shares scope view lazy.Unread =
-    functions_take_memory shares scope.file.sections view
-reading_takes_memory shares scope view lazy.Absent = false
-reading_takes_memory shares scope view (lazy.Read t) =
-    details_take_memory shares scope view (box_value t).functions
-reading_takes_memory shares scope view (lazy.Faulty e) = false
+reading_takes_memory shares scope view f = cached_takes_memory shares scope view
+    (λ (t : FunctionTable). details_take_memory shares scope view t.functions) f

@@ -34,7 +34,7 @@ pub record IndexIsNotRefused : Type 0 where
   pub aranges : (s : Section) → WasNotRefused (aranges_in s)
   pub attributes : (d : Sections) (u : UnitRecord) → WasNotRefused (unit_attributes d u)
   pub unit : (d : Sections) (aranges : List UnitArange) (header : UnitHeaderFields)
-      → WasNotRefused (unit_of_header d aranges header)
+      → WasNotRefused (unit_of_header d aranges header).given
   pub ranged : (d : Sections) → WasNotRefused (ranged_units d)
   pub sup : (sup : Option SupSections) → WasNotRefused (sup_units sup)
   pub index : (d : Sections) → WasNotRefused (index_units d)

@@ -1,12 +1,11 @@
 -- The units of a context and their ranges as they are read, one after another, as the private
 -- functions see them.
-use Rattle.std.specs.Prelude.{◌&&◌, ◌||◌, Bool, false, not, is_ok, List, [], ◌∷◌, ◌++◌, length, map, Option, Some, None, Result, Ok, Err}
-use Rattle.gimli_read.specs.declared.error.Error.{Error}
+use Rattle.std.specs.Prelude.{Bool, List, [], ◌++◌, length, map, nat_lt, Ok}
 use Rattle.gimli_read.specs.declared.range.Range.{Range}
-use Rattle.gimli_read.specs.Reading.{◌>>=◌}
+use Rattle.gimli_read.specs.Costed.{Costed, ◌>>=◌, free}
+use Rattle.gimli_read.specs.Section.{Section}
 use Rattle.gimli.specs.Header.{UnitHeaderFields}
-use Rattle.gimli.specs.Sections.{Sections, SupSections}
-use Rattle.gimli.specs.Text.{from_offset}
+use Rattle.gimli.specs.Sections.{Sections}
 use Rattle.gimli.specs.Unit.{UnitRecord}
 use Rattle.gimli.specs.UnitsLeft.{all_headers}
 use Rattle.addr2line_units.specs.declared.index.UnitArange.{UnitArange}
@@ -15,9 +14,10 @@ use Rattle.addr2line_units.specs.declared.unit.UnitLines.{UnitLines}
 use Rattle.addr2line_units.specs.declared.units.Index.{Index}
 use Rattle.addr2line_units.specs.declared.units.IndexedUnits.{IndexedUnits}
 use Rattle.addr2line_units.specs.CachedLines.{indexed_unit, indexed_units, parsed_units}
-use Rattle.addr2line_units.specs.UnitIndex.{sup_sections}
-use Rattle.addr2line_units.specs.RangedUnits.{IndexedUnit, indexed_of, RangedUnit, has_lines, is_type_unit, range_of_unit, ranged_units, unit_ranges_from, unit_of_header, unit_ranges, units_of}
+use Rattle.addr2line_units.specs.HeaderUnits.{put_to, units_of}
+use Rattle.addr2line_units.specs.RangedUnits.{IndexedUnit, indexed_of, RangedUnit, has_lines, unit_ranges_from, unit_of_header}
 use Rattle.addr2line_units.specs.UnitAranges.{aranges_in, lists_aranges}
+use Rattle.addr2line_units.specs.UnitIndex.{sup_read}
 
 -- units, the ranges that lead to them, and of which units the lines are parsed
 pub record IndexState : Type 0 where
@@ -37,33 +37,27 @@ index_of d units = record {
   parsed = map has_lines units;
 }
 
+-- a list that is put in order, which takes memory where it has something
+abbrev pub sorted : {X : Type 0} → List X → Costed (List X)
+sorted xs = record { given = Ok xs; takes_memory = λ shares. nat_lt 0 (length xs) }
+
+-- the ranges that a section lists for units, as they are read
+abbrev pub aranges_read : Section → Costed (List UnitArange)
+aranges_read s =
+    record { given = aranges_in s; takes_memory = λ shares. lists_aranges s } >>= sorted
+
 -- the units of the sections with the ranges that .debug_aranges lists, or the first fault
-abbrev pub indexed_with : Sections → List UnitArange → Result IndexState Error
-indexed_with d aranges =
-    units_of (unit_of_header d aranges) (all_headers d.debug_info)
-    >>= λ units. Ok (index_of d units)
+abbrev pub indexed_with : Sections → List UnitArange → Costed IndexState
+indexed_with d aranges = units_of (unit_of_header d aranges) (all_headers d.debug_info)
+    >>= λ units. free (Ok (index_of d units))
 
 -- the units of the sections, or the first fault
-abbrev pub index_read : Sections → Result IndexState Error
-index_read d = ranged_units d >>= λ units. Ok (index_of d units)
-
--- one more unit
-abbrev pub with_ranged : Sections → IndexState → RangedUnit → IndexState
-with_ranged d m u = record {
-  units = m.units ++ u.indexed ∷ [];
-  ranges = m.ranges ++ map (range_of_unit (length m.units)) (unit_ranges d u);
-  parsed = m.parsed ++ has_lines u ∷ [];
-}
-
--- one more unit, unless it is passed over
-abbrev pub or_with_ranged : Sections → IndexState → Option RangedUnit → IndexState
-or_with_ranged d m None = m
-or_with_ranged d m (Some u) = with_ranged d m u
-
--- the unit of one more header
-abbrev pub with_header : Sections → List UnitArange → IndexState → UnitHeaderFields
-    → Result IndexState Error
-with_header d aranges m h = unit_of_header d aranges h >>= λ u. Ok (or_with_ranged d m u)
+abbrev pub index_read : Sections → Costed IndexState
+index_read d = do
+  aranges ← aranges_read d.debug_aranges
+  index ← indexed_with d aranges
+  ranges ← sorted index.ranges
+  free (Ok index)
 
 -- units that are read, behind those that were
 abbrev pub appended : Sections → IndexState → List RangedUnit → IndexState
@@ -73,32 +67,10 @@ appended d m units = record {
   parsed = m.parsed ++ map has_lines units;
 }
 
--- whether a unit's abbreviations begin in their section
-abbrev pub has_abbreviations : Sections → UnitHeaderFields → Bool
-has_abbreviations d h = is_ok (from_offset h.debug_abbrev_offset d.debug_abbrev)
-
--- whether memory may be taken for the unit of a header: it is no type unit, and has abbreviations
-abbrev pub indexed_unit_takes_memory : Sections → UnitHeaderFields → Bool
-indexed_unit_takes_memory d h = not (is_type_unit h.unit_type) && has_abbreviations d h
-
--- whether it may be for one of headers, up to the first fault
-abbrev pub some_take_memory : (UnitHeaderFields → Bool) → List (Result UnitHeaderFields Error)
-    → Bool
-some_take_memory takes [] = false
-some_take_memory takes (Ok h ∷ headers) = takes h || some_take_memory takes headers
-some_take_memory takes (Err e ∷ headers) = false
-
--- whether memory may be taken for units: for one of them, or where readers share their bytes
-abbrev pub units_take_memory : Bool → Sections → Bool
-units_take_memory shares d =
-    shares || some_take_memory (indexed_unit_takes_memory d) (all_headers d.debug_info)
-
--- whether memory may be taken for units and their ranges: for those of .debug_aranges, or for units
--- where no set of it has a fault
-abbrev pub index_takes_memory : Bool → Sections → Bool
-index_takes_memory shares d =
-    lists_aranges d.debug_aranges
-    || (is_ok (aranges_in d.debug_aranges) && units_take_memory shares d)
+-- the unit of one more header
+abbrev pub with_header : Sections → List UnitArange → IndexState → UnitHeaderFields
+    → Costed IndexState
+with_header d aranges m h = put_to (appended d) m (unit_of_header d aranges h)
 
 -- what was read so far
 abbrev pub index_seen : {R : Type 0} → Index R → IndexState
@@ -120,18 +92,6 @@ units_seen u = record {
 abbrev pub ranged_seen : UnitRecord → UnitLines → List Range → RangedUnit
 ranged_seen dw_unit u listed = record { indexed = indexed_unit dw_unit u; listed = listed }
 
--- whether memory may be taken for units of a supplementary file, type units too
-abbrev pub sup_units_take_memory : Bool → Sections → Bool
-sup_units_take_memory shares d =
-    shares || some_take_memory (has_abbreviations d) (all_headers d.debug_info)
-
--- whether memory may be taken for a supplementary file
-abbrev pub sup_takes_memory : Bool → Option SupSections → Bool
-sup_takes_memory shares None = false
-sup_takes_memory shares (Some s) = sup_units_take_memory shares (sup_sections s)
-
--- whether memory may be taken for all that a context has: for the supplementary file where the
--- units have no fault
+-- whether memory may be taken for all that a context has
 abbrev pub context_takes_memory : Bool → Sections → Bool
-context_takes_memory shares d =
-    index_takes_memory shares d || (is_ok (ranged_units d) && sup_takes_memory shares d.sup)
+context_takes_memory shares d = (index_read d >>= λ index. sup_read d.sup).takes_memory shares

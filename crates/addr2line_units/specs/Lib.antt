@@ -2,6 +2,7 @@ pub mod LegacyElements
 pub mod LegacyName
 pub mod LegacyText
 pub mod LegacyLaws
+pub mod HeaderUnits
 pub mod UnitAranges
 pub mod UnitAttributes
 pub mod WantedAttributes

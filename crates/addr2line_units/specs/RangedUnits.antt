@@ -6,11 +6,12 @@
 -- Own: a unit without a range list has the ranges that .debug_aranges lists for its offset. One
 -- with a range list, or without such ranges, has those of its attributes; where these give none, an
 -- empty list too, those of its line sequences. Lines that can't be read give no ranges.
-use Rattle.std.specs.Prelude.{ℕ, ◌+◌, Bool, true, false, ◌&&◌, ◌||◌, not, List, [], ◌∷◌, ◌++◌, map, filter_map, is_some, Option, Some, None, Result, Ok, Err, if◌then◌else◌}
+use Rattle.std.specs.Prelude.{ℕ, ◌+◌, Bool, true, false, ◌&&◌, ◌||◌, not, List, [], ◌∷◌, ◌++◌, map, is_some, Option, Some, None, Result, Ok, Err, if◌then◌else◌}
 use Rattle.gimli_read.specs.declared.error.Error.{Error}
 use Rattle.gimli_read.specs.declared.constants.DwLang.{DwLang}
 use Rattle.gimli_read.specs.declared.range.Range.{Range}
 use Rattle.gimli_read.specs.Reading.{◌>>=◌}
+use Rattle.gimli_read.specs.Costed.{Costed, free}
 use Rattle.gimli.specs.declared.unit.UnitType.{UnitType}
 use Rattle.gimli.specs.declared.unit.UnitType.TheVariants.{TypeUnit, Partial, SplitType}
 use Rattle.gimli.specs.Header.{UnitHeaderFields}
@@ -21,10 +22,10 @@ use Rattle.addr2line_lines.specs.declared.function.RangeAttributes.{RangeAttribu
 use Rattle.addr2line_lines.specs.Location.{LineTable}
 use Rattle.addr2line_lines.specs.RangeAttributes.{attribute_ranges}
 use Rattle.addr2line_lines.specs.RangeLocations.{sequence_ranges}
-use Rattle.addr2line_lines.specs.Rows.{read_all}
 use Rattle.addr2line_lines.specs.UnitLines.{unit_lines}
 use Rattle.addr2line_units.specs.declared.index.UnitArange.{UnitArange}
 use Rattle.addr2line_units.specs.declared.index.UnitRange.{UnitRange}
+use Rattle.addr2line_units.specs.HeaderUnits.{by_abbreviations, units_of}
 use Rattle.addr2line_units.specs.UnitAranges.{aranges_at, aranges_in}
 use Rattle.addr2line_units.specs.UnitAttributes.{unit_attributes}
 
@@ -94,15 +95,10 @@ unless_faulty d aranges (Ok u) = ranged_unit d aranges u >>= λ x. Ok (Some x)
 
 -- the unit of a header, none where it is passed over
 unfoldable pub unit_of_header : Sections → List UnitArange → UnitHeaderFields
-    → Result (Option RangedUnit) Error
+    → Costed (Option RangedUnit)
 unit_of_header d aranges h =
-    if is_type_unit h.unit_type then Ok None else unless_faulty d aranges (unit_record_of d h)
-
--- the units of headers, each whole before the next header, or the first fault
-abbrev pub units_of : {U : Type 0} → (UnitHeaderFields → Result (Option U) Error)
-    → List (Result UnitHeaderFields Error) → Result (List U) Error
-units_of read headers =
-    read_all (map (λ h. h >>= read) headers) >>= λ units. Ok (filter_map (λ u. u) units)
+    if is_type_unit h.unit_type then free (Ok None)
+    else by_abbreviations d h (unless_faulty d aranges (unit_record_of d h))
 
 -- whether the line sequences of a unit give its ranges
 abbrev pub asks_lines : RangedUnit → Bool
@@ -140,4 +136,4 @@ unit_ranges_from d n (u ∷ units) =
 abbrev pub ranged_units : Sections → Result (List RangedUnit) Error
 ranged_units d = do
   aranges ← aranges_in d.debug_aranges
-  units_of (unit_of_header d aranges) (all_headers d.debug_info)
+  (units_of (unit_of_header d aranges) (all_headers d.debug_info)).given

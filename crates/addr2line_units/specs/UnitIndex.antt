@@ -8,13 +8,15 @@ use Rattle.std.specs.Prelude.{List, [], map, Option, Some, None, Result, Ok}
 use Rattle.std.specs.Result.{result_ok}
 use Rattle.gimli_read.specs.declared.error.Error.{Error}
 use Rattle.gimli_read.specs.Reading.{◌>>=◌}
+use Rattle.gimli_read.specs.Costed.{Costed, free}
 use Rattle.gimli.specs.declared.dwarf.DwarfFileType.TheVariants.{Main}
 use Rattle.gimli.specs.Header.{UnitHeaderFields}
 use Rattle.gimli.specs.Sections.{Sections, SupSections}
 use Rattle.gimli.specs.Unit.{UnitRecord, unit_record_of}
 use Rattle.gimli.specs.UnitsLeft.{all_headers}
 use Rattle.addr2line_units.specs.declared.index.UnitRange.{UnitRange}
-use Rattle.addr2line_units.specs.RangedUnits.{IndexedUnit, indexed_of, units_of, unit_ranges_from, ranged_units}
+use Rattle.addr2line_units.specs.HeaderUnits.{by_abbreviations, units_of}
+use Rattle.addr2line_units.specs.RangedUnits.{IndexedUnit, indexed_of, unit_ranges_from, ranged_units}
 
 -- what a context is made of
 pub record UnitIndex : Type 0 where
@@ -23,8 +25,8 @@ pub record UnitIndex : Type 0 where
   pub sup_units : List UnitRecord
 
 -- the unit of a header of the supplementary file, none where its record is faulty
-abbrev pub sup_unit_of_header : Sections → UnitHeaderFields → Result (Option UnitRecord) Error
-sup_unit_of_header d h = Ok (result_ok (unit_record_of d h))
+abbrev pub sup_unit_of_header : Sections → UnitHeaderFields → Costed (Option UnitRecord)
+sup_unit_of_header d h = by_abbreviations d h (Ok (result_ok (unit_record_of d h)))
 
 -- the sections of a supplementary file as those of a file of its own
 abbrev pub sup_sections : SupSections → Sections
@@ -43,11 +45,14 @@ sup_sections s = record {
   sup = None;
 }
 
--- the units of the supplementary file, or the first fault
+-- the units of the supplementary file as they are read, or the first fault
+abbrev pub sup_read : Option SupSections → Costed (List UnitRecord)
+sup_read None = free (Ok [])
+sup_read (Some s) = units_of (sup_unit_of_header (sup_sections s)) (all_headers s.debug_info)
+
+-- these units, or the fault
 abbrev pub sup_units : Option SupSections → Result (List UnitRecord) Error
-sup_units None = Ok []
-sup_units (Some s) =
-    units_of (sup_unit_of_header (sup_sections s)) (all_headers s.debug_info)
+sup_units sup = (sup_read sup).given
 
 -- what a context of the sections is made of, or why it is refused
 abbrev pub index_units : Sections → Result UnitIndex Error

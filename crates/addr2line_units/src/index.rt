@@ -5,7 +5,9 @@ ghost use Rattle.std.specs.Prelude.{◌≡◌, ◌++◌, [], true, IfErr, IsOk, 
 ghost use Rattle.std.specs.List.{AllByRecursion};
 ghost use Rattle.std.specs.Iterator.{YieldsFirst, item_count};
 ghost use Rattle.gimli_read.specs.declared.error.Error.TheVariants.{OutOfMemory};
+ghost use Rattle.gimli_read.specs.Costed.{ExactlyAtCost};
 ghost use Rattle.gimli_read.specs.Reading.{ExactlyUnlessOomIf};
+ghost use Rattle.addr2line_units.specs.Indexed.{aranges_read};
 ghost use Rattle.addr2line_lines.specs.InOrder.{in_order};
 ghost use Rattle.addr2line_lines.specs.LastAddress.{last_address};
 ghost use Rattle.addr2line_units.specs.UnitAranges.{aranges_in, lists_aranges, is_arange_of, offset_sooner, set_aranges};
@@ -93,8 +95,8 @@ impl UnitAranges {
     /// `UnknownVersion`, `UnsupportedAddressSize`, `UnsupportedSegmentSize`); where a set before it
     /// lists a range it may fail with `OutOfMemory` instead. Source: DWARF 5, section 6.1.2.
     pub fn parse<R: Reader>(alloc: Global, section: &DebugAranges<R>) -> Result<UnitAranges, Error>
-        ensures gives { ExactlyUnlessOomIf (lists_aranges (R.section section.now.section)) (λ a. a)
-            result (aranges_in (R.section section.now.section)) }
+        ensures gives { ExactlyAtCost R.shares (λ a. a) result
+            (aranges_read (R.section section.now.section)) }
     {
         let mut aranges = read_sets(alloc, section)?;
         let listed = Snapshot::of(&aranges);

@@ -1,15 +1,12 @@
 //! The units of a supplementary file.
 
-ghost use Rattle.std.specs.Prelude.{◌≡◌, ◌++◌, [], true, IfErr, IfOk, None, Ok, OnOk, option_map};
-ghost use Rattle.std.specs.Option.{option_to_list};
-ghost use Rattle.std.specs.Result.{result_ok};
+ghost use Rattle.std.specs.Prelude.{◌≡◌, ◌++◌, [], IfErr, IfOk, None, Ok, option_map};
 ghost use Rattle.gimli_read.specs.declared.error.Error.TheVariants.{OutOfMemory};
+ghost use Rattle.gimli_read.specs.Costed.{ExactlyAtCost};
 ghost use Rattle.gimli_read.specs.Reading.{ExactlyUnlessOomIf};
-ghost use Rattle.gimli.specs.Unit.{unit_record_of};
 ghost use Rattle.gimli.specs.UnitsLeft.{all_headers};
-ghost use Rattle.addr2line_units.specs.UnitIndex.{sup_sections, sup_unit_of_header, sup_units};
-ghost use Rattle.addr2line_units.specs.RangedUnits.{units_of};
-ghost use Rattle.addr2line_units.specs.Indexed.{has_abbreviations, sup_takes_memory, sup_units_take_memory};
+ghost use Rattle.addr2line_units.specs.UnitIndex.{sup_sections, sup_unit_of_header, sup_read};
+ghost use Rattle.addr2line_units.specs.HeaderUnits.{put_to, units_of};
 
 use gimli::read::{Error, Reader};
 use gimli::{
@@ -55,8 +52,8 @@ fn read_sup_unit<R: Reader>(
     abbreviations: &mut AbbreviationsCache<'_, R>,
     header: UnitHeader<R>,
 ) -> Result<Option<Unit<R>>, Error>
-    ensures gives { ExactlyUnlessOomIf (has_abbreviations abbreviations.old.dwarf header) (λ u. u)
-        result (sup_unit_of_header abbreviations.old.dwarf header) }
+    ensures gives { ExactlyAtCost R.shares (λ u. u) result
+        (sup_unit_of_header abbreviations.old.dwarf header) }
     ensures refused { IfErr result (λ e. e ≡ OutOfMemory) }
     ensures dwarf { abbreviations.new.dwarf ≡ abbreviations.old.dwarf }
 {
@@ -74,11 +71,10 @@ fn push_sup_unit<R: Reader>(
     header: UnitHeader<R>,
     units: &mut Vec<Unit<R>>,
 ) -> Result<(), Error>
-    ensures gives { OnOk result (units.new.items ≡ units.old.items
-        ++ option_to_list (result_ok (unit_record_of abbreviations.old.dwarf header))) }
+    ensures gives { ExactlyAtCost R.shares (λ _. units.new.items) result
+        (put_to (◌++◌) units.old.items (sup_unit_of_header abbreviations.old.dwarf header)) }
     ensures dwarf { abbreviations.new.dwarf ≡ abbreviations.old.dwarf }
-    ensures refused { IfErr result (λ e. (e ≡ OutOfMemory)
-        × (has_abbreviations abbreviations.old.dwarf header ≡ true)) }
+    ensures refused { IfErr result (λ e. e ≡ OutOfMemory) }
 {
     if let Some(unit) = read_sup_unit(alloc, abbreviations, header)? {
         units.push(unit)?;
@@ -88,8 +84,8 @@ fn push_sup_unit<R: Reader>(
 
 // The units of a supplementary file whose record can be read.
 fn read_sup_units<R: Reader>(alloc: Global, dwarf: &Dwarf<R>) -> Result<Vec<Unit<R>>, Error>
-    ensures gives { ExactlyUnlessOomIf (sup_units_take_memory R.shares dwarf.now) (λ v. v.items)
-        result (units_of (sup_unit_of_header dwarf.now) (all_headers dwarf.now.debug_info)) }
+    ensures gives { ExactlyAtCost R.shares (λ v. v.items) result
+        (units_of (sup_unit_of_header dwarf.now) (all_headers dwarf.now.debug_info)) }
 {
     let mut headers = dwarf.units()?;
     let mut abbreviations = AbbreviationsCache::new(alloc, dwarf);
@@ -118,8 +114,8 @@ impl<R: Reader> SupUnits<R> {
     /// that of a unit with abbreviations can be read, a type unit too, or bytes are shared. Source:
     /// DWARF 5, sections 3.1 and 7.3.6.
     pub fn parse(alloc: Global, dwarf: &Dwarf<R>) -> Result<SupUnits<R>, Error>
-        ensures gives { ExactlyUnlessOomIf (sup_takes_memory R.shares dwarf.now.sup)
-            (λ s. s.units.items) result (sup_units dwarf.now.sup) }
+        ensures gives { ExactlyAtCost R.shares (λ s. s.units.items) result
+            (sup_read dwarf.now.sup) }
         ensures dwarf { IfOk result (λ s. s.dwarf ≡ option_map sup_sections dwarf.now.sup) }
     {
         let Some(sup) = &dwarf.sup else {

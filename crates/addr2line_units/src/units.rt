@@ -1,12 +1,13 @@
 //! The units of a context, and the ranges that lead to them.
 
-ghost use Rattle.std.specs.Prelude.{◌≡◌, ◌++◌, [], IfErr, IfOk, IfSome, IsOk, OnOk, map, option_map};
+ghost use Rattle.std.specs.Prelude.{◌≡◌, ◌++◌, [], ◌∷◌, IfErr, IfOk, IfSome, IsOk, OnOk, map, option_map};
 ghost use Rattle.gimli_read.specs.declared.error.Error.TheVariants.{OutOfMemory};
+ghost use Rattle.gimli_read.specs.Costed.{ExactlyAtCost};
 ghost use Rattle.gimli_read.specs.Reading.{ExactlyUnlessOomIf};
 ghost use Rattle.addr2line_lines.specs.SeenScope.{seen_scope};
 ghost use Rattle.addr2line_units.specs.CachedLines.{HaveLinesOf, IsUnparsed};
 ghost use Rattle.addr2line_units.specs.CachedUnits.{AreFreshOf};
-ghost use Rattle.addr2line_units.specs.Indexed.{context_takes_memory, index_seen, index_takes_memory, index_read, indexed_with, no_index, ranged_seen, indexed_unit_takes_memory, units_seen, units_take_memory, with_header, with_ranged};
+ghost use Rattle.addr2line_units.specs.Indexed.{appended, context_takes_memory, index_seen, index_read, indexed_with, no_index, ranged_seen, units_seen, with_header};
 ghost use Rattle.addr2line_units.specs.RangedUnits.{range_of_unit, unit_of_header};
 ghost use Rattle.addr2line_units.specs.StoredUnits.{scope_of};
 ghost use Rattle.addr2line_units.specs.UnitsState.{new_units};
@@ -86,7 +87,7 @@ fn read_unit<R: Reader>(
 ) -> Result<Option<(Unit<R>, UnitLines, Vec<Range>)>, Error>
     requires same { abbreviations.old.dwarf ≡ dwarf.now }
     ensures dwarf { abbreviations.new.dwarf ≡ dwarf.now }
-    ensures gives { ExactlyUnlessOomIf (indexed_unit_takes_memory dwarf.now header)
+    ensures gives { ExactlyAtCost R.shares
         (option_map (λ x. ranged_seen x.0 x.1 x.2.items)) result
         (unit_of_header dwarf.now aranges.now header) }
     ensures empty { IfOk result (λ x. IfSome x (λ y. IsUnparsed dwarf.now y.0 y.1)) }
@@ -145,8 +146,8 @@ impl<R: Reader> Index<R> {
         requires unparsed { IsUnparsed dwarf.now dw_unit lines }
         requires read { HaveLinesOf dwarf.now self.old.dw_units.items self.old.caches.items }
         requires fresh { AreFreshOf self.old.dw_units.items self.old.caches.items }
-        ensures gives { OnOk result (index_seen self.new ≡ with_ranged dwarf.now
-            (index_seen self.old) (ranged_seen dw_unit lines listed.items)) }
+        ensures gives { OnOk result (index_seen self.new ≡ appended dwarf.now
+            (index_seen self.old) (ranged_seen dw_unit lines listed.items ∷ [])) }
         ensures read { OnOk result
             (HaveLinesOf dwarf.now self.new.dw_units.items self.new.caches.items) }
         ensures empty { OnOk result
@@ -175,8 +176,7 @@ impl<R: Reader> Index<R> {
         requires same { abbreviations.old.dwarf ≡ dwarf.now }
         requires read { HaveLinesOf dwarf.now self.old.dw_units.items self.old.caches.items }
         requires fresh { AreFreshOf self.old.dw_units.items self.old.caches.items }
-        ensures gives { ExactlyUnlessOomIf (indexed_unit_takes_memory dwarf.now header)
-            (λ _. index_seen self.new) result
+        ensures gives { ExactlyAtCost R.shares (λ _. index_seen self.new) result
             (with_header dwarf.now aranges.now (index_seen self.old) header) }
         ensures dwarf { abbreviations.new.dwarf ≡ dwarf.now }
         ensures read { OnOk result
@@ -198,7 +198,7 @@ fn read_units<R: Reader>(
     dwarf: &Dwarf<R>,
     aranges: &UnitAranges,
 ) -> Result<Index<R>, Error>
-    ensures gives { ExactlyUnlessOomIf (units_take_memory R.shares dwarf.now) index_seen result
+    ensures gives { ExactlyAtCost R.shares index_seen result
         (indexed_with dwarf.now aranges.now) }
     ensures read { IfOk result (λ i. HaveLinesOf dwarf.now i.dw_units.items i.caches.items) }
     ensures empty { IfOk result (λ i. AreFreshOf i.dw_units.items i.caches.items) }
@@ -216,8 +216,7 @@ impl<R: Reader> IndexedUnits<R> {
     // The units of `.debug_info` that a context has, and the ranges that lead to them, as
     // `Units::parse` reads them.
     fn parse(alloc: Global, dwarf: &Dwarf<R>) -> Result<IndexedUnits<R>, Error>
-        ensures gives { ExactlyUnlessOomIf (index_takes_memory R.shares dwarf.now) units_seen result
-            (index_read dwarf.now) }
+        ensures gives { ExactlyAtCost R.shares units_seen result (index_read dwarf.now) }
         ensures read { IfOk result (λ u. HaveLinesOf dwarf.now u.dw_units.items u.caches.items) }
         ensures empty { IfOk result (λ u. AreFreshOf u.dw_units.items u.caches.items) }
     {

@@ -132,4 +132,4 @@ returns-clause-no_memory g c =
     let after = find_takes_memory shares inner x probe c.find.new.self in
     λ none. subst (λ given. IfErr c.find.result (λ e. given ≡ Err e)) (sym (function_is_in scope u probe old c.requires.right c.requires.decided inner x v))
     (exactly_if_none (find_takes_memory shares inner x probe c.args.functions.now && after) (option_map (function_of_place (cached_functions c.find.new.self))) c.find.result (function_at inner x probe)
-    (ap (λ b. b && after) (find_takes_none shares inner x probe c.args.functions.now right (functions_take_in scope u probe old c.requires.right c.requires.decided inner x v shares none))) c.find.ensures.gives)
+    (ap (λ b. b && after) (find_takes_none shares inner x c.args.functions.now right (functions_take_in scope u probe old c.requires.right c.requires.decided inner x v shares none) probe)) c.find.ensures.gives)

@@ -1,39 +1,44 @@
-use Rattle.std.proofs.Common.{List, Ok, ap, rules, subst, sym, ◌++◌, ◌∙◌, ◌≡◌, true}
+use Rattle.std.proofs.Common.{Ok, ap, rules, sym, ◌++◌, ◌∙◌, ◌≡◌}
+use Rattle.std.proofs.lemmas.List.{append_assoc}
 use Rattle.std.proofs.lemmas.Result.{err_from_is_err_and}
-use Rattle.gimli_read.specs.Reading.{◌>>=◌}
-use Rattle.gimli.specs.Unit.{UnitRecord}
+use Rattle.gimli_read.specs.Costed.{◌>>=◌, free}
 use Rattle.gimli.specs.UnitsLeft.{all_headers}
-use Rattle.addr2line_units.specs.Indexed.{has_abbreviations, some_take_memory}
+use Rattle.addr2line_units.specs.HeaderUnits.{units_of}
 use Rattle.addr2line_units.specs.UnitIndex.{sup_unit_of_header}
-use Rattle.addr2line_units.specs.RangedUnits.{units_of}
-use Rattle.addr2line_units.proofs.UnitIndexLemmas.{all_first, given_fault, given_some, shared_headers, shorter, some_headers, sup_more, takes_first, takes_rest}
+use Rattle.addr2line_units.proofs.HeaderUnitLemmas.{fault_of_rest, put_to_nothing, rest_of_rest, shared_take, unit_fault, unit_step}
+use Rattle.addr2line_units.proofs.UnitIndexLemmas.{given_fault, given_some, shorter}
 use Rattle.addr2line_units.proofs.sup.read_sup_units.Goals as goal
+
+pub returns-in_err-headers : goal.returns-in_err-headers
+returns-in_err-headers g c =
+    let p = err_from_is_err_and c.from_residual.result c.from_residual.ensures.1 in
+    let d = c.args.dwarf.now in
+    record { gives = rw (p.1, p.2) (λ may. absurd (let no = c.in_err-headers.ensures.gives (λ e _. may (shared_take g.R.Reader.shares (sup_unit_of_header d) (all_headers d.debug_info) e)) in cc)) }
 
 pub loop-units-init : goal.loop-units-init
 loop-units-init g c =
-    let d = c.args.dwarf.now in
-    let all : c.in_ok-headers.headers ≡ all_headers d.debug_info = search rules in
+    let all : c.in_ok-headers.headers ≡ all_headers c.args.dwarf.now.debug_info = search rules in
     record {
-      gives = subst (λ (kept : List UnitRecord). (units_of (sup_unit_of_header d) c.in_ok-headers.headers >>= λ units. Ok (kept ++ units)) ≡ units_of (sup_unit_of_header d) (all_headers d.debug_info)) (sym c.new-units.ensures.items) (all_first (units_of (sup_unit_of_header d) c.in_ok-headers.headers) ∙ ap (units_of (sup_unit_of_header d)) all);
-      some = λ e. some_headers g.R.Reader.shares (has_abbreviations d) d (ap (some_take_memory (has_abbreviations d)) (sym all) ∙ e);
+      left = rw (all, c.new-units.ensures.items) (put_to_nothing g.R.Reader.shares _);
       same = search rules;
     }
 
 pub loop-units-preserved : goal.loop-units-preserved
 loop-units-preserved g c =
     let i = c.loop-units.invariant in
+    let before = c.loop-units.units.items in
     let left = given_some _ _ _ (rw c.in-Some.is at c.in_ok-header.ensures.gives) in
     record {
-      gives = rw (c.in_ok-push_sup_unit.ensures.gives, i.same) (sym (sup_more c.args.dwarf.now c.loop-units.units.items _ _ _ left) ∙ i.gives);
-      some = λ e. i.some (takes_rest (has_abbreviations c.args.dwarf.now) _ _ _ left e);
+      left = rest_of_rest (unit_step g.R.Reader.shares (sup_unit_of_header c.args.dwarf.now) (◌++◌) before _ _ _ left _ (λ us vs. sym (append_assoc before us vs)) (rw i.same at c.in_ok-push_sup_unit.ensures.gives)) i.left;
       same = c.in_ok-push_sup_unit.ensures.dwarf ∙ i.same;
     }
 
 pub returns-in_err-push_sup_unit : goal.returns-in_err-push_sup_unit
 returns-in_err-push_sup_unit g c =
     let p = err_from_is_err_and c.from_residual-in_err-push_sup_unit.result c.from_residual-in_err-push_sup_unit.ensures.1 in
+    let i = c.loop-units.invariant in
     let left = given_some _ _ _ (rw c.in-Some.is at c.in_ok-header.ensures.gives) in
-    record { gives = rw (p.1, p.2) (λ wanted. absurd (wanted (c.loop-units.invariant.some (takes_first (has_abbreviations c.args.dwarf.now) _ _ _ left (subst (λ s. has_abbreviations s c.in-Some.header ≡ true) c.loop-units.invariant.same c.in_err-push_sup_unit.ensures.refused.1))) c.in_err-push_sup_unit.ensures.refused.0)) }
+    record { gives = rw (p.1, p.2) (fault_of_rest g.R.Reader.shares _ _ _ i.left (unit_fault g.R.Reader.shares (sup_unit_of_header c.args.dwarf.now) (◌++◌) c.loop-units.units.items _ _ _ left _ (rw i.same at c.in_err-push_sup_unit.ensures.gives))) }
 
 pub loop-units-smaller : goal.loop-units-smaller
 loop-units-smaller g c = shorter _ _ _ (given_some _ _ _ (rw c.in-Some.is at c.in_ok-header.ensures.gives))
@@ -41,10 +46,10 @@ loop-units-smaller g c = shorter _ _ _ (given_some _ _ _ (rw c.in-Some.is at c.i
 pub returns-in_err-header : goal.returns-in_err-header
 returns-in_err-header g c =
     let p = err_from_is_err_and c.from_residual-in_err-header.result c.from_residual-in_err-header.ensures.1 in
-    let i = c.loop-units.invariant in
     let d = c.args.dwarf.now in
+    let read = sup_unit_of_header d in
     record {
       gives = rw (p.1, p.2) (λ may.
-          let left = given_fault _ _ (c.in_err-header.ensures.gives (λ shares _. may (shared_headers g.R.Reader.shares (has_abbreviations d) d shares))) in
-          sym i.gives ∙ ap (λ headers. units_of (sup_unit_of_header d) headers >>= λ units. Ok (c.loop-units.units.items ++ units)) left);
+          let left = given_fault _ _ (c.in_err-header.ensures.gives (λ e _. may (shared_take g.R.Reader.shares read (all_headers d.debug_info) e))) in
+          sym c.loop-units.invariant.left.gives ∙ ap (λ headers. (units_of read headers >>= λ units. free (Ok (c.loop-units.units.items ++ units))).given) left);
     }

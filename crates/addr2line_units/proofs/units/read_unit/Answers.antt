@@ -1,6 +1,6 @@
 use Rattle.std.proofs.Common.{◌≡◌, false, refl, rules, subst, true}
 use Rattle.std.proofs.lemmas.Result.{err_from_is_err_and}
-use Rattle.addr2line_units.specs.Indexed.{has_abbreviations}
+use Rattle.addr2line_units.specs.HeaderUnits.{has_abbreviations}
 use Rattle.addr2line_units.specs.RangedUnits.{is_type_unit}
 use Rattle.addr2line_units.proofs.UnitIndexLemmas.{kept_fault, takes_unit, where_read, where_taken}
 use Rattle.addr2line_units.proofs.units.read_unit.Goals as goal
@@ -13,7 +13,7 @@ returns-in_err-lines-in-Ok-clause-gives g c =
     let p = err_from_is_err_and c.from_residual.result c.from_residual.ensures.1 in
     let kind : is_type_unit h.unit_type ≡ false = search rules in
     let record_is = rw c.requires.same at c.in-Ok.ensures.gives in
-    rw (p.1, p.2) (λ may. kept_fault d h c.args.aranges.now _ _ kind record_is (c.in_err-lines-in-Ok.ensures.gives (may (takes_unit d h kind (where_read d h _ record_is)))))
+    rw (p.1, p.2) (λ may. kept_fault d h c.args.aranges.now _ _ kind record_is (c.in_err-lines-in-Ok.ensures.gives (may (takes_unit d h g.R.Reader.shares c.args.aranges.now kind (where_read d h _ record_is)))))
 
 pub returns-in-Err-OutOfMemory-clause-gives : goal.returns-in-Err-OutOfMemory-clause-gives
 returns-in-Err-OutOfMemory-clause-gives g c =
@@ -22,4 +22,4 @@ returns-in-Err-OutOfMemory-clause-gives g c =
     let kind : is_type_unit h.unit_type ≡ false = search rules in
     let gives = rw c.in-Err-OutOfMemory.field-0-is at c.in-Err-OutOfMemory.ensures.gives in
     let has = subst (λ s. has_abbreviations s h ≡ true) c.requires.same (where_taken c.args.abbreviations.now.dwarf h g.R.Reader.shares c.args.abbreviations.now refl gives) in
-    λ may. absurd (may (takes_unit d h kind has) refl)
+    λ may. absurd (may (takes_unit d h g.R.Reader.shares c.args.aranges.now kind has) refl)

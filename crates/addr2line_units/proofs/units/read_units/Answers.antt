@@ -1,11 +1,20 @@
-use Rattle.std.proofs.Common.{Ok, ap, rules, sym, ◌∙◌, ◌≡◌}
+use Rattle.std.proofs.Common.{Ok, ap, refl, rules, subst, sym, ◌∙◌, ◌≡◌}
 use Rattle.std.proofs.lemmas.Result.{err_from_is_err_and}
-use Rattle.gimli_read.specs.Reading.{◌>>=◌}
+use Rattle.gimli_read.specs.Costed.{◌>>=◌, free}
 use Rattle.gimli.specs.UnitsLeft.{all_headers}
-use Rattle.addr2line_units.specs.Indexed.{appended, index_of, index_seen, some_take_memory, indexed_unit_takes_memory}
-use Rattle.addr2line_units.specs.RangedUnits.{unit_of_header, units_of}
-use Rattle.addr2line_units.proofs.UnitIndexLemmas.{given_fault, given_some, index_fault, index_more, shared_headers, shorter, some_headers, takes_first, takes_rest}
+use Rattle.addr2line_units.specs.HeaderUnits.{units_of}
+use Rattle.addr2line_units.specs.Indexed.{IndexState, appended, index_seen, indexed_with}
+use Rattle.addr2line_units.specs.RangedUnits.{unit_of_header}
+use Rattle.addr2line_units.proofs.HeaderUnitLemmas.{IsRestOf, fault_of_rest, first_takes, rest_of_rest, shared_take, unit_fault, unit_step}
+use Rattle.addr2line_units.proofs.UnitIndexLemmas.{appended_more, appended_none, given_fault, given_none, given_some, shorter}
 use Rattle.addr2line_units.proofs.units.read_units.Goals as goal
+
+pub returns-in_err-headers-clause-gives : goal.returns-in_err-headers-clause-gives
+returns-in_err-headers-clause-gives g c =
+    let p = err_from_is_err_and c.from_residual.result c.from_residual.ensures.1 in
+    let d = c.args.dwarf.now in
+    let read = unit_of_header d c.args.aranges.now in
+    rw (p.1, p.2) (λ may. absurd (let no = c.in_err-headers.ensures.gives (λ e _. may (first_takes _ _ (shared_take g.R.Reader.shares read (all_headers d.debug_info) e))) in cc))
 
 pub loop-index-init : goal.loop-index-init
 loop-index-init g c =
@@ -13,8 +22,8 @@ loop-index-init g c =
     let aranges = c.args.aranges.now in
     let all : c.in_ok-headers.headers ≡ all_headers d.debug_info = search rules in
     record {
-      gives = ap (λ m. units_of (unit_of_header d aranges) c.in_ok-headers.headers >>= λ units. Ok (appended d m units)) c.new-index.ensures.none ∙ ap (λ headers. units_of (unit_of_header d aranges) headers >>= λ units. Ok (index_of d units)) all;
-      some = λ e. some_headers g.R.Reader.shares (indexed_unit_takes_memory d) d (ap (some_take_memory (indexed_unit_takes_memory d)) (sym all) ∙ e);
+      left = subst (λ (m : IndexState). IsRestOf g.R.Reader.shares (units_of (unit_of_header d aranges) c.in_ok-headers.headers >>= λ units. free (Ok (appended d m units))) (indexed_with d aranges))
+          (sym c.new-index.ensures.none) (rw all (record { gives = refl; takes = λ t. t }));
       same = search rules;
       read = rw (c.new-index.ensures.empty.0, c.new-index.ensures.empty.1) tt;
       fresh = rw (c.new-index.ensures.empty.0, c.new-index.ensures.empty.1) tt;
@@ -28,10 +37,11 @@ loop-index-smaller g c =
 pub loop-index-preserved : goal.loop-index-preserved
 loop-index-preserved g c =
     let i = c.loop-index.invariant in
+    let d = c.args.dwarf.now in
+    let m = index_seen c.loop-index.index in
     let left = given_some _ _ _ (rw c.in-Some.is at c.in_ok-header.ensures.gives) in
     record {
-      gives = sym (index_more c.args.dwarf.now c.args.aranges.now (index_seen c.loop-index.index) _ _ _ _ left c.in_ok-take.ensures.gives) ∙ i.gives;
-      some = λ e. i.some (takes_rest (indexed_unit_takes_memory c.args.dwarf.now) _ _ _ left e);
+      left = rest_of_rest (unit_step g.R.Reader.shares (unit_of_header d c.args.aranges.now) (appended d) m _ _ _ left _ (appended_more d m) c.in_ok-take.ensures.gives) i.left;
       same = c.in_ok-take.ensures.dwarf;
       read = c.in_ok-take.ensures.read;
       fresh = c.in_ok-take.ensures.empty;
@@ -40,15 +50,24 @@ loop-index-preserved g c =
 pub returns-in_err-take-clause-gives : goal.returns-in_err-take-clause-gives
 returns-in_err-take-clause-gives g c =
     let p = err_from_is_err_and c.from_residual-in_err-take.result c.from_residual-in_err-take.ensures.1 in
-    let i = c.loop-index.invariant in
+    let d = c.args.dwarf.now in
     let left = given_some _ _ _ (rw c.in-Some.is at c.in_ok-header.ensures.gives) in
-    rw (p.1, p.2) (λ may. sym i.gives ∙ index_fault c.args.dwarf.now c.args.aranges.now (index_seen c.loop-index.index) _ _ _ _ left (c.in_err-take.ensures.gives (λ takes. may (i.some (takes_first (indexed_unit_takes_memory c.args.dwarf.now) _ _ _ left takes)))))
+    rw (p.1, p.2) (fault_of_rest g.R.Reader.shares _ _ _ c.loop-index.invariant.left (unit_fault g.R.Reader.shares (unit_of_header d c.args.aranges.now) (appended d) (index_seen c.loop-index.index) _ _ _ left _ c.in_err-take.ensures.gives))
 
 pub returns-in_err-header-clause-gives : goal.returns-in_err-header-clause-gives
 returns-in_err-header-clause-gives g c =
     let p = err_from_is_err_and c.from_residual-in_err-header.result c.from_residual-in_err-header.ensures.1 in
-    let i = c.loop-index.invariant in
     let d = c.args.dwarf.now in
+    let read = unit_of_header d c.args.aranges.now in
     rw (p.1, p.2) (λ may.
-    let left = given_fault _ _ (c.in_err-header.ensures.gives (λ shares _. may (shared_headers g.R.Reader.shares (indexed_unit_takes_memory d) d shares))) in
-    sym i.gives ∙ ap (λ headers. units_of (unit_of_header d c.args.aranges.now) headers >>= λ units. Ok (appended d (index_seen c.loop-index.index) units)) left)
+    let left = given_fault _ _ (c.in_err-header.ensures.gives (λ e _. may (first_takes _ _ (shared_take g.R.Reader.shares read (all_headers d.debug_info) e)))) in
+    sym c.loop-index.invariant.left.gives ∙ ap (λ headers. (units_of read headers >>= λ units. free (Ok (appended d (index_seen c.loop-index.index) units))).given) left)
+
+pub returns-clause-gives : goal.returns-clause-gives
+returns-clause-gives g c =
+    let d = c.args.dwarf.now in
+    let m = index_seen c.loop-index.index in
+    let left = given_none _ _ (rw c.in_default.is at c.in_ok-header.ensures.gives) in
+    sym c.loop-index.invariant.left.gives
+    ∙ ap (λ headers. (units_of (unit_of_header d c.args.aranges.now) headers >>= λ units. free (Ok (appended d m units))).given) left
+    ∙ ap (λ n. Ok n) (appended_none d m)

@@ -1,17 +1,18 @@
-use Rattle.std.proofs.Common.{◌≡◌, Ok, length, true}
-use Rattle.gimli_read.specs.Reading.{◌>>=◌}
+use Rattle.std.proofs.Common.{◌≡◌, Ok, length}
+use Rattle.gimli_read.specs.Costed.{◌>>=◌, free}
 use Rattle.addr2line_units.specs.CachedLines.{HaveLinesOf}
-use Rattle.addr2line_units.specs.Indexed.{appended, index_seen, indexed_with, some_take_memory, indexed_unit_takes_memory, units_take_memory}
+use Rattle.addr2line_units.specs.Indexed.{appended, index_seen, indexed_with}
 use Rattle.addr2line_units.specs.CachedUnits.{AreFreshOf}
-use Rattle.addr2line_units.specs.RangedUnits.{unit_of_header, units_of}
+use Rattle.addr2line_units.specs.HeaderUnits.{units_of}
+use Rattle.addr2line_units.specs.RangedUnits.{unit_of_header}
+use Rattle.addr2line_units.proofs.HeaderUnitLemmas.{IsRestOf}
 use Rattle.addr2line_units.proofs.units.read_units.Given as goal
 
 abbrev pub invariant-loop-index : goal.invariant-loop-index
 invariant-loop-index g l =
     let d = l.dwarf in
     record {
-      gives : (units_of (unit_of_header d l.aranges) l.headers >>= λ units. Ok (appended d (index_seen l.index) units)) ≡ indexed_with d l.aranges;
-      some : some_take_memory (indexed_unit_takes_memory d) l.headers ≡ true → units_take_memory g.R.Reader.shares d ≡ true;
+      left : IsRestOf g.R.Reader.shares (units_of (unit_of_header d l.aranges) l.headers >>= λ units. free (Ok (appended d (index_seen l.index) units))) (indexed_with d l.aranges);
       same : l.abbreviations.dwarf ≡ d;
       read : HaveLinesOf d l.index.dw_units.items l.index.caches.items;
       fresh : AreFreshOf l.index.dw_units.items l.index.caches.items;

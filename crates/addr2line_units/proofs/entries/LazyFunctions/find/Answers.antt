@@ -60,7 +60,7 @@ returns-in-Read-clause-gives g c =
     let table = subst (AreFunctionsOf scope view) c.in-Read.is c.cache.ensures.right in
     let gives = rw c.deref_mut.ensures.value at c.find_place.ensures.gives in
     exactly_weaker (table_takes_memory probe t.value && table_takes_memory probe new) (before && table_takes_memory probe new) (option_map (function_of_place new)) c.find_place.result (function_at scope view probe)
-    (and_weaker (table_takes_memory probe t.value) before (table_takes_memory probe new) (memory_before c.args.self.now c.cache.new.self (λ read. (c.cache.ensures.kept read).0) g.R.Reader.shares scope view t probe c.in-Read.is table)) gives
+    (and_weaker (table_takes_memory probe t.value) before (table_takes_memory probe new) (memory_before c.args.self.now c.cache.new.self (λ read. (c.cache.ensures.kept read).0) g.R.Reader.shares scope view t c.in-Read.is table probe)) gives
 
 pub returns-in-Read-clause-within : goal.returns-in-Read-clause-within
 returns-in-Read-clause-within g c =

@@ -1,6 +1,7 @@
 use Rattle.std.proofs.Common.{◌≡◌, false, refl, true}
 use Rattle.std.proofs.lemmas.Result.{err_from_is_err_and}
-use Rattle.addr2line_units.proofs.UnitIndexLemmas.{some_listed}
+use Rattle.addr2line_units.proofs.HeaderUnitLemmas.{then_takes}
+use Rattle.addr2line_units.proofs.UnitIndexLemmas.{some_there}
 use Rattle.addr2line_units.proofs.index.UnitAranges.parse.Goals as goal
 
 false_true : false ≡ true → ⊥
@@ -9,4 +10,6 @@ false_true e = cc
 pub returns-in_err-sort_by_unit : goal.returns-in_err-sort_by_unit
 returns-in_err-sort_by_unit g c =
     let p = err_from_is_err_and c.from_residual-in_err-sort_by_unit.result c.from_residual-in_err-sort_by_unit.ensures.1 in
-    record { gives = rw (p.1, p.2) (λ may. absurd (may (some_listed _ _ c.in_ok-aranges.ensures.gives (λ none. false_true (c.in_err-sort_by_unit.ensures.memory none))) refl)) }
+    record {
+      gives = rw (p.1, p.2) (λ may. absurd (may (then_takes _ _ _ _ c.in_ok-aranges.ensures.gives (some_there _ (λ none. false_true (c.in_err-sort_by_unit.ensures.memory none)))) refl));
+    }

@@ -3,10 +3,9 @@ use Rattle.std.proofs.lemmas.Result.{err_from_is_err_and}
 use Rattle.gimli_read.specs.declared.error.Error.{Error}
 use Rattle.gimli.specs.Sections.{Sections}
 use Rattle.gimli.specs.UnitsLeft.{all_headers}
-use Rattle.addr2line_units.specs.Indexed.{has_abbreviations, sup_takes_memory, sup_units_take_memory}
-use Rattle.addr2line_units.specs.UnitIndex.{sup_sections, sup_unit_of_header, sup_units}
-use Rattle.addr2line_units.specs.RangedUnits.{units_of}
-use Rattle.addr2line_units.proofs.UnitIndexLemmas.{shared_headers}
+use Rattle.addr2line_units.specs.UnitIndex.{sup_read, sup_sections, sup_unit_of_header}
+use Rattle.addr2line_units.specs.HeaderUnits.{units_of}
+use Rattle.addr2line_units.proofs.HeaderUnitLemmas.{shared_take}
 use Rattle.addr2line_units.proofs.sup.SupUnits.parse.Goals as goal
 
 ok_is : (a b : Sections) → ◌≡◌ {A = Result Sections Error} (Ok a) (Ok b) → a ≡ b
@@ -21,7 +20,7 @@ returns-in_err-dwarf g c =
     let d = sup_sections c.in-Some.sup.value in
     let there : c.args.dwarf.now.sup ≡ Some c.in-Some.sup.value = sym (rw c.in-Some.is at (ap (λ (s : Sections). s.sup) c.dwarf.view_is)) in
     record {
-      gives = rw (p.1, p.2) (λ may. absurd (ok_err _ _ (c.in_err-dwarf.ensures.gives (λ shares. may (ap (sup_takes_memory g.R.Reader.shares) there ∙ shared_headers g.R.Reader.shares (has_abbreviations d) d shares)))));
+      gives = rw (p.1, p.2) (λ may. absurd (ok_err _ _ (c.in_err-dwarf.ensures.gives (λ shares. may (ap (λ s. (sup_read s).takes_memory g.R.Reader.shares) there ∙ shared_take g.R.Reader.shares (sup_unit_of_header d) (all_headers d.debug_info) shares)))));
       dwarf = rw p.1 tt;
     }
 
@@ -31,7 +30,7 @@ returns-in_err-units g c =
     let there : c.args.dwarf.now.sup ≡ Some c.in-Some.sup.value = sym (rw c.in-Some.is at (ap (λ (s : Sections). s.sup) c.dwarf.view_is)) in
     let same = ap sup_sections (sym c.deref.ensures) ∙ ok_is _ _ c.in_ok-dwarf.ensures.gives in
     record {
-      gives = rw (p.1, p.2) (λ may. ap sup_units there ∙ ap (λ (d : Sections). units_of (sup_unit_of_header d) (all_headers d.debug_info)) same ∙ c.in_err-units.ensures.gives (λ takes. may (ap (sup_takes_memory g.R.Reader.shares) there ∙ ap (sup_units_take_memory g.R.Reader.shares) same ∙ takes)));
+      gives = rw (p.1, p.2) (λ may. ap (λ s. (sup_read s).given) there ∙ ap (λ (d : Sections). (units_of (sup_unit_of_header d) (all_headers d.debug_info)).given) same ∙ c.in_err-units.ensures.gives (λ takes. may (ap (λ s. (sup_read s).takes_memory g.R.Reader.shares) there ∙ ap (λ (d : Sections). (units_of (sup_unit_of_header d) (all_headers d.debug_info)).takes_memory g.R.Reader.shares) same ∙ takes)));
       dwarf = rw p.1 tt;
     }
 
@@ -40,6 +39,6 @@ returns g c =
     let there : c.args.dwarf.now.sup ≡ Some c.in-Some.sup.value = sym (rw c.in-Some.is at (ap (λ (s : Sections). s.sup) c.dwarf.view_is)) in
     let same = ap sup_sections (sym c.deref.ensures) ∙ ok_is _ _ c.in_ok-dwarf.ensures.gives in
     record {
-      gives = ap sup_units there ∙ ap (λ (d : Sections). units_of (sup_unit_of_header d) (all_headers d.debug_info)) same ∙ c.in_ok-units.ensures.gives;
+      gives = ap (λ s. (sup_read s).given) there ∙ ap (λ (d : Sections). (units_of (sup_unit_of_header d) (all_headers d.debug_info)).given) same ∙ c.in_ok-units.ensures.gives;
       dwarf = sym (ap (option_map sup_sections) there ∙ ap Some same);
     }

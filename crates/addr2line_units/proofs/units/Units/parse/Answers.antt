@@ -1,7 +1,8 @@
-use Rattle.std.proofs.Common.{subst}
+use Rattle.std.proofs.Common.{subst, sym, ◌∙◌}
 use Rattle.std.proofs.lemmas.Result.{err_from_is_err_and}
 use Rattle.addr2line_units.specs.CachedLines.{HaveLinesOf}
-use Rattle.addr2line_units.proofs.NewUnitsLemmas.{are_units, sup_fault, sup_memory, units_fault, units_made, units_memory}
+use Rattle.addr2line_units.proofs.HeaderUnitLemmas.{first_takes, then_takes}
+use Rattle.addr2line_units.proofs.NewUnitsLemmas.{are_units, index_is, sup_fault, units_fault, units_made}
 use Rattle.addr2line_units.proofs.units.Units.parse.Goals as goal
 
 pub returns-in_err-indexed : goal.returns-in_err-indexed
@@ -9,7 +10,7 @@ returns-in_err-indexed g c =
     let p = err_from_is_err_and c.from_residual.result c.from_residual.ensures.1 in
     let d = c.args.dwarf.value in
     let units = rw c.deref.ensures at c.in_err-indexed.ensures.gives in
-    record { gives = rw (p.1, p.2) (λ may. units_fault d _ (units (λ takes. may (units_memory g.R.Reader.shares d takes)))) }
+    record { gives = rw (p.1, p.2) (λ may. units_fault d _ (sym (index_is d) ∙ units (λ takes. may (first_takes _ _ takes)))) }
 
 pub returns-in_err-sup : goal.returns-in_err-sup
 returns-in_err-sup g c =
@@ -17,7 +18,7 @@ returns-in_err-sup g c =
     let d = c.args.dwarf.value in
     let units = rw c.deref.ensures at c.in_ok-indexed.ensures.gives in
     let sup = rw c.deref-2.ensures at c.in_err-sup.ensures.gives in
-    record { gives = rw (p.1, p.2) (λ may. sup_fault d _ _ units (sup (λ takes. may (sup_memory g.R.Reader.shares d _ units takes)))) }
+    record { gives = rw (p.1, p.2) (λ may. sup_fault d _ _ (sym (index_is d) ∙ units) (sup (λ takes. may (then_takes _ _ _ _ units takes)))) }
 
 pub invariant_of-units : goal.invariant_of-units
 invariant_of-units g c =
@@ -27,7 +28,7 @@ invariant_of-units g c =
     let lines = subst (λ d. HaveLinesOf d made.dw_units.items made.caches.items) c.deref.ensures c.in_ok-indexed.ensures.read in
     let sup = rw c.deref-2.ensures at c.in_ok-sup.ensures.gives in
     let sup_is = rw c.deref-2.ensures at c.in_ok-sup.ensures.dwarf in
-    are_units d made.dw_units.items made.caches.items made.ranges c.in_ok-sup.sup units sup sup_is lines c.in_ok-indexed.ensures.empty
+    are_units d made.dw_units.items made.caches.items made.ranges c.in_ok-sup.sup (sym (index_is d) ∙ units) sup sup_is lines c.in_ok-indexed.ensures.empty
 
 pub returns : goal.returns
 returns g c =
@@ -37,4 +38,4 @@ returns g c =
     let lines = subst (λ d. HaveLinesOf d made.dw_units.items made.caches.items) c.deref.ensures c.in_ok-indexed.ensures.read in
     let sup = rw c.deref-2.ensures at c.in_ok-sup.ensures.gives in
     let sup_is = rw c.deref-2.ensures at c.in_ok-sup.ensures.dwarf in
-    record { gives = rw c.new.ensures.gives (units_made d made.dw_units.items made.caches.items made.ranges c.in_ok-sup.sup units sup sup_is lines c.in_ok-indexed.ensures.empty) }
+    record { gives = rw c.new.ensures.gives (units_made d made.dw_units.items made.caches.items made.ranges c.in_ok-sup.sup (sym (index_is d) ∙ units) sup sup_is lines c.in_ok-indexed.ensures.empty) }

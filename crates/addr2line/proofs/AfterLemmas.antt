@@ -1,6 +1,6 @@
 -- What holds of a context once a lookup was lent from it that it had stored (on
 -- specs/AfterLookups.antt and specs/Skips.antt).
-use Rattle.std.proofs.Common.{◌≡◌, ℕ, Bool, true, false, List, Option, Some, None, option_map, Result, Ok, Err, refl, sym, ap, subst, ◌∙◌}
+use Rattle.std.proofs.Common.{◌≡◌, inl, inr, ℕ, Bool, true, false, List, Option, Some, None, option_map, Result, Ok, Err, refl, sym, ap, subst, ◌∙◌}
 use Rattle.std.specs.Prelude.{IfErr, OnOk}
 use Rattle.gimli_read.specs.declared.error.Error.{Error}
 use Rattle.gimli_read.specs.Reading.{◌>>=◌, ExactlyUnlessOom, WasNotRefused}
@@ -42,10 +42,27 @@ none_waits (Ok x) (Finds n frames) h = refl
 none_waits (Ok x) FindsNothing h = refl
 none_waits (Err e) stop h = refl
 
--- what is so of the refusal of a lookup is so of what is lent
-lent_alone : {X : Type 0} (walked : Result (Unit {0}) Error) (P : Error → Type 0) (o : Result X Error) → IfErr walked P → IfErr o (λ e. walked ≡ Err e) → IfErr o P
-lent_alone walked P (Ok x) h k = tt
-lent_alone walked P (Err e) h k = subst (λ w. IfErr w P) k h
+-- what is lent after a lookup, by the refusal of the lookup
+module _ {X : Type 0} (walked : Result (Unit {0}) Error) (stop : LookupStop) where
+  lent_told : (o : Result X Error) → IsLent walked stop o → WasNotRefused o → WasNotRefused walked
+  lent_told (Ok x) h told = subst (λ (w : Result (Unit {0}) Error). WasNotRefused w) (sym h.0) tt
+  lent_told (Err e) h told = elim h [ inl q ↦ subst (λ (w : Result (Unit {0}) Error). WasNotRefused w) (sym q) told | inr q ↦ absurd (told q.0) ]
+
+  lent_refused : (o : Result X Error) → IsLent walked stop o → is_waiting (walked >>= λ _. Ok stop) ≡ false → IfErr o (λ e. walked ≡ Err e)
+  lent_refused (Ok x) h w = tt
+  lent_refused (Err e) h w = elim h [
+    | inl q ↦ q
+    | inr q ↦ let no : true ≡ false = sym q.2 ∙ sym (ap (λ r. is_waiting (r >>= λ _. Ok stop)) q.1) ∙ w in absurd cc
+  ]
+
+  lent_memory : (o : Result X Error) → IsLent walked stop o → is_waiting (walked >>= λ _. Ok stop) ≡ false → WasNotRefused walked → WasNotRefused o
+  lent_memory (Ok x) h w told = tt
+  lent_memory (Err e) h w told = subst (λ (r : Result (Unit {0}) Error). WasNotRefused r) (lent_refused (Err e) h w) told
+
+  -- what is so of the refusal of a lookup is so of what is lent
+  lent_alone : (P : Error → Type 0) (o : Result X Error) → IfErr walked P → IfErr o (λ e. walked ≡ Err e) → IfErr o P
+  lent_alone P (Ok x) h k = tt
+  lent_alone P (Err e) h k = subst (λ w. IfErr w P) k h
 
 -- a lookup that was stored and has ended waits for no unit
 pub never_waits : (walked : Result (Unit {0}) Error) (stop : LookupStop) (n : ℕ) → OnOk walked (waiting_unit stop ≡ None) → walked ≡ Ok tt → stop ≡ Waits n → ⊥
@@ -71,17 +88,28 @@ module _ (faults : OnFault) (probe : ℕ) (old mid : ContextState) (walked : Res
       learns = a.learns;
       details = a.details;
       raised = a.raised;
-      ready = λ told. a.ready (h.1.ready told);
-      memory = λ few ended. h.1.memory (stop_ended walked mid.stop (lookup_stop faults mid.sections mid.answers probe) stored (ap is_waiting same_lookup ∙ ended)) (a.memory few ended);
+      ready = λ told. a.ready (lent_told walked mid.stop o h.1 told);
+      memory = λ few ended. lent_memory walked mid.stop o h.1 (stop_ended walked mid.stop (lookup_stop faults mid.sections mid.answers probe) stored (ap is_waiting same_lookup ∙ ended)) (a.memory few ended);
     })
+
+    -- what it came to is stored, and it waits for nothing
+    lent_stored : {X : Type 0} (o : Result X Error) → IsLent walked mid.stop o → IsStored faults probe o mid
+    lent_stored (Ok x) h = subst (λ r. IsStored faults probe r mid) h.0 stored
+    lent_stored (Err e) h = elim h [ inl q ↦ subst (λ r. IsStored faults probe r mid) q stored | inr q ↦ λ ne. absurd (ne q.0) ]
+
+    lent_ended : {X : Type 0} (o : Result X Error) → IsLent walked mid.stop o → WasNotRefused o → is_waiting (lookup_stop faults mid.sections mid.answers probe) ≡ false
+    lent_ended (Ok x) h told = ap is_waiting (lent_stored (Ok x) h) ∙ h.1
+    lent_ended {X = X} (Err e) h told = ap is_waiting (lent_stored {X = X} (Err e) h told)
 
     pub frames_over : {L X D S : Type 0} (shares : Bool) → (NeedsNoMemory shares faults mid probe → IfErr walked (IsFaultOfAsked faults old.sections old.answers probe)) → (new : ContextState) (result : LookupResult L (Result X Error) D S) → IfOutput result (λ o. (new ≡ mid) × IsLent walked mid.stop o)
         → IfOutput result (λ o. AfterFramesOver shares faults probe o old new)
     frames_over shares alone new (Load c) h = tt
     frames_over {L = L} {X = X} {D = D} {S = S} shares alone new (Output o) h = record {
       after = frames_after {L = L} {X = X} {D = D} {S = S} new (Output o) h;
-      no_memory = λ none ended. lent_alone walked (IsFaultOfAsked faults old.sections old.answers probe) o (alone (subst (λ n. NeedsNoMemory shares faults n probe) h.0 none))
-          (h.1.refused (stop_ended walked mid.stop (lookup_stop faults mid.sections mid.answers probe) stored (ap is_waiting same_lookup ∙ ended)));
+      stored = subst (λ n. IsStored faults probe o n) (sym h.0) (lent_stored o h.1);
+      ended = λ told. subst (λ (n : ContextState). is_waiting (lookup_stop faults n.sections n.answers probe) ≡ false) (sym h.0) (lent_ended o h.1 told);
+      no_memory = λ none ended. lent_alone walked mid.stop (IsFaultOfAsked faults old.sections old.answers probe) o (alone (subst (λ n. NeedsNoMemory shares faults n probe) h.0 none))
+          (lent_refused walked mid.stop o h.1 (stop_ended walked mid.stop (lookup_stop faults mid.sections mid.answers probe) stored (ap is_waiting same_lookup ∙ ended)));
     }
 
     -- the rest of a lookup that waits
@@ -98,15 +126,15 @@ module _ (faults : OnFault) (probe : ℕ) (old mid : ContextState) (walked : Res
     skip_after new (Load c) ended h = tt
     skip_after {X = X} new (Output o) ended h = subst (λ n. AfterSkip {X = X} shares faults probe o old n) (sym h.0) (record {
       sections = a.sections;
-      answers = λ told. a.answers (h.1.ready told);
+      answers = λ told. a.answers (lent_told walked mid.stop o h.1 told);
       begun = a.begun;
       parsed = a.parsed;
       known = a.known;
       only = a.only;
       raised = a.raised;
-      ready = λ told. a.ready (h.1.ready told);
-      memory = λ few. h.1.memory (none_waits walked mid.stop ended) (a.memory few);
-      no_memory = λ none. lent_alone walked (IsFaultOfAsked faults mid.sections mid.answers probe) o (a.no_memory none) (h.1.refused (none_waits walked mid.stop ended));
+      ready = λ told. a.ready (lent_told walked mid.stop o h.1 told);
+      memory = λ few. lent_memory walked mid.stop o h.1 (none_waits walked mid.stop ended) (a.memory few);
+      no_memory = λ none. lent_alone walked mid.stop (IsFaultOfAsked faults mid.sections mid.answers probe) o (a.no_memory none) (lent_refused walked mid.stop o h.1 (none_waits walked mid.stop ended));
     })
 
     pub outputs_skipped : {L V X D S : Type 0} (reading : Sections → FirstAnswers → ℕ → Result V Error) (see : X → V) (new : ContextState) (result : LookupResult L (Result X Error) D S) → IfOutput result (λ o. (new ≡ mid) × IsLent walked mid.stop o)
@@ -119,22 +147,8 @@ module _ (faults : OnFault) (probe : ℕ) (old mid : ContextState) (walked : Res
         by : (r : LookupResult L (Result X Error) D S) → IfOutput r (λ o. (new ≡ mid) × IsLent walked mid.stop o) → IfOutput r (λ o. ExactlyUnlessOom see o (reading mid.sections mid.answers probe))
             → IfOutput r (λ o. ExactlyUnlessOom see o (reading old.sections (skipped_answers faults old.sections probe old.answers) probe))
         by (Load c) l h = tt
-        by (Output (Ok x)) l h = sym (same (l.1.ready tt)) ∙ h
-        by (Output (Err e)) l h = λ ne. sym (same (l.1.ready ne)) ∙ h ne
-
--- what is lent of a lookup that has ended, of one that was refused, and of one whose load is refused
-pub lent_ok : {X : Type 0} (stop : LookupStop) (x : X) → IsLent (Ok tt) stop (Ok x)
-lent_ok stop x = record { ready = λ told. tt; memory = λ ended told. tt; refused = λ ended. tt }
-
-pub lent_fault : {X : Type 0} (stop : LookupStop) (e : Error) → IsLent {X = X} (Err e) stop (Err e)
-lent_fault stop e = record { ready = λ told. told; memory = λ ended told. told; refused = λ ended. refl }
-
-pub lent_no_load : {X : Type 0} (stop : LookupStop) (n : ℕ) (e : Error) → stop ≡ Waits n → IsLent {X = X} (Ok tt) stop (Err e)
-lent_no_load stop n e waits = record {
-  ready = λ told. tt;
-  memory = λ ended told. let f : true ≡ false = sym (ap (λ s. is_waiting (Ok s)) waits) ∙ ended in absurd cc;
-  refused = λ ended. let f : true ≡ false = sym (ap (λ s. is_waiting (Ok s)) waits) ∙ ended in absurd cc;
-}
+        by (Output (Ok x)) l h = sym (same (lent_told walked mid.stop (Ok x) l.1 tt)) ∙ h
+        by (Output (Err e)) l h = λ ne. sym (same (lent_told {X = X} walked mid.stop (Err e) l.1 ne)) ∙ h ne
 
 -- what is found by a lookup that has ended
 pub found_lent : {V : Type 0} (faults : OnFault) (value_of : LookupStop → Option View → V) (c : ContextState) (probe : ℕ) (found : V) → lookup_stop faults c.sections c.answers probe ≡ Ok c.stop → waiting_unit c.stop ≡ None → found ≡ value_of c.stop (view_found c.sections c.answers c.stop)

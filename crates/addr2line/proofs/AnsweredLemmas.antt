@@ -58,23 +58,8 @@ module _ (ranges : List UnitRange) (u : UnitsState) (i : IsContext ranges u) whe
     read_context = still_context ranges u i now scope_same units_same
 
   module _ (n : ℕ) (given : Option Sections) (r : Result (Unit {0}) Error) (now : UnitsState) (a : left.AfterAnswer n given r u now) where
-    pub after_answer : AfterAnswering n given r (seen_context u) (seen_context now)
-    after_answer = record {
-      sections = ap (λ (x : UnitsState). x.scope.file.sections) a.stays;
-      parsed = ap (λ (x : UnitsState). x.parsed) a.stays;
-      looks = ap (λ (x : UnitsState). x.looks) a.stays;
-      answers = of_ok r a.answers;
-      refused = a.refused;
-      others = a.others;
-      functions = a.functions;
-    }
-      where
-        of_ok : (q : Result (Unit {0}) Error) → OnOk q (now.answers ≡ with_answer d u.scope.file.units u.answers n given) → OnOk q (now.answers ≡ answered d u.answers n given)
-        of_ok (Ok x) h = h ∙ sym (answers_are n given)
-        of_ok (Err e) h = tt
-
     -- fewer loads are left after an answer to one that a lookup waits for
-    pub fewer_after : (faults : OnFault) (probe : ℕ) → waits_for n (lookup_stop faults d u.answers probe) ≡ true → OnOk r (length (loads_at now.scope.file.sections now.answers probe) < length (loads_at d u.answers probe))
+    fewer_after : (faults : OnFault) (probe : ℕ) → waits_for n (lookup_stop faults d u.answers probe) ≡ true → OnOk r (length (loads_at now.scope.file.sections now.answers probe) < length (loads_at d u.answers probe))
     fewer_after faults probe w = of_ok r a.answers
       where
         listed : IsListed n (laws.loads_of d u.scope.file.units u.answers (cover probe ranges))
@@ -88,4 +73,20 @@ module _ (ranges : List UnitRange) (u : UnitsState) (i : IsContext ranges u) whe
             subst (λ l. length l < length (loads_at d u.answers probe)) (sym now_is)
             (subst (λ l. length (laws.loads_of d u.scope.file.units (with_answer d u.scope.file.units u.answers n given) (cover probe ranges)) < length l) (sym (loads_are u.answers probe))
             (fewer_left d u.scope.file.units u.answers n given (cover probe ranges) a.beside listed))
+        of_ok (Err e) h = tt
+
+    pub after_answer : AfterAnswering n given r (seen_context u) (seen_context now)
+    after_answer = record {
+      sections = ap (λ (x : UnitsState). x.scope.file.sections) a.stays;
+      parsed = ap (λ (x : UnitsState). x.parsed) a.stays;
+      looks = ap (λ (x : UnitsState). x.looks) a.stays;
+      answers = of_ok r a.answers;
+      refused = a.refused;
+      others = a.others;
+      functions = a.functions;
+      shorter = fewer_after;
+    }
+      where
+        of_ok : (q : Result (Unit {0}) Error) → OnOk q (now.answers ≡ with_answer d u.scope.file.units u.answers n given) → OnOk q (now.answers ≡ answered d u.answers n given)
+        of_ok (Ok x) h = h ∙ sym (answers_are n given)
         of_ok (Err e) h = tt

@@ -1,34 +1,48 @@
 -- Loads that files answer, one after another (on specs/LoadsByFiles.antt, specs/Loader.antt and
 -- specs/FramesByFiles.antt).
-use Rattle.std.proofs.Common.{◌≡◌, ◌≢◌, ◌<◌, ◌≤◌, inl, inr, ℕ, List, [], ◌∷◌, ◌++◌, length, Option, Some, None, Result, Ok, Err, arith, true, refl, sym, ap, subst, ◌∙◌}
+use Rattle.std.proofs.Common.{◌≡◌, ◌≢◌, ◌<◌, ◌≤◌, inl, inr, ℕ, Bool, List, [], ◌∷◌, ◌++◌, length, Option, Some, None, Result, Ok, Err, arith, true, refl, sym, ap, subst, ◌∙◌}
 use Rattle.std.proofs.lemmas.Bool.Decides.{eqb_tells}
 use Rattle.std.proofs.lemmas.List.{append_assoc}
-use Rattle.std.specs.Prelude.{IfSome, OnErr, OnOk}
+use Rattle.std.specs.Prelude.{IfErr, IfSome}
 use Rattle.gimli_read.specs.declared.error.Error.{Error}
+use Rattle.gimli_read.specs.declared.error.Error.TheVariants as reading
 use Rattle.gimli.specs.Sections.{Sections}
 use Rattle.elf.specs.declared.error.LoaderError.{LoaderError}
 use Rattle.elf.specs.declared.error.LoaderError.TheVariants.{OutOfMemory}
+use Rattle.elf.specs.Loading.{Loading, LoadsUnlessOom}
 use Rattle.elf.specs.Text.{loader_error_of}
+use Rattle.addr2line_units.specs.declared.continuation.LookupResult.{LookupResult}
+use Rattle.addr2line_units.specs.declared.continuation.LookupResult.TheVariants.{Output}
 use Rattle.addr2line_units.specs.declared.frames.OnFault.TheVariants.{Stop}
 use Rattle.addr2line_units.specs.Frames.{FrameRecord}
-use Rattle.addr2line_units.specs.FramesLookup.{Waits, answer_of, is_waiting}
-use Rattle.gimli_read.specs.Reading.{WasNotRefused}
-use Rattle.addr2line_units.specs.Parsed.{has_parsed}
+use Rattle.addr2line_units.specs.FramesLookup.{Waits, answer_of, frames_found, is_waiting}
+use Rattle.gimli_read.specs.Reading.{WasNotRefused, result_map}
+use Rattle.addr2line_units.specs.Parsed.{StaysParsed, has_parsed}
+use Rattle.addr2line_units.specs.StaysKnown.{StaysKnown}
+use Rattle.addr2line_units.specs.Suspended.{IfOutput}
 use Rattle.addr2line_units.specs.Views.{FirstAnswers, SplitLoad}
-use Rattle.addr2line.specs.Answers.{AfterAnswering, answered}
+use Rattle.addr2line.specs.Answers.{AfterAnswering, AfterResume, SuspendsAgain, answered}
 use Rattle.addr2line.specs.Context.{ContextState}
-use Rattle.addr2line.specs.Files.{ReadFiles}
+use Rattle.addr2line.specs.declared.compressed.CompressedSections.{CompressedSections}
+use Rattle.addr2line.specs.Files.{Files, ReadFiles, as_read, as_read_if_known}
 use Rattle.addr2line.specs.FramesByFiles.{ended_frames_of, frames_by_files, stop_frames}
 use Rattle.addr2line.specs.History.{Given, Answered}
-use Rattle.addr2line.specs.LoadsByFiles.{AfterAnswers, AnswersInTurn, AnswersOne, IsFaultByFiles, StayAnswered, WaitsForNone}
-use Rattle.addr2line.specs.AfterLookups.{AfterFrames, IsKnownFew, ReadsAsked}
+use Rattle.addr2line.specs.LoadsByFiles.{AfterAnswers, AfterFramesByFiles, AnswersByFiles, AnswersInTurn, IsFaultByFiles, IsUnitFault, StayAnswered, WaitsForNone}
+use Rattle.addr2line.specs.AfterLookups.{AfterFrames, AfterFramesOver, IsKnown, IsKnownFew, IsStored, ReadsAsked, Suspends}
 use Rattle.addr2line.specs.Lookups.{IsLoadOf, loads_at, lookup_stop}
-use Rattle.addr2line.specs.SplitFiles.{given_by_files}
-use Rattle.addr2line.proofs.AskedLemmas.{reads_more, reads_nothing}
+use Rattle.addr2line.specs.SplitFiles.{LeavesOpen, given_by_files, of_file}
+use Rattle.addr2line.proofs.AskedLemmas.{reads_answered, reads_more, reads_nothing}
 use Rattle.addr2line.proofs.FilesLookupLemmas.{answer_changes, first_answers_stay, frames_ended, frames_stay, refused_frames, stop_stays}
-use Rattle.addr2line.proofs.HistoryLemmas.{HasGiven, given_all, given_more}
-use Rattle.addr2line.proofs.LoadingLemmas.{if_some_both, not_told}
+use Rattle.addr2line.proofs.HistoryLemmas.{HasGiven, given_all, given_more, resumed_output}
+use Rattle.addr2line.proofs.LoadingLemmas.{if_some_both, no_oom, no_path, not_told}
+use Rattle.addr2line.proofs.NoLoadLemmas.{lacks_memory}
+use Rattle.addr2line.proofs.SkippedLemmas.{waits_true}
 use Rattle.addr2line_units.proofs.StayLemmas.{known_of_twice, same_stays_known}
+
+-- what is so of files as they are read is so of those that are known
+pub if_read : (P : ReadFiles → Type 0) (choice : CompressedSections) (files : Option Files) → IfSome files (λ held. P (as_read choice held)) → IfSome (as_read_if_known choice files) P
+if_read P choice None h = tt
+if_read P choice (Some held) h = h
 
 -- what holds of each files holds where they are known
 always : {X : Type 0} (o : Option X) {P : X → Type 0} → ((x : X) → P x) → IfSome o P
@@ -48,31 +62,24 @@ same_between old mid new a b n same = by (answer_of old n) (answer_of mid n) ref
     by None (Some given) p q = let f : ◌≡◌ {A = Option (Option Sections)} (Some given) None = sym (b n given q) ∙ same ∙ p in absurd cc
     by (Some given) y p q = a n given p ∙ sym p
 
+-- a lookup comes to the same where sections and first answers are the same
+same_stop : (probe : ℕ) (old new : ContextState) → new.sections ≡ old.sections → new.answers ≡ old.answers → lookup_stop Stop new.sections new.answers probe ≡ lookup_stop Stop old.sections old.answers probe
+same_stop probe old new s a = ap (λ d. lookup_stop Stop d new.answers probe) s ∙ ap (λ x. lookup_stop Stop old.sections x probe) a
+
 module _ (files : Option ReadFiles) where
-  -- a lookup changes neither sections nor first answers
-  pub after_look : {X : Type 0} (probe : ℕ) (r : Result X Error) (old new : ContextState) → AfterFrames Stop probe r old new → AfterAnswers files old new
-  after_look probe r old new a = record {
-    sections = a.sections;
-    answers = subst (λ x. StayAnswered old.answers x) (sym a.answers) (λ n given e. e);
-    frames = always files (λ held q. ap (λ d. frames_by_files held d new.answers q) a.sections ∙ ap (λ x. frames_by_files held old.sections x q) a.answers);
-    ended = λ q w. ap (λ d. lookup_stop Stop d new.answers q) a.sections ∙ ap (λ x. lookup_stop Stop old.sections x q) a.answers;
-    parsed = a.parsed;
-    known = λ n same. a.known n;
-    raised = a.raised;
+  -- neither sections nor first answers were changed, and what was read stays
+  unchanged : (old new : ContextState) → new.sections ≡ old.sections → new.answers ≡ old.answers → StaysParsed old.parsed new.parsed → StaysKnown old.known new.known → old.looks ≤ new.looks → AfterAnswers files old new
+  unchanged old new s a parsed known raised = record {
+    sections = s;
+    answers = subst (λ x. StayAnswered old.answers x) (sym a) (λ n given e. e);
+    frames = always files (λ held q. ap (λ d. frames_by_files held d new.answers q) s ∙ ap (λ x. frames_by_files held old.sections x q) a);
+    ended = λ q w. same_stop q old new s a;
+    parsed = parsed;
+    known = λ n same. known n;
+    raised = raised;
   }
 
-  pub unanswered : (c : ContextState) → AfterAnswers files c c
-  unanswered c = record {
-    sections = refl;
-    answers = λ n given e. e;
-    frames = always files (λ held q. refl);
-    ended = λ q w. refl;
-    parsed = λ n e. e;
-    known = λ n same. same_stays_known n c.known c.known refl;
-    raised = omega arith;
-  }
-
-  pub then_answered : (old mid new : ContextState) → AfterAnswers files old mid → AfterAnswers files mid new → AfterAnswers files old new
+  then_answered : (old mid new : ContextState) → AfterAnswers files old mid → AfterAnswers files mid new → AfterAnswers files old new
   then_answered old mid new a b = record {
     sections = b.sections ∙ a.sections;
     answers = λ n given e. b.answers n given (a.answers n given e);
@@ -86,18 +93,13 @@ module _ (files : Option ReadFiles) where
   }
 
   -- a fault by the files was one before
-  pub fault_before : (old mid : ContextState) (probe : ℕ) (e : LoaderError) → AfterAnswers files old mid → IsFaultByFiles files mid probe e → IsFaultByFiles files old probe e
+  fault_before : (old mid : ContextState) (probe : ℕ) (e : LoaderError) → AfterAnswers files old mid → IsFaultByFiles files mid probe e → IsFaultByFiles files old probe e
   fault_before old mid probe e a h = if_some_both files a.frames h (λ held p q ne. sym (p probe) ∙ q ne)
-
-  -- refused memory is no fault by the files
-  pub memory_refused : (c : ContextState) (probe : ℕ) (e : LoaderError) → e ≡ OutOfMemory → IsFaultByFiles files c probe e
-  memory_refused c probe e q = always files (λ held ne. absurd (ne q))
 
   module _ (probe n : ℕ) (load : SplitLoad) (old : ContextState) (waits : lookup_stop Stop old.sections old.answers probe ≡ Ok (Waits n)) (is : IsLoadOf old.sections n load) where
     -- the load was answered by a file, or memory was refused for it
-    pub answered_by_file : (given : Option Sections) → IfSome files (λ held. given_by_files held load ≡ Ok given) → (r : Result (Unit {0}) Error) (new : ContextState) → AfterAnswering n given r old new
-        → OnOk r (length (loads_at new.sections new.answers probe) < length (loads_at old.sections old.answers probe)) → AfterAnswers files old new
-    answered_by_file given h (Ok x) new a fewer = record {
+    answered_by_file : (given : Option Sections) → IfSome files (λ held. given_by_files held load ≡ Ok given) → (r : Result (Unit {0}) Error) (new : ContextState) → AfterAnswering n given r old new → AfterAnswers files old new
+    answered_by_file given h (Ok x) new a = record {
       sections = a.sections;
       answers = subst (λ x. StayAnswered old.answers x) (sym a.answers) (first_answers_stay old.sections old.answers probe n load waits is given);
       frames = if_some_map files h (λ held e q. ap (λ d. frames_by_files held d new.answers q) a.sections ∙ ap (λ x. frames_by_files held old.sections x q) a.answers
@@ -112,34 +114,25 @@ module _ (files : Option ReadFiles) where
         changed k q same =
             answer_changes old.sections old.answers probe n load waits is given
             (subst (λ x. length (loads_at old.sections x probe) < length (loads_at old.sections old.answers probe)) a.answers
-            (subst (λ d. length (loads_at d new.answers probe) < length (loads_at old.sections old.answers probe)) a.sections fewer))
+            (subst (λ d. length (loads_at d new.answers probe) < length (loads_at old.sections old.answers probe)) a.sections (a.shorter Stop probe (waits_true n _ waits))))
             (subst (λ x. answer_of x n ≡ answer_of old.answers n) a.answers (subst (λ i. answer_of new.answers i ≡ answer_of old.answers i) q same))
-    answered_by_file given h (Err e) new a fewer = record {
-      sections = a.sections;
-      answers = subst (λ x. StayAnswered old.answers x) (sym a.refused.1) (λ n given e. e);
-      frames = always files (λ held q. ap (λ d. frames_by_files held d new.answers q) a.sections ∙ ap (λ x. frames_by_files held old.sections x q) a.refused.1);
-      ended = λ q w. ap (λ d. lookup_stop Stop d new.answers q) a.sections ∙ ap (λ x. lookup_stop Stop old.sections x q) a.refused.1;
-      parsed = λ k e. subst (λ p. has_parsed p k ≡ true) (sym a.parsed) e;
-      known = λ k same. a.refused.2 k;
-      raised = subst (λ l. old.looks ≤ l) (sym a.looks) (omega arith);
-    }
+    answered_by_file given h (Err e) new a =
+        unchanged old new a.sections a.refused.1 (λ k q. subst (λ p. has_parsed p k ≡ true) (sym a.parsed) q) a.refused.2 (subst (λ l. old.looks ≤ l) (sym a.looks) (omega arith))
 
     -- the files refused the load
-    pub refused_by_file : (e : LoaderError) → IfSome files (λ held. e ≢ OutOfMemory → given_by_files held load ≡ Err e) → IsFaultByFiles files old probe e
+    refused_by_file : (e : LoaderError) → IfSome files (λ held. e ≢ OutOfMemory → given_by_files held load ≡ Err e) → IsFaultByFiles files old probe e
     refused_by_file e h = if_some_map files h (λ held k ne. refused_frames old.sections old.answers probe n load waits is (given_by_files held) e (k ne))
 
--- of a load one answer is given at most
-pub one_answered : (n : ℕ) (given : Option Sections) (r : Result (Unit {0}) Error) (old new : ContextState) → AfterAnswering n given r old new → AnswersOne n old new
-one_answered n given (Ok x) old new a = inr (given, a.answers)
-one_answered n given (Err e) old new a = inl a.refused.1
-
--- a lookup that was refused an answer still waits
-pub waits_still : (probe n : ℕ) (given : Option Sections) (r : Result (Unit {0}) Error) (old new : ContextState) → lookup_stop Stop old.sections old.answers probe ≡ Ok (Waits n) → AfterAnswering n given r old new → OnErr r (lookup_stop Stop new.sections new.answers probe ≡ Ok (Waits n))
-waits_still probe n given (Ok x) old new waits a = tt
-waits_still probe n given (Err e) old new waits a = ap (λ d. lookup_stop Stop d new.answers probe) a.sections ∙ ap (λ x. lookup_stop Stop old.sections x probe) a.refused.1 ∙ waits
-
-pub waits_no_more : (probe n : ℕ) (c : ContextState) → WaitsForNone c probe → lookup_stop Stop c.sections c.answers probe ≡ Ok (Waits n) → ⊥
+-- it doesn't wait both for a unit and for none
+waits_no_more : (probe n : ℕ) (c : ContextState) → WaitsForNone c probe → lookup_stop Stop c.sections c.answers probe ≡ Ok (Waits n) → ⊥
 waits_no_more probe n c w waits = let no = sym (ap is_waiting waits) ∙ w in absurd cc
+
+-- a fault that ends a lookup is one by the files
+stop_fault : (files : Option ReadFiles) (c : ContextState) (probe : ℕ) (e : Error) → (loader_error_of e ≢ OutOfMemory → lookup_stop Stop c.sections c.answers probe ≡ Err e) → IsFaultByFiles files c probe (loader_error_of e)
+stop_fault files c probe e h = always files by
+  where
+    by : (held : ReadFiles) → loader_error_of e ≢ OutOfMemory → frames_by_files held c.sections c.answers probe ≡ Err (loader_error_of e)
+    by held ne = frames_ended (given_by_files held) c.sections c.answers probe (ap is_waiting (h ne)) ∙ ap stop_frames (h ne)
 
 -- loads of a lookup were answered by files, in turn
 pub record HasAnswered (files : Option ReadFiles) (probe : ℕ) (first now : ContextState) : Type 0 where
@@ -148,59 +141,161 @@ pub record HasAnswered (files : Option ReadFiles) (probe : ℕ) (first now : Con
   pub given : List Given
   pub so : HasGiven Stop first.sections probe first.answers given now.answers
 
+-- it waits for the unit of a number, which has this load
+pub record WaitsByFiles (files : Option ReadFiles) (probe : ℕ) (first : ContextState) (n : ℕ) (load : SplitLoad) (now : ContextState) : Type 0 where
+  pub so : HasAnswered files probe first now
+  pub waits : lookup_stop Stop now.sections now.answers probe ≡ Ok (Waits n)
+  pub own : IsLoadOf now.sections n load
+
+-- it has ended
+pub record EndsByFiles {X : Type 0} (files : Option ReadFiles) (probe : ℕ) (first : ContextState) (o : Result X Error) (now : ContextState) : Type 0 where
+  pub so : HasAnswered files probe first now
+  pub stored : IsStored Stop probe o now
+  pub ended : WasNotRefused o → WaitsForNone now probe
+  pub ready : WasNotRefused o → IsKnown Stop now probe
+  pub memory : WaitsForNone now probe → IsKnownFew Stop now probe → WasNotRefused o
+
 module _ (files : Option ReadFiles) (probe : ℕ) (first : ContextState) where
-  pub has_answered_none : HasAnswered files probe first first
-  has_answered_none = record { after = unanswered files first; only = reads_nothing Stop probe first; given = []; so = λ rest. refl }
+  none_answered : HasAnswered files probe first first
+  none_answered = record { after = unchanged files first first refl refl (λ n e. e) (λ n. same_stays_known n first.known first.known refl) (omega arith); only = reads_nothing Stop probe first; given = []; so = λ rest. refl }
 
   module _ (now : ContextState) (h : HasAnswered files probe first now) where
-    pub has_looked : {X : Type 0} (r : Result X Error) (new : ContextState) → AfterFrames Stop probe r now new → HasAnswered files probe first new
-    has_looked r new a = record {
-      after = then_answered files first now new h.after (after_look files probe r now new a);
+    looked : {X : Type 0} (r : Result X Error) (new : ContextState) → AfterFrames Stop probe r now new → HasAnswered files probe first new
+    looked r new a = record {
+      after = then_answered files first now new h.after (unchanged files now new a.sections a.answers a.parsed a.known a.raised);
       only = reads_more Stop probe r first now new a h.only;
       given = h.given;
       so = subst (λ x. HasGiven Stop first.sections probe first.answers h.given x) (sym a.answers) h.so;
     }
 
-    pub has_answered_one : (n : ℕ) (new : ContextState) → lookup_stop Stop now.sections now.answers probe ≡ Ok (Waits n) → AfterAnswers files now new → ((c : ContextState) → ReadsAsked Stop probe c now → ReadsAsked Stop probe c new) → AnswersOne n now new → HasAnswered files probe first new
-    has_answered_one n new waits b only (inl same) = record {
-      after = then_answered files first now new h.after b;
-      only = only first h.only;
-      given = h.given;
-      so = subst (λ x. HasGiven Stop first.sections probe first.answers h.given x) (sym same) h.so;
-    }
-    has_answered_one n new waits b only (inr p) = record {
-      after = then_answered files first now new h.after b;
-      only = only first h.only;
-      given = h.given ++ (Answered p.0 ∷ []);
-      so = subst (λ x. HasGiven Stop first.sections probe first.answers (h.given ++ (Answered p.0 ∷ [])) x) (sym (p.1 ∙ ap (λ d. answered d now.answers n p.0) h.after.sections))
-          (given_more Stop first.sections probe first.answers now.answers h.given h.so n p.0 (ap (λ d. lookup_stop Stop d now.answers probe) (sym h.after.sections) ∙ waits) (h.given ++ (Answered p.0 ∷ [])) (append_assoc h.given (Answered p.0 ∷ [])));
-    }
-
-    pub in_turn : AnswersInTurn probe first now
+    in_turn : AnswersInTurn probe first now
     in_turn = (h.given, sym (given_all Stop first.sections probe first.answers now.answers h.given h.so))
 
-  -- the unit that a lookup waits for by then was answered
-  pub has_answered_after : {X : Type 0} (now : ContextState) → HasAnswered files probe first now → (r : Result X Error) (mid : ContextState) → AfterFrames Stop probe r now mid → (n : ℕ) → lookup_stop Stop mid.sections mid.answers probe ≡ Ok (Waits n)
-      → (new : ContextState) → AfterAnswers files mid new → ((c : ContextState) → ReadsAsked Stop probe c mid → ReadsAsked Stop probe c new) → AnswersOne n mid new → HasAnswered files probe first new
-  has_answered_after now h r mid a n stop new b only one =
-      has_answered_one mid (has_looked now h r mid a) n new stop b only one
+    waits_then : (n : ℕ) (load : SplitLoad) (new : ContextState) → Suspends Stop probe n load now new → WaitsByFiles files probe first n load new
+    waits_then n load new s = record {
+      so = looked (Ok (tt {0})) new s.after;
+      waits = same_stop probe now new s.after.sections s.after.answers ∙ s.waits;
+      own = subst (λ d. IsLoadOf d n load) (sym s.after.sections) s.load;
+    }
 
--- what it reads takes memory only where something is left to read, or more than 16 inlined functions
--- stand there
-pub looked_memory : {X : Type 0} (probe : ℕ) (e : Error) (r : Result X Error) (old new : ContextState) → r ≡ Err e → AfterFrames Stop probe r old new → WaitsForNone new probe → IsKnownFew Stop new probe → loader_error_of e ≢ OutOfMemory
-looked_memory {X = X} probe e r old new is a w few =
-    let ended = sym (ap (λ d. is_waiting (lookup_stop Stop d new.answers probe)) a.sections ∙ ap (λ x. is_waiting (lookup_stop Stop old.sections x probe)) a.answers) ∙ w in
-    not_told e (subst (λ (x : Result X Error). WasNotRefused x) is (a.memory few ended))
+    ends_then : {X : Type 0} (shares : Bool) (o : Result X Error) (new : ContextState) → AfterFramesOver shares Stop probe o now new → EndsByFiles files probe first o new
+    ends_then shares o new a = record {
+      so = looked o new a.after;
+      stored = a.stored;
+      ended = a.ended;
+      ready = a.after.ready;
+      memory = λ w few. a.after.memory few (ap is_waiting (sym (same_stop probe now new a.after.sections a.after.answers)) ∙ w);
+    }
 
--- a fault that ends a lookup is one by the files
-pub stop_fault : (files : Option ReadFiles) (c : ContextState) (probe : ℕ) (e : Error) → (loader_error_of e ≢ OutOfMemory → lookup_stop Stop c.sections c.answers probe ≡ Err e) → IsFaultByFiles files c probe (loader_error_of e)
-stop_fault files c probe e h = always files by
-  where
-    by : (held : ReadFiles) → loader_error_of e ≢ OutOfMemory → frames_by_files held c.sections c.answers probe ≡ Err (loader_error_of e)
-    by held ne = frames_ended (given_by_files held) c.sections c.answers probe (ap is_waiting (h ne)) ∙ ap stop_frames (h ne)
+  -- what is left where it has ended
+  ended_after : {X : Type 0} (now : ContextState) (o : Result X Error) → EndsByFiles files probe first o now → AnswersByFiles files probe (of_file (result_map (λ _. tt {0}) o)) first now
+  ended_after now (Ok x) h = record {
+    answers = h.so.after;
+    lookup = record {
+      in_turn = in_turn now h.so;
+      only = h.so.only;
+      ended = λ _. h.ended tt;
+      ready = λ _. h.ready tt;
+      told = λ _. ap stop_frames h.stored;
+      waits = tt;
+      memory = λ none few. tt;
+      refused = tt;
+    };
+    refused = tt;
+  }
+  ended_after now (Err e) h = record {
+    answers = h.so.after;
+    lookup = record {
+      in_turn = in_turn now h.so;
+      only = h.so.only;
+      ended = λ fault. h.ended (no_oom e fault.0);
+      ready = λ fault. h.ready (no_oom e fault.0);
+      told = λ fault. ap stop_frames (h.stored (no_oom e fault.0));
+      waits = λ q. absurd (no_path e q);
+      memory = memory;
+      refused = lacks_memory (loader_error_of e) now probe memory;
+    };
+    refused = fault_before files first now probe (loader_error_of e) h.so.after (stop_fault files now probe e (λ ne. h.stored (no_oom e ne)));
+  }
+    where
+      memory : WaitsForNone now probe → IsKnownFew Stop now probe → loader_error_of e ≢ OutOfMemory
+      memory none few = not_told e (h.memory none few)
 
--- the frames of a lookup that waits no more are those by the files
-pub found_by_files : (files : Option ReadFiles) (probe : ℕ) (first mid : ContextState) → AfterAnswers files first mid → WaitsForNone mid probe → (frames : List FrameRecord) → ended_frames_of mid probe ≡ Ok frames
-    → IfSome files (λ held. frames_by_files held first.sections first.answers probe ≡ Ok frames)
-found_by_files files probe first mid a ended frames h = if_some_map files a.frames
-    (λ held p. sym (p probe) ∙ frames_ended (given_by_files held) mid.sections mid.answers probe ended ∙ h)
+  ended_as : {X : Type 0} (now : ContextState) (o : Result X Error) → EndsByFiles files probe first o now → (r : Loading (Unit {0})) → r ≡ of_file (result_map (λ _. tt) o) → AnswersByFiles files probe r first now
+  ended_as now o h r is = subst (λ q. AnswersByFiles files probe q first now) (sym is) (ended_after now o h)
+
+  -- it waits at first, or ends at once
+  pub begins_waiting : (n : ℕ) (load : SplitLoad) (new : ContextState) → Suspends Stop probe n load first new → WaitsByFiles files probe first n load new
+  begins_waiting = waits_then first none_answered
+
+  pub ends_at_once : {X : Type 0} (shares : Bool) (o : Result X Error) (new : ContextState) → AfterFramesOver shares Stop probe o first new → (r : Loading (Unit {0})) → r ≡ of_file (result_map (λ _. tt) o) → AnswersByFiles files probe r first new
+  ends_at_once shares o new a r is = ended_as new o (ends_then first none_answered shares o new a) r is
+
+  module _ (n : ℕ) (load : SplitLoad) (now : ContextState) (w : WaitsByFiles files probe first n load now) where
+    -- the load was answered by a file
+    module _ (x : Option Sections) (by : IfSome files (λ held. given_by_files held load ≡ Ok x)) where
+      answered_then : (r : Result (Unit {0}) Error) (new : ContextState) → AfterAnswering n x r now new → HasAnswered files probe first new
+      answered_then (Ok y) new a = record {
+        after = then_answered files first now new w.so.after (answered_by_file files probe n load now w.waits w.own x by (Ok y) new a);
+        only = reads_answered Stop probe n first now new w.waits w.so.only x (Ok y) a;
+        given = w.so.given ++ (Answered x ∷ []);
+        so = subst (λ y. HasGiven Stop first.sections probe first.answers (w.so.given ++ (Answered x ∷ [])) y) (sym (a.answers ∙ ap (λ d. answered d now.answers n x) w.so.after.sections))
+            (given_more Stop first.sections probe first.answers now.answers w.so.given w.so.so n x (ap (λ d. lookup_stop Stop d now.answers probe) (sym w.so.after.sections) ∙ w.waits) (w.so.given ++ (Answered x ∷ [])) (append_assoc w.so.given (Answered x ∷ [])));
+      }
+      answered_then (Err e) new a = record {
+        after = then_answered files first now new w.so.after (answered_by_file files probe n load now w.waits w.own x by (Err e) new a);
+        only = reads_answered Stop probe n first now new w.waits w.so.only x (Err e) a;
+        given = w.so.given;
+        so = subst (λ y. HasGiven Stop first.sections probe first.answers w.so.given y) (sym a.refused.1) w.so.so;
+      }
+
+      pub goes_on : (k : ℕ) (next : SplitLoad) (new : ContextState) → SuspendsAgain Stop probe n x k next now new → WaitsByFiles files probe first k next new
+      goes_on k next new (mid, a, s) = waits_then mid (answered_then (Ok tt) mid a) k next new s
+
+      then_ended : {X : Type 0} (shares : Bool) (o : Result X Error) (new : ContextState) → AfterResume shares Stop probe n x o now new → EndsByFiles files probe first o new
+      then_ended {X = X} shares o new after = elim after [
+        | inl (mid, a, b) ↦ ends_then mid (answered_then (Ok tt) mid a) shares o new b
+        | inr (e, a, none) ↦ subst (λ r. EndsByFiles files probe first r new) (sym e) (refused a)
+      ]
+        where
+          refused : AfterAnswering n x (Err reading.OutOfMemory) now new → EndsByFiles {X = X} files probe first (Err reading.OutOfMemory) new
+          refused a = record {
+            so = answered_then (Err reading.OutOfMemory) new a;
+            stored = λ ne. absurd (ne refl);
+            ended = λ ne. absurd (ne refl);
+            ready = λ ne. absurd (ne refl);
+            memory = λ none few. absurd (waits_no_more probe n new none (same_stop probe now new a.sections a.refused.1 ∙ w.waits));
+          }
+
+      pub ends_resumed : {L D S X : Type 0} (shares : Bool) (result : LookupResult L (Result X Error) D S) (o : Result X Error) → result ≡ Output o → (asked : ℕ) → asked ≡ probe → (new lender : ContextState) → new ≡ lender
+          → IfOutput result (λ q. AfterResume shares Stop asked n x q now lender) → (r : Loading (Unit {0})) → r ≡ of_file (result_map (λ _. tt) o) → AnswersByFiles files probe r first new
+      ends_resumed shares result o is asked same new lender ends rests r given =
+          ended_as new o (then_ended shares o new (resumed_output shares Stop probe n x now result o is asked same new lender ends rests)) r given
+
+    -- the load was refused, and it still waits
+    module _ (e : LoaderError) (h : LeavesOpen e) where
+      no_end : IsUnitFault e → ⊥
+      no_end fault = elim h [ inl q ↦ fault.0 q | inr q ↦ fault.1 q ]
+
+      pub given_up : IfSome files (λ held. e ≢ OutOfMemory → given_by_files held load ≡ Err e) → (new : ContextState) → new ≡ now → AnswersByFiles files probe (Err e) first new
+      given_up refusal new same = subst (AnswersByFiles files probe (Err e) first) (sym same) (record {
+        answers = w.so.after;
+        lookup = record {
+          in_turn = in_turn now w.so;
+          only = w.so.only;
+          ended = λ fault. absurd (no_end fault);
+          ready = λ fault. absurd (no_end fault);
+          told = λ fault. absurd (no_end fault);
+          waits = λ _. ap is_waiting w.waits;
+          memory = λ none few. absurd (waits_no_more probe n now none w.waits);
+          refused = λ _. inl (ap is_waiting w.waits);
+        };
+        refused = fault_before files first now probe e w.so.after (refused_by_file files probe n load now w.waits w.own e refusal);
+      })
+
+-- what a lookup gives by files
+module _ (files : Option ReadFiles) (probe : ℕ) (first now : ContextState) (a : AfterAnswers files first now) where
+  pub gives_by_files : (given : Loading (List FrameRecord)) → AfterFramesByFiles probe given first now → IfErr given (IsFaultByFiles files first probe)
+      → IfSome files (λ held. LoadsUnlessOom (λ x. x) given (frames_by_files held first.sections first.answers probe))
+  gives_by_files (Ok frames) b h = if_some_map files a.frames (λ held p. sym (p probe) ∙ frames_ended (given_by_files held) now.sections now.answers probe (b.ended tt) ∙ b.told tt)
+  gives_by_files (Err e) b h = h

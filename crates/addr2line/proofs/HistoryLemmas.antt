@@ -4,10 +4,13 @@ use Rattle.std.proofs.Math.Seq.{drop-cons}
 use Rattle.std.proofs.lemmas.List.{append-nil, get_or-map, length-map, take-append-drop, take_more}
 use Rattle.gimli_read.specs.declared.error.Error.{Error}
 use Rattle.gimli.specs.Sections.{Sections}
+use Rattle.addr2line_units.specs.declared.continuation.LookupResult.{LookupResult}
+use Rattle.addr2line_units.specs.declared.continuation.LookupResult.TheVariants.{Output}
 use Rattle.addr2line_units.specs.declared.frames.OnFault.{OnFault}
 use Rattle.addr2line_units.specs.FramesLookup.{LookupStop, Waits, Finds, FindsNothing, is_waiting}
 use Rattle.gimli_read.specs.Reading.{WasNotRefused}
 use Rattle.addr2line_units.specs.Parsed.{StaysParsed, has_parsed}
+use Rattle.addr2line_units.specs.Suspended.{IfOutput}
 use Rattle.addr2line.specs.Answers.{AfterResume, answered}
 use Rattle.addr2line.specs.Context.{ContextState}
 use Rattle.addr2line.specs.History.{Given, Answered, Abandoned, answers_given, where_waiting}
@@ -100,3 +103,10 @@ module _ {X : Type 0} (shares : Bool) (faults : OnFault) (probe n : ℕ) (x : Op
     | inl (mid, a, b) ↦ inr (b.after.answers ∙ a.answers)
     | inr (e, a, none) ↦ inl (a.refused.1)
   ]
+
+-- what an answer has left of a lookup that has ended, by what is said of its output
+pub resumed_output : {L D S X : Type 0} (shares : Bool) (faults : OnFault) (probe n : ℕ) (x : Option Sections) (old : ContextState) (result : LookupResult L (Result X Error) D S) (o : Result X Error) → result ≡ Output o → (asked : ℕ) → asked ≡ probe → (new lender : ContextState) → new ≡ lender
+    → IfOutput result (λ q. AfterResume shares faults asked n x q old lender) → AfterResume shares faults probe n x o old new
+resumed_output shares faults probe n x old result o is asked same new lender ends rests =
+    subst (λ q. AfterResume shares faults q n x o old new) same (subst (λ s. AfterResume shares faults asked n x o old s) (sym ends)
+    (subst (λ r. IfOutput r (λ q. AfterResume shares faults asked n x q old lender)) is rests))

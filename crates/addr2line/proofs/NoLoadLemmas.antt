@@ -4,14 +4,13 @@ use Rattle.gimli_read.specs.declared.error.Error.{Error}
 use Rattle.gimli.specs.Sections.{Sections}
 use Rattle.elf.specs.declared.error.LoaderError.{LoaderError}
 use Rattle.elf.specs.declared.error.LoaderError.TheVariants.{OutOfMemory}
-use Rattle.elf.specs.Loading.{Loading}
-use Rattle.elf.specs.Text.{loader_error_of}
+use Rattle.elf.specs.Loading.{Loading, LoadsUnlessOom}
 use Rattle.addr2line_lines.specs.InlineRoom.{exceeds_inline_room}
 use Rattle.addr2line_units.specs.declared.frames.OnFault.TheVariants.{Stop}
 use Rattle.addr2line_units.specs.declared.index.UnitRange.{UnitRange}
 use Rattle.addr2line_units.specs.Cover.{cover}
 use Rattle.addr2line_units.specs.Frames.{FrameRecord}
-use Rattle.addr2line_units.specs.FramesLookup.{LookupAsks, Waits, answer_of, asks_lines_of, ends_lookup, inlined_at_number, holds_along, is_waiting, main_scope}
+use Rattle.addr2line_units.specs.FramesLookup.{LookupAsks, answer_of, asks_lines_of, ends_lookup, inlined_at_number, holds_along, is_waiting, main_scope}
 use Rattle.addr2line_units.specs.KnownEntries.{knows_at}
 use Rattle.addr2line_units.specs.Parsed.{StaysParsed, has_parsed}
 use Rattle.addr2line_units.specs.UnitIndex.{UnitIndex, index_units}
@@ -19,7 +18,7 @@ use Rattle.addr2line_units.specs.UnitFrames.{FramesResult}
 use Rattle.addr2line.specs.Context.{ContextState, IsUncovered}
 use Rattle.addr2line.specs.Files.{ReadFiles}
 use Rattle.addr2line.specs.FramesByFiles.{ended_frames_of, stop_frames}
-use Rattle.addr2line.specs.LoadsByFiles.{AfterAnswers, AnswersInTurn, MayLackMemory, WaitsForNone}
+use Rattle.addr2line.specs.LoadsByFiles.{AfterAnswers, AfterFramesByFiles, AnswersInTurn, MayLackMemory, WaitsForNone}
 use Rattle.addr2line.specs.AfterLookups.{IsKnownFew, TakesMemory, has_few_of}
 use Rattle.addr2line_units.specs.StaysKnown.{StaysKnown}
 use Rattle.addr2line.specs.Lookups.{asked_of, lookup_stop}
@@ -95,31 +94,28 @@ module _ (probe : ℕ) (old new : ContextState) where
           let after = knows_at new.known probe n && (asks || has_parsed new.parsed n) in
           more before false few_there after few_there (more _ asks (has_parsed old.parsed n) _ (has_parsed new.parsed n) ((known n).at probe) (parsed n)) (λ q. q) e
 
--- a lookup that waits for no answer, after loads were answered
-module _ (files : Option ReadFiles) (probe : ℕ) (first now : ContextState) (a : AfterAnswers files first now) (w : WaitsForNone first probe) where
-  pub waits_never : (n : ℕ) → lookup_stop Stop now.sections now.answers probe ≡ Ok (Waits n) → ⊥
-  waits_never n waits =
-      let no = sym (ap is_waiting waits) ∙ ap is_waiting (a.ended probe w) ∙ w in
-      absurd cc
+-- what a lookup gives by files that waits for no answer
+module _ (files : Option ReadFiles) (probe : ℕ) (first now : ContextState) (a : AfterAnswers files first now) where
+  module _ (w : WaitsForNone first probe) where
+    none_now : WaitsForNone now probe
+    none_now = ap is_waiting (a.ended probe w) ∙ w
 
-  -- its fault is that of what it comes to
-  pub stop_fault_is : (e : Error) → (loader_error_of e ≢ OutOfMemory → lookup_stop Stop now.sections now.answers probe ≡ Err e) → loader_error_of e ≢ OutOfMemory → ended_frames_of first probe ≡ Err (loader_error_of e)
-  stop_fault_is e h ne = ap stop_frames (sym (a.ended probe w) ∙ h ne)
+    -- none was given to it, and all that was known that it asks for still is
+    few_later : AnswersInTurn probe first now → IsKnownFew Stop first probe → IsKnownFew Stop now probe
+    few_later t few =
+        let same = t.1 ∙ given_ended Stop first.sections probe first.answers t.0 w in
+        few_stays probe first now a.sections same (λ n. a.known n (ap (λ x. answer_of x n) same)) a.parsed few
 
-  -- none was given to it, and all that was known that it asks for still is
-  few_later : AnswersInTurn probe first now → IsKnownFew Stop first probe → IsKnownFew Stop now probe
-  few_later t few =
-      let same = t.1 ∙ given_ended Stop first.sections probe first.answers t.0 w in
-      few_stays probe first now a.sections same (λ n. a.known n (ap (λ x. answer_of x n) same)) a.parsed few
+    as_first : ended_frames_of first probe ≡ ended_frames_of now probe
+    as_first = ap stop_frames (sym (a.ended probe w))
 
-  -- its refusal
-  pub refused_exactly : AnswersInTurn probe first now → (e : LoaderError) → (e ≢ OutOfMemory → ended_frames_of first probe ≡ Err e) → (WaitsForNone now probe → IsKnownFew Stop now probe → e ≢ OutOfMemory) → IsKnownFew Stop first probe
-      → ended_frames_of first probe ≡ Err e
-  refused_exactly t e fault memory few = fault (memory (ap is_waiting (a.ended probe w) ∙ w) (few_later t few))
+    pub gives_if_none : (given : Loading (List FrameRecord)) → AfterFramesByFiles probe given first now → LoadsUnlessOom (λ x. x) given (ended_frames_of first probe)
+    gives_if_none (Ok frames) b = as_first ∙ b.told tt
+    gives_if_none (Err e) b = λ ne. as_first ∙ b.told (ne, λ q. let no = sym (b.waits q) ∙ none_now in cc)
 
-  -- its frames
-  pub found_ended : (frames : List FrameRecord) → ended_frames_of now probe ≡ Ok frames → ended_frames_of first probe ≡ Ok frames
-  found_ended frames h = ap stop_frames (sym (a.ended probe w)) ∙ h
+    pub gives_exactly : (given : Loading (List FrameRecord)) → AfterFramesByFiles probe given first now → IsKnownFew Stop first probe → ended_frames_of first probe ≡ given
+    gives_exactly (Ok frames) b few = gives_if_none (Ok frames) b
+    gives_exactly (Err e) b few = gives_if_none (Err e) b (b.memory none_now (few_later b.in_turn few))
 
 -- what it comes to where no unit covers the probe, and no memory is refused
 pub last_frames : (probe : ℕ) (c : ContextState) → IsUncovered c probe → (given : Loading (List FrameRecord)) → (WaitsForNone c probe → IsKnownFew Stop c probe → ended_frames_of c probe ≡ given) → ◌≡◌ {A = Loading (List FrameRecord)} (Ok []) given

@@ -19,7 +19,7 @@ use Rattle.addr2line_units.specs.Suspended.{IfOutput}
 use Rattle.addr2line_units.specs.UnitIndex.{UnitIndex, index_units}
 use Rattle.addr2line_units.specs.RangedUnits.{unit_records}
 use Rattle.addr2line_units.specs.Views.{FirstAnswers, SplitLoad, View, load_by, load_of_unit, split_name_of}
-use Rattle.addr2line.proofs.HistoryLemmas.{HasGiven, given_all, given_ended, given_last, given_more, given_up, resumed_answers, resumed_begun, resumed_parsed, resumed_sections, take_drop_one, take_then}
+use Rattle.addr2line.proofs.HistoryLemmas.{HasGiven, given_all, given_ended, given_last, given_more, given_up, resumed_answers, resumed_begun, resumed_output, resumed_parsed, resumed_sections, take_drop_one, take_then}
 use Rattle.addr2line.specs.Answers.{AfterResume, SuspendsAgain, answered}
 use Rattle.addr2line.specs.Context.{ContextState}
 use Rattle.addr2line.specs.History.{Given, Answered, Abandoned, Leaves, answers_given}
@@ -56,10 +56,6 @@ load_token faults d answers probe n l w own = by (index_units d) refl
     by : (r : Result UnitIndex Error) → index_units d ≡ r → l.unit ≡ n
     by (Err f) e = absurd (let q : ◌≡◌ {A = Result LookupStop Error} (Err f) (Ok (Waits n)) = sym (ap (λ x. x >>= stop_in faults d answers probe) e) ∙ w in cc)
     by (Ok m) e = of_unit (slice_get (unit_records m.units) n) (own m e)
-
--- what holds of an output
-of_output : {L O D S : Type 0} (result : LookupResult L O D S) (o : O) (P : O → Type 0) → result ≡ Output o → IfOutput result P → P o
-of_output result o P e h = subst (λ r. IfOutput r P) e h
 
 -- this answer comes next of all
 pub record IsNext (all : List Given) (i : ℕ) (x : Given) : Type 0 where
@@ -191,7 +187,7 @@ module _ (faults : OnFault) (probe : ℕ) (first : ContextState) (all : List Giv
           (resumed_sections shares faults probe number x o now new after ∙ so.sections) (λ k e. resumed_parsed shares faults probe number x o now new after k (so.parsed k e))
         where
           after : AfterResume shares faults probe number x o now new
-          after = subst (λ q. AfterResume shares faults q number x o now new) same (subst (λ s. AfterResume shares faults asked number x o now s) (sym ends) (of_output result o (λ p. AfterResume shares faults asked number x p now lender) is rests))
+          after = resumed_output shares faults probe number x now result o is asked same new lender ends rests
 
 -- a lookup that waits has found nothing
 pub found_waiting : {V : Type 0} (faults : OnFault) (value_of : LookupStop → Option View → V) (d : Sections) (answers : FirstAnswers) (probe : ℕ) → is_waiting (lookup_stop faults d answers probe) ≡ true → found_at faults value_of d answers probe ≡ Ok None

@@ -49,6 +49,9 @@ stored_waits n FindsNothing e = absurd cc
 pub told_waits : (n : ℕ) (stop : LookupStop) (r : Result LookupStop Error) → r ≡ Ok stop → waiting_unit stop ≡ Some n → r ≡ Ok (Waits n)
 told_waits n stop r e w = e ∙ ap (λ s. Ok s) (stored_waits n stop w)
 
+pub waits_true : (n : ℕ) (r : Result LookupStop Error) → r ≡ Ok (Waits n) → waits_for n r ≡ true
+waits_true n r e = ap (waits_for n) e ∙ eq-eqb n n refl
+
 pub told_ended : (stop : LookupStop) (r : Result LookupStop Error) → r ≡ Ok stop → waiting_unit stop ≡ None → is_waiting r ≡ false
 told_ended stop r e w = ap is_waiting e ∙ by stop w
   where
@@ -139,14 +142,13 @@ module _ (faults : OnFault) (probe : ℕ) (first : ContextState) where
         same_left n s e = ap (λ d. length (loads_at d n.answers probe)) s ∙ ap (λ x. length (loads_at now.sections x probe)) e
 
     -- none is the answer to one more load
-    pub skipped_more : (n : ℕ) (new : ContextState) → lookup_stop faults now.sections now.answers probe ≡ Ok (Waits n) → AfterAnswering n None (Ok tt) now new
-        → length (loads_at new.sections new.answers probe) < length (loads_at now.sections now.answers probe) → HasSkipped faults probe first new
-    skipped_more n new waits a fewer = record {
+    pub skipped_more : (n : ℕ) (new : ContextState) → lookup_stop faults now.sections now.answers probe ≡ Ok (Waits n) → AfterAnswering n None (Ok tt) now new → HasSkipped faults probe first new
+    skipped_more n new waits a = record {
       sections = a.sections ∙ so.sections;
       count = suc so.count;
       given = subst (λ x. HasGiven faults first.sections probe first.answers (nones (suc so.count)) x) (sym (a.answers ∙ ap (λ d. answered d now.answers n None) so.sections))
           (given_more faults first.sections probe first.answers now.answers (nones so.count) so.given n None (ap (λ d. lookup_stop faults d now.answers probe) (sym so.sections) ∙ waits) (nones (suc so.count)) (nones_then so.count));
-      left = let x = so.left in omega (arith, x, fewer);
+      left = let x = so.left in let fewer = a.shorter faults probe (waits_true n _ waits) in omega (arith, x, fewer);
       parsed = λ k e. subst (λ p. has_parsed p k ≡ true) (sym a.parsed) (so.parsed k e);
       shut = λ k h. still_shut faults probe n now new waits None a.sections a.answers k (so.shut k h);
       known = λ k h. known_of_twice k first.known now.known new.known (so.known k h) (same_stays_known k now.known new.known (a.others k (not_this faults probe n now new waits k (so.shut k h))));
@@ -195,6 +197,3 @@ module _ (faults : OnFault) (probe : ℕ) (first : ContextState) where
       memory = memory;
       no_memory = alone;
     }
-
-pub waits_true : (n : ℕ) (r : Result LookupStop Error) → r ≡ Ok (Waits n) → waits_for n r ≡ true
-waits_true n r e = ap (waits_for n) e ∙ eq-eqb n n refl

@@ -4,7 +4,8 @@
 -- ask; nothing that is known is parsed again.
 use Rattle.std.specs.Prelude.{◌≡◌, ◌⊎◌, ℕ, ◌≤◌, Bool, true, false, slice_get, IfErr, Result, Ok, Err}
 use Rattle.gimli_read.specs.declared.error.Error.{Error}
-use Rattle.gimli_read.specs.Reading.{◌>>=◌, ExactlyUnlessOom, WasNotRefused}
+use Rattle.gimli_read.specs.declared.error.Error.TheVariants.{OutOfMemory}
+use Rattle.gimli_read.specs.Reading.{ExactlyUnlessOom, WasNotRefused}
 use Rattle.addr2line_units.specs.declared.frames.OnFault.{OnFault}
 use Rattle.addr2line_units.specs.Cover.{cover}
 use Rattle.addr2line_units.specs.FramesLookup.{LookupStop, Waits, LookupAsks, asks_lines_of, function_offset_of, holds_along, is_waiting, main_scope}
@@ -108,29 +109,30 @@ pub record AfterFrames {X : Type 0} (faults : OnFault) (probe : ℕ) (result : R
       → is_waiting (lookup_stop faults old.sections old.answers probe) ≡ false
       → WasNotRefused result
 
--- the same over readers that share their bytes or don't: where the lookup takes no memory and
--- waits for nothing, a refusal is the fault of a unit that it asks
+-- a context has stored what a lookup of the probe comes to, or the lookup was refused
+abbrev pub IsStored : {X : Type 0} → OnFault → ℕ → Result X Error → ContextState → Type 0
+IsStored faults probe result c =
+    ExactlyUnlessOom (λ _. c.stop) result (lookup_stop faults c.sections c.answers probe)
+
+-- the same over readers that share their bytes or don't, of a lookup that has ended: the context
+-- has stored what it came to; where the lookup takes no memory and waits for nothing, a refusal is
+-- the fault of a unit that it asks
 pub record AfterFramesOver {X : Type 0} (shares : Bool) (faults : OnFault) (probe : ℕ)
     (result : Result X Error) (old new : ContextState) : Type 0 where
   pub after : AfterFrames faults probe result old new
+  pub stored : IsStored faults probe result new
+  pub ended : WasNotRefused result
+      → is_waiting (lookup_stop faults new.sections new.answers probe) ≡ false
   pub no_memory : NeedsNoMemory shares faults new probe
       → is_waiting (lookup_stop faults old.sections old.answers probe) ≡ false
       → IfErr result (IsFaultOfAsked faults old.sections old.answers probe)
 
--- a context has stored what a lookup of the probe comes to, or the lookup was refused
-abbrev pub IsStored : OnFault → ℕ → Result (Unit {0}) Error → ContextState → Type 0
-IsStored faults probe walked c =
-    ExactlyUnlessOom (λ _. c.stop) walked (lookup_stop faults c.sections c.answers probe)
-
--- what is lent after a lookup: where it doesn't wait, a refusal is that of the lookup, and memory
--- is refused only where it was for the lookup
-pub record IsLent {X : Type 0} (walked : Result (Unit {0}) Error) (stop : LookupStop)
-    (result : Result X Error) : Type 0 where
-  pub ready : WasNotRefused result → WasNotRefused walked
-  pub memory : is_waiting (walked >>= λ _. Ok stop) ≡ false → WasNotRefused walked
-      → WasNotRefused result
-  pub refused : is_waiting (walked >>= λ _. Ok stop) ≡ false
-      → IfErr result (λ e. walked ≡ Err e)
+-- what is lent after a lookup: what it has found where it waits for nothing; else its refusal, or
+-- OutOfMemory in the place of a load
+abbrev pub IsLent : {X : Type 0} → Result (Unit {0}) Error → LookupStop → Result X Error → Type 0
+IsLent walked stop (Ok x) = (walked ≡ Ok tt) × (is_waiting (Ok stop) ≡ false)
+IsLent walked stop (Err e) = (walked ≡ Err e)
+    ⊎ ((e ≡ OutOfMemory) × (walked ≡ Ok tt) × (is_waiting (Ok stop) ≡ true))
 
 -- a lookup that waits for the unit of a number has this load
 pub record Suspends (faults : OnFault) (probe number : ℕ) (wanted : SplitLoad)

@@ -1,6 +1,6 @@
 -- What an answer to the load of a unit makes of a context, and of a lookup that goes on with it.
 -- Own: the first answer to a unit's load counts until the unit is forgotten.
-use Rattle.std.specs.Prelude.{◌≡◌, ◌≢◌, ◌⊎◌, ℕ, Bool, true, false, slice_get, Option, is_some, IfErr, OnOk, Result, Ok, Err}
+use Rattle.std.specs.Prelude.{◌≡◌, ◌≢◌, ◌⊎◌, ◌<◌, ℕ, length, Bool, true, false, slice_get, Option, is_some, IfErr, OnOk, Result, Ok, Err}
 use Rattle.gimli_read.specs.declared.error.Error.{Error}
 use Rattle.gimli_read.specs.declared.error.Error.TheVariants.{OutOfMemory}
 use Rattle.gimli_read.specs.Reading.{◌>>=◌}
@@ -14,6 +14,7 @@ use Rattle.addr2line_units.specs.UnitIndex.{index_units}
 use Rattle.addr2line_units.specs.RangedUnits.{unit_records}
 use Rattle.addr2line.specs.Context.{ContextState}
 use Rattle.addr2line.specs.AfterLookups.{AfterFramesOver, Suspends}
+use Rattle.addr2line.specs.Lookups.{loads_at, lookup_stop, waits_for}
 use Rattle.addr2line_units.specs.StaysKnown.{StaysKnown}
 use Rattle.addr2line_units.specs.Views.{FirstAnswers, SplitLoad}
 
@@ -30,8 +31,9 @@ load_reply d answers n given =
     index_units d >>= λ m. load_result d (unit_records m.units) answers n given
 
 -- after an answer to the load of the unit of a number, or after OutOfMemory in the place of given
--- sections, nothing is changed but of that unit, and no function becomes known; after OutOfMemory
--- all first answers are as before, and what was known stays known
+-- sections, nothing is changed but of that unit, and no function becomes known; fewer loads are
+-- left for a lookup that waited for the unit; after OutOfMemory all first answers are as before,
+-- and what was known stays known
 pub record AfterAnswering (n : ℕ) (given : Option Sections) (result : Result (Unit {0}) Error)
     (old new : ContextState) : Type 0 where
   pub sections : new.sections ≡ old.sections
@@ -42,6 +44,10 @@ pub record AfterAnswering (n : ℕ) (given : Option Sections) (result : Result (
       × StaysKnown old.known new.known × (is_some given ≡ true))
   pub others : (k : ℕ) → k ≢ n → slice_get new.known k ≡ slice_get old.known k
   pub functions : LearnsNoFunctions old.known new.known
+  pub shorter : (faults : OnFault) (probe : ℕ)
+      → waits_for n (lookup_stop faults old.sections old.answers probe) ≡ true
+      → OnOk result (length (loads_at new.sections new.answers probe)
+      < length (loads_at old.sections old.answers probe))
 
 -- after an answer with which a lookup went on, or after OutOfMemory in the answer's place: where
 -- the answer takes no memory, only if that is the fault of its view

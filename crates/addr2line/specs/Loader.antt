@@ -2,20 +2,16 @@
 -- sections.
 -- Own: a lookup gives the frames by the first answers to the loads of units, and by the files at
 -- that call for units without an answer.
-use Rattle.std.specs.Prelude.{◌≡◌, ◌≢◌, ℕ, List, Option, IfErr, Result}
+use Rattle.std.specs.Prelude.{◌≡◌, ℕ, List, Option, Result}
 use Rattle.gimli_read.specs.declared.error.Error.{Error}
-use Rattle.gimli_read.specs.Reading.{Exactly}
-use Rattle.elf.specs.declared.error.LoaderError.TheVariants.{OutOfMemory, PathNotUtf8}
+use Rattle.gimli_read.specs.Reading.{result_map}
 use Rattle.elf.specs.Loading.{Loading}
 use Rattle.elf.specs.ObjectFile.{ObjectFile}
-use Rattle.addr2line_units.specs.declared.frames.OnFault.TheVariants.{Stop}
 use Rattle.addr2line_units.specs.Frames.{FrameRecord}
 use Rattle.addr2line.specs.declared.loader.LoaderOver.{LoaderOver}
 use Rattle.addr2line.specs.Context.{AfterLookup, AfterRangeLookup, ContextState}
 use Rattle.addr2line.specs.Files.{Files, ReadFiles, as_read_if_known}
-use Rattle.addr2line.specs.FramesByFiles.{ended_frames_of}
-use Rattle.addr2line.specs.LoadsByFiles.{AfterAnswers, AnswersInTurn, HasEnded, MayLackMemory, WaitsForNone, WaitsForOne}
-use Rattle.addr2line.specs.AfterLookups.{IsKnown, IsKnownFew, ReadsAsked}
+use Rattle.addr2line.specs.LoadsByFiles.{AfterAnswers, AfterFramesByFiles}
 use Rattle.addr2line.specs.SplitFiles.{of_file}
 
 -- the files, where they are known, as they are read, the main file, and the context
@@ -33,25 +29,13 @@ seen_loader files l = record {
 }
 
 -- a lookup of frames at the probe has answered the loads that it came to by files: the files and
--- the main file are the same, and nothing was read but what it asks for; once it has ended, at a
--- fault too, each unit that it came to is decided, all is known that it asks for, and its answer is
--- that of the first answers which are left, whatever the files are. A path that isn't UTF-8 leaves
--- the unit open that it came to. Memory is refused only where it waits still, or asks a unit of
--- which something is left to read, or in which more than 16 inlined functions stand there
+-- the main file are the same
 pub record AfterLoads {X : Type 0} (see : X → List FrameRecord) (probe : ℕ) (result : Loading X)
     (old new : LoaderState) : Type 0 where
   pub files : new.files ≡ old.files
   pub object : new.object ≡ old.object
   pub context : AfterAnswers old.files old.context new.context
-  pub in_turn : AnswersInTurn probe old.context new.context
-  pub only : ReadsAsked Stop probe old.context new.context
-  pub ended : HasEnded result → WaitsForNone new.context probe
-  pub ready : HasEnded result → IsKnown Stop new.context probe
-  pub told : HasEnded result → Exactly see result (ended_frames_of new.context probe)
-  pub waits : IfErr result (λ e. e ≡ PathNotUtf8 → WaitsForOne new.context probe)
-  pub memory : WaitsForNone new.context probe → IsKnownFew Stop new.context probe
-      → IfErr result (λ e. e ≢ OutOfMemory)
-  pub refused : IfErr result (λ e. e ≡ OutOfMemory → MayLackMemory new.context probe)
+  pub lookup : AfterFramesByFiles probe (result_map see result) old.context new.context
 
 -- a lookup of locations in the context has this answer, and has left the context as it leaves one;
 -- the files and the main file are the same

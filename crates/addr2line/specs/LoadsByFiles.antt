@@ -2,24 +2,24 @@
 -- 7.3.2).
 -- Own: the first answer of a unit stays, so a file counts that was there when its unit was first
 -- looked up.
-use Rattle.std.specs.Prelude.{◌≡◌, ◌≢◌, ◌≤◌, ◌⊎◌, ℕ, false, true, List, Option, Some, IfSome, Ok, Err}
+use Rattle.std.specs.Prelude.{◌≡◌, ◌≢◌, ◌≤◌, ◌⊎◌, ℕ, false, true, List, Option, Some, IfErr, IfSome, Ok, Err}
+use Rattle.gimli_read.specs.Reading.{result_map}
 use Rattle.gimli.specs.Sections.{Sections}
 use Rattle.elf.specs.declared.error.LoaderError.{LoaderError}
 use Rattle.elf.specs.declared.error.LoaderError.TheVariants.{OutOfMemory, PathNotUtf8}
 use Rattle.elf.specs.Loading.{Loading}
 use Rattle.addr2line_units.specs.declared.frames.OnFault.TheVariants.{Stop}
-use Rattle.addr2line_units.specs.FramesLookup.{answer_of, is_waiting}
+use Rattle.addr2line_units.specs.Frames.{FrameRecord}
+use Rattle.addr2line_units.specs.FramesLookup.{answer_of, frames_found, is_waiting}
 use Rattle.addr2line_units.specs.Parsed.{StaysParsed}
-use Rattle.addr2line_units.specs.Views.{FirstAnswers, SplitLoad}
-use Rattle.addr2line.specs.Answers.{answered}
+use Rattle.addr2line_units.specs.Views.{FirstAnswers}
 use Rattle.addr2line.specs.Context.{ContextState}
 use Rattle.addr2line.specs.Files.{ReadFiles}
-use Rattle.addr2line.specs.FramesByFiles.{frames_by_files}
+use Rattle.addr2line.specs.FramesByFiles.{ended_frames_of, frames_by_files}
 use Rattle.addr2line.specs.History.{Given, answers_given}
-use Rattle.addr2line.specs.Lookups.{IsLoadOf, lookup_stop}
-use Rattle.addr2line.specs.AfterLookups.{TakesMemory}
+use Rattle.addr2line.specs.Lookups.{lookup_stop}
+use Rattle.addr2line.specs.AfterLookups.{IsKnown, IsKnownFew, ReadsAsked, TakesMemory}
 use Rattle.addr2line_units.specs.StaysKnown.{StaysKnownOf}
-use Rattle.addr2line.specs.SplitFiles.{given_by_files}
 
 -- first answers stay
 abbrev pub StayAnswered : FirstAnswers → FirstAnswers → Type 0
@@ -63,11 +63,6 @@ pub record AfterAnswers (files : Option ReadFiles) (old new : ContextState) : Ty
       → StaysKnownOf n old.known new.known
   pub raised : old.looks ≤ new.looks
 
--- the unit of a number was answered, or nothing was
-abbrev pub AnswersOne : ℕ → ContextState → ContextState → Type 0
-AnswersOne n old new = (new.answers ≡ old.answers) ⊎ ((given : Option Sections)
-    × (new.answers ≡ answered old.sections old.answers n given))
-
 -- a lookup of the probe was given answers in turn, each for the unit that it waited for by then; no
 -- other unit was answered
 abbrev pub AnswersInTurn : ℕ → ContextState → ContextState → Type 0
@@ -83,12 +78,33 @@ abbrev pub HasEnded : {X : Type 0} → Loading X → Type 0
 HasEnded (Ok x) = Unit {0}
 HasEnded (Err e) = IsUnitFault e
 
--- this is what the files, where they are known, answer to the load of the unit of a number
-abbrev pub IsAnswerByFiles : Option ReadFiles → Sections → ℕ → Option Sections → Type 0
-IsAnswerByFiles files d n given = (load : SplitLoad) × IsLoadOf d n load
-    × IfSome files (λ held. given_by_files held load ≡ Ok given)
-
 -- where the files are known, the refusal is the fault of the frames by them, or OutOfMemory
 abbrev pub IsFaultByFiles : Option ReadFiles → ContextState → ℕ → LoaderError → Type 0
 IsFaultByFiles files c probe e = IfSome files (λ held. e ≢ OutOfMemory
     → frames_by_files held c.sections c.answers probe ≡ Err e)
+
+-- a lookup of frames at the probe that gives these has answered the loads that it came to by files:
+-- no other unit was answered, and nothing was read but what it asks for; once it has ended, at a
+-- fault too, each unit that it came to is decided, all is known that it asks for, and what it gives
+-- is by the first answers which are left, whatever the files are. A path that isn't UTF-8 leaves
+-- the unit open that it came to. Memory is refused only where it waits still, or asks a unit of
+-- which something is left to read, or in which more than 16 inlined functions stand there
+pub record AfterFramesByFiles (probe : ℕ) (given : Loading (List FrameRecord))
+    (old new : ContextState) : Type 0 where
+  pub in_turn : AnswersInTurn probe old new
+  pub only : ReadsAsked Stop probe old new
+  pub ended : HasEnded given → WaitsForNone new probe
+  pub ready : HasEnded given → IsKnown Stop new probe
+  pub told : HasEnded given → ended_frames_of new probe ≡ given
+  pub waits : IfErr given (λ e. e ≡ PathNotUtf8 → WaitsForOne new probe)
+  pub memory : WaitsForNone new probe → IsKnownFew Stop new probe
+      → IfErr given (λ e. e ≢ OutOfMemory)
+  pub refused : IfErr given (λ e. e ≡ OutOfMemory → MayLackMemory new probe)
+
+-- the loads of a lookup of frames were answered by files, and what it came to is stored, as the
+-- private functions see it
+pub record AnswersByFiles (files : Option ReadFiles) (probe : ℕ) (result : Loading (Unit {0}))
+    (old new : ContextState) : Type 0 where
+  pub answers : AfterAnswers files old new
+  pub lookup : AfterFramesByFiles probe (result_map (λ _. frames_found new.stop) result) old new
+  pub refused : IfErr result (IsFaultByFiles files old probe)

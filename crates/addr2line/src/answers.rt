@@ -1,13 +1,16 @@
 //! Answers to the loads of units.
 
-ghost use Rattle.std.specs.Prelude.{◌≡◌, ◌<◌, ℕ, Err, IfErr, OnOk, false, option_map, true};
+ghost use Rattle.std.specs.Prelude.{◌≡◌, Err, IfErr, None, OnOk, false, option_map};
+ghost use Rattle.gimli_read.specs.declared.error.Error.TheVariants.{OutOfMemory};
+ghost use Rattle.addr2line_units.specs.declared.frames.OnFault.TheVariants.{Skip};
 ghost use Rattle.addr2line_units.specs.AnswerMemory.{answer_takes_memory};
-ghost use Rattle.addr2line_units.specs.declared.frames.OnFault.{OnFault};
+ghost use Rattle.addr2line_units.specs.UnitsState.{waiting_unit};
+ghost use Rattle.addr2line.specs.AfterLookups.{IsStored};
 ghost use Rattle.addr2line.specs.Answers.{AfterAnswering, load_reply};
-ghost use Rattle.addr2line.specs.Lookups.{lookup_stop, waits_for};
-ghost use Rattle.addr2line.specs.WaitingLookups.{count_loads};
+ghost use Rattle.addr2line.specs.Skips.{AfterSkip};
 
 use crate::context::Context;
+use addr2line_units::frames::OnFault;
 use gimli::Dwarf;
 use gimli::read::{Error, Reader};
 use std::rc::Rc;
@@ -25,10 +28,24 @@ impl<R: Reader> Context<R> {
         ensures no_memory { answer_takes_memory R.shares (option_map (λ d. d.value) sections)
             ≡ false → IfErr result (λ e. load_reply self.old.sections self.old.answers number
             (option_map (λ d. d.value) sections) ≡ Err e) }
-        ensures shorter { (faults : OnFault) (probe : ℕ) → waits_for number
-            (lookup_stop faults self.old.sections self.old.answers probe) ≡ true
-            → OnOk result (count_loads self.new probe < count_loads self.old probe) }
     {
         self.units.answer(number, sections)
+    }
+
+    // Stores what a lookup comes to, where each load that it waits for is answered `None`. What it
+    // asks for is read and cached.
+    pub(crate) fn skip_loads(&mut self, probe: u64, faults: OnFault) -> Result<(), Error>
+        ensures gives { IsStored faults probe result self.new }
+        ensures refused { faults ≡ Skip → IfErr result (λ e. e ≡ OutOfMemory) }
+        ensures none { OnOk result (waiting_unit self.new.stop ≡ None) }
+        ensures after { AfterSkip R.shares faults probe result self.old self.new }
+    {
+        loop {
+            self.walk(probe, faults)?;
+            match self.waits_for() {
+                Some(number) => self.answer(number, None)?,
+                None => return Ok(()),
+            }
+        }
     }
 }

@@ -79,7 +79,7 @@ impl<R: Reader> Context<R> {
             SuspendsIn Stop self.entry probe c.ctx c.probe c.number c.load) }
         ensures gives { IfOutput result (λ o. ExactlyUnlessOom (λ i. Some (frames_left i)) o
             (frames_of_context self.old probe)) }
-        ensures last { probe ≡ last_address → IsOkOutput result }
+        ensures last { probe ≡ last_address → IsUncovered self.old probe }
         ensures none { IsUncovered self.old probe → IsOkOutput result }
     {
         begin(self, probe)

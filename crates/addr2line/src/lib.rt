@@ -18,7 +18,6 @@ mod opened;
 mod parses;
 mod reply;
 mod session;
-mod skips;
 mod split_files;
 mod stops;
 mod suspended;

@@ -82,7 +82,7 @@ impl<R: Reader> Context<R> {
         ensures gives { IfOutput result
             (λ o. ExactlyUnlessOom seen_found o (unit_of_context self.old probe)) }
         ensures refused { IfOutput result (λ o. IfErr o (λ e. e ≡ OutOfMemory)) }
-        ensures last { probe ≡ last_address → IsOkOutput result }
+        ensures last { probe ≡ last_address → IsUncovered self.old probe }
         ensures none { IsUncovered self.old probe → IsOkOutput result }
     {
         begin(self, probe)

@@ -1,11 +1,16 @@
-use Rattle.std.proofs.Common.{length}
+use Rattle.std.proofs.Common.{◌≡◌}
 use Rattle.addr2line.specs.Files.{as_read_if_known}
-use Rattle.addr2line.specs.Lookups.{loads_at}
-use Rattle.addr2line.proofs.ByFilesLemmas.{HasAnswered}
+use Rattle.addr2line.specs.WaitingLookups.{count_loads}
+use Rattle.addr2line.proofs.ByFilesLemmas.{WaitsByFiles}
 use Rattle.addr2line.proofs.by_files.answer_loads.Given as goal
 
-abbrev pub invariant-loop-ctx : goal.invariant-loop-ctx
-invariant-loop-ctx g l = HasAnswered (as_read_if_known l.fn.compressed (g.F.FileSource.files l.fn.files)) l.fn.probe l.fn.ctx l.ctx
+-- the lookup that waits has answered the loads so far
+abbrev pub invariant-loop-sections : goal.invariant-loop-sections
+invariant-loop-sections g l = record {
+  name : l.next.ctx.ghost_name ≡ l.initial.next.ctx.ghost_name;
+  probe : l.next.probe ≡ l.fn.probe;
+  so : WaitsByFiles (as_read_if_known l.fn.compressed (g.F.FileSource.files l.fn.files)) l.fn.probe l.fn.ctx l.next.number l.next.load l.next.ctx.now;
+}
 
-abbrev pub decreases-loop-ctx : goal.decreases-loop-ctx
-decreases-loop-ctx g l = length (loads_at l.ctx.sections l.ctx.answers l.fn.probe)
+abbrev pub decreases-loop-sections : goal.decreases-loop-sections
+decreases-loop-sections g l = count_loads l.next.ctx.now l.next.probe

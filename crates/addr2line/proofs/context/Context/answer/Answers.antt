@@ -1,5 +1,5 @@
 use Rattle.std.proofs.Common.{option_map, sym}
-use Rattle.addr2line.proofs.AnsweredLemmas.{after_answer, fewer_after, read_context, reply_alone}
+use Rattle.addr2line.proofs.AnsweredLemmas.{after_answer, read_context, reply_alone}
 use Rattle.addr2line.proofs.context.Context.answer.Goals as goal
 
 pub invariant_of-self : goal.invariant_of-self
@@ -11,11 +11,6 @@ pub returns-clause-after : goal.returns-clause-after
 returns-clause-after g c =
     let s = c.self.inside in
     rw (sym c.self.view_is) (after_answer s.ranges s.units c.self.invariant c.args.number (option_map (λ d. d.value) c.args.sections) c.answer.result c.answer.new.self c.answer.ensures.after)
-
-pub returns-clause-shorter : goal.returns-clause-shorter
-returns-clause-shorter g c =
-    let s = c.self.inside in
-    rw (sym c.self.view_is) (fewer_after s.ranges s.units c.self.invariant c.args.number (option_map (λ d. d.value) c.args.sections) c.answer.result c.answer.new.self c.answer.ensures.after)
 
 pub returns-clause-no_memory : goal.returns-clause-no_memory
 returns-clause-no_memory g c =

@@ -17,5 +17,5 @@ returns g c =
     let ends = λ (u : IsUncovered old probe). uncovered_ends Skip probe old u g.R.Reader.shares seen_found (unit_of_context old probe) (uncovered_ok Skip unit_value probe old u) _ c.begin.result
     (if_load _ _ c.begin.result (λ x h. (x.number, h.2.waits)) e.left) f.holds-at-none e.gives in (
       (refl, f.holds, f.holds-at-none),
-      record { ends = tt; left = e.left; gives = e.gives; refused = e.refused refl; last = λ q. ends (e.last q); none = ends },
+      record { ends = tt; left = e.left; gives = e.gives; refused = e.refused refl; last = e.last; none = ends },
     )

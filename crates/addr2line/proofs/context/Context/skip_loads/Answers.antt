@@ -1,7 +1,7 @@
 use Rattle.std.proofs.Common.{Err, ap, rules}
 use Rattle.std.proofs.lemmas.Result.{err_from_is_err_and}
 use Rattle.addr2line_units.specs.FramesLookup.{is_waiting}
-use Rattle.addr2line.proofs.SkippedLemmas.{after_skip, fault_now, skipped_look, skipped_more, skipped_none, skipped_refused, told_ended, told_waits, waits_true}
+use Rattle.addr2line.proofs.SkippedLemmas.{after_skip, fault_now, skipped_look, skipped_more, skipped_none, skipped_refused, told_ended, told_waits}
 use Rattle.addr2line.proofs.context.Context.skip_loads.Goals as goal
 
 pub loop-self-init : goal.loop-self-init
@@ -22,7 +22,7 @@ loop-self-preserved g c =
     let mid = c.walk.new.self in
     let waits = told_waits n mid.stop _ c.in_ok-walk.ensures.gives (search rules) in
     let e = c.in_ok-answer-in-Some.ensures in
-    skipped_more c.args.faults c.args.probe c.args.self.now mid (skipped_look c.args.faults c.args.probe c.args.self.now c.loop-self.self c.loop-self.invariant _ mid a) n c.answer.new.self waits e.after (e.shorter c.args.faults c.args.probe (waits_true n _ waits))
+    skipped_more c.args.faults c.args.probe c.args.self.now mid (skipped_look c.args.faults c.args.probe c.args.self.now c.loop-self.self c.loop-self.invariant _ mid a) n c.answer.new.self waits e.after
 
 pub returns-in_err-answer-in-Some-clause-after : goal.returns-in_err-answer-in-Some-clause-after
 returns-in_err-answer-in-Some-clause-after g c =

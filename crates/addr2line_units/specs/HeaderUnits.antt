@@ -1,6 +1,7 @@
 -- The units of headers as they are read, one after another, with where memory may be taken for them
 -- (DWARF 5, section 7.5.1).
--- Own: a unit is read whole before the next header; the first fault counts.
+-- Own: a unit is read whole before the next header; the first fault counts. Where readers share
+-- their bytes a second reader of the headers takes memory, even if there is no header.
 use Rattle.std.specs.Prelude.{Bool, List, [], ◌∷◌, ◌++◌, is_ok, Option, option_to_list, Result, Ok}
 use Rattle.gimli_read.specs.declared.error.Error.{Error}
 use Rattle.gimli_read.specs.Costed.{Costed, ◌>>=◌, free, parts_on_the_way}

@@ -15,7 +15,7 @@ use Rattle.addr2line_units.specs.declared.continuation.LookupResult.{LookupResul
 use Rattle.addr2line_units.specs.declared.continuation.LookupResult.TheVariants.{Output}
 use Rattle.addr2line_units.specs.declared.frames.OnFault.TheVariants.{Stop}
 use Rattle.addr2line_units.specs.Frames.{FrameRecord}
-use Rattle.addr2line_units.specs.FramesLookup.{Waits, answer_of, frames_found, is_waiting}
+use Rattle.addr2line_units.specs.FramesLookup.{Waits, answer_of, is_waiting}
 use Rattle.gimli_read.specs.Reading.{WasNotRefused, result_map}
 use Rattle.addr2line_units.specs.Parsed.{StaysParsed, has_parsed}
 use Rattle.addr2line_units.specs.StaysKnown.{StaysKnown}
@@ -25,7 +25,7 @@ use Rattle.addr2line.specs.Answers.{AfterAnswering, AfterResume, SuspendsAgain, 
 use Rattle.addr2line.specs.Context.{ContextState}
 use Rattle.addr2line.specs.declared.compressed.CompressedSections.{CompressedSections}
 use Rattle.addr2line.specs.Files.{Files, ReadFiles, as_read, as_read_if_known}
-use Rattle.addr2line.specs.FramesByFiles.{ended_frames_of, frames_by_files, stop_frames}
+use Rattle.addr2line.specs.FramesByFiles.{frames_by_files, stop_frames}
 use Rattle.addr2line.specs.History.{Given, Answered}
 use Rattle.addr2line.specs.LoadsByFiles.{AfterAnswers, AfterFramesByFiles, AnswersByFiles, AnswersInTurn, IsFaultByFiles, IsUnitFault, StayAnswered, WaitsForNone}
 use Rattle.addr2line.specs.AfterLookups.{AfterFrames, AfterFramesOver, IsKnown, IsKnownFew, IsStored, ReadsAsked, Suspends}

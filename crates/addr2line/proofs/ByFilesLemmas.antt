@@ -15,8 +15,8 @@ use Rattle.addr2line_units.specs.declared.continuation.LookupResult.{LookupResul
 use Rattle.addr2line_units.specs.declared.continuation.LookupResult.TheVariants.{Output}
 use Rattle.addr2line_units.specs.declared.frames.OnFault.TheVariants.{Stop}
 use Rattle.addr2line_units.specs.Frames.{FrameRecord}
-use Rattle.addr2line_units.specs.FramesLookup.{Waits, answer_of, frames_found, is_waiting}
-use Rattle.gimli_read.specs.Reading.{WasNotRefused, result_map}
+use Rattle.addr2line_units.specs.FramesLookup.{Waits, answer_of, is_waiting}
+use Rattle.gimli_read.specs.Reading.{result_map}
 use Rattle.addr2line_units.specs.Parsed.{StaysParsed, has_parsed}
 use Rattle.addr2line_units.specs.StaysKnown.{StaysKnown}
 use Rattle.addr2line_units.specs.Suspended.{IfOutput}
@@ -25,10 +25,10 @@ use Rattle.addr2line.specs.Answers.{AfterAnswering, AfterResume, SuspendsAgain, 
 use Rattle.addr2line.specs.Context.{ContextState}
 use Rattle.addr2line.specs.declared.compressed.CompressedSections.{CompressedSections}
 use Rattle.addr2line.specs.Files.{Files, ReadFiles, as_read, as_read_if_known}
-use Rattle.addr2line.specs.FramesByFiles.{ended_frames_of, frames_by_files, stop_frames}
+use Rattle.addr2line.specs.FramesByFiles.{frames_by_files, stop_frames}
 use Rattle.addr2line.specs.History.{Given, Answered}
 use Rattle.addr2line.specs.LoadsByFiles.{AfterAnswers, AfterFramesByFiles, AnswersByFiles, AnswersInTurn, IsFaultByFiles, IsUnitFault, StayAnswered, WaitsForNone}
-use Rattle.addr2line.specs.AfterLookups.{AfterFrames, AfterFramesOver, IsKnown, IsKnownFew, IsStored, ReadsAsked, Suspends}
+use Rattle.addr2line.specs.AfterLookups.{AfterFrames, AfterFramesOver, IsKnownFew, ReadsAsked, Suspends}
 use Rattle.addr2line.specs.Lookups.{IsLoadOf, loads_at, lookup_stop}
 use Rattle.addr2line.specs.SplitFiles.{LeavesOpen, given_by_files, of_file}
 use Rattle.addr2line.proofs.AskedLemmas.{reads_answered, reads_more, reads_nothing}
@@ -97,9 +97,9 @@ module _ (files : Option ReadFiles) where
   fault_before old mid probe e a h = if_some_both files a.frames h (λ held p q ne. sym (p probe) ∙ q ne)
 
   module _ (probe n : ℕ) (load : SplitLoad) (old : ContextState) (waits : lookup_stop Stop old.sections old.answers probe ≡ Ok (Waits n)) (is : IsLoadOf old.sections n load) where
-    -- the load was answered by a file, or memory was refused for it
-    answered_by_file : (given : Option Sections) → IfSome files (λ held. given_by_files held load ≡ Ok given) → (r : Result (Unit {0}) Error) (new : ContextState) → AfterAnswering n given r old new → AfterAnswers files old new
-    answered_by_file given h (Ok x) new a = record {
+    -- the load was answered by a file
+    answered_by_file : (given : Option Sections) → IfSome files (λ held. given_by_files held load ≡ Ok given) → (new : ContextState) → AfterAnswering n given (Ok tt) old new → AfterAnswers files old new
+    answered_by_file given h new a = record {
       sections = a.sections;
       answers = subst (λ x. StayAnswered old.answers x) (sym a.answers) (first_answers_stay old.sections old.answers probe n load waits is given);
       frames = if_some_map files h (λ held e q. ap (λ d. frames_by_files held d new.answers q) a.sections ∙ ap (λ x. frames_by_files held old.sections x q) a.answers
@@ -116,8 +116,6 @@ module _ (files : Option ReadFiles) where
             (subst (λ x. length (loads_at old.sections x probe) < length (loads_at old.sections old.answers probe)) a.answers
             (subst (λ d. length (loads_at d new.answers probe) < length (loads_at old.sections old.answers probe)) a.sections (a.shorter Stop probe (waits_true n _ waits))))
             (subst (λ x. answer_of x n ≡ answer_of old.answers n) a.answers (subst (λ i. answer_of new.answers i ≡ answer_of old.answers i) q same))
-    answered_by_file given h (Err e) new a =
-        unchanged old new a.sections a.refused.1 (λ k q. subst (λ p. has_parsed p k ≡ true) (sym a.parsed) q) a.refused.2 (subst (λ l. old.looks ≤ l) (sym a.looks) (omega arith))
 
     -- the files refused the load
     refused_by_file : (e : LoaderError) → IfSome files (λ held. e ≢ OutOfMemory → given_by_files held load ≡ Err e) → IsFaultByFiles files old probe e
@@ -147,14 +145,6 @@ pub record WaitsByFiles (files : Option ReadFiles) (probe : ℕ) (first : Contex
   pub waits : lookup_stop Stop now.sections now.answers probe ≡ Ok (Waits n)
   pub own : IsLoadOf now.sections n load
 
--- it has ended
-pub record EndsByFiles {X : Type 0} (files : Option ReadFiles) (probe : ℕ) (first : ContextState) (o : Result X Error) (now : ContextState) : Type 0 where
-  pub so : HasAnswered files probe first now
-  pub stored : IsStored Stop probe o now
-  pub ended : WasNotRefused o → WaitsForNone now probe
-  pub ready : WasNotRefused o → IsKnown Stop now probe
-  pub memory : WaitsForNone now probe → IsKnownFew Stop now probe → WasNotRefused o
-
 module _ (files : Option ReadFiles) (probe : ℕ) (first : ContextState) where
   none_answered : HasAnswered files probe first first
   none_answered = record { after = unchanged files first first refl refl (λ n e. e) (λ n. same_stays_known n first.known first.known refl) (omega arith); only = reads_nothing Stop probe first; given = []; so = λ rest. refl }
@@ -178,120 +168,109 @@ module _ (files : Option ReadFiles) (probe : ℕ) (first : ContextState) where
       own = subst (λ d. IsLoadOf d n load) (sym s.after.sections) s.load;
     }
 
-    ends_then : {X : Type 0} (shares : Bool) (o : Result X Error) (new : ContextState) → AfterFramesOver shares Stop probe o now new → EndsByFiles files probe first o new
-    ends_then shares o new a = record {
-      so = looked o new a.after;
-      stored = a.stored;
-      ended = a.ended;
-      ready = a.after.ready;
-      memory = λ w few. a.after.memory few (ap is_waiting (sym (same_stop probe now new a.after.sections a.after.answers)) ∙ w);
-    }
+  -- it has ended
+  module _ {X : Type 0} (shares : Bool) (now : ContextState) (h : HasAnswered files probe first now) (new : ContextState) where
+    ended_with : (o : Result X Error) → AfterFramesOver shares Stop probe o now new → AnswersByFiles files probe (of_file (result_map (λ _. tt {0}) o)) first new
+    ended_with (Ok x) a =
+        let so = looked now h (Ok x) new a.after in record {
+          answers = so.after;
+          lookup = record {
+            in_turn = in_turn new so;
+            only = so.only;
+            ended = λ _. a.ended tt;
+            ready = λ _. a.after.ready tt;
+            told = λ _. ap stop_frames a.stored;
+            waits = tt;
+            memory = λ none few. tt;
+            refused = tt;
+          };
+          refused = tt;
+        }
+    ended_with (Err e) a =
+        let so = looked now h {X = X} (Err e) new a.after in
+        let memory = λ (none : WaitsForNone new probe) (few : IsKnownFew Stop new probe).
+        not_told e (a.after.memory few (ap is_waiting (sym (same_stop probe now new a.after.sections a.after.answers)) ∙ none)) in record {
+          answers = so.after;
+          lookup = record {
+            in_turn = in_turn new so;
+            only = so.only;
+            ended = λ fault. a.ended (no_oom e fault.0);
+            ready = λ fault. a.after.ready (no_oom e fault.0);
+            told = λ fault. ap stop_frames (a.stored (no_oom e fault.0));
+            waits = λ q. absurd (no_path e q);
+            memory = memory;
+            refused = lacks_memory (loader_error_of e) new probe memory;
+          };
+          refused = fault_before files first new probe (loader_error_of e) so.after (stop_fault files new probe e (λ ne. a.stored (no_oom e ne)));
+        }
 
-  -- what is left where it has ended
-  ended_after : {X : Type 0} (now : ContextState) (o : Result X Error) → EndsByFiles files probe first o now → AnswersByFiles files probe (of_file (result_map (λ _. tt {0}) o)) first now
-  ended_after now (Ok x) h = record {
-    answers = h.so.after;
-    lookup = record {
-      in_turn = in_turn now h.so;
-      only = h.so.only;
-      ended = λ _. h.ended tt;
-      ready = λ _. h.ready tt;
-      told = λ _. ap stop_frames h.stored;
-      waits = tt;
-      memory = λ none few. tt;
-      refused = tt;
-    };
-    refused = tt;
-  }
-  ended_after now (Err e) h = record {
-    answers = h.so.after;
-    lookup = record {
-      in_turn = in_turn now h.so;
-      only = h.so.only;
-      ended = λ fault. h.ended (no_oom e fault.0);
-      ready = λ fault. h.ready (no_oom e fault.0);
-      told = λ fault. ap stop_frames (h.stored (no_oom e fault.0));
-      waits = λ q. absurd (no_path e q);
-      memory = memory;
-      refused = lacks_memory (loader_error_of e) now probe memory;
-    };
-    refused = fault_before files first now probe (loader_error_of e) h.so.after (stop_fault files now probe e (λ ne. h.stored (no_oom e ne)));
-  }
-    where
-      memory : WaitsForNone now probe → IsKnownFew Stop now probe → loader_error_of e ≢ OutOfMemory
-      memory none few = not_told e (h.memory none few)
-
-  ended_as : {X : Type 0} (now : ContextState) (o : Result X Error) → EndsByFiles files probe first o now → (r : Loading (Unit {0})) → r ≡ of_file (result_map (λ _. tt) o) → AnswersByFiles files probe r first now
-  ended_as now o h r is = subst (λ q. AnswersByFiles files probe q first now) (sym is) (ended_after now o h)
+    ends_then : (o : Result X Error) → AfterFramesOver shares Stop probe o now new → (r : Loading (Unit {0})) → r ≡ of_file (result_map (λ _. tt) o) → AnswersByFiles files probe r first new
+    ends_then o a r is = subst (λ q. AnswersByFiles files probe q first new) (sym is) (ended_with o a)
 
   -- it waits at first, or ends at once
   pub begins_waiting : (n : ℕ) (load : SplitLoad) (new : ContextState) → Suspends Stop probe n load first new → WaitsByFiles files probe first n load new
   begins_waiting = waits_then first none_answered
 
   pub ends_at_once : {X : Type 0} (shares : Bool) (o : Result X Error) (new : ContextState) → AfterFramesOver shares Stop probe o first new → (r : Loading (Unit {0})) → r ≡ of_file (result_map (λ _. tt) o) → AnswersByFiles files probe r first new
-  ends_at_once shares o new a r is = ended_as new o (ends_then first none_answered shares o new a) r is
+  ends_at_once shares o new a r is = ends_then shares first none_answered new o a r is
 
-  module _ (n : ℕ) (load : SplitLoad) (now : ContextState) (w : WaitsByFiles files probe first n load now) where
-    -- the load was answered by a file
-    module _ (x : Option Sections) (by : IfSome files (λ held. given_by_files held load ≡ Ok x)) where
-      answered_then : (r : Result (Unit {0}) Error) (new : ContextState) → AfterAnswering n x r now new → HasAnswered files probe first new
-      answered_then (Ok y) new a = record {
-        after = then_answered files first now new w.so.after (answered_by_file files probe n load now w.waits w.own x by (Ok y) new a);
-        only = reads_answered Stop probe n first now new w.waits w.so.only x (Ok y) a;
-        given = w.so.given ++ (Answered x ∷ []);
-        so = subst (λ y. HasGiven Stop first.sections probe first.answers (w.so.given ++ (Answered x ∷ [])) y) (sym (a.answers ∙ ap (λ d. answered d now.answers n x) w.so.after.sections))
-            (given_more Stop first.sections probe first.answers now.answers w.so.given w.so.so n x (ap (λ d. lookup_stop Stop d now.answers probe) (sym w.so.after.sections) ∙ w.waits) (w.so.given ++ (Answered x ∷ [])) (append_assoc w.so.given (Answered x ∷ [])));
-      }
-      answered_then (Err e) new a = record {
-        after = then_answered files first now new w.so.after (answered_by_file files probe n load now w.waits w.own x by (Err e) new a);
-        only = reads_answered Stop probe n first now new w.waits w.so.only x (Err e) a;
+  -- the load was refused, and it still waits
+  module _ (n : ℕ) (load : SplitLoad) (now : ContextState) (w : WaitsByFiles files probe first n load now) (e : LoaderError) (h : LeavesOpen e) where
+    no_end : IsUnitFault e → ⊥
+    no_end fault = elim h [ inl q ↦ fault.0 q | inr q ↦ fault.1 q ]
+
+    pub given_up : IfSome files (λ held. e ≢ OutOfMemory → given_by_files held load ≡ Err e) → (new : ContextState) → new ≡ now → AnswersByFiles files probe (Err e) first new
+    given_up refusal new same = subst (AnswersByFiles files probe (Err e) first) (sym same) (record {
+      answers = w.so.after;
+      lookup = record {
+        in_turn = in_turn now w.so;
+        only = w.so.only;
+        ended = λ fault. absurd (no_end fault);
+        ready = λ fault. absurd (no_end fault);
+        told = λ fault. absurd (no_end fault);
+        waits = λ _. ap is_waiting w.waits;
+        memory = λ none few. absurd (waits_no_more probe n now none w.waits);
+        refused = λ _. inl (ap is_waiting w.waits);
+      };
+      refused = fault_before files first now probe e w.so.after (refused_by_file files probe n load now w.waits w.own e refusal);
+    })
+
+  -- the load was answered by a file
+  module _ (n : ℕ) (load : SplitLoad) (now : ContextState) (w : WaitsByFiles files probe first n load now) (x : Option Sections) (by : IfSome files (λ held. given_by_files held load ≡ Ok x)) where
+    answered_then : (new : ContextState) → AfterAnswering n x (Ok tt) now new → HasAnswered files probe first new
+    answered_then new a = record {
+      after = then_answered files first now new w.so.after (answered_by_file files probe n load now w.waits w.own x by new a);
+      only = reads_answered Stop probe n first now new w.waits w.so.only x (Ok tt) a;
+      given = w.so.given ++ (Answered x ∷ []);
+      so = subst (λ y. HasGiven Stop first.sections probe first.answers (w.so.given ++ (Answered x ∷ [])) y) (sym (a.answers ∙ ap (λ d. answered d now.answers n x) w.so.after.sections))
+          (given_more Stop first.sections probe first.answers now.answers w.so.given w.so.so n x (ap (λ d. lookup_stop Stop d now.answers probe) (sym w.so.after.sections) ∙ w.waits) (w.so.given ++ (Answered x ∷ [])) (append_assoc w.so.given (Answered x ∷ [])));
+    }
+
+    -- memory was refused for it
+    refused_then : (new : ContextState) → AfterAnswering n x (Err reading.OutOfMemory) now new → WaitsByFiles files probe first n load new
+    refused_then new a = record {
+      so = record {
+        after = then_answered files first now new w.so.after
+            (unchanged files now new a.sections a.refused.1 (λ k q. subst (λ p. has_parsed p k ≡ true) (sym a.parsed) q) a.refused.2 (subst (λ l. now.looks ≤ l) (sym a.looks) (omega arith)));
+        only = reads_answered Stop probe n first now new w.waits w.so.only x (Err reading.OutOfMemory) a;
         given = w.so.given;
         so = subst (λ y. HasGiven Stop first.sections probe first.answers w.so.given y) (sym a.refused.1) w.so.so;
-      }
+      };
+      waits = same_stop probe now new a.sections a.refused.1 ∙ w.waits;
+      own = subst (λ d. IsLoadOf d n load) (sym a.sections) w.own;
+    }
 
-      pub goes_on : (k : ℕ) (next : SplitLoad) (new : ContextState) → SuspendsAgain Stop probe n x k next now new → WaitsByFiles files probe first k next new
-      goes_on k next new (mid, a, s) = waits_then mid (answered_then (Ok tt) mid a) k next new s
+    pub goes_on : (k : ℕ) (next : SplitLoad) (new : ContextState) → SuspendsAgain Stop probe n x k next now new → WaitsByFiles files probe first k next new
+    goes_on k next new (mid, a, s) = waits_then mid (answered_then mid a) k next new s
 
-      then_ended : {X : Type 0} (shares : Bool) (o : Result X Error) (new : ContextState) → AfterResume shares Stop probe n x o now new → EndsByFiles files probe first o new
-      then_ended {X = X} shares o new after = elim after [
-        | inl (mid, a, b) ↦ ends_then mid (answered_then (Ok tt) mid a) shares o new b
-        | inr (e, a, none) ↦ subst (λ r. EndsByFiles files probe first r new) (sym e) (refused a)
-      ]
-        where
-          refused : AfterAnswering n x (Err reading.OutOfMemory) now new → EndsByFiles {X = X} files probe first (Err reading.OutOfMemory) new
-          refused a = record {
-            so = answered_then (Err reading.OutOfMemory) new a;
-            stored = λ ne. absurd (ne refl);
-            ended = λ ne. absurd (ne refl);
-            ready = λ ne. absurd (ne refl);
-            memory = λ none few. absurd (waits_no_more probe n new none (same_stop probe now new a.sections a.refused.1 ∙ w.waits));
-          }
-
-      pub ends_resumed : {L D S X : Type 0} (shares : Bool) (result : LookupResult L (Result X Error) D S) (o : Result X Error) → result ≡ Output o → (asked : ℕ) → asked ≡ probe → (new lender : ContextState) → new ≡ lender
-          → IfOutput result (λ q. AfterResume shares Stop asked n x q now lender) → (r : Loading (Unit {0})) → r ≡ of_file (result_map (λ _. tt) o) → AnswersByFiles files probe r first new
-      ends_resumed shares result o is asked same new lender ends rests r given =
-          ended_as new o (then_ended shares o new (resumed_output shares Stop probe n x now result o is asked same new lender ends rests)) r given
-
-    -- the load was refused, and it still waits
-    module _ (e : LoaderError) (h : LeavesOpen e) where
-      no_end : IsUnitFault e → ⊥
-      no_end fault = elim h [ inl q ↦ fault.0 q | inr q ↦ fault.1 q ]
-
-      pub given_up : IfSome files (λ held. e ≢ OutOfMemory → given_by_files held load ≡ Err e) → (new : ContextState) → new ≡ now → AnswersByFiles files probe (Err e) first new
-      given_up refusal new same = subst (AnswersByFiles files probe (Err e) first) (sym same) (record {
-        answers = w.so.after;
-        lookup = record {
-          in_turn = in_turn now w.so;
-          only = w.so.only;
-          ended = λ fault. absurd (no_end fault);
-          ready = λ fault. absurd (no_end fault);
-          told = λ fault. absurd (no_end fault);
-          waits = λ _. ap is_waiting w.waits;
-          memory = λ none few. absurd (waits_no_more probe n now none w.waits);
-          refused = λ _. inl (ap is_waiting w.waits);
-        };
-        refused = fault_before files first now probe e w.so.after (refused_by_file files probe n load now w.waits w.own e refusal);
-      })
+    pub ends_resumed : {L D S X : Type 0} (shares : Bool) (result : LookupResult L (Result X Error) D S) (o : Result X Error) → result ≡ Output o → (asked : ℕ) → asked ≡ probe → (new lender : ContextState) → new ≡ lender
+        → IfOutput result (λ q. AfterResume shares Stop asked n x q now lender) → (r : Loading (Unit {0})) → r ≡ of_file (result_map (λ _. tt) o) → AnswersByFiles files probe r first new
+    ends_resumed shares result o is asked same new lender ends rests r told =
+        elim (resumed_output shares Stop probe n x now result o is asked same new lender ends rests) [
+          | inl (mid, a, b) ↦ ends_then shares mid (answered_then mid a) new o b r told
+          | inr (e, a, none) ↦ subst (λ q. AnswersByFiles files probe q first new) (sym (told ∙ ap (λ q. of_file (result_map (λ _. tt {0}) q)) e))
+              (given_up n load new (refused_then new a) OutOfMemory (inl refl) (always files (λ held ne. absurd (ne refl))) new refl)
+        ]
 
 -- what a lookup gives by files
 module _ (files : Option ReadFiles) (probe : ℕ) (first now : ContextState) (a : AfterAnswers files first now) where

@@ -11,7 +11,7 @@ use Rattle.addr2line_units.specs.declared.frames.OnFault.{OnFault}
 use Rattle.addr2line_units.specs.declared.frames.OnFault.TheVariants.{Stop, Skip}
 use Rattle.addr2line_units.specs.Cover.{cover}
 use Rattle.addr2line_units.specs.Frames.{FrameRecord}
-use Rattle.addr2line_units.specs.FramesLookup.{LookupAsks, LookupStop, Waits, Finds, FindsNothing, asked_frames, frames_found, frames_of_number, main_scope, readable_view, stop_along, view_of_number}
+use Rattle.addr2line_units.specs.FramesLookup.{LookupAsks, LookupStop, Waits, Finds, asked_frames, frames_found, frames_of_number, main_scope, readable_view, stop_along, view_of_number}
 use Rattle.addr2line_units.specs.LoadLaws.{loads_of}
 use Rattle.addr2line_units.specs.UnitIndex.{UnitIndex, index_units}
 use Rattle.addr2line_units.specs.RangedUnits.{unit_records}

@@ -1,4 +1,4 @@
-use Rattle.std.proofs.Common.{◌≡◌, Some, None, Ok, option_map, ap, sym, subst, refl, ◌∙◌}
+use Rattle.std.proofs.Common.{◌≡◌, Some, Ok, option_map, ap, sym, subst, refl, ◌∙◌}
 use Rattle.elf.specs.Loading.{LoadsUnlessOom}
 use Rattle.elf.specs.ObjectFile.{ObjectFile}
 use Rattle.addr2line.specs.declared.kept_files.KeptFile.{KeptFile}

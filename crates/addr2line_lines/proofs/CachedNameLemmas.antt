@@ -11,7 +11,7 @@ use Rattle.gimli_read.specs.declared.value.UnitOffset.{UnitOffset}
 use Rattle.gimli.specs.AttributeSinks.{IsGrowth}
 use Rattle.gimli.specs.Unit.{UnitRecord}
 use Rattle.gimli_read.specs.Section.{Section}
-use Rattle.addr2line_lines.specs.CachedNames.{AreNamesMore, AreNamesOf, CachedName, GrowNames, IsKnownAs, IsNameOf, IsOneMoreAtMost, boxed_shared, seen_cached_name, seen_names, seen_shared}
+use Rattle.addr2line_lines.specs.CachedNames.{AreNamesMore, AreNamesOf, CachedName, GrowNames, IsKnownAs, IsNameOf, IsOneMoreAtMost, seen_cached_name, seen_names, seen_shared}
 use Rattle.addr2line_lines.specs.Grown.{IsGrown}
 use Rattle.addr2line_lines.specs.declared.names.CachedName as declared_name
 use Rattle.addr2line_lines.specs.Names.{referred_name}
@@ -54,7 +54,7 @@ known_shared see names name None offset h known = tt
 known_shared see names name (Some shared) offset h known = subst (λ n. IsKnownAs offset n names) (sym h) known
 
 -- what stands at a place is known, where its offset is
-pub known_at : {R : Type 0} (see : R → Section) (xs : List (declared_name.CachedName R)) (n : ℕ) (x : declared_name.CachedName R) (offset : UnitOffset) → slice_get xs n ≡ Some x → x.offset ≡ offset → IsKnownAs offset (boxed_shared see x.name) (map (seen_cached_name see) xs)
+pub known_at : {R : Type 0} (see : R → Section) (xs : List (declared_name.CachedName R)) (n : ℕ) (x : declared_name.CachedName R) (offset : UnitOffset) → slice_get xs n ≡ Some x → (seen_cached_name see x).offset ≡ offset → IsKnownAs offset (seen_cached_name see x).name (map (seen_cached_name see) xs)
 known_at see xs n x offset at e = λ scope u all.
-    subst (λ o. referred_name scope u (values.UnitRef o) ≡ boxed_shared see x.name) e
+    subst (λ o. referred_name scope u (values.UnitRef o) ≡ (seen_cached_name see x).name) e
     (all_at (IsNameOf scope u) (map (seen_cached_name see) xs) n (seen_cached_name see x) all (slice_get-map (seen_cached_name see) xs n ∙ ap (option_map (seen_cached_name see)) at))

@@ -133,7 +133,6 @@ module _ (scope : Scope) (u : UnitRecord) where
       let q = neither (is_range_name a.name) (is_name_attribute a.name) p.0 in
       other_attribute x a q.0 ∙ ap (with_name_of x a x.ranges) (nameless x.name a q.1) ∙ ap (with_call_of x) (callless u.header.encoding.version x.call a p.1)
 
-
 -- an entry whose attributes follow
 module _ (scope : Scope) (u : UnitRecord) (around : List Kind) (offset : ℕ) (a : Abbrev) (left : Section) (found : FoundInlined) where
   abbrev read_left : Reading (List NamedValue)

@@ -2,8 +2,7 @@
 -- (DWARF 5, sections 2.13.2 and 3.3.8).
 -- Own: a name may be cached when it is found, also that there is none, and its fault too;
 -- OutOfMemory never is, since no reading gives it.
-use Rattle.std.specs.Prelude.{◌≡◌, ◌⊎◌, List, [], ◌∷◌, ◌++◌, map, Box, box_value, Option, option_map, Result}
-use Rattle.std.specs.Result.{result_map_both}
+use Rattle.std.specs.Prelude.{◌≡◌, ◌⊎◌, List, [], ◌∷◌, ◌++◌, map, Option, option_map, Result, Ok, Err}
 use Rattle.std.specs.List.{AllByRecursion}
 use Rattle.std.specs.declared.rc.Rc.{Rc}
 use Rattle.std.specs.declared.alloc.Global.{Global}
@@ -14,6 +13,7 @@ use Rattle.gimli_read.specs.Reading.{result_map}
 use Rattle.gimli_read.specs.Section.{Section}
 use Rattle.gimli.specs.Unit.{UnitRecord}
 use Rattle.addr2line_lines.specs.declared.names.CachedName as declared_name
+use Rattle.addr2line_lines.specs.declared.names.CachedName.TheVariants as cached
 use Rattle.addr2line_lines.specs.declared.names.NameCache.{NameCache}
 use Rattle.addr2line_lines.specs.Grown.{IsGrown}
 use Rattle.addr2line_lines.specs.Names.{referred_name}
@@ -34,15 +34,12 @@ abbrev pub seen_shared : {R : Type 0} → (R → Section) → Result (Rc (Option
     → Result (Option Section) Error
 seen_shared see name = result_map (λ shared. option_map see shared.value) name
 
--- the same, as it is cached: a fault stands in a box
-abbrev pub boxed_shared : {R : Type 0} → (R → Section)
-    → Result (Rc (Option R) Global) (Box Error Global) → Result (Option Section) Error
-boxed_shared see name =
-    result_map_both (λ shared. option_map see shared.value) box_value name
-
 -- a name that is cached, or a fault
 abbrev pub seen_cached_name : {R : Type 0} → (R → Section) → declared_name.CachedName R → CachedName
-seen_cached_name see n = record { offset = n.offset; name = boxed_shared see n.name }
+seen_cached_name see (cached.Named offset name) =
+    name_at_offset (record { 0 = offset }) (Ok (option_map see name.value))
+seen_cached_name see (cached.Faulty offset error) =
+    name_at_offset (record { 0 = offset }) (Err error.value)
 
 -- the names and faults that are cached
 abbrev pub seen_names : {R : Type 0} → (R → Section) → NameCache R → List CachedName

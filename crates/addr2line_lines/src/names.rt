@@ -1,7 +1,7 @@
 //! The cached names of entries that are referred to.
 
 ghost use Rattle.std.specs.Prelude.{◌≡◌, Err, IfSome, [], length, Ok, option_map, take};
-ghost use Rattle.addr2line_lines.specs.CachedNames.{IsKnownAs, IsOneMoreAtMost, boxed_shared, name_at_offset, seen_names, seen_shared};
+ghost use Rattle.addr2line_lines.specs.CachedNames.{IsKnownAs, IsOneMoreAtMost, name_at_offset, seen_cached_name, seen_names, seen_shared};
 ghost use Rattle.addr2line_lines.specs.FoundNames.{found_name};
 
 use crate::found_name::{FoundName, note_text};
@@ -18,12 +18,12 @@ const MOST_STEPS: usize = 8;
 // A slot of no name: a name at so great a place has none.
 const NO_PLACE: u32 = u32::MAX;
 
-// The name that an entry gives, or its fault.
+// The name that an entry gives, or its fault, beside where the entry begins, in bytes from the start
+// of the unit's length. So each takes sixteen bytes; an entry further on has none.
 #[derive(Drop)]
-struct CachedName<R: Reader> {
-    // Where it begins, in bytes from the start of the unit's length.
-    offset: UnitOffset,
-    name: Result<Rc<Option<R>>, Box<Error>>,
+enum CachedName<R: Reader> {
+    Named { offset: u32, name: Rc<Option<R>> },
+    Faulty { offset: u32, error: Box<Error> },
 }
 
 /// The names that entries of a unit give where they are referred to, or their faults, in the order
@@ -47,16 +47,26 @@ fn share_name<R: Reader>(name: &Rc<Option<R>>) -> Option<Rc<Option<R>>>
     }
 }
 
-// The same, or the fault again.
-fn share<R: Reader>(
-    name: &Result<Rc<Option<R>>, Box<Error>>,
-) -> Option<Result<Rc<Option<R>>, Error>>
-    ensures gives { IfSome result (λ shared. seen_shared R.section shared
-        ≡ boxed_shared R.section name.now) }
-{
-    match name {
-        Ok(name) => Some(Ok(share_name(name)?)),
-        Err(error) => Some(Err(**error)),
+impl<R: Reader> CachedName<R> {
+    // Where the entry begins.
+    fn offset(&self) -> UnitOffset
+        ensures gives { result ≡ (seen_cached_name R.section self.now).offset }
+    {
+        match self {
+            CachedName::Named { offset, name: _ } => UnitOffset(u64::from(*offset)),
+            CachedName::Faulty { offset, error: _ } => UnitOffset(u64::from(*offset)),
+        }
+    }
+
+    // The name once more, none where it is shared as often as can be counted, or the fault again.
+    fn share(&self) -> Option<Result<Rc<Option<R>>, Error>>
+        ensures gives { IfSome result (λ shared. seen_shared R.section shared
+            ≡ (seen_cached_name R.section self.now).name) }
+    {
+        match self {
+            CachedName::Named { offset: _, name } => Some(Ok(share_name(name)?)),
+            CachedName::Faulty { offset: _, error } => Some(Err(**error)),
+        }
     }
 }
 
@@ -96,7 +106,7 @@ fn make_slots<R: Reader>(names: &[CachedName<R>], slots: &mut Vec<u32>) {
         return;
     }
     for (place, name) in names.iter().enumerate() {
-        set_slot(slots, name.offset, place);
+        set_slot(slots, name.offset(), place);
     }
 }
 
@@ -138,20 +148,21 @@ impl<R: Reader> NameCache<R> {
         for step in 0..MOST_STEPS {
             let place = self.slots.get(first.wrapping_add(step) & last)?;
             let cached = self.names.get(*place as usize)?;
-            if cached.offset == offset {
-                return share(&cached.name);
+            if cached.offset() == offset {
+                return cached.share();
             }
         }
         None
     }
 
     // Adds the name of an entry, or its fault, or nothing where memory is refused.
-    fn push(&mut self, offset: UnitOffset, name: Result<Rc<Option<R>>, Box<Error>>)
-        ensures after { IsOneMoreAtMost (name_at_offset offset (boxed_shared R.section name))
+    fn push(&mut self, cached: CachedName<R>)
+        ensures after { IsOneMoreAtMost (seen_cached_name R.section cached)
             (seen_names R.section self.old) (seen_names R.section self.new) }
     {
         let place = self.names.len();
-        match self.names.push(CachedName { offset, name }) {
+        let offset = cached.offset();
+        match self.names.push(cached) {
             Ok(()) => {
                 make_slots(&self.names, &mut self.slots);
                 set_slot(&mut self.slots, offset, place);
@@ -160,19 +171,24 @@ impl<R: Reader> NameCache<R> {
         }
     }
 
-    // Adds the name of an entry that others share, or nothing where it can't be shared once more.
+    // Adds the name of an entry that others share, or nothing where it can't be shared once more, or
+    // the entry begins too far on.
     fn push_shared(&mut self, offset: UnitOffset, name: &Rc<Option<R>>)
         ensures after { IsOneMoreAtMost
             (name_at_offset offset (Ok (option_map R.section name.now.value)))
             (seen_names R.section self.old) (seen_names R.section self.new) }
     {
+        let Ok(offset) = u32::try_from(offset.0) else {
+            return;
+        };
         match share_name(name) {
-            Some(name) => self.push(offset, Ok(name)),
+            Some(name) => self.push(CachedName::Named { offset, name }),
             None => {}
         }
     }
 
-    /// Adds the name of an entry, or nothing where memory is refused, and gives it back.
+    /// Adds the name of an entry, or nothing where memory is refused or the entry begins too far on,
+    /// and gives it back.
     pub(crate) fn add(&mut self, offset: UnitOffset, name: Option<R>) -> FoundName<R>
         ensures gives { found_name R.section result ≡ option_map R.section name }
         ensures after { IsOneMoreAtMost (name_at_offset offset (Ok (option_map R.section name)))
@@ -187,13 +203,17 @@ impl<R: Reader> NameCache<R> {
         }
     }
 
-    /// Adds the fault of an entry's name, or nothing where memory is refused.
+    /// Adds the fault of an entry's name, or nothing where memory is refused or the entry begins too
+    /// far on.
     pub(crate) fn add_fault(&mut self, offset: UnitOffset, error: Error)
         ensures after { IsOneMoreAtMost (name_at_offset offset (Err error))
             (seen_names R.section self.old) (seen_names R.section self.new) }
     {
+        let Ok(offset) = u32::try_from(offset.0) else {
+            return;
+        };
         match Box::new(self.alloc, error) {
-            Ok(error) => self.push(offset, Err(error)),
+            Ok(error) => self.push(CachedName::Faulty { offset, error }),
             Err(_) => {}
         }
     }

@@ -48,7 +48,8 @@ fn read_name<R: Reader>(
         (seen_names R.section names.old) (seen_names R.section names.new) }
 {
     let sink = NameSink { scope, unit };
-    let name = take_attributes(&sink, entries, specifications, FoundName::none(), names)?;
+    let mut name = FoundName::none();
+    take_attributes(&sink, entries, specifications, &mut name, names)?;
     name.own()
 }
 

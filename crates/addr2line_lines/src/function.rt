@@ -280,13 +280,9 @@ pub(crate) fn read_range_attributes<R: Reader>(
     ensures depth { entries.new.cursor.depth ≡ entries.old.cursor.depth }
 {
     let sink = RangeSink { unit };
-    take_attributes(
-        &sink,
-        entries,
-        specifications,
-        RangeAttributes::new(),
-        &mut (),
-    )
+    let mut ranges = RangeAttributes::new();
+    take_attributes(&sink, entries, specifications, &mut ranges, &mut ())?;
+    Ok(ranges)
 }
 
 // The ranges of the range list at an offset, in its order.

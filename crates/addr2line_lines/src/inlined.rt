@@ -265,11 +265,7 @@ pub(crate) fn read_inlined_attributes<R: Reader>(
         (seen_names R.section names.old) (seen_names R.section names.new) }
 {
     let sink = InlinedSink { scope, unit };
-    take_attributes(
-        &sink,
-        entries,
-        specifications,
-        InlinedAttributes::new(),
-        names,
-    )
+    let mut found = InlinedAttributes::new();
+    take_attributes(&sink, entries, specifications, &mut found, names)?;
+    Ok(found)
 }

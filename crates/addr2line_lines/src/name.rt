@@ -375,7 +375,7 @@ impl<R: Reader> AttributeSink<R, Attribute<R>> for NameSink<'_, R> {
 
     type Cache = NameCache<R>;
 
-    const FEW_BETWEEN: bool = true;
+    const FEW_BETWEEN: bool = false;
 
     ghost seen = { λ a. a };
 

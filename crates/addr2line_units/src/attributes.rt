@@ -137,14 +137,10 @@ pub fn read_unit_attributes<R: Reader>(unit: UnitRef<'_, R>) -> Result<UnitAttri
     match entries.read_abbreviation()? {
         Some(abbreviation) => {
             let specifications = abbreviation.attributes();
-            let found = UnitAttributes::new();
-            take_attributes(
-                &UnitSink { unit },
-                &mut entries,
-                specifications,
-                found,
-                &mut (),
-            )
+            let sink = UnitSink { unit };
+            let mut found = UnitAttributes::new();
+            take_attributes(&sink, &mut entries, specifications, &mut found, &mut ())?;
+            Ok(found)
         }
         None => Err(Error::MissingUnitDie),
     }

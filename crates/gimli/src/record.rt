@@ -262,9 +262,10 @@ pub(crate) fn read_root<R: Reader>(
             let sink = RootSink {
                 encoding: header.encoding,
             };
-            let root = RootAttributes::new();
             let specifications = abbreviation.attributes();
-            take_attributes(&sink, &mut entries, specifications, root, &mut ())
+            let mut root = RootAttributes::new();
+            take_attributes(&sink, &mut entries, specifications, &mut root, &mut ())?;
+            Ok(root)
         }
         None => Err(Error::MissingUnitDie),
     }

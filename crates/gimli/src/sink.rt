@@ -192,15 +192,15 @@ pub fn take_attributes<R: Reader, S: AttributeSink<R, Attribute<R>>>(
     sink: &S,
     entries: &mut EntriesRaw<'_, R>,
     specifications: &[AttributeSpecification],
-    found: S::Found,
+    found: &mut S::Found,
     cache: &mut S::Cache,
-) -> Result<S::Found, Error>
+) -> Result<(), Error>
     requires cache { S.Grows sink.now cache.old cache.old }
     requires growth { IsGrowth (S.Grows sink.now) }
     requires seen { IsSeenSame S.seen }
     requires others { SaysNothingElse S.Names.wanted (S.with_attribute sink.now) }
-    ensures gives { ExactlyUnlessOomIf R.shares S.said result (taken_after
-        (S.with_attribute sink.now) (Ok (S.said found)) (attributes_at
+    ensures gives { ExactlyUnlessOomIf R.shares (λ _. S.said found.new) result (taken_after
+        (S.with_attribute sink.now) (Ok (S.said found.old)) (attributes_at
         entries.old.unit.encoding specifications.now entries.old.cursor.left)) }
     ensures left { OnOk result (rest_of (attributes_at entries.old.unit.encoding
         specifications.now entries.old.cursor.left) ≡ Ok entries.new.cursor.left) }
@@ -208,17 +208,16 @@ pub fn take_attributes<R: Reader, S: AttributeSink<R, Attribute<R>>>(
     ensures depth { entries.new.cursor.depth ≡ entries.old.cursor.depth }
     ensures after { S.Grows sink.now cache.old cache.new }
 {
-    let mut found = found;
     let mut fault = None;
     let mut rest = specifications;
     while let Some(next) = split_at_wanted::<S::Names>(rest) {
         pass_between(entries, next.before, S::FEW_BETWEEN)?;
-        fault = read_next(sink, entries, next.specification, &mut found, fault, cache)?;
+        fault = read_next(sink, entries, next.specification, found, fault, cache)?;
         rest = next.after;
     }
     pass_between(entries, rest, S::FEW_BETWEEN)?;
     match fault {
         Some(error) => Err(error),
-        None => Ok(found),
+        None => Ok(()),
     }
 }

@@ -1,7 +1,16 @@
+use Rattle.std.proofs.lemmas.Result.{err_from_is_err_and}
 use Rattle.addr2line_lines.specs.SeenScope.{seen_scope}
 use Rattle.addr2line_lines.proofs.CachedNameLemmas.{names_growth, names_same}
 use Rattle.addr2line_lines.proofs.DetailLemmas.{unwanted}
 use Rattle.addr2line_lines.proofs.inlined.read_inlined_attributes.Goals as goal
+
+pub returns-in_err-take_attributes-clause-gives : goal.returns-in_err-take_attributes-clause-gives
+returns-in_err-take_attributes-clause-gives g c =
+    let p = err_from_is_err_and c.from_residual.result c.from_residual.ensures.1 in
+    rw (p.1, p.2) (rw (c.requires.encoding, c.new-found.ensures.gives) at c.in_err-take_attributes.ensures.gives)
+
+pub returns-clause-gives : goal.returns-clause-gives
+returns-clause-gives g c = rw (c.requires.encoding, c.new-found.ensures.gives) at c.in_ok-take_attributes.ensures.gives
 
 pub take_attributes-requires-clause-others : goal.take_attributes-requires-clause-others
 take_attributes-requires-clause-others g c = unwanted (seen_scope c.args.scope) c.args.unit.now

@@ -22,6 +22,7 @@ use Rattle.addr2line_lines.specs.CachedDetails.{IsDetailPlace, CachedDetails, de
 use Rattle.addr2line_lines.specs.Segments.{shortest_function_at}
 use Rattle.addr2line_lines.proofs.FunctionOrder.{found_is, place_found}
 use Rattle.addr2line_lines.proofs.PlaceLemmas.{all_at}
+use Rattle.std.proofs.lemmas.List.{length-map}
 
 -- a cached detail, by the place of its function
 abbrev pub cached_at : List CachedFunction → ℕ → Option (Result Detail Error)
@@ -115,9 +116,6 @@ offset_seen d (f ∷ fs) zero x l = refl
 offset_seen d (f ∷ fs) (suc n) x l = offset_seen d fs n x (omega arith)
 
 -- a length under map
-map_long : {X Y : Type 0} (f : X → Y) (xs : List X) → length (map f xs) ≡ length xs
-map_long f [] = refl
-map_long f (x ∷ xs) = ap suc (map_long f xs)
 
 -- entries begin one after another, so that each is the first one that begins there
 first_there : (d : CachedDetails) (fs : List LazyFunction) (addresses : List FunctionAddress) → AreFunctions (function_offsets fs) addresses → (n : ℕ) → n < length fs
@@ -125,8 +123,8 @@ first_there : (d : CachedDetails) (fs : List LazyFunction) (addresses : List Fun
 first_there d fs addresses h n l =
     let none : CachedFunction = record { offset = 0; detail = None } in
     let at : ℕ → ℕ = λ k. (slice_index_or (function_offsets fs) k (record { 0 = 0 })).0 in
-    let long : length (map (seen_function d) fs) ≡ length fs = map_long (seen_function d) fs in
-    let listed : length (function_offsets fs) ≡ length fs = map_long (λ (f : LazyFunction). f.dw_die_offset) fs in
+    let long : length (map (seen_function d) fs) ≡ length fs = length-map fs (seen_function d) in
+    let listed : length (function_offsets fs) ≡ length fs = length-map fs (λ (f : LazyFunction). f.dw_die_offset) in
     let is : position_or_len (λ (f : CachedFunction). f.offset == at n) (map (seen_function d) fs) ≡ n =
     position_or_len_is (λ (f : CachedFunction). f.offset == at n) (map (seen_function d) fs) n none (omega arith)
     (λ k m. ap (λ o. o == at n) (offset_seen d fs k none (omega arith)) ∙ below (at k) (at n) (h.rising k n (record { 0 = 0 }) m (omega arith)))
@@ -153,7 +151,7 @@ place_is d fs addresses probe h = by_cases (shortest_function_at probe addresses
         (found_is (function_offsets fs) addresses h probe ∙ ap (option_map (λ i. (slice_index_or (function_offsets fs) i (record { 0 = 0 })).0)) e))
     by_cases (Some i) e =
         let l = place_found (function_offsets fs) addresses h probe i e in
-        let listed : length (function_offsets fs) ≡ length fs = map_long (λ (f : LazyFunction). f.dw_die_offset) fs in
+        let listed : length (function_offsets fs) ≡ length fs = length-map fs (λ (f : LazyFunction). f.dw_die_offset) in
         e ∙ sym (ap (option_and_then (λ offset. position (λ (f : CachedFunction). f.offset == offset) (map (seen_function d) fs)))
         (found_is (function_offsets fs) addresses h probe ∙ ap (option_map (λ i. (slice_index_or (function_offsets fs) i (record { 0 = 0 })).0)) e)
         ∙ first_there d fs addresses h i (omega arith))

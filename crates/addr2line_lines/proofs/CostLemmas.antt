@@ -7,11 +7,12 @@ use Rattle.gimli_read.specs.Costed.{Costed, ◌>>=◌, free, takes_memory_after}
 use Rattle.gimli_read.specs.Reading as reading
 use Rattle.gimli_read.proofs.Steps.{bind_ok}
 use Rattle.addr2line_lines.specs.CostedSteps.{map_at_cost, then_room_if}
-use Rattle.addr2line_lines.proofs.FunctionLemmas.{or_first, or_more, or_second}
+use Rattle.addr2line_lines.proofs.FunctionLemmas.{or_more}
+use Rattle.std.proofs.lemmas.Bool.{or_left, or_right}
 
 or_both : (a b c d : Bool) → (a ≡ true → c ≡ true) → (b ≡ true → d ≡ true) → (a || b) ≡ true → (c || d) ≡ true
-or_both true b c d h k e = or_first c d (h refl)
-or_both false b c d h k e = or_second c d (k e)
+or_both true b c d h k e = or_left c d (h refl)
+or_both false b c d h k e = or_right c d (k e)
 
 -- a reading whose fault is that of a whole, and whose memory too
 pub record IsPartOf {A B : Type 0} (part : Costed A) (whole : Costed B) : Type 0 where
@@ -45,17 +46,17 @@ rest_part h = record { fault = λ e q. h.given ∙ q; takes = h.takes }
 pub first_part : {A B : Type 0} (c : Costed A) (f : A → Costed B) → IsPartOf c (c >>= f)
 first_part c f = record {
   fault = λ e h. ap (λ r. reading.◌>>=◌ r (λ x. (f x).given)) h;
-  takes = λ shares t. or_first (c.takes_memory shares) (takes_memory_after c.given (λ x. (f x).takes_memory shares)) t;
+  takes = λ shares t. or_left (c.takes_memory shares) (takes_memory_after c.given (λ x. (f x).takes_memory shares)) t;
 }
 
 pub rest_next : {A B : Type 0} (c : Costed A) (f : A → Costed B) (x : A) → c.given ≡ Ok x → IsRestOf (f x) (c >>= f)
 rest_next c f x h = record {
   given = ap (λ r. reading.◌>>=◌ r (λ y. (f y).given)) h;
-  takes = λ shares t. or_second (c.takes_memory shares) (takes_memory_after c.given (λ y. (f y).takes_memory shares)) (ap (λ r. takes_memory_after r (λ y. (f y).takes_memory shares)) h ∙ t);
+  takes = λ shares t. or_right (c.takes_memory shares) (takes_memory_after c.given (λ y. (f y).takes_memory shares)) (ap (λ r. takes_memory_after r (λ y. (f y).takes_memory shares)) h ∙ t);
 }
 
 pub room_part : {A : Type 0} (stores : Bool) (c : Costed A) → IsPartOf c (then_room_if stores c)
-room_part stores c = record { fault = λ e h. h; takes = λ shares t. or_first (c.takes_memory shares) (is_ok c.given && stores) t }
+room_part stores c = record { fault = λ e h. h; takes = λ shares t. or_left (c.takes_memory shares) (is_ok c.given && stores) t }
 
 -- a reading whose value is made into another, and one where more follows
 pub map_part : {A B : Type 0} (make : A → B) (c : Costed A) → IsPartOf c (map_at_cost make c)
@@ -81,7 +82,7 @@ abbrev pub TakesIfRead : {A : Type 0} → Costed A → Type 0
 TakesIfRead {A} c = (x : A) (shares : Bool) → c.given ≡ Ok x → c.takes_memory shares ≡ true
 
 pub room_takes : {A : Type 0} (c : Costed A) → TakesIfRead (then_room_if true c)
-room_takes c x shares h = or_second (c.takes_memory shares) (is_ok c.given && true) (ap (λ r. is_ok r && true) h)
+room_takes c x shares h = or_right (c.takes_memory shares) (is_ok c.given && true) (ap (λ r. is_ok r && true) h)
 
 pub map_takes : {A B : Type 0} (make : A → B) (c : Costed A) → TakesIfRead c → TakesIfRead (map_at_cost make c)
 map_takes make c h y shares k = let a = bind_ok c.given (λ x. Ok (make x)) y k in h a.0 shares a.1
@@ -150,4 +151,4 @@ agrees_room {A} {B} {make} {holds} {c} {d} stores h = record {
     by_given r (Err e) k t = absurd cc
 
 pub room_more : {A B : Type 0} {make : B → A} {holds : B → Type 0} {c : Costed A} {d : Costed B} (stores : Bool) → Agrees make holds c d → Agrees make holds (then_room_if stores c) d
-room_more {c = c} stores h = record { given = h.given; takes = λ shares t. or_first (c.takes_memory shares) (is_ok c.given && stores) (h.takes shares t) }
+room_more {c = c} stores h = record { given = h.given; takes = λ shares t. or_left (c.takes_memory shares) (is_ok c.given && stores) (h.takes shares t) }

@@ -1,6 +1,6 @@
 -- The attributes of inlined entries and functions, one at a time (on specs/FoundAttributes.antt).
 use Rattle.std.proofs.Common.{◌≡◌, ℕ, ◌+◌, ◌<◌, ◌≤◌, ◌⊎◌, ◌==◌, ◌||◌, Bool, true, false, cond, List, [], ◌∷◌, drop, fold, get_or, inl, inr, length, Option, Some, None, Result, Ok, Err, refl, ap, subst, sym, ◌∙◌, count_by, ◌&&◌}
-use Rattle.std.proofs.lemmas.Bool.{eqb-true}
+use Rattle.std.proofs.lemmas.Bool.{eqb-true, or_parts}
 use Rattle.gimli_read.specs.declared.constants.DwAt.{DwAt}
 use Rattle.gimli_read.specs.declared.constants.TheConstants.DwAt.{DW_AT_call_column, DW_AT_call_file, DW_AT_call_line, DW_AT_high_pc, DW_AT_low_pc, DW_AT_name, DW_AT_ranges}
 use Rattle.gimli_read.specs.declared.error.Error.{Error}
@@ -32,9 +32,6 @@ use Rattle.addr2line_lines.specs.References.{Scope}
 use Rattle.addr2line_lines.proofs.FoundRanges.{rangeless}
 
 -- none of two tests
-pub neither : (b c : Bool) → (b || c) ≡ false → (b ≡ false) × (c ≡ false)
-neither true c h = absurd cc
-neither false c h = (refl, h)
 
 -- where no test holds, what stands last counts
 second : {A : Type 0} (b : Bool) (x y : A) → b ≡ false → cond b x y ≡ y
@@ -73,15 +70,15 @@ module _ (scope : Scope) (u : UnitRecord) where
   pub nameless : (name : Option Section) (a : NamedValue) → is_name_attribute a.name ≡ false → with_name scope u name a ≡ Ok name
   unfolding with_name
   nameless name a h =
-      let p = neither (is_linkage_name a.name || a.name.0 == DW_AT_name.0) (is_origin a.name) h in
-      let q = neither (is_linkage_name a.name) (a.name.0 == DW_AT_name.0) p.0 in
+      let p = or_parts (is_linkage_name a.name || a.name.0 == DW_AT_name.0) (is_origin a.name) h in
+      let q = or_parts (is_linkage_name a.name) (a.name.0 == DW_AT_name.0) p.0 in
       second _ _ _ q.0 ∙ second _ _ _ q.1 ∙ second _ _ _ p.1
 
   -- an attribute that says nothing of the call
   callless : (version : ℕ) (call : CallSite) (a : NamedValue) → is_call a.name ≡ false → with_call version call a ≡ call
   callless version call a h =
-      let p = neither (a.name.0 == DW_AT_call_file.0 || a.name.0 == DW_AT_call_line.0) (a.name.0 == DW_AT_call_column.0) h in
-      let q = neither (a.name.0 == DW_AT_call_file.0) (a.name.0 == DW_AT_call_line.0) p.0 in
+      let p = or_parts (a.name.0 == DW_AT_call_file.0 || a.name.0 == DW_AT_call_line.0) (a.name.0 == DW_AT_call_column.0) h in
+      let q = or_parts (a.name.0 == DW_AT_call_file.0) (a.name.0 == DW_AT_call_line.0) p.0 in
       second _ _ _ q.0 ∙ second _ _ _ q.1 ∙ second _ _ _ p.1
 
   abbrev with_call_of : InlinedAttributes → CallSite → Result InlinedAttributes Error
@@ -129,8 +126,8 @@ module _ (scope : Scope) (u : UnitRecord) where
   -- an attribute that says nothing of an inlined entry
   pub unwanted : (x : InlinedAttributes) (a : NamedValue) → is_inlined_attribute a.name ≡ false → with_inlined_attribute scope u x a ≡ Ok x
   unwanted x a h =
-      let p = neither (is_range_name a.name || is_name_attribute a.name) (is_call a.name) h in
-      let q = neither (is_range_name a.name) (is_name_attribute a.name) p.0 in
+      let p = or_parts (is_range_name a.name || is_name_attribute a.name) (is_call a.name) h in
+      let q = or_parts (is_range_name a.name) (is_name_attribute a.name) p.0 in
       other_attribute x a q.0 ∙ ap (with_name_of x a x.ranges) (nameless x.name a q.1) ∙ ap (with_call_of x) (callless u.header.encoding.version x.call a p.1)
 
 -- an entry whose attributes follow

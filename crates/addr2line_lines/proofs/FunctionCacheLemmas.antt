@@ -28,10 +28,7 @@ use Rattle.addr2line_lines.specs.CachedDetails.{AreDetailsMore, IsDetailPlace, I
 use Rattle.addr2line_lines.specs.References.{Scope}
 use Rattle.addr2line_lines.proofs.DetailPlaces.{detail_stays}
 use Rattle.addr2line_lines.proofs.PlaceLemmas.{all_at, all_set, all_weaker, at_set}
-
--- nothing grows
-pub no_more : {X : Type 0} (xs : List X) → IsGrown xs xs
-no_more xs = record { more = []; is = sym (append-nil xs) }
+use Rattle.addr2line_lines.proofs.NestingLemmas.{grown_not}
 
 longer : {X : Type 0} (xs ys : List X) → IsGrown xs ys → length xs ≤ length ys
 longer xs ys g = let a : length ys ≡ length (xs ++ g.more) = ap (λ v. length v) g.is in let b = length-append xs g.more in omega arith
@@ -43,7 +40,7 @@ nothing_cached cached more h =
     ap (λ xs. made xs more.found more.known) h.names ∙ ap (λ f. made cached.names f more.known) h.found ∙ ap (λ ns. made cached.names cached.found ns) (h.memory refl)
 
 pub details_stay : (cached : CachedDetails) → AreDetailsMore cached cached
-details_stay cached = record { names = no_more cached.names; found = record { entries = no_more cached.found.entries; ranges = no_more cached.found.ranges }; known = no_more cached.known }
+details_stay cached = record { names = grown_not cached.names; found = record { entries = grown_not cached.found.entries; ranges = grown_not cached.found.ranges }; known = grown_not cached.known }
 
 -- a detail that is read is as before where more is read
 lazy_stays : (cached more : CachedDetails) → AreDetailsMore cached more → (x : LazyDetail) → ((p : FunctionDetail) → x ≡ Read p → IsDetailPlace cached p) → seen_lazy more x ≡ seen_lazy cached x

@@ -36,15 +36,6 @@ pub beside_if : {X Y Z : Type 0} (part may : Bool) (r : Result Z Error) (x : X) 
 beside_if part may (Ok z) x y given whole m h k = h ∙ ap (λ g. g >>= λ v. Ok (v, y)) k
 beside_if part may (Err e) x y given whole m h k = λ ne. h ∙ ap (λ g. g >>= λ v. Ok (v, y)) (k (λ p. ne (m p)))
 
--- one of two tests
-pub or_first : (a b : Bool) → a ≡ true → (a || b) ≡ true
-or_first true b e = refl
-or_first false b e = absurd cc
-
-pub or_second : (a b : Bool) → b ≡ true → (a || b) ≡ true
-or_second true b e = refl
-or_second false b e = e
-
 pub or_more : (a b c : Bool) → (b ≡ true → c ≡ true) → (a || b) ≡ true → (a || c) ≡ true
 or_more true b c h e = refl
 or_more false b c h e = h e

@@ -17,7 +17,8 @@ use Rattle.addr2line_lines.specs.declared.segments.FunctionAddress.{FunctionAddr
 use Rattle.addr2line_lines.specs.RangeAttributes.{all_ranges, attribute_ranges, begins_well, gives_a_range, range_attributes_of, range_list_of}
 use Rattle.addr2line_lines.specs.Functions.{FunctionRange, entry_gives_a_range, entry_ranges, has_function, have_function, is_subprogram, with_function}
 use Rattle.addr2line_lines.specs.FoundFunctions.{FoundFunctions, function_address, next_found_at, found_in, found_more, item_has_function, item_takes_memory, none_found, with_attributes, with_found, with_ranges}
-use Rattle.addr2line_lines.proofs.FunctionLemmas.{found_after, one_found, or_first, or_more, or_second, some_item}
+use Rattle.addr2line_lines.proofs.FunctionLemmas.{found_after, one_found, or_more, some_item}
+use Rattle.std.proofs.lemmas.Bool.{or_left, or_right}
 
 module _ (d : Sections) (u : UnitRecord) where
   -- what is found at an entry, and the ranges of its function
@@ -55,7 +56,7 @@ module _ (d : Sections) (u : UnitRecord) where
           by_test false k = refl
 
   have_rest : (found more : FoundFunctions) (x : Item) (xs : List Item) → with_found d u found x ≡ Ok more → have_function d u xs ≡ true → have_function d u (x ∷ xs) ≡ true
-  have_rest found more x xs e h = or_second (has_function d u x) (is_ok (with_function d u [] x) && have_function d u xs) (ap (λ b. b && have_function d u xs) (found_well found more x e) ∙ h)
+  have_rest found more x xs e h = or_right (has_function d u x) (is_ok (with_function d u [] x) && have_function d u xs) (ap (λ b. b && have_function d u xs) (found_well found more x e) ∙ h)
 
 module _ (d : Sections) (u : UnitRecord) (unit : EntryUnit) where
   -- where the items that are left have a function, so have those before
@@ -78,7 +79,7 @@ module _ (d : Sections) (u : UnitRecord) (unit : EntryUnit) where
       by_cases (Ok (None, t)) q k = absurd cc
       by_cases (Ok (Some x, t)) q k =
           ap (λ (r : Run Item Section). have_function d u r.items) (items_more unit c t x q)
-          ∙ or_first (has_function d u x) (is_ok (with_function d u [] x) && have_function d u (items_left unit t).items) k
+          ∙ or_left (has_function d u x) (is_ok (with_function d u [] x) && have_function d u (items_left unit t).items) k
 
 -- ranges that are pushed
 module _ (d : Sections) (u : UnitRecord) where
@@ -129,7 +130,7 @@ module _ (d : Sections) (u : UnitRecord) where
       by_step : (r : Result FoundFunctions Error) → with_found d u found x ≡ r → (r >>= λ v. fold_run (with_found d u) v xs end) ≡ Ok (m, z)
           → ((more : FoundFunctions) → fold_run (with_found d u) more xs end ≡ Ok (m, z) → (0 < length more.addresses) ⊎ (have_function d u xs ≡ true)) → (0 < length found.addresses) ⊎ (have_function d u (x ∷ xs) ≡ true)
       by_step (Ok more) q k rest = elim (rest more k) [
-        | inl some ↦ elim (one_has found more x q some) [ inl f ↦ inl f | inr h ↦ inr (or_first (has_function d u x) (is_ok (with_function d u [] x) && have_function d u xs) h) ]
+        | inl some ↦ elim (one_has found more x q some) [ inl f ↦ inl f | inr h ↦ inr (or_left (has_function d u x) (is_ok (with_function d u [] x) && have_function d u xs) h) ]
         | inr h ↦ inr (have_rest d u found more x xs q h)
       ]
       by_step (Err f) q k rest = absurd cc

@@ -32,6 +32,7 @@ use Rattle.addr2line_lines.proofs.ListedFunctions.{entries_more, ranges_below}
 use Rattle.addr2line_lines.proofs.OrderLemmas.{All-in}
 use Rattle.gimli_read.proofs.TopmostLemmas.{In}
 use Rattle.addr2line_lines.proofs.ShortestLemmas.{shortest_holds, shortest_is, shortest_least, some_shortest}
+use Rattle.gimli.proofs.ItemReads.{text_some}
 
 -- what was found, by where entries begin
 abbrev pub ranges_found : FoundFunctions → List FunctionRange
@@ -125,14 +126,6 @@ found_below_more found offset n ranges h l = record {
   places = more_in_place found offset ranges h.places;
   listed = listed_more found offset ranges h;
 }
-
--- the text of an item has a byte at least
-pub text_some : (unit : EntryUnit) (order : RunTimeEndian) (o : Option Entry) (text : List ℕ) → IsEntryText unit order o text → 0 < length text
-text_some unit order None text h = h.0.some
-text_some unit order (Some e) text h =
-    let some = h.4.0.some in
-    let long : length text ≡ length (h.1 ++ h.2) = ap (λ (xs : List ℕ). length xs) h.3 in
-    omega (arith, some, long, length-append h.1 h.2)
 
 module _ (d : Sections) (u : UnitRecord) where
   abbrev found_with : FoundFunctions → ℕ → Option Entry → Result FoundFunctions Error

@@ -27,8 +27,9 @@ use Rattle.addr2line_lines.specs.ItemsAround.{DepthsAreNumbers, InsideIsRead, Op
 use Rattle.addr2line_lines.specs.Names.{name_of}
 use Rattle.addr2line_lines.specs.RangeAttributes.{attribute_ranges}
 use Rattle.addr2line_lines.specs.References.{Scope}
-use Rattle.addr2line_lines.proofs.FunctionOrder.{text_some}
 use Rattle.addr2line_lines.proofs.WholeEntries.{detail_of}
+use Rattle.std.proofs.lemmas.Bool.{or_left}
+use Rattle.gimli.proofs.ItemReads.{text_some}
 
 -- items one after another: each lies at the depth after the one before, and begins after it
 abbrev pub IsWalk : ℕ → ℤ → List Item → Type 0
@@ -59,10 +60,6 @@ same_test false false f g = refl
 or_false : (a b : Bool) → a ≡ false → (a || b) ≡ b
 or_false true b e = absurd cc
 or_false false b e = refl
-
-or_true : (a b : Bool) → a ≡ true → (a || b) ≡ true
-or_true true b e = refl
-or_true false b e = absurd cc
 
 drop_none : {X : Type 0} (n : ℕ) → drop {A = X} n [] ≡ []
 drop_none zero = refl
@@ -145,7 +142,7 @@ module _ {Z : Type 0} (d : ℤ) (end : Result Z Error) where
     where
       by_test : (b : Bool) → int_lt d now ≡ b
           → have_item x.offset (cond {A = Run Item (Unit {0})} b (cons x (items_inside d (depth_after x) rest end)) (record { items = []; end = Ok tt })).items ≡ int_lt (d +ℤ pos 0) now
-      by_test true e = or_true (x.offset == x.offset) _ (not_itself x.offset) ∙ sym (less_none d now e)
+      by_test true e = or_left (x.offset == x.offset) _ (not_itself x.offset) ∙ sym (less_none d now e)
       by_test false e = sym (less_more d now 0 e)
   is_inside low now (y ∷ front) rest x w = by_test (int_lt d now) refl (is_inside (y.offset + 1) (depth_after y) front rest x w.2)
     where

@@ -23,8 +23,10 @@ use Rattle.addr2line_lines.specs.FoundRanges.{is_address_name, is_range_name}
 use Rattle.addr2line_lines.specs.Names.{is_origin, or_referred_name, with_name}
 use Rattle.addr2line_lines.specs.RangeAttributes.{attr_address, with_range_attribute}
 use Rattle.addr2line_lines.specs.References.{Scope, referred}
-use Rattle.addr2line_lines.proofs.DetailLemmas.{by_one_of, by_range_name, call_taken, name_taken, neither, ranges_taken}
+use Rattle.addr2line_lines.proofs.DetailLemmas.{by_one_of, by_range_name, call_taken, name_taken, ranges_taken}
 use Rattle.addr2line_lines.proofs.NameLemmas.{within_none}
+use Rattle.std.proofs.lemmas.Bool.{or_parts}
+use Rattle.gimli_read.proofs.AttributeTexts.{attribute_of}
 
 -- what holds of each value that is a number
 by_number : (P : AttributeValue Section → NumberValue → Type 0) → ((x : ℕ) → P (values.Addr x) (numbers.Address x)) → ((x : ℕ) → P (values.Data1 x) (numbers.Constant x)) → ((x : ℕ) → P (values.Data2 x) (numbers.Constant x)) → ((x : ℕ) → P (values.Data4 x) (numbers.Constant x))
@@ -84,10 +86,6 @@ as_reference scope u found v n h =
     by_number (λ w m. or_referred_name scope u found w ≡ name_by_number scope u found m) (λ x. unreferred scope u found (values.Addr x) refl) (λ x. unreferred scope u found (values.Data1 x) refl) (λ x. unreferred scope u found (values.Data2 x) refl) (λ x. unreferred scope u found (values.Data4 x) refl)
     (λ x. unreferred scope u found (values.Data8 x) refl) (λ x. unreferred scope u found (values.Udata x) refl) (λ x. unreferred scope u found (values.Sdata (pos x)) refl) (λ x. refl) v n h
 
--- an attribute of a name
-abbrev pub attribute_of : DwAt → AttributeValue Section → NamedValue
-attribute_of name v = record { name = name; value = v }
-
 -- of one name twice
 twice : (x y : Bool) → (x || y) ≡ true → (x || y || y) ≡ true
 twice true y h = refl
@@ -116,11 +114,11 @@ range_number : (d : Sections) (u : UnitRecord) (r : RangeAttributes) (name : DwA
 range_number d u r name v n h is number =
     by_range_name (λ k. is_number_name k ≡ true → with_range_attribute d u r (attribute_of k v) ≡ Ok (with_range_number r k n)) (λ _. address_number d u r DW_AT_low_pc v n h refl) (λ _. address_number d u r DW_AT_high_pc v n h refl) (λ no. absurd cc) name is number
 
--- a name of numbers that is of neither a call nor a range is an origin's
+-- a name of numbers that is of or_parts a call nor a range is an origin's
 origin_is : (name : DwAt) → is_call name ≡ false → is_range_name name ≡ false → is_number_name name ≡ true → is_origin name ≡ true
 origin_is name c r h =
-    let p = neither (name.0 == DW_AT_low_pc.0 || name.0 == DW_AT_high_pc.0) (name.0 == DW_AT_ranges.0) r in
-    let q = neither (name.0 == DW_AT_low_pc.0) (name.0 == DW_AT_high_pc.0) p.0 in
+    let p = or_parts (name.0 == DW_AT_low_pc.0 || name.0 == DW_AT_high_pc.0) (name.0 == DW_AT_ranges.0) r in
+    let q = or_parts (name.0 == DW_AT_low_pc.0) (name.0 == DW_AT_high_pc.0) p.0 in
     last (is_call name) (name.0 == DW_AT_low_pc.0) (name.0 == DW_AT_high_pc.0) (is_origin name) c q.0 q.1 h
   where
     last : (w x y z : Bool) → w ≡ false → x ≡ false → y ≡ false → (w || (x || y) || z) ≡ true → z ≡ true

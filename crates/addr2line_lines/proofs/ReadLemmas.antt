@@ -12,23 +12,17 @@ use Rattle.addr2line_lines.specs.Grown.{IsGrown}
 use Rattle.addr2line_lines.specs.FunctionDetails.{AreCachedToFault, AreDetailsOf, AreUnread, HasDetail, IsCachedToFault, IsDetailOf, IsFunctionMore, IsReadAt, IsReadOf, IsReadOnce, IsTableMore, IsWithDetail, details_fault, details_take_memory, read_fault, read_once}
 use Rattle.addr2line_lines.specs.FunctionTable.{CachedFunction, FunctionTable}
 use Rattle.addr2line_lines.specs.References.{Scope}
-use Rattle.addr2line_lines.proofs.FunctionCacheLemmas.{no_more}
-use Rattle.addr2line_lines.proofs.FunctionLemmas.{or_first, or_second}
 use Rattle.addr2line_lines.proofs.PlaceLemmas.{all_at, all_set, all_weaker, drop_at, drop_set, drop_whole, get_set_same, set_same, some_at, take_set, take_whole}
+use Rattle.std.proofs.lemmas.Bool.{or_left, or_right}
+use Rattle.gimli_read.proofs.FaultLemmas.{memory_or_not}
+use Rattle.addr2line_lines.proofs.NestingLemmas.{grown_not, grown_on}
 
 -- whether an error is that of memory
-memory_or_not : (e : Error) → (e ≡ OutOfMemory) ⊎ (e ≡ OutOfMemory → ⊥)
-memory_or_not OutOfMemory = inl refl
-memory_or_not _ = inr (λ h. absurd cc)
-
--- what grows twice
-grown_twice : {X : Type 0} (xs ys zs : List X) → IsGrown xs ys → IsGrown ys zs → IsGrown xs zs
-grown_twice xs ys zs a b = record { more = a.more ++ b.more; is = b.is ∙ ap (λ v. v ++ b.more) a.is ∙ append_assoc xs a.more b.more }
 
 function_same : (f : CachedFunction) → IsFunctionMore f f
 function_same f = record { offset = refl; detail = λ d e. e }
 
-functions_same : (fs : List CachedFunction) → AllZip IsFunctionMore fs fs
+pub functions_same : (fs : List CachedFunction) → AllZip IsFunctionMore fs fs
 functions_same [] = tt
 functions_same (f ∷ fs) = (function_same f, functions_same fs)
 
@@ -37,7 +31,7 @@ functions_set [] n f g e h = tt
 functions_set (x ∷ fs) zero f g e h = let same : x ≡ f = cc in (subst (λ y. IsFunctionMore y g) (sym same) h, functions_same fs)
 functions_set (x ∷ fs) (suc n) f g e h = (function_same x, functions_set fs n f g e h)
 
-functions_twice : (xs ys zs : List CachedFunction) → AllZip IsFunctionMore xs ys → AllZip IsFunctionMore ys zs → AllZip IsFunctionMore xs zs
+pub functions_twice : (xs ys zs : List CachedFunction) → AllZip IsFunctionMore xs ys → AllZip IsFunctionMore ys zs → AllZip IsFunctionMore xs zs
 functions_twice [] [] [] a b = tt
 functions_twice [] [] (z ∷ zs) a b = absurd b
 functions_twice [] (y ∷ ys) zs a b = absurd a
@@ -47,14 +41,14 @@ functions_twice (x ∷ xs) (y ∷ ys) (z ∷ zs) a b =
     (record { offset = b.0.offset ∙ a.0.offset; detail = λ d e. b.0.detail d (a.0.detail d e) }, functions_twice xs ys zs a.1 b.1)
 
 pub table_same : (t : FunctionTable) → IsTableMore t t
-table_same t = record { ranges = refl; functions = functions_same t.functions; inlined = no_more t.inlined; names = no_more t.names }
+table_same t = record { ranges = refl; functions = functions_same t.functions; inlined = grown_not t.inlined; names = grown_not t.names }
 
-table_twice : (r s t : FunctionTable) → IsTableMore r s → IsTableMore s t → IsTableMore r t
+pub table_twice : (r s t : FunctionTable) → IsTableMore r s → IsTableMore s t → IsTableMore r t
 table_twice r s t a b = record {
   ranges = b.ranges ∙ a.ranges;
   functions = functions_twice r.functions s.functions t.functions a.functions b.functions;
-  inlined = grown_twice r.inlined s.inlined t.inlined a.inlined b.inlined;
-  names = grown_twice r.names s.names t.names a.names b.names;
+  inlined = grown_on r.inlined s.inlined t.inlined a.inlined b.inlined;
+  names = grown_on r.names s.names t.names a.names b.names;
 }
 
 -- where no detail is cached, what is cached is right
@@ -277,7 +271,7 @@ one_read shares scope u old now next n h l k well =
           ∙ ap (λ r. r >>= λ _. details_fault scope u (drop (suc n) now.functions)) (step.well (all_at (IsDetailOf scope u) now.functions n at.0 (h.right all) at.1))
           ∙ ap (details_fault scope u) (sym next_left);
       takes = λ e. h.takes (ap (details_take_memory shares scope u) left
-          ∙ or_second ((read_once scope u (Some at.0)).takes_memory shares) (is_ok (read_fault scope u (Some at.0)) && details_take_memory shares scope u (drop (suc n) now.functions))
+          ∙ or_right ((read_once scope u (Some at.0)).takes_memory shares) (is_ok (read_fault scope u (Some at.0)) && details_take_memory shares scope u (drop (suc n) now.functions))
           (ap (λ o. is_ok (read_fault scope u o) && details_take_memory shares scope u (drop (suc n) now.functions)) (sym at.1)
           ∙ ap (λ r. is_ok r && details_take_memory shares scope u (drop (suc n) now.functions)) well ∙ ap (details_take_memory shares scope u) (sym next_left) ∙ e));
       cached = subst (λ fs. AllByRecursion HasDetail (take (suc n) fs)) (sym step.functions) (take_set HasDetail now.functions n step.now h.cached step.has);
@@ -294,7 +288,7 @@ fault_read shares scope u old now n e h l exact all ne =
     let rest = drop (suc n) now.functions in
     let left : drop n now.functions ≡ at.0 ∷ rest = drop_at now.functions n at.0 at.1 in
     let takes : (read_once scope u (slice_get now.functions n)).takes_memory shares ≡ true → details_take_memory shares scope u old.functions ≡ true = λ t. h.takes (ap (details_take_memory shares scope u) left
-    ∙ or_first ((read_once scope u (Some at.0)).takes_memory shares) (is_ok (read_fault scope u (Some at.0)) && details_take_memory shares scope u rest) (ap (λ o. (read_once scope u o).takes_memory shares) (sym at.1) ∙ t)) in
+    ∙ or_left ((read_once scope u (Some at.0)).takes_memory shares) (is_ok (read_fault scope u (Some at.0)) && details_take_memory shares scope u rest) (ap (λ o. (read_once scope u o).takes_memory shares) (sym at.1) ∙ t)) in
     let faulty = sym (fault_is scope u at.0 (all_at (IsDetailOf scope u) now.functions n at.0 (h.right all) at.1)) ∙ ap (read_fault scope u) (sym at.1) ∙ exact (λ t. ne (takes t)) in
     h.fault all ∙ ap (details_fault scope u) left ∙ ap (λ r. r >>= λ _. details_fault scope u rest) faulty
 

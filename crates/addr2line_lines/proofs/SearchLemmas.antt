@@ -17,7 +17,7 @@ use Rattle.addr2line_lines.proofs.SeekLemmas.{begins_rise}
 use Rattle.gimli_read.proofs.TopmostLemmas.{In-filter, In-last, last-cond}
 use Rattle.addr2line_lines.proofs.OrderLemmas.{All-in}
 use Rattle.addr2line_lines.proofs.OrderPick.{candidate_ordered}
-use Rattle.addr2line_lines.proofs.SpanLemmas.{row_within}
+use Rattle.addr2line_lines.proofs.SpanLemmas.{row_within, above, reached}
 use Rattle.addr2line_lines.proofs.PackedLemmas.{SequenceRows, sequence_rows_of, ordered-map, last_below-map}
 
 module _ {X : Type 0} (p : X → Bool) where
@@ -37,21 +37,15 @@ module _ {X : Type 0} (p : X → Bool) where
       ap (λ b. last (cond b (x ∷ filter p xs) (filter p xs))) (ap p e ∙ t) ∙ ap (λ ys. last (x ∷ ys)) (filter_none xs (λ k d low high. after (suc k) d (omega arith) (omega arith))) ∙ ap Some e
   last_is_at (x ∷ xs) (suc i) z l e t after = last-cond (p x) x z (filter p xs) (last_is_at xs i z (omega arith) e t (λ k d low high. after (suc k) d (omega arith) (omega arith)))
 
-pub past : (a p : ℕ) → p < a → nat_le a p ≡ false
-past a p l = grind (arith, nat_tests)
-
-pub reached : (a p : ℕ) → a ≤ p → nat_le a p ≡ true
-reached a p l = grind (arith, nat_tests)
-
 -- the sequences are past the probe from a place on
 abbrev pub SequencesPast : ℕ → List LineSequence → ℕ → Type 0
 SequencesPast probe ss n = AllWithin (λ (s : LineSequence). probe < s.start) ss n (length ss)
 
 pub sequence_none : (probe : ℕ) (ss : List LineSequence) → SequencesPast probe ss 0 → last (at_or_below packed_start probe ss) ≡ None
-sequence_none probe ss h = last_none (λ s. nat_le (packed_start s) probe) ss (λ k d low high. past _ probe (h k d low high))
+sequence_none probe ss h = last_none (λ s. nat_le (packed_start s) probe) ss (λ k d low high. above _ probe (h k d low high))
 
 pub sequence_found : (probe : ℕ) (ss : List LineSequence) (i : ℕ) (s : LineSequence) → i < length ss → get_or ss i s ≡ s → s.start ≤ probe → SequencesPast probe ss (i + 1) → last (at_or_below packed_start probe ss) ≡ Some s
-sequence_found probe ss i s l e low h = last_is_at (λ t. nat_le (packed_start t) probe) ss i s l e (reached s.start probe low) (λ k d from high. past _ probe (h k d from high))
+sequence_found probe ss i s l e low h = last_is_at (λ t. nat_le (packed_start t) probe) ss i s l e (reached s.start probe low) (λ k d from high. above _ probe (h k d from high))
 
 -- the row at a place is the last of the sequence at or below the probe
 pub row_found : (rows : List Row) (probe : ℕ) (s : LineSequence) (place : ℕ) (row : Row) → IsAmong rows s → s.first ≤ place → place < s.first + s.len → get_or rows place row ≡ row → row.address ≤ probe
@@ -64,7 +58,7 @@ row_found rows probe s place row among from inside is low after =
     let len = z.len_is in
     let here : get_or rs (place - s.first) row ≡ row = z.at (place - s.first) row (omega arith) ∙ ap (λ n. get_or rows n row) same ∙ is in
     last_is_at (λ r. nat_le (row_address r) probe) rs (place - s.first) row (omega arith) here (reached row.address probe low)
-    (λ k d low' high. past _ probe (later z k d (omega arith) (omega arith)))
+    (λ k d low' high. above _ probe (later z k d (omega arith) (omega arith)))
   where
     later : SequenceRows rows s → (k : ℕ) (d : Row) → place < s.first + k → k < s.len → probe < (get_or (take s.len (drop s.first rows)) k d).address
     later z k d l h =

@@ -20,13 +20,13 @@ spanning end rows r = record { row = r; end = span_end end rows r }
 below : (x y : ℕ) → x < y → nat_lt x y ≡ true
 below x y l = grind (arith, nat_tests)
 
-above : (x y : ℕ) → y < x → nat_le x y ≡ false
+pub above : (x y : ℕ) → y < x → nat_le x y ≡ false
 above x y l = grind (arith, nat_tests)
 
 not_below : (x y : ℕ) → y ≤ x → nat_lt x y ≡ false
 not_below x y l = grind (arith, nat_tests)
 
-reached : (x y : ℕ) → x ≤ y → nat_le x y ≡ true
+pub reached : (x y : ℕ) → x ≤ y → nat_le x y ≡ true
 reached x y l = grind (arith, nat_tests)
 
 ended : (a b p : ℕ) → b ≤ p → (nat_le a p && nat_lt p b) ≡ false

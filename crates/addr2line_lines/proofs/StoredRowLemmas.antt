@@ -5,25 +5,22 @@ use Rattle.std.proofs.lemmas.List.{set_split, drop_all}
 use Rattle.std.proofs.lemmas.Nat.{div-add-mod'}
 use Rattle.addr2line_lines.specs.declared.row.Row.{Row}
 use Rattle.addr2line_lines.specs.StoredRows.{are_narrow, fits, row_of_short, shortened, upper_of}
+use Rattle.std.proofs.lemmas.Bool.{and_parts}
 
 -- the last element is another one
 pub set_last : {X : Type 0} (xs : List X) (i : ℕ) (x : X) → i + 1 ≡ length xs → set xs i x ≡ take i xs ++ x ∷ []
 set_last xs i x e = set_split xs i x (omega arith) ∙ ap (λ rest. take i xs ++ x ∷ rest) (drop_all (suc i) xs (omega arith))
-
-both : (a b : Bool) → (a && b) ≡ true → (a ≡ true) × (b ≡ true)
-both true b e = (refl, e)
-both false b e = absurd cc
 
 same_number : (x y : ℕ) → (x == y) ≡ true → x ≡ y
 same_number x y e = grind (arith, nat_tests)
 
 -- what fits is narrow, and its twelve bytes stand for it
 pub fits_narrow : (upper : ℕ) (r : Row) → fits upper r ≡ true → are_narrow r ≡ true
-fits_narrow upper r e = (both (upper_of r == upper) (are_narrow r) e).1
+fits_narrow upper r e = (and_parts (upper_of r == upper) (are_narrow r) e).1
 
 pub short_is : (upper : ℕ) (r : Row) → fits upper r ≡ true → row_of_short upper (shortened r) ≡ r
 short_is upper r e =
-    let same = same_number (upper_of r) upper (both (upper_of r == upper) (are_narrow r) e).0 in
+    let same = same_number (upper_of r) upper (and_parts (upper_of r == upper) (are_narrow r) e).0 in
     ap (λ (a : ℕ). row_at a) (ap (λ u. u * 2 ^ 32 + r.address % 2 ^ 32) (sym same) ∙ div-add-mod' r.address (2 ^ 32))
   where
     row_at : ℕ → Row

@@ -31,7 +31,7 @@ waiting_is_undecided states.Main e = absurd cc
 waiting_is_undecided (states.Unnamed x) e = absurd cc
 waiting_is_undecided (states.Answered a) e = absurd cc
 
-unread_are : {R : Type 0} (scope : Scope) (u : UnitRecord) (f : LazyFunctions R) → were_read f ≡ false → AreFunctionsOf scope u f
+pub unread_are : {R : Type 0} (scope : Scope) (u : UnitRecord) (f : LazyFunctions R) → were_read f ≡ false → AreFunctionsOf scope u f
 unread_are scope u lazy.Unread e = tt
 unread_are scope u lazy.Absent e = absurd cc
 unread_are scope u (lazy.Read t) e = absurd cc

@@ -34,11 +34,12 @@ use Rattle.addr2line_units.proofs.FoundLemmas.{lendable_if_told}
 use Rattle.addr2line_units.proofs.FramesLookupLemmas.{gives_after, no_stop, oom_before, refused_before, stop_is, stop_there, there_after}
 use Rattle.addr2line_units.proofs.KnownLemmas.{known_is, known_unchanged}
 use Rattle.addr2line_units.proofs.LearnedLemmas.{detail_at, detail_set, detail_unchanged, entries_learn}
-use Rattle.addr2line_units.proofs.NumberedFrames.{asks_are, frames_are, frames_given, functions_take, known_then, lines_only, lines_take, many_are, none_known, none_past, nothing_at, offset_is, places_there, then_known, then_no_memory}
+use Rattle.addr2line_units.proofs.NumberedFrames.{asks_are, frames_are, frames_given, functions_take, known_then, lines_only, lines_take, many_are, none_known, nothing_at, offset_is, places_there, then_known, then_no_memory}
 use Rattle.addr2line_units.proofs.StayLemmas.{stays_known}
 use Rattle.addr2line_units.proofs.UnitAtLemmas.{all_entries, as_many, cache_within, its_entries, unit_is}
 use Rattle.addr2line_units.proofs.UnitsLemmas.{stay_indexed, stay_parsed, stay_set}
 use Rattle.addr2line_units.proofs.WalkLemmas.{and_first, and_not}
+use Rattle.addr2line_units.proofs.LoadLemmas.{slice_get_none}
 
 -- a range of the unit of a number
 abbrev range_of : ℕ → List UnitRange
@@ -65,7 +66,7 @@ module _ {R : Type 0} {scope : Scope} {cs : List (UnitCache R)} {last : FramesSt
   -- there is no unit of that number
   module _ (none : slice_get us n ≡ None) where
     past : length cs ≤ n
-    past = subst (λ m. m ≤ n) (as_many i) (none_past us n none)
+    past = subst (λ m. m ≤ n) (as_many i) (slice_get_none us n none)
 
     of_faults : (faults : OnFault) (r : FramesResult) → r ≡ Ok (Some []) → (after_fault faults r >>= or_stop n (Ok FindsNothing)) ≡ Ok FindsNothing
     of_faults faults r e = ap (λ x. after_fault faults x >>= or_stop n (Ok FindsNothing)) e

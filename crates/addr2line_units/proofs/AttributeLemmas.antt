@@ -13,17 +13,17 @@ use Rattle.gimli.specs.TakenAttributes.{taken_after, taken_in}
 use Rattle.gimli.specs.Unit.{UnitRecord}
 use Rattle.addr2line_lines.specs.declared.function.RangeAttributes.{RangeAttributes}
 use Rattle.addr2line_lines.specs.FoundRanges.{is_range_name}
-use Rattle.addr2line_lines.proofs.DetailLemmas.{neither}
 use Rattle.addr2line_lines.proofs.FoundRanges.{rangeless}
 use Rattle.addr2line_units.specs.declared.attributes.UnitAttributes.{UnitAttributes}
 use Rattle.addr2line_units.specs.UnitAttributes.{language_after, language_of, no_unit_attributes, unit_attributes, with_unit_attribute}
 use Rattle.addr2line_units.specs.WantedAttributes.{is_unit_name}
+use Rattle.std.proofs.lemmas.Bool.{or_parts}
 
 -- an attribute of no such name says nothing
 pub unit_others : (d : Sections) (u : UnitRecord) (r : UnitAttributes) (a : NamedValue) → is_unit_name a.name ≡ false → with_unit_attribute d u r a ≡ Ok r
 unfolding with_unit_attribute
 unit_others d u r a h =
-    let p = neither (is_range_name a.name) (a.name.0 == DW_AT_language.0) h in
+    let p = or_parts (is_range_name a.name) (a.name.0 == DW_AT_language.0) h in
     ap (λ (x : Result RangeAttributes Error). x >>= λ ranges. Ok (record { ranges = ranges; language = language_after r.language a })) (rangeless d u r.ranges a p.0)
     ∙ ap (λ b. Ok (record { ranges = r.ranges; language = cond b (option_or (language_of a.value) r.language) r.language })) p.1
 

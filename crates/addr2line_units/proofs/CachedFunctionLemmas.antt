@@ -30,11 +30,7 @@ use Rattle.addr2line_units.specs.declared.entries.LazyFunctions.TheVariants as l
 use Rattle.addr2line_units.specs.Frames.{FrameRecord, found_frames, found_function, frames_from, function_at, function_from}
 use Rattle.addr2line_units.proofs.FunctionMemoryLemmas.{details_take, place_takes}
 use Rattle.addr2line_units.specs.CachedFunctions.{ArePlacesIn, IsTableOf, ReadsNoOther, StayFunctions, cached_inlined_at, cached_detail_takes_memory, cached_takes_memory, details_at, find_takes_memory, function_of_place, functions_fault, cached_functions, place_takes_memory, reading_takes_memory, table_takes_memory, were_read}
-
--- whether an error is that of memory
-pub memory_or_not : (e : Error) → (e ≡ OutOfMemory) ⊎ (e ≢ OutOfMemory)
-memory_or_not OutOfMemory = inl refl
-memory_or_not _ = inr (λ h. absurd cc)
+use Rattle.gimli_read.proofs.FaultLemmas.{memory_or_not}
 
 -- functions that were just read are those of the view
 pub read_table : (scope : Scope) (view : UnitRecord) (d : Sections) (u : UnitRecord) (t : FunctionTable) → d ≡ scope.file.sections → u ≡ view → functions_of d u ≡ Ok t.ranges → AreListed t → AreUnread t → t.names ≡ [] → IsTableOf scope view t

@@ -10,7 +10,7 @@ use Rattle.addr2line_lines.specs.Details.{Detail}
 use Rattle.addr2line_lines.specs.FunctionTable.{CachedFunction, FunctionTable, cached_detail, function_place_at}
 use Rattle.addr2line_lines.specs.FunctionDetails.{IsFunctionMore, IsTableMore}
 use Rattle.addr2line_lines.specs.References.{Scope}
-use Rattle.addr2line_lines.proofs.NestingLemmas.{grown_not, grown_on}
+use Rattle.addr2line_lines.proofs.NestingLemmas.{grown_not}
 use Rattle.addr2line_units.specs.declared.entries.LazyFunctions.{LazyFunctions}
 use Rattle.addr2line_units.specs.declared.entries.LazyFunctions.TheVariants as lazy
 use Rattle.addr2line_units.specs.declared.entries.UnitCache.{UnitCache}
@@ -24,26 +24,8 @@ use Rattle.addr2line_units.specs.CachedLines.{HaveLinesOf, HaveSameEntries, inde
 use Rattle.addr2line_units.specs.CachedUnits.{HaveCachesOf, HaveEntriesOf, HaveSameLines, IsCacheOf, ReadsOnly, StayAllEntries, answers_in, has_entries_at}
 use Rattle.addr2line_units.specs.CachedViews.{was_checked}
 use Rattle.addr2line_units.proofs.CachedFunctionLemmas.{place_stays}
+use Rattle.addr2line_lines.proofs.ReadLemmas.{functions_same}
 
--- functions with their cached details stay over both of two steps
-functions_same : (fs : List CachedFunction) → AllZip IsFunctionMore fs fs
-functions_same [] = tt
-functions_same (f ∷ fs) = (record { offset = refl; detail = λ d e. e }, functions_same fs)
-
-functions_over : (xs ys zs : List CachedFunction) → AllZip IsFunctionMore xs ys → AllZip IsFunctionMore ys zs → AllZip IsFunctionMore xs zs
-functions_over [] [] [] a b = tt
-functions_over [] [] (z ∷ zs) a b = absurd b
-functions_over [] (y ∷ ys) zs a b = absurd a
-functions_over (x ∷ xs) [] zs a b = absurd a
-functions_over (x ∷ xs) (y ∷ ys) [] a b = absurd b
-functions_over (x ∷ xs) (y ∷ ys) (z ∷ zs) a b = (record { offset = b.0.offset ∙ a.0.offset; detail = λ d e. b.0.detail d (a.0.detail d e) }, functions_over xs ys zs a.1 b.1)
-
-table_over : (t u v : FunctionTable) → IsTableMore t u → IsTableMore u v → IsTableMore t v
-table_over t u v a b = record {
-  ranges = b.ranges ∙ a.ranges;
-  functions = functions_over t.functions u.functions v.functions a.functions b.functions;
-  inlined = grown_on t.inlined u.inlined v.inlined a.inlined b.inlined;
-  names = grown_on t.names u.names v.names a.names b.names;
 }
 
 -- a detail that is cached is cached where more is

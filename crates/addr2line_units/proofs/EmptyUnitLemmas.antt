@@ -35,10 +35,11 @@ use Rattle.addr2line_units.specs.UnitFrames.{FramesResult, frames_in, function_b
 use Rattle.addr2line_units.specs.Views.{View, is_open, verdict, view_scope}
 use Rattle.addr2line_units.proofs.CachedFunctionLemmas.{function_is}
 use Rattle.addr2line_units.proofs.KnownLemmas.{known_is}
-use Rattle.addr2line_units.proofs.NumberedFrames.{frames_are, known_then, none_past}
+use Rattle.addr2line_units.proofs.NumberedFrames.{frames_are, known_then}
 use Rattle.addr2line_units.proofs.UnitAtLemmas.{all_entries, as_many, its_entries, its_lines, unit_is}
 use Rattle.addr2line_units.proofs.UnitFrameLemmas.{lines_frames}
-use Rattle.addr2line_units.proofs.WalkLemmas.{and_first}
+use Rattle.addr2line_units.proofs.WalkLemmas.{and_first, and_second}
+use Rattle.addr2line_units.proofs.LoadLemmas.{slice_get_none}
 
 -- what is absent
 functions_absent : {R : Type 0} (f : LazyFunctions R) → has_no_functions f ≡ true → f ≡ functions.Absent
@@ -52,10 +53,6 @@ lines_absent lines.Unread e = cc
 lines_absent lines.Absent e = refl
 lines_absent (lines.Read t) e = cc
 lines_absent (lines.Faulty x) e = cc
-
-and_then : (a b : Bool) → (a && b) ≡ true → b ≡ true
-and_then true b e = e
-and_then false b e = cc
 
 -- the view that is known
 view_there : {R : Type 0} (d : Sections) (u : UnitRecord) (here : Option (Result View Error)) (s : ViewState R) → has_view s ≡ true → IfSome (verdict_in d u s) (λ cached. cached ≡ here) → (v : View) × (here ≡ Some (Ok v))
@@ -86,10 +83,10 @@ module _ {R : Type 0} (scope : Scope) (u : UnitRecord) (c : UnitCache R) (none :
   no_functions = functions_absent c.entries.functions (and_first _ _ none)
 
   no_lines_there : c.lines.lines ≡ lines.Absent
-  no_lines_there = lines_absent c.lines.lines (and_first _ _ (and_then _ _ none))
+  no_lines_there = lines_absent c.lines.lines (and_first _ _ (and_second _ _ none))
 
   viewed : has_view c.entries.view.state ≡ true
-  viewed = and_then _ _ (and_then _ _ none)
+  viewed = and_second _ _ (and_second _ _ none)
 
   entries_known : has_entries probe c.entries ≡ true
   entries_known = ap (has_entries_by probe c.entries.view.state) no_functions ∙ known_by_view probe c.entries.view.state viewed
@@ -134,7 +131,7 @@ module _ {R : Type 0} {scope : Scope} {cs : List (UnitCache R)} {last : FramesSt
       same = ap (set cs n) at ∙ set-get_or cs n c
 
       by_unit : (o : Option UnitRecord) → slice_get us n ≡ o → HasNothingAt (seen_units scope cs looks was) n
-      by_unit None e = let past = none_past us n e in let many = as_many i in absurd (omega (arith, past, many, within))
+      by_unit None e = let past = slice_get_none us n e in let many = as_many i in absurd (omega (arith, past, many, within))
       by_unit (Some u) there = record {
         stop = λ faults probe. ap (λ (r : FramesResult). after_fault faults r >>= or_stop n (Ok FindsNothing))
             (frames_are scope probe us cs n (all_entries i) within u c c (unit_is i n there) at ∙ frames_none scope u c none probe (its_lines i n there at) (its_entries i n there at));

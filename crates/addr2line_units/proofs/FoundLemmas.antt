@@ -26,7 +26,9 @@ use Rattle.addr2line_units.specs.UnitFrames.{FramesResult, frames_by, frames_in,
 use Rattle.addr2line_units.specs.RangedUnits.{IndexedUnit}
 use Rattle.addr2line_units.specs.Views.{FirstAnswers, is_open}
 use Rattle.addr2line_units.proofs.AnswerLemmas.{looked_waits}
-use Rattle.addr2line_units.proofs.WaitLemmas.{and_first, and_second, known_was_checked, waits_where_told}
+use Rattle.addr2line_units.proofs.WaitLemmas.{known_was_checked, waits_where_told}
+use Rattle.addr2line_units.proofs.WalkLemmas.{and_first, and_second}
+use Rattle.addr2line_units.proofs.EntryLemmas.{looked_decides}
 
 number_of : LookupStop → ℕ → ℕ
 number_of (Waits n) d = d
@@ -85,13 +87,6 @@ decided_by_frames scope u answer probe e = of_open (is_open scope.file.sections 
     of_open true r k = absurd cc
     of_open false r k = refl
 
-pub looked_is_decided : {R : Type 0} (s : ViewState R) → was_checked s ≡ true → waits s ≡ false → is_decided s ≡ true
-looked_is_decided states.Undecided e w = absurd cc
-looked_is_decided states.Open e w = absurd cc
-looked_is_decided states.Main e w = refl
-looked_is_decided (states.Unnamed x) e w = refl
-looked_is_decided (states.Answered a) e w = refl
-
 -- of a unit that was looked at and has frames the view is known
 module _ {R : Type 0} (scope : Scope) (probe : ℕ) where
   decided_there : (us : List UnitRecord) (vs : List (UnitCache R)) (n : ℕ) → HaveEntriesOf scope us vs
@@ -102,7 +97,7 @@ module _ {R : Type 0} (scope : Scope) (probe : ℕ) where
   decided_there (u ∷ us) (v ∷ vs) zero own e h =
       let decided = decided_by_frames scope (record { unit = u; language = v.lines.lang }) (first_answer_of v.entries) probe e in
       let looked = known_was_checked probe v.entries h in
-      looked_is_decided v.entries.view.state looked (looked_waits scope.file.sections u v.entries.view own.0.view looked ∙ decided)
+      looked_decides v.entries.view.state looked (looked_waits scope.file.sections u v.entries.view own.0.view looked ∙ decided)
   decided_there (u ∷ us) (v ∷ vs) (suc n) own e h = decided_there us vs n own.1 e h
 
   -- so it is where a lookup has found something

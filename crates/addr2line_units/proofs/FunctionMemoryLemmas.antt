@@ -15,9 +15,9 @@ use Rattle.addr2line_lines.specs.FunctionDetails.{details_take_memory}
 use Rattle.addr2line_lines.specs.Functions.{FunctionRange, entries_of, entry_gives_a_range, once_before, entry_ranges, function_offset_at, functions_of, functions_take_memory, has_function, have_function, is_subprogram, with_function}
 use Rattle.addr2line_lines.specs.FunctionTable.{AreListed, CachedFunction, FunctionTable, cached_offset_at}
 use Rattle.addr2line_lines.specs.References.{Scope}
-use Rattle.addr2line_lines.proofs.FunctionLemmas.{or_first, or_second}
 use Rattle.addr2line_lines.proofs.FunctionMemory.{listed_well}
 use Rattle.addr2line_units.specs.CachedFunctions.{IsTableOf, place_takes_memory, table_takes_memory}
+use Rattle.std.proofs.lemmas.Bool.{or_left, or_right}
 
 module _ (d : Sections) (u : UnitRecord) where
   abbrev ranged : ℕ → List Range → List FunctionRange
@@ -46,7 +46,7 @@ module _ (d : Sections) (u : UnitRecord) where
           by_test false k = refl
 
   have_rest : (found more : List FunctionRange) (x : Item) (xs : List Item) → with_function d u found x ≡ Ok more → have_function d u xs ≡ true → have_function d u (x ∷ xs) ≡ true
-  have_rest found more x xs e h = or_second (has_function d u x) (is_ok (with_function d u [] x) && have_function d u xs) (ap (λ b. b && have_function d u xs) (one_well found more x e) ∙ h)
+  have_rest found more x xs e h = or_right (has_function d u x) (is_ok (with_function d u [] x) && have_function d u xs) (ap (λ b. b && have_function d u xs) (one_well found more x e) ∙ h)
 
   one_has : (found more : List FunctionRange) (x : Item) → with_function d u found x ≡ Ok more → 0 < length more → (0 < length found) ⊎ (has_function d u x ≡ true)
   one_has found more x e l = by_entry x.entry e
@@ -78,7 +78,7 @@ module _ (d : Sections) (u : UnitRecord) where
       by_step : (r : Result (List FunctionRange) Error) → with_function d u found x ≡ r → (r >>= λ v. fold_run (with_function d u) v xs end) ≡ Ok (m, z)
           → ((more : List FunctionRange) → fold_run (with_function d u) more xs end ≡ Ok (m, z) → (0 < length more) ⊎ (have_function d u xs ≡ true)) → (0 < length found) ⊎ (have_function d u (x ∷ xs) ≡ true)
       by_step (Ok more) q k rest = elim (rest more k) [
-        | inl some ↦ elim (one_has found more x q some) [ inl f ↦ inl f | inr h ↦ inr (or_first (has_function d u x) (is_ok (with_function d u [] x) && have_function d u xs) h) ]
+        | inl some ↦ elim (one_has found more x q some) [ inl f ↦ inl f | inr h ↦ inr (or_left (has_function d u x) (is_ok (with_function d u [] x) && have_function d u xs) h) ]
         | inr h ↦ inr (have_rest found more x xs q h)
       ]
       by_step (Err f) q k rest = absurd cc
@@ -113,7 +113,7 @@ no_ranges t listed none = by_functions t.functions t.ranges listed none
 module _ (shares : Bool) (scope : Scope) (view : UnitRecord) (t : FunctionTable) (is : IsTableOf scope view t) where
   with_ranges : (r : FunctionRange) (rs : List FunctionRange) → t.ranges ≡ r ∷ rs → functions_take_memory shares scope.file.sections view ≡ true
   with_ranges r rs e =
-      or_second shares (have_function scope.file.sections view (items_of view).items)
+      or_right shares (have_function scope.file.sections view (items_of view).items)
       (functions_have scope.file.sections view t.ranges is.ranges (subst (λ (v : List FunctionRange). 0 < length v) (sym e) (omega arith)))
 
   -- where a detail of functions takes memory, so may reading the functions

@@ -30,7 +30,7 @@ use Rattle.addr2line_units.specs.CachedViews.{is_decided, seen_sections, unboxed
 use Rattle.addr2line_units.specs.KnownEntries.{AllKnown, FunctionsKnown, HasNoFunctions, KnownEntries, KnownFunction, LearnsNoDetails, LearnsNoFunctions, NothingKnown, is_detail_known, knows_detail, knows_detail_at}
 use Rattle.addr2line_units.specs.UnitFrames.{function_offset_among, function_offset_by, function_offset_in}
 use Rattle.addr2line_units.specs.Views.{View, verdict, view_scope}
-use Rattle.addr2line_units.proofs.AnswerLemmas.{others_stay}
+use Rattle.addr2line_units.proofs.AnswerLemmas.{others_stay, decided_was_checked}
 use Rattle.addr2line_units.proofs.CachedFunctionLemmas.{first_same, unread_at}
 use Rattle.addr2line_units.proofs.KnownLemmas.{known_unchanged}
 use Rattle.addr2line_units.proofs.KnownTableLemmas.{detail_known, find_known}
@@ -150,14 +150,6 @@ module _ {R : Type 0} (offset : ℕ) where
   same_known (states.Unnamed x) f g e = never (sym (fault_has_none offset x) ∙ e)
   same_known (states.Answered a) f g e = same_answered a.unit f g e
 
--- a view that was decided was looked at
-looked_if_decided : {R : Type 0} (s : ViewState R) → is_decided s ≡ true → was_checked s ≡ true
-looked_if_decided states.Undecided e = never e
-looked_if_decided states.Open e = refl
-looked_if_decided states.Main e = refl
-looked_if_decided (states.Unnamed x) e = refl
-looked_if_decided (states.Answered a) e = refl
-
 decided_if_read : (decided read : Bool) → (decided ≡ false → read ≡ false) → read ≡ true → decided ≡ true
 decided_if_read true read h e = refl
 decided_if_read false read h e = never (sym (h refl) ∙ e)
@@ -189,7 +181,7 @@ module _ {R : Type 0} (scope : Scope) (u : UnitRecord) (probe offset : ℕ) (v w
       was_known : knows_detail offset (known_functions v.functions) ≡ true → knows_detail offset (known_by v.view.state v.functions) ≡ true
       was_known h =
           let decided = decided_if_read (is_decided v.view.state) (were_read v.functions) before.unread (are_read offset v.functions h) in
-          let same = stay.view (looked_if_decided v.view.state decided) in
+          let same = stay.view (decided_was_checked v.view.state decided) in
           same_known offset v.view.state v.functions w.functions (ap (λ y. knows_detail offset (known_by y.state w.functions)) (sym same) ∙ e) ∙ h
 
 -- no functions are known that were not read
@@ -232,7 +224,7 @@ answered_learns scope u v w before functions same = decided_or_unread scope u v 
 -- a unit that was looked at, by which nothing is changed of its functions
 pub looked_learns : {R : Type 0} (scope : Scope) (u : UnitRecord) (v w : UnitEntries R) → AreEntriesOf scope u v → StayEntries v w → w.functions ≡ v.functions → UnitLearnsNone v w
 looked_learns scope u v w before stay functions = decided_or_unread scope u v w before functions
-    (λ e. ap (known_by w.view.state) functions ∙ ap (λ y. known_by y.state v.functions) (stay.view (looked_if_decided v.view.state e)))
+    (λ e. ap (known_by w.view.state) functions ∙ ap (λ y. known_by y.state v.functions) (stay.view (decided_was_checked v.view.state e)))
 
 -- a unit that was forgotten
 pub forgotten_learns : {R : Type 0} (v w : UnitEntries R) → (first_answer_of v ≡ None → w ≡ v) → (is_some (first_answer_of v) ≡ true → were_read w.functions ≡ false) → UnitLearnsNone v w

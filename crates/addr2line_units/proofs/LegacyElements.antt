@@ -7,9 +7,10 @@ use Rattle.std.specs.Str.{byte}
 use Rattle.std.specs.Str.Parse.{digits_value}
 use Rattle.std.proofs.Math.Seq.{take-append_seam, drop-append_seam}
 use Rattle.std.proofs.lemmas.List.Folds.{length-prefix_len}
-use Rattle.addr2line_units.proofs.LegacySteps.{and_left, and_right, some_if, front_parts, elements_some, elements_none}
+use Rattle.addr2line_units.proofs.LegacySteps.{some_if, front_parts, elements_some, elements_none}
 use Rattle.addr2line_units.specs.LegacyElements.{is_first, IsElement, AreElements}
 use Rattle.addr2line_units.specs.LegacyText.{ascii_front, element_at, elements_by, elements_within, elements_at}
+use Rattle.addr2line_units.proofs.WalkLemmas.{and_first, and_second}
 
 -- all digits that stand first, and none after them
 digits_first : (text : List ℕ) → list_all is_ascii_digit (take (prefix_len is_ascii_digit text) text) ≡ true
@@ -38,8 +39,8 @@ digits_len_of : (digits rest : List ℕ) → list_all is_ascii_digit digits ≡ 
 digits_len_of [] [] h none = refl
 digits_len_of [] (b ∷ bs) h none = ap (λ q. cond q (1 + prefix_len is_ascii_digit bs) 0) none
 digits_len_of (d ∷ ds) rest h none =
-    ap (λ q. cond q (1 + prefix_len is_ascii_digit (ds ++ rest)) 0) (and_left _ _ h)
-    ∙ ap (λ n. 1 + n) (digits_len_of ds rest (and_right _ _ h) none) ∙ omega arith
+    ap (λ q. cond q (1 + prefix_len is_ascii_digit (ds ++ rest)) 0) (and_first _ _ h)
+    ∙ ap (λ n. 1 + n) (digits_len_of ds rest (and_second _ _ h) none) ∙ omega arith
 
 -- an element that the function finds
 pub element_found : (text element rest : List ℕ) → element_at text ≡ Some (element, rest)

@@ -7,10 +7,11 @@ use Rattle.std.proofs.lemmas.List.Elements.{All-contains}
 use Rattle.std.proofs.lemmas.Slice.Eq.{starts_is}
 use Rattle.std.proofs.lemmas.Bool.{eqb-true}
 use Rattle.std.proofs.lemmas.Bool.Decides.{Decides-eqb}
-use Rattle.addr2line_units.proofs.LegacySteps.{and_left, and_right, some_if, some_inj}
+use Rattle.addr2line_units.proofs.LegacySteps.{some_if, some_inj}
 use Rattle.addr2line_units.specs.LegacyName.{llvm_mark, is_llvm_byte, IsFirstMark, IsKept, cut, whole, prefixes, is_suffix}
 use Rattle.addr2line_units.specs.LegacyElements.{is_hash, AreShown, hashed, all}
 use Rattle.addr2line_units.specs.LegacyText.{without_llvm, after_first, without_prefix, without_hash, suffix_at}
+use Rattle.addr2line_units.proofs.WalkLemmas.{and_first, and_second}
 
 -- a mark stands first
 mark_here : (bytes : List ℕ) → starts_with nat_eq bytes llvm_mark ≡ true → bytes ≡ llvm_mark ++ drop (length llvm_mark) bytes
@@ -219,7 +220,7 @@ suffix_found [] suffix h = let bad : ⊥ = cc in absurd bad
 suffix_found (b ∷ bs) suffix h =
     let chosen : ((b == byte "E" && is_suffix bs) ≡ true) × (Some bs ≡ Some suffix) = some_if _ _ _ h in
     let same : bs ≡ suffix = some_inj _ _ chosen.1 in
-    (ap (λ c. c ∷ bs) (eqb-true b (byte "E") (and_left _ _ chosen.0)) ∙ ap (λ s. byte "E" ∷ s) same, sym (ap is_suffix same) ∙ and_right _ _ chosen.0)
+    (ap (λ c. c ∷ bs) (eqb-true b (byte "E") (and_first _ _ chosen.0)) ∙ ap (λ s. byte "E" ∷ s) same, sym (ap is_suffix same) ∙ and_second _ _ chosen.0)
 
 -- the function finds the suffix
 pub suffix_read : (suffix : List ℕ) → is_suffix suffix ≡ true → suffix_at (byte "E" ∷ suffix) ≡ Some suffix

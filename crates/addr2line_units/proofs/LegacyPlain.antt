@@ -14,9 +14,10 @@ use Rattle.std.proofs.lemmas.List.Sums.{prefix_len_stops, AllPass-from_list_all}
 use Rattle.std.proofs.lemmas.List.Elements.{All-contains}
 use Rattle.std.proofs.lemmas.Map.Views.{Contains-from_lookup}
 use Rattle.std.proofs.lemmas.Slice.Eq.{bytes_eq-Decides, starts_is}
-use Rattle.addr2line_units.proofs.LegacySteps.{and_left, and_right, some_if, some_inj, plain_skip}
+use Rattle.addr2line_units.proofs.LegacySteps.{some_if, some_inj, plain_skip}
 use Rattle.addr2line_units.specs.LegacyElements.{after_code_points, after_surrogates, first_surrogate, is_scalar_value, is_lower_hex, escapes, IsEscape, NoEscape, is_first, is_dot, IsPlain, IsElementText, AreTexts, by_name, by_number, nothing, dots, escape, as_it_stands, any_other, bare, other}
 use Rattle.addr2line_units.specs.LegacyText.{shown_char, numbered_char, escape_char, escape_in, escape_text, plain_from, element_text}
+use Rattle.addr2line_units.proofs.WalkLemmas.{and_first, and_second}
 
 or_cond : (a b : Bool) → (a || b) ≡ cond a true b
 or_cond true b = refl
@@ -33,7 +34,7 @@ not_is false h = refl
 shown_is : (n c : ℕ) → shown_char n ≡ Some c → (n ≡ c) × IsScalar n × (is_control n ≡ false)
 shown_is n c h =
     let chosen : ((is_scalar_value n && not (is_control n)) ≡ true) × (Some n ≡ Some c) = some_if _ _ _ h in
-    (some_inj _ _ chosen.1, scalar_is n (and_left _ _ chosen.0), not_is _ (and_right _ _ chosen.0))
+    (some_inj _ _ chosen.1, scalar_is n (and_first _ _ chosen.0), not_is _ (and_second _ _ chosen.0))
 
 shown_if : (n : ℕ) → IsScalar n → is_control n ≡ false → shown_char n ≡ Some n
 shown_if n scalar control =
@@ -48,11 +49,11 @@ number_is : (body : List ℕ) (c : ℕ) → numbered_char body ≡ Some c → Is
 number_is [] c h = no_char c _ h
 number_is (b ∷ digits) c h =
     let chosen : ((b == byte "u" && (nat_lt 0 (length digits) && list_all is_lower_hex digits)) ≡ true) × (shown_char (digits_value 16 digits) ≡ Some c) = some_if _ _ _ h in
-    let u : b ≡ byte "u" = eqb-true b (byte "u") (and_left _ _ chosen.0) in
-    let rest : (nat_lt 0 (length digits) && list_all is_lower_hex digits) ≡ true = and_right _ _ chosen.0 in
+    let u : b ≡ byte "u" = eqb-true b (byte "u") (and_first _ _ chosen.0) in
+    let rest : (nat_lt 0 (length digits) && list_all is_lower_hex digits) ≡ true = and_second _ _ chosen.0 in
     let shown : (digits_value 16 digits ≡ c) × IsScalar (digits_value 16 digits) × (is_control (digits_value 16 digits) ≡ false) = shown_is _ c chosen.1 in
     let P : ℕ → Type 0 = λ x. IsEscape (x ∷ digits) c in
-    subst P (sym u) (subst (IsEscape (byte "u" ∷ digits)) shown.0 (by_number digits (ltb-true _ _ (and_left _ _ rest)) (and_right _ _ rest) shown.1 shown.2))
+    subst P (sym u) (subst (IsEscape (byte "u" ∷ digits)) shown.0 (by_number digits (ltb-true _ _ (and_first _ _ rest)) (and_second _ _ rest) shown.1 shown.2))
 
 -- what the function takes for an escape is one
 escape_is : (body : List ℕ) (c : ℕ) → escape_char body ≡ Some c → IsEscape body c
@@ -124,7 +125,7 @@ hex_byte b h = grind (arith, nat_tests)
 
 hex_bytes : (bytes : List ℕ) → list_all is_lower_hex bytes ≡ true → list_all (λ b. not (b == byte "$")) bytes ≡ true
 hex_bytes [] h = refl
-hex_bytes (b ∷ bs) h = ap (λ q. q && list_all (λ b. not (b == byte "$")) bs) (hex_byte b (and_left _ _ h)) ∙ hex_bytes bs (and_right _ _ h)
+hex_bytes (b ∷ bs) h = ap (λ q. q && list_all (λ b. not (b == byte "$")) bs) (hex_byte b (and_first _ _ h)) ∙ hex_bytes bs (and_second _ _ h)
 
 no_dollar : (body : List ℕ) (c : ℕ) → IsEscape body c → list_all (λ b. not (b == byte "$")) body ≡ true
 no_dollar _ _ (by_name body c among) =
@@ -135,8 +136,8 @@ no_dollar _ _ (by_number digits some hex scalar control) = hex_bytes digits hex
 dollar_len : (body rest : List ℕ) → list_all (λ b. not (b == byte "$")) body ≡ true → prefix_len (λ b. not (b == byte "$")) (body ++ (byte "$" ∷ rest)) ≡ length body
 dollar_len [] rest h = refl
 dollar_len (b ∷ bs) rest h =
-    ap (λ q. cond q (1 + prefix_len (λ b. not (b == byte "$")) (bs ++ (byte "$" ∷ rest))) 0) (and_left _ _ h)
-    ∙ ap (λ n. 1 + n) (dollar_len bs rest (and_right _ _ h)) ∙ omega arith
+    ap (λ q. cond q (1 + prefix_len (λ b. not (b == byte "$")) (bs ++ (byte "$" ∷ rest))) 0) (and_first _ _ h)
+    ∙ ap (λ n. 1 + n) (dollar_len bs rest (and_second _ _ h)) ∙ omega arith
 
 dollar_read : (body rest : List ℕ) → list_all (λ b. not (b == byte "$")) body ≡ true → position (λ b. b == byte "$") (body ++ (byte "$" ∷ rest)) ≡ Some (length body)
 dollar_read body rest h =
@@ -172,10 +173,10 @@ plain_same a b s t e f h =
 
 -- two dots
 dots_are : (b : ℕ) (bs : List ℕ) → (is_dot b && is_first is_dot bs) ≡ true → IsPlain (drop 1 bs) (plain_from 0 (drop 1 bs)) → IsPlain (b ∷ bs) (codes "::" ++ plain_from 1 bs)
-dots_are b [] h is = let none : false ≡ true = and_right (b == byte ".") false h in let bad : ⊥ = cc in absurd bad
+dots_are b [] h is = let none : false ≡ true = and_second (b == byte ".") false h in let bad : ⊥ = cc in absurd bad
 dots_are b (c ∷ cs) h is =
     plain_same (b ∷ c ∷ cs) (codes ".." ++ cs) _ _
-    (ap (λ x. x ∷ c ∷ cs) (eqb-true b (byte ".") (and_left _ _ h)) ∙ ap (λ x. byte "." ∷ x ∷ cs) (eqb-true c (byte ".") (and_right _ _ h))) refl (dots cs _ is)
+    (ap (λ x. x ∷ c ∷ cs) (eqb-true b (byte ".") (and_first _ _ h)) ∙ ap (λ x. byte "." ∷ x ∷ cs) (eqb-true c (byte ".") (and_second _ _ h))) refl (dots cs _ is)
 
 one_dot : (b : ℕ) (bs : List ℕ) → (is_dot b && is_first is_dot bs) ≡ false → b ≡ byte "." → is_first is_dot bs ≡ false
 one_dot b [] h e = refl

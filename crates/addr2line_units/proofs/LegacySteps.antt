@@ -13,15 +13,7 @@ use Rattle.std.proofs.lemmas.Int.Digits.{digits_value_more}
 use Rattle.addr2line_units.specs.LegacyName.{llvm_mark, is_llvm_byte, is_suffix_byte, is_suffix, joined, after_colons}
 use Rattle.addr2line_units.specs.LegacyElements.{is_hash, is_first, is_dot}
 use Rattle.addr2line_units.specs.LegacyText.{without_llvm, element_at, ascii_front, elements_by, elements_within, elements_at, without_hash, element_text, joint_text, escape_in, escape_text, plain_from}
-
--- both sides of a test
-pub and_left : (a b : Bool) → (a && b) ≡ true → a ≡ true
-and_left true b h = refl
-and_left false b h = cc
-
-pub and_right : (a b : Bool) → (a && b) ≡ true → b ≡ true
-and_right true b h = h
-and_right false b h = cc
+use Rattle.addr2line_units.proofs.WalkLemmas.{and_first, and_second}
 
 pub some_inj : {A : Type 0} (x y : A) → Some x ≡ Some y → x ≡ y
 some_inj x y h = cc
@@ -71,11 +63,11 @@ suffix_byte b h = grind (arith, nat_tests)
 
 suffix_bytes : (bs : List ℕ) → list_all is_suffix_byte bs ≡ true → list_all is_ascii bs ≡ true
 suffix_bytes [] h = refl
-suffix_bytes (b ∷ bs) h = rw (suffix_byte b (and_left _ _ h)) (suffix_bytes bs (and_right _ _ h))
+suffix_bytes (b ∷ bs) h = rw (suffix_byte b (and_first _ _ h)) (suffix_bytes bs (and_second _ _ h))
 
 pub suffix_is_text : (bs : List ℕ) → is_suffix bs ≡ true → list_all is_ascii bs ≡ true
 suffix_is_text [] h = refl
-suffix_is_text (b ∷ bs) h = suffix_bytes (b ∷ bs) (and_right _ _ h)
+suffix_is_text (b ∷ bs) h = suffix_bytes (b ∷ bs) (and_second _ _ h)
 
 -- a first element, and what follows it
 pub front_parts : (n : ℕ) (bytes front rest : List ℕ) → ascii_front n bytes ≡ Some (front, rest)
@@ -85,8 +77,8 @@ front_parts n bytes front rest h =
     let same : Some (take n bytes, drop n bytes) ≡ Some (front, rest) = chosen.1 in
     let a : take n bytes ≡ front = ap first_of_two (some_inj _ _ same) in
     let b : drop n bytes ≡ rest = ap second_of_two (some_inj _ _ same) in
-    let le : n ≤ length bytes = leb-true _ _ (and_left _ _ chosen.0) in
-    (sym (take-append-drop n bytes) ∙ ap (λ s. s ++ drop n bytes) a ∙ ap (λ s. front ++ s) b, sym (ap length a) ∙ omega (arith, length-take n bytes), sym (ap (list_all is_ascii) a) ∙ and_right _ _ chosen.0)
+    let le : n ≤ length bytes = leb-true _ _ (and_first _ _ chosen.0) in
+    (sym (take-append-drop n bytes) ∙ ap (λ s. s ++ drop n bytes) a ∙ ap (λ s. front ++ s) b, sym (ap length a) ∙ omega (arith, length-take n bytes), sym (ap (list_all is_ascii) a) ∙ and_second _ _ chosen.0)
 
 pub element_shorter : (text element rest : List ℕ) → element_at text ≡ Some (element, rest) → length rest < length text
 unfolding element_at
@@ -140,7 +132,7 @@ rest_none text all h e = sym (ap (λ p. p.1) (elements_none text h)) ∙ e
 pub text_drop : (n : ℕ) (bytes : List ℕ) → list_all is_ascii bytes ≡ true → list_all is_ascii (drop n bytes) ≡ true
 text_drop zero bytes h = h
 text_drop (suc n) [] h = refl
-text_drop (suc n) (b ∷ bs) h = text_drop n bs (and_right _ _ h)
+text_drop (suc n) (b ∷ bs) h = text_drop n bs (and_second _ _ h)
 
 pub plain_skip : (n : ℕ) (bytes : List ℕ) → plain_from n bytes ≡ plain_from 0 (drop n bytes)
 plain_skip zero bytes = refl
@@ -234,8 +226,8 @@ left_out_here : (element rest : List ℕ) → (is_hash element && is_none (eleme
     → (elements_at rest).0 ≡ [] × is_hash element ≡ true
 left_out_here element rest h =
     elim (element_at rest) as (λ o. element_at rest ≡ o → (is_hash element && is_none o) ≡ true → (elements_at rest).0 ≡ [] × is_hash element ≡ true) [
-      | None ↦ λ same q. (ap (λ p. p.0) (elements_none rest same), and_left _ _ q)
-      | Some e ↦ λ _ q. let bad : false ≡ true = and_right (is_hash element) false q in let worse : ⊥ = cc in absurd worse
+      | None ↦ λ same q. (ap (λ p. p.0) (elements_none rest same), and_first _ _ q)
+      | Some e ↦ λ _ q. let bad : false ≡ true = and_second (is_hash element) false q in let worse : ⊥ = cc in absurd worse
     ] refl h
 
 first_elements : (text element rest : List ℕ) → element_at text ≡ Some (element, rest) → (elements_at text).0 ≡ element ∷ (elements_at rest).0

@@ -24,10 +24,10 @@ use Rattle.addr2line_units.specs.StoredUnits.{AreUnits, seen_units}
 use Rattle.addr2line_units.specs.UnitsState.{UnitsState, files_of, row_location}
 use Rattle.addr2line_units.proofs.AskMemoryLemmas.{either_none, none_refused}
 use Rattle.addr2line_units.proofs.CachedUnitLemmas.{same_entries_set}
-use Rattle.addr2line_units.proofs.NumberedFrames.{none_past}
 use Rattle.addr2line_units.proofs.StateLemmas.{after_lines, files_are}
 use Rattle.addr2line_units.proofs.UnitAtLemmas.{all_lines, as_many, cache_within, unit_is, unit_within}
 use Rattle.addr2line_units.proofs.UnitsLemmas.{answer_cached, lines_read, lines_set, no_parsed, no_unit, only_set, own_set, parsed_set, set_parsed, stay_indexed, stay_set, unit_at}
+use Rattle.addr2line_units.proofs.LoadLemmas.{slice_get_none}
 
 module _ {R : Type 0} {scope : Scope} {cs : List (UnitCache R)} {last : FramesStop} (i : AreUnits scope cs last) (n : ℕ) (looks : ℕ) (was : LookupStop) where
   abbrev d : Sections
@@ -42,7 +42,7 @@ module _ {R : Type 0} {scope : Scope} {cs : List (UnitCache R)} {last : FramesSt
   -- there is no unit of that number
   module _ (none : slice_get us n ≡ None) where
     past : length cs ≤ n
-    past = subst (λ m. m ≤ n) (as_many i) (none_past us n none)
+    past = subst (λ m. m ≤ n) (as_many i) (slice_get_none us n none)
 
     pub none_row : (probe : ℕ) → location_in d probe (slice_get old.units n) ≡ Ok None
     none_row probe = ap (location_in d probe) (no_unit us cs n past)

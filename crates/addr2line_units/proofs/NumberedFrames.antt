@@ -22,7 +22,7 @@ use Rattle.addr2line_units.specs.Parsed.{ParsesOnly, has_parsed}
 use Rattle.addr2line_units.specs.UnitFrames.{asks_lines_in, frames_in, function_offset_in, inlined_of_unit}
 use Rattle.addr2line_units.proofs.UnitsLemmas.{no_parsed, no_unit, only_set, parsed_set, set_parsed, unit_at}
 use Rattle.addr2line_units.proofs.CachedUnitLemmas.{answer_at, as_many_entries, parsed_by_lines, same_lines_set}
-use Rattle.addr2line_units.proofs.WalkLemmas.{and_first}
+use Rattle.addr2line_units.proofs.WalkLemmas.{and_first, and_second}
 
 pub got_set : {X : Type 0} (xs : List X) (n : ℕ) (x : X) → n < length xs → slice_get (set xs n x) n ≡ Some x
 got_set [] n x h = absurd (omega arith)
@@ -33,11 +33,6 @@ below_set : {X : Type 0} (xs : List X) (n : ℕ) (x : X) → n < length xs → n
 below_set [] n x h = absurd (omega arith)
 below_set (y ∷ xs) zero x h = omega arith
 below_set (y ∷ xs) (suc n) x h = let less = below_set xs n x (omega arith) in omega (arith, less)
-
-pub none_past : {X : Type 0} (xs : List X) (n : ℕ) → slice_get xs n ≡ None → length xs ≤ n
-none_past [] n e = omega arith
-none_past (y ∷ xs) zero e = cc
-none_past (y ∷ xs) (suc n) e = let less = none_past xs n e in omega (arith, less)
 
 module _ {R : Type 0} (scope : Scope) (probe : ℕ) (us : List UnitRecord) (cs : List (UnitCache R)) (n : ℕ) where
   abbrev asks : ℕ → Bool
@@ -151,6 +146,3 @@ module _ {R : Type 0} (scope : Scope) (probe : ℕ) (us : List UnitRecord) (cs :
         not_or true b e q = e
         not_or false b e q = cc
 
-        and_second : (a b : Bool) → (a && b) ≡ true → b ≡ true
-        and_second true b e = e
-        and_second false b e = cc

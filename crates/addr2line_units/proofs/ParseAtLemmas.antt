@@ -27,7 +27,6 @@ use Rattle.addr2line_units.specs.Views.{FirstAnswers, is_open}
 use Rattle.addr2line_units.proofs.AnswerLemmas.{answered_all, answers_stay, decided_if_not, looked_waits, others_stay}
 use Rattle.addr2line_units.proofs.CachedParseLemmas.{got_set}
 use Rattle.addr2line_units.proofs.CachedUnitLemmas.{entries_more, same_lines_set}
-use Rattle.addr2line_units.proofs.FoundLemmas.{looked_is_decided}
 use Rattle.addr2line_units.proofs.KnownLemmas.{known_is, known_unchanged}
 use Rattle.addr2line_units.proofs.LearnedLemmas.{set_details}
 use Rattle.addr2line_units.proofs.LoadLemmas.{slice_get_none, unknown_answer}
@@ -35,6 +34,7 @@ use Rattle.addr2line_units.proofs.StateLemmas.{only_entries}
 use Rattle.addr2line_units.proofs.StayLemmas.{entries_whole, whole_was_checked}
 use Rattle.addr2line_units.proofs.UnitAtLemmas.{all_entries, as_many, cache_within, its_entries, unit_is, unit_within}
 use Rattle.addr2line_units.proofs.WaitLemmas.{known_was_checked}
+use Rattle.addr2line_units.proofs.EntryLemmas.{looked_decides}
 
 -- what is read of the unit of a number, whether it is open, and whether memory is taken, by its
 -- record and its first answer
@@ -166,7 +166,7 @@ module _ {R : Type 0} {scope : Scope} {held : List (UnitCache R)} {last : Frames
 
     -- a unit that isn't open is decided where something is known of it, and what was known stays
     decided : was_checked v.view.state ≡ true → is_open_at d us (answers_in held) n ≡ false → is_decided v.view.state ≡ true
-    decided looked shut = looked_is_decided v.view.state looked (looked_waits d u v.view (its_entries i n there at).view looked ∙ sym open_was ∙ shut)
+    decided looked shut = looked_decides v.view.state looked (looked_waits d u v.view (its_entries i n there at).view looked ∙ sym open_was ∙ shut)
 
     stays_known : is_open_at d us (answers_in held) n ≡ false → StaysKnownOf n (known_in held) (known_in now)
     stays_known shut = record {

@@ -18,9 +18,9 @@ use Rattle.addr2line_units.specs.CachedViews.{answer_in, is_decided}
 use Rattle.addr2line_units.specs.CachedKnown.{known_by, known_functions}
 use Rattle.addr2line_units.specs.KnownEntries.{NothingKnown, AllKnown}
 use Rattle.addr2line_units.proofs.AnswerLemmas.{looked_waits}
-use Rattle.addr2line_units.proofs.FoundLemmas.{looked_is_decided}
 use Rattle.addr2line_units.proofs.WaitLemmas.{known_was_checked}
 use Rattle.addr2line_units.specs.StaysKnown.{IsReadBy}
+use Rattle.addr2line_units.proofs.EntryLemmas.{looked_decides}
 
 -- no fault was read
 pub never_fault : (depth : ReadingDepth) (b : Bool) → IsReadBy depth (if b then AllKnown else NothingKnown) → ⊥
@@ -50,7 +50,7 @@ module _ {R : Type 0} where
   known_is_decided scope probe (u ∷ us) [] n own shut e = absurd own
   known_is_decided scope probe (u ∷ us) (v ∷ vs) zero own shut e =
       let looked = known_was_checked probe v.entries e in
-      inl (looked_is_decided v.entries.view.state looked (looked_waits scope.file.sections u v.entries.view own.0.view looked ∙ shut))
+      inl (looked_decides v.entries.view.state looked (looked_waits scope.file.sections u v.entries.view own.0.view looked ∙ shut))
   known_is_decided scope probe (u ∷ us) (v ∷ vs) (suc n) own shut e = elim (known_is_decided scope probe us vs n own.1 shut e) [ inl d ↦ inl d | inr m ↦ inr (omega (arith, m)) ]
 
   -- nothing is asked of a unit that there isn't

@@ -34,6 +34,7 @@ use Rattle.addr2line_units.specs.UnitAranges.{aranges_in}
 use Rattle.addr2line_units.specs.RangedUnits.{indexed_of, unit_records, RangedUnit, listed_in_unit, is_type_unit, ranged_units, unit_ranges_from, unit_of_header, unless_faulty}
 use Rattle.addr2line_units.specs.UnitIndex.{UnitIndex, index_units, sup_sections, sup_unit_of_header, sup_units}
 use Rattle.addr2line_units.specs.Views.{FirstAnswers, View, verdict, view_scope}
+use Rattle.addr2line_units.proofs.AnswerLemmas.{unread_are}
 
 -- the unit of a header has it
 module _ (d : Sections) (aranges : List UnitArange) (h : UnitHeaderFields) (x : RangedUnit) where
@@ -177,12 +178,6 @@ no_verdict d u states.Main e = absurd cc
 no_verdict d u (states.Unnamed f) e = absurd cc
 no_verdict d u (states.Answered a) e = absurd cc
 
-unread_are_of : {R : Type 0} (scope : Scope) (view : UnitRecord) (f : LazyFunctions R) → were_read f ≡ false → AreFunctionsOf scope view f
-unread_are_of scope view lazy.Unread e = tt
-unread_are_of scope view lazy.Absent e = absurd cc
-unread_are_of scope view (lazy.Read t) e = absurd cc
-unread_are_of scope view (lazy.Faulty f) e = absurd cc
-
 -- what nobody has asked for is that of every unit
 fresh_are_of : {R : Type 0} (scope : Scope) (u : UnitRecord) (v : UnitEntries R) → AreFresh v → AreEntriesOf scope u v
 fresh_are_of {R} scope u v fresh = record {
@@ -200,7 +195,7 @@ fresh_are_of {R} scope u v fresh = record {
     of_verdict : (view : Option (Result View Error)) → IfSome view (λ x. IfOk x (λ y. AreFunctionsOf (view_scope scope y) y.unit v.functions))
     of_verdict None = tt
     of_verdict (Some (Err e)) = tt
-    of_verdict (Some (Ok y)) = unread_are_of (view_scope scope y) y.unit v.functions fresh.functions
+    of_verdict (Some (Ok y)) = unread_are (view_scope scope y) y.unit v.functions fresh.functions
 
 pub fresh_entries : {R : Type 0} (scope : Scope) (us : List UnitRecord) (vs : List (UnitCache R)) → AreFreshOf us vs → HaveEntriesOf scope us vs
 fresh_entries scope [] [] fresh = tt

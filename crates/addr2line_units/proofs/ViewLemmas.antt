@@ -21,6 +21,7 @@ use Rattle.addr2line_units.specs.declared.unit.ViewState.{ViewState}
 use Rattle.addr2line_units.specs.declared.unit.ViewState.TheVariants as states
 use Rattle.addr2line_units.specs.CachedViews.{IsViewOf, answer_in, scope_by, seen_first_answer, seen_sections, split_file_by, split_file_in, split_unit, unboxed, verdict_in, view_by, waits}
 use Rattle.addr2line_units.specs.Views.{SplitLoad, View, answered_view, first_of, first_takes_memory, first_unit, first_unit_takes_memory, first_view, load_by, load_of_unit, main_view, split_name_of, verdict, verdict_by, view_scope}
+use Rattle.gimli_read.proofs.FaultLemmas.{memory_or_not}
 
 decided_by : (d : Sections) (u : UnitRecord) (load : Result (Option SplitLoad) Error) (r : Result View Error) (answer : Option (Option Sections)) → verdict_by d u load None ≡ Some r → verdict_by d u load answer ≡ Some r
 decided_by d u (Err e) r answer h = h
@@ -208,10 +209,6 @@ scope_in scope d u (states.Answered a) h = subst (λ w. IfSome w (λ view. IfOk 
 -- references lead from a view as its split file says, if it is in one
 pub scope_of_split : {R : Type 0} (scope : Scope) (split : Option Sections) (v : UnitView R) → split ≡ split_file_in v.state → (d : Sections) (u : UnitRecord) → IsViewOf d u v → IfSome (verdict d u (seen_first_answer v)) (λ view. IfOk view (λ x. scope_by scope split ≡ view_scope scope x))
 scope_of_split scope split v e d u h = subst (λ p. IfSome (verdict d u (seen_first_answer v)) (λ view. IfOk view (λ x. scope_by scope p ≡ view_scope scope x))) (sym e) (scope_in scope d u v.state h.right)
-
-memory_or_not : (e : Error) → (e ≡ OutOfMemory) ⊎ (e ≢ OutOfMemory)
-memory_or_not OutOfMemory = inl refl
-memory_or_not _ = inr (λ h. absurd cc)
 
 -- the load of a unit that waits is refused OutOfMemory alone
 pub refused_load : (d : Sections) (n : ℕ) (u : UnitRecord) (may : Bool) (e : Error) → verdict d u None ≡ None → ((may ≡ true → e ≢ OutOfMemory) → load_of_unit d n u ≡ Err e) → e ≡ OutOfMemory

@@ -25,6 +25,7 @@ use Rattle.addr2line_units.specs.UnitFrames.{FramesResult, frames_by, frames_in,
 use Rattle.addr2line_units.specs.RangedUnits.{IndexedUnit}
 use Rattle.addr2line_units.specs.Views.{is_open}
 use Rattle.addr2line_units.proofs.AnswerLemmas.{got_unit, looked_waits}
+use Rattle.addr2line_units.proofs.WalkLemmas.{and_first, and_second}
 
 number_of : LookupStop → ℕ → ℕ
 number_of (Waits n) d = n
@@ -34,14 +35,6 @@ number_of FindsNothing d = d
 pub same_number : (n k : ℕ) → ◌≡◌ {A = Result LookupStop Error} (Ok (Waits n)) (Ok (Waits k)) → n ≡ k
 unfolding number_of
 same_number n k e = let s : ◌≡◌ {A = LookupStop} (Waits n) (Waits k) = cc in ap (λ x. number_of x 0) s
-
-pub and_first : (a b : Bool) → (a && b) ≡ true → a ≡ true
-and_first true b e = refl
-and_first false b e = absurd cc
-
-pub and_second : (a b : Bool) → (a && b) ≡ true → b ≡ true
-and_second true b e = e
-and_second false b e = absurd cc
 
 -- a lookup that waits for a unit was told so by it, and of it holds what holds along the ranges
 module _ (holds : ℕ → Bool) (frames : ℕ → FramesResult) (n : ℕ) where

@@ -17,6 +17,10 @@ pub and_first : (a b : Bool) → (a && b) ≡ true → a ≡ true
 and_first true b e = refl
 and_first false b e = cc
 
+pub and_second : (a b : Bool) → (a && b) ≡ true → b ≡ true
+and_second true b e = e
+and_second false b e = cc
+
 pub and_not : (a b : Bool) → (a && not b) ≡ true → b ≡ false
 and_not true true e = cc
 and_not true false e = refl

@@ -7,15 +7,15 @@ use Rattle.addr2line_lines.specs.FoundInlined.{named_lists, seen_lists}
 use Rattle.addr2line_lines.specs.FoundDetails.{function_found_at}
 use Rattle.addr2line_lines.specs.SeenScope.{seen_scope}
 use Rattle.addr2line_lines.proofs.CachedNameLemmas.{names_same}
-use Rattle.addr2line_lines.proofs.FunctionLemmas.{or_first}
 use Rattle.addr2line_lines.proofs.NestingLemmas.{detail-encoding, detail-opened, detail-read, found_same}
 use Rattle.addr2line_lines.proofs.detail.read_detail.Goals as goal
+use Rattle.std.proofs.lemmas.Bool.{or_left}
 
 pub returns-in_err-entries : goal.returns-in_err-entries
 returns-in_err-entries g c =
     let p = err_from_is_err_and c.from_residual.result c.from_residual.ensures.1 in
     let fault = rw c.new.ensures.unit at c.in_err-entries.ensures.gives in
-    record { gives = rw (p.1, p.2) (λ ne. ap (λ x. x.given) (detail-read (seen_scope c.args.scope) c.args.unit.now c.args.offset.0 (seen_lists c.args.found.now) _ (fault (λ s _. ne (or_first g.R.Reader.shares _ s))))); kept = found_same _; names = names_same (seen_scope c.args.scope) c.args.unit.now _ c.requires.names }
+    record { gives = rw (p.1, p.2) (λ ne. ap (λ x. x.given) (detail-read (seen_scope c.args.scope) c.args.unit.now c.args.offset.0 (seen_lists c.args.found.now) _ (fault (λ s _. ne (or_left g.R.Reader.shares _ s))))); kept = found_same _; names = names_same (seen_scope c.args.scope) c.args.unit.now _ c.requires.names }
 
 pub returns-in_err-abbreviation-clause-gives : goal.returns-in_err-abbreviation-clause-gives
 returns-in_err-abbreviation-clause-gives g c =

@@ -8,11 +8,12 @@ use Rattle.addr2line_lines.specs.FoundAttributes.{seen_attributes}
 use Rattle.addr2line_lines.specs.RangeAttributes.{gives_a_range}
 use Rattle.addr2line_lines.specs.FoundInlined.{seen_lists, with_inlined_found}
 use Rattle.addr2line_lines.specs.SeenScope.{seen_scope}
-use Rattle.addr2line_lines.proofs.FunctionLemmas.{beside_if, or_first, or_second}
+use Rattle.addr2line_lines.proofs.FunctionLemmas.{beside_if}
 use Rattle.addr2line_lines.proofs.NestingLemmas.{found_same}
 use Rattle.addr2line_lines.proofs.CachedNameLemmas.{names_same}
 use Rattle.addr2line_lines.proofs.DetailLemmas.{entry-fault, entry-listed, entry-other}
 use Rattle.addr2line_lines.proofs.detail.read_entry.Goals as goal
+use Rattle.std.proofs.lemmas.Bool.{or_left, or_right}
 
 pub returns-in_err-attributes-clause-gives : goal.returns-in_err-attributes-clause-gives
 returns-in_err-attributes-clause-gives g c =
@@ -25,7 +26,7 @@ returns-in_err-attributes-clause-gives g c =
     let found = seen_lists c.args.found.now in
     let listed = ap (λ k. is_listed k c.args.nesting.now) (sym c.kind_of.ensures.gives) ∙ sym c.if-lists.ensures.gives in
     let fault = rw c.attributes-specifications.ensures.gives at c.in_err-attributes.ensures.gives in
-    rw (p.1, p.2) (λ ne. entry-fault scope u around c.args.offset.0 a left found _ listed (fault (λ shares. ne (or_first g.R.Reader.shares _ shares))))
+    rw (p.1, p.2) (λ ne. entry-fault scope u around c.args.offset.0 a left found _ listed (fault (λ shares. ne (or_left g.R.Reader.shares _ shares))))
 
 pub returns-in_ok-attributes-clause-gives : goal.returns-in_ok-attributes-clause-gives
 returns-in_ok-attributes-clause-gives g c =
@@ -44,7 +45,7 @@ returns-in_ok-attributes-clause-gives g c =
     (subst (λ v. Added scope.file.sections v c.depth.result) c.new-unit.ensures.unit (subst (λ d. Added d c.new-unit.result.unit.now c.depth.result) c.new-unit.ensures.dwarf c.add.ensures.gives)) in
     let is = entry-listed scope u around c.args.offset.0 a left found _ _ listed gives rest in
     beside_if _ _ c.add.result _ _ _ _
-    (λ well. or_second g.R.Reader.shares _ (ap (λ x. x.takes_memory false) is ∙ well))
+    (λ well. or_right g.R.Reader.shares _ (ap (λ x. x.takes_memory false) is ∙ well))
     (ap (λ x. x.given) is) added
 
 pub returns-else-lists-clause-gives : goal.returns-else-lists-clause-gives

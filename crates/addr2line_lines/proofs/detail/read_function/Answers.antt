@@ -6,15 +6,15 @@ use Rattle.addr2line_lines.specs.FoundItems.{inside_found, seen_around}
 use Rattle.addr2line_lines.specs.SeenScope.{seen_scope}
 use Rattle.addr2line_lines.proofs.CachedNameLemmas.{names_on}
 use Rattle.addr2line_lines.proofs.CostLemmas.{IsPartOf, map_part, refused_part}
-use Rattle.addr2line_lines.proofs.FunctionLemmas.{or_first}
 use Rattle.addr2line_lines.proofs.NestingLemmas.{found_same, function-found, name-part}
 use Rattle.addr2line_lines.proofs.detail.read_function.Goals as goal
+use Rattle.std.proofs.lemmas.Bool.{or_left}
 
 pub returns-in_err-name : goal.returns-in_err-name
 returns-in_err-name g c =
     let p = err_from_is_err_and c.from_residual.result c.from_residual.ensures.1 in
     let fault = rw c.attributes.ensures.gives at c.in_err-name.ensures.gives in
-    record { gives = rw (p.1, p.2) (λ ne. (name-part (seen_scope c.args.scope) c.args.unit.now c.args.entries.now.unit c.args.entries.now.cursor (seen_lists c.args.found.now) c.args.abbreviation.now).fault _ (fault (λ s. ne (or_first g.R.Reader.shares _ s)))); kept = found_same _; names = c.in_err-name.ensures.names }
+    record { gives = rw (p.1, p.2) (λ ne. (name-part (seen_scope c.args.scope) c.args.unit.now c.args.entries.now.unit c.args.entries.now.cursor (seen_lists c.args.found.now) c.args.abbreviation.now).fault _ (fault (λ s. ne (or_left g.R.Reader.shares _ s)))); kept = found_same _; names = c.in_err-name.ensures.names }
 
 pub returns-in_err-read_inside : goal.returns-in_err-read_inside
 returns-in_err-read_inside g c =

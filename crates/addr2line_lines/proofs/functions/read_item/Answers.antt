@@ -1,9 +1,10 @@
 use Rattle.std.proofs.Common.{sym, ap}
 use Rattle.std.proofs.lemmas.Result.{err_from_is_err_and}
 use Rattle.addr2line_lines.proofs.RangeLemmas.{on_ok}
-use Rattle.addr2line_lines.proofs.FunctionLemmas.{beside_if, closing_found, closing_shorter, code_fault, entry_shorter, function_fault, function_found, function_takes, or_first, or_second, skipped_shorter}
+use Rattle.addr2line_lines.proofs.FunctionLemmas.{beside_if, closing_found, closing_shorter, code_fault, entry_shorter, function_fault, function_found, function_takes, skipped_shorter}
 use Rattle.addr2line_lines.proofs.FoundRanges.{function_subprogram, no_function_found}
 use Rattle.addr2line_lines.proofs.functions.read_item.Goals as goal
+use Rattle.std.proofs.lemmas.Bool.{or_left, or_right}
 
 pub returns-in_err-read_abbreviation-clause-gives : goal.returns-in_err-read_abbreviation-clause-gives
 returns-in_err-read_abbreviation-clause-gives g c =
@@ -15,7 +16,7 @@ returns-in_err-attributes-in-Some-clause-gives g c =
     let p = err_from_is_err_and c.from_residual-in_err-attributes-in-Some.result c.from_residual-in_err-attributes-in-Some.ensures.1 in
     let code = rw c.in-Some.is at c.in_ok-read_abbreviation.ensures.gives in
     let fault = rw c.attributes.ensures.gives at c.in_err-attributes-in-Some.ensures.gives in
-    rw (p.1, p.2) (λ ne. function_fault _ _ _ _ _ _ _ _ _ c.requires.some code (sym c.requires.encoding) (function_subprogram c.in-Some.abbreviation.now (sym c.if-is_function.ensures.gives)) (fault (λ shares. ne (or_first _ _ shares))))
+    rw (p.1, p.2) (λ ne. function_fault _ _ _ _ _ _ _ _ _ c.requires.some code (sym c.requires.encoding) (function_subprogram c.in-Some.abbreviation.now (sym c.if-is_function.ensures.gives)) (fault (λ shares. ne (or_left _ _ shares))))
 
 pub returns-in-None-clause-gives : goal.returns-in-None-clause-gives
 returns-in-None-clause-gives g c = closing_found _ _ _ _ _ _ c.requires.some (rw c.in-None.is at c.in_ok-read_abbreviation.ensures.gives)
@@ -29,7 +30,7 @@ returns-in_ok-attributes-in-Some-clause-gives g c =
     let gives = rw c.attributes.ensures.gives at c.in_ok-attributes-in-Some.ensures.gives in
     let left = rw c.attributes.ensures.gives at c.in_ok-attributes-in-Some.ensures.left in
     beside_if _ _ c.add.result _ _ _ _
-    (λ well. or_second g.R.Reader.shares _ (function_takes c.args.unit.dwarf.now c.args.unit.unit.now c.args.entries.now.unit _ _ _ _ _ c.requires.some code (sym c.requires.encoding) (function_subprogram c.in-Some.abbreviation.now (sym c.if-is_function.ensures.gives)) gives well))
+    (λ well. or_right g.R.Reader.shares _ (function_takes c.args.unit.dwarf.now c.args.unit.unit.now c.args.entries.now.unit _ _ _ _ _ c.requires.some code (sym c.requires.encoding) (function_subprogram c.in-Some.abbreviation.now (sym c.if-is_function.ensures.gives)) gives well))
     (function_found _ _ _ _ _ _ _ _ _ _ _ c.requires.some code (sym c.requires.encoding) (function_subprogram c.in-Some.abbreviation.now (sym c.if-is_function.ensures.gives)) gives left c.in_ok-attributes-in-Some.ensures.depth c.next_offset-offset.ensures.gives)
     c.add.ensures.gives
 

@@ -11,10 +11,10 @@ use Rattle.addr2line_lines.proofs.CostLemmas.{refused_part}
 use Rattle.addr2line_lines.proofs.DetailMemory.{found_takes}
 use Rattle.addr2line_lines.proofs.DetailOrder.{detail_part}
 use Rattle.addr2line_lines.proofs.DetailPlaces.{AreCachedAt, detail_cached, last_name, place_cached, sorted_more}
-use Rattle.addr2line_lines.proofs.FunctionLemmas.{or_second}
 use Rattle.addr2line_lines.proofs.NestingLemmas.{grown_by, grown_not}
 use Rattle.addr2line_lines.proofs.details.Details.add.Given.{Over}
 use Rattle.addr2line_lines.proofs.details.Details.add.Goals as goal
+use Rattle.std.proofs.lemmas.Bool.{or_right}
 
 pub returns-in_err-read-clause-gives : goal.returns-in_err-read-clause-gives
 returns-in_err-read-clause-gives g c =
@@ -26,7 +26,7 @@ pub returns-in_err-push-clause-gives : goal.returns-in_err-push-clause-gives
 returns-in_err-push-clause-gives g c =
     let p = err_from_is_err_and c.from_residual-in_err-push.result c.from_residual-in_err-push.ensures.1 in
     let whole = found_takes (seen_scope c.args.scope) c.args.unit.now c.args.offset.0 (seen_lists c.args.self.now.inlined) _ c.in_ok-read.ensures.gives in
-    rw (p.1, p.2) (λ ne. absurd (ne (or_second g.R.Reader.shares _ whole) refl))
+    rw (p.1, p.2) (λ ne. absurd (ne (or_right g.R.Reader.shares _ whole) refl))
 
 module _ (g : Over) (c : goal.After-len-2 g) where
   abbrev old : CachedDetails

@@ -10,11 +10,11 @@ use Rattle.addr2line_lines.specs.FunctionCache.{seen_function}
 use Rattle.addr2line_lines.specs.FunctionTable.{CachedFunction}
 use Rattle.addr2line_lines.specs.CachedDetails.{CachedDetails, seen_details}
 use Rattle.addr2line_lines.proofs.FunctionCacheLemmas.{runs_unread, seen_unread}
-use Rattle.addr2line_lines.proofs.FunctionLemmas.{or_second}
 use Rattle.addr2line_lines.proofs.FunctionMemory.{found_has}
 use Rattle.addr2line_lines.proofs.FunctionOrder.{AgreesFound, are_functions, functions_agree}
 use Rattle.addr2line_lines.proofs.ListedFunctions.{offsets_seen}
 use Rattle.addr2line_lines.proofs.functions.Functions.parse.Goals as goal
+use Rattle.std.proofs.lemmas.Bool.{or_right}
 
 ok_is : (xs ys : List FunctionAddress) → ◌≡◌ {A = Result (List FunctionAddress) Fault} (Ok xs) (Ok ys) → xs ≡ ys
 ok_is xs ys e = cc
@@ -37,7 +37,7 @@ returns-in_err-addresses-clause-gives g c =
     let d = c.args.unit.dwarf.now in
     let u = c.args.unit.unit.now in
     let found = seen_functions c.in_ok-functions.field-0 in
-    rw (p.1, p.2) (λ ne. (let no = c.in_err-addresses.ensures.gives (λ some. ne (or_second g.R.Reader.shares (have_function d u (items_of u).items) (found_has d u found c.in_ok-functions.ensures.gives some))) in absurd cc))
+    rw (p.1, p.2) (λ ne. (let no = c.in_err-addresses.ensures.gives (λ some. ne (or_right g.R.Reader.shares (have_function d u (items_of u).items) (found_has d u found c.in_ok-functions.ensures.gives some))) in absurd cc))
 
 pub invariant_of-result : goal.invariant_of-result
 invariant_of-result g c =

@@ -7,17 +7,14 @@ use Rattle.addr2line_lines.specs.CachedDetails.{seen_details}
 use Rattle.addr2line_lines.specs.SeenScope.{seen_scope}
 use Rattle.addr2line_lines.proofs.ReadLemmas.{all_read, all_ready, fault_kept, fault_read, fault_ready, had_memory, no_memory_to_fault, none_read, one_read, reads_nothing}
 use Rattle.addr2line_lines.proofs.functions.Functions.read_all.Goals as goal
-
-long : {X Y : Type 0} (f : X → Y) (xs : List X) → length (map f xs) ≡ length xs
-long f [] = refl
-long f (x ∷ xs) = ap suc (long f xs)
+use Rattle.std.proofs.lemmas.List.{length-map}
 
 pub loop-place-init : goal.loop-place-init
 loop-place-init g c =
     let m = c.self.inside.functions.ok.0 in
     let d = seen_details g.R.Reader.section c.self.inside.details in
     let same : length (map (seen_function d) c.self.inside.functions.items) ≡ length c.args.self.now.functions = ap (λ (t : FunctionTable). length t.functions) c.self.view_is in
-    let l = long (seen_function d) c.self.inside.functions.items in
+    let l = length-map c.self.inside.functions.items (seen_function d) in
     let k = c.len-count.ensures in
     record { count = omega arith; read = none_read g.R.Reader.shares (seen_scope c.args.scope) c.args.unit.now c.args.self.now; names = c.requires.names }
 

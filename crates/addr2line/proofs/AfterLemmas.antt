@@ -1,24 +1,7 @@
 -- What holds of a context once a lookup was lent from it that it had stored (on
 -- specs/AfterLookups.antt and specs/Skips.antt).
-use Rattle.std.proofs.Common.{◌≡◌, inl, inr, ℕ, Bool, true, false, Option, Some, None, option_map, Result, Ok, Err, refl, sym, ap, subst, ◌∙◌}
-use Rattle.std.specs.Prelude.{IfErr, OnOk}
-use Rattle.gimli_read.specs.declared.error.Error.{Error}
-use Rattle.gimli_read.specs.Reading.{◌>>=◌, ExactlyUnlessOom, WasNotRefused}
-use Rattle.gimli.specs.Sections.{Sections}
-use Rattle.addr2line_units.specs.declared.continuation.LookupResult.{LookupResult}
-use Rattle.addr2line_units.specs.declared.continuation.LookupResult.TheVariants.{Load, Output}
-use Rattle.addr2line_units.specs.declared.frames.OnFault.{OnFault}
-use Rattle.addr2line_units.specs.FramesLookup.{LookupStop, Waits, Finds, FindsNothing, is_waiting, readable_view, unit_found, view_of_number}
-use Rattle.addr2line_units.specs.Suspended.{IfLoad, IfOutput}
-use Rattle.addr2line_units.specs.RangedUnits.{unit_records}
-use Rattle.addr2line_units.specs.UnitIndex.{UnitIndex, index_units}
-use Rattle.addr2line_units.specs.Views.{FirstAnswers, SplitLoad, View, parts_of}
-use Rattle.addr2line.specs.AfterLookups.{AfterFrames, AfterFramesOver, IsLent, IsStored, NeedsNoMemory, Suspends}
-use Rattle.addr2line.specs.Context.{ContextState}
-use Rattle.addr2line.specs.Lookups.{IsFaultOfAsked, IsLoadOf, ended_with, lookup_stop, unit_value, view_found}
-use Rattle.addr2line_units.specs.UnitsState.{waiting_unit}
+use Rattle.addr2line.proofs.Common.{◌≡◌, inl, inr, ℕ, Bool, true, false, Option, Some, None, option_map, Result, Ok, Err, refl, sym, ap, subst, ◌∙◌, IfErr, OnOk, Error, ◌>>=◌, ExactlyUnlessOom, WasNotRefused, Sections, LookupResult, Load, Output, OnFault, LookupStop, Waits, Finds, FindsNothing, is_waiting, readable_view, unit_found, view_of_number, IfLoad, IfOutput, unit_records, UnitIndex, index_units, FirstAnswers, SplitLoad, View, parts_of, AfterFrames, AfterFramesOver, IsLent, IsStored, NeedsNoMemory, Suspends, ContextState, IsFaultOfAsked, IsLoadOf, ended_with, lookup_stop, unit_value, view_found, waiting_unit, found_of_context}
 use Rattle.addr2line.specs.Skips.{AfterSkip, skipped_answers}
-use Rattle.addr2line.specs.WaitingLookups.{found_of_context}
 
 -- what holds of a lookup that waits
 pub if_load : {L O D S : Type 0} (P Q : L → Type 0) (result : LookupResult L O D S) → ((c : L) → P c → Q c) → IfLoad result P → IfLoad result Q

@@ -1,35 +1,12 @@
 -- Answers to loads, whatever calls come after them (on specs/AnswerLaws.antt).
-use Rattle.std.proofs.Common.{◌≡◌, ◌≢◌, ◌⊎◌, inl, inr, ℕ, zero, suc, ◌++◌, ◌==◌, Bool, true, false, List, [], ◌∷◌, length, slice_get, Option, Some, None, Result, Ok, Err, refl, sym, ap, subst, ◌∙◌}
-use Rattle.std.proofs.Math.ListN.{set}
-use Rattle.std.proofs.lemmas.List.{length-map, length-set}
-use Rattle.std.proofs.lemmas.Bool.Decides.{eqb_tells}
+use Rattle.addr2line.proofs.Common.{◌≡◌, ◌≢◌, ◌⊎◌, inl, inr, ℕ, zero, suc, ◌++◌, ◌==◌, Bool, true, false, List, [], ◌∷◌, length, slice_get, Option, Some, None, Result, Ok, Err, refl, sym, ap, subst, ◌∙◌, set, length-map, length-set, eqb_tells, is_none, Error, ◌>>=◌, Sections, UnitRecord, Scope, OnFault, Stop, Skip, UnitRange, cover, LookupStop, Waits, Finds, FindsNothing, answer_of, is_waiting, main_scope, with_answer, before_others, forgotten, load_of_number, loads_along, LeadTo, IndexedUnit, unit_records, UnitIndex, index_units, FirstAnswers, SplitLoad, awaited_load, decided_answer, load_of_unit, verdict_by, answered_load, listed_there, load_gone, load_others, load_own, never_waits_alone, answered, Given, Answered, Abandoned, HistoryCall, AsksLocation, AsksRange, AsksFrames, AsksUnit, AsksLoads, AnswersLoad, Forgets, ParsesLines, ParsesFunctions, answers_after, answers_given, answers_left, where_waiting, parsed_answers, lookup_stop, stop_in}
 use Rattle.std.specs.List.{AllByRecursion}
-use Rattle.std.specs.Prelude.{is_none, is_some, unwrap_or, if◌then◌else◌}
-use Rattle.gimli_read.specs.declared.error.Error.{Error}
-use Rattle.gimli_read.specs.Reading.{◌>>=◌}
-use Rattle.gimli.specs.Sections.{Sections}
-use Rattle.gimli.specs.Unit.{UnitRecord}
-use Rattle.addr2line_lines.specs.References.{Scope}
-use Rattle.addr2line_units.specs.declared.frames.OnFault.{OnFault}
-use Rattle.addr2line_units.specs.declared.frames.OnFault.TheVariants.{Stop, Skip}
-use Rattle.addr2line_units.specs.declared.index.UnitRange.{UnitRange}
+use Rattle.std.specs.Prelude.{is_some, unwrap_or, if◌then◌else◌}
 use Rattle.addr2line_units.specs.declared.parses.ReadingDepth.{ReadingDepth}
-use Rattle.addr2line_units.specs.Cover.{cover}
-use Rattle.addr2line_units.specs.FramesLookup.{LookupStop, Waits, Finds, FindsNothing, answer_of, is_waiting, main_scope, with_answer}
 use Rattle.addr2line_units.specs.FunctionParses.{answers_after_parse, read_of_unit, unless_fault}
 use Rattle.addr2line_units.specs.LoadLaws.{IsListed}
 use Rattle.addr2line_units.specs.LoadLaws as laws
-use Rattle.addr2line_units.specs.Loads.{before_others, forgotten, load_of_number, loads_along}
-use Rattle.addr2line_units.specs.Parsed.{LeadTo}
-use Rattle.addr2line_units.specs.RangedUnits.{IndexedUnit, unit_records}
-use Rattle.addr2line_units.specs.UnitIndex.{UnitIndex, index_units}
-use Rattle.addr2line_units.specs.Views.{FirstAnswers, SplitLoad, awaited_load, decided_answer, load_of_unit, verdict_by}
 use Rattle.addr2line_units.proofs.AnswerLemmas.{others_stay}
-use Rattle.addr2line_units.proofs.LoadLawLemmas.{answered_load, listed_there, load_gone, load_others, load_own, never_waits_alone}
-use Rattle.addr2line.specs.Answers.{answered}
-use Rattle.addr2line.specs.History.{Given, Answered, Abandoned, HistoryCall, AsksLocation, AsksRange, AsksFrames, AsksUnit, AsksLoads, AnswersLoad, Forgets, ParsesLines, ParsesFunctions, answers_after, answers_given, answers_left, where_waiting}
-use Rattle.addr2line.specs.Loads.{parsed_answers}
-use Rattle.addr2line.specs.Lookups.{lookup_stop, stop_in}
 use Rattle.addr2line.specs.AnswerLaws.{FirstAnswersStay, ForgetsNone, IsAnsweredBy, WaitsForNoneAnswered, answering}
 use Rattle.addr2line.proofs.HistoryLawLemmas.{answers_are, as_many, loads_are}
 

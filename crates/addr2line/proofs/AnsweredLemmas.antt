@@ -1,27 +1,10 @@
 -- What an answer to the load of a unit makes of a context, and of a lookup that waits for it (on
 -- specs/Answers.antt and specs/Lookups.antt).
-use Rattle.std.proofs.Common.{◌≡◌, ℕ, ◌<◌, [], length, List, Option, Result, Ok, Err, sym, ap, subst, ◌∙◌, true}
+use Rattle.addr2line.proofs.Common.{◌≡◌, ℕ, ◌<◌, [], length, List, Option, Result, Ok, Err, sym, ap, subst, ◌∙◌, true, IfErr, OnOk, Error, ◌>>=◌, Sections, Scope, OnFault, UnitRange, cover, LookupStop, Waits, Finds, FindsNothing, main_scope, with_answer, load_result, UnitIndex, UnitsState, FirstAnswers, fewer_left, waits_listed, AfterAnswering, answered, load_reply, IsContext, seen_context, loads_at, lookup_stop, stop_in, waits_for}
 use Rattle.std.proofs.lemmas.Bool.{eqb-true}
-use Rattle.std.specs.Prelude.{IfErr, OnOk}
-use Rattle.gimli_read.specs.declared.error.Error.{Error}
-use Rattle.gimli_read.specs.Reading.{◌>>=◌}
-use Rattle.gimli.specs.Sections.{Sections}
-use Rattle.addr2line_lines.specs.References.{Scope}
-use Rattle.addr2line_units.specs.declared.frames.OnFault.{OnFault}
-use Rattle.addr2line_units.specs.declared.index.UnitRange.{UnitRange}
 use Rattle.addr2line_units.specs.AfterUnits as left
-use Rattle.addr2line_units.specs.Cover.{cover}
-use Rattle.addr2line_units.specs.FramesLookup.{LookupStop, Waits, Finds, FindsNothing, main_scope, with_answer}
 use Rattle.addr2line_units.specs.LoadLaws.{IsListed}
-use Rattle.addr2line_units.specs.Loads.{load_result}
 use Rattle.addr2line_units.specs.LoadLaws as laws
-use Rattle.addr2line_units.specs.UnitIndex.{UnitIndex}
-use Rattle.addr2line_units.specs.UnitsState.{UnitsState}
-use Rattle.addr2line_units.specs.Views.{FirstAnswers}
-use Rattle.addr2line_units.proofs.LoadLawLemmas.{fewer_left, waits_listed}
-use Rattle.addr2line.specs.Answers.{AfterAnswering, answered, load_reply}
-use Rattle.addr2line.specs.Context.{IsContext, seen_context}
-use Rattle.addr2line.specs.Lookups.{loads_at, lookup_stop, stop_in, waits_for}
 use Rattle.addr2line.proofs.ContextLemmas.{at_made, by_made, or_made, still_context}
 
 -- a lookup that waits for the unit of a number

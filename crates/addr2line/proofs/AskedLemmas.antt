@@ -1,36 +1,12 @@
 -- What was asked for by a lookup that waits is asked for after an answer (on
 -- specs/AfterLookups.antt).
-use Rattle.std.proofs.Common.{◌≡◌, ◌≢◌, ◌⊎◌, inl, inr, ℕ, Bool, true, false, ◌&&◌, not, List, [], ◌∷◌, slice_get, Option, Some, None, option_map, Result, Ok, Err, refl, sym, ap, subst, ◌∙◌}
-use Rattle.std.proofs.lemmas.Bool.Decides.{eqb_tells}
-use Rattle.std.proofs.lemmas.Option.{slice_get-map}
-use Rattle.std.proofs.Math.ListN.{set}
-use Rattle.std.specs.Prelude.{is_none, is_ok, unwrap_or}
-use Rattle.gimli_read.specs.declared.error.Error.{Error}
-use Rattle.gimli_read.specs.Reading.{◌>>=◌}
-use Rattle.gimli.specs.Sections.{Sections}
-use Rattle.gimli.specs.Unit.{UnitRecord}
-use Rattle.addr2line_lines.specs.References.{Scope}
-use Rattle.addr2line_units.specs.declared.frames.OnFault.{OnFault}
-use Rattle.addr2line_units.specs.declared.index.UnitRange.{UnitRange}
-use Rattle.addr2line_units.specs.Cover.{cover}
-use Rattle.addr2line_units.specs.FramesLookup.{LookupAsks, LookupStop, Waits, after_fault, answer_of, asked_frames, asks_lines_of, ends_lookup, function_offset_of, main_scope, or_stop, stop_along, with_answer}
-use Rattle.addr2line_units.specs.KnownEntries.{KnownEntries, LearnsDetailsAt, LearnsNoDetails}
-use Rattle.addr2line_units.specs.Parsed.{ParsesOnly, has_parsed}
-use Rattle.addr2line_units.specs.Loads.{is_open_at}
-use Rattle.addr2line_units.specs.UnitFrames.{FramesResult, asks_lines_in, frames_in, function_in, function_offset_by, function_offset_in}
-use Rattle.addr2line_units.specs.UnitIndex.{UnitIndex, index_units}
-use Rattle.addr2line_units.specs.RangedUnits.{IndexedUnit, unit_records}
-use Rattle.addr2line_units.specs.Views.{FirstAnswers, View, decided_answer, is_open, verdict}
+use Rattle.addr2line.proofs.Common.{◌≡◌, ◌≢◌, ◌⊎◌, inl, inr, ℕ, Bool, true, false, ◌&&◌, not, List, [], ◌∷◌, slice_get, Option, Some, None, option_map, Result, Ok, Err, refl, sym, ap, subst, ◌∙◌, eqb_tells, slice_get-map, set, is_none, Error, ◌>>=◌, Sections, UnitRecord, Scope, OnFault, UnitRange, cover, LookupAsks, LookupStop, Waits, after_fault, answer_of, asked_frames, asks_lines_of, ends_lookup, function_offset_of, main_scope, or_stop, stop_along, with_answer, KnownEntries, LearnsDetailsAt, LearnsNoDetails, ParsesOnly, has_parsed, is_open_at, FramesResult, asks_lines_in, frames_in, function_in, function_offset_by, function_offset_in, UnitIndex, index_units, IndexedUnit, unit_records, FirstAnswers, View, decided_answer, is_open, verdict, waits_listed, AfterAnswering, answered, ContextState, AfterFrames, ReadsAsked, asked_of, lookup_stop, stop_in}
+use Rattle.std.specs.Prelude.{is_ok, unwrap_or}
 use Rattle.addr2line_units.proofs.AnswerLemmas.{others_stay}
 use Rattle.addr2line_units.proofs.FramesLookupLemmas.{parses_more}
 use Rattle.addr2line_units.proofs.LearnedLemmas.{learns_no_details}
-use Rattle.addr2line_units.proofs.LoadLawLemmas.{waits_listed}
 use Rattle.addr2line_units.proofs.WaitLemmas.{same_number}
 use Rattle.addr2line.proofs.FilesLookupLemmas.{none_if_open}
-use Rattle.addr2line.specs.Answers.{AfterAnswering, answered}
-use Rattle.addr2line.specs.Context.{ContextState}
-use Rattle.addr2line.specs.AfterLookups.{AfterFrames, ReadsAsked}
-use Rattle.addr2line.specs.Lookups.{asked_of, lookup_stop, stop_in}
 
 -- what ends no lookup is no unit that waits
 never_waits : (x : FramesResult) → ends_lookup x ≡ false → x ≢ Ok None

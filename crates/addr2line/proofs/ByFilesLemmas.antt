@@ -1,36 +1,12 @@
 -- Loads that files answer, one after another (on specs/LoadsByFiles.antt, specs/Loader.antt and
 -- specs/FramesByFiles.antt).
-use Rattle.std.proofs.Common.{◌≡◌, ◌≢◌, ◌<◌, ◌≤◌, inl, inr, ℕ, Bool, List, [], ◌∷◌, ◌++◌, length, Option, Some, None, Result, Ok, Err, arith, true, refl, sym, ap, subst, ◌∙◌}
-use Rattle.std.proofs.lemmas.Bool.Decides.{eqb_tells}
+use Rattle.addr2line.proofs.Common.{◌≡◌, ◌≢◌, ◌<◌, ◌≤◌, inl, inr, ℕ, Bool, List, [], ◌∷◌, ◌++◌, length, Option, Some, None, Result, Ok, Err, arith, true, refl, sym, ap, subst, ◌∙◌, eqb_tells, IfErr, IfSome, Error, Sections, LoaderError, OutOfMemory, Loading, LoadsUnlessOom, LookupResult, Output, Stop, FrameRecord, Waits, answer_of, is_waiting, result_map, StaysParsed, has_parsed, StaysKnown, IfOutput, FirstAnswers, SplitLoad, AfterAnswering, AfterResume, SuspendsAgain, answered, ContextState, Files, ReadFiles, as_read, as_read_if_known, Given, Answered, AfterFrames, AfterFramesOver, IsKnownFew, ReadsAsked, Suspends, IsLoadOf, loads_at, lookup_stop, LeavesOpen, given_by_files, of_file}
 use Rattle.std.proofs.lemmas.List.{append_assoc}
-use Rattle.std.specs.Prelude.{IfErr, IfSome}
-use Rattle.gimli_read.specs.declared.error.Error.{Error}
 use Rattle.gimli_read.specs.declared.error.Error.TheVariants as reading
-use Rattle.gimli.specs.Sections.{Sections}
-use Rattle.elf.specs.declared.error.LoaderError.{LoaderError}
-use Rattle.elf.specs.declared.error.LoaderError.TheVariants.{OutOfMemory}
-use Rattle.elf.specs.Loading.{Loading, LoadsUnlessOom}
 use Rattle.elf.specs.Text.{loader_error_of}
-use Rattle.addr2line_units.specs.declared.continuation.LookupResult.{LookupResult}
-use Rattle.addr2line_units.specs.declared.continuation.LookupResult.TheVariants.{Output}
-use Rattle.addr2line_units.specs.declared.frames.OnFault.TheVariants.{Stop}
-use Rattle.addr2line_units.specs.Frames.{FrameRecord}
-use Rattle.addr2line_units.specs.FramesLookup.{Waits, answer_of, is_waiting}
-use Rattle.gimli_read.specs.Reading.{result_map}
-use Rattle.addr2line_units.specs.Parsed.{StaysParsed, has_parsed}
-use Rattle.addr2line_units.specs.StaysKnown.{StaysKnown}
-use Rattle.addr2line_units.specs.Suspended.{IfOutput}
-use Rattle.addr2line_units.specs.Views.{FirstAnswers, SplitLoad}
-use Rattle.addr2line.specs.Answers.{AfterAnswering, AfterResume, SuspendsAgain, answered}
-use Rattle.addr2line.specs.Context.{ContextState}
 use Rattle.addr2line.specs.declared.compressed.CompressedSections.{CompressedSections}
-use Rattle.addr2line.specs.Files.{Files, ReadFiles, as_read, as_read_if_known}
 use Rattle.addr2line.specs.FramesByFiles.{frames_by_files, stop_frames}
-use Rattle.addr2line.specs.History.{Given, Answered}
 use Rattle.addr2line.specs.LoadsByFiles.{AfterAnswers, AfterFramesByFiles, AnswersByFiles, AnswersInTurn, IsFaultByFiles, IsUnitFault, StayAnswered, WaitsForNone}
-use Rattle.addr2line.specs.AfterLookups.{AfterFrames, AfterFramesOver, IsKnownFew, ReadsAsked, Suspends}
-use Rattle.addr2line.specs.Lookups.{IsLoadOf, loads_at, lookup_stop}
-use Rattle.addr2line.specs.SplitFiles.{LeavesOpen, given_by_files, of_file}
 use Rattle.addr2line.proofs.AskedLemmas.{reads_answered, reads_more, reads_nothing}
 use Rattle.addr2line.proofs.FilesLookupLemmas.{answer_changes, first_answers_stay, frames_ended, frames_stay, refused_frames, stop_stays}
 use Rattle.addr2line.proofs.HistoryLemmas.{HasGiven, given_all, given_more, resumed_output}

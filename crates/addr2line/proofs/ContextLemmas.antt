@@ -1,26 +1,11 @@
 -- What a context has and what its sections give (on specs/Context.antt).
-use Rattle.std.proofs.Common.{◌≡◌, ℕ, zero, suc, ◌≤◌, ◌&&◌, ◌||◌, inl, inr, Bool, true, false, List, [], ◌∷◌, length, map, slice_get, Option, Some, None, option_map, Result, Ok, Err, refl, sym, ap, subst, ◌∙◌, arith, ◌+◌}
-use Rattle.std.specs.Prelude.{IfErr, OnOk, is_ok}
-use Rattle.gimli_read.specs.declared.error.Error.{Error}
-use Rattle.gimli_read.specs.Reading.{◌>>=◌, Exactly, ExactlyUnlessOom, fault_of, result_map, WasNotRefused}
-use Rattle.gimli.specs.Sections.{Sections}
-use Rattle.gimli.specs.Unit.{UnitRecord}
+use Rattle.addr2line.proofs.Common.{◌≡◌, ℕ, zero, suc, ◌≤◌, ◌&&◌, ◌||◌, inl, inr, Bool, true, false, List, [], ◌∷◌, length, map, slice_get, Option, Some, None, option_map, Result, Ok, Err, refl, sym, ap, subst, ◌∙◌, arith, ◌+◌, IfErr, OnOk, Error, ◌>>=◌, Exactly, ExactlyUnlessOom, fault_of, result_map, WasNotRefused, Sections, UnitRecord, Scope, UnitRange, cover, cover_range, FindsNothing, main_scope, LocationResult, first_location, all_lines, is_found, lines_of_unit, location_in, location_of, looks_along, or_first_location, spans_along, spans_of, AreAllParsed, AreParsed, AsksFor, LeadTo, ParsesOnly, StaysParsed, decides, has_parsed, ready_along, takes_none_along, NothingKnown, IndexedUnit, RangedUnit, has_lines, indexed_of, ranged_units, unit_ranges_from, UnitIndex, index_units, sup_units, UnitsState, first_state, new_units, AfterLookup, AfterRangeLookup, ContextState, IsContext, IsReady, IsUncovered, IsReadyForRange, LocatesNoMemory, Stays, lines_of_all, new_context, seen_context}
+use Rattle.std.specs.Prelude.{is_ok}
 use Rattle.addr2line_lines.specs.Location.{LineTable, Location, location_at}
-use Rattle.addr2line_lines.specs.References.{Scope}
 use Rattle.addr2line_lines.specs.Rows.{read_all}
-use Rattle.addr2line_units.specs.declared.index.UnitRange.{UnitRange}
 use Rattle.addr2line_units.specs.AfterUnits as left
-use Rattle.addr2line_units.specs.Cover.{cover, cover_range}
-use Rattle.addr2line_units.specs.FramesLookup.{FindsNothing, main_scope}
-use Rattle.addr2line_units.specs.Located.{LocationResult, first_location, all_lines, is_found, lines_of_unit, location_in, location_of, looks_along, or_first_location, spans_along, spans_of}
-use Rattle.addr2line_units.specs.Parsed.{AreAllParsed, AreParsed, AsksFor, LeadTo, ParsesOnly, StaysParsed, decides, has_parsed, ready_along, takes_none_along}
-use Rattle.addr2line_units.specs.KnownEntries.{NothingKnown}
-use Rattle.addr2line_units.specs.RangedUnits.{IndexedUnit, RangedUnit, has_lines, indexed_of, ranged_units, unit_ranges_from}
-use Rattle.addr2line_units.specs.UnitIndex.{UnitIndex, index_units, sup_units}
-use Rattle.addr2line_units.specs.UnitsState.{UnitsState, first_state, new_units}
 use Rattle.addr2line_units.proofs.NewUnitsLemmas.{ok_is}
 use Rattle.addr2line_units.proofs.UnitsLemmas.{parsed_none_along, ready_both, ready_first}
-use Rattle.addr2line.specs.Context.{AfterLookup, AfterRangeLookup, ContextState, IsContext, IsReady, IsUncovered, IsReadyForRange, LocatesNoMemory, Stays, lines_of_all, new_context, seen_context}
 
 -- an answer that isn't OutOfMemory is exactly what is given
 pub exactly_told : {X Y : Type 0} (see : X → Y) (r : Result X Error) (given : Result Y Error) → ExactlyUnlessOom see r given → WasNotRefused r → Exactly see r given

@@ -1,27 +1,12 @@
 -- Nothing that sections say of a context, of a lookup or of a reply is OutOfMemory (on specs/FaultLaws.antt).
-use Rattle.std.proofs.Common.{ℕ, List, [], ◌∷◌, Option, Result, Ok, Err}
-use Rattle.std.specs.Prelude.{IfOk}
+use Rattle.addr2line.proofs.Common.{ℕ, List, [], ◌∷◌, Option, Result, Ok, Err, IfOk, Error, Sections, OnFault, Stop, Skip, cover, LookupStop, Waits, Finds, FindsNothing, main_scope, spans_of, unit_records, UnitIndex, FirstAnswers, View, lines_of_all, new_context, HistoryCall, AsksLocation, AsksRange, AsksFrames, AsksUnit, AsksLoads, AnswersLoad, Forgets, ParsesLines, ParsesFunctions, answers_given, answers_left, replies_to, reply_to, forget_reply, parse_reply, UnitResult, asked_of, found_at, lookup_stop, stop_in, unit_of, reply_of_frames, reply_of_range, reply_of_unit}
 use Rattle.std.specs.List.{AllByRecursion}
-use Rattle.gimli_read.specs.declared.error.Error.{Error}
 use Rattle.gimli_read.specs.FaultLaws.{NoneWasRefused}
 use Rattle.gimli_read.proofs.FaultLemmas.{IsByBytes, step, value, fault_of_is, not_refused}
-use Rattle.gimli.specs.Sections.{Sections}
-use Rattle.addr2line_units.specs.declared.frames.OnFault.{OnFault}
-use Rattle.addr2line_units.specs.declared.frames.OnFault.TheVariants.{Stop, Skip}
 use Rattle.addr2line_units.specs.declared.parses.ReadingDepth.{ReadingDepth}
-use Rattle.addr2line_units.specs.Cover.{cover}
-use Rattle.addr2line_units.specs.FramesLookup.{LookupStop, Waits, Finds, FindsNothing, main_scope}
-use Rattle.addr2line_units.specs.Located.{spans_of}
-use Rattle.addr2line_units.specs.RangedUnits.{unit_records}
-use Rattle.addr2line_units.specs.UnitIndex.{UnitIndex}
-use Rattle.addr2line_units.specs.Views.{FirstAnswers, View}
 use Rattle.addr2line_units.proofs.FaultLemmas.{all_lines_are, asked_frames_are, forget_result_is, index_units_is, load_result_is, location_of_is, ranged_units_are, read_of_units_is, spans_unrefused, stop_along_is, sup_units_are}
-use Rattle.addr2line.specs.Context.{lines_of_all, new_context}
 use Rattle.addr2line.specs.FaultLaws.{ReplyIsNotRefused}
-use Rattle.addr2line.specs.History.{HistoryCall, AsksLocation, AsksRange, AsksFrames, AsksUnit, AsksLoads, AnswersLoad, Forgets, ParsesLines, ParsesFunctions, answers_given, answers_left, replies_to, reply_to}
-use Rattle.addr2line.specs.Loads.{forget_reply, load_reply, parse_reply}
-use Rattle.addr2line.specs.Lookups.{UnitResult, asked_of, found_at, lookup_stop, stop_in, unit_of}
-use Rattle.addr2line.specs.Replies.{reply_of_frames, reply_of_range, reply_of_unit}
+use Rattle.addr2line.specs.Loads.{load_reply}
 
 -- ---- contexts
 pub new_context_is : (d : Sections) → IsByBytes (new_context d)

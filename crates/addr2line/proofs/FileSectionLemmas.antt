@@ -1,10 +1,7 @@
 -- The sections of a file, read one after another (on specs/FileSections.antt).
-use Rattle.std.proofs.Common.{◌≡◌, Ok, Err, refl}
-use Rattle.gimli_read.specs.Section.{Section}
+use Rattle.addr2line.proofs.Common.{◌≡◌, Ok, Err, refl, Section, LoaderError, Loading}
 use Rattle.gimli.specs.declared.load.SectionId.{SectionId}
 use Rattle.gimli.specs.declared.load.SectionId.TheVariants.{DebugAbbrev, DebugAddr, DebugAranges, DebugInfo, DebugLine, DebugLineStr, DebugRanges, DebugRngLists, DebugStr, DebugStrOffsets}
-use Rattle.elf.specs.declared.error.LoaderError.{LoaderError}
-use Rattle.elf.specs.Loading.{Loading}
 use Rattle.addr2line.specs.FileSections.{sections_by}
 
 -- sections up to one with a fault give that fault; all ten are what was read

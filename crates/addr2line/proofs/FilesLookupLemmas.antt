@@ -1,37 +1,13 @@
 -- Lookups of frames where files answer loads (on specs/FramesByFiles.antt and
 -- specs/LoadsByFiles.antt).
-use Rattle.std.proofs.Common.{◌≡◌, ◌≢◌, ◌⊎◌, inl, inr, ℕ, zero, suc, ◌<◌, arith, Bool, true, false, List, [], ◌∷◌, length, slice_get, Option, Some, None, option_map, Result, Ok, Err, refl, sym, ap, subst, ◌∙◌}
-use Rattle.std.proofs.lemmas.Bool.Decides.{eqb_tells}
-use Rattle.std.proofs.lemmas.Option.{slice_get-map}
-use Rattle.std.proofs.Math.ListN.{set}
-use Rattle.std.specs.Prelude.{if◌then◌else◌, is_none, is_some, unwrap_or}
-use Rattle.gimli_read.specs.declared.error.Error.{Error}
-use Rattle.gimli_read.specs.Reading.{◌>>=◌}
-use Rattle.gimli.specs.Sections.{Sections}
-use Rattle.gimli.specs.Unit.{UnitRecord}
-use Rattle.elf.specs.declared.error.LoaderError.{LoaderError}
-use Rattle.elf.specs.Loading.{Loading}
-use Rattle.addr2line_lines.specs.References.{Scope}
-use Rattle.addr2line_units.specs.Loads.{before_others, is_open_at, load_of_number, loads_along}
-use Rattle.addr2line_units.specs.declared.frames.OnFault.TheVariants.{Stop}
-use Rattle.addr2line_units.specs.declared.index.UnitRange.{UnitRange}
-use Rattle.addr2line_units.specs.Cover.{cover}
-use Rattle.addr2line_units.specs.Frames.{FrameRecord}
-use Rattle.addr2line_units.specs.FramesLookup.{LookupStop, Waits, after_fault, answer_of, asked_frames, frames_of_number, is_waiting, main_scope, or_stop, stop_along, with_answer}
-use Rattle.addr2line_units.specs.UnitFrames.{FramesResult, frames_in}
-use Rattle.addr2line_units.specs.UnitIndex.{UnitIndex, index_units}
-use Rattle.addr2line_units.specs.RangedUnits.{IndexedUnit, unit_records}
-use Rattle.addr2line_units.specs.Views.{FirstAnswers, SplitLoad, awaited_by, awaited_load, decided_answer, is_open, load_of_unit, verdict_by}
+use Rattle.addr2line.proofs.Common.{◌≡◌, ◌≢◌, ◌⊎◌, inl, inr, ℕ, zero, suc, ◌<◌, arith, Bool, true, false, List, [], ◌∷◌, length, slice_get, Option, Some, None, option_map, Result, Ok, Err, refl, sym, ap, subst, ◌∙◌, eqb_tells, slice_get-map, set, is_none, Error, ◌>>=◌, Sections, UnitRecord, LoaderError, Loading, Scope, before_others, is_open_at, load_of_number, loads_along, Stop, UnitRange, cover, FrameRecord, LookupStop, Waits, after_fault, answer_of, asked_frames, frames_of_number, is_waiting, main_scope, or_stop, stop_along, with_answer, FramesResult, frames_in, UnitIndex, index_units, IndexedUnit, unit_records, FirstAnswers, SplitLoad, awaited_by, awaited_load, decided_answer, is_open, load_of_unit, verdict_by, waits_listed, answered, IsLoadOf, loads_at, lookup_stop, stop_in, of_file}
+use Rattle.std.specs.Prelude.{if◌then◌else◌, is_some, unwrap_or}
 use Rattle.addr2line_units.proofs.AnswerLemmas.{decided_if_open, no_answer, others_stay}
-use Rattle.addr2line_units.proofs.LoadLawLemmas.{waits_listed}
 use Rattle.addr2line_units.proofs.LoadLemmas.{open_awaits}
 use Rattle.addr2line_units.proofs.WaitLemmas.{same_number}
 use Rattle.addr2line.proofs.SkipLemmas.{decided_stop_along}
-use Rattle.addr2line.specs.Answers.{answered}
 use Rattle.addr2line.specs.FramesByFiles.{GivesAnswers, answer_by, first_frames, frames_by_answers, frames_in_units, frames_of_unit, frames_or_fault, frames_with, or_rest, stop_frames}
 use Rattle.addr2line.specs.LoadsByFiles.{StayAnswered}
-use Rattle.addr2line.specs.Lookups.{IsLoadOf, loads_at, lookup_stop, stop_in}
-use Rattle.addr2line.specs.SplitFiles.{of_file}
 
 pub none_if_open : (scope : Scope) (u : IndexedUnit) (answer : Option (Option Sections)) (probe : ℕ) → is_open scope.file.sections u.unit answer ≡ true → frames_in scope u answer probe ≡ Ok None
 unfolding frames_in

@@ -1,28 +1,11 @@
 -- How many frames a lookup finds (on specs/FrameLaws.antt).
-use Rattle.std.proofs.Common.{◌≡◌, ℕ, suc, Bool, true, false, List, [], ◌∷◌, length, reverse, slice_get, Option, Some, None, Result, Ok, Err, refl, sym, ap, subst, ◌∙◌}
-use Rattle.std.proofs.lemmas.List.{length-reverse}
+use Rattle.addr2line.proofs.Common.{◌≡◌, ℕ, suc, Bool, true, false, List, [], ◌∷◌, length, reverse, slice_get, Option, Some, None, Result, Ok, Err, refl, sym, ap, subst, ◌∙◌, length-reverse, Error, ◌>>=◌, Section, Scope, OnFault, Stop, Skip, UnitRange, Sections, cover, FoundFunction, FrameRecord, found_frames, frames_from, LookupStop, Waits, Finds, FindsNothing, after_fault, answer_of, frames_of_number, main_scope, or_stop, stop_along, IndexedUnit, FramesResult, frames_by, frames_in, function_in, UnitIndex, FirstAnswers, is_open, stop_in}
 use Rattle.std.specs.Prelude.{if◌then◌else◌}
 use Rattle.gimli_read.specs.declared.constants.DwLang.{DwLang}
-use Rattle.gimli_read.specs.declared.error.Error.{Error}
-use Rattle.gimli_read.specs.Reading.{◌>>=◌}
-use Rattle.gimli_read.specs.Section.{Section}
 use Rattle.addr2line_lines.specs.InlinedEntries.{InlinedEntry}
 use Rattle.addr2line_lines.specs.Location.{Location, location_at}
-use Rattle.addr2line_lines.specs.References.{Scope}
 use Rattle.addr2line_lines.specs.UnitLines.{unit_lines}
-use Rattle.addr2line_units.specs.declared.frames.OnFault.{OnFault}
-use Rattle.addr2line_units.specs.declared.frames.OnFault.TheVariants.{Stop, Skip}
-use Rattle.addr2line_units.specs.declared.index.UnitRange.{UnitRange}
-use Rattle.gimli.specs.Sections.{Sections}
-use Rattle.addr2line_units.specs.Cover.{cover}
-use Rattle.addr2line_units.specs.Frames.{FoundFunction, FrameRecord, found_frames, frames_from}
-use Rattle.addr2line_units.specs.FramesLookup.{LookupStop, Waits, Finds, FindsNothing, after_fault, answer_of, frames_of_number, main_scope, or_stop, stop_along}
-use Rattle.addr2line_units.specs.RangedUnits.{IndexedUnit}
-use Rattle.addr2line_units.specs.UnitFrames.{FramesResult, frames_by, frames_in, function_in}
-use Rattle.addr2line_units.specs.UnitIndex.{UnitIndex}
-use Rattle.addr2line_units.specs.Views.{FirstAnswers, is_open}
 use Rattle.addr2line.specs.FrameLaws.{HasFrameOfEach, frame_count, function_of_number}
-use Rattle.addr2line.specs.Lookups.{stop_in}
 
 -- one frame more than there are inlined functions
 one_more : (files : List (List ℕ)) (language : Option DwLang) (offset : ℕ) (name : Option Section) (entries : List InlinedEntry) (location : Option Location) → length (frames_from files language offset name entries location) ≡ suc (length entries)

@@ -1,27 +1,10 @@
 -- The units that a lookup waits for differ (on specs/HistoryLaws.antt).
-use Rattle.std.proofs.Common.{◌≡◌, ◌≢◌, inl, inr, ℕ, ◌==◌, Bool, true, false, not, List, [], ◌∷◌, filter, length, slice_get, Option, Some, None, Result, Ok, Err, refl, sym, ap, subst, ◌∙◌, if◌then◌else◌}
-use Rattle.std.proofs.Math.ListN.{set}
-use Rattle.std.proofs.lemmas.List.{length-map, length-set}
+use Rattle.addr2line.proofs.Common.{◌≡◌, ◌≢◌, inl, inr, ℕ, ◌==◌, Bool, true, false, not, List, [], ◌∷◌, filter, length, slice_get, Option, Some, None, Result, Ok, Err, refl, sym, ap, subst, ◌∙◌, if◌then◌else◌, set, length-map, length-set, Error, ◌>>=◌, Sections, UnitRecord, OnFault, cover, LookupStop, Waits, Finds, FindsNothing, answer_of, main_scope, with_answer, is_of_other, load_of_number, loads_along, UnitIndex, index_units, IndexedUnit, unit_records, FirstAnswers, SplitLoad, decided_answer, others_left, waits_listed, answered, Given, Answered, Abandoned, where_waiting, loads_at, lookup_stop, stop_in}
 use Rattle.std.proofs.lemmas.Bool.{eq-eqb}
 use Rattle.std.specs.List.{AllByRecursion}
-use Rattle.gimli_read.specs.declared.error.Error.{Error}
-use Rattle.gimli_read.specs.Reading.{◌>>=◌}
-use Rattle.gimli.specs.Sections.{Sections}
-use Rattle.gimli.specs.Unit.{UnitRecord}
-use Rattle.addr2line_units.specs.declared.frames.OnFault.{OnFault}
-use Rattle.addr2line_units.specs.Cover.{cover}
-use Rattle.addr2line_units.specs.FramesLookup.{LookupStop, Waits, Finds, FindsNothing, answer_of, main_scope, with_answer}
 use Rattle.addr2line_units.specs.LoadLaws.{IsListed}
 use Rattle.addr2line_units.specs.LoadLaws as laws
-use Rattle.addr2line_units.specs.Loads.{is_of_other, load_of_number, loads_along}
-use Rattle.addr2line_units.specs.UnitIndex.{UnitIndex, index_units}
-use Rattle.addr2line_units.specs.RangedUnits.{IndexedUnit, unit_records}
-use Rattle.addr2line_units.specs.Views.{FirstAnswers, SplitLoad, decided_answer}
-use Rattle.addr2line_units.proofs.LoadLawLemmas.{others_left, waits_listed}
-use Rattle.addr2line.specs.Answers.{answered}
-use Rattle.addr2line.specs.History.{Given, Answered, Abandoned, where_waiting}
 use Rattle.addr2line.specs.HistoryLaws.{AreDistinct, WaitsForEachOnce, waited_for}
-use Rattle.addr2line.specs.Lookups.{loads_at, lookup_stop, stop_in}
 
 -- what is listed among the loads of other units
 listed_other : (n k : ℕ) (loads : List SplitLoad) → IsListed k (filter (is_of_other n) loads) → (k ≢ n) × IsListed k loads

@@ -1,21 +1,6 @@
 -- One answer more of a lookup, and one call more of a history (on specs/History.antt).
-use Rattle.std.proofs.Common.{◌≡◌, ◌⊎◌, inl, inr, ℕ, suc, ◌+◌, ◌<◌, add-one, append_assoc, Bool, true, false, List, [], ◌∷◌, ◌++◌, drop, get_or, length, map, take, Option, Result, Ok, Err, refl, sym, ap, subst, ◌∙◌}
+use Rattle.addr2line.proofs.Common.{◌≡◌, ◌⊎◌, inl, inr, ℕ, suc, ◌+◌, ◌<◌, add-one, append_assoc, Bool, true, false, List, [], ◌∷◌, ◌++◌, drop, get_or, length, map, take, Option, Result, Ok, Err, refl, sym, ap, subst, ◌∙◌, append-nil, get_or-map, length-map, take-append-drop, take_more, Error, Sections, LookupResult, Output, OnFault, LookupStop, Waits, Finds, FindsNothing, is_waiting, WasNotRefused, StaysParsed, has_parsed, IfOutput, AfterResume, answered, ContextState, Given, Answered, Abandoned, answers_given, where_waiting, lookup_stop, FirstAnswers}
 use Rattle.std.proofs.Math.Seq.{drop-cons}
-use Rattle.std.proofs.lemmas.List.{append-nil, get_or-map, length-map, take-append-drop, take_more}
-use Rattle.gimli_read.specs.declared.error.Error.{Error}
-use Rattle.gimli.specs.Sections.{Sections}
-use Rattle.addr2line_units.specs.declared.continuation.LookupResult.{LookupResult}
-use Rattle.addr2line_units.specs.declared.continuation.LookupResult.TheVariants.{Output}
-use Rattle.addr2line_units.specs.declared.frames.OnFault.{OnFault}
-use Rattle.addr2line_units.specs.FramesLookup.{LookupStop, Waits, Finds, FindsNothing, is_waiting}
-use Rattle.gimli_read.specs.Reading.{WasNotRefused}
-use Rattle.addr2line_units.specs.Parsed.{StaysParsed, has_parsed}
-use Rattle.addr2line_units.specs.Suspended.{IfOutput}
-use Rattle.addr2line.specs.Answers.{AfterResume, answered}
-use Rattle.addr2line.specs.Context.{ContextState}
-use Rattle.addr2line.specs.History.{Given, Answered, Abandoned, answers_given, where_waiting}
-use Rattle.addr2line.specs.Lookups.{lookup_stop}
-use Rattle.addr2line_units.specs.Views.{FirstAnswers}
 
 -- where a lookup waits it goes on
 where_waits : {X : Type 0} (f : ℕ → X) (x : X) (s : Result LookupStop Error) (n : ℕ) → s ≡ Ok (Waits n) → where_waiting f x s ≡ f n

@@ -1,8 +1,6 @@
 -- Files that are kept by their paths (on specs/KeptFiles.antt).
-use Rattle.std.proofs.Common.{◌≡◌, ℕ, Bool, true, Option, Some, sym, ap, option_map, ◌∙◌}
+use Rattle.addr2line.proofs.Common.{◌≡◌, ℕ, Bool, true, Option, Some, sym, ap, option_map, ◌∙◌, Decides-and, Decides-eqb, Decides-int_eq, ObjectFile}
 use Rattle.std.specs.Bool.{Decides}
-use Rattle.std.proofs.lemmas.Bool.Decides.{Decides-and, Decides-eqb, Decides-int_eq}
-use Rattle.elf.specs.ObjectFile.{ObjectFile}
 use Rattle.addr2line.specs.contracts.files.FileStampPartialEq.TheImpl as stamp_eq
 use Rattle.addr2line.specs.contracts.files.FileTimePartialEq.TheImpl as time_eq
 use Rattle.addr2line.specs.declared.files.FileStamp.{FileStamp}

@@ -1,3 +1,4 @@
+pub mod Common
 pub mod ContextLemmas
 pub mod LookupLemmas
 pub mod AnsweredLemmas

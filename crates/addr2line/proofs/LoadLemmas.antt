@@ -1,34 +1,12 @@
 -- Answers to loads outside a lookup, in a context (on specs/Loads.antt).
-use Rattle.std.proofs.Common.{◌≡◌, ◌⊎◌, inl, inr, ℕ, Bool, false, true, List, [], length, slice_get, Option, Result, Ok, Err, sym, ap, subst, ◌∙◌}
-use Rattle.std.proofs.lemmas.List.{length-map}
-use Rattle.std.specs.Prelude.{IfErr, IfOk, IsOk, IsOkAnd, OnOk}
-use Rattle.gimli_read.specs.declared.error.Error.{Error}
-use Rattle.gimli_read.specs.Reading.{◌>>=◌, ExactlyUnlessOom, fault_of}
-use Rattle.gimli.specs.Sections.{Sections}
-use Rattle.gimli.specs.Unit.{UnitRecord}
-use Rattle.addr2line_lines.specs.References.{Scope}
-use Rattle.addr2line_units.specs.declared.frames.OnFault.{OnFault}
-use Rattle.addr2line_units.specs.declared.index.UnitRange.{UnitRange}
+use Rattle.addr2line.proofs.Common.{◌≡◌, ◌⊎◌, inl, inr, ℕ, Bool, false, true, List, [], length, slice_get, Option, Result, Ok, Err, sym, ap, subst, ◌∙◌, length-map, IfErr, IfOk, IsOk, IsOkAnd, OnOk, Error, ◌>>=◌, ExactlyUnlessOom, fault_of, Sections, UnitRecord, Scope, OnFault, UnitRange, cover, asked_frames, main_scope, stop_along, knows_at, NoneOpen, forget_result, is_open_at, load_result, loads_along, all_lines, LeadTo, IndexedUnit, IsReadyAt, StaysKnown, UnitIndex, index_units, UnitsState, SplitLoad, IsContext, lines_of_all, seen_context, AfterForgetting, AfterLoading, AfterParse, AfterPreload, IsAllKnown, IsNotOpen, NoneOpenAt, ReachesAllOf, ReadsFunctionsNoMemory, StaysRead, forget_reply, parse_reply, parsed_answers, lookup_stop}
 use Rattle.addr2line_units.specs.declared.parses.ReadingDepth.{ReadingDepth}
 use Rattle.addr2line_units.specs.declared.parses.ReadingDepth.TheVariants as depths
 use Rattle.addr2line_units.specs.AfterUnits as left
-use Rattle.addr2line_units.specs.Cover.{cover}
-use Rattle.addr2line_units.specs.FramesLookup.{asked_frames, main_scope, stop_along}
 use Rattle.addr2line_units.specs.FunctionParseLaws.{IsReached}
 use Rattle.addr2line_units.specs.FunctionParses.{AreFirstDecided, AreReadBefore, AreReadyFor, ReadsNoMemory, answers_after_parse, read_of_units}
-use Rattle.addr2line_units.specs.KnownEntries.{knows_at}
-use Rattle.addr2line_units.specs.Loads.{NoneOpen, forget_result, is_open_at, load_result, loads_along}
-use Rattle.addr2line_units.specs.Located.{all_lines}
-use Rattle.addr2line_units.specs.Parsed.{LeadTo}
-use Rattle.addr2line_units.specs.RangedUnits.{IndexedUnit}
-use Rattle.addr2line_units.specs.StaysKnown.{IsReadyAt, StaysKnown}
-use Rattle.addr2line_units.specs.UnitIndex.{UnitIndex, index_units}
-use Rattle.addr2line_units.specs.UnitsState.{UnitsState}
-use Rattle.addr2line_units.specs.Views.{SplitLoad}
 use Rattle.addr2line_units.proofs.ReachedLemmas.{reached_all}
-use Rattle.addr2line.specs.Context.{IsContext, lines_of_all, seen_context}
-use Rattle.addr2line.specs.Loads.{AfterForgetting, AfterLoading, AfterParse, AfterPreload, IsAllKnown, IsNotOpen, NoneOpenAt, ReachesAllOf, ReadsFunctionsNoMemory, StaysRead, forget_reply, load_reply, parse_reply, parsed_answers}
-use Rattle.addr2line.specs.Lookups.{lookup_stop}
+use Rattle.addr2line.specs.Loads.{load_reply}
 use Rattle.addr2line.proofs.AnsweredLemmas.{answers_are, scope_same, units_same}
 use Rattle.addr2line.proofs.ContextLemmas.{at_made, at_now, by_made, of_made, of_now, or_made}
 

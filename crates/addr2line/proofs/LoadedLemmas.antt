@@ -1,17 +1,7 @@
 -- What a loader is made from, whatever its files hold (on specs/Loaded.antt).
-use Rattle.std.proofs.Common.{◌≡◌, ◌≢◌, Bool, true, List, ℕ, Option, Some, Result, Ok, Err, refl, ap, ◌∙◌}
-use Rattle.std.specs.Prelude.{IfOk}
-use Rattle.gimli_read.specs.Reading.{◌>>=◌}
-use Rattle.gimli.specs.Sections.{Sections, SupSections}
-use Rattle.elf.specs.declared.error.LoaderError.{LoaderError}
-use Rattle.elf.specs.declared.error.LoaderError.TheVariants.{OutOfMemory}
-use Rattle.elf.specs.Loading.{Loading, LoadsUnlessOom}
-use Rattle.elf.specs.ObjectFile.{ObjectFile, object_file_of}
-use Rattle.addr2line.specs.Context.{ContextState, new_context}
+use Rattle.addr2line.proofs.Common.{◌≡◌, ◌≢◌, Bool, true, List, ℕ, Option, Some, Result, Ok, Err, refl, ap, ◌∙◌, IfOk, ◌>>=◌, Sections, SupSections, LoaderError, OutOfMemory, Loading, LoadsUnlessOom, ObjectFile, object_file_of, ContextState, new_context, ReadFiles, of_file}
 use Rattle.addr2line.specs.declared.compressed.CompressedSections.{CompressedSections}
-use Rattle.addr2line.specs.Files.{ReadFiles}
 use Rattle.addr2line.specs.Loaded.{AreSectionsOf, AreSupOfBytes, IsFileOfBytes, IsLoaded, as_sup, context_at, dwarf_at, loaded, main_with_sup, object_at, sections_of_file}
-use Rattle.addr2line.specs.SplitFiles.{of_file}
 
 -- a file that was parsed
 pub parsed_file : (bytes : List ℕ) (r : Loading ObjectFile) → LoadsUnlessOom (λ f. f) r (object_file_of bytes) → IfOk r IsFileOfBytes

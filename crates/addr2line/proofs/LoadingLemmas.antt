@@ -1,18 +1,9 @@
 -- Answers about a file, by what its bytes give (on specs/Loading.antt of elf, specs/SplitFiles.antt
 -- and specs/Loaded.antt).
-use Rattle.std.proofs.Common.{◌≡◌, ◌≢◌, inl, Bool, Option, Some, None, Result, Ok, Err, ap, refl}
-use Rattle.std.specs.Prelude.{IfErr, IfSome}
-use Rattle.gimli_read.specs.declared.error.Error.{Error}
+use Rattle.addr2line.proofs.Common.{◌≡◌, ◌≢◌, inl, Bool, Option, Some, None, Result, Ok, Err, ap, refl, IfErr, IfSome, Error, ExactlyUnlessOom, OutOfMemory, PathNotUtf8, Loading, LoadsUnlessOom, LoadsUnlessOomFor, ObjectFile, ContextState, ReadFiles, LeavesOpen, of_file}
 use Rattle.gimli_read.specs.declared.error.Error.TheVariants as reading
-use Rattle.gimli_read.specs.Reading.{ExactlyUnlessOom}
-use Rattle.elf.specs.declared.error.LoaderError.TheVariants.{OutOfMemory, PathNotUtf8}
-use Rattle.elf.specs.Loading.{Loading, LoadsUnlessOom, LoadsUnlessOomFor}
-use Rattle.elf.specs.ObjectFile.{ObjectFile}
 use Rattle.elf.specs.Text.{loader_error_of}
-use Rattle.addr2line.specs.Context.{ContextState}
-use Rattle.addr2line.specs.Files.{ReadFiles}
 use Rattle.addr2line.specs.Loader.{AfterContext}
-use Rattle.addr2line.specs.SplitFiles.{LeavesOpen, of_file}
 
 -- whatever takes memory
 pub loads_for : {X : Type 0} (takes : Loading X → Bool) (r given : Loading X) → LoadsUnlessOomFor takes r given → LoadsUnlessOom (λ x. x) r given

@@ -1,31 +1,11 @@
 -- Lookups by files that answer no load (on specs/LoadsByFiles.antt).
-use Rattle.std.proofs.Common.{◌≡◌, ◌≢◌, ◌&&◌, ◌||◌, inl, inr, ℕ, Bool, true, false, not, List, [], ◌∷◌, Option, Result, Ok, Err, refl, sym, ap, subst, ◌∙◌}
-use Rattle.gimli_read.specs.declared.error.Error.{Error}
-use Rattle.gimli.specs.Sections.{Sections}
-use Rattle.elf.specs.declared.error.LoaderError.{LoaderError}
-use Rattle.elf.specs.declared.error.LoaderError.TheVariants.{OutOfMemory}
-use Rattle.elf.specs.Loading.{Loading, LoadsUnlessOom}
+use Rattle.addr2line.proofs.Common.{◌≡◌, ◌≢◌, ◌&&◌, ◌||◌, inl, inr, ℕ, Bool, true, false, not, List, [], ◌∷◌, Option, Result, Ok, Err, refl, sym, ap, subst, ◌∙◌, Error, Sections, LoaderError, OutOfMemory, Loading, LoadsUnlessOom, Stop, UnitRange, cover, FrameRecord, LookupAsks, answer_of, asks_lines_of, ends_lookup, inlined_at_number, holds_along, is_waiting, main_scope, knows_at, StaysParsed, has_parsed, UnitIndex, index_units, FramesResult, ContextState, IsUncovered, ReadFiles, IsKnownFew, TakesMemory, has_few_of, StaysKnown, asked_of, lookup_stop, FirstAnswers}
 use Rattle.addr2line_lines.specs.InlineRoom.{exceeds_inline_room}
-use Rattle.addr2line_units.specs.declared.frames.OnFault.TheVariants.{Stop}
-use Rattle.addr2line_units.specs.declared.index.UnitRange.{UnitRange}
-use Rattle.addr2line_units.specs.Cover.{cover}
-use Rattle.addr2line_units.specs.Frames.{FrameRecord}
-use Rattle.addr2line_units.specs.FramesLookup.{LookupAsks, answer_of, asks_lines_of, ends_lookup, inlined_at_number, holds_along, is_waiting, main_scope}
-use Rattle.addr2line_units.specs.KnownEntries.{knows_at}
-use Rattle.addr2line_units.specs.Parsed.{StaysParsed, has_parsed}
-use Rattle.addr2line_units.specs.UnitIndex.{UnitIndex, index_units}
-use Rattle.addr2line_units.specs.UnitFrames.{FramesResult}
-use Rattle.addr2line.specs.Context.{ContextState, IsUncovered}
-use Rattle.addr2line.specs.Files.{ReadFiles}
 use Rattle.addr2line.specs.FramesByFiles.{ended_frames_of, stop_frames}
 use Rattle.addr2line.specs.LoadsByFiles.{AfterAnswers, AfterFramesByFiles, AnswersInTurn, MayLackMemory, WaitsForNone}
-use Rattle.addr2line.specs.AfterLookups.{IsKnownFew, TakesMemory, has_few_of}
-use Rattle.addr2line_units.specs.StaysKnown.{StaysKnown}
-use Rattle.addr2line.specs.Lookups.{asked_of, lookup_stop}
 use Rattle.addr2line.proofs.HistoryLemmas.{given_ended}
 use Rattle.addr2line_units.proofs.NewUnitsLemmas.{ok_is}
 use Rattle.addr2line.proofs.UncoveredLemmas.{uncovered_few, uncovered_stop}
-use Rattle.addr2line_units.specs.Views.{FirstAnswers}
 
 more : (a b c x y : Bool) → (a ≡ true → x ≡ true) → (c ≡ true → y ≡ true) → (a && (b || c)) ≡ true → (x && (b || y)) ≡ true
 more true true c x y f g e = rw (f refl) refl

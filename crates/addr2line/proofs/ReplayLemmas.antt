@@ -1,32 +1,9 @@
 -- What recorded lookups are given, answer by answer, and the replies that they come to (on
 -- specs/History.antt).
-use Rattle.std.proofs.Common.{◌≡◌, inl, inr, ℕ, ◌+◌, ◌<◌, ◌≤◌, Bool, true, false, List, ◌∷◌, ◌++◌, drop, get_or, length, map, slice_get, take, Option, Some, None, option_map, Result, Ok, Err, refl, sym, ap, subst, ◌∙◌}
-use Rattle.std.proofs.lemmas.List.{take_all}
-use Rattle.std.specs.Prelude.{IfErr, IfOk, OnOk}
-use Rattle.gimli_read.specs.declared.error.Error.{Error}
+use Rattle.addr2line.proofs.Common.{◌≡◌, inl, inr, ℕ, ◌+◌, ◌<◌, ◌≤◌, Bool, true, false, List, ◌∷◌, ◌++◌, drop, get_or, length, map, slice_get, take, Option, Some, None, option_map, Result, Ok, Err, refl, sym, ap, subst, ◌∙◌, take_all, IfErr, IfOk, OnOk, Error, ◌>>=◌, WasNotRefused, Section, Sections, UnitRecord, LookupResult, Output, OnFault, LookupStop, Waits, Finds, FindsNothing, is_waiting, StaysParsed, has_parsed, IfOutput, UnitIndex, index_units, unit_records, FirstAnswers, SplitLoad, View, load_by, load_of_unit, split_name_of, AfterResume, SuspendsAgain, answered, ContextState, Given, Answered, Abandoned, Leaves, answers_given, AfterFramesOver, Suspends, IsLoadOf, ended_with, found_at, lookup_stop, stop_in, view_found, CopiedReply, SuspendedAt, seen_reply}
 use Rattle.gimli_read.specs.declared.error.Error.TheVariants.{OutOfMemory}
-use Rattle.gimli_read.specs.Reading.{◌>>=◌, WasNotRefused}
-use Rattle.gimli_read.specs.Section.{Section}
 use Rattle.gimli.specs.declared.unit.DwoId.{DwoId}
-use Rattle.gimli.specs.Sections.{Sections}
-use Rattle.gimli.specs.Unit.{UnitRecord}
-use Rattle.addr2line_units.specs.declared.continuation.LookupResult.{LookupResult}
-use Rattle.addr2line_units.specs.declared.continuation.LookupResult.TheVariants.{Output}
-use Rattle.addr2line_units.specs.declared.frames.OnFault.{OnFault}
-use Rattle.addr2line_units.specs.FramesLookup.{LookupStop, Waits, Finds, FindsNothing, is_waiting}
-use Rattle.addr2line_units.specs.Parsed.{StaysParsed, has_parsed}
-use Rattle.addr2line_units.specs.Suspended.{IfOutput}
-use Rattle.addr2line_units.specs.UnitIndex.{UnitIndex, index_units}
-use Rattle.addr2line_units.specs.RangedUnits.{unit_records}
-use Rattle.addr2line_units.specs.Views.{FirstAnswers, SplitLoad, View, load_by, load_of_unit, split_name_of}
 use Rattle.addr2line.proofs.HistoryLemmas.{HasGiven, given_all, given_ended, given_last, given_more, given_up, resumed_answers, resumed_begun, resumed_output, resumed_parsed, resumed_sections, take_drop_one, take_then}
-use Rattle.addr2line.specs.Answers.{AfterResume, SuspendsAgain, answered}
-use Rattle.addr2line.specs.Context.{ContextState}
-use Rattle.addr2line.specs.History.{Given, Answered, Abandoned, Leaves, answers_given}
-use Rattle.addr2line.specs.AfterLookups.{AfterFramesOver, Suspends}
-use Rattle.addr2line.specs.Lookups.{IsLoadOf, ended_with, found_at, lookup_stop, stop_in, view_found}
-use Rattle.addr2line.specs.Replies.{CopiedReply, SuspendedAt}
-use Rattle.addr2line.specs.SeenReplies.{seen_reply}
 use Rattle.addr2line.specs.declared.reply.Reply.{Reply}
 
 -- the load of a unit has its number

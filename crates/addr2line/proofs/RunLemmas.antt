@@ -1,15 +1,6 @@
 -- Calls made one after another (on specs/History.antt).
-use Rattle.std.proofs.Common.{◌≡◌, inl, inr, ℕ, ◌≤◌, arith, List, [], ◌∷◌, ◌++◌, append_assoc, drop, length, map, Ok, Err, refl, sym, ap, subst, ◌∙◌}
-use Rattle.std.proofs.Math.ListN.{drop_of_length-le}
-use Rattle.std.proofs.lemmas.List.{append-nil, length-map}
-use Rattle.gimli_read.specs.declared.error.Error.{Error}
+use Rattle.addr2line.proofs.Common.{◌≡◌, inl, inr, ℕ, ◌≤◌, arith, List, [], ◌∷◌, ◌++◌, append_assoc, drop, length, map, Ok, Err, refl, sym, ap, subst, ◌∙◌, drop_of_length-le, append-nil, length-map, Error, Sections, StaysParsed, ContextState, AfterCall, AfterCalls, AnswersLoad, AsksFrames, AsksLoads, AsksLocation, AsksRange, AsksUnit, Forgets, HasBegun, HistoryCall, IsCutShort, ParsesFunctions, ParsesLines, answers_after, answers_left, replies_to, reply_to, CopiedReply, FirstAnswers}
 use Rattle.gimli_read.specs.declared.error.Error.TheVariants.{OutOfMemory}
-use Rattle.gimli.specs.Sections.{Sections}
-use Rattle.addr2line_units.specs.Parsed.{StaysParsed}
-use Rattle.addr2line.specs.Context.{ContextState}
-use Rattle.addr2line.specs.History.{AfterCall, AfterCalls, AnswersLoad, AsksFrames, AsksLoads, AsksLocation, AsksRange, AsksUnit, Forgets, HasBegun, HistoryCall, IsCutShort, ParsesFunctions, ParsesLines, answers_after, answers_left, replies_to, reply_to}
-use Rattle.addr2line.specs.Replies.{CopiedReply}
-use Rattle.addr2line_units.specs.Views.{FirstAnswers}
 
 -- nothing was done of a call
 begun_nothing : (d : Sections) (answers : FirstAnswers) (call : HistoryCall) → HasBegun d answers call answers

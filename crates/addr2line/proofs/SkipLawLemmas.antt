@@ -1,24 +1,8 @@
 -- Lookups of which none is answered to each load (on specs/SkipLaws.antt).
-use Rattle.std.proofs.Common.{◌≡◌, ◌≢◌, ℕ, zero, suc, ◌<◌, ◌≤◌, arith, false, List, length, Option, None, Result, Ok, Err, refl, sym, ap, subst, ◌∙◌}
-use Rattle.std.proofs.lemmas.List.{length-map}
-use Rattle.gimli_read.specs.declared.error.Error.{Error}
-use Rattle.gimli_read.specs.Reading.{◌>>=◌}
-use Rattle.gimli.specs.Sections.{Sections}
-use Rattle.gimli.specs.Unit.{UnitRecord}
-use Rattle.addr2line_units.specs.declared.frames.OnFault.{OnFault}
-use Rattle.addr2line_units.specs.declared.frames.OnFault.TheVariants.{Stop, Skip}
-use Rattle.addr2line_units.specs.Cover.{cover}
-use Rattle.addr2line_units.specs.FramesLookup.{LookupStop, Waits, Finds, FindsNothing, is_waiting, with_answer}
+use Rattle.addr2line.proofs.Common.{◌≡◌, ◌≢◌, ℕ, zero, suc, ◌<◌, ◌≤◌, arith, false, List, length, Option, None, Result, Ok, Err, refl, sym, ap, subst, ◌∙◌, length-map, Error, ◌>>=◌, Sections, UnitRecord, OnFault, Stop, Skip, cover, LookupStop, Waits, Finds, FindsNothing, is_waiting, with_answer, UnitIndex, index_units, IndexedUnit, unit_records, FirstAnswers, SplitLoad, View, fewer_left, answered, answers_given, where_waiting, ended_with, found_at, frames_value, loads_at, lookup_stop, unit_value, view_found, with_none}
 use Rattle.addr2line_units.specs.LoadLaws as laws
-use Rattle.addr2line_units.specs.UnitIndex.{UnitIndex, index_units}
-use Rattle.addr2line_units.specs.RangedUnits.{IndexedUnit, unit_records}
-use Rattle.addr2line_units.specs.Views.{FirstAnswers, SplitLoad, View}
-use Rattle.addr2line_units.proofs.LoadLawLemmas.{fewer_left}
 use Rattle.addr2line.proofs.HistoryLawLemmas.{answers_are, as_many, loads_are, waits_for_listed}
 use Rattle.addr2line.proofs.SkipLemmas.{decided_found, none_after}
-use Rattle.addr2line.specs.Answers.{answered}
-use Rattle.addr2line.specs.History.{answers_given, where_waiting}
-use Rattle.addr2line.specs.Lookups.{ended_with, found_at, frames_value, loads_at, lookup_stop, unit_value, view_found, with_none}
 use Rattle.addr2line.specs.SkipLaws.{SkippedGivesSame, SkippedWaitsForNone}
 use Rattle.addr2line.specs.Skips.{nones, skipped_answers}
 

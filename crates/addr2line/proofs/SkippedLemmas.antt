@@ -1,31 +1,9 @@
 -- Lookups of which none is answered to each load (on specs/Skips.antt).
-use Rattle.std.proofs.Common.{◌≡◌, ◌≢◌, slice_get, ℕ, zero, suc, ◌+◌, ◌-◌, ◌≤◌, arith, Bool, true, false, List, ◌∷◌, ◌++◌, length, Option, Some, None, Result, Ok, Err, refl, sym, ap, subst, ◌∙◌}
+use Rattle.addr2line.proofs.Common.{◌≡◌, ◌≢◌, slice_get, ℕ, zero, suc, ◌+◌, ◌-◌, ◌≤◌, arith, Bool, true, false, List, ◌∷◌, ◌++◌, length, Option, Some, None, Result, Ok, Err, refl, sym, ap, subst, ◌∙◌, IfErr, Error, ◌>>=◌, WasNotRefused, Sections, UnitRecord, cover, OnFault, LookupStop, Waits, Finds, FindsNothing, answer_of, is_waiting, main_scope, with_answer, is_open_at, StaysParsed, has_parsed, unit_records, StaysKnownOf, UnitIndex, index_units, FirstAnswers, is_open, waits_listed, AfterAnswering, answered, ContextState, Given, Answered, answers_given, AfterFrames, IsKnown, IsKnownFew, NeedsNoMemory, ReadsAsked, IsNotOpen, IsFaultOfAsked, loads_at, lookup_stop, stop_in, waits_for, waiting_unit}
 use Rattle.std.proofs.lemmas.Bool.{eq-eqb}
-use Rattle.std.specs.Prelude.{IfErr}
-use Rattle.gimli_read.specs.declared.error.Error.{Error}
-use Rattle.gimli_read.specs.Reading.{◌>>=◌, WasNotRefused}
-use Rattle.gimli.specs.Sections.{Sections}
-use Rattle.gimli.specs.Unit.{UnitRecord}
-use Rattle.addr2line_units.specs.Cover.{cover}
-use Rattle.addr2line_units.specs.declared.frames.OnFault.{OnFault}
-use Rattle.addr2line_units.specs.FramesLookup.{LookupStop, Waits, Finds, FindsNothing, answer_of, is_waiting, main_scope, with_answer}
-use Rattle.addr2line_units.specs.Loads.{is_open_at}
-use Rattle.addr2line_units.specs.Parsed.{StaysParsed, has_parsed}
-use Rattle.addr2line_units.specs.RangedUnits.{unit_records}
-use Rattle.addr2line_units.specs.StaysKnown.{StaysKnownOf}
-use Rattle.addr2line_units.specs.UnitIndex.{UnitIndex, index_units}
-use Rattle.addr2line_units.specs.Views.{FirstAnswers, is_open}
-use Rattle.addr2line_units.proofs.LoadLawLemmas.{waits_listed}
 use Rattle.addr2line_units.proofs.StayLemmas.{known_of_twice, same_stays_known}
 use Rattle.addr2line.proofs.AskedLemmas.{other_answers, reads_answered, reads_more, reads_nothing}
 use Rattle.addr2line.proofs.HistoryLemmas.{HasGiven, given_all, given_ended, given_more}
-use Rattle.addr2line.specs.Answers.{AfterAnswering, answered}
-use Rattle.addr2line.specs.Context.{ContextState}
-use Rattle.addr2line.specs.History.{Given, Answered, answers_given}
-use Rattle.addr2line.specs.AfterLookups.{AfterFrames, IsKnown, IsKnownFew, NeedsNoMemory, ReadsAsked}
-use Rattle.addr2line.specs.Loads.{IsNotOpen}
-use Rattle.addr2line.specs.Lookups.{IsFaultOfAsked, loads_at, lookup_stop, stop_in, waits_for}
-use Rattle.addr2line_units.specs.UnitsState.{waiting_unit}
 use Rattle.addr2line.specs.Skips.{AfterSkip, nones, skipped_answers}
 
 -- none as an answer, so often

@@ -1,20 +1,10 @@
 -- The answer to a load, by the file at its path (on specs/SplitFiles.antt).
-use Rattle.std.proofs.Common.{◌≡◌, ℕ, Bool, List, Option, Some, None, Result, Ok, Err, sym, ap, ◌∙◌}
+use Rattle.addr2line.proofs.Common.{◌≡◌, ℕ, Bool, List, Option, Some, None, Result, Ok, Err, sym, ap, ◌∙◌, Error, ◌>>=◌, Section, Sections, SupSections, UnitRecord, LoaderError, Loading, SplitLoad, first_unit, ReadFiles, has_wanted_id, of_file, or_none, split_at_path, split_by, split_of}
 use Rattle.std.specs.Prelude.{if◌then◌else◌, option_and_then}
-use Rattle.gimli_read.specs.declared.error.Error.{Error}
-use Rattle.gimli_read.specs.Reading.{◌>>=◌}
-use Rattle.gimli_read.specs.Section.{Section}
 use Rattle.gimli.specs.declared.dwarf.DwarfFileType.TheVariants.{Dwo}
 use Rattle.gimli.specs.declared.load.SectionId.{SectionId}
-use Rattle.gimli.specs.Sections.{Sections, SupSections}
 use Rattle.gimli.specs.Split.{split_sections}
-use Rattle.gimli.specs.Unit.{UnitRecord}
-use Rattle.elf.specs.declared.error.LoaderError.{LoaderError}
-use Rattle.elf.specs.Loading.{Loading}
-use Rattle.addr2line_units.specs.Views.{SplitLoad, first_unit}
 use Rattle.addr2line.specs.FileSections.{as_file, sections_by}
-use Rattle.addr2line.specs.Files.{ReadFiles}
-use Rattle.addr2line.specs.SplitFiles.{has_wanted_id, of_file, or_none, split_at_path, split_by, split_of}
 
 -- the sections at a path are those of the bytes there
 pub split_found : (held : ReadFiles) (load : SplitLoad) (path bytes : List ℕ) → Some bytes ≡ held.files path → split_at_path held load path ≡ or_none (split_of held.compressed load bytes)

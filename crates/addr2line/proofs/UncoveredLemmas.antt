@@ -1,20 +1,6 @@
 -- Lookups of an address that no unit covers (on specs/Context.antt and specs/AfterLookups.antt).
-use Rattle.std.proofs.Common.{◌≡◌, ℕ, Bool, true, false, [], Option, Result, Ok, Err, is_ok, ap, refl, subst, sym, ◌∙◌}
-use Rattle.gimli_read.specs.declared.error.Error.{Error}
-use Rattle.gimli_read.specs.Reading.{◌>>=◌, ExactlyUnlessOom, WasNotRefused}
-use Rattle.addr2line_units.specs.declared.continuation.LookupResult.{LookupResult}
-use Rattle.addr2line_units.specs.declared.continuation.LookupResult.TheVariants.{Load, Output}
-use Rattle.addr2line_units.specs.declared.frames.OnFault.{OnFault}
-use Rattle.addr2line_units.specs.Cover.{cover}
-use Rattle.addr2line_units.specs.FramesLookup.{FindsNothing, LookupStop, Waits, holds_along, is_waiting, stop_along}
-use Rattle.addr2line_units.specs.Suspended.{IfLoad, IfOutput, IsOkOutput}
-use Rattle.addr2line_units.specs.UnitIndex.{UnitIndex, index_units}
-use Rattle.addr2line_units.specs.Views.{View}
+use Rattle.addr2line.proofs.Common.{◌≡◌, ℕ, Bool, true, false, [], Option, Result, Ok, Err, is_ok, ap, refl, subst, sym, ◌∙◌, Error, ◌>>=◌, ExactlyUnlessOom, WasNotRefused, LookupResult, Load, Output, OnFault, cover, FindsNothing, LookupStop, Waits, holds_along, is_waiting, stop_along, IfLoad, IfOutput, IsOkOutput, UnitIndex, index_units, View, AfterFrames, AfterFramesOver, IsKnownFew, has_few_of, ContextState, IsUncovered, asked_of, ended_with, lookup_stop, stop_in, view_found, found_of_context}
 use Rattle.addr2line_units.proofs.NewUnitsLemmas.{ok_is}
-use Rattle.addr2line.specs.AfterLookups.{AfterFrames, AfterFramesOver, IsKnownFew, has_few_of}
-use Rattle.addr2line.specs.Context.{ContextState, IsUncovered}
-use Rattle.addr2line.specs.Lookups.{asked_of, ended_with, lookup_stop, stop_in, view_found}
-use Rattle.addr2line.specs.WaitingLookups.{found_of_context}
 
 -- which units cover an address is told by the sections alone
 pub still_uncovered : (probe : ℕ) (old new : ContextState) → new.sections ≡ old.sections → IsUncovered new probe → IsUncovered old probe

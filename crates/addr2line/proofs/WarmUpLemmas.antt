@@ -1,21 +1,7 @@
 -- Lookups in a context that has read all (on specs/WarmUp.antt).
-use Rattle.std.proofs.Common.{◌≡◌, ℕ, ◌&&◌, ◌||◌, Bool, true, false, not, List, [], ◌∷◌, Result, Ok, Err, refl, sym, ap, subst, ◌∙◌}
-use Rattle.gimli_read.specs.declared.error.Error.{Error}
-use Rattle.gimli.specs.Sections.{Sections}
+use Rattle.addr2line.proofs.Common.{◌≡◌, ℕ, ◌&&◌, ◌||◌, Bool, true, false, not, List, [], ◌∷◌, Result, Ok, Err, refl, sym, ap, subst, ◌∙◌, Error, Sections, OnFault, UnitRange, cover, holds_until, LookupStop, Waits, Finds, FindsNothing, asks_lines_of, inlined_at_number, holds_along, is_waiting, main_scope, knows_at, StaysParsed, has_parsed, unit_decides, UnitIndex, index_units, FirstAnswers, IsKnownFew, has_few_of, ContextState, lines_of_all, IsAllKnown, asked_of, lookup_stop}
 use Rattle.addr2line_lines.specs.InlineRoom.{exceeds_inline_room}
-use Rattle.addr2line_units.specs.declared.frames.OnFault.{OnFault}
-use Rattle.addr2line_units.specs.declared.index.UnitRange.{UnitRange}
-use Rattle.addr2line_units.specs.Cover.{cover, holds_until}
-use Rattle.addr2line_units.specs.FramesLookup.{LookupStop, Waits, Finds, FindsNothing, asks_lines_of, inlined_at_number, holds_along, is_waiting, main_scope}
 use Rattle.addr2line_units.specs.FunctionParseLaws.{IsReached}
-use Rattle.addr2line_units.specs.KnownEntries.{knows_at}
-use Rattle.addr2line_units.specs.Parsed.{StaysParsed, has_parsed, unit_decides}
-use Rattle.addr2line_units.specs.UnitIndex.{UnitIndex, index_units}
-use Rattle.addr2line_units.specs.Views.{FirstAnswers}
-use Rattle.addr2line.specs.AfterLookups.{IsKnownFew, has_few_of}
-use Rattle.addr2line.specs.Context.{ContextState, lines_of_all}
-use Rattle.addr2line.specs.Loads.{IsAllKnown}
-use Rattle.addr2line.specs.Lookups.{asked_of, lookup_stop}
 use Rattle.addr2line.specs.WarmUp.{FindsAllWhenWarm, IsFewInlined, IsWarm, LocatesWhenWarm}
 use Rattle.addr2line.proofs.NoLoadLemmas.{holds_more}
 

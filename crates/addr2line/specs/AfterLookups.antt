@@ -3,18 +3,7 @@
 -- Own: a lookup parses only lines that it asks for, and reads nothing of a unit that it doesn't
 -- ask; nothing that is known is parsed again.
 use Rattle.std.specs.Prelude.{◌≡◌, ◌⊎◌, ℕ, ◌≤◌, Bool, true, false, slice_get, IfErr, Result, Ok, Err}
-use Rattle.gimli_read.specs.declared.error.Error.{Error}
-use Rattle.gimli_read.specs.declared.error.Error.TheVariants.{OutOfMemory}
-use Rattle.gimli_read.specs.Reading.{ExactlyUnlessOom, WasNotRefused}
-use Rattle.addr2line_units.specs.declared.frames.OnFault.{OnFault}
-use Rattle.addr2line_units.specs.Cover.{cover}
-use Rattle.addr2line_units.specs.FramesLookup.{LookupStop, Waits, LookupAsks, asks_lines_of, function_offset_of, holds_along, is_waiting, main_scope}
-use Rattle.addr2line_units.specs.KnownEntries.{LearnsDetailsAt}
-use Rattle.addr2line_units.specs.Parsed.{ParsesOnly, StaysParsed}
-use Rattle.addr2line_units.specs.StaysKnown.{StaysKnown}
-use Rattle.addr2line_units.specs.UnitIndex.{UnitIndex, index_units}
-use Rattle.addr2line_units.specs.UnitsState.{UnitsState, asks_no_memory_at, has_all_at, has_few_at}
-use Rattle.addr2line_units.specs.Views.{SplitLoad}
+use Rattle.addr2line.specs.Common.{Error, OutOfMemory, ExactlyUnlessOom, WasNotRefused, OnFault, cover, LookupStop, Waits, LookupAsks, asks_lines_of, function_offset_of, holds_along, is_waiting, main_scope, LearnsDetailsAt, ParsesOnly, StaysParsed, StaysKnown, UnitIndex, index_units, UnitsState, asks_no_memory_at, has_all_at, has_few_at, SplitLoad}
 use Rattle.addr2line.specs.Context.{ContextState}
 use Rattle.addr2line.specs.Lookups.{IsFaultOfAsked, asked_of, lookup_stop, IsLoadOf}
 

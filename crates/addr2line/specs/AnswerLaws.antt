@@ -1,13 +1,7 @@
 -- Laws of answers to loads, whatever calls come after them (on History and Lookups).
 use Rattle.std.specs.Prelude.{◌≡◌, ◌⊎◌, ◌++◌, ℕ, false, length, map, List, [], ◌∷◌, Option, Some, Ok}
 use Rattle.std.specs.List.{AllByRecursion}
-use Rattle.gimli.specs.Sections.{Sections}
-use Rattle.addr2line_units.specs.declared.frames.OnFault.{OnFault}
-use Rattle.addr2line_units.specs.Cover.{cover}
-use Rattle.addr2line_units.specs.FramesLookup.{answer_of, is_waiting}
-use Rattle.addr2line_units.specs.Parsed.{LeadTo}
-use Rattle.addr2line_units.specs.UnitIndex.{UnitIndex, index_units}
-use Rattle.addr2line_units.specs.Views.{FirstAnswers}
+use Rattle.addr2line.specs.Common.{Sections, OnFault, cover, answer_of, is_waiting, LeadTo, UnitIndex, index_units, FirstAnswers}
 use Rattle.addr2line.specs.History.{HistoryCall, AsksLocation, AsksRange, AsksFrames, AsksUnit, AsksLoads, AnswersLoad, Forgets, ParsesLines, ParsesFunctions, answers_after}
 use Rattle.addr2line.specs.Lookups.{loads_at, lookup_stop}
 

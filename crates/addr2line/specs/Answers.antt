@@ -1,22 +1,11 @@
 -- What an answer to the load of a unit makes of a context, and of a lookup that goes on with it.
 -- Own: the first answer to a unit's load counts until the unit is forgotten.
 use Rattle.std.specs.Prelude.{◌≡◌, ◌≢◌, ◌⊎◌, ◌<◌, ℕ, length, Bool, true, false, slice_get, Option, is_some, IfErr, OnOk, Result, Ok, Err}
-use Rattle.gimli_read.specs.declared.error.Error.{Error}
-use Rattle.gimli_read.specs.declared.error.Error.TheVariants.{OutOfMemory}
-use Rattle.gimli_read.specs.Reading.{◌>>=◌}
-use Rattle.gimli.specs.Sections.{Sections}
-use Rattle.addr2line_units.specs.declared.frames.OnFault.{OnFault}
+use Rattle.addr2line.specs.Common.{Error, OutOfMemory, ◌>>=◌, Sections, OnFault, with_answer, LearnsNoFunctions, load_result, index_units, unit_records, StaysKnown, FirstAnswers, SplitLoad}
 use Rattle.addr2line_units.specs.AnswerMemory.{answer_takes_memory}
-use Rattle.addr2line_units.specs.FramesLookup.{with_answer}
-use Rattle.addr2line_units.specs.KnownEntries.{LearnsNoFunctions}
-use Rattle.addr2line_units.specs.Loads.{load_result}
-use Rattle.addr2line_units.specs.UnitIndex.{index_units}
-use Rattle.addr2line_units.specs.RangedUnits.{unit_records}
 use Rattle.addr2line.specs.Context.{ContextState}
 use Rattle.addr2line.specs.AfterLookups.{AfterFramesOver, Suspends}
 use Rattle.addr2line.specs.Lookups.{loads_at, lookup_stop, waits_for}
-use Rattle.addr2line_units.specs.StaysKnown.{StaysKnown}
-use Rattle.addr2line_units.specs.Views.{FirstAnswers, SplitLoad}
 
 -- the first answers after one more to the load of the unit of a number, which counts where the unit
 -- is open

@@ -5,9 +5,8 @@ use Rattle.std.specs.Io.BufRead.{Rests}
 use seplogic.Ra.Ura.{Ura}
 use base.Logic.{SProp}
 use types.Logic.{Logic}
-use Rattle.gimli_read.specs.Section.{Section}
+use Rattle.addr2line.specs.Common.{Section, rests}
 use Rattle.addr2line_units.specs.declared.continuation.LookupResult.{LookupResult}
-use Rattle.addr2line_units.specs.Suspended.{rests}
 use Rattle.addr2line.specs.Context.{ContextState}
 use Rattle.addr2line.specs.contracts.context.Context.{the_row}
 

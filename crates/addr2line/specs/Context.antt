@@ -7,21 +7,9 @@
 -- without a line program has its lines, which are none.
 -- Own: of a unit the first answer to its load counts: the sections of a split file, or none.
 use Rattle.std.specs.Prelude.{◌≡◌, ℕ, ◌+◌, ◌<◌, ◌≤◌, Bool, true, List, [], map, Option, None, IfErr, Result, Ok, Err}
-use Rattle.gimli_read.specs.declared.error.Error.{Error}
-use Rattle.gimli_read.specs.Reading.{◌>>=◌, fault_of, WasNotRefused}
-use Rattle.gimli_read.specs.Section.{Section}
+use Rattle.addr2line.specs.Common.{Error, ◌>>=◌, fault_of, WasNotRefused, Section, Sections, FindsNothing, LookupStop, main_scope, KnownEntries, NothingKnown, all_lines, is_found, location_of, looks_along, UnitIndex, index_units, sup_units, has_lines, ranged_units, AllAskFor, AreParsed, AreReadyForAll, AsksFor, LeadTo, ParsesOnly, StaysParsed, TakeNone, TakeNoneForAll, ready_along, takes_none_along, cover, cover_range, UnitsState, FirstAnswers}
 use Rattle.gimli.specs.declared.dwarf.DwarfFileType.TheVariants.{Main}
-use Rattle.gimli.specs.Sections.{Sections}
 use Rattle.addr2line_units.specs.declared.index.UnitRange.{UnitRange}
-use Rattle.addr2line_units.specs.FramesLookup.{FindsNothing, LookupStop, main_scope}
-use Rattle.addr2line_units.specs.KnownEntries.{KnownEntries, NothingKnown}
-use Rattle.addr2line_units.specs.Located.{all_lines, is_found, location_of, looks_along}
-use Rattle.addr2line_units.specs.UnitIndex.{UnitIndex, index_units, sup_units}
-use Rattle.addr2line_units.specs.RangedUnits.{has_lines, ranged_units}
-use Rattle.addr2line_units.specs.Parsed.{AllAskFor, AreParsed, AreReadyForAll, AsksFor, LeadTo, ParsesOnly, StaysParsed, TakeNone, TakeNoneForAll, ready_along, takes_none_along}
-use Rattle.addr2line_units.specs.Cover.{cover, cover_range}
-use Rattle.addr2line_units.specs.UnitsState.{UnitsState}
-use Rattle.addr2line_units.specs.Views.{FirstAnswers}
 
 -- the sections, the first answer of each unit, none before it has one, of which units the lines are
 -- parsed, what is known of each unit's entries, how often lines were looked at, and what the last

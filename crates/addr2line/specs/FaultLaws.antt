@@ -5,13 +5,9 @@
 -- is given.
 use Rattle.std.specs.Prelude.{ℕ, List, Option, IfOk}
 use Rattle.std.specs.List.{AllByRecursion}
-use Rattle.gimli_read.specs.Reading.{WasNotRefused}
+use Rattle.addr2line.specs.Common.{WasNotRefused, Sections, OnFault, location_of, spans_of, FirstAnswers}
 use Rattle.gimli_read.specs.FaultLaws.{NoneWasRefused}
-use Rattle.gimli.specs.Sections.{Sections}
-use Rattle.addr2line_units.specs.declared.frames.OnFault.{OnFault}
 use Rattle.addr2line_units.specs.declared.parses.ReadingDepth.{ReadingDepth}
-use Rattle.addr2line_units.specs.Located.{location_of, spans_of}
-use Rattle.addr2line_units.specs.Views.{FirstAnswers}
 use Rattle.addr2line.specs.Context.{lines_of_all, new_context}
 use Rattle.addr2line.specs.History.{HistoryCall, replies_to}
 use Rattle.addr2line.specs.Loads.{forget_reply, load_reply, parse_reply}

@@ -4,19 +4,14 @@
 -- files don't have is empty. A section that is compressed is refused or decompressed, as it is
 -- chosen for the file.
 use Rattle.std.specs.Prelude.{List, ℕ, Option, Some, None, Ok}
-use Rattle.gimli_read.specs.Reading.{◌>>=◌}
-use Rattle.gimli_read.specs.Section.{Section}
+use Rattle.addr2line.specs.Common.{◌>>=◌, Section, Sections, SupSections, Loading, ObjectFile, sup_sections}
 use Rattle.gimli.specs.declared.dwarf.DwarfFileType.{DwarfFileType}
 use Rattle.gimli.specs.declared.load.SectionId.{SectionId}
 use Rattle.gimli.specs.declared.load.SectionId.TheVariants.{DebugAbbrev, DebugAddr, DebugAranges, DebugInfo, DebugLine, DebugLineStr, DebugRanges, DebugRngLists, DebugStr, DebugStrOffsets}
 use Rattle.gimli.specs.Asked.{dwo_section_name, section_name}
-use Rattle.gimli.specs.Sections.{Sections, SupSections}
 use Rattle.elf.specs.Compressed.{decompressed_at}
-use Rattle.elf.specs.Loading.{Loading}
-use Rattle.elf.specs.ObjectFile.{ObjectFile}
 use Rattle.elf.specs.Sections.{section_at}
 use Rattle.gimli_read.specs.StringForm.{no_bytes}
-use Rattle.addr2line_units.specs.UnitIndex.{sup_sections}
 use Rattle.addr2line.specs.declared.compressed.CompressedSections.{CompressedSections}
 use Rattle.addr2line.specs.declared.compressed.CompressedSections.TheVariants.{Decompressed, Refused}
 

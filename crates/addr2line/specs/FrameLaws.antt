@@ -1,13 +1,6 @@
 -- A law of the frames that a lookup finds (on Lookups; DWARF 5, section 3.3.8).
 use Rattle.std.specs.Prelude.{◌≡◌, ℕ, suc, length, slice_get, List, Option, Some, None, Result, Ok}
-use Rattle.gimli_read.specs.declared.error.Error.{Error}
-use Rattle.gimli.specs.Sections.{Sections}
-use Rattle.addr2line_units.specs.declared.frames.OnFault.{OnFault}
-use Rattle.addr2line_units.specs.Frames.{FoundFunction, FrameRecord}
-use Rattle.addr2line_units.specs.FramesLookup.{Finds, answer_of, main_scope}
-use Rattle.addr2line_units.specs.UnitFrames.{function_in}
-use Rattle.addr2line_units.specs.UnitIndex.{UnitIndex, index_units}
-use Rattle.addr2line_units.specs.Views.{FirstAnswers}
+use Rattle.addr2line.specs.Common.{Error, Sections, OnFault, FoundFunction, FrameRecord, Finds, answer_of, main_scope, function_in, UnitIndex, index_units, FirstAnswers}
 use Rattle.addr2line.specs.Lookups.{lookup_stop}
 
 -- the function at the probe in the view of the unit of a number, if one holds it, or the first

@@ -3,20 +3,9 @@
 -- Own: of the units that cover an address, each with its first answer or, where it is open, with
 -- the one that is given to its load, the first counts that has a fault or frames.
 use Rattle.std.specs.Prelude.{ℕ, List, [], ◌∷◌, slice_get, Option, Some, None, unwrap_or, Result, Ok}
-use Rattle.gimli_read.specs.declared.error.Error.{Error}
-use Rattle.gimli_read.specs.Reading.{◌>>=◌}
-use Rattle.gimli.specs.Sections.{Sections}
-use Rattle.elf.specs.Loading.{Loading}
+use Rattle.addr2line.specs.Common.{Error, ◌>>=◌, Sections, Loading, Stop, cover, FrameRecord, LookupStop, answer_of, frames_found, main_scope, FramesResult, frames_in, UnitIndex, index_units, IndexedUnit, FirstAnswers, SplitLoad, awaited_load}
 use Rattle.addr2line_lines.specs.References.{Scope}
-use Rattle.addr2line_units.specs.declared.frames.OnFault.TheVariants.{Stop}
 use Rattle.addr2line_units.specs.declared.index.UnitRange.{UnitRange}
-use Rattle.addr2line_units.specs.Cover.{cover}
-use Rattle.addr2line_units.specs.Frames.{FrameRecord}
-use Rattle.addr2line_units.specs.FramesLookup.{LookupStop, answer_of, frames_found, main_scope}
-use Rattle.addr2line_units.specs.UnitFrames.{FramesResult, frames_in}
-use Rattle.addr2line_units.specs.UnitIndex.{UnitIndex, index_units}
-use Rattle.addr2line_units.specs.RangedUnits.{IndexedUnit}
-use Rattle.addr2line_units.specs.Views.{FirstAnswers, SplitLoad, awaited_load}
 use Rattle.addr2line.specs.Context.{ContextState}
 use Rattle.addr2line.specs.Files.{ReadFiles}
 use Rattle.addr2line.specs.Lookups.{lookup_stop}

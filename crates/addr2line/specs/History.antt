@@ -4,25 +4,14 @@
 -- Own: a lookup takes the answers that it is given in turn, one for each load that it waits for; it
 -- is left at its load where it is given up, or where no answer is left.
 use Rattle.std.specs.Prelude.{◌≡◌, ◌⊎◌, ℕ, List, [], ◌∷◌, map, take, Option, IfErr, OnOk, Result, Ok, Err}
-use Rattle.gimli_read.specs.declared.error.Error.{Error}
-use Rattle.gimli_read.specs.declared.error.Error.TheVariants.{OutOfMemory}
-use Rattle.gimli.specs.Sections.{Sections}
-use Rattle.addr2line_units.specs.declared.frames.OnFault.{OnFault}
-use Rattle.addr2line_units.specs.declared.frames.OnFault.TheVariants.{Stop, Skip}
+use Rattle.addr2line.specs.Common.{Error, OutOfMemory, Sections, OnFault, Stop, Skip, LookupStop, Waits, Finds, FindsNothing, main_scope, forgotten, location_of, spans_of, StaysParsed, UnitIndex, index_units, unit_records, FirstAnswers}
 use Rattle.addr2line_units.specs.declared.parses.ReadingDepth.{ReadingDepth}
-use Rattle.addr2line_units.specs.FramesLookup.{LookupStop, Waits, Finds, FindsNothing, main_scope}
 use Rattle.addr2line_units.specs.FunctionParses.{AreFirstDecided}
-use Rattle.addr2line_units.specs.Loads.{forgotten}
-use Rattle.addr2line_units.specs.Located.{location_of, spans_of}
-use Rattle.addr2line_units.specs.Parsed.{StaysParsed}
-use Rattle.addr2line_units.specs.UnitIndex.{UnitIndex, index_units}
-use Rattle.addr2line_units.specs.RangedUnits.{unit_records}
 use Rattle.addr2line.specs.Answers.{answered}
 use Rattle.addr2line.specs.Context.{ContextState, lines_of_all}
 use Rattle.addr2line.specs.Loads.{forget_reply, load_reply, parse_reply, parsed_answers}
 use Rattle.addr2line.specs.Lookups.{loads_at, lookup_stop, unit_of}
 use Rattle.addr2line.specs.Replies.{CopiedReply, Located, Ended, Listed, copied_load, reply_of_frames, reply_of_range, reply_of_unit}
-use Rattle.addr2line_units.specs.Views.{FirstAnswers}
 
 -- what a lookup is given that waits: the sections of the split file, or none; or it is given up
 pub data Given : Type 0 where

@@ -1,14 +1,11 @@
 -- A law of lookups that wait (on History and Lookups).
 use Rattle.std.specs.Prelude.{◌≡◌, ◌≢◌, ℕ, length, List, [], ◌∷◌, Ok}
 use Rattle.std.specs.List.{AllByRecursion}
-use Rattle.gimli.specs.Sections.{Sections}
-use Rattle.addr2line_units.specs.declared.frames.OnFault.{OnFault}
+use Rattle.addr2line.specs.Common.{Sections, OnFault, UnitIndex, index_units, FirstAnswers}
 use Rattle.addr2line_units.specs.LoadLaws.{IsListed}
-use Rattle.addr2line_units.specs.UnitIndex.{UnitIndex, index_units}
 use Rattle.addr2line.specs.Answers.{answered}
 use Rattle.addr2line.specs.History.{Given, Answered, Abandoned, where_waiting}
 use Rattle.addr2line.specs.Lookups.{loads_at, lookup_stop}
-use Rattle.addr2line_units.specs.Views.{FirstAnswers}
 
 -- the units that a lookup waits for, one after another, where it is given these answers
 abbrev pub waited_for : OnFault → Sections → ℕ → FirstAnswers → List Given → List ℕ

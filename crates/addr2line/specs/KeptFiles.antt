@@ -4,9 +4,7 @@
 use Rattle.std.specs.Prelude.{◌≡◌, ◌≢◌, ◌⊎◌, ℕ, List, Option, None, Some, Ok, if◌then◌else◌}
 use Rattle.std.specs.BTreeMap.{get_by_text}
 use Rattle.std.specs.Str.{bytes_eq}
-use Rattle.gimli.specs.Sections.{Sections}
-use Rattle.elf.specs.Loading.{Loading}
-use Rattle.addr2line_units.specs.Views.{SplitLoad}
+use Rattle.addr2line.specs.Common.{Sections, Loading, SplitLoad}
 use Rattle.addr2line.specs.declared.compressed.CompressedSections.{CompressedSections}
 use Rattle.addr2line.specs.declared.kept_files.KeptFile.{KeptFile}
 use Rattle.addr2line.specs.declared.kept_files.KeptFiles.{KeptFiles}

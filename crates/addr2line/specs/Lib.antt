@@ -1,3 +1,4 @@
+pub mod Common
 pub mod Context
 pub mod Borrowed
 pub mod AfterLookups

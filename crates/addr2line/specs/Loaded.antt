@@ -4,12 +4,8 @@
 -- bytes say, then a section in the order of their names; the same of the supplementary file, if one
 -- is named, in its own byte order; then the context's.
 use Rattle.std.specs.Prelude.{◌≡◌, ℕ, Bool, List, Option, Some, None, is_some, Ok, Err}
-use Rattle.gimli_read.specs.Reading.{◌>>=◌}
+use Rattle.addr2line.specs.Common.{◌>>=◌, Sections, SupSections, Io, Loading, ObjectFile, object_file_of}
 use Rattle.gimli.specs.declared.dwarf.DwarfFileType.TheVariants.{Main}
-use Rattle.gimli.specs.Sections.{Sections, SupSections}
-use Rattle.elf.specs.declared.error.LoaderError.TheVariants.{Io}
-use Rattle.elf.specs.Loading.{Loading}
-use Rattle.elf.specs.ObjectFile.{ObjectFile, object_file_of}
 use Rattle.addr2line.specs.declared.compressed.CompressedSections.{CompressedSections}
 use Rattle.addr2line.specs.Context.{ContextState, new_context}
 use Rattle.addr2line.specs.FileSections.{as_file, main_section, sections_by}

@@ -3,11 +3,7 @@
 -- Own: a lookup gives the frames by the first answers to the loads of units, and by the files at
 -- that call for units without an answer.
 use Rattle.std.specs.Prelude.{◌≡◌, ℕ, List, Option, Result}
-use Rattle.gimli_read.specs.declared.error.Error.{Error}
-use Rattle.gimli_read.specs.Reading.{result_map}
-use Rattle.elf.specs.Loading.{Loading}
-use Rattle.elf.specs.ObjectFile.{ObjectFile}
-use Rattle.addr2line_units.specs.Frames.{FrameRecord}
+use Rattle.addr2line.specs.Common.{Error, result_map, Loading, ObjectFile, FrameRecord}
 use Rattle.addr2line.specs.declared.loader.LoaderOver.{LoaderOver}
 use Rattle.addr2line.specs.Context.{AfterLookup, AfterRangeLookup, ContextState}
 use Rattle.addr2line.specs.Files.{Files, ReadFiles, as_read_if_known}

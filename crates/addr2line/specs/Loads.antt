@@ -4,27 +4,15 @@
 -- to each load.
 use Rattle.std.specs.Prelude.{◌≡◌, ◌≢◌, ◌⊎◌, ℕ, Bool, false, true, slice_get, Option, Some, None, OnOk, Result, Ok, Err}
 use Rattle.std.specs.List.{AllByRecursion}
-use Rattle.gimli_read.specs.declared.error.Error.{Error}
-use Rattle.gimli_read.specs.Reading.{◌>>=◌, WasNotRefused}
-use Rattle.gimli.specs.Sections.{Sections}
-use Rattle.addr2line_units.specs.declared.frames.OnFault.{OnFault}
+use Rattle.addr2line.specs.Common.{Error, ◌>>=◌, WasNotRefused, Sections, OnFault, cover, answer_of, main_scope, LearnsNoDetails, LearnsNoFunctions, knows_at, NoneOpen, forget_result, forgotten, is_open_at, LeadTo, UnitIndex, index_units, unit_records, IsReadBy, IsReadyAt, StaysKnown, FirstAnswers}
 use Rattle.addr2line_units.specs.declared.parses.ReadingDepth.{ReadingDepth}
 use Rattle.addr2line_units.specs.declared.parses.ReadingDepth.TheVariants as depths
-use Rattle.addr2line_units.specs.Cover.{cover}
-use Rattle.addr2line_units.specs.FramesLookup.{answer_of, main_scope}
 use Rattle.addr2line_units.specs.FunctionParseLaws.{IsReached}
 use Rattle.addr2line_units.specs.FunctionParses.{AreFirstDecided, AreReadBefore, AreReadyFor, ReadsNoMemory, answers_after_parse, read_of_units}
-use Rattle.addr2line_units.specs.KnownEntries.{LearnsNoDetails, LearnsNoFunctions, knows_at}
-use Rattle.addr2line_units.specs.Loads.{NoneOpen, forget_result, forgotten, is_open_at}
-use Rattle.addr2line_units.specs.Parsed.{LeadTo}
-use Rattle.addr2line_units.specs.UnitIndex.{UnitIndex, index_units}
-use Rattle.addr2line_units.specs.RangedUnits.{unit_records}
 use Rattle.addr2line.specs.Answers.{answered}
 pub use Rattle.addr2line.specs.Answers.{load_reply}
 use Rattle.addr2line.specs.Context.{ContextState, lines_of_all}
 use Rattle.addr2line.specs.Lookups.{lookup_stop}
-use Rattle.addr2line_units.specs.StaysKnown.{IsReadBy, IsReadyAt, StaysKnown}
-use Rattle.addr2line_units.specs.Views.{FirstAnswers}
 
 -- what it gives to forget the answer of the unit of a number
 abbrev pub forget_reply : Sections → ℕ → Result (Unit {0}) Error

@@ -3,23 +3,15 @@
 -- Own: the first answer of a unit stays, so a file counts that was there when its unit was first
 -- looked up.
 use Rattle.std.specs.Prelude.{◌≡◌, ◌≢◌, ◌≤◌, ◌⊎◌, ℕ, false, true, List, Option, Some, IfErr, IfSome, Ok, Err}
-use Rattle.gimli_read.specs.Reading.{result_map}
-use Rattle.gimli.specs.Sections.{Sections}
+use Rattle.addr2line.specs.Common.{result_map, Sections, PathNotUtf8, Loading, Stop, FrameRecord, answer_of, frames_found, is_waiting, StaysParsed, FirstAnswers, StaysKnownOf}
 use Rattle.elf.specs.declared.error.LoaderError.{LoaderError}
-use Rattle.elf.specs.declared.error.LoaderError.TheVariants.{OutOfMemory, PathNotUtf8}
-use Rattle.elf.specs.Loading.{Loading}
-use Rattle.addr2line_units.specs.declared.frames.OnFault.TheVariants.{Stop}
-use Rattle.addr2line_units.specs.Frames.{FrameRecord}
-use Rattle.addr2line_units.specs.FramesLookup.{answer_of, frames_found, is_waiting}
-use Rattle.addr2line_units.specs.Parsed.{StaysParsed}
-use Rattle.addr2line_units.specs.Views.{FirstAnswers}
+use Rattle.elf.specs.declared.error.LoaderError.TheVariants.{OutOfMemory}
 use Rattle.addr2line.specs.Context.{ContextState}
 use Rattle.addr2line.specs.Files.{ReadFiles}
 use Rattle.addr2line.specs.FramesByFiles.{ended_frames_of, frames_by_files}
 use Rattle.addr2line.specs.History.{Given, answers_given}
 use Rattle.addr2line.specs.Lookups.{lookup_stop}
 use Rattle.addr2line.specs.AfterLookups.{IsKnown, IsKnownFew, ReadsAsked, TakesMemory}
-use Rattle.addr2line_units.specs.StaysKnown.{StaysKnownOf}
 
 -- first answers stay
 abbrev pub StayAnswered : FirstAnswers → FirstAnswers → Type 0

@@ -3,20 +3,8 @@
 -- Own: a lookup asks the units that cover an address one after another; a unit that is open ends it
 -- until its load is answered.
 use Rattle.std.specs.Prelude.{◌≡◌, ℕ, ◌==◌, Bool, false, List, [], map, slice_get, Option, Some, None, option_map, unwrap_or, Result, Ok, Err}
-use Rattle.gimli_read.specs.declared.error.Error.{Error}
-use Rattle.gimli_read.specs.Reading.{◌>>=◌}
-use Rattle.gimli.specs.Sections.{Sections}
-use Rattle.gimli.specs.Unit.{UnitRecord}
-use Rattle.addr2line_units.specs.declared.frames.OnFault.{OnFault}
-use Rattle.addr2line_units.specs.declared.frames.OnFault.TheVariants.{Stop, Skip}
-use Rattle.addr2line_units.specs.Cover.{cover}
-use Rattle.addr2line_units.specs.Frames.{FrameRecord}
-use Rattle.addr2line_units.specs.FramesLookup.{LookupAsks, LookupStop, Waits, Finds, asked_frames, frames_found, frames_of_number, main_scope, readable_view, stop_along, view_of_number}
+use Rattle.addr2line.specs.Common.{Error, ◌>>=◌, Sections, UnitRecord, OnFault, Stop, Skip, cover, FrameRecord, LookupAsks, LookupStop, Waits, Finds, asked_frames, frames_found, frames_of_number, main_scope, readable_view, stop_along, view_of_number, UnitIndex, index_units, unit_records, FirstAnswers, SplitLoad, View, load_of_unit, parts_of, FramesResult}
 use Rattle.addr2line_units.specs.LoadLaws.{loads_of}
-use Rattle.addr2line_units.specs.UnitIndex.{UnitIndex, index_units}
-use Rattle.addr2line_units.specs.RangedUnits.{unit_records}
-use Rattle.addr2line_units.specs.Views.{FirstAnswers, SplitLoad, View, load_of_unit, parts_of}
-use Rattle.addr2line_units.specs.UnitFrames.{FramesResult}
 
 -- what a lookup asks the unit of a number for
 abbrev pub asked_of : OnFault → Sections → FirstAnswers → ℕ → UnitIndex → ℕ → FramesResult

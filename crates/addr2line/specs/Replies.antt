@@ -2,18 +2,11 @@
 -- Own: a lookup that is left at a load replies with the unit that it waits for.
 use Rattle.std.specs.Prelude.{ℕ, List, [], map, Option, Some, None, option_map, Result, Ok, Err}
 use Rattle.gimli_read.specs.declared.constants.DwLang.{DwLang}
-use Rattle.gimli_read.specs.declared.error.Error.{Error}
-use Rattle.gimli_read.specs.Section.{Section}
+use Rattle.addr2line.specs.Common.{Error, Section, Sections, UnitRecord, FrameRecord, NameRecord, LookupStop, Waits, Finds, FindsNothing, LocationResult, SplitLoad}
 use Rattle.gimli.specs.declared.dwarf.DwarfFileType.{DwarfFileType}
 use Rattle.gimli.specs.declared.unit.DwoId.{DwoId}
-use Rattle.gimli.specs.Sections.{Sections}
-use Rattle.gimli.specs.Unit.{UnitRecord}
 use Rattle.addr2line_lines.specs.Location.{Location}
 use Rattle.addr2line_lines.specs.RangeLocations.{LocatedSpan}
-use Rattle.addr2line_units.specs.Frames.{FrameRecord, NameRecord}
-use Rattle.addr2line_units.specs.FramesLookup.{LookupStop, Waits, Finds, FindsNothing}
-use Rattle.addr2line_units.specs.Located.{LocationResult}
-use Rattle.addr2line_units.specs.Views.{SplitLoad}
 use Rattle.addr2line.specs.Lookups.{UnitResult}
 
 -- the bytes of a name, and the language of its unit

@@ -1,9 +1,7 @@
 -- Recorded calls and answers, as contracts see them.
 use Rattle.std.specs.Prelude.{◌≡◌, map, Option, Some, None, option_map, IfOk, Result}
-use Rattle.gimli_read.specs.declared.error.Error.{Error}
-use Rattle.gimli.specs.Sections.{Sections}
+use Rattle.addr2line.specs.Common.{Error, Sections, token_number}
 use Rattle.addr2line_units.specs.declared.parses.ReadingDepth.TheVariants.{Details, Functions}
-use Rattle.addr2line_units.specs.Loads.{token_number}
 use Rattle.addr2line.specs.declared.reply.Reply.{Reply}
 use Rattle.addr2line.specs.declared.session.Answer.{Answer}
 use Rattle.addr2line.specs.declared.session.Answer.TheVariants.{Give, Abandon}

@@ -2,10 +2,7 @@
 use Rattle.std.specs.Prelude.{◌≡◌, false, map, option_map, string_bytes, Result}
 use Rattle.addr2line_lines.specs.Location.{Location}
 use Rattle.addr2line_lines.specs.RangeLocations.{LocatedSpan}
-use Rattle.gimli_read.specs.declared.error.Error.{Error}
-use Rattle.gimli_read.specs.Reading.{result_map}
-use Rattle.addr2line_units.specs.FramesLookup.{LookupStop, is_waiting}
-use Rattle.addr2line_units.specs.Loads.{token_number}
+use Rattle.addr2line.specs.Common.{Error, result_map, LookupStop, is_waiting, token_number}
 use Rattle.addr2line.specs.declared.reply.OwnedLocation.{OwnedLocation}
 use Rattle.addr2line.specs.declared.reply.OwnedSpan.{OwnedSpan}
 use Rattle.addr2line.specs.declared.reply.OwnedName.{OwnedName}

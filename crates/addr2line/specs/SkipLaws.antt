@@ -1,11 +1,6 @@
 -- Laws of lookups where each load is answered None (on Skips and Lookups).
 use Rattle.std.specs.Prelude.{◌≡◌, ℕ, false, length, Ok}
-use Rattle.gimli.specs.Sections.{Sections}
-use Rattle.addr2line_units.specs.declared.frames.OnFault.{OnFault}
-use Rattle.addr2line_units.specs.declared.frames.OnFault.TheVariants.{Stop, Skip}
-use Rattle.addr2line_units.specs.FramesLookup.{is_waiting}
-use Rattle.addr2line_units.specs.UnitIndex.{UnitIndex, index_units}
-use Rattle.addr2line_units.specs.Views.{FirstAnswers}
+use Rattle.addr2line.specs.Common.{Sections, OnFault, Stop, Skip, is_waiting, UnitIndex, index_units, FirstAnswers}
 use Rattle.addr2line.specs.Lookups.{frames_of, lookup_stop, unit_of, with_none}
 use Rattle.addr2line.specs.Skips.{skipped_answers}
 

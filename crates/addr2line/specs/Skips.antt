@@ -1,18 +1,12 @@
 -- Lookups where each load is answered None (DWARF 5, section 7.3.2).
 -- Own: a unit that waits is decided by none then, and stays so until it is forgotten.
 use Rattle.std.specs.Prelude.{◌≡◌, ℕ, ◌≤◌, Bool, length, replicate, List, None, IfErr, Result}
-use Rattle.gimli_read.specs.declared.error.Error.{Error}
-use Rattle.gimli.specs.Sections.{Sections}
-use Rattle.addr2line_units.specs.declared.frames.OnFault.{OnFault}
-use Rattle.gimli_read.specs.Reading.{WasNotRefused}
-use Rattle.addr2line_units.specs.Parsed.{StaysParsed}
-use Rattle.addr2line_units.specs.StaysKnown.{StaysKnownOf}
+use Rattle.addr2line.specs.Common.{Error, Sections, OnFault, WasNotRefused, StaysParsed, StaysKnownOf, FirstAnswers}
 use Rattle.addr2line.specs.Context.{ContextState}
 use Rattle.addr2line.specs.Loads.{IsNotOpen}
 use Rattle.addr2line.specs.History.{Given, Answered, answers_given}
 use Rattle.addr2line.specs.Lookups.{IsFaultOfAsked, loads_at}
 use Rattle.addr2line.specs.AfterLookups.{IsKnown, IsKnownFew, NeedsNoMemory, ReadsAsked}
-use Rattle.addr2line_units.specs.Views.{FirstAnswers}
 
 -- none as the answer to each of so many loads
 abbrev pub nones : ℕ → List Given

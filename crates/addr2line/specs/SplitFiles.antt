@@ -6,23 +6,16 @@
 -- be read, another one, and a faulty one are answered none.
 use Rattle.std.specs.Prelude.{◌≡◌, ◌⊎◌, ◌==◌, ◌++◌, ℕ, Bool, false, List, [], ◌∷◌, Option, Some, None, Result, Ok, Err, if◌then◌else◌, option_and_then, option_map}
 use Rattle.std.specs.Option.{option_map_or}
-use Rattle.gimli_read.specs.declared.error.Error.{Error}
-use Rattle.gimli_read.specs.Reading.{◌>>=◌}
-use Rattle.gimli_read.specs.Section.{Section}
+use Rattle.addr2line.specs.Common.{Error, ◌>>=◌, Section, Sections, UnitRecord, PathNotUtf8, Loading, ObjectFile, object_file_of, SplitLoad, first_unit}
 use Rattle.gimli.specs.declared.dwarf.DwarfFileType.TheVariants.{Dwo}
 use Rattle.gimli.specs.declared.load.SectionId.{SectionId}
 use Rattle.gimli.specs.declared.unit.DwoId.{DwoId}
-use Rattle.gimli.specs.Sections.{Sections}
 use Rattle.gimli.specs.Split.{split_sections}
-use Rattle.gimli.specs.Unit.{UnitRecord}
 use Rattle.elf.specs.declared.error.LoaderError.{LoaderError}
-use Rattle.elf.specs.declared.error.LoaderError.TheVariants.{OutOfMemory, PathNotUtf8}
-use Rattle.elf.specs.Loading.{Loading}
-use Rattle.elf.specs.ObjectFile.{ObjectFile, object_file_of}
+use Rattle.elf.specs.declared.error.LoaderError.TheVariants.{OutOfMemory}
 use Rattle.elf.specs.Symbols.{utf8_from}
 use Rattle.elf.specs.Text.{loader_error_of}
 use Rattle.addr2line_lines.specs.Paths.{lacks, slash}
-use Rattle.addr2line_units.specs.Views.{SplitLoad, first_unit}
 use Rattle.addr2line.specs.declared.compressed.CompressedSections.{CompressedSections}
 use Rattle.addr2line.specs.FileSections.{as_file, sections_by, split_section}
 use Rattle.addr2line.specs.Files.{ReadFiles}

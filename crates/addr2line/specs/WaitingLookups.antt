@@ -1,16 +1,8 @@
 -- Lookups that may wait, by the context that they are made in.
 use Rattle.std.specs.Prelude.{◌≡◌, ℕ, length, Option, IfErr, Result, Ok}
 use Rattle.std.specs.Borrow.{MutBor}
-use Rattle.gimli_read.specs.declared.error.Error.{Error}
-use Rattle.gimli_read.specs.declared.error.Error.TheVariants.{OutOfMemory}
-use Rattle.gimli.specs.Sections.{Sections}
+use Rattle.addr2line.specs.Common.{Error, OutOfMemory, Sections, OnFault, Stop, Skip, LookupStop, Waits, IfOutput, SplitLoad, View, FramesResult}
 use Rattle.addr2line_units.specs.declared.continuation.LookupResult.{LookupResult}
-use Rattle.addr2line_units.specs.declared.frames.OnFault.{OnFault}
-use Rattle.addr2line_units.specs.declared.frames.OnFault.TheVariants.{Stop, Skip}
-use Rattle.addr2line_units.specs.FramesLookup.{LookupStop, Waits}
-use Rattle.addr2line_units.specs.Suspended.{IfOutput}
-use Rattle.addr2line_units.specs.Views.{SplitLoad, View}
-use Rattle.addr2line_units.specs.UnitFrames.{FramesResult}
 use Rattle.addr2line.specs.Answers.{SuspendsAgain, answered}
 use Rattle.addr2line.specs.Context.{ContextState}
 use Rattle.addr2line.specs.AfterLookups.{Suspends}

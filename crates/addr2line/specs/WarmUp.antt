@@ -1,15 +1,9 @@
 -- What a context has read once it has parsed all lines and all functions, and what lookups do then.
 -- Own: at most 16 functions that are inlined at an address take no memory.
 use Rattle.std.specs.Prelude.{◌≡◌, ℕ, true, not, Option, Result, Ok}
-use Rattle.gimli_read.specs.declared.error.Error.{Error}
-use Rattle.gimli_read.specs.Reading.{WasNotRefused}
+use Rattle.addr2line.specs.Common.{Error, WasNotRefused, OnFault, cover, inlined_at_number, holds_along, main_scope, AreAllParsed, UnitIndex, index_units}
 use Rattle.addr2line_lines.specs.InlineRoom.{exceeds_inline_room}
-use Rattle.addr2line_units.specs.declared.frames.OnFault.{OnFault}
-use Rattle.addr2line_units.specs.Cover.{cover}
-use Rattle.addr2line_units.specs.FramesLookup.{inlined_at_number, holds_along, main_scope}
 use Rattle.addr2line_units.specs.FunctionParseLaws.{IsReached}
-use Rattle.addr2line_units.specs.Parsed.{AreAllParsed}
-use Rattle.addr2line_units.specs.UnitIndex.{UnitIndex, index_units}
 use Rattle.addr2line.specs.AfterLookups.{AfterFrames}
 use Rattle.addr2line.specs.Context.{AfterLookup, ContextState, IsReady, lines_of_all}
 use Rattle.addr2line.specs.Loads.{IsAllKnown, ReachesAllOf}

@@ -1,8 +1,7 @@
 //! Lookups of frames where files answer loads.
 
 ghost use Rattle.std.specs.Prelude.{◌≡◌};
-ghost use Rattle.gimli_read.specs.Reading.{result_map};
-ghost use Rattle.addr2line_lines.specs.LastAddress.{last_address};
+ghost use Rattle.addr2line.specs.Common.{result_map, last_address};
 ghost use Rattle.addr2line.specs.Context.{IsUncovered};
 ghost use Rattle.addr2line.specs.Files.{as_read_if_known};
 ghost use Rattle.addr2line.specs.LoadsByFiles.{AnswersByFiles};

@@ -1,14 +1,10 @@
 //! Contexts: what lookups are made in.
 
 ghost use Rattle.std.specs.Prelude.{◌≡◌, ℕ, None, IfErr, IfOk, IsOk, Ok, OnOk, is_ok, option_map, true};
-ghost use Rattle.gimli_read.specs.declared.error.Error.TheVariants.{OutOfMemory};
-ghost use Rattle.gimli_read.specs.Reading.{Exactly, ExactlyUnlessOom, IsUnlessOom, ExactlyUnlessOomIf, WasNotRefused};
-ghost use Rattle.addr2line_lines.specs.LastAddress.{last_address};
+ghost use Rattle.addr2line.specs.Common.{OutOfMemory, Exactly, ExactlyUnlessOom, IsUnlessOom, ExactlyUnlessOomIf, WasNotRefused, last_address, location_of, spans_of, AreAllParsed};
 ghost use Rattle.addr2line_lines.specs.SeenLocation.{seen_location};
 ghost use Rattle.addr2line_units.specs.Indexed.{context_takes_memory};
-ghost use Rattle.addr2line_units.specs.Located.{location_of, spans_of};
 ghost use Rattle.addr2line_units.specs.LocationsLeft.{locations_left};
-ghost use Rattle.addr2line_units.specs.Parsed.{AreAllParsed};
 ghost use Rattle.addr2line.specs.Context.{main_sections, new_context, lines_of_all, AfterLookupOver, AfterRangeLookup, IsReady, IsUncovered, IsReadyForAll, IsReadyForRange, LocatesRangeNoMemory, ParsesNoMemory, ParsesToFault, Stays};
 
 use addr2line_lines::Location;

@@ -1,18 +1,13 @@
 //! Owned copies of what calls of a context lend.
 
 ghost use Rattle.std.specs.Prelude.{◌≡◌, ◌≢◌, Option, None, Some, Result, Ok, Err, IfErr, IfOk, IsOk, OnOk, map, option_map, true};
-ghost use Rattle.gimli_read.specs.declared.error.Error.{Error};
-ghost use Rattle.gimli_read.specs.declared.error.Error.TheVariants.{OutOfMemory};
-ghost use Rattle.gimli_read.specs.Reading.{ExactlyUnlessOom, result_map, WasNotRefused};
+ghost use Rattle.addr2line.specs.Common.{Error, OutOfMemory, ExactlyUnlessOom, result_map, WasNotRefused, frames_left, LookupStop, is_waiting, LocationResult};
 ghost use Rattle.addr2line_lines.specs.SeenLocation.{seen_location};
-ghost use Rattle.addr2line_units.specs.FramesLeft.{frames_left};
-ghost use Rattle.addr2line_units.specs.FramesLookup.{LookupStop, is_waiting};
 ghost use Rattle.addr2line_units.specs.LocationsLeft.{locations_left};
 ghost use Rattle.addr2line_lines.specs.RangesLeft.{seen_located};
 ghost use Rattle.addr2line_units.specs.SeenFrame.{seen_frame, seen_name};
 ghost use Rattle.addr2line_units.specs.SeenUnit.{seen_found, seen_unit};
 ghost use Rattle.addr2line.specs.Lookups.{UnitResult, frames_of_stop};
-ghost use Rattle.addr2line_units.specs.Located.{LocationResult};
 ghost use Rattle.addr2line.specs.Replies.{Located, Ranged, Listed, Ended, section_bytes, copied_frame, copied_load, copied_name, copied_unit, reply_of_frames, reply_of_unit};
 ghost use Rattle.addr2line.specs.SeenReplies.{HasEndedWith, seen_owned_frame, seen_owned_load, seen_owned_location, seen_owned_name, seen_owned_span, seen_owned_unit, seen_reply};
 

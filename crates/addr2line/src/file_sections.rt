@@ -1,10 +1,8 @@
 //! ELF files, and their sections that DWARF is read from.
 
 ghost use Rattle.std.specs.Prelude.{◌≡◌, [], Err, IfErr, option_map};
-ghost use Rattle.elf.specs.declared.error.LoaderError.TheVariants.{NotElf};
+ghost use Rattle.addr2line.specs.Common.{NotElf, LoadsUnlessOom, object_file_of};
 ghost use Rattle.elf.specs.FileImage.{image_bytes};
-ghost use Rattle.elf.specs.Loading.{LoadsUnlessOom};
-ghost use Rattle.elf.specs.ObjectFile.{object_file_of};
 ghost use Rattle.addr2line.specs.FileSections.{as_file, section_by, sections_by};
 
 use crate::compressed::CompressedSections;

@@ -1,11 +1,7 @@
 //! Lookups of frames, which may wait for split files.
 
 ghost use Rattle.std.specs.Prelude.{◌≡◌, Some};
-ghost use Rattle.gimli_read.specs.Reading.{ExactlyUnlessOom};
-ghost use Rattle.addr2line_units.specs.declared.frames.OnFault.TheVariants.{Stop};
-ghost use Rattle.addr2line_units.specs.FramesLeft.{frames_left};
-ghost use Rattle.addr2line_lines.specs.LastAddress.{last_address};
-ghost use Rattle.addr2line_units.specs.Suspended.{IfLoad, IfOutput, IsOkOutput};
+ghost use Rattle.addr2line.specs.Common.{ExactlyUnlessOom, Stop, frames_left, last_address, IfLoad, IfOutput, IsOkOutput};
 ghost use Rattle.addr2line.specs.Borrowed.{RestsAs};
 ghost use Rattle.addr2line.specs.Context.{IsUncovered};
 ghost use Rattle.addr2line.specs.AfterLookups.{AfterFramesOver};

@@ -1,7 +1,7 @@
 //! Split files that were read, kept by their paths.
 
 ghost use Rattle.std.specs.Prelude.{◌≡◌, ◌↔◌, ℕ, List, None, OnErr, OnOk, Some, option_map};
-ghost use Rattle.elf.specs.ObjectFile.{ObjectFile};
+ghost use Rattle.addr2line.specs.Common.{ObjectFile};
 ghost use Rattle.addr2line.specs.KeptFiles.{ChangesAt, kept_at};
 
 use crate::files::FileStamp;

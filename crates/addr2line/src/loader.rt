@@ -1,17 +1,11 @@
 //! Loaders: contexts of ELF files, with their symbols and their split files.
 
 ghost use Rattle.std.specs.Prelude.{◌≡◌, [], Err, IfErr, IfOk, IfSome, IsOk, None, Ok, Option, Some, false, is_some, option_map, true};
-ghost use Rattle.elf.specs.declared.error.LoaderError.TheVariants.{Io, NotElf, OutOfMemory};
-ghost use Rattle.gimli_read.specs.Reading.{Exactly};
-ghost use Rattle.elf.specs.Loading.{Loading, LoadsUnlessOom};
+ghost use Rattle.addr2line.specs.Common.{Io, NotElf, Exactly, Loading, LoadsUnlessOom, Sections, SupSections, last_address, Stop, frames_left, location_of, spans_of};
+ghost use Rattle.elf.specs.declared.error.LoaderError.TheVariants.{OutOfMemory};
 ghost use Rattle.elf.specs.Sections.{section_range_at};
 ghost use Rattle.elf.specs.Symbols.{NamedAddress, named_address, symbol_at};
-ghost use Rattle.gimli.specs.Sections.{Sections, SupSections};
-ghost use Rattle.addr2line_lines.specs.LastAddress.{last_address};
 ghost use Rattle.addr2line_lines.specs.SeenLocation.{seen_location};
-ghost use Rattle.addr2line_units.specs.declared.frames.OnFault.TheVariants.{Stop};
-ghost use Rattle.addr2line_units.specs.FramesLeft.{frames_left};
-ghost use Rattle.addr2line_units.specs.Located.{location_of, spans_of};
 ghost use Rattle.addr2line_units.specs.LocationsLeft.{locations_left};
 ghost use Rattle.addr2line.specs.declared.compressed.CompressedSections.TheVariants.{Decompressed, Refused};
 ghost use Rattle.addr2line.specs.Context.{IsReady, LocatesRangeNoMemory};

@@ -1,11 +1,8 @@
 //! Answers to loads outside a lookup, and what forgets them.
 
 ghost use Rattle.std.specs.Prelude.{◌≡◌, [], IfErr, IfOk, IsOk, IsOkAnd, None, false, option_map};
-ghost use Rattle.gimli_read.specs.declared.error.Error.TheVariants.{OutOfMemory};
-ghost use Rattle.gimli_read.specs.Reading.{IsUnlessOom};
-ghost use Rattle.addr2line_lines.specs.LastAddress.{last_address};
+ghost use Rattle.addr2line.specs.Common.{OutOfMemory, IsUnlessOom, last_address, token_number};
 ghost use Rattle.addr2line_units.specs.AnswerMemory.{answer_takes_memory};
-ghost use Rattle.addr2line_units.specs.Loads.{token_number};
 ghost use Rattle.addr2line.specs.Context.{IsUncovered};
 ghost use Rattle.addr2line.specs.Loads.{AfterForgetting, AfterLoading, AfterPreload, IsNotOpen, NoneOpenAt, forget_reply, load_reply};
 ghost use Rattle.addr2line.specs.Lookups.{loads_at};

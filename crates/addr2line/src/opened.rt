@@ -1,8 +1,7 @@
 //! ELF files that are opened from shared bytes.
 
 ghost use Rattle.std.specs.Prelude.{◌≡◌, Err, IfErr, option_map};
-ghost use Rattle.elf.specs.Loading.{LoadsUnlessOom};
-ghost use Rattle.elf.specs.ObjectFile.{object_file_of};
+ghost use Rattle.addr2line.specs.Common.{LoadsUnlessOom, object_file_of};
 ghost use Rattle.addr2line.specs.declared.compressed.CompressedSections.TheVariants.{Refused};
 ghost use Rattle.addr2line.specs.Loaded.{dwarf_with, loaded_bytes, sup_of_bytes};
 

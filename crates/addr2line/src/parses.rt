@@ -1,7 +1,7 @@
 //! Parses of the functions of all units.
 
 ghost use Rattle.std.specs.Prelude.{◌≡◌, Err, IfErr, OnOk};
-ghost use Rattle.gimli_read.specs.Reading.{IsUnlessOom};
+ghost use Rattle.addr2line.specs.Common.{IsUnlessOom};
 ghost use Rattle.addr2line_units.specs.declared.parses.ReadingDepth.TheVariants as depths;
 ghost use Rattle.addr2line.specs.Loads.{AfterParse, IsAllKnown, ReachesAllOf, ReadsFunctionsNoMemory, parse_reply};
 

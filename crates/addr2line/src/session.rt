@@ -1,10 +1,8 @@
 //! Calls of a context that were recorded, made again.
 
 ghost use Rattle.std.specs.Prelude.{◌≡◌, IfErr, IfOk, map, option_map};
-ghost use Rattle.gimli_read.specs.declared.error.Error.TheVariants.{OutOfMemory};
+ghost use Rattle.addr2line.specs.Common.{OutOfMemory, token_number, location_of, spans_of};
 ghost use Rattle.addr2line_units.specs.declared.parses.ReadingDepth.TheVariants as depths;
-ghost use Rattle.addr2line_units.specs.Loads.{token_number};
-ghost use Rattle.addr2line_units.specs.Located.{location_of, spans_of};
 ghost use Rattle.addr2line.specs.Context.{lines_of_all};
 ghost use Rattle.addr2line.specs.History.{AfterCall, AfterCalls, AnswersLoad, AsksFrames, AsksLoads, AsksLocation, AsksRange, AsksUnit, Forgets, ParsesFunctions, ParsesLines, replies_to, reply_to};
 ghost use Rattle.addr2line.specs.Loads.{forget_reply, load_reply, parse_reply};

@@ -1,12 +1,9 @@
 //! The split files of units, which answer their loads.
 
 ghost use Rattle.std.specs.Prelude.{◌≡◌, IfErr, IfOk, IfSome, None, Ok, Option, Some, option_map};
-ghost use Rattle.gimli_read.specs.Reading.{Exactly, result_map};
-ghost use Rattle.gimli.specs.Sections.{Sections};
-ghost use Rattle.elf.specs.declared.error.LoaderError.TheVariants.{OutOfMemory, PathNotUtf8};
+ghost use Rattle.addr2line.specs.Common.{Exactly, result_map, Sections, PathNotUtf8, Loading, LoadsUnlessOom, ObjectFile};
+ghost use Rattle.elf.specs.declared.error.LoaderError.TheVariants.{OutOfMemory};
 ghost use Rattle.elf.specs.FileImage.{image_bytes};
-ghost use Rattle.elf.specs.Loading.{Loading, LoadsUnlessOom};
-ghost use Rattle.elf.specs.ObjectFile.{ObjectFile};
 ghost use Rattle.addr2line.specs.declared.compressed.CompressedSections.TheVariants.{Refused};
 ghost use Rattle.addr2line.specs.FileSections.{split_section};
 ghost use Rattle.addr2line.specs.Files.{as_read};

@@ -1,17 +1,11 @@
 //! What the last lookup of frames or of a unit has come to, and what is lent of it.
 
 ghost use Rattle.std.specs.Prelude.{◌≡◌, IfErr, IfOk};
-ghost use Rattle.gimli_read.specs.declared.error.Error.TheVariants.{OutOfMemory};
-ghost use Rattle.gimli_read.specs.Reading.{WasNotRefused};
-ghost use Rattle.addr2line_lines.specs.LastAddress.{last_address};
-ghost use Rattle.addr2line_units.specs.declared.frames.OnFault.TheVariants.{Skip};
-ghost use Rattle.addr2line_units.specs.FramesLeft.{frames_left};
-ghost use Rattle.addr2line_units.specs.FramesLookup.{Waits, frames_found};
+ghost use Rattle.addr2line.specs.Common.{OutOfMemory, WasNotRefused, last_address, Skip, frames_left, Waits, frames_found, waiting_unit};
 ghost use Rattle.addr2line_units.specs.SeenUnit.{seen_unit};
 ghost use Rattle.addr2line.specs.Context.{IsUncovered};
 ghost use Rattle.addr2line.specs.AfterLookups.{AfterFrames, IsKnownFew, IsStored, NeedsNoMemory};
 ghost use Rattle.addr2line.specs.Lookups.{IsFaultOfAsked, IsLoadOf, unit_value, view_found};
-ghost use Rattle.addr2line_units.specs.UnitsState.{waiting_unit};
 ghost use Rattle.std.specs.Prelude.{option_map};
 
 use crate::context::Context;

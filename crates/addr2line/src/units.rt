@@ -1,12 +1,8 @@
 //! Lookups of units, which may wait for split files.
 
 ghost use Rattle.std.specs.Prelude.{◌≡◌, IfErr, option_map};
-ghost use Rattle.gimli_read.specs.declared.error.Error.TheVariants.{OutOfMemory};
-ghost use Rattle.gimli_read.specs.Reading.{ExactlyUnlessOom};
-ghost use Rattle.addr2line_units.specs.declared.frames.OnFault.TheVariants.{Skip};
+ghost use Rattle.addr2line.specs.Common.{OutOfMemory, ExactlyUnlessOom, Skip, last_address, IfLoad, IfOutput, IsOkOutput};
 ghost use Rattle.addr2line_units.specs.SeenUnit.{seen_found, seen_unit};
-ghost use Rattle.addr2line_lines.specs.LastAddress.{last_address};
-ghost use Rattle.addr2line_units.specs.Suspended.{IfLoad, IfOutput, IsOkOutput};
 ghost use Rattle.addr2line.specs.Borrowed.{RestsAs};
 ghost use Rattle.addr2line.specs.Context.{IsUncovered};
 ghost use Rattle.addr2line.specs.AfterLookups.{AfterFramesOver};

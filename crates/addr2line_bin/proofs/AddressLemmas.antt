@@ -1,7 +1,6 @@
 -- Texts that are added one after another, and what a format with a width writes.
-use Rattle.std.proofs.Common.{◌≡◌, ◌∙◌, ◌-◌, ◌^◌, ◌++◌, ℕ, List, [], length, replicate, false, refl, ap, append-nil, append_assoc, arith}
+use Rattle.addr2line_bin.proofs.Common.{◌≡◌, ◌∙◌, ◌-◌, ◌^◌, ◌++◌, ℕ, List, [], length, replicate, false, refl, ap, append-nil, append_assoc, arith, byte}
 use Rattle.std.specs.Fmt.{char_count, digits, format_spec, padded_integral}
-use Rattle.std.specs.Str.{byte}
 use Rattle.addr2line_bin.specs.AddressTexts.{wide_hex}
 
 wide_number : (numeral : List ℕ) → padded_integral (format_spec 32 0 4 16 (2 ^ 64 - 1)) false [] numeral ≡ replicate (16 - length numeral) (byte "0") ++ numeral

@@ -1,9 +1,7 @@
 -- What files answer after lookups.
-use Rattle.std.proofs.Common.{◌∙◌, ℕ, List, Option, Some, None, ap, refl}
+use Rattle.addr2line_bin.proofs.Common.{◌∙◌, ℕ, List, Option, Some, None, ap, refl, FileAnswers, StaysAnswered, ProbeAnswer, GivesFrames, GivesLocation, IsAnswerAt, IsText, MayBeGiven, asked_symbol, looked_up}
 use Rattle.addr2line_bin.specs.declared.options.RunContext.{RunContext}
 use Rattle.addr2line_bin.specs.declared.options.Style.{Style}
-use Rattle.addr2line_bin.specs.FileAnswers.{FileAnswers, StaysAnswered}
-use Rattle.addr2line_bin.specs.ProbeTexts.{ProbeAnswer, GivesFrames, GivesLocation, IsAnswerAt, IsText, MayBeGiven, asked_symbol, looked_up}
 use Rattle.addr2line_bin.proofs.PrintingLemmas.{Weaker}
 
 pub stays_itself : (a : FileAnswers) → StaysAnswered a a

@@ -1,7 +1,5 @@
 -- Lemmas on the words of the command line (specs/CommandLine): matches and their rows, and faults.
-use Rattle.std.proofs.Common.{◌≡◌, ◌∙◌, ap, refl, sym, subst, inl, inr, true, false, ℕ, List, [], Bor}
-use Rattle.std.proofs.Common.{Result, Ok, Err, IfErr, IfOk, IsErrAnd, Option, Some, None, IsSomeAnd, MatchOption, option_map}
-use Rattle.std.specs.Option.{option_copied}
+use Rattle.addr2line_bin.proofs.Common.{◌≡◌, ◌∙◌, ap, refl, sym, subst, inl, inr, true, false, ℕ, List, [], Bor, Result, Ok, Err, IfErr, IfOk, IsErrAnd, Option, Some, None, IsSomeAnd, MatchOption, option_map, option_copied, whole_command}
 use Rattle.clap.specs.Words.{App, Rule, Text, is_simple, is_simple_and_free, takes, with_rule}
 use Rattle.clap.specs.Words.{HasKind, IsAmong, Kinds, fault_of, kind_of}
 use Rattle.clap.specs.Words.{Row, all_of, first_of, first_value, matched_of, matches_of, raw_values, rows_of}
@@ -10,7 +8,6 @@ use Rattle.clap.specs.declared.error.kind.ErrorKind.TheVariants as kind
 use Rattle.clap.specs.declared.parser.matches.Found.{Found}
 use Rattle.clap.proofs.WalkLemmas.{first_value-rows, raw_values-rows}
 use Rattle.addr2line_bin.specs.CommandLine.{IsFaultOf, IsUnasked, IsWordFault, is_complete}
-use Rattle.addr2line_bin.specs.Command.{whole_command}
 use Rattle.addr2line_bin.specs.CommandLine.{are_taken, faults_in, matches_in}
 use Rattle.addr2line_bin.specs.declared.command_line.WordFault.{WordFault}
 use Rattle.addr2line_bin.specs.declared.command_line.WordFault.TheVariants as fault

@@ -1,5 +1,5 @@
 -- Frames that are added one after another.
-use Rattle.std.proofs.Common.{◌≡◌, ◌∙◌, ℕ, List, ◌∷◌, ◌++◌, Option, ap, append_assoc}
+use Rattle.addr2line_bin.proofs.Common.{◌≡◌, ◌∙◌, ℕ, List, ◌∷◌, ◌++◌, Option, ap, append_assoc}
 use Rattle.addr2line_units.specs.Frames.{FrameRecord}
 use Rattle.addr2line_bin.specs.declared.options.Style.{Style}
 use Rattle.addr2line_bin.specs.FrameTexts.{caller_mark, callers_text, frame_text, symbol_before}

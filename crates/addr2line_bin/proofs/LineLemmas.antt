@@ -1,12 +1,6 @@
 -- Lines that are read from an input one after another.
-use Rattle.std.proofs.Common.{◌≡◌, ◌∙◌, ◌+◌, ◌-◌, ◌^◌, ◌<◌, inl, inr, ℕ, true, false, List, [], ◌∷◌, ◌++◌, length, ap, refl, Option, Some, None, IfSome}
-use Rattle.std.proofs.lemmas.List.{length-append, map-append}
+use Rattle.addr2line_bin.proofs.Common.{◌≡◌, ◌∙◌, ◌+◌, ◌-◌, ◌^◌, ◌<◌, inl, inr, ℕ, true, false, List, [], ◌∷◌, ◌++◌, length, ap, refl, Option, Some, None, IfSome, length-append, map-append, IsAtEnd, IsUtf8, byte, address_in, AreFirstLines, AreLines, AreLinesToFault, InputState, IsInputEnd, ReadsLine, StartKnown, StartWith, TakesLine, TakesPart, line_probes, plus}
 use Rattle.std.specs.Io.BufRead.{first_line, drop_through}
-use Rattle.std.specs.Io.KnownBytes.{IsAtEnd}
-use Rattle.std.specs.Str.{IsUtf8, byte}
-use Rattle.addr2line_bin.specs.Address.{address_in}
-use Rattle.addr2line_bin.specs.InputLines.{AreFirstLines, AreLines, AreLinesToFault, InputState, IsInputEnd, ReadsLine, StartKnown, StartWith, TakesLine, TakesPart, line_probes}
-use Rattle.addr2line_bin.specs.Put.{plus}
 use Rattle.addr2line_bin.proofs.Runs.{plus_plus}
 
 -- the lines that were read, where these bytes are left of all

@@ -1,6 +1,6 @@
 -- What a loader answers after lookups, which leave its files, its main file and its sections
 -- (on specs/LoaderAnswers.antt).
-use Rattle.std.proofs.Common.{◌≡◌, ◌∙◌, inl, inr, ◌⊎◌, ℕ, Bool, true, false, ◌&&◌, ◌||◌, List, [], ◌∷◌, Option, Some, None, Ok, Err, option_map, ap, refl, subst, sym}
+use Rattle.addr2line_bin.proofs.Common.{◌≡◌, ◌∙◌, inl, inr, ◌⊎◌, ℕ, Bool, true, false, ◌&&◌, ◌||◌, List, [], ◌∷◌, Option, Some, None, Ok, Err, option_map, ap, refl, subst, sym, AfterLoads, AfterLocation, AfterLocationRange, LoaderState, StaysAnswered}
 use Rattle.std.specs.Prelude.{IfSome, slice_get}
 use Rattle.gimli_read.specs.Reading.{Exactly, result_map}
 use Rattle.gimli.specs.Sections.{Sections}
@@ -23,12 +23,10 @@ use Rattle.addr2line.proofs.NoLoadLemmas.{last_frames}
 use Rattle.addr2line.specs.Context.{ContextState, IsReady, IsUncovered, Stays}
 use Rattle.addr2line.specs.Files.{ReadFiles}
 use Rattle.addr2line.specs.FramesByFiles.{ended_frames_of, frames_by_files, stop_frames}
-use Rattle.addr2line.specs.Loader.{AfterLoads, AfterLocation, AfterLocationRange, LoaderState}
 use Rattle.addr2line.specs.LoadsByFiles.{GivesSameFrames, StayEnded, WaitsForNone}
 use Rattle.addr2line.specs.AfterLookups.{IsKnownFew}
 use Rattle.addr2line.specs.Lookups.{lookup_stop}
 use Rattle.addr2line.specs.SplitFiles.{of_file}
-use Rattle.addr2line_bin.specs.FileAnswers.{StaysAnswered}
 use Rattle.addr2line_bin.specs.LoaderAnswers.{IsReadyAtAddress, MayFindBy, MayGiveBy, loader_answers}
 
 -- a lookup that parses nothing does so where more is parsed

@@ -1,7 +1,5 @@
 -- Texts that go to a writer one after another.
-use Rattle.std.proofs.Common.{◌∙◌, ℕ, Bool, true, false, List, [], ◌++◌, Option, Some, None, refl, sym, ap, append-nil, append_assoc}
-use Rattle.std.specs.Io.KnownBytes.{Appends, Keeps}
-use Rattle.addr2line_bin.specs.Put.{WritesPrefix, WritesUnlessFailed, WritesIfUnfailed}
+use Rattle.addr2line_bin.proofs.Common.{◌∙◌, ℕ, Bool, true, false, List, [], ◌++◌, Option, Some, None, refl, sym, ap, append-nil, append_assoc, Appends, Keeps, WritesPrefix, WritesUnlessFailed, WritesIfUnfailed}
 
 pub appends_nothing : (old new : Option (List ℕ)) → Keeps old new → Appends old new []
 appends_nothing None new k = tt

@@ -1,13 +1,8 @@
 -- A run prints what is asked for one after another.
-use Rattle.std.proofs.Common.{◌≡◌, ◌∙◌, ◌⊎◌, inl, inr, ℕ, List, [], ◌∷◌, ◌++◌, Option, Some, Result, Ok, Err, refl, sym, ap, append-nil, append_assoc, OnOk, IfErr, MatchResult, true, map, drop, drop-cons, length, get_or, add-one, arith, subst, ◌<◌, ◌+◌}
-use Rattle.std.specs.Io.KnownBytes.{Appends}
+use Rattle.addr2line_bin.proofs.Common.{◌≡◌, ◌∙◌, ◌⊎◌, inl, inr, ℕ, List, [], ◌∷◌, ◌++◌, Option, Some, Result, Ok, Err, refl, sym, ap, append-nil, append_assoc, OnOk, IfErr, MatchResult, true, map, drop, drop-cons, length, get_or, add-one, arith, subst, ◌<◌, ◌+◌, Appends, length-append, StreamState, WritesPrefix, Reports, has_fault, plus, TextOf, EndsAt, EndsEarly, IsCutAtRead, IsCutOff, PrintsOf, PrintsReadUnlessStopped, PrintsRun, PrintsUnlessStopped, AreFirstLines, AreLinesToRefusal, InputState, line_probes}
 use Rattle.std.proofs.lemmas.Grind.{flat_map-append}
-use Rattle.std.proofs.lemmas.List.{length-append}
-use Rattle.addr2line_bin.specs.Put.{StreamState, WritesPrefix, Reports, has_fault, plus}
 use Rattle.addr2line_bin.specs.Stopped.{IsFault}
 use Rattle.addr2line_bin.specs.Print.{ProbeText, AllTexts, errs, exit_at, last_text, outs}
-use Rattle.addr2line_bin.specs.Printing.{TextOf, EndsAt, EndsEarly, IsCutAtRead, IsCutOff, PrintsOf, PrintsReadUnlessStopped, PrintsRun, PrintsUnlessStopped}
-use Rattle.addr2line_bin.specs.InputLines.{AreFirstLines, AreLinesToRefusal, InputState, line_probes}
 use Rattle.addr2line_bin.specs.declared.exit.Exit.{Exit}
 use Rattle.addr2line_bin.specs.declared.exit.Exit.TheVariants as exit
 use Rattle.addr2line_bin.specs.declared.stream.StopReason.{StopReason}

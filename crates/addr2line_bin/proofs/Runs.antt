@@ -1,9 +1,7 @@
 -- A run writes one text after another.
-use Rattle.std.proofs.Common.{◌≡◌, ◌∙◌, ◌+◌, ℕ, true, List, [], ◌++◌, Option, Some, None, option_map, length, refl, ap, arith}
+use Rattle.addr2line_bin.proofs.Common.{◌≡◌, ◌∙◌, ◌+◌, ℕ, true, List, [], ◌++◌, Option, Some, None, option_map, length, refl, ap, arith, length-append, StreamState, plus, has_fault}
 use Rattle.std.proofs.lemmas.Grind.{flat_map-append}
-use Rattle.std.proofs.lemmas.List.{length-append}
 use Rattle.std.specs.declared.io.ErrorKind.{ErrorKind}
-use Rattle.addr2line_bin.specs.Put.{StreamState, plus, has_fault}
 use Rattle.addr2line_bin.specs.Stopped.{Stops, reason_of}
 use Rattle.addr2line_bin.specs.Print.{ProbeText, outs, errs, Prints}
 use Rattle.addr2line_bin.specs.declared.stream.StopReason.{StopReason}

@@ -10,7 +10,7 @@ use Rattle.std.specs.Path.{path_file_name}
 use Rattle.std.specs.Str.{byte}
 use Rattle.elf.specs.declared.error.LoaderError.{LoaderError}
 use Rattle.elf.specs.Text.{loader_text_of}
-use Rattle.addr2line_lines.specs.Location.{Location}
+use Rattle.addr2line_bin.specs.Common.{Location}
 use Rattle.addr2line_bin.specs.Address.{hex_radix}
 use Rattle.addr2line_bin.specs.declared.options.Style.{Style}
 

@@ -7,8 +7,7 @@ use Rattle.std.specs.Option.{option_map_or}
 use Rattle.std.specs.Str.{bytes_eq}
 use Rattle.std.specs.declared.string.String.{String}
 use Rattle.std.specs.declared.alloc.Global.{Global}
-use Rattle.clap.specs.Words.{Text, Row, all_of, first_of, matches_of, takes}
-use Rattle.clap.specs.Words.{IsAmong, Kinds, fault_of, kind_of}
+use Rattle.addr2line_bin.specs.Common.{Text, Row, all_of, first_of, matches_of, takes, IsAmong, Kinds, fault_of, kind_of}
 use Rattle.clap.specs.declared.error.Error.{Error}
 use Rattle.clap.specs.declared.error.kind.ErrorKind.TheVariants as kind
 use Rattle.addr2line.specs.declared.compressed.CompressedSections.{CompressedSections}

@@ -9,10 +9,8 @@ use base.Logic.{SProp}
 use types.Logic.{Logic}
 use Rattle.gimli_read.specs.declared.error.Error.{Error}
 use Rattle.gimli_read.specs.declared.range.Range.{Range}
-use Rattle.elf.specs.Loading.{Loading}
-use Rattle.addr2line_lines.specs.Location.{Location}
+use Rattle.addr2line_bin.specs.Common.{Loading, Location, FrameRecord}
 use Rattle.addr2line_lines.specs.RangeLocations.{LocatedSpan}
-use Rattle.addr2line_units.specs.Frames.{FrameRecord}
 
 -- which location or fault may be found at an address, and which frames or fault may be given for
 -- it; the name of the symbol at an address; the addresses of a section by its name; and the rows of

@@ -4,7 +4,7 @@
 -- Own: a symbol's name is of no language that is known.
 use Rattle.std.specs.Prelude.{ℕ, List, [], ◌∷◌, ◌++◌, Option, Some, None, codes, option_map, unwrap_or, if◌then◌else◌}
 use Rattle.std.specs.Option.{option_or}
-use Rattle.addr2line_units.specs.Frames.{FrameRecord, NameRecord}
+use Rattle.addr2line_bin.specs.Common.{FrameRecord, NameRecord}
 use Rattle.addr2line_units.specs.LegacyText.{demangled_auto}
 use Rattle.addr2line_units.specs.SeenFrame.{name_text, raw_text}
 use Rattle.addr2line_bin.specs.declared.options.Style.{Style}

@@ -1,3 +1,4 @@
+pub mod Common
 pub mod Put
 pub mod Address
 pub mod AddressTexts

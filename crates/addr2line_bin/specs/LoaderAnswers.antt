@@ -2,13 +2,10 @@
 -- Own: where its files aren't known, any frames may be given at an address of a unit that waits for
 -- a split file.
 use Rattle.std.specs.Prelude.{◌≡◌, ◌⊎◌, ℕ, List, [], IfSome, Ok, Option, option_map}
-use Rattle.gimli_read.specs.Reading.{Exactly}
-use Rattle.elf.specs.Loading.{Loading, LoadsUnlessOom}
+use Rattle.addr2line_bin.specs.Common.{Exactly, Loading, LoadsUnlessOom, Location, FrameRecord}
 use Rattle.elf.specs.Sections.{section_range_at}
 use Rattle.elf.specs.Symbols.{NamedAddress, symbol_at}
 use Rattle.addr2line_lines.specs.LastAddress.{last_address}
-use Rattle.addr2line_lines.specs.Location.{Location}
-use Rattle.addr2line_units.specs.Frames.{FrameRecord}
 use Rattle.addr2line_units.specs.Located.{location_of, spans_of}
 use Rattle.addr2line.specs.Context.{ContextState, IsReady, IsUncovered}
 use Rattle.addr2line.specs.FramesByFiles.{ended_frames_of, frames_by_files}

@@ -4,9 +4,7 @@
 -- a refused growth within a lookup is such a fault.
 use Rattle.std.specs.Prelude.{◌≡◌, ◌-◌, ◌+◌, ℕ, Bool, true, false, ◌||◌, List, [], ◌++◌, Option, Some, None, Ok, Err, codes, nat_lt, option_and_then, option_map, string_bytes, if◌then◌else◌}
 use Rattle.gimli_read.specs.declared.range.Range.{Range}
-use Rattle.elf.specs.Loading.{Loading}
-use Rattle.addr2line_lines.specs.Location.{Location}
-use Rattle.addr2line_units.specs.Frames.{FrameRecord}
+use Rattle.addr2line_bin.specs.Common.{Loading, Location, FrameRecord}
 use Rattle.addr2line_bin.specs.declared.options.RunContext.{RunContext}
 use Rattle.addr2line_bin.specs.declared.options.Style.{Style}
 use Rattle.addr2line_bin.specs.declared.probe_text.Texts.{Texts}

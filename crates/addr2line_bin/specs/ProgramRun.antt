@@ -3,7 +3,7 @@
 -- can't be loaded are told on a line of standard error, and nothing is printed.
 use Rattle.std.specs.Prelude.{◌≡◌, ◌⊎◌, ℕ, List, length, map, Option, Some, None, option_map, Result, Ok, Err, string_bytes}
 use Rattle.gimli_read.specs.declared.range.Range.{Range}
-use Rattle.elf.specs.Loading.{Loading}
+use Rattle.addr2line_bin.specs.Common.{Loading}
 use Rattle.elf.specs.declared.error.LoaderError.TheVariants.{OutOfMemory}
 use Rattle.addr2line_bin.specs.Put.{OnlyReports, StreamState}
 use Rattle.addr2line_bin.specs.AllAddresses.{AreAllAddresses}

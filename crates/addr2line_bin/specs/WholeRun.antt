@@ -8,7 +8,7 @@ use Rattle.std.specs.declared.alloc.Global.{Global}
 use Rattle.std.specs.declared.alloc.AllocError.{AllocError}
 use Rattle.std.specs.declared.io.ErrorKind.{ErrorKind}
 use Rattle.std.specs.declared.io.ErrorKind.TheVariants as kind
-use Rattle.elf.specs.Loading.{Loading, LoadsUnlessOom}
+use Rattle.addr2line_bin.specs.Common.{Loading, LoadsUnlessOom}
 use Rattle.addr2line.specs.Files.{Files, as_read}
 use Rattle.addr2line.specs.Loaded.{loaded}
 use Rattle.addr2line.specs.Loader.{seen_loader}

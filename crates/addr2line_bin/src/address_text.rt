@@ -2,7 +2,7 @@
 
 ghost use Rattle.std.specs.Prelude.{◌≡◌, ◌++◌, OnOk, option_map, string_bytes};
 ghost use Rattle.std.specs.Option.{option_copied};
-ghost use Rattle.addr2line_lines.specs.SeenLocation.{seen_location};
+ghost use Rattle.addr2line_bin.specs.Common.{seen_location};
 ghost use Rattle.addr2line_bin.specs.AddressTexts.{address_ending, address_text, basename_of, digits_text};
 ghost use Rattle.addr2line_bin.specs.AddressTexts.{fault_line, fault_reason, fault_subject, fault_topic};
 ghost use Rattle.addr2line_bin.specs.AddressTexts.{shown_file, hex_digits, line_text};

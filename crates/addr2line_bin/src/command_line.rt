@@ -2,7 +2,7 @@
 
 ghost use Rattle.std.specs.Prelude.{◌≡◌, IfOk, IfErr, codes, map, true, false};
 ghost use Rattle.std.specs.Prelude.{string_bytes, option_map};
-ghost use Rattle.clap.specs.Words.{rows_of, found_of, first_of, all_of};
+ghost use Rattle.addr2line_bin.specs.Common.{rows_of, found_of, first_of, all_of};
 ghost use Rattle.addr2line_bin.specs.CommandLine.{asked_compressed, asked_style, is_on, IsAsked, IsFaultOf, IsRequest};
 ghost use Rattle.addr2line_bin.specs.CommandLine.{IsUnasked, IsWordFault, WantsMemoryAlone, texts_in};
 ghost use Rattle.addr2line_bin.specs.declared.command_line.WordFault.TheVariants as fault;

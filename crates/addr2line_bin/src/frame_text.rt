@@ -3,7 +3,7 @@
 ghost use Rattle.std.specs.Prelude.{◌≡◌, ◌++◌, IfOk, List, OnOk, option_map, string_bytes};
 ghost use Rattle.std.specs.Cow.{cow_str_bytes};
 ghost use Rattle.std.specs.Option.{option_copied};
-ghost use Rattle.addr2line_units.specs.Frames.{FrameRecord};
+ghost use Rattle.addr2line_bin.specs.Common.{FrameRecord};
 ghost use Rattle.addr2line_units.specs.FramesLeft.{frames_left};
 ghost use Rattle.addr2line_units.specs.SeenFrame.{seen_frame, seen_name};
 ghost use Rattle.addr2line_bin.specs.FrameTexts.{caller_mark, callers_text, frame_text, frames_text};

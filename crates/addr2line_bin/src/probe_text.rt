@@ -2,8 +2,7 @@
 
 ghost use Rattle.std.specs.Prelude.{◌≡◌, ◌++◌, IfOk, List, ℕ, OnOk, option_map, string_bytes};
 ghost use Rattle.std.specs.Option.{option_copied};
-ghost use Rattle.gimli_read.specs.Reading.{result_map};
-ghost use Rattle.addr2line_lines.specs.SeenLocation.{seen_location};
+ghost use Rattle.addr2line_bin.specs.Common.{result_map, seen_location};
 ghost use Rattle.addr2line_units.specs.FramesLeft.{frames_left};
 ghost use Rattle.addr2line_bin.specs.FileAnswers.{StaysAnswered};
 ghost use Rattle.addr2line_bin.specs.ProbeTexts.{AddsAnswer, GivesFrames, GivesLocation, ProbeAnswer};

@@ -1,17 +1,11 @@
 -- What statuses say of what was written (on specs/Answered.antt).
-use Rattle.std.proofs.Common.{◌≡◌, ◌≢◌, ◌∙◌, Bool, true, false, Result, Ok, Err, Option, Some, None, ap, refl, sym, subst}
-use Rattle.gimli_read.specs.declared.error.Error.{Error}
+use Rattle.addr2line_c.proofs.Common.{◌≡◌, ◌≢◌, ◌∙◌, Bool, true, false, Result, Ok, Err, Option, Some, None, ap, refl, sym, subst, Error, ExactlyUnlessOom, frames_left, of_file, Status, status_of_error}
 use Rattle.gimli_read.specs.declared.error.Error.TheVariants as reading
-use Rattle.gimli_read.specs.Reading.{ExactlyUnlessOom}
 use Rattle.elf.specs.Text.{loader_error_of}
 use Rattle.addr2line_units.specs.declared.frames.FrameIter.{FrameIter}
-use Rattle.addr2line_units.specs.FramesLeft.{frames_left}
 use Rattle.addr2line_units.specs.UnitFrames.{FramesResult}
-use Rattle.addr2line.specs.SplitFiles.{of_file}
 use Rattle.elf.specs.Loading.{Loading}
-use Rattle.addr2line_c.specs.declared.status.Status.{Status}
 use Rattle.addr2line_c.specs.Answered.{IsThere, SaysOrWaits, SaysWhatIsThere, done_if}
-use Rattle.addr2line_c.specs.Status.{status_of_error}
 
 -- what is there was written, whole or not
 pub says_there : {A : Type 0} (given : Loading (Option A)) (written : A → Type 0) (fits : Bool)

@@ -1,14 +1,9 @@
 -- What C gets of calls by a handle (on specs/Calls.antt).
-use Rattle.std.proofs.Common.{◌≡◌, ◌≢◌, ℕ, List, Option, Some, None, Err, sym, subst}
+use Rattle.addr2line_c.proofs.Common.{◌≡◌, ◌≢◌, ℕ, List, Option, Some, None, Err, sym, subst, OpenFile, Status, Closed, Done, Refused, CallsFile, IsOpened, OpensFile, given_sup, status_number}
 use Rattle.elf.specs.declared.error.LoaderError.{LoaderError}
 use Rattle.elf.specs.declared.error.LoaderError.TheVariants.{OutOfMemory}
 use Rattle.addr2line.specs.declared.compressed.CompressedSections.TheVariants as compressed
 use Rattle.addr2line.specs.Loaded.{loaded_bytes}
-use Rattle.addr2line_c.specs.declared.file.OpenFile.{OpenFile}
-use Rattle.addr2line_c.specs.declared.status.Status.{Status}
-use Rattle.addr2line_c.specs.declared.status.Status.TheVariants.{Closed, Done, Refused}
-use Rattle.addr2line_c.specs.Calls.{CallsFile, IsOpened, OpensFile, given_sup}
-use Rattle.addr2line_c.specs.Status.{status_number}
 
 -- a handle that isn't open
 pub calls_none : {F : Type 0} (old new : Option F) (number : ℕ)

@@ -1,21 +1,13 @@
 -- The machine values of a handle, and what it owns.
-use Rattle.std.proofs.Common.{◌≡◌, ℕ, List, [], ◌∷◌, refl, lit<}
+use Rattle.addr2line_c.proofs.Common.{◌≡◌, ℕ, List, [], ◌∷◌, refl, lit<, Val, has_ty, WT, ftrue, Logic, Item, Goal, Seq, Step, step, ‵, ◌$◌, move, fsplit, fjoin, fpick, fpack, feq_i, RattleType, Valss, Ptr, block_ptr, null_ptr, ptr_val, Testable, nothing, layout, Good}
 use mathlib.Core.Bool.{true, ◌&&◌}
 use lib.Dec.{T}
 use seplogic.Ra.Ura.{Ura}
-use mir.Val.{Val, has_ty, WT}
-use base.Fml.{ftrue}
-use types.Logic.{Logic}
-use types.Kit.{Item, Goal, Seq, Step, step, ‵, ◌$◌, move, drop, fsplit, fjoin, fpick, fpack, feq_i}
-use denote.RattleType.{RattleType, Valss}
+use types.Kit.{drop}
 use denote.Builtin.{RawPtr}
-use denote.RawPtr.{Ptr, block_ptr, null_ptr, ptr_val, Testable}
-use denote.Steps.{nothing}
-use denote.Param.{layout}
 use denote.Struct.Struct.{within}
 use denote.Struct.Values.{intos}
 use denote.Struct.Owning.{shape}
-use Rattle.core.proofs.cell.Inside.{Good}
 use Rattle.std.specs.contracts.alloc.Global as heap
 use Rattle.std_alloc.proofs.ResultValues.{and_tt}
 use Rattle.std.specs.declared.option.Option.{Option}

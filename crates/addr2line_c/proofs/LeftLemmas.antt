@@ -1,7 +1,5 @@
 -- The context that a lookup leaves, by its status (on specs/Left.antt).
-use Rattle.std.proofs.Common.{◌≡◌, ◌≢◌, ◌⊎◌, ◌∙◌, ℕ, Bool, true, false, Option, Some, None, option_map, Result, Ok, Err, refl, sym, subst}
-use Rattle.gimli_read.specs.declared.error.Error.{Error}
-use Rattle.gimli_read.specs.Reading.{result_map, WasNotRefused}
+use Rattle.addr2line_c.proofs.Common.{◌≡◌, ◌≢◌, ◌⊎◌, ◌∙◌, ℕ, Bool, true, false, Option, Some, None, option_map, Result, Ok, Err, refl, sym, subst, Error, result_map, WasNotRefused, Status, Nothing, Refused, Waits, after_reply}
 use Rattle.elf.specs.declared.error.LoaderError.TheVariants.{OutOfMemory}
 use Rattle.elf.specs.Text.{loader_error_of}
 use Rattle.addr2line_units.specs.declared.frames.OnFault.TheVariants.{Stop}
@@ -11,11 +9,8 @@ use Rattle.addr2line.specs.Context.{AfterLookup, AfterRangeLookup, ContextState,
 use Rattle.addr2line.specs.LoadsByFiles.{WaitsForNone}
 use Rattle.addr2line.proofs.LoadingLemmas.{not_told}
 use Rattle.addr2line.proofs.NoLoadLemmas.{few_stays}
-use Rattle.addr2line_c.specs.declared.status.Status.{Status}
-use Rattle.addr2line_c.specs.declared.status.Status.TheVariants.{Nothing, Refused, Waits}
 use Rattle.addr2line_c.specs.Answered.{done_if}
 use Rattle.addr2line_c.specs.Left.{LeavesFrames, LeavesLocation, LeavesRange, found_some, status_by, was_made}
-use Rattle.addr2line_c.specs.Status.{after_reply}
 
 -- what was found is no refusal
 done_is_no_refusal : (fits : Bool) → done_if fits ≢ Refused OutOfMemory

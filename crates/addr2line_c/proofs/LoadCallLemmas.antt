@@ -1,25 +1,18 @@
 -- What answers to loads come to (on specs/LoadCalls.antt).
-use Rattle.std.proofs.Common.{◌≡◌, ◌≢◌, ◌&&◌, ◌∙◌, inl, ℕ, Bool, true, false, not, List, [], Option, Some, None, Result, Ok, Err, ap, refl, sym, subst}
+use Rattle.addr2line_c.proofs.Common.{◌≡◌, ◌≢◌, ◌&&◌, ◌∙◌, inl, ℕ, Bool, true, false, not, List, [], Option, Some, None, Result, Ok, Err, ap, refl, sym, subst, Error, IsUnlessOom, SplitLoad, or_none, Status, Done, OtherUnit, Refused, after_reply, status_of_error}
 use Rattle.std.specs.Prelude.{OnOk, is_some, if◌then◌else◌}
-use Rattle.gimli_read.specs.declared.error.Error.{Error}
 use Rattle.gimli_read.specs.declared.error.Error.TheVariants as reading
-use Rattle.gimli_read.specs.Reading.{IsUnlessOom}
 use Rattle.gimli.specs.Sections.{Sections}
 use Rattle.elf.specs.declared.error.LoaderError.{LoaderError}
 use Rattle.elf.specs.declared.error.LoaderError.TheVariants as loading
 use Rattle.elf.specs.Loading.{Loading, LoadsUnlessOom}
 use Rattle.addr2line_units.specs.Parsed.{AreAllParsed}
-use Rattle.addr2line_units.specs.Views.{SplitLoad}
 use Rattle.addr2line.specs.Context.{ContextState, lines_of_all}
 use Rattle.addr2line.specs.Loads.{AfterLoading, IsAllKnown, ReachesAllOf, load_reply}
-use Rattle.addr2line.specs.SplitFiles.{or_none}
 use Rattle.addr2line_units.proofs.StayLemmas.{same_stays_known}
 use Rattle.addr2line_c.specs.declared.loads.AskedLoad.{AskedLoad}
-use Rattle.addr2line_c.specs.declared.status.Status.{Status}
-use Rattle.addr2line_c.specs.declared.status.Status.TheVariants.{Done, OtherUnit, Refused}
 use Rattle.addr2line.specs.WarmUp.{IsWarm}
 use Rattle.addr2line_c.specs.LoadCalls.{AnswersLoadAs, AsksForAll, AsksForSome, is_out_of_memory, status_of_answer}
-use Rattle.addr2line_c.specs.Status.{after_reply, status_of_error}
 
 -- what is said of a file that could be read
 pub found_status : (has_file is_found : Bool) (found : Option Sections) → is_some found ≡ is_found

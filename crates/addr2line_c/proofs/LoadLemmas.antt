@@ -1,6 +1,5 @@
 -- What C gets for a load, part by part (on specs/Loads.antt).
-use Rattle.std.proofs.Common.{◌≡◌, ◌∙◌, ℕ, List, Some, option_and_then, option_map, ap}
-use Rattle.addr2line_units.specs.Views.{SplitLoad}
+use Rattle.addr2line_c.proofs.Common.{◌≡◌, ◌∙◌, ℕ, List, Some, option_and_then, option_map, ap, SplitLoad}
 use Rattle.addr2line_c.specs.declared.loads.AskedLoad.{AskedLoad}
 use Rattle.addr2line_c.specs.AskedLoads.{first_waiting, load_of_token, waiting_load}
 use Rattle.addr2line_c.specs.declared.loads.WrittenLoad.{WrittenLoad}

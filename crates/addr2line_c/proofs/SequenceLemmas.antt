@@ -1,12 +1,8 @@
 -- Items that are written one by one (on specs/Sequence.antt).
-use Rattle.std.proofs.Common.{◌≡◌, ◌++◌, ◌∷◌, ◌+◌, ◌-◌, ◌^◌, ◌<◌, ◌≤◌, ◌∙◌, ◌⊎◌, inl, inr, ℕ, suc, List, [], ap, refl, sym, subst, length, take, drop, arith}
-use Rattle.std.proofs.lemmas.List.{append_assoc, append-nil, length-append, take_all}
+use Rattle.addr2line_c.proofs.Common.{◌≡◌, ◌++◌, ◌∷◌, ◌+◌, ◌-◌, ◌^◌, ◌<◌, ◌≤◌, ◌∙◌, ◌⊎◌, inl, inr, ℕ, suc, List, [], ap, refl, sym, subst, length, take, drop, arith, append_assoc, append-nil, length-append, take_all, IsFilled, saturated, EachNames, texts_of_items, written_items, zero_ended}
 use Rattle.std.proofs.lemmas.Grind.{flat_map-append}
 use Rattle.std.proofs.Math.Nat.{min-eq_left}
 use Rattle.std.proofs.Math.Seq.{take-append_seam}
-use Rattle.addr2line_c.specs.Filled.{IsFilled, saturated}
-use Rattle.addr2line_c.specs.Sequence.{EachNames, texts_of_items, written_items}
-use Rattle.addr2line_c.specs.Texts.{zero_ended}
 
 module _ {F W : Type 0} (texts : F → List (List ℕ)) (write : List (List ℕ) → F → W) where
   -- one more item

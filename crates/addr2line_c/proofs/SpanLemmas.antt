@@ -1,8 +1,6 @@
 -- Rows that are given one by one (on specs/RangeLookup.antt of addr2line_units).
-use Rattle.std.proofs.Common.{◌≡◌, ◌∷◌, List, [], Option, Some, None, option_map, Result, Ok, Err, refl}
+use Rattle.addr2line_c.proofs.Common.{◌≡◌, ◌∷◌, List, [], Option, Some, None, option_map, Result, Ok, Err, refl, Error, result_map}
 use Rattle.std.specs.Result.{result_transpose}
-use Rattle.gimli_read.specs.declared.error.Error.{Error}
-use Rattle.gimli_read.specs.Reading.{result_map}
 use Rattle.addr2line_units.specs.RangeLookup.{YieldsOn}
 
 -- a row or a fault that was given was the first that was left

@@ -1,22 +1,14 @@
 -- Texts in a buffer, and the parts that name them (on specs/Texts.antt, specs/Written.antt, specs/WrittenSpans.antt and
 -- specs/Loads.antt).
-use Rattle.std.proofs.Common.{◌≡◌, ◌≤◌, ◌<◌, ◌+◌, ◌-◌, ◌^◌, ◌++◌, ◌∷◌, ◌∙◌, ℕ, Bool, List, [], Option, Some, None, Result, Ok, Err, ap, refl, sym, subst, length, take, drop, arith}
-use Rattle.std.proofs.lemmas.List.{append_assoc, append-nil, length-append, take-append-drop}
+use Rattle.addr2line_c.proofs.Common.{◌≡◌, ◌≤◌, ◌<◌, ◌+◌, ◌-◌, ◌^◌, ◌++◌, ◌∷◌, ◌∙◌, ℕ, Bool, List, [], Option, Some, None, Result, Ok, Err, ap, refl, sym, subst, length, take, drop, arith, append_assoc, append-nil, length-append, take-append-drop, Error, SplitLoad, IsFilled, saturated, EachNames, NamesText, optional_text, zero_ended, text_after, NamesFrame, location_file, frame_name, frame_texts, frames_texts, written_frame, written_frames, NamesSpan, texts_of_span, texts_of_spans, written_span, written_spans}
 use Rattle.std.proofs.lemmas.Grind.{flat_map-append}
 use Rattle.std.proofs.Math.Nat.{min-eq_left}
 use Rattle.std.proofs.Math.Seq.{drop-append_seam, take-append_seam}
-use Rattle.gimli_read.specs.declared.error.Error.{Error}
 use Rattle.addr2line_lines.specs.RangeLocations.{LocatedSpan}
 use Rattle.addr2line_units.specs.Frames.{FrameRecord}
-use Rattle.addr2line_units.specs.Views.{SplitLoad}
 use Rattle.addr2line_c.specs.declared.frames.WrittenFrame.{WrittenFrame}
 use Rattle.addr2line_c.specs.declared.spans.WrittenSpan.{WrittenSpan}
-use Rattle.addr2line_c.specs.Filled.{IsFilled, saturated}
 use Rattle.addr2line_c.specs.Loads.{NamesLoad, bytes_if, texts_of_load, written_load}
-use Rattle.addr2line_c.specs.Sequence.{EachNames}
-use Rattle.addr2line_c.specs.Texts.{NamesText, optional_text, zero_ended, text_after}
-use Rattle.addr2line_c.specs.Written.{NamesFrame, location_file, frame_name, frame_texts, frames_texts, written_frame, written_frames}
-use Rattle.addr2line_c.specs.WrittenSpans.{NamesSpan, texts_of_span, texts_of_spans, written_span, written_spans}
 use Rattle.addr2line_c.proofs.SequenceLemmas.{each_named}
 
 -- texts one after another, joined

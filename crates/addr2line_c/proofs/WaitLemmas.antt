@@ -1,11 +1,9 @@
 -- What lookups that wait say (on addr2line's specs/WaitingLookups.antt).
-use Rattle.std.proofs.Common.{◌≡◌, ℕ, Ok, None, ap}
+use Rattle.addr2line_c.proofs.Common.{◌≡◌, ℕ, Ok, None, ap, SplitLoad, of_file}
 use Rattle.std.specs.Borrow.{MutBor}
 use Rattle.addr2line_units.specs.declared.frames.OnFault.TheVariants.{Stop}
-use Rattle.addr2line_units.specs.Views.{SplitLoad}
 use Rattle.addr2line.specs.Context.{ContextState}
 use Rattle.addr2line.specs.Lookups.{frames_of_stop}
-use Rattle.addr2line.specs.SplitFiles.{of_file}
 use Rattle.addr2line.specs.WaitingLookups.{SuspendsIn, frames_of_context}
 
 -- a lookup that waits has no frames yet

@@ -2,8 +2,7 @@
 -- Own: memory that was refused may stand in place of any answer. A buffer without room for all
 -- that is there changes the status alone.
 use Rattle.std.specs.Prelude.{◌≡◌, ◌≢◌, Bool, true, false, Option, Some, None, Ok, Err, if◌then◌else◌}
-use Rattle.elf.specs.declared.error.LoaderError.TheVariants.{OutOfMemory}
-use Rattle.elf.specs.Loading.{Loading}
+use Rattle.addr2line_c.specs.Common.{OutOfMemory, Loading}
 use Rattle.addr2line_c.specs.declared.status.Status.{Status}
 use Rattle.addr2line_c.specs.declared.status.Status.TheVariants.{Done, TooSmall, Waits, Nothing, Closed, OtherUnit, Refused}
 

@@ -2,7 +2,7 @@
 -- Own: the load of a unit keeps the place where it was first asked for, which is its token. It
 -- waits from each time that it is asked for until it is answered or forgotten.
 use Rattle.std.specs.Prelude.{◌==◌, ◌++◌, ◌∷◌, ℕ, Bool, true, List, [], fold, position, slice_get, slice_set, Option, Some, None, option_and_then, option_map}
-use Rattle.addr2line_units.specs.Views.{SplitLoad}
+use Rattle.addr2line_c.specs.Common.{SplitLoad}
 use Rattle.addr2line_c.specs.declared.loads.AskedLoad.{AskedLoad}
 
 module _ {R : Type 0} where

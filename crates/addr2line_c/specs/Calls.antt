@@ -2,18 +2,15 @@
 -- Own: a handle that isn't open answers so, and stays as it is.
 use Rattle.std.specs.Prelude.{◌≡◌, ◌≢◌, ◌⊎◌, ◌==◌, ◌∷◌, ℕ, Bool, true, false, List, [], length, nat_le, Option, Some, None, Ok, Err, if◌then◌else◌}
 use Rattle.elf.specs.declared.error.LoaderError.{LoaderError}
-use Rattle.elf.specs.declared.error.LoaderError.TheVariants.{OutOfMemory}
+use Rattle.addr2line_c.specs.Common.{OutOfMemory, location_of, IsReady, IsReadyForRange, of_file}
 use Rattle.elf.specs.Sections.{section_range_at}
 use Rattle.elf.specs.Symbols.{symbol_at}
 use Rattle.addr2line_units.specs.declared.frames.OnFault.TheVariants.{Stop}
-use Rattle.addr2line_units.specs.Located.{location_of}
 use Rattle.addr2line.specs.declared.compressed.CompressedSections.TheVariants as compressed
 use Rattle.addr2line.specs.AfterLookups.{IsKnownFew}
-use Rattle.addr2line.specs.Context.{IsReady, IsReadyForRange}
 use Rattle.addr2line.specs.Loaded.{loaded_bytes}
 use Rattle.addr2line.specs.Loads.{AfterPreload}
 use Rattle.addr2line.specs.LoadsByFiles.{WaitsForNone}
-use Rattle.addr2line.specs.SplitFiles.{of_file}
 use Rattle.addr2line.specs.WaitingLookups.{frames_of_context}
 use Rattle.addr2line.specs.WarmUp.{IsWarm}
 use Rattle.addr2line_c.specs.declared.file.OpenFile.{OpenFile}

@@ -2,14 +2,10 @@
 -- specs/AfterLookups.antt of addr2line).
 -- Own: a status says what a lookup came to, but where memory was refused for something else.
 use Rattle.std.specs.Prelude.{◌≡◌, ◌⊎◌, ℕ, Bool, List, Option, Some, None, Result, Ok, Err}
-use Rattle.gimli_read.specs.declared.error.Error.{Error}
-use Rattle.gimli_read.specs.Reading.{result_map}
-use Rattle.elf.specs.declared.error.LoaderError.TheVariants.{OutOfMemory}
+use Rattle.addr2line_c.specs.Common.{Error, result_map, OutOfMemory, SplitLoad, AfterLookup, AfterRangeLookup, ContextState}
 use Rattle.addr2line_units.specs.declared.frames.OnFault.TheVariants.{Stop}
 use Rattle.addr2line_units.specs.FramesLookup.{Waits as WaitsFor}
-use Rattle.addr2line_units.specs.Views.{SplitLoad}
 use Rattle.addr2line.specs.AfterLookups.{AfterFrames}
-use Rattle.addr2line.specs.Context.{AfterLookup, AfterRangeLookup, ContextState}
 use Rattle.addr2line.specs.Lookups.{IsLoadOf, lookup_stop}
 use Rattle.addr2line_c.specs.declared.loads.AskedLoad.{AskedLoad}
 use Rattle.addr2line_c.specs.declared.status.Status.{Status}

@@ -3,19 +3,12 @@
 -- Own: a file that is refused and one of another unit are answered none, and the status says why.
 -- Where memory is refused the load goes on waiting.
 use Rattle.std.specs.Prelude.{◌≡◌, ◌≢◌, ◌==◌, ◌++◌, ℕ, Bool, true, false, not, List, [], length, Option, Some, None, Result, Ok, Err, if◌then◌else◌}
-use Rattle.gimli_read.specs.declared.error.Error.{Error}
-use Rattle.gimli_read.specs.declared.error.Error.TheVariants.{UnknownToken}
-use Rattle.gimli_read.specs.Reading.{IsUnlessOom, WasNotRefused}
-use Rattle.gimli.specs.Sections.{Sections}
+use Rattle.addr2line_c.specs.Common.{Error, UnknownToken, IsUnlessOom, WasNotRefused, Sections, Loading, SplitLoad, ContextState, IsReadyForAll, ParsesToFault, Stays, lines_of_all, or_none, split_of}
 use Rattle.elf.specs.declared.error.LoaderError.TheVariants as loading
-use Rattle.elf.specs.Loading.{Loading}
 use Rattle.addr2line_units.specs.declared.parses.ReadingDepth.TheVariants.{Details}
-use Rattle.addr2line_units.specs.Views.{SplitLoad}
 use Rattle.addr2line.specs.declared.compressed.CompressedSections.TheVariants as compressed
-use Rattle.addr2line.specs.Context.{ContextState, IsReadyForAll, ParsesToFault, Stays, lines_of_all}
 use Rattle.addr2line.specs.Loads.{AfterForgetting, AfterLoading, AfterParse, forget_reply, load_reply, parse_reply}
 use Rattle.addr2line.specs.Lookups.{loads_at}
-use Rattle.addr2line.specs.SplitFiles.{or_none, split_of}
 use Rattle.addr2line_c.specs.declared.loads.AskedLoad.{AskedLoad}
 use Rattle.addr2line_c.specs.declared.status.Status.{Status}
 use Rattle.addr2line_c.specs.declared.status.Status.TheVariants.{Done, Waits, OtherUnit, Refused}

@@ -2,7 +2,7 @@
 -- Own: its texts are its directory and its path, in this order.
 use Rattle.std.specs.Prelude.{◌≡◌, ◌++◌, ◌≤◌, ℕ, List, [], length, Option, option_map}
 use Rattle.gimli_read.specs.Section.{Section}
-use Rattle.addr2line_units.specs.Views.{SplitLoad}
+use Rattle.addr2line_c.specs.Common.{SplitLoad}
 use Rattle.addr2line_c.specs.declared.loads.WrittenLoad.{WrittenLoad}
 use Rattle.addr2line_c.specs.Filled.{IsFilled}
 use Rattle.addr2line_c.specs.Texts.{NamesText, optional_text, zero_ended, text_after}

@@ -2,7 +2,7 @@
 -- Own: the library's own statuses come first, then refusals of files, then those of DWARF bytes; a
 -- refused growth has one number, wherever it was refused.
 use Rattle.std.specs.Prelude.{ℕ, List, codes, Result, Ok, Err}
-use Rattle.gimli_read.specs.declared.error.Error.{Error}
+use Rattle.addr2line_c.specs.Common.{Error}
 use Rattle.gimli_read.specs.declared.error.Error.TheVariants as reading
 use Rattle.elf.specs.declared.error.LoaderError.{LoaderError}
 use Rattle.elf.specs.declared.error.LoaderError.TheVariants as loading

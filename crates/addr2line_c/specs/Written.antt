@@ -5,7 +5,7 @@ use Rattle.addr2line_lines.specs.Location.{Location}
 use Rattle.addr2line_units.specs.Frames.{FrameRecord, NameRecord}
 use Rattle.addr2line_units.specs.SeenFrame.{name_text}
 use Rattle.addr2line_units.specs.UnitFrames.{FramesResult}
-use Rattle.addr2line.specs.SplitFiles.{of_file}
+use Rattle.addr2line_c.specs.Common.{of_file}
 use Rattle.addr2line_c.specs.declared.location.WrittenLocation.{WrittenLocation}
 use Rattle.addr2line_c.specs.declared.frames.WrittenFrame.{WrittenFrame}
 use Rattle.addr2line_c.specs.declared.status.Status.{Status}

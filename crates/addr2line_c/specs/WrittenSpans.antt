@@ -2,13 +2,9 @@
 -- Own: a fault of a unit's lines stands in the place of its rows: it has its status, and neither
 -- addresses nor a location. A row has the status done.
 use Rattle.std.specs.Prelude.{◌≤◌, ℕ, List, [], drop, length, nat_le, take, Option, Some, None, Result, Ok, Err}
-use Rattle.gimli_read.specs.declared.error.Error.{Error}
-use Rattle.gimli_read.specs.Reading.{◌>>=◌}
-use Rattle.gimli.specs.Sections.{Sections}
+use Rattle.addr2line_c.specs.Common.{Error, ◌>>=◌, Sections, spans_of, of_file}
 use Rattle.addr2line_lines.specs.Location.{Location}
 use Rattle.addr2line_lines.specs.RangeLocations.{LocatedSpan}
-use Rattle.addr2line_units.specs.Located.{spans_of}
-use Rattle.addr2line.specs.SplitFiles.{of_file}
 use Rattle.addr2line_c.specs.declared.spans.WrittenSpan.{WrittenSpan}
 use Rattle.addr2line_c.specs.declared.status.Status.{Status}
 use Rattle.addr2line_c.specs.declared.status.Status.TheVariants.{Done}

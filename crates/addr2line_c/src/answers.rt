@@ -2,9 +2,8 @@
 
 ghost use Rattle.std.specs.Prelude.{◌≡◌, ◌≢◌, Err, OnErr, OnOk, IfErr, Ok, Option, is_some, option_map};
 ghost use Rattle.gimli_read.specs.declared.error.Error.TheVariants.{OutOfMemory};
-ghost use Rattle.gimli.specs.Sections.{Sections};
+ghost use Rattle.addr2line_c.specs.Common.{Sections, Loading, LoadsUnlessOom};
 ghost use Rattle.elf.specs.declared.error.LoaderError.TheVariants.{OutOfMemory as NoMemory};
-ghost use Rattle.elf.specs.Loading.{Loading, LoadsUnlessOom};
 ghost use Rattle.addr2line_units.specs.Loads.{token_number};
 ghost use Rattle.addr2line.specs.Loads.{AfterPreload};
 ghost use Rattle.addr2line.specs.WarmUp.{IsWarm};

@@ -1,7 +1,7 @@
 //! An open file.
 
 ghost use Rattle.std.specs.Prelude.{◌≡◌, [], IfOk, length, option_map};
-ghost use Rattle.elf.specs.Loading.{LoadsUnlessOom};
+ghost use Rattle.addr2line_c.specs.Common.{LoadsUnlessOom};
 ghost use Rattle.addr2line.specs.declared.compressed.CompressedSections.TheVariants as compressed;
 ghost use Rattle.addr2line.specs.Loaded.{loaded_bytes};
 ghost use Rattle.addr2line_c.specs.Calls.{given_sup};

@@ -1,13 +1,10 @@
 //! What lookups found, with what C gets of it.
 
 ghost use Rattle.std.specs.Prelude.{◌≡◌, ◌⊎◌, Some, false, length, nat_le, option_map};
-ghost use Rattle.gimli_read.specs.Reading.{ExactlyUnlessOom};
-ghost use Rattle.elf.specs.declared.error.LoaderError.TheVariants.{OutOfMemory};
+ghost use Rattle.addr2line_c.specs.Common.{ExactlyUnlessOom, OutOfMemory, LocationResult, of_file};
 ghost use Rattle.addr2line_lines.specs.SeenLocation.{seen_location};
 ghost use Rattle.addr2line_units.specs.FramesLeft.{frames_left};
-ghost use Rattle.addr2line_units.specs.Located.{LocationResult};
 ghost use Rattle.addr2line_units.specs.UnitFrames.{FramesResult};
-ghost use Rattle.addr2line.specs.SplitFiles.{of_file};
 ghost use Rattle.addr2line_c.specs.declared.status.Status.TheVariants.{Nothing, Refused, Waits};
 ghost use Rattle.addr2line_c.specs.Answered.{IfNothing, SaysWhatIsThere};
 ghost use Rattle.addr2line_c.specs.Left.{found_some, status_by};

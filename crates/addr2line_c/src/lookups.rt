@@ -1,13 +1,10 @@
 //! Lookups, with what C gets of them.
 
 ghost use Rattle.std.specs.Prelude.{◌≡◌, ◌≢◌, false, length, nat_le};
-ghost use Rattle.elf.specs.declared.error.LoaderError.TheVariants.{OutOfMemory};
+ghost use Rattle.addr2line_c.specs.Common.{OutOfMemory, location_of, IsReady, of_file};
 ghost use Rattle.addr2line_units.specs.declared.frames.OnFault.TheVariants.{Stop};
-ghost use Rattle.addr2line_units.specs.Located.{location_of};
 ghost use Rattle.addr2line.specs.AfterLookups.{IsKnownFew};
-ghost use Rattle.addr2line.specs.Context.{IsReady};
 ghost use Rattle.addr2line.specs.LoadsByFiles.{WaitsForNone};
-ghost use Rattle.addr2line.specs.SplitFiles.{of_file};
 ghost use Rattle.addr2line.specs.WaitingLookups.{frames_of_context};
 ghost use Rattle.addr2line_c.specs.declared.status.Status.TheVariants.{Refused};
 ghost use Rattle.addr2line_c.specs.Answered.{IfNothing, SaysWhatIsThere};

@@ -2,13 +2,9 @@
 
 ghost use Rattle.std.specs.Prelude.{◌≡◌, ◌≢◌, ◌++◌, ℕ, List, IfErr, IfOk, Ok, drop, length, nat_le, take};
 ghost use Rattle.gimli_read.specs.declared.error.Error.TheVariants.{OutOfMemory as RefusedMemory};
-ghost use Rattle.gimli_read.specs.Reading.{result_map};
-ghost use Rattle.gimli.specs.Sections.{Sections};
-ghost use Rattle.elf.specs.declared.error.LoaderError.TheVariants.{OutOfMemory};
+ghost use Rattle.addr2line_c.specs.Common.{result_map, Sections, OutOfMemory, spans_of, IsReadyForRange};
 ghost use Rattle.addr2line_lines.specs.RangesLeft.{seen_located};
-ghost use Rattle.addr2line_units.specs.Located.{spans_of};
 ghost use Rattle.addr2line_units.specs.LocationsLeft.{locations_left};
-ghost use Rattle.addr2line.specs.Context.{IsReadyForRange};
 ghost use Rattle.addr2line_c.specs.declared.status.Status.TheVariants.{Refused};
 ghost use Rattle.addr2line_c.specs.Answered.{IfNothing, done_if};
 ghost use Rattle.addr2line_c.specs.Filled.{IsFilled};

@@ -1,27 +1,11 @@
 -- Rows taken one after another make the sequences of the rows (on specs/Building.antt).
-use Rattle.std.proofs.Common.{ℕ, ◌≡◌, ◌+◌, ◌-◌, ◌*◌, ◌^◌, ◌<◌, ◌≤◌, ◌==◌, ◌⊎◌, Bool, true, false, cond, List, [], ◌∷◌, ◌++◌, Option, Some, None, map, length, take, drop, get_or, arith, inl, inr, ◌∙◌, ap, sym, subst, refl, append_assoc, append-nil, fold, Result, Ok, Err, IfOk}
-use Rattle.std.specs.List.{AllByRecursion, cons_option}
-use Rattle.std.proofs.lemmas.List.Sums.{sum_by_push}
-use Rattle.std.specs.Option.{option_to_list}
-use Rattle.std.proofs.lemmas.Bool.{cases_lt}
-use Rattle.std.proofs.lemmas.Bool.Decides.{nat_tests}
-use Rattle.std.proofs.lemmas.List.{drop-append-le, drop-take, drop_all, get_or-drop, get_or-map, length_push, length-drop, length-map, length-take-le, map_push, take-append-le, take-take, take_at}
-use Rattle.std.proofs.lemmas.Option.{slice_get-get_or}
-use Rattle.gimli_read.specs.declared.error.Error.{Error}
-use Rattle.gimli_read.specs.Topmost.{last}
-use Rattle.gimli_line.specs.declared.row.LineRow.{LineRow}
-use Rattle.gimli_line.specs.Rises.{NeverFalls, rows_before}
+use Rattle.addr2line_lines.proofs.Common.{ℕ, ◌≡◌, ◌+◌, ◌-◌, ◌*◌, ◌^◌, ◌<◌, ◌≤◌, ◌==◌, ◌⊎◌, Bool, true, false, cond, List, [], ◌∷◌, ◌++◌, Option, Some, None, map, length, take, drop, get_or, arith, inl, inr, ◌∙◌, ap, sym, subst, refl, append_assoc, append-nil, fold, Result, Ok, Err, IfOk, AllByRecursion, cons_option, sum_by_push, option_to_list, cases_lt, nat_tests, drop-append-le, drop-take, drop_all, get_or-drop, get_or-map, length_push, length-map, length-take-le, map_push, take-append-le, take-take, take_at, slice_get-get_or, Error, last, LineRow, NeverFalls, rows_before, Row, result_map, read_all, Sequence, stored_row, sequence_of, sequences_of, LineSequence, RowsEndBy, row_address_at, packed_rows_in, unpacked}
+use Rattle.std.proofs.lemmas.List.{length-drop}
 use Rattle.gimli_line.specs.Taking.{fault_after}
-use Rattle.addr2line_lines.specs.declared.row.Row.{Row}
-use Rattle.gimli_read.specs.Reading.{result_map}
-use Rattle.addr2line_lines.specs.Rows.{read_all}
-use Rattle.addr2line_lines.specs.Sequences.{Sequence, stored_row, sequence_of, sequences_of}
-use Rattle.addr2line_lines.specs.declared.sequence.LineSequence.{LineSequence}
 use Rattle.addr2line_lines.specs.Building.{Built, IsBuilder, StoredBuilt, stored_rows, stored_taken, all_built, built, closed, built_ended, has_address, nothing_built, row_taken, with_row, without_last, without_last_from}
 use Rattle.addr2line_lines.specs.declared.rows.ShortRow.{ShortRow}
 use Rattle.addr2line_lines.specs.StoredRows.{fits, row_of_short, shortened}
 use Rattle.addr2line_lines.proofs.StoredRowLemmas.{short_is}
-use Rattle.addr2line_lines.specs.Packed.{RowsEndBy, row_address_at, packed_rows_in, unpacked}
 use Rattle.addr2line_lines.proofs.PackedLemmas.{all_push, all_same, all_within, rows_in_is}
 use Rattle.addr2line_lines.proofs.SeekLemmas.{last_is}
 use Rattle.addr2line_lines.proofs.RowGroupLemmas.{IsPending, append_none, ended_is, falls_back, falls_replaced, none_open, pending_more, pending_replaced, replaced}

@@ -1,21 +1,11 @@
 -- Names that are cached, as more are (on specs/CachedNames.antt).
-use Rattle.std.proofs.Common.{◌≡◌, ℕ, List, [], ◌∷◌, ◌++◌, length, map, take, option_map, Option, Some, None, IfSome, Result, refl, ap, sym, subst, ◌∙◌, inl, inr, slice_get}
-use Rattle.std.specs.List.{AllByRecursion}
+use Rattle.addr2line_lines.proofs.Common.{◌≡◌, ℕ, List, [], ◌∷◌, ◌++◌, length, map, take, option_map, Option, Some, None, IfSome, Result, refl, ap, sym, subst, ◌∙◌, inl, inr, slice_get, AllByRecursion, slice_get-map, take-append_seam, Error, UnitOffset, UnitRecord, Section, AreNamesMore, AreNamesOf, CachedName, GrowNames, IsKnownAs, IsNameOf, IsOneMoreAtMost, seen_cached_name, seen_names, seen_shared, referred_name, Scope}
 use Rattle.std.specs.declared.alloc.Global.{Global}
 use Rattle.std.specs.declared.rc.Rc.{Rc}
-use Rattle.std.proofs.lemmas.Option.{slice_get-map}
-use Rattle.std.proofs.Math.Seq.{take-append_seam}
-use Rattle.gimli_read.specs.declared.error.Error.{Error}
 use Rattle.gimli_read.specs.declared.value.AttributeValue.TheVariants as values
-use Rattle.gimli_read.specs.declared.value.UnitOffset.{UnitOffset}
 use Rattle.gimli.specs.AttributeSinks.{IsGrowth}
-use Rattle.gimli.specs.Unit.{UnitRecord}
-use Rattle.gimli_read.specs.Section.{Section}
-use Rattle.addr2line_lines.specs.CachedNames.{AreNamesMore, AreNamesOf, CachedName, GrowNames, IsKnownAs, IsNameOf, IsOneMoreAtMost, seen_cached_name, seen_names, seen_shared}
 use Rattle.addr2line_lines.specs.Grown.{IsGrown}
 use Rattle.addr2line_lines.specs.declared.names.CachedName as declared_name
-use Rattle.addr2line_lines.specs.Names.{referred_name}
-use Rattle.addr2line_lines.specs.References.{Scope}
 use Rattle.addr2line_lines.proofs.NestingLemmas.{grown_by, grown_not, grown_on}
 use Rattle.addr2line_lines.proofs.PlaceLemmas.{all_at}
 

@@ -1,28 +1,10 @@
 -- What is seen of cached functions, by their places (on specs/FunctionTable.antt).
-use Rattle.std.proofs.Common.{◌≡◌, ℕ, ◌<◌, ◌==◌, nat_lt, true, false, cond, List, [], ◌∷◌, get_or, length, map, slice_get, slice_index_or, Option, Some, None, Result, Ok, option_and_then, refl, ap, sym, subst, ◌∙◌, arith, zero, suc}
-use Rattle.std.specs.List.{AllByRecursion, position_or_len}
+use Rattle.addr2line_lines.proofs.Common.{◌≡◌, ℕ, ◌<◌, ◌==◌, nat_lt, true, false, cond, List, [], ◌∷◌, get_or, length, map, slice_get, slice_index_or, Option, Some, None, Result, Ok, option_and_then, refl, ap, sym, subst, ◌∙◌, arith, zero, suc, AllByRecursion, position_or_len, position, nat_tests, position_or_len_is, slice_get-map, Error, FunctionDetail, LazyFunction, FunctionAddress, Detail, InlinedRange, AreFunctions, function_offsets, function_range_of, HasPlace, place_read, read_at, seen_function, seen_lazy, CachedFunction, inlined_of_detail, name_of_detail, function_offset_at, IsDetailPlace, CachedDetails, detail_of, shortest_function_at, length-map}
 use Rattle.std.specs.Option.{option_map}
-use Rattle.std.specs.Prelude.{position}
-use Rattle.std.proofs.lemmas.Bool.Decides.{nat_tests}
-use Rattle.std.proofs.lemmas.List.Sums.{position_or_len_is}
-use Rattle.std.proofs.lemmas.Option.{slice_get-map}
-use Rattle.gimli_read.specs.declared.error.Error.{Error}
-use Rattle.addr2line_lines.specs.declared.details.FunctionDetail.{FunctionDetail}
 use Rattle.addr2line_lines.specs.declared.functions.LazyDetail.{LazyDetail}
 use Rattle.addr2line_lines.specs.declared.functions.LazyDetail.TheVariants.{Unread, Read, Faulty}
-use Rattle.addr2line_lines.specs.declared.functions.LazyFunction.{LazyFunction}
-use Rattle.addr2line_lines.specs.declared.segments.FunctionAddress.{FunctionAddress}
-use Rattle.addr2line_lines.specs.Details.{Detail}
-use Rattle.addr2line_lines.specs.InlinedEntries.{InlinedRange}
-use Rattle.addr2line_lines.specs.FoundFunctions.{AreFunctions, function_offsets, function_range_of}
-use Rattle.addr2line_lines.specs.FunctionCache.{HasPlace, place_read, read_at, seen_function, seen_lazy}
-use Rattle.addr2line_lines.specs.FunctionTable.{CachedFunction, inlined_of_detail, name_of_detail}
-use Rattle.addr2line_lines.specs.Functions.{function_offset_at}
-use Rattle.addr2line_lines.specs.CachedDetails.{IsDetailPlace, CachedDetails, detail_of}
-use Rattle.addr2line_lines.specs.Segments.{shortest_function_at}
 use Rattle.addr2line_lines.proofs.FunctionOrder.{found_is, place_found}
 use Rattle.addr2line_lines.proofs.PlaceLemmas.{all_at}
-use Rattle.std.proofs.lemmas.List.{length-map}
 
 -- a cached detail, by the place of its function
 abbrev pub cached_at : List CachedFunction → ℕ → Option (Result Detail Error)

@@ -1,14 +1,11 @@
 -- Readings with the memory that they take: parts of a whole, and two readings of the same (on
 -- specs/CostedSteps.antt).
-use Rattle.std.proofs.Common.{◌≡◌, ◌≢◌, ◌&&◌, ◌||◌, Bool, true, false, Result, Ok, Err, is_ok, refl, ap, subst, sym, ◌∙◌}
-use Rattle.gimli_read.specs.declared.error.Error.{Error}
-use Rattle.gimli_read.specs.declared.error.Error.TheVariants.{OutOfMemory}
-use Rattle.gimli_read.specs.Costed.{Costed, ◌>>=◌, free, takes_memory_after}
+use Rattle.addr2line_lines.proofs.Common.{◌≡◌, ◌≢◌, ◌&&◌, ◌||◌, Bool, true, false, Result, Ok, Err, is_ok, refl, ap, subst, sym, ◌∙◌, Error, OutOfMemory, Costed, free, takes_memory_after, or_left, or_right}
+use Rattle.gimli_read.specs.Costed.{◌>>=◌}
 use Rattle.gimli_read.specs.Reading as reading
 use Rattle.gimli_read.proofs.Steps.{bind_ok}
 use Rattle.addr2line_lines.specs.CostedSteps.{map_at_cost, then_room_if}
 use Rattle.addr2line_lines.proofs.FunctionLemmas.{or_more}
-use Rattle.std.proofs.lemmas.Bool.{or_left, or_right}
 
 or_both : (a b c d : Bool) → (a ≡ true → c ≡ true) → (b ≡ true → d ≡ true) → (a || b) ≡ true → (c || d) ≡ true
 or_both true b c d h k e = or_left c d (h refl)

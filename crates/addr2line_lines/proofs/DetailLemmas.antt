@@ -1,34 +1,14 @@
 -- The attributes of inlined entries and functions, one at a time (on specs/FoundAttributes.antt).
-use Rattle.std.proofs.Common.{◌≡◌, ℕ, ◌+◌, ◌<◌, ◌≤◌, ◌⊎◌, ◌==◌, ◌||◌, Bool, true, false, cond, List, [], ◌∷◌, drop, fold, get_or, inl, inr, length, Option, Some, None, Result, Ok, Err, refl, ap, subst, sym, ◌∙◌, count_by, ◌&&◌}
-use Rattle.std.proofs.lemmas.Bool.{eqb-true, or_parts}
+use Rattle.addr2line_lines.proofs.Common.{◌≡◌, ℕ, ◌+◌, ◌<◌, ◌≤◌, ◌⊎◌, ◌==◌, ◌||◌, Bool, true, false, cond, List, [], ◌∷◌, drop, fold, get_or, inl, inr, length, Option, Some, None, Result, Ok, Err, refl, ap, subst, sym, ◌∙◌, count_by, ◌&&◌, eqb-true, or_parts, DW_AT_call_column, DW_AT_call_file, DW_AT_call_line, DW_AT_high_pc, DW_AT_low_pc, DW_AT_name, DW_AT_ranges, Error, UnexpectedEof, Abbrev, NamedValue, attribute_at, rest_of, Costed, free, Reading, ◌>>=◌, Exactly, ExactlyUnlessOomIf, Section, attributes_at, Sections, UnitRecord, RangeAttributes, Kind, InlinedAttributes, inlined_attributes_of, no_inlined_attributes, with_call, with_inlined_attribute, FoundInlined, with_inlined_found, is_name_attribute, is_linkage_name, is_origin, with_name, gives_a_range, with_range_attribute, Scope}
 use Rattle.gimli_read.specs.declared.constants.DwAt.{DwAt}
-use Rattle.gimli_read.specs.declared.constants.TheConstants.DwAt.{DW_AT_call_column, DW_AT_call_file, DW_AT_call_line, DW_AT_high_pc, DW_AT_low_pc, DW_AT_name, DW_AT_ranges}
-use Rattle.gimli_read.specs.declared.error.Error.{Error}
-use Rattle.gimli_read.specs.declared.error.Error.TheVariants.{UnexpectedEof}
-use Rattle.gimli_read.specs.Abbreviations.{Abbrev}
 use Rattle.gimli_read.specs.Leb128.{uleb128_at, uleb128_in}
-use Rattle.gimli_read.specs.Form.{NamedValue, attribute_at, rest_of}
-use Rattle.gimli_read.specs.Costed.{Costed, free}
 use Rattle.gimli_read.specs.Costed as costed
-use Rattle.gimli_read.specs.Reading.{Reading, ◌>>=◌, Exactly, ExactlyUnlessOomIf}
-use Rattle.gimli_read.specs.Section.{Section}
-use Rattle.gimli.specs.Entry.{attributes_at}
-use Rattle.gimli.specs.Sections.{Sections}
-use Rattle.gimli.specs.Unit.{UnitRecord}
-use Rattle.addr2line_lines.specs.declared.function.RangeAttributes.{RangeAttributes}
-use Rattle.addr2line_lines.specs.declared.nesting.Kind.{Kind}
 use Rattle.addr2line_lines.specs.declared.inlined.CallSite.{CallSite}
-use Rattle.addr2line_lines.specs.InlinedEntries.{InlinedAttributes, inlined_attributes_of, no_inlined_attributes, with_call, with_inlined_attribute}
-use Rattle.addr2line_lines.specs.FoundInlined.{FoundInlined, with_inlined_found}
 use Rattle.addr2line_lines.specs.FoundItems.{entry_found_at, with_entry_found}
 use Rattle.addr2line_lines.specs.CostedSteps.{map_at_cost, stored_if}
 use Rattle.addr2line_lines.specs.FoundAttributes.{inlined_attributes_after, is_call, is_inlined_attribute}
 use Rattle.addr2line_lines.specs.FoundRanges.{is_range_name}
 use Rattle.addr2line_lines.specs.OpenEntries.{is_inlined_kind, is_listed, kind_of}
-use Rattle.addr2line_lines.specs.FoundNames.{is_name_attribute}
-use Rattle.addr2line_lines.specs.Names.{is_linkage_name, is_origin, with_name}
-use Rattle.addr2line_lines.specs.RangeAttributes.{gives_a_range, with_range_attribute}
-use Rattle.addr2line_lines.specs.References.{Scope}
 use Rattle.addr2line_lines.proofs.FoundRanges.{rangeless}
 
 -- none of two tests

@@ -1,22 +1,8 @@
 -- Where memory is taken for the details of a function (on specs/Details.antt).
-use Rattle.std.proofs.Common.{◌≡◌, ℕ, ◌<◌, ◌++◌, true, false, List, [], ◌∷◌, append-nil, length, map, Option, Result, Ok, Err, refl, ap, subst, sym, ◌∙◌, arith}
-use Rattle.gimli_read.specs.declared.error.Error.{Error}
-use Rattle.gimli_read.specs.declared.range.Range.{Range}
-use Rattle.gimli_read.specs.Costed.{Costed, free}
+use Rattle.addr2line_lines.proofs.Common.{◌≡◌, ℕ, ◌<◌, ◌++◌, true, false, List, [], ◌∷◌, append-nil, length, map, Option, Result, Ok, Err, refl, ap, subst, sym, ◌∙◌, arith, Error, Range, Costed, free, Section, Sections, UnitRecord, RangeAttributes, InlinedFunctionAddress, Detail, WholeEntry, detail_at, detail_takes_memory, inlined_in, stored_detail_at, whole_entry_at, FoundInlined, inlined_address, with_inlined_ranges, InlinedRange, name_of, attribute_ranges, gives_a_range, Scope}
 use Rattle.gimli_read.specs.Reading as reading
-use Rattle.gimli_read.specs.Section.{Section}
-use Rattle.gimli.specs.Sections.{Sections}
-use Rattle.gimli.specs.Unit.{UnitRecord}
-use Rattle.addr2line_lines.specs.declared.function.RangeAttributes.{RangeAttributes}
-use Rattle.addr2line_lines.specs.declared.picks.InlinedFunctionAddress.{InlinedFunctionAddress}
 use Rattle.addr2line_lines.specs.CostedSteps.{map_at_cost, then_room_if}
-use Rattle.addr2line_lines.specs.Details.{Detail, WholeEntry, detail_at, detail_takes_memory, inlined_in, stored_detail_at, whole_entry_at}
 use Rattle.addr2line_lines.specs.FoundDetails.{detail_found_at}
-use Rattle.addr2line_lines.specs.FoundInlined.{FoundInlined, inlined_address, with_inlined_ranges}
-use Rattle.addr2line_lines.specs.InlinedEntries.{InlinedRange}
-use Rattle.addr2line_lines.specs.Names.{name_of}
-use Rattle.addr2line_lines.specs.RangeAttributes.{attribute_ranges, gives_a_range}
-use Rattle.addr2line_lines.specs.References.{Scope}
 use Rattle.addr2line_lines.proofs.CostLemmas.{AgreesGiven, TakesIfRead, map_takes, next_takes, room_takes}
 use Rattle.addr2line_lines.proofs.DetailOrder.{IsFrom, detail_agrees, detail_made}
 use Rattle.addr2line_lines.proofs.FunctionMemory.{listed_well}

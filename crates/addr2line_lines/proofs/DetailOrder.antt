@@ -1,42 +1,16 @@
 -- The details of a function are what is found of it (on specs/FoundDetails.antt).
-use Rattle.std.proofs.Common.{◌≡◌, ℕ, ◌+◌, ◌-◌, ◌<◌, nat_lt, ◌≤◌, ◌==◌, ◌&&◌, Bool, true, false, cond, List, [], ◌∷◌, ◌++◌, count_by, map, length, Option, Some, None, Result, Ok, Err, refl, ap, sym, subst, ◌∙◌, arith, length-drop, ℤ, pos}
-use Rattle.std.proofs.lemmas.Bool.{eqb-true, ne_eqb}
-use Rattle.std.proofs.lemmas.Bool.Decides.{nat_tests}
-use Rattle.std.proofs.lemmas.List.Sums.{sum_by-cons}
-use Rattle.std.proofs.Math.Seq.{drop-length}
+use Rattle.addr2line_lines.proofs.Common.{◌≡◌, ℕ, ◌+◌, ◌-◌, ◌<◌, nat_lt, ◌≤◌, ◌==◌, ◌&&◌, Bool, true, false, cond, List, [], ◌∷◌, ◌++◌, count_by, map, length, Option, Some, None, Result, Ok, Err, refl, ap, sym, subst, ◌∙◌, arith, length-drop, ℤ, pos, eqb-true, ne_eqb, nat_tests, sum_by-cons, drop-length, Error, OffsetOutOfBounds, Range, Abbrev, NamedValue, rest_of, Costed, free, Reading, fold_run, Section, after, entry_bytes_from, unit_length, EntryUnit, attributes_at, Entry, Item, depth_after, items_inside, subtree_of, EntriesLeft, EntryCursor, entries_at, entry_abbreviation_at, items_left, next_item_at, UnitRecord, Kind, Detail, detail_at, inlined_in, is_in_function, open_after, placed_items, stored_detail_at, with_inlined, with_inlined_entry, InlinedAttributes, InlinedRange, inlined_attributes_of, inlined_entry, inlined_ranges, is_inlined, FoundInlined, inlined_more, range_among, found_ranges_from, with_inlined_found, name_after, is_subprogram, name_of, attribute_ranges, gives_a_range, Scope}
 use Rattle.gimli_read.specs.declared.constants.TheConstants.DwTag.{DW_TAG_inlined_subroutine, DW_TAG_subprogram}
-use Rattle.gimli_read.specs.declared.error.Error.{Error}
-use Rattle.gimli_read.specs.declared.error.Error.TheVariants.{OffsetOutOfBounds}
-use Rattle.gimli_read.specs.declared.range.Range.{Range}
-use Rattle.gimli_read.specs.Abbreviations.{Abbrev}
-use Rattle.gimli_read.specs.Form.{NamedValue, rest_of}
-use Rattle.gimli_read.specs.Costed.{Costed, ◌>>=◌, free}
-use Rattle.gimli_read.specs.Reading.{Reading}
+use Rattle.gimli_read.specs.Costed.{◌>>=◌}
 use Rattle.gimli_read.specs.Reading as reading
-use Rattle.gimli_read.specs.Run.{fold_run}
-use Rattle.gimli_read.specs.Section.{Section, after}
-use Rattle.gimli.specs.Entries.{entry_bytes_from, unit_length}
-use Rattle.gimli.specs.Entry.{EntryUnit, attributes_at}
 use Rattle.gimli.specs.Header.{UnitHeaderFields}
-use Rattle.gimli.specs.Items.{Entry, Item, depth_after, items_inside, subtree_of}
-use Rattle.gimli.specs.EntryCursor.{EntriesLeft, EntryCursor, entries_at, entry_abbreviation_at, items_left, next_item_at}
 use Rattle.gimli.proofs.CursorLemmas.{item_from, item_here}
-use Rattle.gimli.specs.Unit.{UnitRecord}
 use Rattle.gimli.proofs.ItemLemmas.{next_is}
-use Rattle.addr2line_lines.specs.declared.nesting.Kind.{Kind}
 use Rattle.addr2line_lines.specs.declared.nesting.Kind.TheVariants.{Inlined, Other, Subprogram}
-use Rattle.addr2line_lines.specs.Details.{Detail, detail_at, inlined_in, is_in_function, open_after, placed_items, stored_detail_at, with_inlined, with_inlined_entry}
-use Rattle.addr2line_lines.specs.InlinedEntries.{InlinedAttributes, InlinedRange, inlined_attributes_of, inlined_entry, inlined_ranges, is_inlined}
 use Rattle.addr2line_lines.specs.FoundItems.{FoundAround, inside_found, with_entry_found, with_item_found}
-use Rattle.addr2line_lines.specs.FoundInlined.{FoundInlined, inlined_more, range_among, found_ranges_from, with_inlined_found}
 use Rattle.addr2line_lines.specs.CostedSteps.{fold_at_cost, map_at_cost, stored_if, then_room_if}
 use Rattle.addr2line_lines.specs.FoundDetails.{abbreviation_of, detail_found_at, function_found_at}
 use Rattle.addr2line_lines.specs.OpenEntries.{closed_once, is_inlined_kind, is_listed, is_subprogram_kind, kind_of, opened}
-use Rattle.addr2line_lines.specs.FoundNames.{name_after}
-use Rattle.addr2line_lines.specs.Functions.{is_subprogram}
-use Rattle.addr2line_lines.specs.Names.{name_of}
-use Rattle.addr2line_lines.specs.RangeAttributes.{attribute_ranges, gives_a_range}
-use Rattle.addr2line_lines.specs.References.{Scope}
 use Rattle.addr2line_lines.proofs.CostLemmas.{Agrees, AgreesGiven, IsPartOf, agrees_after, agrees_made, agrees_map, agrees_room, agrees_then, room_more}
 use Rattle.addr2line_lines.proofs.DetailRanges.{AreFrom, more_places, more_ranges, none_from}
 use Rattle.addr2line_lines.proofs.NestingLemmas.{coded}

@@ -1,36 +1,15 @@
 -- Places of details, and what adding details leaves of them (on specs/CachedDetails.antt).
-use Rattle.std.proofs.Common.{◌≡◌, ℕ, ◌+◌, ◌-◌, ◌<◌, ◌≤◌, ◌==◌, Bool, true, false, cond, nat_lt, List, [], ◌∷◌, ◌++◌, drop, map, length, slice_index_or, take, Option, Some, None, option_and_then, option_map, Result, Ok, Err, IfOk, refl, ap, sym, subst, ◌∙◌, arith, length-append, length-drop, zero, suc}
-use Rattle.std.specs.List.{All, AllByRecursion}
-use Rattle.std.specs.List.Sorted.{IsNonDecreasingBy}
-use Rattle.std.proofs.lemmas.List.{drop-append-le, length-map, length-take-le, take-append-le}
-use Rattle.std.proofs.lemmas.List.Elements.{All-weaker, recursion_from_All}
-use Rattle.std.proofs.Math.Seq.{drop-append_seam, take-append_seam, take-length}
-use Rattle.gimli_read.specs.declared.error.Error.{Error}
-use Rattle.gimli_read.specs.Reading.{ExactlyUnlessOomIf}
-use Rattle.gimli_read.specs.Section.{Section}
-use Rattle.gimli_read.specs.Topmost.{greatest, topmost}
-use Rattle.gimli.specs.Unit.{UnitRecord}
-use Rattle.addr2line_lines.specs.declared.details.FunctionDetail.{FunctionDetail}
-use Rattle.addr2line_lines.specs.declared.picks.InlinedFunctionAddress.{InlinedFunctionAddress}
-use Rattle.addr2line_lines.specs.Details.{Detail, detail_at}
-use Rattle.addr2line_lines.specs.InlinedEntries.{InlinedEntry, InlinedRange}
+use Rattle.addr2line_lines.proofs.Common.{◌≡◌, ℕ, ◌+◌, ◌-◌, ◌<◌, ◌≤◌, ◌==◌, Bool, true, false, cond, nat_lt, List, [], ◌∷◌, ◌++◌, drop, map, length, slice_index_or, take, Option, Some, None, option_and_then, option_map, Result, Ok, Err, IfOk, refl, ap, sym, subst, ◌∙◌, arith, length-append, length-drop, zero, suc, All, AllByRecursion, IsNonDecreasingBy, drop-append-le, length-map, length-take-le, take-append-le, All-weaker, recursion_from_All, drop-append_seam, take-append_seam, take-length, Error, ExactlyUnlessOomIf, Section, greatest, topmost, UnitRecord, FunctionDetail, InlinedFunctionAddress, Detail, detail_at, InlinedEntry, InlinedRange, FoundInlined, IsFoundMore, entry_among, first_found, range_among, inlined_sooner, inlined_place, place_begin, place_end, places_chain, places_of_depth, places_within, IsInOrder, in_order, AreDetailsMore, IsDetailPlace, IsOfEntryBetween, IsRefusedThen, CachedDetails, between, detail_of, listed_ranges, at_or_below, candidate, if_past, pick, Scope, In, In-filter, In-last}
 use Rattle.addr2line_lines.specs.InlinedChain.{inlined_chain}
-use Rattle.addr2line_lines.specs.FoundInlined.{FoundInlined, IsFoundMore, entry_among, first_found, range_among}
 use Rattle.addr2line_lines.specs.Grown.{IsGrown}
 use Rattle.addr2line_lines.specs.FoundDetails.{detail_found_at}
-use Rattle.addr2line_lines.specs.InlinedOrder.{inlined_sooner, inlined_place, place_begin, place_end, places_chain, places_of_depth, places_within}
-use Rattle.addr2line_lines.specs.InOrder.{IsInOrder, in_order}
-use Rattle.addr2line_lines.specs.CachedDetails.{AreDetailsMore, IsDetailPlace, IsOfEntryBetween, IsRefusedThen, CachedDetails, between, detail_of, listed_ranges}
 use Rattle.addr2line_lines.specs.InlineRoom.{exceeds_inline_room, inline_room}
-use Rattle.addr2line_lines.specs.Pick.{at_or_below, candidate, if_past, pick}
-use Rattle.addr2line_lines.specs.References.{Scope}
 use Rattle.addr2line_lines.proofs.CostLemmas.{AgreesGiven}
 use Rattle.addr2line_lines.proofs.DetailOrder.{IsFrom, detail_agrees, detail_made}
 use Rattle.addr2line_lines.proofs.DetailRanges.{among, before_more, ranges_stay}
 use Rattle.addr2line_lines.proofs.InlinedOrder.{inlined_order, length_in_order, listed_chain}
 use Rattle.addr2line_lines.proofs.NestingLemmas.{found_same, grown_not}
 use Rattle.addr2line_lines.proofs.OrderLemmas.{All-in, in_order_all, in_order_ordered}
-use Rattle.gimli_read.proofs.TopmostLemmas.{In, In-filter, In-last}
 use Rattle.addr2line_lines.proofs.SeekLemmas.{non_decreasing}
 
 pub last_name : {X Y : Type 0} (f : X → Y) (xs : List X) (x : X) (d : Y) → slice_index_or (map f (xs ++ x ∷ [])) (length xs) d ≡ f x

@@ -1,15 +1,5 @@
 -- Ranges by the places of inlined entries, where more are found (on specs/FoundInlined.antt).
-use Rattle.std.proofs.Common.{◌≡◌, ℕ, ◌+◌, ◌<◌, ◌≤◌, List, [], ◌∷◌, ◌++◌, drop, map, length, slice_index_or, refl, ap, sym, subst, ◌∙◌, arith, length-append, append-nil, zero, suc}
-use Rattle.std.specs.List.{All, AllByRecursion}
-use Rattle.std.proofs.lemmas.List.{drop-append-le, map-append}
-use Rattle.std.proofs.lemmas.List.Elements.{All-append, All-head, All-map, All-tail, All-weaker, recursion_from_All}
-use Rattle.std.proofs.Math.Seq.{drop-length}
-use Rattle.gimli_read.specs.declared.range.Range.{Range}
-use Rattle.addr2line_lines.specs.declared.picks.InlinedFunctionAddress.{InlinedFunctionAddress}
-use Rattle.addr2line_lines.specs.InlinedEntries.{InlinedEntry, InlinedRange}
-use Rattle.addr2line_lines.specs.FoundInlined.{FoundInlined, IsPlaceAmong, inlined_address, inlined_more, range_among, no_inlined, found_ranges_from}
-use Rattle.addr2line_lines.specs.InlinedOrder.{inlined_place}
-use Rattle.addr2line_lines.specs.CachedDetails.{IsOfEntryBetween}
+use Rattle.addr2line_lines.proofs.Common.{◌≡◌, ℕ, ◌+◌, ◌<◌, ◌≤◌, List, [], ◌∷◌, ◌++◌, drop, map, length, slice_index_or, refl, ap, sym, subst, ◌∙◌, arith, length-append, append-nil, zero, suc, All, AllByRecursion, drop-append-le, map-append, All-append, All-head, All-map, All-tail, All-weaker, recursion_from_All, drop-length, Range, InlinedFunctionAddress, InlinedEntry, InlinedRange, FoundInlined, IsPlaceAmong, inlined_address, inlined_more, range_among, no_inlined, found_ranges_from, inlined_place, IsOfEntryBetween}
 use Rattle.addr2line_lines.proofs.SeekLemmas.{Up}
 
 -- a range of an inlined entry

@@ -1,5 +1,5 @@
 -- How the number of binary digits grows (on specs/Digits.antt).
-use Rattle.std.proofs.Common.{ℕ, ◌≡◌, ◌+◌, ◌/◌, ◌<◌, ◌≤◌, ◌^◌, length, arith, subst}
+use Rattle.addr2line_lines.proofs.Common.{ℕ, ◌≡◌, ◌+◌, ◌/◌, ◌<◌, ◌≤◌, ◌^◌, length, arith, subst}
 use Rattle.std.proofs.lemmas.Int.Digits.{length-digits_of_step, length-digits_of-le, number_lt, number_digits_of, all_below_base_digits_of}
 use Rattle.std.specs.Int.Digits.{digits_of}
 use Rattle.addr2line_lines.specs.Digits.{digits}

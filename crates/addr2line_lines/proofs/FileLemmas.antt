@@ -1,11 +1,5 @@
 -- The texts of files, one at a time (on specs/FileTexts.antt).
-use Rattle.std.proofs.Common.{◌≡◌, ℕ, ◌+◌, ◌<◌, ◌≤◌, List, [], ◌∷◌, ◌++◌, length, drop, get_or, Result, Ok, Err, refl, sym, ap, ◌∙◌, append_assoc, append-nil}
-use Rattle.std.proofs.lemmas.List.{at_drop_more, at_drop_all}
-use Rattle.gimli_read.specs.declared.error.Error.{Error}
-use Rattle.gimli_read.specs.Reading.{◌>>=◌}
-use Rattle.gimli_line.specs.Header.{File, Header}
-use Rattle.gimli.specs.Sections.{Sections}
-use Rattle.gimli.specs.Unit.{UnitRecord}
+use Rattle.addr2line_lines.proofs.Common.{◌≡◌, ℕ, ◌+◌, ◌<◌, ◌≤◌, List, [], ◌∷◌, ◌++◌, length, drop, get_or, Result, Ok, Err, refl, sym, ap, ◌∙◌, append_assoc, append-nil, at_drop_more, at_drop_all, Error, ◌>>=◌, File, Header, Sections, UnitRecord}
 use Rattle.addr2line_lines.specs.FileTexts.{text_of_file, texts_of, texts_after}
 
 module _ (d : Sections) (u : UnitRecord) (h : Header) where

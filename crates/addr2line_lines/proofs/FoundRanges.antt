@@ -1,25 +1,10 @@
 -- The attributes of ranges among others (on specs/FoundRanges.antt).
-use Rattle.std.proofs.Common.{◌≡◌, zero, suc, ◌==◌, ◌&&◌, ◌||◌, Bool, true, false, cond, List, [], ◌∷◌, length, Some, Result, Ok, Err, refl, ap, ◌∙◌, arith}
-use Rattle.std.specs.List.{All, list_any}
-use Rattle.gimli_read.specs.declared.constants.TheConstants.DwAt.{DW_AT_high_pc, DW_AT_low_pc, DW_AT_ranges}
-use Rattle.gimli_read.specs.declared.error.Error.{Error}
+use Rattle.addr2line_lines.proofs.Common.{◌≡◌, zero, suc, ◌==◌, ◌&&◌, ◌||◌, Bool, true, false, cond, List, [], ◌∷◌, length, Some, Result, Ok, Err, refl, ap, ◌∙◌, arith, All, list_any, DW_AT_high_pc, DW_AT_low_pc, DW_AT_ranges, Error, Abbrev, Section, ◌>>=◌, Exactly, ExactlyUnlessOomIf, NamedValue, rest_of, EntryUnit, attributes_at, EntryCursor, entry_abbreviation_at, next_offset_of, Sections, UnitRecord, RangeAttributes, FoundFunctions, next_found_at, is_subprogram, no_range_attributes, range_attributes_after, with_range_attribute}
 use Rattle.gimli_read.specs.declared.endian.Encoding.{Encoding}
-use Rattle.gimli_read.specs.Abbreviations.{Abbrev}
-use Rattle.gimli_read.specs.Section.{Section}
-use Rattle.gimli_read.specs.Reading.{◌>>=◌, Exactly, ExactlyUnlessOomIf}
-use Rattle.gimli_read.specs.Form.{NamedValue, rest_of}
-use Rattle.gimli.specs.Entry.{EntryUnit, attributes_at}
-use Rattle.gimli.specs.EntryCursor.{EntryCursor, entry_abbreviation_at, next_offset_of}
-use Rattle.gimli.specs.Sections.{Sections}
-use Rattle.gimli.specs.Unit.{UnitRecord}
 use Rattle.gimli.specs.WantedAttributes.{HasNoWanted}
 use Rattle.gimli.proofs.SinkLemmas.{taken_passes}
 use Rattle.gimli.proofs.WantedLemmas.{wanted_end}
-use Rattle.addr2line_lines.specs.declared.function.RangeAttributes.{RangeAttributes}
-use Rattle.addr2line_lines.specs.FoundFunctions.{FoundFunctions, next_found_at}
 use Rattle.addr2line_lines.specs.FoundRanges.{is_function, is_range_specification, is_range_name}
-use Rattle.addr2line_lines.specs.Functions.{is_subprogram}
-use Rattle.addr2line_lines.specs.RangeAttributes.{no_range_attributes, range_attributes_after, with_range_attribute}
 use Rattle.addr2line_lines.proofs.FunctionLemmas.{function_fault, function_found, other_found}
 use Rattle.addr2line_lines.proofs.NameLemmas.{none_of}
 

@@ -1,27 +1,9 @@
 -- The functions of a unit, one item at a time (on specs/FoundFunctions.antt).
-use Rattle.std.proofs.Common.{◌≡◌, ℕ, ◌<◌, ◌≤◌, ◌==◌, ◌&&◌, ◌||◌, Bool, true, false, cond, List, [], ◌∷◌, ◌++◌, map, length, Option, Some, None, Result, Ok, Err, OnOk, refl, ap, sym, ◌∙◌, arith, append-nil, append_assoc, length-append}
-use Rattle.gimli_read.specs.declared.error.Error.{Error}
+use Rattle.addr2line_lines.proofs.Common.{◌≡◌, ℕ, ◌<◌, ◌≤◌, ◌==◌, ◌&&◌, ◌||◌, Bool, true, false, cond, List, [], ◌∷◌, ◌++◌, map, length, Option, Some, None, Result, Ok, Err, OnOk, refl, ap, sym, ◌∙◌, arith, append-nil, append_assoc, length-append, Error, Range, Abbrev, Section, Reading, ◌>>=◌, Exactly, ExactlyUnlessOomIf, NamedValue, rest_of, Run, cons, fold_of, fold_run, EntryUnit, attributes_at, Item, EntryCursor, entry_abbreviation_at, items_left, next_item_at, next_offset_of, Sections, UnitRecord, items_end, items_fault, items_more, RangeAttributes, FunctionAddress, attribute_ranges, gives_a_range, no_range_attributes, range_attributes_after, range_attributes_of, is_subprogram, FoundFunctions, next_found_at, found_from, found_more, function_address, item_has_function, with_attributes, with_found, with_ranges}
 use Rattle.gimli_read.specs.declared.endian.Encoding.{Encoding}
-use Rattle.gimli_read.specs.declared.range.Range.{Range}
-use Rattle.gimli_read.specs.Abbreviations.{Abbrev}
-use Rattle.gimli_read.specs.Section.{Section}
-use Rattle.gimli_read.specs.Reading.{Reading, ◌>>=◌, Exactly, ExactlyUnlessOomIf}
-use Rattle.gimli_read.specs.Form.{NamedValue, rest_of}
-use Rattle.gimli_read.specs.Run.{Run, cons, fold_of, fold_run}
 use Rattle.gimli_read.proofs.SkipLemmas.{attributes_leave}
-use Rattle.gimli.specs.Entry.{EntryUnit, attributes_at}
-use Rattle.gimli.specs.Items.{Item}
-use Rattle.gimli.specs.EntryCursor.{EntryCursor, entry_abbreviation_at, items_left, next_item_at, next_offset_of}
 use Rattle.gimli.proofs.CursorLemmas.{item_from, item_is, item_here}
-use Rattle.gimli.specs.Sections.{Sections}
-use Rattle.gimli.specs.Unit.{UnitRecord}
 use Rattle.gimli.proofs.EntryLemmas.{abbreviation_takes}
-use Rattle.gimli.proofs.ItemReads.{items_end, items_fault, items_more}
-use Rattle.addr2line_lines.specs.declared.function.RangeAttributes.{RangeAttributes}
-use Rattle.addr2line_lines.specs.declared.segments.FunctionAddress.{FunctionAddress}
-use Rattle.addr2line_lines.specs.RangeAttributes.{attribute_ranges, gives_a_range, no_range_attributes, range_attributes_after, range_attributes_of}
-use Rattle.addr2line_lines.specs.Functions.{is_subprogram}
-use Rattle.addr2line_lines.specs.FoundFunctions.{FoundFunctions, next_found_at, found_from, found_more, function_address, item_has_function, with_attributes, with_found, with_ranges}
 
 -- lists with one more element
 pub one_read : {X Y : Type 0} (f : X → Y) (read : List X) (x : X) (rest : List Y) → map f read ++ f x ∷ rest ≡ map f (read ++ x ∷ []) ++ rest

@@ -1,24 +1,6 @@
 -- Where memory is taken for the functions of a unit (on specs/FoundFunctions.antt).
-use Rattle.std.proofs.Common.{◌≡◌, ℕ, ◌<◌, ◌==◌, ◌&&◌, ◌||◌, is_ok, ◌⊎◌, inl, inr, nat_lt, Bool, true, false, cond, List, [], ◌∷◌, ◌++◌, map, length, Option, Some, None, Result, Ok, Err, refl, ap, sym, subst, ◌∙◌, arith, append-nil}
-use Rattle.std.proofs.lemmas.Bool.Decides.{nat_tests}
-use Rattle.gimli_read.specs.declared.error.Error.{Error}
-use Rattle.gimli_read.specs.declared.range.Range.{Range}
-use Rattle.gimli_read.specs.Reading.{◌>>=◌}
-use Rattle.gimli_read.specs.Run.{Run, fold_run}
-use Rattle.gimli_read.specs.Section.{Section}
-use Rattle.gimli.specs.Entry.{EntryUnit}
-use Rattle.gimli.specs.Items.{Entry, Item, items_of}
-use Rattle.gimli.specs.EntryCursor.{EntryCursor, items_left, next_item_at}
-use Rattle.gimli.specs.Sections.{Sections}
-use Rattle.gimli.specs.Unit.{UnitRecord}
-use Rattle.gimli.proofs.ItemReads.{items_more}
-use Rattle.addr2line_lines.specs.declared.function.RangeAttributes.{RangeAttributes}
-use Rattle.addr2line_lines.specs.declared.segments.FunctionAddress.{FunctionAddress}
-use Rattle.addr2line_lines.specs.RangeAttributes.{all_ranges, attribute_ranges, begins_well, gives_a_range, range_attributes_of, range_list_of}
-use Rattle.addr2line_lines.specs.Functions.{FunctionRange, entry_gives_a_range, entry_ranges, has_function, have_function, is_subprogram, with_function}
-use Rattle.addr2line_lines.specs.FoundFunctions.{FoundFunctions, function_address, next_found_at, found_in, found_more, item_has_function, item_takes_memory, none_found, with_attributes, with_found, with_ranges}
+use Rattle.addr2line_lines.proofs.Common.{◌≡◌, ℕ, ◌<◌, ◌==◌, ◌&&◌, ◌||◌, is_ok, ◌⊎◌, inl, inr, nat_lt, Bool, true, false, cond, List, [], ◌∷◌, ◌++◌, map, length, Option, Some, None, Result, Ok, Err, refl, ap, sym, subst, ◌∙◌, arith, append-nil, nat_tests, Error, Range, ◌>>=◌, Run, fold_run, Section, EntryUnit, Entry, Item, items_of, EntryCursor, items_left, next_item_at, Sections, UnitRecord, items_more, RangeAttributes, FunctionAddress, all_ranges, attribute_ranges, begins_well, gives_a_range, range_attributes_of, range_list_of, FunctionRange, entry_gives_a_range, entry_ranges, has_function, have_function, is_subprogram, with_function, FoundFunctions, function_address, next_found_at, found_in, found_more, item_has_function, item_takes_memory, none_found, with_attributes, with_found, with_ranges, or_left, or_right}
 use Rattle.addr2line_lines.proofs.FunctionLemmas.{found_after, one_found, or_more, some_item}
-use Rattle.std.proofs.lemmas.Bool.{or_left, or_right}
 
 module _ (d : Sections) (u : UnitRecord) where
   -- what is found at an entry, and the ranges of its function

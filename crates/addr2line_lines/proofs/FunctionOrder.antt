@@ -1,38 +1,14 @@
 -- The places of functions are in the order of their entries (on specs/FoundFunctions.antt).
-use Rattle.std.proofs.Common.{◌≡◌, ℕ, ◌+◌, ◌<◌, ◌≤◌, Bool, true, false, cond, nat_lt, List, [], ◌∷◌, ◌++◌, map, length, slice_index_or, Option, Some, None, Result, Ok, Err, refl, ap, sym, subst, ◌∙◌, arith, inl, inr, length-append, append-nil, zero, suc, ℤ, pos}
-use Rattle.std.specs.List.{All}
+use Rattle.addr2line_lines.proofs.Common.{◌≡◌, ℕ, ◌+◌, ◌<◌, ◌≤◌, Bool, true, false, cond, nat_lt, List, [], ◌∷◌, ◌++◌, map, length, slice_index_or, Option, Some, None, Result, Ok, Err, refl, ap, sym, subst, ◌∙◌, arith, inl, inr, length-append, append-nil, zero, suc, ℤ, pos, All, nat_tests, common_steps, map-append, All-append, All-head, All-map, All-push, All-tail, All-weaker, recursion_from_All, Error, Range, UnitOffset, ◌>>=◌, fold_run, Section, EntryUnit, entry_unit, Entry, Item, depth_after, items_of, offset_of, Sections, UnitRecord, RangeAttributes, FunctionAddress, attribute_ranges, range_attributes_of, FunctionRange, entries_of, entry_ranges, function_begin, function_end, function_offset, function_offset_at, functions_of, is_subprogram, with_function, FoundFunctions, AreFunctions, IsPlaceIn, function_address, found_in, found_more, function_range_of, none_found, with_attributes, with_found, address_begin, address_end, address_function, shortest_function_at, In, text_some}
 use Rattle.std.specs.Option.{option_map}
-use Rattle.std.proofs.lemmas.Bool.Decides.{nat_tests}
-use Rattle.std.proofs.lemmas.Grind.{common_steps}
-use Rattle.std.proofs.lemmas.List.{map-append}
-use Rattle.std.proofs.lemmas.List.Elements.{All-append, All-head, All-map, All-push, All-tail, All-weaker, recursion_from_All}
 use Rattle.gimli_read.specs.declared.endian.RunTimeEndian.{RunTimeEndian}
-use Rattle.gimli_read.specs.declared.error.Error.{Error}
-use Rattle.gimli_read.specs.declared.range.Range.{Range}
-use Rattle.gimli_read.specs.declared.value.UnitOffset.{UnitOffset}
-use Rattle.gimli_read.specs.Reading.{◌>>=◌}
-use Rattle.gimli_read.specs.Run.{fold_run}
-use Rattle.gimli_read.specs.Section.{Section}
-use Rattle.gimli.specs.Entry.{EntryUnit}
-use Rattle.gimli.specs.Entries.{entry_unit}
-use Rattle.gimli.specs.Items.{Entry, Item, depth_after, items_of, offset_of}
 use Rattle.gimli.specs.ItemLaws.{AreItems, IsEntryText}
-use Rattle.gimli.specs.Sections.{Sections}
-use Rattle.gimli.specs.Unit.{UnitRecord}
 use Rattle.gimli.proofs.ItemTexts.{items_cover}
-use Rattle.addr2line_lines.specs.declared.function.RangeAttributes.{RangeAttributes}
-use Rattle.addr2line_lines.specs.declared.segments.FunctionAddress.{FunctionAddress}
-use Rattle.addr2line_lines.specs.RangeAttributes.{attribute_ranges, range_attributes_of}
-use Rattle.addr2line_lines.specs.Functions.{FunctionRange, entries_of, entry_ranges, function_begin, function_end, function_offset, function_offset_at, functions_of, is_subprogram, with_function}
-use Rattle.addr2line_lines.specs.FoundFunctions.{FoundFunctions, AreFunctions, IsPlaceIn, function_address, found_in, found_more, function_range_of, none_found, with_attributes, with_found}
-use Rattle.addr2line_lines.specs.Segments.{address_begin, address_end, address_function, shortest_function_at}
 use Rattle.addr2line_lines.specs.Shortest.{shortest, holds, IsNoLonger}
 use Rattle.addr2line_lines.proofs.CostLemmas.{AgreesGiven, given_then}
 use Rattle.addr2line_lines.proofs.ListedFunctions.{entries_more, ranges_below}
 use Rattle.addr2line_lines.proofs.OrderLemmas.{All-in}
-use Rattle.gimli_read.proofs.TopmostLemmas.{In}
 use Rattle.addr2line_lines.proofs.ShortestLemmas.{shortest_holds, shortest_is, shortest_least, some_shortest}
-use Rattle.gimli.proofs.ItemReads.{text_some}
 
 -- what was found, by where entries begin
 abbrev pub ranges_found : FoundFunctions → List FunctionRange

@@ -1,27 +1,14 @@
 -- Ranges of inlined entries in order (on specs/InlinedOrder.antt).
-use Rattle.std.proofs.Common.{ℕ, ◌≡◌, ◌+◌, ◌≤◌, Ordering, Less, Equal, Greater, Bool, true, false, cond, not, ◌&&◌, ◌==◌, max, nat_cmp, nat_le, nat_lt, List, [], ◌∷◌, length, map, get_or, Option, Some, None, arith, ◌∙◌, ap, sym, refl, zero, suc}
+use Rattle.addr2line_lines.proofs.Common.{ℕ, ◌≡◌, ◌+◌, ◌≤◌, Ordering, Less, Equal, Greater, Bool, true, false, cond, not, ◌&&◌, ◌==◌, max, nat_cmp, nat_le, nat_lt, List, [], ◌∷◌, length, map, get_or, Option, Some, None, arith, ◌∙◌, ap, sym, refl, zero, suc, AllByRecursion, IsNonDecreasingBy, IsPermutation, IsSortedBy, IsSortedByKey, ties, is_lt, ordering_then, nat_tests, recursion_from_All, ranks_by, sum_by-IsPermutation, length-filter, greatest, last, topmost, InlinedFunctionAddress, InlinedEntry, inlined_range_of, inlined_sooner, inlined_place, place_at, place_begin, place_end, places_chain, places_of_depth, places_within, begins_sooner, in_order, put, at_or_below, candidate, if_past, pick, filter-filter}
 use Rattle.std.specs.Cmp.{IsStrictWeakOrder}
-use Rattle.std.specs.List.{filter, AllByRecursion}
-use Rattle.std.specs.List.Sorted.{IsNonDecreasingBy, IsPermutation, IsSortedBy, IsSortedByKey, ties}
+use Rattle.std.specs.List.{filter}
 use Rattle.std.specs.Option.{option_and_then, option_map}
-use Rattle.std.specs.Ordering.{is_lt, ordering_then}
 use Rattle.std.proofs.Math.ListN.{replicate}
-use Rattle.std.proofs.lemmas.Bool.Decides.{nat_tests}
 use Rattle.std.proofs.lemmas.Cmp.{on_total, then_total, nat_cmp_total}
-use Rattle.std.proofs.lemmas.List.Elements.{recursion_from_All}
-use Rattle.std.proofs.lemmas.List.Sorted.{ranks_by, sum_by-IsPermutation}
-use Rattle.std.proofs.lemmas.List.Sums.{length-filter}
-use Rattle.gimli_read.specs.Topmost.{greatest, last, topmost}
-use Rattle.addr2line_lines.specs.declared.picks.InlinedFunctionAddress.{InlinedFunctionAddress}
-use Rattle.addr2line_lines.specs.InlinedEntries.{InlinedEntry}
 use Rattle.addr2line_lines.specs.InlinedChain.{inlined_at, inlined_begin, inlined_chain, inlined_end, inlined_within}
-use Rattle.addr2line_lines.specs.InlinedOrder.{inlined_range_of, inlined_sooner, inlined_place, place_at, place_begin, place_end, places_chain, places_of_depth, places_within}
-use Rattle.addr2line_lines.specs.InOrder.{begins_sooner, in_order, put}
-use Rattle.addr2line_lines.specs.Pick.{at_or_below, candidate, if_past, pick}
 use Rattle.addr2line_lines.proofs.InlinedPick.{depth_ordered}
 use Rattle.addr2line_lines.proofs.OrderLemmas.{begins_order, in_order_all, in_order_ordered, in_order_ties, one_order, sorted_is}
 use Rattle.addr2line_lines.proofs.OrderPick.{pick_in_order}
-use Rattle.gimli_read.proofs.TopmostLemmas.{filter-filter}
 use Rattle.addr2line_lines.proofs.SeekLemmas.{Up}
 use Rattle.addr2line_lines.proofs.StoredRangeLemmas.{images_sorted}
 

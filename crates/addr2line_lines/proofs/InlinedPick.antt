@@ -1,19 +1,8 @@
 -- The search among the ranges of inlined entries in order (on specs/InlinedOrder.antt).
-use Rattle.std.proofs.Common.{ℕ, ◌≡◌, ◌+◌, ◌-◌, ◌<◌, ◌≤◌, ◌&&◌, ◌||◌, ◌==◌, Bool, true, false, cond, nat_cmp, nat_le, nat_lt, leb, List, [], ◌∷◌, length, get_or, Option, Some, None, arith, zero, suc, ◌∙◌, ap, sym, subst, refl}
-use Rattle.std.specs.List.{AllByRecursion, AllWithin, filter}
-use Rattle.std.specs.List.Sorted.{IsPartitionPoint, IsPartitionedBy}
+use Rattle.addr2line_lines.proofs.Common.{ℕ, ◌≡◌, ◌+◌, ◌-◌, ◌<◌, ◌≤◌, ◌&&◌, ◌||◌, ◌==◌, Bool, true, false, cond, nat_cmp, nat_le, nat_lt, leb, List, [], ◌∷◌, length, get_or, Option, Some, None, arith, zero, suc, ◌∙◌, ap, sym, subst, refl, AllByRecursion, AllWithin, IsPartitionPoint, IsPartitionedBy, is_lt, ordering_then, nat_tests, get_or_default, All-from_recursion, last, InlinedFunctionAddress, IsInOrder, begins_sooner, inlined_sooner, inlined_place, place_at, place_begin, place_end, places_of_depth, places_within, candidate, if_past, filter-filter}
+use Rattle.std.specs.List.{filter}
 use Rattle.std.specs.Option.{option_and_then, option_map}
-use Rattle.std.specs.Ordering.{is_lt, ordering_then}
-use Rattle.std.proofs.lemmas.Bool.Decides.{nat_tests}
-use Rattle.std.proofs.lemmas.List.{get_or_default}
-use Rattle.std.proofs.lemmas.List.Elements.{All-from_recursion}
-use Rattle.gimli_read.specs.Topmost.{last}
-use Rattle.addr2line_lines.specs.declared.picks.InlinedFunctionAddress.{InlinedFunctionAddress}
-use Rattle.addr2line_lines.specs.InOrder.{IsInOrder, begins_sooner}
-use Rattle.addr2line_lines.specs.InlinedOrder.{inlined_sooner, inlined_place, place_at, place_begin, place_end, places_of_depth, places_within}
-use Rattle.addr2line_lines.specs.Pick.{candidate, if_past}
 use Rattle.addr2line_lines.proofs.OrderPick.{candidate_ordered}
-use Rattle.gimli_read.proofs.TopmostLemmas.{filter-filter}
 use Rattle.addr2line_lines.proofs.SearchLemmas.{last_is_at, last_none}
 
 -- no element of a list in order is sooner than one before it

@@ -1,35 +1,13 @@
 -- The items around an item (on specs/ItemsAround.antt).
-use Rattle.std.proofs.Common.{◌≡◌, ℕ, zero, suc, ◌+◌, ◌-◌, ◌<◌, ◌≤◌, ◌==◌, ◌||◌, Bool, true, false, cond, drop, filter, List, [], ◌∷◌, ◌++◌, length, Option, Some, None, Result, Ok, Err, is_ok, refl, sym, ap, subst, ◌∙◌, arith, ℤ, pos, negsuc, append-nil, append_assoc, length-append, length-drop, nat_lt, ◌&&◌, count_by}
-use Rattle.std.specs.Prelude.{find, int_lt, ◌+ℤ◌}
-use Rattle.std.specs.List.{All, AllByRecursion, cons_option}
+use Rattle.addr2line_lines.proofs.Common.{◌≡◌, ℕ, zero, suc, ◌+◌, ◌-◌, ◌<◌, ◌≤◌, ◌==◌, ◌||◌, Bool, true, false, cond, drop, filter, List, [], ◌∷◌, ◌++◌, length, Option, Some, None, Result, Ok, Err, is_ok, refl, sym, ap, subst, ◌∙◌, arith, ℤ, pos, negsuc, append-nil, append_assoc, length-append, length-drop, nat_lt, ◌&&◌, count_by, int_lt, ◌+ℤ◌, All, AllByRecursion, cons_option, nat_tests, length-filter, All-append, All-from_recursion, All-map, Error, NoEntryAtGivenOffset, OffsetOutOfBounds, UnexpectedEof, Range, Abbrev, free, Reading, ◌>>=◌, Run, cons, fold_run, Section, entry_bytes_from, entry_unit, unit_length, EntryUnit, Entry, Item, depth_after, depth_behind, item_at, items_after, items_at, items_from, items_inside, items_within, offset_of, subtree_of, UnitRecord, Detail, PlacedItem, WholeEntry, detail_at, stored_detail_at, first_whole, inlined_in, is_in_function, open_after, placed_items, whole_entry_at, with_inlined, with_inlined_entry, InlinedRange, inlined_attributes_of, inlined_entry, inlined_ranges, is_inlined, name_of, attribute_ranges, Scope, or_left, text_some}
+use Rattle.std.specs.Prelude.{find}
 use Rattle.std.specs.Option.{option_map}
 use Rattle.std.proofs.lemmas.Int.{ints}
-use Rattle.std.proofs.lemmas.Bool.Decides.{nat_tests}
-use Rattle.std.proofs.lemmas.List.Sums.{length-filter}
-use Rattle.std.proofs.lemmas.List.Elements.{All-append, All-from_recursion, All-map}
-use Rattle.gimli_read.specs.declared.error.Error.{Error}
-use Rattle.gimli_read.specs.declared.error.Error.TheVariants.{NoEntryAtGivenOffset, OffsetOutOfBounds, UnexpectedEof}
-use Rattle.gimli_read.specs.declared.range.Range.{Range}
-use Rattle.gimli_read.specs.Abbreviations.{Abbrev}
-use Rattle.gimli_read.specs.Costed.{free}
-use Rattle.gimli_read.specs.Reading.{Reading, ◌>>=◌}
-use Rattle.gimli_read.specs.Run.{Run, cons, fold_run}
-use Rattle.gimli_read.specs.Section.{Section, after as section_after}
+use Rattle.gimli_read.specs.Section.{after as section_after}
 use Rattle.gimli_read.proofs.Steps.{bind_ok, same_value}
-use Rattle.gimli.specs.Entries.{entry_bytes_from, entry_unit, unit_length}
-use Rattle.gimli.specs.Entry.{EntryUnit}
-use Rattle.gimli.specs.Items.{Entry, Item, depth_after, depth_behind, item_at, items_after, items_at, items_from, items_inside, items_within, offset_of, subtree_of}
-use Rattle.gimli.specs.Unit.{UnitRecord}
 use Rattle.gimli.proofs.ItemTexts.{item_text}
-use Rattle.addr2line_lines.specs.Details.{Detail, PlacedItem, WholeEntry, detail_at, stored_detail_at, first_whole, inlined_in, is_in_function, open_after, placed_items, whole_entry_at, with_inlined, with_inlined_entry}
-use Rattle.addr2line_lines.specs.InlinedEntries.{InlinedRange, inlined_attributes_of, inlined_entry, inlined_ranges, is_inlined}
 use Rattle.addr2line_lines.specs.ItemsAround.{DepthsAreNumbers, InsideIsRead, OpenAreAround, abbreviations_of, have_item, inlined_depth, is_inlined_item, items_around, items_inside_at, nearest_inlined}
-use Rattle.addr2line_lines.specs.Names.{name_of}
-use Rattle.addr2line_lines.specs.RangeAttributes.{attribute_ranges}
-use Rattle.addr2line_lines.specs.References.{Scope}
 use Rattle.addr2line_lines.proofs.WholeEntries.{detail_of}
-use Rattle.std.proofs.lemmas.Bool.{or_left}
-use Rattle.gimli.proofs.ItemReads.{text_some}
 
 -- items one after another: each lies at the depth after the one before, and begins after it
 abbrev pub IsWalk : ℕ → ℤ → List Item → Type 0

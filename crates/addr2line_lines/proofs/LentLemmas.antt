@@ -1,7 +1,5 @@
 -- What a slice lends of the element of a place.
-use Rattle.std.proofs.Common.{◌≡◌, ℕ, ◌<◌, ◌≤◌, List, Option, Some, None, Bor, get_or, length, map, option_map, slice_get, refl, ap, sym, ◌∙◌, rules}
-use Rattle.std.proofs.lemmas.Option.{slice_get-map, slice_get_past, slice_get_read}
-use Rattle.std.specs.Option.{option_copied}
+use Rattle.addr2line_lines.proofs.Common.{◌≡◌, ℕ, ◌<◌, ◌≤◌, List, Option, Some, None, Bor, get_or, length, map, option_map, slice_get, refl, ap, sym, ◌∙◌, rules, slice_get-map, slice_get_past, slice_get_read, option_copied}
 use Rattle.std.specs.Slice.{IsItemAt}
 
 -- the element that is lent is that of the list there

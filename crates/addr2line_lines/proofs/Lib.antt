@@ -1,3 +1,4 @@
+pub mod Common
 pub mod PickLemmas
 pub mod OrderLemmas
 pub mod OrderPick

@@ -1,18 +1,6 @@
 -- The functions are the entries that have a range, each once (on specs/FunctionTable.antt).
-use Rattle.std.proofs.Common.{◌≡◌, ℕ, ◌<◌, ◌==◌, Bool, true, false, cond, List, [], ◌∷◌, ◌++◌, map, Result, refl, ap, sym, ◌∙◌, arith}
-use Rattle.std.specs.List.{All, AllByRecursion, AllZip}
-use Rattle.std.proofs.lemmas.Bool.Decides.{nat_tests}
-use Rattle.std.proofs.lemmas.List.Elements.{All-head, All-tail}
-use Rattle.gimli_read.specs.declared.error.Error.{Error}
-use Rattle.gimli_read.specs.declared.range.Range.{Range}
-use Rattle.gimli_read.specs.declared.value.UnitOffset.{UnitOffset}
-use Rattle.gimli.specs.Unit.{UnitRecord}
-use Rattle.addr2line_lines.specs.declared.segments.FunctionAddress.{FunctionAddress}
-use Rattle.addr2line_lines.specs.FoundFunctions.{IsPlaceIn, function_range_of}
-use Rattle.addr2line_lines.specs.Functions.{FunctionRange, entries_of, once_before}
-use Rattle.addr2line_lines.specs.FunctionTable.{AreListed, CachedFunction, FunctionTable}
+use Rattle.addr2line_lines.proofs.Common.{◌≡◌, ℕ, ◌<◌, ◌==◌, Bool, true, false, cond, List, [], ◌∷◌, ◌++◌, map, Result, refl, ap, sym, ◌∙◌, arith, All, AllByRecursion, AllZip, nat_tests, All-head, All-tail, Error, Range, UnitOffset, UnitRecord, FunctionAddress, IsPlaceIn, function_range_of, FunctionRange, entries_of, once_before, AreListed, CachedFunction, FunctionTable, Scope}
 use Rattle.addr2line_lines.specs.FunctionDetails.{IsFunctionMore, IsReadAt, IsTableMore}
-use Rattle.addr2line_lines.specs.References.{Scope}
 use Rattle.addr2line_lines.proofs.ReadLemmas.{read_more}
 
 -- a range of an entry

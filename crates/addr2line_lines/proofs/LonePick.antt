@@ -1,12 +1,7 @@
 -- A range beside all others is picked where it holds the probe (on specs/Pick.antt).
-use Rattle.std.proofs.Common.{ℕ, ◌≡◌, ◌<◌, ◌≤◌, ◌⊎◌, ◌&&◌, ◌==◌, true, cond, nat_lt, List, [], ◌∷◌, length, slice_index_or, Some, None, zero, suc, arith, inl, inr, ◌∙◌, ap, subst, refl}
-use Rattle.std.specs.List.{filter, AllByRecursion}
+use Rattle.addr2line_lines.proofs.Common.{ℕ, ◌≡◌, ◌<◌, ◌≤◌, ◌⊎◌, ◌&&◌, ◌==◌, true, cond, nat_lt, List, [], ◌∷◌, length, slice_index_or, Some, None, zero, suc, arith, inl, inr, ◌∙◌, ap, subst, refl, AllByRecursion, nat_tests, recursion_from_All, last, if_past, IsDisjoint, LoneIsPicked, In, In-passes, All-passing}
+use Rattle.std.specs.List.{filter}
 use Rattle.std.specs.Option.{option_and_then}
-use Rattle.std.proofs.lemmas.Bool.Decides.{nat_tests}
-use Rattle.std.proofs.lemmas.List.Elements.{recursion_from_All}
-use Rattle.gimli_read.specs.Topmost.{last}
-use Rattle.addr2line_lines.specs.Pick.{if_past, IsDisjoint, LoneIsPicked}
-use Rattle.gimli_read.proofs.TopmostLemmas.{In, In-passes, All-passing}
 use Rattle.addr2line_lines.proofs.PickLemmas.{IsBefore, same_ends, counting_is}
 
 module _ {X : Type 0} where

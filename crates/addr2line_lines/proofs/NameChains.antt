@@ -1,10 +1,6 @@
 -- What chains of entries give (on specs/NameChains.antt).
-use Rattle.std.proofs.Common.{ℕ, ◌≡◌, ◌+◌, ◌-◌, List, [], ◌∷◌, length, Option, Some, None, Result, Ok, arith, ap, refl, ◌∙◌}
-use Rattle.gimli_read.specs.declared.error.Error.{Error}
-use Rattle.gimli_read.specs.Section.{Section}
+use Rattle.addr2line_lines.proofs.Common.{ℕ, ◌≡◌, ◌+◌, ◌-◌, List, [], ◌∷◌, length, Option, Some, None, Result, Ok, arith, ap, refl, ◌∙◌, Error, Section, name_within, EntryPlace}
 use Rattle.addr2line_lines.specs.NameChains.{ChainGivesName, IsChain, LongChainGivesNone, Reference}
-use Rattle.addr2line_lines.specs.Names.{name_within}
-use Rattle.addr2line_lines.specs.References.{EntryPlace}
 use Rattle.addr2line_lines.proofs.NameLemmas.{within_place, within_zero}
 
 -- the name by a reference, and at most n - 1 more

@@ -1,25 +1,8 @@
 -- What attributes say of names (on specs/Names.antt).
-use Rattle.std.proofs.Common.{ℕ, ◌+◌, ◌≡◌, ◌≢◌, ◌==◌, ◌||◌, Bool, true, false, cond, List, Option, Some, None, is_some, option_map, Result, Ok, Err, add-one, arith, refl, ap, ◌∙◌, ℤ, pos}
-use Rattle.std.specs.Option.{option_or}
+use Rattle.addr2line_lines.proofs.Common.{ℕ, ◌+◌, ◌≡◌, ◌≢◌, ◌==◌, ◌||◌, Bool, true, false, cond, List, Option, Some, None, is_some, option_map, Result, Ok, Err, add-one, arith, refl, ap, ◌∙◌, ℤ, pos, option_or, nat_tests, DW_AT_name, Error, OutOfMemory, AttributeValue, Abbrev, Specification, NamedValue, seen_value, Reading, ExactlyUnlessOomIf, ◌>>=◌, Section, entry_bytes_from, entry_code_at, EntriesLeft, EntryCursor, depth_after_code, entries_at, entries_from, entry_abbreviation_at, UnitRecord, attr_string_of, is_name_attribute, seen_name_or_origin, with_linkage, NameOrOrigin, entry_specifications, is_linkage_name, is_origin, linkage_name_of, name_within, named_at, no_name, or_referred_name, readable, referred_name, visited, with_name, with_name_or_origin, EntryPlace, Scope, referred}
 use Rattle.std.specs.Result.{result_ok}
-use Rattle.std.proofs.lemmas.Bool.Decides.{nat_tests}
-use Rattle.gimli_read.specs.declared.constants.TheConstants.DwAt.{DW_AT_name}
-use Rattle.gimli_read.specs.declared.error.Error.{Error}
-use Rattle.gimli_read.specs.declared.error.Error.TheVariants.{OutOfMemory}
-use Rattle.gimli_read.specs.declared.value.AttributeValue.{AttributeValue}
-use Rattle.gimli_read.specs.Abbreviations.{Abbrev, Specification}
-use Rattle.gimli_read.specs.Form.{NamedValue, seen_value}
-use Rattle.gimli_read.specs.Reading.{Reading, ExactlyUnlessOomIf, ◌>>=◌}
-use Rattle.gimli_read.specs.Section.{Section}
-use Rattle.gimli.specs.Entries.{entry_bytes_from}
-use Rattle.gimli.specs.Entry.{entry_code_at}
-use Rattle.gimli.specs.EntryCursor.{EntriesLeft, EntryCursor, depth_after_code, entries_at, entries_from, entry_abbreviation_at}
-use Rattle.gimli.specs.Unit.{UnitRecord, attr_string_of}
 use Rattle.gimli.proofs.WantedLemmas.{PassesOver}
 use Rattle.addr2line_lines.specs.declared.name.NameOrOrigin.{NameOrOrigin as NameOrOriginOf}
-use Rattle.addr2line_lines.specs.FoundNames.{is_name_attribute, seen_name_or_origin, with_linkage}
-use Rattle.addr2line_lines.specs.Names.{NameOrOrigin, entry_specifications, is_linkage_name, is_origin, linkage_name_of, name_within, named_at, no_name, or_referred_name, readable, referred_name, visited, with_name, with_name_or_origin}
-use Rattle.addr2line_lines.specs.References.{EntryPlace, Scope, referred}
 
 -- a string that can't be read is none
 pub unreadable : (s : Scope) (u : UnitRecord) (v : AttributeValue Section) (may ok : Type 0) (e : Error) → (e ≡ OutOfMemory → ⊥) → ((may → ok → e ≢ OutOfMemory) → attr_string_of s.file.sections u v ≡ Err e) → readable s u v ≡ None

@@ -1,18 +1,11 @@
 -- The chain of nested inlined entries (on specs/NestedInlined.antt).
-use Rattle.std.proofs.Common.{ℕ, ◌≡◌, ◌+◌, ◌-◌, ◌<◌, ◌≤◌, ◌⊎◌, ◌&&◌, ◌==◌, Bool, true, false, cond, max, nat_le, nat_lt, List, [], ◌∷◌, length, slice_index_or, Option, Some, None, zero, suc, arith, inl, inr, ◌∙◌, ap, sym, refl, subst}
-use Rattle.std.specs.List.{All, Contains, filter, slice_get}
+use Rattle.addr2line_lines.proofs.Common.{ℕ, ◌≡◌, ◌+◌, ◌-◌, ◌<◌, ◌≤◌, ◌⊎◌, ◌&&◌, ◌==◌, Bool, true, false, cond, max, nat_le, nat_lt, List, [], ◌∷◌, length, slice_index_or, Option, Some, None, zero, suc, arith, inl, inr, ◌∙◌, ap, sym, refl, subst, All, Contains, cases_lt, nat_tests, All-contains, All-contains_itself, greatest, topmost, InlinedEntry, InlinedRange, IsDisjoint, at_or_below, candidate, if_past, pick, In, In-filter, In-last, In-passes, All-passing}
+use Rattle.std.specs.List.{filter, slice_get}
 use Rattle.std.specs.Option.{option_and_then}
-use Rattle.std.proofs.lemmas.Bool.{cases_lt}
-use Rattle.std.proofs.lemmas.Bool.Decides.{nat_tests}
-use Rattle.std.proofs.lemmas.List.Elements.{All-contains, All-contains_itself}
-use Rattle.gimli_read.specs.Topmost.{greatest, topmost}
-use Rattle.addr2line_lines.specs.InlinedEntries.{InlinedEntry, InlinedRange}
 use Rattle.addr2line_lines.specs.InlinedChain.{inlined_at, inlined_begin, inlined_end, inlined_within, of_depth}
 use Rattle.addr2line_lines.specs.NestedInlined.{ChainBeginsOutermost, ChainIsWhole, AreInEachOther, AreNested, IsAlone, IsFirstOutermost, IsHeldAround, IsNearest, IsNestedChain, IsOneAround, IsHeldByListed, NestedChain, NestedInFunction, inlined_holds}
-use Rattle.addr2line_lines.specs.Pick.{IsDisjoint, at_or_below, candidate, if_past, pick}
 use Rattle.addr2line_lines.proofs.ItemsAround.{IsListed, all_listed, nearest_depth, none_nearest}
 use Rattle.addr2line_lines.proofs.LonePick.{from_contains, lone_is_picked}
-use Rattle.gimli_read.proofs.TopmostLemmas.{In, In-filter, In-last, In-passes, All-passing}
 
 module _ {X : Type 0} where
   -- an element has a place

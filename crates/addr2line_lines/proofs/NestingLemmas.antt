@@ -1,41 +1,15 @@
 -- The entries that are open, one at a time (on specs/OpenEntries.antt and specs/FoundItems.antt).
-use Rattle.std.proofs.Common.{◌≡◌, ℕ, ◌<◌, ◌≤◌, ◌==◌, ◌&&◌, ◌||◌, Bool, true, false, is_ok, cond, List, [], ◌∷◌, ◌++◌, count_by, length, length-append, map, reverse, Option, Some, None, Result, Ok, Err, OnErr, OnOk, refl, ap, subst, sym, arith, ◌∙◌, append-nil, append_assoc, ℤ, pos}
-use Rattle.std.specs.Prelude.{int_lt}
-use Rattle.std.proofs.lemmas.Bool.{eqb-true, ne_eqb}
-use Rattle.std.proofs.lemmas.Grind.{common_steps}
-use Rattle.std.proofs.lemmas.List.{reverse-append}
-use Rattle.gimli_read.specs.declared.error.Error.{Error}
-use Rattle.gimli_read.specs.declared.error.Error.TheVariants.{OutOfMemory, UnexpectedEof}
-use Rattle.gimli_read.specs.Abbreviations.{Abbrev, with_code}
-use Rattle.gimli_read.specs.Form.{NamedValue, rest_of}
-use Rattle.gimli_read.specs.Costed.{Costed, ◌>>=◌, free}
-use Rattle.gimli_read.specs.Reading.{Reading, ExactlyUnlessOomIf}
+use Rattle.addr2line_lines.proofs.Common.{◌≡◌, ℕ, ◌<◌, ◌≤◌, ◌==◌, ◌&&◌, ◌||◌, Bool, true, false, is_ok, cond, List, [], ◌∷◌, ◌++◌, count_by, length, length-append, map, reverse, Option, Some, None, Result, Ok, Err, OnErr, OnOk, refl, ap, subst, sym, arith, ◌∙◌, append-nil, append_assoc, ℤ, pos, int_lt, eqb-true, ne_eqb, common_steps, reverse-append, Error, OutOfMemory, UnexpectedEof, Abbrev, with_code, NamedValue, rest_of, Costed, free, Reading, ExactlyUnlessOomIf, Run, cons, fold_run, Section, entry_bytes_from, EntryUnit, attributes_at, depth_after_closing, Item, depth_after, items_inside, EntriesLeft, EntryCursor, entries_at, entries_from, entry_abbreviation_at, items_left, next_item_at, next_offset_of, UnitRecord, items_end, items_fault, items_more, Kind, FoundInlined, IsFoundMore, inlined_address, inlined_more, with_inlined_found, with_inlined_ranges, name_after, InlinedAttributes, inlined_entry, attribute_ranges, Range, Sections, InlinedFunctionAddress, Scope}
+use Rattle.gimli_read.specs.Costed.{◌>>=◌}
 use Rattle.gimli_read.specs.Reading as reading
-use Rattle.gimli_read.specs.Run.{Run, cons, fold_run}
-use Rattle.gimli_read.specs.Section.{Section}
-use Rattle.gimli.specs.Entries.{entry_bytes_from}
-use Rattle.gimli.specs.Entry.{EntryUnit, attributes_at, depth_after_closing}
-use Rattle.gimli.specs.Items.{Item, depth_after, items_inside}
-use Rattle.gimli.specs.EntryCursor.{EntriesLeft, EntryCursor, entries_at, entries_from, entry_abbreviation_at, items_left, next_item_at, next_offset_of}
 use Rattle.gimli.proofs.CursorLemmas.{abbreviation_is, item_from, item_is, item_here, opening_entry}
-use Rattle.gimli.specs.Unit.{UnitRecord}
 use Rattle.gimli.proofs.EntryLemmas.{abbreviation_takes}
 use Rattle.gimli.proofs.ItemLemmas.{next_is}
-use Rattle.gimli.proofs.ItemReads.{items_end, items_fault, items_more}
-use Rattle.addr2line_lines.specs.declared.nesting.Kind.{Kind}
 use Rattle.addr2line_lines.specs.FoundItems.{FoundAround, entry_found_at, inside_found, item_found_at, with_entry_found, with_item_found}
-use Rattle.addr2line_lines.specs.FoundInlined.{FoundInlined, IsFoundMore, inlined_address, inlined_more, with_inlined_found, with_inlined_ranges}
 use Rattle.addr2line_lines.specs.CostedSteps.{fold_at_cost, map_at_cost, then_room_if}
 use Rattle.addr2line_lines.specs.Grown.{IsGrown}
 use Rattle.addr2line_lines.specs.FoundDetails.{abbreviation_of, detail_found_at, function_found_at}
 use Rattle.addr2line_lines.specs.OpenEntries.{closed_once, kind_of, opened}
-use Rattle.addr2line_lines.specs.FoundNames.{name_after}
-use Rattle.addr2line_lines.specs.InlinedEntries.{InlinedAttributes, inlined_entry}
-use Rattle.addr2line_lines.specs.RangeAttributes.{attribute_ranges}
-use Rattle.gimli_read.specs.declared.range.Range.{Range}
-use Rattle.gimli.specs.Sections.{Sections}
-use Rattle.addr2line_lines.specs.declared.picks.InlinedFunctionAddress.{InlinedFunctionAddress}
-use Rattle.addr2line_lines.specs.References.{Scope}
 use Rattle.addr2line_lines.proofs.CostLemmas.{IsPartOf, IsRestOf, first_part, made_part, part_on, rest_map, rest_next, rest_on, rest_part}
 use Rattle.addr2line_lines.proofs.DetailLemmas.{empty_code, entry-rest}
 use Rattle.addr2line_lines.proofs.FunctionLemmas.{closing_shorter, entry_shorter}

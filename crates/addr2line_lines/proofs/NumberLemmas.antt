@@ -1,31 +1,15 @@
 -- Numbers among the attributes of inlined entries (on specs/FoundNumbers.antt).
-use Rattle.std.proofs.Common.{◌≡◌, ℕ, ◌==◌, ◌||◌, Bool, true, false, Option, Some, None, Result, Ok, refl, ap, subst, ◌∙◌, pos, negsuc}
-use Rattle.std.specs.Option.{option_or}
+use Rattle.addr2line_lines.proofs.Common.{◌≡◌, ℕ, ◌==◌, ◌||◌, Bool, true, false, Option, Some, None, Result, Ok, refl, ap, subst, ◌∙◌, pos, negsuc, option_or, DW_AT_abstract_origin, DW_AT_high_pc, DW_AT_low_pc, DW_AT_ranges, DW_AT_specification, Error, AttributeValue, UnitOffset, NamedValue, constant_of, ◌>>=◌, Section, Sections, UnitRecord, RangeAttributes, InlinedAttributes, with_call_constant, with_inlined_attribute, is_origin, or_referred_name, with_name, attr_address, with_range_attribute, Scope, referred, or_parts}
 use Rattle.gimli_read.specs.declared.constants.DwAt.{DwAt}
-use Rattle.gimli_read.specs.declared.constants.TheConstants.DwAt.{DW_AT_abstract_origin, DW_AT_high_pc, DW_AT_low_pc, DW_AT_ranges, DW_AT_specification}
-use Rattle.gimli_read.specs.declared.error.Error.{Error}
 use Rattle.gimli_read.specs.declared.number_value.NumberValue.{NumberValue}
 use Rattle.gimli_read.specs.declared.number_value.NumberValue.TheVariants as numbers
-use Rattle.gimli_read.specs.declared.value.AttributeValue.{AttributeValue}
 use Rattle.gimli_read.specs.declared.value.AttributeValue.TheVariants as values
-use Rattle.gimli_read.specs.declared.value.UnitOffset.{UnitOffset}
-use Rattle.gimli_read.specs.Form.{NamedValue, constant_of}
 use Rattle.gimli_read.specs.NumberValue.{number_address, number_constant, number_if}
-use Rattle.gimli_read.specs.Reading.{◌>>=◌}
-use Rattle.gimli_read.specs.Section.{Section}
-use Rattle.gimli.specs.Sections.{Sections}
-use Rattle.gimli.specs.Unit.{UnitRecord}
-use Rattle.addr2line_lines.specs.declared.function.RangeAttributes.{RangeAttributes}
-use Rattle.addr2line_lines.specs.InlinedEntries.{InlinedAttributes, with_call_constant, with_inlined_attribute}
 use Rattle.addr2line_lines.specs.FoundAttributes.{is_call}
 use Rattle.addr2line_lines.specs.FoundNumbers.{is_number_name, with_range_number}
 use Rattle.addr2line_lines.specs.FoundRanges.{is_address_name, is_range_name}
-use Rattle.addr2line_lines.specs.Names.{is_origin, or_referred_name, with_name}
-use Rattle.addr2line_lines.specs.RangeAttributes.{attr_address, with_range_attribute}
-use Rattle.addr2line_lines.specs.References.{Scope, referred}
 use Rattle.addr2line_lines.proofs.DetailLemmas.{by_one_of, by_range_name, call_taken, name_taken, ranges_taken}
 use Rattle.addr2line_lines.proofs.NameLemmas.{within_none}
-use Rattle.std.proofs.lemmas.Bool.{or_parts}
 use Rattle.gimli_read.proofs.AttributeTexts.{attribute_of}
 
 -- what holds of each value that is a number

@@ -1,13 +1,8 @@
 -- A stable sort has one result, and that is in order (on specs/InOrder.antt).
-use Rattle.std.proofs.Common.{ℕ, ◌≡◌, ◌<◌, ◌≤◌, Bool, true, false, cond, not, ◌&&◌, List, [], ◌∷◌, length, arith, inl, inr, ◌∙◌, subst, ap, sym, refl, suc}
+use Rattle.addr2line_lines.proofs.Common.{ℕ, ◌≡◌, ◌<◌, ◌≤◌, Bool, true, false, cond, not, ◌&&◌, List, [], ◌∷◌, length, arith, inl, inr, ◌∙◌, subst, ap, sym, refl, suc, AllByRecursion, IsSortedBy, IsStableBy, ties, sorted_far, ranks_by, recursion_from_All, put, in_order, begins_sooner, IsInOrder, In, In-filter}
 use Rattle.std.specs.Cmp.{IsStrictWeakOrder}
-use Rattle.std.specs.List.{filter, AllByRecursion}
-use Rattle.std.specs.List.Sorted.{IsSortedBy, IsStableBy, ties}
-use Rattle.std.proofs.lemmas.List.Sorted.{sorted_far, ranks_by}
-use Rattle.std.proofs.lemmas.List.Elements.{recursion_from_All}
+use Rattle.std.specs.List.{filter}
 use Rattle.std.proofs.lemmas.Cmp.{on_total, then_total, nat_cmp_total}
-use Rattle.addr2line_lines.specs.InOrder.{put, in_order, begins_sooner, IsInOrder}
-use Rattle.gimli_read.proofs.TopmostLemmas.{In, In-filter}
 use lib.ListN.{get_or}
 
 -- what holds of all elements holds of each

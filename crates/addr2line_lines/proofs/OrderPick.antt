@@ -1,16 +1,7 @@
 -- What counts among ranges in order (on specs/Pick.antt and specs/InOrder.antt).
-use Rattle.std.proofs.Common.{ℕ, ◌≡◌, ◌<◌, ◌≤◌, ◌⊎◌, Bool, true, false, cond, not, ◌&&◌, ◌==◌, nat_cmp, nat_le, List, [], ◌∷◌, Some, None, arith, inl, inr, ◌∙◌, ap, sym, refl}
-use Rattle.std.specs.Ordering.{is_lt, ordering_then}
-use Rattle.std.specs.List.{filter, AllByRecursion}
-use Rattle.std.specs.List.Sorted.{ties}
+use Rattle.addr2line_lines.proofs.Common.{ℕ, ◌≡◌, ◌<◌, ◌≤◌, ◌⊎◌, Bool, true, false, cond, not, ◌&&◌, ◌==◌, nat_cmp, nat_le, List, [], ◌∷◌, Some, None, arith, inl, inr, ◌∙◌, ap, sym, refl, is_lt, ordering_then, AllByRecursion, ties, cases_lt, nat_tests, All-from_recursion, filter_agree, in_order, begins_sooner, IsInOrder, OrderIsFree, last, at_or_below, candidate, if_past, In-filter, In-last, last-cond}
+use Rattle.std.specs.List.{filter}
 use Rattle.std.specs.Option.{option_and_then}
-use Rattle.std.proofs.lemmas.Bool.{cases_lt}
-use Rattle.std.proofs.lemmas.Bool.Decides.{nat_tests}
-use Rattle.std.proofs.lemmas.List.Elements.{All-from_recursion, filter_agree}
-use Rattle.addr2line_lines.specs.InOrder.{in_order, begins_sooner, IsInOrder, OrderIsFree}
-use Rattle.gimli_read.specs.Topmost.{last}
-use Rattle.addr2line_lines.specs.Pick.{at_or_below, candidate, if_past}
-use Rattle.gimli_read.proofs.TopmostLemmas.{In-filter, In-last, last-cond}
 use Rattle.addr2line_lines.proofs.PickLemmas.{IsBefore, same_ends, beginning_none, counting_is, counting_none}
 use Rattle.addr2line_lines.proofs.OrderLemmas.{in_order_all_back, in_order_ordered, in_order_ties, begins_order, All-in}
 

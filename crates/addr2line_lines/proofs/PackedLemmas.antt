@@ -1,19 +1,9 @@
 -- Sequences among the rows of a unit (on specs/Packed.antt).
-use Rattle.std.proofs.Common.{ℕ, ◌≡◌, ◌+◌, ◌-◌, ◌<◌, ◌≤◌, Bool, true, false, cond, List, [], ◌∷◌, ◌++◌, map, length, take, drop, get_or, nat_le, arith, ◌∙◌, ap, sym, refl, zero, suc}
-use Rattle.std.specs.List.{AllByRecursion}
+use Rattle.addr2line_lines.proofs.Common.{ℕ, ◌≡◌, ◌+◌, ◌-◌, ◌<◌, ◌≤◌, Bool, true, false, cond, List, [], ◌∷◌, ◌++◌, map, length, take, drop, get_or, nat_le, arith, ◌∙◌, ap, sym, refl, zero, suc, AllByRecursion, take-take, length-take-le, get_or-take, get_or-drop, All-get_or, All-from_recursion, last, Row, LineSequence, sum_by-cons, put, in_order, begins_sooner, IsInOrder, at_or_below, Sequence, start_of, end_of, IsAmong, RowsEndBy, packed_rows_in, row_address_at, packed_start, packed_sooner, unpacked}
 use Rattle.std.specs.Option.{option_map}
-use Rattle.std.proofs.lemmas.List.{take-take, length-take-le, length-drop, get_or-take, get_or-drop}
-use Rattle.std.proofs.lemmas.List.Elements.{All-get_or, All-from_recursion}
-use Rattle.gimli_read.specs.Topmost.{last}
-use Rattle.addr2line_lines.specs.declared.row.Row.{Row}
-use Rattle.addr2line_lines.specs.declared.sequence.LineSequence.{LineSequence}
-use Rattle.std.proofs.lemmas.List.Sums.{sum_by-cons}
+use Rattle.std.proofs.lemmas.List.{length-drop}
 use Rattle.addr2line_lines.specs.Counts.{rows_in}
-use Rattle.addr2line_lines.specs.InOrder.{put, in_order, begins_sooner, IsInOrder}
-use Rattle.addr2line_lines.specs.Pick.{at_or_below}
-use Rattle.addr2line_lines.specs.Sequences.{Sequence, start_of, end_of}
 use Rattle.addr2line_lines.specs.Rises.{Climbs, IsRising, StartsAt}
-use Rattle.addr2line_lines.specs.Packed.{IsAmong, RowsEndBy, packed_rows_in, row_address_at, packed_start, packed_sooner, unpacked}
 
 -- what stands before place n stays where that stays
 cut_inside : (first len n : ℕ) (xs : List Row) → first + len ≤ n → take len (drop first (take n xs)) ≡ take len (drop first xs)

@@ -1,11 +1,6 @@
 -- What decides which range counts (on specs/Pick.antt).
-use Rattle.std.proofs.Common.{ℕ, ◌≡◌, ◌<◌, ◌≤◌, ◌⊎◌, Bool, false, cond, ◌&&◌, List, [], ◌∷◌, Some, None, nat_le, ◌==◌, arith, inl, inr, ◌∙◌, ap, refl}
-use Rattle.std.specs.List.{filter, All}
-use Rattle.std.proofs.lemmas.List.Elements.{All-head, All-tail, filter_agree}
-use Rattle.std.proofs.lemmas.Bool.Decides.{nat_tests}
-use Rattle.gimli_read.specs.Topmost.{greatest, topmost, last}
-use Rattle.gimli_read.proofs.TopmostLemmas.{In, In-last, In-filter, In-passes, All-passing, filter-filter, greatest_is}
-use Rattle.addr2line_lines.specs.Pick.{at_or_below, candidate}
+use Rattle.addr2line_lines.proofs.Common.{ℕ, ◌≡◌, ◌<◌, ◌≤◌, ◌⊎◌, Bool, false, cond, ◌&&◌, List, [], ◌∷◌, Some, None, nat_le, ◌==◌, arith, inl, inr, ◌∙◌, ap, refl, All, All-head, All-tail, filter_agree, nat_tests, greatest, topmost, last, In, In-last, In-filter, In-passes, All-passing, filter-filter, greatest_is, at_or_below, candidate}
+use Rattle.std.specs.List.{filter}
 
 module _ {X : Type 0} (begin end : X → ℕ) where
   -- x begins before z, or with z and ends no later

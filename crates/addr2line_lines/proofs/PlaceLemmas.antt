@@ -1,7 +1,5 @@
 -- Elements of lists by their places, and lists of which one element is replaced.
-use Rattle.std.proofs.Common.{◌≡◌, ℕ, ◌<◌, ◌≤◌, ◌⊎◌, List, [], ◌∷◌, drop, length, slice_get, slice_set, take, Some, refl, ap, sym, subst, ◌∙◌, arith, inl, inr, zero, suc}
-use Rattle.std.specs.List.{AllByRecursion}
-use Rattle.std.proofs.lemmas.Bool.{cases_eq}
+use Rattle.addr2line_lines.proofs.Common.{◌≡◌, ℕ, ◌<◌, ◌≤◌, ◌⊎◌, List, [], ◌∷◌, drop, length, slice_get, slice_set, take, Some, refl, ap, sym, subst, ◌∙◌, arith, inl, inr, zero, suc, AllByRecursion, cases_eq}
 
 -- what holds of all holds at a place
 pub all_at : {X : Type 0} (P : X → Type 0) (xs : List X) (n : ℕ) (x : X) → AllByRecursion P xs → slice_get xs n ≡ Some x → P x

@@ -1,15 +1,6 @@
 -- The lines of a program, of its rows and its files (on specs/UnitLines.antt).
-use Rattle.std.proofs.Common.{◌≡◌, ℕ, ◌++◌, List, [], ◌∷◌, Option, Some, None, Result, Ok, Err, sym, ap, ◌∙◌}
-use Rattle.gimli_read.specs.declared.error.Error.{Error}
-use Rattle.gimli_read.specs.Reading.{◌>>=◌, result_map}
-use Rattle.gimli_line.specs.Header.{File}
-use Rattle.gimli_line.specs.declared.row.LineRow.{LineRow}
-use Rattle.gimli_line.specs.Header.{Header, Program}
+use Rattle.addr2line_lines.proofs.Common.{◌≡◌, ℕ, ◌++◌, List, [], ◌∷◌, Option, Some, None, Result, Ok, Err, sym, ap, ◌∙◌, Error, ◌>>=◌, result_map, File, LineRow, Header, Program, Sections, UnitRecord, read_all, Sequence, sequences_of}
 use Rattle.gimli_line.specs.Lines.{Lines, YieldsUnlessOom, lines_of}
-use Rattle.gimli.specs.Sections.{Sections}
-use Rattle.gimli.specs.Unit.{UnitRecord}
-use Rattle.addr2line_lines.specs.Rows.{read_all}
-use Rattle.addr2line_lines.specs.Sequences.{Sequence, sequences_of}
 use Rattle.addr2line_lines.specs.Location.{LineTable, line_table_of}
 use Rattle.addr2line_lines.specs.FileTexts.{file_texts}
 use Rattle.addr2line_lines.specs.UnitLines.{IsFaultAtOnce, program_lines}

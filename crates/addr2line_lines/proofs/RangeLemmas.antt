@@ -1,10 +1,6 @@
 -- Lists of which items were read.
-use Rattle.std.proofs.Common.{◌≡◌, true, List, [], ◌∷◌, ◌++◌, map, Some, None, Result, Ok, Err, OnOk, refl, ap, ◌∙◌}
-use Rattle.gimli_read.specs.declared.error.Error.{Error}
-use Rattle.gimli_read.specs.Reading.{result_map}
+use Rattle.addr2line_lines.proofs.Common.{◌≡◌, true, List, [], ◌∷◌, ◌++◌, map, Some, None, Result, Ok, Err, OnOk, refl, ap, ◌∙◌, Error, result_map, begins_well, read_all}
 use Rattle.gimli_read.specs.Yields.{Yields}
-use Rattle.addr2line_lines.specs.RangeAttributes.{begins_well}
-use Rattle.addr2line_lines.specs.Rows.{read_all}
 
 -- what holds anyway holds where there is a value
 pub on_ok : {X : Type 0} (P : Type 0) (r : Result X Error) → P → OnOk r P

@@ -1,11 +1,6 @@
 -- The spans of a sequence one after another (on specs/RangesLeft.antt).
-use Rattle.std.proofs.Common.{ℕ, ◌≡◌, ◌+◌, ◌-◌, ◌<◌, ◌≤◌, List, [], ◌∷◌, Some, filter, map, drop, take, get_or, length, arith, ◌∙◌, ap, sym, refl, suc}
+use Rattle.addr2line_lines.proofs.Common.{ℕ, ◌≡◌, ◌+◌, ◌-◌, ◌<◌, ◌≤◌, List, [], ◌∷◌, Some, filter, map, drop, take, get_or, length, arith, ◌∙◌, ap, sym, refl, suc, drop_more, get_or_from_slice_get, Row, LineSequence, IsAmong, row_address_at, unpacked}
 use Rattle.std.specs.List.{slice_get}
-use Rattle.std.proofs.lemmas.List.{drop_more}
-use Rattle.std.proofs.lemmas.Option.{get_or_from_slice_get}
-use Rattle.addr2line_lines.specs.declared.row.Row.{Row}
-use Rattle.addr2line_lines.specs.declared.sequence.LineSequence.{LineSequence}
-use Rattle.addr2line_lines.specs.Packed.{IsAmong, row_address_at, unpacked}
 use Rattle.addr2line_lines.specs.RangeLocations.{meets, sequence_range}
 use Rattle.addr2line_lines.specs.RangesLeft.{next_spans, packed_range, spans_left}
 use Rattle.addr2line_lines.specs.Spans.{spans}

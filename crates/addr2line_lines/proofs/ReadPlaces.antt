@@ -1,18 +1,8 @@
 -- What is cached of a function is what a call that reads it again gives (on
 -- specs/FunctionDetails.antt).
-use Rattle.std.proofs.Common.{◌≡◌, ℕ, ◌≤◌, List, length, map, slice_get, Option, Some, None, Result, Ok, refl, ap, sym, subst, ◌∙◌}
-use Rattle.std.proofs.lemmas.Option.{slice_get-map, slice_get_past}
+use Rattle.addr2line_lines.proofs.Common.{◌≡◌, ℕ, ◌≤◌, List, length, map, slice_get, Option, Some, None, Result, Ok, refl, ap, sym, subst, ◌∙◌, slice_get-map, slice_get_past, Error, UnitRecord, LazyFunction, Detail, seen_function, fault_of, CachedFunction, FunctionTable, CachedDetails, Scope}
 use Rattle.std.specs.Option.{option_map}
-use Rattle.gimli_read.specs.declared.error.Error.{Error}
-use Rattle.gimli.specs.Unit.{UnitRecord}
-use Rattle.addr2line_lines.specs.declared.functions.LazyFunction.{LazyFunction}
-use Rattle.addr2line_lines.specs.Details.{Detail}
-use Rattle.addr2line_lines.specs.FunctionCache.{seen_function}
-use Rattle.gimli_read.specs.Reading.{fault_of}
-use Rattle.addr2line_lines.specs.FunctionTable.{CachedFunction, FunctionTable}
 use Rattle.addr2line_lines.specs.FunctionDetails.{IsReadAt, IsReadOf, IsReadOnce, read_fault}
-use Rattle.addr2line_lines.specs.CachedDetails.{CachedDetails}
-use Rattle.addr2line_lines.specs.References.{Scope}
 
 -- past the last function there is none
 pub none_at : (d : CachedDetails) (fs : List LazyFunction) (n : ℕ) → length fs ≤ n → slice_get (map (seen_function d) fs) n ≡ None

@@ -1,22 +1,9 @@
 -- The unit of an offset among units in order (on specs/References.antt).
-use Rattle.std.proofs.Common.{ℕ, zero, suc, ◌≡◌, ◌+◌, ◌-◌, ◌<◌, ◌≤◌, ◌||◌, Bool, true, false, cond, nat_le, nat_lt, leb, List, [], ◌∷◌, length, slice_index_or, option_map, Option, Some, None, Result, Ok, Err, arith, refl, ap, subst, sym, ◌∙◌}
-use Rattle.std.specs.List.{All}
-use Rattle.std.specs.List.Sorted.{IsNonDecreasingBy, IsPartitionPoint}
-use Rattle.std.proofs.lemmas.Bool.Decides.{nat_tests}
-use Rattle.gimli_read.specs.declared.error.Error.{Error}
-use Rattle.gimli_read.specs.declared.error.Error.TheVariants.{NoEntryAtGivenOffset}
-use Rattle.gimli_read.specs.declared.value.AttributeValue.{AttributeValue}
+use Rattle.addr2line_lines.proofs.Common.{ℕ, zero, suc, ◌≡◌, ◌+◌, ◌-◌, ◌<◌, ◌≤◌, ◌||◌, Bool, true, false, cond, nat_le, nat_lt, leb, List, [], ◌∷◌, length, slice_index_or, option_map, Option, Some, None, Result, Ok, Err, arith, refl, ap, subst, sym, ◌∙◌, All, IsNonDecreasingBy, IsPartitionPoint, nat_tests, Error, NoEntryAtGivenOffset, AttributeValue, UnitOffset, seen_value, Section, unit_length, UnitRecord, BeginsAbove, BeginsBy, AreInOrder, EntryPlace, FileRecord, IsBefore, IsFileInOrder, IsScope, Scope, entry_in, entry_in_sup, referred, sup_scope, unit_at}
 use Rattle.gimli_read.specs.declared.value.AttributeValue.TheVariants as values
 use Rattle.gimli_read.specs.declared.value.DebugInfoOffset.{DebugInfoOffset}
-use Rattle.gimli_read.specs.declared.value.UnitOffset.{UnitOffset}
-use Rattle.gimli_read.specs.Form.{seen_value}
-use Rattle.gimli_read.specs.Section.{Section}
-use Rattle.gimli.specs.Entries.{unit_length}
 use Rattle.gimli.specs.Header.{UnitHeaderFields}
 use Rattle.gimli.specs.Offsets.{unit_offset_of, valid_in}
-use Rattle.gimli.specs.Unit.{UnitRecord}
-use Rattle.addr2line_lines.specs.FoundNames.{BeginsAbove, BeginsBy}
-use Rattle.addr2line_lines.specs.References.{AreInOrder, EntryPlace, FileRecord, IsBefore, IsFileInOrder, IsScope, Scope, entry_in, entry_in_sup, referred, sup_scope, unit_at}
 
 -- where a unit begins
 abbrev pub unit_begin : UnitRecord → ℕ

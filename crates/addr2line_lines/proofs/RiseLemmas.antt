@@ -1,12 +1,5 @@
 -- Sequences rise (on specs/Rises.antt).
-use Rattle.std.proofs.Common.{ℕ, ◌≡◌, ◌<◌, ◌≤◌, ◌||◌, ◌&&◌, ◌==◌, not, Bool, true, false, cond, List, [], ◌∷◌, map, arith, ap, sym, subst, refl, nat_lt, Some, None, Result, Ok, Err, IfOk}
-use Rattle.std.proofs.lemmas.Bool.Decides.{nat_tests}
-use Rattle.std.specs.List.{AllByRecursion, list_any, filter_map, cons_option}
-use Rattle.gimli_line.specs.declared.row.LineRow.{LineRow}
-use Rattle.addr2line_lines.specs.declared.row.Row.{Row}
-use Rattle.gimli_read.specs.Reading.{result_map}
-use Rattle.addr2line_lines.specs.Sequences.{RowGroup, Sequence, put_first, row_groups, latest, stored_row, sequence_of, sequence_in, sequences_of}
-use Rattle.gimli_line.specs.Rises.{NeverFalls}
+use Rattle.addr2line_lines.proofs.Common.{ℕ, ◌≡◌, ◌<◌, ◌≤◌, ◌||◌, ◌&&◌, ◌==◌, not, Bool, true, false, cond, List, [], ◌∷◌, map, arith, ap, sym, subst, refl, nat_lt, Some, None, Result, Ok, Err, IfOk, nat_tests, AllByRecursion, list_any, filter_map, cons_option, LineRow, Row, result_map, RowGroup, Sequence, put_first, row_groups, latest, stored_row, sequence_of, sequence_in, sequences_of, NeverFalls}
 use Rattle.gimli_line.proofs.Rising.{NextFrom}
 use Rattle.addr2line_lines.specs.Rises.{Climbs, IsRising, SequencesRise}
 

@@ -1,10 +1,5 @@
 -- What the rows since the last end row make of the sequences (on specs/Sequences.antt).
-use Rattle.std.proofs.Common.{ℕ, ◌≡◌, ◌<◌, ◌≤◌, ◌||◌, ◌==◌, Bool, true, false, cond, List, [], ◌∷◌, ◌++◌, arith, ◌∙◌, ap, sym, refl, append_assoc}
-use Rattle.std.proofs.lemmas.Bool.Decides.{nat_tests}
-use Rattle.std.specs.List.{AllByRecursion, list_any, filter_map, cons_option}
-use Rattle.gimli_line.specs.declared.row.LineRow.{LineRow}
-use Rattle.addr2line_lines.specs.Sequences.{RowGroup, put_first, row_groups, latest, sequence_of, sequence_in, sequences_of}
-use Rattle.gimli_line.specs.Rises.{NeverFalls}
+use Rattle.addr2line_lines.proofs.Common.{ℕ, ◌≡◌, ◌<◌, ◌≤◌, ◌||◌, ◌==◌, Bool, true, false, cond, List, [], ◌∷◌, ◌++◌, arith, ◌∙◌, ap, sym, refl, append_assoc, nat_tests, AllByRecursion, list_any, filter_map, cons_option, LineRow, RowGroup, put_first, row_groups, latest, sequence_of, sequence_in, sequences_of, NeverFalls}
 
 -- no two neighbours have one address
 abbrev pub Apart : List LineRow → Type 0

@@ -1,13 +1,7 @@
 -- The rows of a line program as rows that come one at a time.
-use Rattle.std.proofs.Common.{◌≡◌, List, [], ◌∷◌, Option, Some, None, Result, Ok, Err, IfOk, refl, ap, sym, subst}
-use Rattle.gimli_read.specs.declared.error.Error.{Error}
-use Rattle.gimli_read.specs.declared.error.Error.TheVariants.{OutOfMemory}
+use Rattle.addr2line_lines.proofs.Common.{◌≡◌, List, [], ◌∷◌, Option, Some, None, Result, Ok, Err, IfOk, refl, ap, sym, subst, Error, OutOfMemory, LineRow, rows_before, NeverFalls, result_map, read_all}
 use Rattle.gimli_read.specs.Yields.{Yields}
-use Rattle.gimli_line.specs.declared.row.LineRow.{LineRow}
 use Rattle.gimli_line.specs.Lines.{YieldsUnlessOom}
-use Rattle.gimli_line.specs.Rises.{rows_before, NeverFalls}
-use Rattle.gimli_read.specs.Reading.{result_map}
-use Rattle.addr2line_lines.specs.Rows.{read_all}
 
 -- rows that are given unless memory is refused
 pub yields_given : {X : Type 0} (old new : List (Result X Error)) (r : Result (Option X) Error) → YieldsUnlessOom old r new → (r ≡ Err OutOfMemory → ⊥) → Yields old r new

@@ -1,20 +1,9 @@
 -- What the search found is what the definition gives (on specs/Packed.antt and specs/Spans.antt).
-use Rattle.std.proofs.Common.{ℕ, ◌≡◌, ◌+◌, ◌-◌, ◌<◌, ◌≤◌, Bool, true, false, cond, List, [], ◌∷◌, Option, Some, None, map, filter, length, take, drop, get_or, nat_le, nat_lt, arith, inl, inr, ◌∙◌, ap, sym, subst, refl, zero, suc}
-use Rattle.std.specs.List.{AllWithin, slice_get}
+use Rattle.addr2line_lines.proofs.Common.{ℕ, ◌≡◌, ◌+◌, ◌-◌, ◌<◌, ◌≤◌, Bool, true, false, cond, List, [], ◌∷◌, Option, Some, None, map, filter, length, take, drop, get_or, nat_le, nat_lt, arith, inl, inr, ◌∙◌, ap, sym, subst, refl, zero, suc, AllWithin, cases_lt, nat_tests, get_or_from_slice_get, last, Row, LineSequence, at_or_below, if_past, start_of, end_of, ArePastFrom, IsAmong, IsTable, row_address_at, packed_end, packed_sooner, packed_start, unpacked, IsInOrder, In-filter, In-last, last-cond}
+use Rattle.std.specs.List.{slice_get}
 use Rattle.std.specs.Option.{option_map, option_and_then}
-use Rattle.std.proofs.lemmas.Bool.{cases_lt}
-use Rattle.std.proofs.lemmas.Bool.Decides.{nat_tests}
-use Rattle.std.proofs.lemmas.Option.{get_or_from_slice_get}
-use Rattle.gimli_read.specs.Topmost.{last}
-use Rattle.addr2line_lines.specs.declared.row.Row.{Row}
-use Rattle.addr2line_lines.specs.declared.sequence.LineSequence.{LineSequence}
-use Rattle.addr2line_lines.specs.Pick.{at_or_below, if_past}
-use Rattle.addr2line_lines.specs.Sequences.{start_of, end_of}
 use Rattle.addr2line_lines.specs.Spans.{row_address, row_at, row_in}
-use Rattle.addr2line_lines.specs.Packed.{ArePastFrom, IsAmong, IsTable, row_address_at, packed_end, packed_sooner, packed_start, unpacked}
-use Rattle.addr2line_lines.specs.InOrder.{IsInOrder}
 use Rattle.addr2line_lines.proofs.SeekLemmas.{begins_rise}
-use Rattle.gimli_read.proofs.TopmostLemmas.{In-filter, In-last, last-cond}
 use Rattle.addr2line_lines.proofs.OrderLemmas.{All-in}
 use Rattle.addr2line_lines.proofs.OrderPick.{candidate_ordered}
 use Rattle.addr2line_lines.proofs.SpanLemmas.{row_within, above, reached}

@@ -1,12 +1,6 @@
 -- Lists in order do not fall (on specs/InOrder.antt).
-use Rattle.std.proofs.Common.{ℕ, ◌≡◌, ◌-◌, ◌≤◌, false, nat_cmp, List, [], ◌∷◌, length, arith, ◌∙◌, ap, sym, refl, zero, suc}
-use Rattle.std.specs.List.{AllByRecursion, slice_get}
-use Rattle.std.specs.List.Sorted.{IsNonDecreasingBy}
-use Rattle.std.specs.Ordering.{is_lt, ordering_then}
-use Rattle.std.proofs.lemmas.Bool.Decides.{nat_tests}
-use Rattle.std.proofs.lemmas.List.Elements.{All-from_recursion}
-use Rattle.addr2line_lines.specs.InOrder.{begins_sooner, IsInOrder}
-use Rattle.gimli_read.specs.Topmost.{last}
+use Rattle.addr2line_lines.proofs.Common.{ℕ, ◌≡◌, ◌-◌, ◌≤◌, false, nat_cmp, List, [], ◌∷◌, length, arith, ◌∙◌, ap, sym, refl, zero, suc, AllByRecursion, IsNonDecreasingBy, is_lt, ordering_then, nat_tests, All-from_recursion, begins_sooner, IsInOrder, last}
+use Rattle.std.specs.List.{slice_get}
 
 -- the last element stands before the length
 pub last_is : {X : Type 0} (xs : List X) → last xs ≡ slice_get xs (length xs - 1)

@@ -1,15 +1,7 @@
 -- Segments of ranges, one by one (on specs/Segments.antt and specs/Sweep.antt).
-use Rattle.std.proofs.Common.{ℕ, ◌≡◌, ◌-◌, ◌<◌, ◌≤◌, ◌⊎◌, ◌&&◌, Bool, true, false, nat_le, nat_lt, nat_cmp, List, [], ◌∷◌, ◌++◌, length, slice_index_or, arith, inl, inr, ◌∙◌, ap, sym, subst, refl, zero, suc}
+use Rattle.addr2line_lines.proofs.Common.{ℕ, ◌≡◌, ◌-◌, ◌<◌, ◌≤◌, ◌⊎◌, ◌&&◌, Bool, true, false, nat_le, nat_lt, nat_cmp, List, [], ◌∷◌, ◌++◌, length, slice_index_or, arith, inl, inr, ◌∙◌, ap, sym, subst, refl, zero, suc, All, Contains, is_lt, ordering_then, nat_tests, common_steps, get_or_default, Contains-get_or, All-contains, All-cons, All-from_recursion, All-push, All-tail, All-weaker, FunctionAddress, RunningRange, address_begin, address_end, address_function, address_holds, running_end, as_running, AreApart, AreDisjoint, AreSegments, AreSegmentsBelow, IsSegment}
 use Rattle.std.specs.BinaryHeap.{IsHeap, IsUpperBound}
-use Rattle.std.specs.List.{All, Contains}
-use Rattle.std.specs.Ordering.{is_lt, ordering_then}
-use Rattle.std.proofs.lemmas.Bool.Decides.{nat_tests}
-use Rattle.std.proofs.lemmas.Grind.{common_steps}
-use Rattle.std.proofs.lemmas.List.{get_or_default}
-use Rattle.std.proofs.lemmas.List.Elements.{Contains-get_or, All-contains, All-cons, All-from_recursion, All-push, All-tail, All-weaker}
-use Rattle.addr2line_lines.specs.declared.segments.FunctionAddress.{FunctionAddress}
 use Rattle.addr2line_lines.specs.Shortest.{IsNoLonger}
-use Rattle.addr2line_lines.specs.Segments.{RunningRange, address_begin, address_end, address_function, address_holds, running_end, as_running, AreApart, AreDisjoint, AreSegments, AreSegmentsBelow, IsSegment}
 use Rattle.addr2line_lines.specs.Sweep.{running_cmp, IsBegunFrom, IsSwept}
 
 module _ {X : Type 0} where

@@ -1,15 +1,7 @@
 -- The search among segments (on specs/Segments.antt).
-use Rattle.std.proofs.Common.{ℕ, ◌≡◌, ◌-◌, ◌<◌, ◌≤◌, ◌&&◌, Bool, true, false, nat_le, nat_lt, leb, List, length, slice_index_or, Some, None, arith, inr, ◌∙◌, ap, sym, subst, refl}
-use Rattle.std.specs.List.{All}
-use Rattle.std.specs.List.Sorted.{IsNonDecreasingBy, IsPartitionPoint, IsPermutation}
+use Rattle.addr2line_lines.proofs.Common.{ℕ, ◌≡◌, ◌-◌, ◌<◌, ◌≤◌, ◌&&◌, Bool, true, false, nat_le, nat_lt, leb, List, length, slice_index_or, Some, None, arith, inr, ◌∙◌, ap, sym, subst, refl, All, IsNonDecreasingBy, IsPartitionPoint, IsPermutation, nat_tests, get_or_default, All-weaker, All-permutation, Contains-permutation, IsPermutation-sym, length_permutation, FunctionAddress, address_begin, address_end, address_function, address_holds, shortest_function_at, AreSegments, IsSegment}
 use Rattle.std.specs.Option.{option_map}
-use Rattle.std.proofs.lemmas.Bool.Decides.{nat_tests}
-use Rattle.std.proofs.lemmas.List.{get_or_default}
-use Rattle.std.proofs.lemmas.List.Elements.{All-weaker}
-use Rattle.std.proofs.lemmas.List.Sorted.{All-permutation, Contains-permutation, IsPermutation-sym, length_permutation}
-use Rattle.addr2line_lines.specs.declared.segments.FunctionAddress.{FunctionAddress}
 use Rattle.addr2line_lines.specs.Shortest.{IsNoLonger}
-use Rattle.addr2line_lines.specs.Segments.{address_begin, address_end, address_function, address_holds, shortest_function_at, AreSegments, IsSegment}
 use Rattle.addr2line_lines.proofs.ShortestLemmas.{none_is_shorter, none_is_shortest}
 use Rattle.addr2line_lines.proofs.SegmentLemmas.{inside, outside}
 

@@ -1,13 +1,8 @@
 -- The shortest of the ranges that hold an address (on specs/Shortest.antt).
-use Rattle.std.proofs.Common.{ℕ, ◌≡◌, ◌<◌, ◌≤◌, ◌⊎◌, ◌&&◌, ◌==◌, Bool, true, false, min, nat_le, nat_lt, List, [], ◌∷◌, Option, Some, None, arith, inl, inr, ◌∙◌, ap, sym, refl}
-use Rattle.std.specs.List.{All}
-use Rattle.std.proofs.lemmas.Bool.Decides.{nat_tests}
-use Rattle.std.proofs.lemmas.List.Elements.{recursion_from_All}
-use Rattle.addr2line_lines.specs.Pick.{IsDisjoint}
+use Rattle.addr2line_lines.proofs.Common.{ℕ, ◌≡◌, ◌<◌, ◌≤◌, ◌⊎◌, ◌&&◌, ◌==◌, Bool, true, false, min, nat_le, nat_lt, List, [], ◌∷◌, Option, Some, None, arith, inl, inr, ◌∙◌, ap, sym, refl, All, nat_tests, recursion_from_All, IsDisjoint, In, In-filter, In-passes}
 use Rattle.addr2line_lines.specs.Shortest.{first_listed, holding, holds, least, lowest, range_length, shortest, IsNoLonger, LoneIsShortest, NoneIsShorter}
 use Rattle.addr2line_lines.proofs.LonePick.{from_contains, lone_is_picked}
 use Rattle.addr2line_lines.proofs.OrderLemmas.{All-in}
-use Rattle.gimli_read.proofs.TopmostLemmas.{In, In-filter, In-passes}
 
 module _ {X : Type 0} (f : X → ℕ) where
   least_le : (xs : List X) (z : X) → In z xs → least f xs ≤ f z

@@ -1,16 +1,9 @@
 -- The row whose span holds a probe (on specs/Spans.antt).
 use Rattle.std.proofs.Math.Nat.{min-eq_left, min-eq_right}
-use Rattle.std.proofs.Common.{ℕ, min, map, filter, ◌≡◌, ◌<◌, ◌≤◌, inl, inr, Bool, true, false, cond, ◌&&◌, List, [], ◌∷◌, Some, None, nat_le, nat_lt, arith, ◌∙◌, ap, sym, refl}
-use Rattle.std.specs.List.{find, AllByRecursion}
+use Rattle.addr2line_lines.proofs.Common.{ℕ, min, map, filter, ◌≡◌, ◌<◌, ◌≤◌, inl, inr, Bool, true, false, cond, ◌&&◌, List, [], ◌∷◌, Some, None, nat_le, nat_lt, arith, ◌∙◌, ap, sym, refl, find, AllByRecursion, cases_lt, nat_tests, Row, Sequence, end_of, last, at_or_below, if_past}
 use Rattle.std.specs.Option.{option_map, option_and_then}
-use Rattle.std.proofs.lemmas.Bool.{cases_lt}
-use Rattle.std.proofs.lemmas.Bool.Decides.{nat_tests}
-use Rattle.addr2line_lines.specs.declared.row.Row.{Row}
-use Rattle.addr2line_lines.specs.Sequences.{Sequence, end_of}
 use Rattle.addr2line_lines.specs.Rises.{Climbs, IsRising, StartsAt}
-use Rattle.gimli_read.specs.Topmost.{last}
 use Rattle.addr2line_lines.specs.RangesLeft.{next_spans}
-use Rattle.addr2line_lines.specs.Pick.{at_or_below, if_past}
 use Rattle.addr2line_lines.specs.Spans.{Span, spanned, least_of, span_end, spans, span_holds, row_address, row_in, EachAddressHasRow}
 
 -- a row with the end of its span

@@ -1,6 +1,5 @@
 -- Inlined entries as they are stored (on specs/StoredInlined.antt).
-use Rattle.std.proofs.Common.{ℕ, zero, suc, ◌≡◌, ◌^◌, ◌==◌, ◌&&◌, ◌++◌, Bool, true, false, cond, List, [], ◌∷◌, length, take, Option, Some, None, slice_get, refl, ap, nat_lt, arith, rules}
-use Rattle.gimli_read.specs.Section.{Section}
+use Rattle.addr2line_lines.proofs.Common.{ℕ, zero, suc, ◌≡◌, ◌^◌, ◌==◌, ◌&&◌, ◌++◌, Bool, true, false, cond, List, [], ◌∷◌, length, take, Option, Some, None, slice_get, refl, ap, nat_lt, arith, rules, Section}
 use Rattle.addr2line_lines.specs.declared.inlined_functions.InlinedCall.{InlinedCall}
 use Rattle.addr2line_lines.specs.StoredInlined.{call_fits, entries_of_calls, entry_of_call, file_fits, file_of_short, no_file, short_file}
 

@@ -1,11 +1,7 @@
 -- Lists of ranges as they are stored, by what they stand for.
-use Rattle.std.proofs.Common.{ℕ, ◌≡◌, ◌+◌, ◌-◌, ◌≤◌, Bool, true, false, List, [], ◌∷◌, ◌++◌, drop, length, map, take, get_or, arith, ap, sym, subst, ◌∙◌, length-drop}
-use Rattle.std.specs.List.{AllWithin}
-use Rattle.std.specs.List.Sorted.{IsPartitionPoint, IsPartitionedBy, IsSortedBy}
+use Rattle.addr2line_lines.proofs.Common.{ℕ, ◌≡◌, ◌+◌, ◌-◌, ◌≤◌, Bool, true, false, List, [], ◌∷◌, ◌++◌, drop, length, map, take, get_or, arith, ap, sym, subst, ◌∙◌, length-drop, AllWithin, IsPartitionPoint, IsPartitionedBy, IsSortedBy, take-length, length-map, map-append, take-map, drop-map, between}
 use Rattle.std.proofs.Math.ListN.{get_or-map}
-use Rattle.std.proofs.Math.Seq.{take-length}
-use Rattle.std.proofs.lemmas.List.{get_or-map as get_or-map-within, length-map, map-append, take-map, drop-map}
-use Rattle.addr2line_lines.specs.CachedDetails.{between}
+use Rattle.std.proofs.lemmas.List.{get_or-map as get_or-map-within}
 
 module _ {X Y : Type 0} (f : X → Y) where
   -- images are sorted where elements are by their images

@@ -1,11 +1,7 @@
 -- Rows as they are stored (on specs/StoredRows.antt).
-use Rattle.std.proofs.Common.{ℕ, ◌≡◌, ◌+◌, ◌*◌, ◌^◌, ◌%◌, ◌==◌, ◌&&◌, Bool, true, false, List, [], ◌∷◌, ◌++◌, length, take, set, arith, ◌∙◌, ap, sym, refl, suc}
-use Rattle.std.proofs.lemmas.Bool.Decides.{nat_tests}
-use Rattle.std.proofs.lemmas.List.{set_split, drop_all}
+use Rattle.addr2line_lines.proofs.Common.{ℕ, ◌≡◌, ◌+◌, ◌*◌, ◌^◌, ◌%◌, ◌==◌, ◌&&◌, Bool, true, false, List, [], ◌∷◌, ◌++◌, length, take, set, arith, ◌∙◌, ap, sym, refl, suc, nat_tests, set_split, drop_all, Row, and_parts}
 use Rattle.std.proofs.lemmas.Nat.{div-add-mod'}
-use Rattle.addr2line_lines.specs.declared.row.Row.{Row}
 use Rattle.addr2line_lines.specs.StoredRows.{are_narrow, fits, row_of_short, shortened, upper_of}
-use Rattle.std.proofs.lemmas.Bool.{and_parts}
 
 -- the last element is another one
 pub set_last : {X : Type 0} (xs : List X) (i : ℕ) (x : X) → i + 1 ≡ length xs → set xs i x ≡ take i xs ++ x ∷ []

@@ -1,15 +1,8 @@
 -- A walk that cuts ranges into segments (on specs/Sweep.antt).
-use Rattle.std.proofs.Common.{ℕ, ◌≡◌, ◌+◌, ◌*◌, ◌<◌, ◌≤◌, ◌⊎◌, Bool, true, false, cond, max, nat_le, nat_lt, List, [], ◌∷◌, ◌++◌, length, slice_index_or, ◌↔◌, Option, Some, None, arith, inl, inr, ◌∙◌, ap, sym, subst, refl, suc}
+use Rattle.addr2line_lines.proofs.Common.{ℕ, ◌≡◌, ◌+◌, ◌*◌, ◌<◌, ◌≤◌, ◌⊎◌, Bool, true, false, cond, max, nat_le, nat_lt, List, [], ◌∷◌, ◌++◌, length, slice_index_or, ◌↔◌, Option, Some, None, arith, inl, inr, ◌∙◌, ap, sym, subst, refl, suc, All, Contains, IsNonDecreasingBy, IsPermutation, IsSome, nat_tests, get_or_default, All-cons, All-tail, All-weaker, Contains-get_or, All-permutation, Contains-permutation, length_permutation, FunctionAddress, RunningRange, address_begin, address_end, address_function, address_holds, first_end, running_end, as_running, segment_to, AreApart, AreSegments, AreSegmentsBelow, IsSegment}
 use Rattle.std.specs.BinaryHeap.{IsHeap, PopsGreatest}
-use Rattle.std.specs.List.{All, Contains}
-use Rattle.std.specs.List.Sorted.{IsNonDecreasingBy, IsPermutation}
-use Rattle.std.specs.Option.{IfSome, IsSome}
-use Rattle.std.proofs.lemmas.Bool.Decides.{nat_tests}
-use Rattle.std.proofs.lemmas.List.{append-nil, get_or_default, length-append}
-use Rattle.std.proofs.lemmas.List.Elements.{All-cons, All-tail, All-weaker, Contains-get_or}
-use Rattle.std.proofs.lemmas.List.Sorted.{All-permutation, Contains-permutation, length_permutation}
-use Rattle.addr2line_lines.specs.declared.segments.FunctionAddress.{FunctionAddress}
-use Rattle.addr2line_lines.specs.Segments.{RunningRange, address_begin, address_end, address_function, address_holds, first_end, running_end, as_running, segment_to, AreApart, AreSegments, AreSegmentsBelow, IsSegment}
+use Rattle.std.specs.Option.{IfSome}
+use Rattle.std.proofs.lemmas.List.{append-nil, length-append}
 use Rattle.addr2line_lines.specs.Sweep.{running_cmp, is_outdone, IsBegunFrom, IsGreatestFirst, IsRunningRange, IsSwept, SomeIsNoLonger}
 use Rattle.addr2line_lines.specs.Shortest.{IsNoLonger}
 use Rattle.addr2line_lines.proofs.SegmentLemmas.{has_first, has_later, first_or_later, from_inside, cut_more, segment_of}

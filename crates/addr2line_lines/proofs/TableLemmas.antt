@@ -1,15 +1,8 @@
 -- Packed rows as a table that is searched (on specs/Packed.antt).
-use Rattle.std.proofs.Common.{ℕ, ◌≡◌, ◌<◌, ◌^◌, List, map, length, ◌∙◌, ap, sym, subst}
-use Rattle.std.specs.List.{AllByRecursion}
+use Rattle.addr2line_lines.proofs.Common.{ℕ, ◌≡◌, ◌<◌, ◌^◌, List, map, length, ◌∙◌, ap, sym, subst, AllByRecursion, length-map, Row, LineSequence, begins_sooner, in_order, start_of, end_of, IsAmong, IsTable, packed_rows_in, packed_start, packed_end, packed_sooner, unpacked}
 use Rattle.std.specs.Option.{option_and_then}
-use Rattle.std.proofs.lemmas.List.{length-map}
 use Rattle.addr2line_lines.specs.Counts.{most_looks, rows_in}
-use Rattle.addr2line_lines.specs.declared.row.Row.{Row}
-use Rattle.addr2line_lines.specs.declared.sequence.LineSequence.{LineSequence}
-use Rattle.addr2line_lines.specs.InOrder.{begins_sooner, in_order}
-use Rattle.addr2line_lines.specs.Sequences.{start_of, end_of}
 use Rattle.addr2line_lines.specs.Spans.{row_at, row_in}
-use Rattle.addr2line_lines.specs.Packed.{IsAmong, IsTable, packed_rows_in, packed_start, packed_end, packed_sooner, unpacked}
 use Rattle.addr2line_lines.proofs.OrderLemmas.{begins_order, in_order_all, in_order_ordered}
 use Rattle.addr2line_lines.proofs.OrderPick.{pick_in_order}
 use Rattle.addr2line_lines.proofs.PackedLemmas.{all_end, in_order-length, in_order-map, rows_in_is}

@@ -1,19 +1,9 @@
 -- Units that are read from the headers of a section stand in order (on specs/References.antt).
-use Rattle.std.proofs.Common.{ℕ, ◌≡◌, ◌+◌, ◌≤◌, List, [], ◌∷◌, map, Option, Some, None, Result, Ok, Err, arith, refl, ap, subst, sym, ◌∙◌}
-use Rattle.std.specs.Prelude.{filter_map, unwrap_or}
-use Rattle.std.specs.List.{All}
-use Rattle.std.proofs.lemmas.List.Elements.{All-cons}
-use Rattle.gimli_read.specs.declared.error.Error.{Error}
-use Rattle.gimli_read.specs.Abbreviations.{Abbrev}
-use Rattle.gimli_read.specs.Reading.{◌>>=◌, result_map}
-use Rattle.gimli.specs.Entries.{unit_length}
+use Rattle.addr2line_lines.proofs.Common.{ℕ, ◌≡◌, ◌+◌, ◌≤◌, List, [], ◌∷◌, map, Option, Some, None, Result, Ok, Err, arith, refl, ap, subst, sym, ◌∙◌, unwrap_or, All, All-cons, Error, Abbrev, ◌>>=◌, result_map, unit_length, Sections, UnitRecord, completed_record, program_and_low_pc_of, table_from, unit_by, unit_record_of, AreInOrder, IsBefore, read_all}
+use Rattle.std.specs.Prelude.{filter_map}
 use Rattle.gimli.specs.Header.{UnitHeaderFields}
 use Rattle.gimli.specs.HeaderOrder.{AreHeadersInOrder, BeginFrom}
 use Rattle.gimli.specs.Record.{RootValues, root_values_of}
-use Rattle.gimli.specs.Sections.{Sections}
-use Rattle.gimli.specs.Unit.{UnitRecord, completed_record, program_and_low_pc_of, table_from, unit_by, unit_record_of}
-use Rattle.addr2line_lines.specs.References.{AreInOrder, IsBefore}
-use Rattle.addr2line_lines.specs.Rows.{read_all}
 
 -- a unit that is read has its header
 record HasHeader (h : UnitHeaderFields) (r : Result UnitRecord Error) : Type 0 where

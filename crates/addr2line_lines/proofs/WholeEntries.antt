@@ -1,22 +1,8 @@
 -- The entry at an offset of its unit and the items inside it, by places among the entries (on
 -- specs/Details.antt).
-use Rattle.std.proofs.Common.{◌≡◌, ℕ, true, [], Option, Some, None, Result, Ok, Err, refl, ap, ◌∙◌, pos}
-use Rattle.gimli_read.specs.declared.error.Error.{Error}
-use Rattle.gimli_read.specs.declared.error.Error.TheVariants.{NoEntryAtGivenOffset}
-use Rattle.gimli_read.specs.Costed.{Costed, free}
+use Rattle.addr2line_lines.proofs.Common.{◌≡◌, ℕ, true, [], Option, Some, None, Result, Ok, Err, refl, ap, ◌∙◌, pos, Error, NoEntryAtGivenOffset, Costed, free, ◌>>=◌, Run, Section, entry_bytes_from, entry_unit, EntriesLeft, EntryCursor, entries_at, entries_from, items_left, next_item_at, Entry, Item, items_from, subtree_of, UnitRecord, items_end, items_fault, items_more, Detail, WholeEntry, first_whole, inlined_in, stored_detail_at, whole_entry_at, name_of, Scope}
 use Rattle.gimli_read.specs.Costed as costed
-use Rattle.gimli_read.specs.Reading.{◌>>=◌}
-use Rattle.gimli_read.specs.Run.{Run}
-use Rattle.gimli_read.specs.Section.{Section}
-use Rattle.gimli.specs.Entries.{entry_bytes_from, entry_unit}
-use Rattle.gimli.specs.EntryCursor.{EntriesLeft, EntryCursor, entries_at, entries_from, items_left, next_item_at}
-use Rattle.gimli.specs.Items.{Entry, Item, items_from, subtree_of}
-use Rattle.gimli.specs.Unit.{UnitRecord}
-use Rattle.gimli.proofs.ItemReads.{items_end, items_fault, items_more}
 use Rattle.addr2line_lines.specs.CostedSteps.{map_at_cost, then_room_if}
-use Rattle.addr2line_lines.specs.Details.{Detail, WholeEntry, first_whole, inlined_in, stored_detail_at, whole_entry_at}
-use Rattle.addr2line_lines.specs.Names.{name_of}
-use Rattle.addr2line_lines.specs.References.{Scope}
 
 -- the entry of an item, which a closing entry isn't
 abbrev pub item_entry : ℕ → Option Item → Result (Item × Entry) Error

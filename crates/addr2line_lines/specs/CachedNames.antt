@@ -6,12 +6,9 @@ use Rattle.std.specs.Prelude.{◌≡◌, ◌⊎◌, List, [], ◌∷◌, ◌++�
 use Rattle.std.specs.List.{AllByRecursion}
 use Rattle.std.specs.declared.rc.Rc.{Rc}
 use Rattle.std.specs.declared.alloc.Global.{Global}
-use Rattle.gimli_read.specs.declared.error.Error.{Error}
+use Rattle.addr2line_lines.specs.Common.{Error, result_map, Section, UnitRecord}
 use Rattle.gimli_read.specs.declared.value.AttributeValue.TheVariants as values
 use Rattle.gimli_read.specs.declared.value.UnitOffset.{UnitOffset}
-use Rattle.gimli_read.specs.Reading.{result_map}
-use Rattle.gimli_read.specs.Section.{Section}
-use Rattle.gimli.specs.Unit.{UnitRecord}
 use Rattle.addr2line_lines.specs.declared.names.CachedName as declared_name
 use Rattle.addr2line_lines.specs.declared.names.CachedName.TheVariants as cached
 use Rattle.addr2line_lines.specs.declared.names.NameCache.{NameCache}

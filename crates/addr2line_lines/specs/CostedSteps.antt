@@ -1,9 +1,7 @@
 -- Steps of a `Costed` that store something: room for it, and steps along items.
 use Rattle.std.specs.Prelude.{◌&&◌, ◌||◌, Bool, false, is_ok, List, [], ◌∷◌, Result, Ok}
-use Rattle.gimli_read.specs.declared.error.Error.{Error}
-use Rattle.gimli_read.specs.Costed.{Costed, takes_memory_after}
+use Rattle.addr2line_lines.specs.Common.{Error, Costed, takes_memory_after, fold_run}
 use Rattle.gimli_read.specs.Reading as reading
-use Rattle.gimli_read.specs.Run.{fold_run}
 
 -- what is stored on the way to its value, or to its fault, if something is stored then
 abbrev pub stored_if : {A : Type 0} → Bool → Result A Error → Costed A

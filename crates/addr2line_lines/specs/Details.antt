@@ -3,15 +3,9 @@
 -- begins, also of those without a range, which aren't listed. None inside a nested subprogram is
 -- listed; its entries are read all the same, and one that can't be read is a fault.
 use Rattle.std.specs.Prelude.{ℕ, ◌==◌, ◌&&◌, Bool, false, true, List, [], ◌∷◌, ◌++◌, count_by, Option, Some, None, Result, Ok, Err, if◌then◌else◌}
-use Rattle.gimli_read.specs.declared.error.Error.{Error}
-use Rattle.gimli_read.specs.declared.error.Error.TheVariants.{NoEntryAtGivenOffset}
-use Rattle.gimli_read.specs.Abbreviations.{Abbrev}
-use Rattle.gimli_read.specs.Costed.{Costed, ◌>>=◌, free}
+use Rattle.addr2line_lines.specs.Common.{Error, NoEntryAtGivenOffset, Abbrev, Costed, free, Run, Section, Entry, Item, items_at, subtree_of, UnitRecord}
+use Rattle.gimli_read.specs.Costed.{◌>>=◌}
 use Rattle.gimli_read.specs.Reading as reading
-use Rattle.gimli_read.specs.Run.{Run}
-use Rattle.gimli_read.specs.Section.{Section}
-use Rattle.gimli.specs.Items.{Entry, Item, items_at, subtree_of}
-use Rattle.gimli.specs.Unit.{UnitRecord}
 use Rattle.addr2line_lines.specs.CostedSteps.{fold_at_cost, map_at_cost, stored_if, then_room_if}
 use Rattle.addr2line_lines.specs.Functions.{is_subprogram}
 use Rattle.addr2line_lines.specs.Names.{name_of}

@@ -3,13 +3,7 @@
 -- Own: a refused growth alone answers OutOfMemory, so only where a contract allows it beside what
 -- is given.
 use Rattle.std.specs.Prelude.{ℕ, List}
-use Rattle.gimli_read.specs.declared.value.AttributeValue.{AttributeValue}
-use Rattle.gimli_read.specs.Reading.{WasNotRefused}
-use Rattle.gimli_read.specs.Form.{NamedValue}
-use Rattle.gimli_read.specs.Section.{Section}
-use Rattle.gimli_line.specs.Header.{File, Header, Program}
-use Rattle.gimli.specs.Sections.{Sections}
-use Rattle.gimli.specs.Unit.{UnitRecord}
+use Rattle.addr2line_lines.specs.Common.{AttributeValue, WasNotRefused, NamedValue, Section, File, Header, Program, Sections, UnitRecord}
 use Rattle.addr2line_lines.specs.declared.function.RangeAttributes.{RangeAttributes}
 use Rattle.addr2line_lines.specs.Details.{detail_at}
 use Rattle.addr2line_lines.specs.FileTexts.{file_texts}

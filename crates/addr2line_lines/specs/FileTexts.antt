@@ -3,14 +3,8 @@
 -- file's directory counts unless its index is 0 or has no entry. The fault of the texts is the
 -- first one by index.
 use Rattle.std.specs.Prelude.{ℕ, ◌==◌, List, [], ◌∷◌, ◌++◌, Option, Some, None, option_map, Result, Ok, if◌then◌else◌}
-use Rattle.gimli_read.specs.declared.error.Error.{Error}
-use Rattle.gimli_read.specs.declared.value.AttributeValue.{AttributeValue}
-use Rattle.gimli_read.specs.Section.{Section}
+use Rattle.addr2line_lines.specs.Common.{Error, AttributeValue, Section, ◌>>=◌, File, Header, directory_of, Sections, UnitRecord, attr_string_of}
 use Rattle.gimli_read.specs.Version.{is_before_5}
-use Rattle.gimli_read.specs.Reading.{◌>>=◌}
-use Rattle.gimli_line.specs.Header.{File, Header, directory_of}
-use Rattle.gimli.specs.Sections.{Sections}
-use Rattle.gimli.specs.Unit.{UnitRecord, attr_string_of}
 use Rattle.addr2line_lines.specs.Files.{file_text, own_text}
 
 -- the bytes of a section, where there is one

@@ -1,8 +1,6 @@
 -- Calls that add to what was found, as the private functions see them.
 use Rattle.std.specs.Prelude.{Bool, Result}
-use Rattle.gimli_read.specs.declared.error.Error.{Error}
-use Rattle.gimli_read.specs.Costed.{Costed, ExactlyAtCost}
-use Rattle.gimli_read.specs.Reading.{ExactlyUnlessOomIf}
+use Rattle.addr2line_lines.specs.Common.{Error, Costed, ExactlyAtCost, ExactlyUnlessOomIf}
 use Rattle.addr2line_lines.specs.CostedSteps.{on_parts}
 
 -- a call that moves from a place to another found what is found there after what was found before;

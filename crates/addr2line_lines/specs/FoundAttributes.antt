@@ -1,13 +1,6 @@
 -- What attributes of inlined entries say, as the private functions see them.
 use Rattle.std.specs.Prelude.{◌==◌, ◌||◌, Bool, List, Result}
-use Rattle.gimli_read.specs.declared.constants.DwAt.{DwAt}
-use Rattle.gimli_read.specs.declared.constants.TheConstants.DwAt.{DW_AT_call_column, DW_AT_call_file, DW_AT_call_line}
-use Rattle.gimli_read.specs.declared.error.Error.{Error}
-use Rattle.gimli_read.specs.Form.{NamedValue}
-use Rattle.gimli_read.specs.Reading.{Reading}
-use Rattle.gimli_read.specs.Section.{Section}
-use Rattle.gimli.specs.TakenAttributes.{taken_after}
-use Rattle.gimli.specs.Unit.{UnitRecord}
+use Rattle.addr2line_lines.specs.Common.{DwAt, DW_AT_call_column, DW_AT_call_file, DW_AT_call_line, Error, NamedValue, Reading, Section, taken_after, UnitRecord}
 use Rattle.addr2line_lines.specs.declared.inlined.InlinedAttributes as declared_attributes
 use Rattle.addr2line_lines.specs.InlinedEntries.{InlinedAttributes, with_inlined_attribute}
 use Rattle.addr2line_lines.specs.FoundNames.{found_name, is_name_attribute}

@@ -1,14 +1,8 @@
 -- The details of functions as they are found, as the private functions see them.
 use Rattle.std.specs.Prelude.{ℕ, [], Option, Some, None, Result, Ok, Err}
-use Rattle.gimli_read.specs.declared.error.Error.{Error}
-use Rattle.gimli_read.specs.declared.error.Error.TheVariants.{NoEntryAtGivenOffset}
-use Rattle.gimli_read.specs.Abbreviations.{Abbrev}
-use Rattle.gimli_read.specs.Costed.{Costed, ◌>>=◌, free}
-use Rattle.gimli_read.specs.Form.{rest_of}
-use Rattle.gimli_read.specs.Section.{Section}
-use Rattle.gimli.specs.Entry.{EntryUnit, attributes_at}
+use Rattle.addr2line_lines.specs.Common.{Error, NoEntryAtGivenOffset, Abbrev, Costed, free, rest_of, Section, EntryUnit, attributes_at, UnitRecord}
+use Rattle.gimli_read.specs.Costed.{◌>>=◌}
 use Rattle.gimli.specs.EntryCursor.{EntryCursor, entries_from, entry_abbreviation_at}
-use Rattle.gimli.specs.Unit.{UnitRecord}
 use Rattle.addr2line_lines.specs.CostedSteps.{map_at_cost}
 use Rattle.addr2line_lines.specs.References.{Scope}
 use Rattle.addr2line_lines.specs.FoundNames.{name_after}

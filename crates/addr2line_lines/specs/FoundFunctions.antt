@@ -1,17 +1,9 @@
 -- The functions of a unit as they are found, as the private functions see them.
 use Rattle.std.specs.Prelude.{◌≡◌, ℕ, ◌<◌, ◌||◌, Bool, false, List, [], ◌∷◌, ◌++◌, map, length, slice_index_or, Option, Some, None, Result, Ok, if◌then◌else◌}
 use Rattle.std.specs.List.{All, AllByRecursion}
-use Rattle.gimli_read.specs.declared.error.Error.{Error}
-use Rattle.gimli_read.specs.declared.range.Range.{Range}
+use Rattle.addr2line_lines.specs.Common.{Error, Range, ◌>>=◌, fold_of, EntryUnit, Item, items_of, ranges_at, Sections, UnitRecord}
 use Rattle.gimli_read.specs.declared.value.UnitOffset.{UnitOffset}
-use Rattle.gimli_read.specs.Reading.{◌>>=◌}
-use Rattle.gimli_read.specs.Run.{fold_of}
-use Rattle.gimli.specs.Entry.{EntryUnit}
-use Rattle.gimli.specs.Items.{Item, items_of}
 use Rattle.gimli.specs.EntryCursor.{EntryCursor, items_left, next_item_at}
-use Rattle.gimli.specs.Ranges.{ranges_at}
-use Rattle.gimli.specs.Sections.{Sections}
-use Rattle.gimli.specs.Unit.{UnitRecord}
 use Rattle.addr2line_lines.specs.declared.function.RangeAttributes.{RangeAttributes}
 use Rattle.addr2line_lines.specs.declared.functions.FunctionLists.{FunctionLists}
 use Rattle.addr2line_lines.specs.declared.functions.LazyDetail.TheVariants.{Unread}

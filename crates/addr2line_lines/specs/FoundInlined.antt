@@ -1,13 +1,7 @@
 -- The inlined entries of a function and their ranges as they are found, as the private functions
 -- see them.
 use Rattle.std.specs.Prelude.{ℕ, ◌<◌, List, [], ◌∷◌, ◌++◌, drop, map, length, slice_index_or, take, Option, None, option_map, Result, Ok}
-use Rattle.gimli_read.specs.declared.error.Error.{Error}
-use Rattle.gimli_read.specs.declared.range.Range.{Range}
-use Rattle.gimli_read.specs.Reading.{◌>>=◌}
-use Rattle.gimli_read.specs.Section.{Section}
-use Rattle.gimli.specs.Ranges.{ranges_at}
-use Rattle.gimli.specs.Sections.{Sections}
-use Rattle.gimli.specs.Unit.{UnitRecord}
+use Rattle.addr2line_lines.specs.Common.{Error, Range, ◌>>=◌, Section, ranges_at, Sections, UnitRecord}
 use Rattle.addr2line_lines.specs.declared.inlined_lists.InlinedLists.{InlinedLists}
 use Rattle.addr2line_lines.specs.declared.function.RangeAttributes.{RangeAttributes}
 use Rattle.addr2line_lines.specs.declared.picks.InlinedFunctionAddress.{InlinedFunctionAddress}

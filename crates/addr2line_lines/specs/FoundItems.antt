@@ -1,13 +1,8 @@
 -- What is found item by item inside a function, as the private functions see it.
 use Rattle.std.specs.Prelude.{ℕ, List, Some, None, Ok, Err, count_by, if◌then◌else◌, pos}
-use Rattle.gimli_read.specs.declared.error.Error.TheVariants.{UnexpectedEof}
-use Rattle.gimli_read.specs.Abbreviations.{Abbrev}
-use Rattle.gimli_read.specs.Costed.{Costed, ◌>>=◌, free}
-use Rattle.gimli_read.specs.Section.{Section}
-use Rattle.gimli.specs.Entry.{EntryUnit, attributes_at}
-use Rattle.gimli.specs.Items.{Entry, Item, items_inside}
+use Rattle.addr2line_lines.specs.Common.{UnexpectedEof, Abbrev, Costed, free, Section, EntryUnit, attributes_at, Entry, Item, items_inside, UnitRecord}
+use Rattle.gimli_read.specs.Costed.{◌>>=◌}
 use Rattle.gimli.specs.EntryCursor.{EntryCursor, items_left, next_item_at}
-use Rattle.gimli.specs.Unit.{UnitRecord}
 use Rattle.addr2line_lines.specs.declared.inlined_lists.InlinedLists.{InlinedLists}
 use Rattle.addr2line_lines.specs.declared.nesting.Kind.{Kind}
 use Rattle.addr2line_lines.specs.CostedSteps.{fold_at_cost, map_at_cost, stored_if, then_room_if}

@@ -2,15 +2,7 @@
 -- functions see them.
 use Rattle.std.specs.Prelude.{ℕ, ◌≡◌, ◌==◌, ◌||◌, leb, Bool, true, false, List, Option, Some, option_map, Result}
 use Rattle.std.specs.Option.{option_or}
-use Rattle.gimli_read.specs.declared.constants.DwAt.{DwAt}
-use Rattle.gimli_read.specs.declared.constants.TheConstants.DwAt.{DW_AT_name}
-use Rattle.gimli_read.specs.declared.error.Error.{Error}
-use Rattle.gimli_read.specs.declared.value.AttributeValue.{AttributeValue}
-use Rattle.gimli_read.specs.Form.{NamedValue, seen_value}
-use Rattle.gimli_read.specs.Reading.{Reading}
-use Rattle.gimli_read.specs.Section.{Section}
-use Rattle.gimli.specs.TakenAttributes.{taken_after}
-use Rattle.gimli.specs.Unit.{UnitRecord}
+use Rattle.addr2line_lines.specs.Common.{DwAt, DW_AT_name, Error, AttributeValue, NamedValue, seen_value, Reading, Section, taken_after, UnitRecord}
 use Rattle.addr2line_lines.specs.declared.references.EntryPlace.{EntryPlace as EntryPlaceOf}
 use Rattle.addr2line_lines.specs.declared.found_name.FoundName.{FoundName}
 use Rattle.addr2line_lines.specs.declared.found_name.FoundName.TheVariants.{Own, Shared}

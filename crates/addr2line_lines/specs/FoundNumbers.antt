@@ -1,8 +1,7 @@
 -- Numbers among the attributes of functions and inlined entries, as the private functions see them.
 use Rattle.std.specs.Prelude.{◌==◌, ◌||◌, Bool, if◌then◌else◌}
 use Rattle.std.specs.Option.{option_or}
-use Rattle.gimli_read.specs.declared.constants.DwAt.{DwAt}
-use Rattle.gimli_read.specs.declared.constants.TheConstants.DwAt.{DW_AT_high_pc, DW_AT_low_pc}
+use Rattle.addr2line_lines.specs.Common.{DwAt, DW_AT_high_pc, DW_AT_low_pc}
 use Rattle.gimli_read.specs.declared.number_value.NumberValue.{NumberValue}
 use Rattle.gimli_read.specs.NumberValue.{number_address, number_constant}
 use Rattle.addr2line_lines.specs.declared.function.RangeAttributes.{RangeAttributes}

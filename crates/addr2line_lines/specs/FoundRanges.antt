@@ -1,9 +1,7 @@
 -- The attributes of ranges among those of an entry, as the private functions see them.
 use Rattle.std.specs.Prelude.{◌==◌, ◌&&◌, ◌||◌, Bool}
 use Rattle.std.specs.List.{list_any}
-use Rattle.gimli_read.specs.declared.constants.DwAt.{DwAt}
-use Rattle.gimli_read.specs.declared.constants.TheConstants.DwAt.{DW_AT_high_pc, DW_AT_low_pc, DW_AT_ranges}
-use Rattle.gimli_read.specs.Abbreviations.{Abbrev, Specification}
+use Rattle.addr2line_lines.specs.Common.{DwAt, DW_AT_high_pc, DW_AT_low_pc, DW_AT_ranges, Abbrev, Specification}
 use Rattle.addr2line_lines.specs.Functions.{is_subprogram}
 
 -- whether an attribute says of an entry's ranges

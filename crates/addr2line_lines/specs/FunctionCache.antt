@@ -3,7 +3,7 @@
 -- apart from those of the others, and nothing else stands there.
 use Rattle.std.specs.Prelude.{◌≡◌, ℕ, ◌-◌, ◌≤◌, ◌≢◌, ◌⊎◌, List, length, slice_get, sum_by, Option, Some, None, option_and_then, Result, Ok, Err}
 use Rattle.std.specs.List.{AllByRecursion}
-use Rattle.gimli_read.specs.declared.error.Error.{Error}
+use Rattle.addr2line_lines.specs.Common.{Error}
 use Rattle.addr2line_lines.specs.declared.segments.FunctionAddress.{FunctionAddress}
 use Rattle.addr2line_lines.specs.declared.details.FunctionDetail.{FunctionDetail}
 use Rattle.addr2line_lines.specs.declared.functions.LazyDetail.{LazyDetail}

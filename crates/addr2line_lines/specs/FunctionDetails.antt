@@ -3,11 +3,7 @@
 -- OutOfMemory is never cached.
 use Rattle.std.specs.Prelude.{◌≡◌, ◌≢◌, ℕ, ◌&&◌, ◌||◌, Bool, false, not, is_ok, is_some, List, [], ◌∷◌, slice_get, slice_set, Option, Some, None, Result, Ok, Err}
 use Rattle.std.specs.List.{AllByRecursion, AllZip}
-use Rattle.gimli_read.specs.declared.error.Error.{Error}
-use Rattle.gimli_read.specs.declared.error.Error.TheVariants.{OutOfMemory}
-use Rattle.gimli_read.specs.Costed.{Costed, free}
-use Rattle.gimli_read.specs.Reading.{◌>>=◌, fault_of}
-use Rattle.gimli.specs.Unit.{UnitRecord}
+use Rattle.addr2line_lines.specs.Common.{Error, OutOfMemory, Costed, free, ◌>>=◌, fault_of, UnitRecord}
 use Rattle.addr2line_lines.specs.CostedSteps.{on_parts}
 use Rattle.addr2line_lines.specs.Details.{Detail, detail_at, stored_detail_at}
 use Rattle.addr2line_lines.specs.Grown.{IsGrown}

@@ -1,7 +1,6 @@
 -- The functions of a view, and what is cached of their details (DWARF 5, section 3.3).
 use Rattle.std.specs.Prelude.{◌≡◌, ℕ, ◌==◌, List, [], map, position, slice_get, Option, Some, None, option_and_then, option_map, Result, Ok, Err}
-use Rattle.gimli_read.specs.declared.error.Error.{Error}
-use Rattle.gimli_read.specs.Section.{Section}
+use Rattle.addr2line_lines.specs.Common.{Error, Section}
 use Rattle.addr2line_lines.specs.CachedNames.{CachedName}
 use Rattle.addr2line_lines.specs.Details.{Detail}
 use Rattle.addr2line_lines.specs.InlinedEntries.{InlinedEntry, InlinedRange}

@@ -3,15 +3,8 @@
 -- read to the unit's end, and the first fault is that of all functions.
 use Rattle.std.specs.Prelude.{ℕ, ◌==◌, ◌&&◌, ◌||◌, Bool, false, is_ok, List, [], ◌∷◌, ◌++◌, map, Option, Some, None, Result, Ok, Err, if◌then◌else◌}
 use Rattle.std.specs.Option.{option_map}
-use Rattle.gimli_read.specs.declared.error.Error.{Error}
-use Rattle.gimli_read.specs.declared.range.Range.{Range}
+use Rattle.addr2line_lines.specs.Common.{Error, Range, Abbrev, ◌>>=◌, fold_of, Entry, Item, items_of, Sections, UnitRecord}
 use Rattle.gimli_read.specs.declared.constants.TheConstants.DwTag.{DW_TAG_subprogram}
-use Rattle.gimli_read.specs.Abbreviations.{Abbrev}
-use Rattle.gimli_read.specs.Reading.{◌>>=◌}
-use Rattle.gimli_read.specs.Run.{fold_of}
-use Rattle.gimli.specs.Items.{Entry, Item, items_of}
-use Rattle.gimli.specs.Sections.{Sections}
-use Rattle.gimli.specs.Unit.{UnitRecord}
 use Rattle.addr2line_lines.specs.RangeAttributes.{attribute_ranges, gives_a_range, range_attributes_of}
 use Rattle.addr2line_lines.specs.Shortest.{shortest}
 

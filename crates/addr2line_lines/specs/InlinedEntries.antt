@@ -5,18 +5,9 @@
 -- counts.
 use Rattle.std.specs.Prelude.{ℕ, ◌==◌, ◌||◌, nat_lt, Bool, List, map, Option, Some, None, option_and_then, unwrap_or, Result, Ok, if◌then◌else◌}
 use Rattle.std.specs.Option.{option_or}
-use Rattle.gimli_read.specs.declared.constants.DwAt.{DwAt}
-use Rattle.gimli_read.specs.declared.constants.TheConstants.DwAt.{DW_AT_call_column, DW_AT_call_file, DW_AT_call_line}
+use Rattle.addr2line_lines.specs.Common.{DwAt, DW_AT_call_column, DW_AT_call_file, DW_AT_call_line, Error, Range, Abbrev, NamedValue, constant_of, ◌>>=◌, Section, taken_in, UnitRecord}
 use Rattle.gimli_read.specs.declared.constants.TheConstants.DwTag.{DW_TAG_inlined_subroutine}
-use Rattle.gimli_read.specs.declared.error.Error.{Error}
-use Rattle.gimli_read.specs.declared.range.Range.{Range}
-use Rattle.gimli_read.specs.Abbreviations.{Abbrev}
-use Rattle.gimli_read.specs.Form.{NamedValue, constant_of}
-use Rattle.gimli_read.specs.Reading.{◌>>=◌}
-use Rattle.gimli_read.specs.Section.{Section}
 use Rattle.gimli_read.specs.Version.{is_5}
-use Rattle.gimli.specs.TakenAttributes.{taken_in}
-use Rattle.gimli.specs.Unit.{UnitRecord}
 use Rattle.addr2line_lines.specs.declared.function.RangeAttributes.{RangeAttributes}
 use Rattle.addr2line_lines.specs.declared.inlined.CallSite.{CallSite}
 use Rattle.addr2line_lines.specs.LowBits.{low_bits}

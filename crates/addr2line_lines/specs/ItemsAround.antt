@@ -3,11 +3,7 @@
 -- Own: items of a unit are told apart by their offsets.
 use Rattle.std.specs.Prelude.{ℕ, ◌≡◌, ◌==◌, Bool, false, List, [], ◌∷◌, ◌++◌, count_by, filter_map, find, Option, None, Some, option_map, Result, Ok, IsOk, if◌then◌else◌}
 use Rattle.std.specs.List.{All, list_any}
-use Rattle.gimli_read.specs.declared.error.Error.{Error}
-use Rattle.gimli_read.specs.Abbreviations.{Abbrev}
-use Rattle.gimli_read.specs.Reading.{◌>>=◌}
-use Rattle.gimli.specs.Items.{Item, subtree_of}
-use Rattle.gimli.specs.Unit.{UnitRecord}
+use Rattle.addr2line_lines.specs.Common.{Error, Abbrev, ◌>>=◌, Item, subtree_of, UnitRecord}
 use Rattle.addr2line_lines.specs.Details.{Detail, detail_at, placed_items, whole_entry_at}
 use Rattle.addr2line_lines.specs.InlinedEntries.{is_inlined}
 use Rattle.addr2line_lines.specs.References.{Scope}

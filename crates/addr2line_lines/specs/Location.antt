@@ -2,7 +2,7 @@
 -- Own: line 0 gives neither line nor column; otherwise column 0 is a column. An index past the
 -- files gives no file.
 use Rattle.std.specs.Prelude.{ℕ, List, Option, Some, None, slice_get, option_map, ◌==◌, if◌then◌else◌}
-use Rattle.gimli_line.specs.declared.row.LineRow.{LineRow}
+use Rattle.addr2line_lines.specs.Common.{LineRow}
 use Rattle.addr2line_lines.specs.declared.row.Row.{Row}
 use Rattle.addr2line_lines.specs.Sequences.{Sequence, sequences_of}
 use Rattle.addr2line_lines.specs.Spans.{row_at}

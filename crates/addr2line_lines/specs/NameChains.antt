@@ -1,8 +1,6 @@
 -- Chains of entries that are referred to for a name (DWARF 5, sections 2.13.2 and 3.3.8).
 use Rattle.std.specs.Prelude.{◌≡◌, ◌<◌, List, [], ◌∷◌, length, Some, None, Ok}
-use Rattle.gimli_read.specs.declared.value.AttributeValue.{AttributeValue}
-use Rattle.gimli_read.specs.Section.{Section}
-use Rattle.gimli.specs.Unit.{UnitRecord}
+use Rattle.addr2line_lines.specs.Common.{AttributeValue, Section, UnitRecord}
 use Rattle.addr2line_lines.specs.Names.{NameOrOrigin, most_visited, referred_name, visited}
 use Rattle.addr2line_lines.specs.References.{EntryPlace, Scope, referred}
 

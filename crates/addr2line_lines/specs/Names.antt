@@ -6,19 +6,8 @@
 use Rattle.std.specs.Prelude.{ℕ, zero, suc, ◌==◌, ◌||◌, Bool, List, [], ◌∷◌, Option, Some, None, Result, Ok, Err, if◌then◌else◌}
 use Rattle.std.specs.Option.{option_or}
 use Rattle.std.specs.Result.{result_ok}
-use Rattle.gimli_read.specs.declared.constants.DwAt.{DwAt}
-use Rattle.gimli_read.specs.declared.constants.TheConstants.DwAt.{DW_AT_name, DW_AT_linkage_name, DW_AT_MIPS_linkage_name, DW_AT_abstract_origin, DW_AT_specification}
-use Rattle.gimli_read.specs.declared.error.Error.{Error}
-use Rattle.gimli_read.specs.declared.error.Error.TheVariants.{NoEntryAtGivenOffset}
-use Rattle.gimli_read.specs.declared.value.AttributeValue.{AttributeValue}
-use Rattle.gimli_read.specs.Abbreviations.{Abbrev, Specification}
-use Rattle.gimli_read.specs.Form.{NamedValue, attribute_at}
-use Rattle.gimli_read.specs.Reading.{◌>>=◌}
-use Rattle.gimli_read.specs.Section.{Section}
+use Rattle.addr2line_lines.specs.Common.{DwAt, DW_AT_name, DW_AT_linkage_name, DW_AT_MIPS_linkage_name, DW_AT_abstract_origin, DW_AT_specification, Error, NoEntryAtGivenOffset, AttributeValue, Abbrev, Specification, NamedValue, attribute_at, ◌>>=◌, Section, entry_code_at, taken_in, UnitRecord, attr_string_of}
 use Rattle.gimli.specs.Entries.{entry_bytes_from}
-use Rattle.gimli.specs.Entry.{entry_code_at}
-use Rattle.gimli.specs.TakenAttributes.{taken_in}
-use Rattle.gimli.specs.Unit.{UnitRecord, attr_string_of}
 use Rattle.addr2line_lines.specs.References.{EntryPlace, Scope, referred}
 
 -- whether an attribute is a linkage name

@@ -4,8 +4,7 @@
 -- none that holds the address is left out. The standard doesn't ask for ranges so nested.
 use Rattle.std.specs.Prelude.{ℕ, ◌≡◌, ◌+◌, ◌<◌, ◌≤◌, Bool, true, List, [], ◌∷◌, Option, Some, None, Ok, length, slice_get}
 use Rattle.std.specs.List.{All, Contains}
-use Rattle.gimli.specs.Items.{Item}
-use Rattle.gimli.specs.Unit.{UnitRecord}
+use Rattle.addr2line_lines.specs.Common.{Item, UnitRecord}
 use Rattle.addr2line_lines.specs.Details.{Detail, detail_at}
 use Rattle.addr2line_lines.specs.InlinedEntries.{InlinedEntry, InlinedRange}
 use Rattle.addr2line_lines.specs.InlinedChain.{inlined_begin, inlined_chain, inlined_end, inlined_within}

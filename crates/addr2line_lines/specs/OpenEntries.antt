@@ -1,6 +1,6 @@
 -- The entries that are open inside a function, by their kinds, as the private functions see them.
 use Rattle.std.specs.Prelude.{◌≡◌, ℕ, ◌==◌, ◌&&◌, Bool, true, false, List, [], ◌∷◌, count_by, if◌then◌else◌}
-use Rattle.gimli_read.specs.Abbreviations.{Abbrev}
+use Rattle.addr2line_lines.specs.Common.{Abbrev}
 use Rattle.addr2line_lines.specs.declared.nesting.Kind.{Kind}
 use Rattle.addr2line_lines.specs.declared.nesting.Kind.TheVariants.{Subprogram, Inlined, Other}
 use Rattle.addr2line_lines.specs.InlinedEntries.{is_inlined}

@@ -4,7 +4,7 @@
 -- is.
 use Rattle.std.specs.Prelude.{ℕ, ◌≡◌, ◌<◌, ◌≤◌, ◌⊎◌, List, Option, Some, None, filter, nat_le, nat_lt, if◌then◌else◌, option_and_then}
 use Rattle.std.specs.List.{All, Contains}
-use Rattle.gimli_read.specs.Topmost.{topmost, last}
+use Rattle.addr2line_lines.specs.Common.{topmost, last}
 
 -- those that begin at or below the probe
 abbrev pub at_or_below : {X : Type 0} → (X → ℕ) → ℕ → List X → List X

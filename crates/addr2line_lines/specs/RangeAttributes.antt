@@ -5,20 +5,10 @@
 -- address counts before a size, whose sum wraps at 64 bits. Empty and reversed ranges are dropped.
 use Rattle.std.specs.Prelude.{ℕ, ◌+◌, ◌%◌, ◌^◌, ◌==◌, nat_lt, Bool, true, false, List, [], ◌∷◌, map, Option, Some, None, Result, Ok, if◌then◌else◌}
 use Rattle.std.specs.Option.{option_or}
-use Rattle.gimli_read.specs.declared.error.Error.{Error}
-use Rattle.gimli_read.specs.declared.range.Range.{Range}
-use Rattle.gimli_read.specs.declared.value.AttributeValue.{AttributeValue}
+use Rattle.addr2line_lines.specs.Common.{Error, Range, AttributeValue, DW_AT_low_pc, DW_AT_high_pc, DW_AT_ranges, Section, Reading, ◌>>=◌, NamedValue, constant_of, ranges_at, Sections, taken_after, taken_in, UnitRecord}
 use Rattle.gimli_read.specs.declared.value.AttributeValue.TheVariants as values
-use Rattle.gimli_read.specs.declared.constants.TheConstants.DwAt.{DW_AT_low_pc, DW_AT_high_pc, DW_AT_ranges}
-use Rattle.gimli_read.specs.Section.{Section}
-use Rattle.gimli_read.specs.Reading.{Reading, ◌>>=◌}
-use Rattle.gimli_read.specs.Form.{NamedValue, constant_of}
-use Rattle.gimli.specs.Ranges.{ranges_at}
 use Rattle.gimli.specs.RangesOffset.{ranges_offset_of}
-use Rattle.gimli.specs.Sections.{Sections}
-use Rattle.gimli.specs.TakenAttributes.{taken_after, taken_in}
 use Rattle.gimli.specs.Text.{indexed_number}
-use Rattle.gimli.specs.Unit.{UnitRecord}
 use Rattle.addr2line_lines.specs.declared.function.RangeAttributes.{RangeAttributes}
 use Rattle.addr2line_lines.specs.Rows.{read_all}
 

@@ -3,7 +3,7 @@
 -- begin below the range's end and end past its begin, each with its own address and the whole
 -- length of its span. The range's ends may be reversed.
 use Rattle.std.specs.Prelude.{ℕ, ◌-◌, Bool, ◌&&◌, nat_lt, List, filter, flat_map, map, max, min}
-use Rattle.gimli_read.specs.declared.range.Range.{Range}
+use Rattle.addr2line_lines.specs.Common.{Range}
 use Rattle.addr2line_lines.specs.InOrder.{begins_sooner, in_order}
 use Rattle.addr2line_lines.specs.Sequences.{Sequence, start_of, end_of}
 use Rattle.addr2line_lines.specs.Spans.{Span, spans}

@@ -6,7 +6,7 @@ use Rattle.addr2line_lines.specs.declared.range.LineLocationRangeIter.{LineLocat
 use Rattle.addr2line_lines.specs.declared.range.LineSpan.{LineSpan}
 use Rattle.addr2line_lines.specs.declared.spans.SequenceSpans.{SequenceSpans}
 use Rattle.addr2line_lines.specs.declared.row.Row.{Row}
-use Rattle.gimli_read.specs.declared.range.Range.{Range}
+use Rattle.addr2line_lines.specs.Common.{Range}
 use Rattle.addr2line_lines.specs.declared.sequence.LineSequence.{LineSequence}
 use Rattle.addr2line_lines.specs.Packed.{Packed, unpacked}
 use Rattle.addr2line_lines.specs.RangeLocations.{LocatedSpan, located, located_in, meets}

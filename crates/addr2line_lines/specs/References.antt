@@ -6,15 +6,10 @@
 -- anywhere, nor a value that is no reference.
 use Rattle.std.specs.Prelude.{ℕ, ◌+◌, ◌≤◌, List, [], ◌∷◌, Option, Some, None, Result, Ok, Err}
 use Rattle.std.specs.List.{All}
-use Rattle.gimli_read.specs.declared.error.Error.{Error}
-use Rattle.gimli_read.specs.declared.error.Error.TheVariants.{NoEntryAtGivenOffset}
-use Rattle.gimli_read.specs.declared.value.AttributeValue.{AttributeValue}
+use Rattle.addr2line_lines.specs.Common.{Error, NoEntryAtGivenOffset, AttributeValue, Section, Sections, UnitRecord}
 use Rattle.gimli_read.specs.declared.value.AttributeValue.TheVariants as values
-use Rattle.gimli_read.specs.Section.{Section}
 use Rattle.gimli.specs.Entries.{unit_length}
 use Rattle.gimli.specs.Offsets.{unit_offset_of}
-use Rattle.gimli.specs.Sections.{Sections}
-use Rattle.gimli.specs.Unit.{UnitRecord}
 
 -- the sections of a file, and the units that offsets in its .debug_info lead to
 pub record FileRecord : Type 0 where

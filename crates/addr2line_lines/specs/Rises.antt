@@ -1,7 +1,7 @@
 -- What the addresses of a sequence do (DWARF 5, section 6.2.5: within a sequence they only rise).
 use Rattle.std.specs.Prelude.{ℕ, ◌≡◌, ◌≤◌, ◌<◌, List, [], ◌∷◌}
 use Rattle.std.specs.List.{AllByRecursion}
-use Rattle.gimli_line.specs.declared.row.LineRow.{LineRow}
+use Rattle.addr2line_lines.specs.Common.{LineRow}
 use Rattle.gimli_line.specs.Rises.{NeverFalls}
 use Rattle.addr2line_lines.specs.declared.row.Row.{Row}
 use Rattle.addr2line_lines.specs.Sequences.{Sequence, sequences_of}

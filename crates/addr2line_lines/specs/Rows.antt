@@ -1,6 +1,6 @@
 -- Rows that come one at a time, as the private functions see them.
 use Rattle.std.specs.Prelude.{List, [], ◌∷◌, Result, Ok, Err}
-use Rattle.gimli_read.specs.Reading.{result_map}
+use Rattle.addr2line_lines.specs.Common.{result_map}
 
 -- all of the rows, or the first fault
 abbrev pub read_all : {X E : Type 0} → List (Result X E) → Result (List X) E

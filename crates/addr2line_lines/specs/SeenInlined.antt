@@ -1,6 +1,6 @@
 -- An inlined function as contracts see it: its name as a section.
 use Rattle.std.specs.Prelude.{option_map}
-use Rattle.gimli_read.specs.Section.{Section}
+use Rattle.addr2line_lines.specs.Common.{Section}
 use Rattle.addr2line_lines.specs.declared.inlined_functions.InlinedFunction.{InlinedFunction}
 use Rattle.addr2line_lines.specs.InlinedEntries.{InlinedEntry}
 

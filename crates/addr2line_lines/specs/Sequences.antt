@@ -6,7 +6,7 @@
 -- Own: of lines and columns the low 32 bits count.
 use Rattle.std.specs.Prelude.{ℕ, ◌==◌, ◌&&◌, not, List, [], ◌∷◌, Option, Some, None, map, filter_map, nat_lt, if◌then◌else◌}
 use Rattle.std.specs.List.{list_any}
-use Rattle.gimli_line.specs.declared.row.LineRow.{LineRow}
+use Rattle.addr2line_lines.specs.Common.{LineRow}
 use Rattle.addr2line_lines.specs.declared.row.Row.{Row}
 use Rattle.addr2line_lines.specs.LowBits.{low_bits}
 

@@ -6,7 +6,7 @@ use Rattle.std.specs.Prelude.{ℕ, ◌-◌, ◌^◌, ◌==◌, ◌&&◌, Bool, t
 use Rattle.std.specs.List.{zip}
 use Rattle.std.specs.declared.alloc.Global.{Global}
 use Rattle.std.specs.declared.rc.Rc.{Rc}
-use Rattle.gimli_read.specs.Section.{Section}
+use Rattle.addr2line_lines.specs.Common.{Section}
 use Rattle.addr2line_lines.specs.declared.inlined_functions.InlinedCall.{InlinedCall}
 use Rattle.addr2line_lines.specs.declared.inlined_functions.ShortCall.{ShortCall}
 use Rattle.addr2line_lines.specs.InlinedEntries.{InlinedEntry}

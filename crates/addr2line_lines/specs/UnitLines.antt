@@ -2,12 +2,8 @@
 -- Own: the program's fault comes before that of the files' texts. A unit without a line program has
 -- no lines.
 use Rattle.std.specs.Prelude.{◌≡◌, ◌++◌, [], ◌∷◌, Option, Some, None, Result, Ok, Err}
-use Rattle.gimli_read.specs.declared.error.Error.{Error}
-use Rattle.gimli_read.specs.Reading.{◌>>=◌}
-use Rattle.gimli_line.specs.Header.{Program}
+use Rattle.addr2line_lines.specs.Common.{Error, ◌>>=◌, Program, Sections, UnitRecord}
 use Rattle.gimli_line.specs.Lines.{Lines, lines_of}
-use Rattle.gimli.specs.Sections.{Sections}
-use Rattle.gimli.specs.Unit.{UnitRecord}
 use Rattle.addr2line_lines.specs.Rows.{read_all}
 use Rattle.addr2line_lines.specs.Location.{LineTable, line_table_of}
 use Rattle.addr2line_lines.specs.FileTexts.{file_texts}

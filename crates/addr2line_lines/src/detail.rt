@@ -1,10 +1,7 @@
 //! The details of functions.
 
 ghost use Rattle.std.specs.Prelude.{◌≡◌, ◌<◌, [], None, Ok, OnOk, int_lt, length, option_map, pos};
-ghost use Rattle.gimli_read.specs.Form.{rest_of};
-ghost use Rattle.gimli_read.specs.Reading.{ExactlyUnlessOomIf};
-ghost use Rattle.gimli.specs.Entry.{attributes_at};
-ghost use Rattle.gimli_read.specs.Costed.{ExactlyAtCost};
+ghost use Rattle.addr2line_lines.specs.Common.{rest_of, ExactlyUnlessOomIf, attributes_at, ExactlyAtCost};
 ghost use Rattle.addr2line_lines.specs.CostedSteps.{on_parts};
 ghost use Rattle.addr2line_lines.specs.Finding.{FindsAtCost};
 ghost use Rattle.addr2line_lines.specs.CachedNames.{AreNamesMore, AreNamesOf, seen_names};

@@ -2,8 +2,7 @@
 
 ghost use Rattle.std.specs.List.{AllByRecursion};
 ghost use Rattle.std.specs.Prelude.{◌≡◌, ◌<◌, [], IfErr, IfOk, OnErr, Ok, length, map, option_map, slice_get};
-ghost use Rattle.gimli_read.specs.Reading.{ExactlyUnlessOomIf};
-ghost use Rattle.gimli_read.specs.Costed.{ExactlyAtCost};
+ghost use Rattle.addr2line_lines.specs.Common.{ExactlyUnlessOomIf, ExactlyAtCost};
 ghost use Rattle.addr2line_lines.specs.CostedSteps.{on_parts};
 ghost use Rattle.addr2line_lines.specs.Details.{stored_detail_at};
 ghost use Rattle.addr2line_lines.specs.FoundInlined.{entry_among, none_inlined};

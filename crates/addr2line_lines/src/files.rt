@@ -1,8 +1,7 @@
 //! The texts of a unit's files.
 
 ghost use Rattle.std.specs.Prelude.{◌≡◌, Ok, map, option_map, option_copied, string_bytes};
-ghost use Rattle.gimli_read.specs.Reading.{ExactlyUnlessOom};
-ghost use Rattle.gimli_read.specs.Form.{seen_value};
+ghost use Rattle.addr2line_lines.specs.Common.{ExactlyUnlessOom, seen_value};
 ghost use Rattle.addr2line_lines.specs.FileTexts.{bytes_if_some, optional_string, file_directory, text_of_file, texts_of, at_least_one, texts_after, own_name_first, file_texts};
 
 use crate::path::{make_file_text, make_own_text};

@@ -2,7 +2,7 @@
 
 ghost use Rattle.std.specs.Prelude.{◌≡◌, None, Ok, is_some, option_map};
 ghost use Rattle.std.specs.Option.{option_or};
-ghost use Rattle.gimli_read.specs.Reading.{ExactlyUnlessOom, ExactlyUnlessOomIf};
+ghost use Rattle.addr2line_lines.specs.Common.{ExactlyUnlessOom, ExactlyUnlessOomIf};
 ghost use Rattle.addr2line_lines.specs.FoundNames.{found_name};
 
 use gimli::read::{Error, Reader};

@@ -3,10 +3,7 @@
 ghost use Rattle.std.specs.Prelude.{◌≡◌, Ok, OnOk};
 ghost use Rattle.std.specs.List.{list_any};
 ghost use Rattle.std.specs.Option.{option_to_list};
-ghost use Rattle.gimli_read.specs.Reading.{Exactly, ExactlyUnlessOomIf};
-ghost use Rattle.gimli_read.specs.Form.{rest_of, seen_value};
-ghost use Rattle.gimli.specs.Entry.{attributes_at};
-ghost use Rattle.gimli.specs.Ranges.{ranges_at};
+ghost use Rattle.addr2line_lines.specs.Common.{Exactly, ExactlyUnlessOomIf, rest_of, seen_value, attributes_at, ranges_at};
 ghost use Rattle.addr2line_lines.specs.FoundRanges.{is_address_name, is_range_specification, is_range_name};
 ghost use Rattle.addr2line_lines.specs.FoundNumbers.{with_range_number};
 ghost use Rattle.addr2line_lines.specs.RangeAttributes.{attr_address, no_range_attributes, with_range_attribute, range_attributes_after, range_between, ranges_of, all_ranges, attribute_ranges, begins_well, gives_a_range};

@@ -2,9 +2,7 @@
 
 ghost use Rattle.std.specs.List.{AllByRecursion};
 ghost use Rattle.std.specs.Prelude.{◌≡◌, ◌≢◌, ◌<◌, ◌==◌, [], Err, false, length, map, option_and_then, option_map, slice_get, IfOk, IfSome, None, Ok, OnOk, Some};
-ghost use Rattle.gimli_read.specs.declared.error.Error.TheVariants.{OutOfMemory};
-ghost use Rattle.gimli_read.specs.Costed.{ExactlyAtCost};
-ghost use Rattle.gimli_read.specs.Reading.{ExactlyUnlessOomIf};
+ghost use Rattle.addr2line_lines.specs.Common.{OutOfMemory, ExactlyAtCost, ExactlyUnlessOomIf, ranges_at};
 ghost use Rattle.addr2line_lines.specs.CachedNames.{AreNamesOf};
 ghost use Rattle.addr2line_lines.specs.Finding.{FindsUnlessOomIf};
 ghost use Rattle.addr2line_lines.specs.InlinedChain.{inlined_chain};
@@ -15,7 +13,6 @@ ghost use Rattle.addr2line_lines.specs.FunctionDetails.{AreCachedToFault, AreDet
 ghost use Rattle.addr2line_lines.specs.FunctionTable.{AreListed, cached_inlined, cached_name, function_place_at, cached_offset_at};
 ghost use Rattle.addr2line_lines.specs.Functions.{function_offset_at, functions_of, functions_take_memory, is_subprogram};
 ghost use Rattle.addr2line_lines.specs.InlineRoom.{exceeds_inline_room};
-ghost use Rattle.gimli.specs.Ranges.{ranges_at};
 ghost use Rattle.addr2line_lines.specs.RangeAttributes.{begins_well, gives_a_range};
 ghost use Rattle.addr2line_lines.specs.References.{IsScope};
 ghost use Rattle.addr2line_lines.specs.SeenInlined.{seen_inlined};

@@ -2,9 +2,7 @@
 
 ghost use Rattle.std.specs.Prelude.{◌≡◌, Ok, OnOk, option_and_then};
 ghost use Rattle.std.specs.Option.{option_or};
-ghost use Rattle.gimli_read.specs.Form.{rest_of};
-ghost use Rattle.gimli_read.specs.Reading.{ExactlyUnlessOomIf};
-ghost use Rattle.gimli.specs.Entry.{attributes_at};
+ghost use Rattle.addr2line_lines.specs.Common.{rest_of, ExactlyUnlessOomIf, attributes_at};
 ghost use Rattle.addr2line_lines.specs.CachedNames.{AreNamesMore, AreNamesOf, seen_names};
 ghost use Rattle.addr2line_lines.specs.InlinedEntries.{constant_bits, counted_file, no_call, no_inlined_attributes, with_call_constant};
 ghost use Rattle.addr2line_lines.specs.FoundAttributes.{inlined_attributes_after, is_call, seen_attributes};

@@ -1,8 +1,7 @@
 //! Inlined entries and their ranges, as they are found.
 
 ghost use Rattle.std.specs.Prelude.{◌≡◌};
-ghost use Rattle.gimli_read.specs.Reading.{ExactlyUnlessOomIf};
-ghost use Rattle.gimli.specs.Ranges.{ranges_at};
+ghost use Rattle.addr2line_lines.specs.Common.{ExactlyUnlessOomIf, ranges_at};
 ghost use Rattle.addr2line_lines.specs.FoundInlined.{IsFoundMore, first_found, none_inlined, seen_lists, with_inlined_found, with_inlined_list, with_inlined_ranges};
 ghost use Rattle.addr2line_lines.specs.Grown.{IsGrown};
 ghost use Rattle.addr2line_lines.specs.FoundAttributes.{seen_attributes};

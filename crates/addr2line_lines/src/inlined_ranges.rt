@@ -1,7 +1,7 @@
 //! The ranges of inlined functions, as they are stored.
 
 ghost use Rattle.std.specs.Prelude.{◌≡◌, ◌≤◌, ◌++◌, drop, length, take, Ok};
-ghost use Rattle.gimli_read.specs.Reading.{ExactlyUnlessOomIf};
+ghost use Rattle.addr2line_lines.specs.Common.{ExactlyUnlessOomIf};
 ghost use Rattle.addr2line_lines.specs.CachedDetails.{between};
 ghost use Rattle.addr2line_lines.specs.InOrder.{IsInOrder, in_order};
 ghost use Rattle.addr2line_lines.specs.InlinedOrder.{inlined_sooner, places_chain};

@@ -8,8 +8,7 @@ ghost use Rattle.addr2line_lines.specs.Packed.{IsAmong, packed_rows_in, unpacked
 ghost use Rattle.addr2line_lines.specs.Counts.{most_looks_in};
 ghost use Rattle.addr2line_lines.specs.RangeLocations.{locations_in_range, sequence_ranges};
 ghost use Rattle.addr2line_lines.specs.RangesLeft.{located_rows_left};
-ghost use Rattle.gimli_read.specs.Reading.{ExactlyUnlessOomIf, IsUnlessOom};
-ghost use Rattle.gimli_line.specs.Header.{header_copy_takes_memory};
+ghost use Rattle.addr2line_lines.specs.Common.{ExactlyUnlessOomIf, IsUnlessOom, header_copy_takes_memory};
 ghost use Rattle.gimli_line.specs.Lines.{lines_of};
 ghost use Rattle.addr2line_lines.specs.UnitLines.{IsFaultAtOnce, program_lines, unit_lines};
 ghost use Rattle.addr2line_lines.specs.Location.{location_at, location_of_row};

@@ -1,7 +1,7 @@
 //! The entries that are open around a place in a function.
 
 ghost use Rattle.std.specs.Prelude.{◌≡◌, [], Err, OnErr, OnOk, true, count_by};
-ghost use Rattle.gimli_read.specs.declared.error.Error.TheVariants.{OutOfMemory};
+ghost use Rattle.addr2line_lines.specs.Common.{OutOfMemory};
 ghost use Rattle.addr2line_lines.specs.OpenEntries.{closed_once, is_inlined_kind, is_listed, kind_of, opened};
 
 use gimli::read::{Abbreviation, DwTag, Error};

@@ -2,7 +2,7 @@
 
 ghost use Rattle.std.specs.Prelude.{◌≡◌, ◌≤◌, ◌++◌, ℕ, IfOk, List, Ok, drop, length, map, take};
 ghost use Rattle.std.specs.List.Sorted.{IsNonDecreasingBy};
-ghost use Rattle.gimli_read.specs.Reading.{ExactlyUnlessOomIf};
+ghost use Rattle.addr2line_lines.specs.Common.{ExactlyUnlessOomIf};
 ghost use Rattle.addr2line_lines.specs.InOrder.{IsInOrder, in_order};
 ghost use Rattle.addr2line_lines.specs.InlinedEntries.{InlinedEntry};
 ghost use Rattle.addr2line_lines.specs.InlinedOrder.{IsChainOf, inlined_sooner, inlined_place, place_at, places_chain};

@@ -2,8 +2,7 @@
 
 ghost use Rattle.std.specs.Prelude.{◌≡◌, ◌≤◌, length, option_map};
 ghost use Rattle.std.specs.List.Sorted.{IsPartitionPoint};
-ghost use Rattle.gimli_read.specs.Form.{seen_value};
-ghost use Rattle.gimli_read.specs.Reading.{Exactly};
+ghost use Rattle.addr2line_lines.specs.Common.{seen_value, Exactly};
 ghost use Rattle.addr2line_lines.specs.References.{AreInOrder, IsFileInOrder, IsScope, entry_in, entry_in_sup, referred, unit_at};
 ghost use Rattle.addr2line_lines.specs.SeenScope.{seen_scope, seen_file};
 ghost use Rattle.addr2line_lines.specs.FoundNames.{BeginsAbove, BeginsBy, seen_place};

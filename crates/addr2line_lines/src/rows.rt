@@ -1,7 +1,7 @@
 //! The rows of a unit, as they are stored.
 
 ghost use Rattle.std.specs.Prelude.{◌≡◌, ◌+◌, ◌-◌, ◌<◌, true, false, [], ◌∷◌, ◌++◌, drop, length, map, slice_get, take, vec_len, IfOk, OnOk, OnErr, Some};
-ghost use Rattle.gimli_read.specs.Topmost.{last};
+ghost use Rattle.addr2line_lines.specs.Common.{last};
 ghost use Rattle.addr2line_lines.specs.Building.{has_address, without_last_from};
 ghost use Rattle.addr2line_lines.specs.Packed.{row_address_at};
 ghost use Rattle.addr2line_lines.specs.StoredRows.{IsWidthFor, are_narrow, fits, none_stored, row_of_short, shortened, stores, upper_of, whole_rows, width_after, width_anew, width_of};

@@ -1,7 +1,7 @@
 //! The search for the row of an address, in any table whose reads count.
 
 ghost use Rattle.std.specs.Prelude.{◌≡◌, ℕ, ◌+◌, ◌-◌, ◌*◌, ◌%◌, ◌<◌, ◌≤◌, ◌^◌, List, length, map, IfSome, Some, slice_get};
-ghost use Rattle.gimli_read.specs.Topmost.{last};
+ghost use Rattle.addr2line_lines.specs.Common.{last};
 ghost use Rattle.addr2line_lines.specs.Digits.{digits};
 ghost use Rattle.addr2line_lines.specs.InOrder.{IsInOrder};
 ghost use Rattle.addr2line_lines.specs.Packed.{ArePastFrom, IsAmong, IsTable, row_address_at, packed_sooner, packed_start, unpacked};

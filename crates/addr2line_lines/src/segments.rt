@@ -3,8 +3,7 @@
 ghost use Rattle.std.specs.Prelude.{◌≡◌, ◌+◌, ◌*◌, ◌≤◌, ◌^◌, ◌-◌, ◌++◌, ℕ, List, [], Ok, None, IfOk, IfErr, IsOk, OnOk, ◌<◌, ◌↔◌, length, max, nat_lt, slice_index_or, true};
 ghost use Rattle.std.specs.BinaryHeap.{heap_items};
 ghost use Rattle.std.specs.List.Sorted.{IsNonDecreasingBy, IsPermutation};
-ghost use Rattle.gimli_read.specs.declared.error.Error.TheVariants.{OutOfMemory};
-ghost use Rattle.gimli_read.specs.Reading.{ExactlyUnlessOomIf};
+ghost use Rattle.addr2line_lines.specs.Common.{OutOfMemory, ExactlyUnlessOomIf};
 ghost use Rattle.addr2line_lines.specs.LastAddress.{last_address};
 ghost use Rattle.addr2line_lines.specs.Segments.{AreDisjoint, AreSegments, address_begin, first_end, shortest_function_at, as_running, segment_to};
 ghost use Rattle.addr2line_lines.specs.Sweep.{IsBegunFrom, IsGreatestFirst, IsSweptBy, is_outdone};

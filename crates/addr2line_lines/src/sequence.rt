@@ -2,8 +2,7 @@
 
 ghost use Rattle.std.specs.Prelude.{◌≡◌, ◌+◌, [], ◌∷◌, ◌++◌, drop, map, length, option_map, true, false, IfOk, IfSome, Ok, OnErr, OnOk};
 ghost use Rattle.std.specs.List.{AllByRecursion};
-ghost use Rattle.gimli_read.specs.Topmost.{last};
-ghost use Rattle.gimli_read.specs.Reading.{ExactlyUnlessOom, result_map};
+ghost use Rattle.addr2line_lines.specs.Common.{last, ExactlyUnlessOom, result_map};
 ghost use Rattle.addr2line_lines.specs.Rows.{read_all};
 ghost use Rattle.addr2line_lines.specs.UnitLines.{IsFaultAtOnce};
 ghost use Rattle.addr2line_lines.specs.Sequences.{sequences_of};

@@ -1,33 +1,10 @@
 -- What a parse of functions leaves of the functions of a view, and of a unit (on
 -- specs/AfterParses.antt).
-use Rattle.std.proofs.Common.{◌≡◌, ◌∙◌, Bool, true, false, [], Option, Some, Result, Ok, Err, None, refl, sym, ap, subst, inr}
-use Rattle.std.specs.Prelude.{IfErr, OnOk}
-use Rattle.std.specs.List.{AllByRecursion}
-use Rattle.gimli_read.specs.declared.error.Error.{Error}
-use Rattle.gimli_read.specs.declared.error.Error.TheVariants.{OutOfMemory}
-use Rattle.gimli_read.specs.Reading.{ExactlyUnlessOomIf, WasNotRefused}
-use Rattle.gimli.specs.Sections.{Sections}
-use Rattle.gimli.specs.Unit.{UnitRecord}
-use Rattle.addr2line_lines.specs.FunctionDetails.{HasDetail}
-use Rattle.addr2line_lines.specs.FunctionTable.{cached_detail}
-use Rattle.addr2line_lines.specs.Functions.{functions_of, functions_take_memory}
-use Rattle.addr2line_lines.specs.FunctionDetails.{AreUnread}
-use Rattle.addr2line_lines.specs.References.{Scope}
-use Rattle.addr2line_units.specs.declared.entries.LazyFunctions.{LazyFunctions}
+use Rattle.addr2line_units.proofs.Common.{◌≡◌, ◌∙◌, Bool, true, false, [], Option, Some, Result, Ok, Err, None, refl, sym, ap, subst, inr, IfErr, OnOk, AllByRecursion, Error, OutOfMemory, ExactlyUnlessOomIf, WasNotRefused, Sections, UnitRecord, HasDetail, cached_detail, functions_of, functions_take_memory, AreUnread, Scope, LazyFunctions, ReadingDepth, UnitEntries, UnitView, functions_in_take_memory, AreEntriesOf, first_answer_of, AreFunctionsOf, StayFunctions, cached_fault, cached_functions, functions_fault, is_cached_fault, reading_takes_memory, were_read, known_by, known_fault, known_functions, is_decided, seen_first_answer, IsReadyFor, read_of_functions, read_of_view, View, decided_answer, is_open, verdict}
 use Rattle.addr2line_units.specs.declared.entries.LazyFunctions.TheVariants as lazy
-use Rattle.addr2line_units.specs.declared.parses.ReadingDepth.{ReadingDepth}
 use Rattle.addr2line_units.specs.declared.parses.ReadingDepth.TheVariants as depths
-use Rattle.addr2line_units.specs.declared.entries.UnitEntries.{UnitEntries}
-use Rattle.addr2line_units.specs.declared.unit.UnitView.{UnitView}
 use Rattle.addr2line_units.specs.AfterParses.{AfterReadingFunctions, AfterReadingOf, AfterReadingUnit, AfterReadingView, IsDecidedAndReady}
-use Rattle.addr2line_units.specs.AskMemory.{functions_in_take_memory}
-use Rattle.addr2line_units.specs.CachedEntries.{AreEntriesOf, first_answer_of}
-use Rattle.addr2line_units.specs.CachedFunctions.{AreFunctionsOf, StayFunctions, cached_fault, cached_functions, functions_fault, is_cached_fault, reading_takes_memory, were_read}
-use Rattle.addr2line_units.specs.CachedKnown.{known_by, known_fault, known_functions}
-use Rattle.addr2line_units.specs.CachedViews.{is_decided, seen_first_answer}
-use Rattle.addr2line_units.specs.FunctionParses.{IsReadyFor, read_of_functions, read_of_view}
 use Rattle.addr2line_units.specs.StaysKnown.{IsReadBy}
-use Rattle.addr2line_units.specs.Views.{View, decided_answer, is_open, verdict}
 use Rattle.addr2line_units.proofs.AnswerLemmas.{decided_if_not, looked_waits}
 use Rattle.addr2line_units.proofs.AskMemoryLemmas.{exactly_if_none, reading_takes_none}
 use Rattle.addr2line_units.proofs.CachedParseLemmas.{alone_fault, alone_read, cached_stay, details_cached, details_read, entries_then, view_read}

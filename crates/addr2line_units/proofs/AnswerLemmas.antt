@@ -1,26 +1,8 @@
 -- Answers to the loads of units, and what is cached of their entries (on specs/CachedEntries.antt).
-use Rattle.std.proofs.Common.{◌≡◌, ◌≢◌, ℕ, zero, suc, ◌<◌, Bool, true, false, List, [], ◌∷◌, length, get_or, slice_get, arith, Option, Some, None, Result, Ok, Err, ap, refl, sym, ◌∙◌}
-use Rattle.std.proofs.Math.ListN.{set}
-use Rattle.std.proofs.lemmas.List.{set-get_or}
-use Rattle.std.specs.Prelude.{IfErr, IfOk, IfSome, OnOk, is_none, is_some, if◌then◌else◌}
-use Rattle.gimli_read.specs.declared.error.Error.{Error}
-use Rattle.gimli_read.specs.declared.error.Error.TheVariants.{OutOfMemory}
-use Rattle.gimli.specs.Sections.{Sections}
-use Rattle.gimli.specs.Unit.{UnitRecord}
-use Rattle.addr2line_lines.specs.References.{Scope}
-use Rattle.addr2line_units.specs.declared.entries.LazyFunctions.{LazyFunctions}
+use Rattle.addr2line_units.proofs.Common.{◌≡◌, ◌≢◌, ℕ, zero, suc, ◌<◌, Bool, true, false, List, [], ◌∷◌, length, get_or, slice_get, arith, Option, Some, None, Result, Ok, Err, ap, refl, sym, ◌∙◌, set, set-get_or, IfErr, OnOk, Error, OutOfMemory, Sections, UnitRecord, Scope, LazyFunctions, UnitCache, UnitEntries, UnitView, ViewState, answer_of, with_answer, AreEntriesOf, StayEntries, first_answer_of, AreFunctionsOf, were_read, StayAllEntries, answers_in, decided_at, IsViewOf, is_decided, seen_first_answer, verdict_in, waits, was_checked, FirstAnswers, View, decided_answer, is_open, verdict, view_scope}
+use Rattle.std.specs.Prelude.{IfOk, IfSome, is_none, is_some, if◌then◌else◌}
 use Rattle.addr2line_units.specs.declared.entries.LazyFunctions.TheVariants as lazy
-use Rattle.addr2line_units.specs.declared.entries.UnitCache.{UnitCache}
-use Rattle.addr2line_units.specs.declared.entries.UnitEntries.{UnitEntries}
-use Rattle.addr2line_units.specs.declared.unit.UnitView.{UnitView}
-use Rattle.addr2line_units.specs.declared.unit.ViewState.{ViewState}
 use Rattle.addr2line_units.specs.declared.unit.ViewState.TheVariants as states
-use Rattle.addr2line_units.specs.FramesLookup.{answer_of, with_answer}
-use Rattle.addr2line_units.specs.CachedEntries.{AreEntriesOf, StayEntries, first_answer_of}
-use Rattle.addr2line_units.specs.CachedFunctions.{AreFunctionsOf, were_read}
-use Rattle.addr2line_units.specs.CachedUnits.{StayAllEntries, answers_in, decided_at}
-use Rattle.addr2line_units.specs.CachedViews.{IsViewOf, is_decided, seen_first_answer, verdict_in, waits, was_checked}
-use Rattle.addr2line_units.specs.Views.{FirstAnswers, View, decided_answer, is_open, verdict, view_scope}
 use Rattle.addr2line_units.proofs.CachedUnitLemmas.{stay_entries_set}
 
 -- what waits isn't decided

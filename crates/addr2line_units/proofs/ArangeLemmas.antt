@@ -1,18 +1,9 @@
 -- The ranges that `.debug_aranges` lists, in order (on specs/UnitAranges.antt).
-use Rattle.std.proofs.Common.{ℕ, ◌≡◌, ◌≤◌, Bool, true, false, cond, not, ◌&&◌, ◌==◌, nat_cmp, leb, ltb, zero, suc, List, [], ◌∷◌, length, take, drop, arith, ◌∙◌, ap, sym, refl, filter}
+use Rattle.addr2line_units.proofs.Common.{ℕ, ◌≡◌, ◌≤◌, Bool, true, false, cond, not, ◌&&◌, ◌==◌, nat_cmp, leb, ltb, zero, suc, List, [], ◌∷◌, length, take, drop, arith, ◌∙◌, ap, sym, refl, filter, AllByRecursion, IsPartitionPoint, ties, nat_tests, ranks_by, filter_agree, in_order, IsInOrder, in_order_ties, UnitArange, is_arange_of, offset_sooner}
 use Rattle.std.specs.Cmp.{IsStrictWeakOrder}
-use Rattle.std.specs.List.{AllByRecursion}
-use Rattle.std.specs.List.Sorted.{IsPartitionPoint, ties}
 use Rattle.std.specs.Ordering.{is_lt}
-use Rattle.std.proofs.lemmas.Bool.Decides.{nat_tests}
 use Rattle.std.proofs.lemmas.Cmp.{nat_cmp_total}
-use Rattle.std.proofs.lemmas.List.Sorted.{ranks_by}
-use Rattle.std.proofs.lemmas.List.Elements.{filter_agree}
-use Rattle.addr2line_lines.specs.InOrder.{in_order, IsInOrder}
-use Rattle.addr2line_lines.proofs.OrderLemmas.{in_order_ties}
 use Rattle.addr2line_lines.proofs.SeekLemmas.{Up}
-use Rattle.addr2line_units.specs.declared.index.UnitArange.{UnitArange}
-use Rattle.addr2line_units.specs.UnitAranges.{is_arange_of, offset_sooner}
 
 -- by the offset of the unit is an order
 pub offset_order : IsStrictWeakOrder offset_sooner

@@ -1,34 +1,9 @@
 -- What the units of a context are after one of them was asked (on specs/AfterUnits.antt and
 -- specs/StoredUnits.antt).
-use Rattle.std.proofs.Common.{◌≡◌, ◌≢◌, ◌⊎◌, inl, inr, ℕ, ◌<◌, ◌≤◌, ◌&&◌, ◌||◌, Bool, true, false, not, List, [], ◌∷◌, length, get_or, slice_get, Option, Some, None, Result, Ok, Err, refl, sym, ap, subst, ◌∙◌, arith}
-use Rattle.std.proofs.Math.ListN.{set}
-use Rattle.std.specs.Prelude.{IfErr, IfOk, unwrap_or}
-use Rattle.gimli_read.specs.declared.error.Error.{Error}
-use Rattle.gimli_read.specs.declared.error.Error.TheVariants.{OutOfMemory}
-use Rattle.gimli_read.specs.Reading.{◌>>=◌, ExactlyUnlessOom, WasNotRefused}
-use Rattle.gimli.specs.Sections.{Sections}
-use Rattle.gimli.specs.Unit.{UnitRecord}
-use Rattle.addr2line_lines.specs.InlineRoom.{exceeds_inline_room}
-use Rattle.addr2line_lines.specs.References.{Scope}
-use Rattle.addr2line_units.specs.declared.frames.OnFault.{OnFault}
-use Rattle.addr2line_units.specs.declared.frames.FramesStop.{FramesStop}
+use Rattle.addr2line_units.proofs.Common.{◌≡◌, ◌≢◌, ◌⊎◌, inl, inr, ℕ, ◌<◌, ◌≤◌, ◌&&◌, ◌||◌, Bool, true, false, not, List, [], ◌∷◌, length, get_or, slice_get, Option, Some, None, Result, Ok, Err, refl, sym, ap, subst, ◌∙◌, arith, set, IfErr, Error, OutOfMemory, ◌>>=◌, ExactlyUnlessOom, WasNotRefused, Sections, UnitRecord, exceeds_inline_room, Scope, OnFault, FramesStop, UnitRange, UnitCache, AfterAsk, found_stop, stop_at, functions_in_take_memory, lines_of_take_memory, lines_take_memory, AreEntriesOf, AreFramesIn, AsksNoMemoryIn, ReadsEntriesOf, StayEntries, first_answer_of, frames_of_place, has_entries, AreFoundAt, IsLendable, IsStopIn, found_after_fault, frames_found_at, has_frames_at, seen_stop, stop_of_found, StaysUnit, StayUnits, indexed_unit, indexed_units, is_uncached, parsed_units, HaveEntriesOf, StayAllEntries, answers_in, has_entries_at, FindsNothing, LookupStop, after_fault, asks_lines_of, ends_lookup, function_offset_of, functions_of_take_memory, inlined_at_number, or_stop, known_in, knows_detail_at, has_parsed, AreUnits, seen_units, FramesResult, asks_lines_in, frames_in, inlined_of_unit, IsFaultAt, UnitsState, asked_by, asks_no_memory_at, has_all_at, reads_no_memory_at}
+use Rattle.std.specs.Prelude.{IfOk, unwrap_or}
 use Rattle.addr2line_units.specs.declared.frames.FramesStop.TheVariants as stops
-use Rattle.addr2line_units.specs.declared.index.UnitRange.{UnitRange}
-use Rattle.addr2line_units.specs.declared.entries.UnitCache.{UnitCache}
 use Rattle.addr2line_units.specs.declared.entries.UnitFrames.{UnitFrames}
-use Rattle.addr2line_units.specs.AskedUnits.{AfterAsk, found_stop, stop_at}
-use Rattle.addr2line_units.specs.AskMemory.{functions_in_take_memory, lines_of_take_memory, lines_take_memory}
-use Rattle.addr2line_units.specs.CachedEntries.{AreEntriesOf, AreFramesIn, AsksNoMemoryIn, ReadsEntriesOf, StayEntries, first_answer_of, frames_of_place, has_entries}
-use Rattle.addr2line_units.specs.CachedFrames.{AreFoundAt, IsLendable, IsStopIn, found_after_fault, frames_found_at, has_frames_at, seen_stop, stop_of_found}
-use Rattle.addr2line_units.specs.CachedLines.{StaysUnit, StayUnits, indexed_unit, indexed_units, is_uncached, parsed_units}
-use Rattle.addr2line_units.specs.CachedUnits.{HaveEntriesOf, StayAllEntries, answers_in, has_entries_at}
-use Rattle.addr2line_units.specs.FramesLookup.{FindsNothing, LookupStop, after_fault, asks_lines_of, ends_lookup, function_offset_of, functions_of_take_memory, inlined_at_number, or_stop}
-use Rattle.addr2line_units.specs.CachedKnown.{known_in}
-use Rattle.addr2line_units.specs.KnownEntries.{knows_detail_at}
-use Rattle.addr2line_units.specs.Parsed.{has_parsed}
-use Rattle.addr2line_units.specs.StoredUnits.{AreUnits, seen_units}
-use Rattle.addr2line_units.specs.UnitFrames.{FramesResult, asks_lines_in, frames_in, inlined_of_unit}
-use Rattle.addr2line_units.specs.UnitsState.{IsFaultAt, UnitsState, asked_by, asks_no_memory_at, has_all_at, reads_no_memory_at}
 use Rattle.addr2line_units.proofs.CachedUnitLemmas.{entries_set, reads_set, same_answers, stay_entries_set}
 use Rattle.addr2line_units.proofs.FoundLemmas.{lendable_if_told}
 use Rattle.addr2line_units.proofs.FramesLookupLemmas.{gives_after, no_stop, oom_before, refused_before, stop_is, stop_there, there_after}

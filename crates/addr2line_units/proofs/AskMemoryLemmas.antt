@@ -1,28 +1,11 @@
 -- What is read without memory (on specs/AskMemory.antt).
-use Rattle.std.proofs.Common.{◌≡◌, ◌≢◌, ◌∙◌, ◌++◌, ℕ, ap, subst, sym, refl, ◌||◌, not, is_none, is_some, Bool, true, false, List, [], ◌∷◌, Option, Some, None, Result, Ok, Err}
-use Rattle.std.specs.Prelude.{IfErr, IfSome}
-use Rattle.gimli_read.specs.declared.error.Error.{Error}
-use Rattle.gimli_read.specs.declared.error.Error.TheVariants.{OutOfMemory}
-use Rattle.gimli_read.specs.Reading.{◌>>=◌, ExactlyUnlessOomIf, WasNotRefused}
+use Rattle.addr2line_units.proofs.Common.{◌≡◌, ◌≢◌, ◌∙◌, ◌++◌, ℕ, ap, subst, sym, refl, ◌||◌, not, is_none, is_some, Bool, true, false, List, [], ◌∷◌, Option, Some, None, Result, Ok, Err, IfErr, Error, OutOfMemory, ◌>>=◌, ExactlyUnlessOomIf, WasNotRefused, Sections, UnitRecord, details_take_memory, FunctionTable, functions_take_memory, LineTable, line_table_of, Scope, read_all, IsFaultAtOnce, lines_in, program_lines, unit_lines, LazyFunctions, any_program_takes_memory, is_fault_at_once, lines_take_memory, AreFunctionsOf, IsTableOf, cached_takes_memory, find_takes_memory, reading_takes_memory, table_takes_memory, lines_result, not_refused}
+use Rattle.std.specs.Prelude.{IfSome}
 use Rattle.gimli_line.specs.declared.row.LineRow.{LineRow}
 use Rattle.gimli_line.specs.Header.{File, Program, header_copy_takes_memory}
 use Rattle.gimli_line.specs.Lines.{lines_of}
-use Rattle.gimli.specs.Sections.{Sections}
-use Rattle.gimli.specs.Unit.{UnitRecord}
 use Rattle.addr2line_lines.specs.FileTexts.{file_texts}
-use Rattle.addr2line_lines.specs.FunctionDetails.{details_take_memory}
-use Rattle.addr2line_lines.specs.FunctionTable.{FunctionTable}
-use Rattle.addr2line_lines.specs.Functions.{functions_take_memory}
-use Rattle.addr2line_lines.specs.Location.{LineTable, line_table_of}
-use Rattle.addr2line_lines.specs.References.{Scope}
-use Rattle.addr2line_lines.specs.Rows.{read_all}
-use Rattle.addr2line_lines.specs.UnitLines.{IsFaultAtOnce, lines_in, program_lines, unit_lines}
-use Rattle.addr2line_units.specs.declared.entries.LazyFunctions.{LazyFunctions}
 use Rattle.addr2line_units.specs.declared.entries.LazyFunctions.TheVariants as lazy
-use Rattle.addr2line_units.specs.AskMemory.{any_program_takes_memory, is_fault_at_once, lines_take_memory}
-use Rattle.addr2line_units.specs.CachedFunctions.{AreFunctionsOf, IsTableOf, cached_takes_memory, find_takes_memory, reading_takes_memory, table_takes_memory}
-use Rattle.addr2line_units.specs.CachedLines.{lines_result}
-use Rattle.gimli_read.proofs.FaultLemmas.{not_refused}
 use Rattle.addr2line_lines.proofs.FaultLemmas.{unit_lines_are}
 use Rattle.addr2line_units.proofs.FunctionMemoryLemmas.{details_take, place_takes}
 

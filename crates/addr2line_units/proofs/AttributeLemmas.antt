@@ -1,23 +1,17 @@
 -- The attributes of a root entry (on specs/UnitAttributes.antt).
-use Rattle.std.proofs.Common.{◌≡◌, ◌==◌, false, cond, List, Option, Some, None, Result, Ok, Err, refl, ap, ◌∙◌, pos}
-use Rattle.std.specs.Option.{option_or}
+use Rattle.addr2line_units.proofs.Common.{◌≡◌, ◌==◌, false, cond, List, Option, Some, None, Result, Ok, Err, refl, ap, ◌∙◌, pos, option_or, Error, Reading, ◌>>=◌, Sections, UnitRecord, or_parts}
 use Rattle.gimli_read.specs.declared.constants.TheConstants.DwAt.{DW_AT_language}
-use Rattle.gimli_read.specs.declared.error.Error.{Error}
 use Rattle.gimli_read.specs.Abbreviations.{Abbrev}
-use Rattle.gimli_read.specs.Reading.{Reading, ◌>>=◌}
 use Rattle.gimli_read.specs.Form.{NamedValue}
-use Rattle.gimli.specs.Sections.{Sections}
 use Rattle.gimli.specs.Entry.{attributes_at, entry_code_at, root_attributes, root_specifications}
 use Rattle.gimli.specs.EntryCursor.{EntriesLeft, EntryCursor, depth_after_code, entries_at, entries_from, entry_abbreviation_at}
 use Rattle.gimli.specs.TakenAttributes.{taken_after, taken_in}
-use Rattle.gimli.specs.Unit.{UnitRecord}
 use Rattle.addr2line_lines.specs.declared.function.RangeAttributes.{RangeAttributes}
 use Rattle.addr2line_lines.specs.FoundRanges.{is_range_name}
 use Rattle.addr2line_lines.proofs.FoundRanges.{rangeless}
 use Rattle.addr2line_units.specs.declared.attributes.UnitAttributes.{UnitAttributes}
 use Rattle.addr2line_units.specs.UnitAttributes.{language_after, language_of, no_unit_attributes, unit_attributes, with_unit_attribute}
 use Rattle.addr2line_units.specs.WantedAttributes.{is_unit_name}
-use Rattle.std.proofs.lemmas.Bool.{or_parts}
 
 -- an attribute of no such name says nothing
 pub unit_others : (d : Sections) (u : UnitRecord) (r : UnitAttributes) (a : NamedValue) → is_unit_name a.name ≡ false → with_unit_attribute d u r a ≡ Ok r

@@ -1,36 +1,13 @@
 -- The function at an address by what is cached of a view (on specs/CachedFunctions.antt).
-use Rattle.std.proofs.Common.{Box, Global, ◌≡◌, ◌≢◌, ℕ, ◌+◌, ◌<◌, ◌==◌, ◌&&◌, ◌⊎◌, inl, inr, nat_lt, not, Bool, true, false, cond, List, [], ◌∷◌, length, map, slice_get, slice_set, Option, Some, None, option_and_then, option_map, unwrap_or, Result, Ok, Err, refl, ap, sym, subst, ◌∙◌, arith, zero, suc}
-use Rattle.std.specs.Prelude.{IfSome, OnOk, position, reverse}
-use Rattle.std.specs.List.{AllByRecursion, AllZip, position_or_len}
-use Rattle.std.proofs.lemmas.Bool.Decides.{nat_tests}
-use Rattle.gimli_read.specs.declared.constants.DwLang.{DwLang}
-use Rattle.gimli_read.specs.declared.error.Error.{Error}
-use Rattle.gimli_read.specs.declared.error.Error.TheVariants.{OutOfMemory}
-use Rattle.gimli_read.specs.Reading.{◌>>=◌, ExactlyUnlessOomIf, fault_of}
-use Rattle.gimli_read.specs.Section.{Section}
-use Rattle.gimli.specs.Sections.{Sections}
-use Rattle.gimli.specs.Unit.{UnitRecord}
+use Rattle.addr2line_units.proofs.Common.{Box, Global, ◌≡◌, ◌≢◌, ℕ, ◌+◌, ◌<◌, ◌==◌, ◌&&◌, ◌⊎◌, inl, inr, nat_lt, not, Bool, true, false, cond, List, [], ◌∷◌, length, map, slice_get, slice_set, Option, Some, None, option_and_then, option_map, unwrap_or, Result, Ok, Err, refl, ap, sym, subst, ◌∙◌, arith, zero, suc, OnOk, AllByRecursion, AllZip, position_or_len, nat_tests, DwLang, Error, OutOfMemory, ◌>>=◌, ExactlyUnlessOomIf, fault_of, Section, Sections, UnitRecord, Detail, detail_at, InlinedEntry, FunctionRange, entries_of, function_offset_at, functions_of, functions_take_memory, AreDetailsOf, AreUnread, HasDetail, IsDetailOf, IsFunctionMore, IsReadAt, IsReadOf, IsReadOnce, IsTableMore, IsWithDetail, details_fault, details_take_memory, AreListed, CachedFunction, FunctionTable, cached_detail, cached_inlined, cached_name, function_place_at, inlined_of_detail, name_of_detail, cached_offset_at, Location, exceeds_inline_room, Scope, all_at, get_set_other, some_at, read_more, read_right, unread_right, LazyFunctions, FrameRecord, found_frames, found_function, frames_from, function_at, function_from, ArePlacesIn, IsTableOf, ReadsNoOther, StayFunctions, cached_inlined_at, cached_detail_takes_memory, cached_takes_memory, details_at, find_takes_memory, function_of_place, functions_fault, cached_functions, place_takes_memory, reading_takes_memory, table_takes_memory, were_read, memory_or_not}
+use Rattle.std.specs.Prelude.{IfSome, position, reverse}
 use Rattle.addr2line_lines.specs.CachedNames.{AreNamesOf}
-use Rattle.addr2line_lines.specs.Details.{Detail, detail_at}
-use Rattle.addr2line_lines.specs.InlinedEntries.{InlinedEntry}
 use Rattle.addr2line_lines.specs.InlinedChain.{inlined_chain}
 use Rattle.addr2line_lines.specs.FoundInlined.{entry_among}
-use Rattle.addr2line_lines.specs.Functions.{FunctionRange, entries_of, function_offset_at, functions_of, functions_take_memory}
-use Rattle.addr2line_lines.specs.FunctionDetails.{AreDetailsOf, AreUnread, HasDetail, IsDetailOf, IsFunctionMore, IsReadAt, IsReadOf, IsReadOnce, IsTableMore, IsWithDetail, details_fault, details_take_memory}
-use Rattle.addr2line_lines.specs.FunctionTable.{AreListed, CachedFunction, FunctionTable, cached_detail, cached_inlined, cached_name, function_place_at, inlined_of_detail, name_of_detail, cached_offset_at}
-use Rattle.addr2line_lines.specs.Location.{Location}
-use Rattle.addr2line_lines.specs.InlineRoom.{exceeds_inline_room}
-use Rattle.addr2line_lines.specs.References.{Scope}
 use Rattle.addr2line_lines.proofs.ListedFunctions.{more_listed}
-use Rattle.addr2line_lines.proofs.PlaceLemmas.{all_at, get_set_other, some_at}
-use Rattle.addr2line_lines.proofs.ReadLemmas.{read_more, read_right, unread_right}
 use Rattle.addr2line_units.specs.declared.entries.FunctionPlace.{FunctionPlace}
-use Rattle.addr2line_units.specs.declared.entries.LazyFunctions.{LazyFunctions}
 use Rattle.addr2line_units.specs.declared.entries.LazyFunctions.TheVariants as lazy
-use Rattle.addr2line_units.specs.Frames.{FrameRecord, found_frames, found_function, frames_from, function_at, function_from}
 use Rattle.addr2line_units.proofs.FunctionMemoryLemmas.{details_take, place_takes}
-use Rattle.addr2line_units.specs.CachedFunctions.{ArePlacesIn, IsTableOf, ReadsNoOther, StayFunctions, cached_inlined_at, cached_detail_takes_memory, cached_takes_memory, details_at, find_takes_memory, function_of_place, functions_fault, cached_functions, place_takes_memory, reading_takes_memory, table_takes_memory, were_read}
-use Rattle.gimli_read.proofs.FaultLemmas.{memory_or_not}
 
 -- functions that were just read are those of the view
 pub read_table : (scope : Scope) (view : UnitRecord) (d : Sections) (u : UnitRecord) (t : FunctionTable) → d ≡ scope.file.sections → u ≡ view → functions_of d u ≡ Ok t.ranges → AreListed t → AreUnread t → t.names ≡ [] → IsTableOf scope view t

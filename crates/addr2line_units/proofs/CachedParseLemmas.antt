@@ -1,31 +1,10 @@
 -- What is cached of the entries of a unit, and read of them, in a parse of functions (on
 -- specs/AfterParses.antt).
-use Rattle.std.proofs.Common.{◌≡◌, ℕ, zero, suc, ◌<◌, Bool, true, false, not, ◌&&◌, ◌||◌, List, [], ◌∷◌, length, get_or, slice_get, Option, Some, None, Result, Ok, Err, is_ok, is_some, refl, ap, sym, subst, ◌∙◌, arith}
-use Rattle.std.proofs.Math.ListN.{set}
-use Rattle.std.specs.Prelude.{OnOk}
-use Rattle.std.specs.List.{AllByRecursion}
-use Rattle.gimli_read.specs.declared.error.Error.{Error}
-use Rattle.gimli_read.specs.Reading.{◌>>=◌, ExactlyUnlessOomIf, fault_of}
-use Rattle.gimli.specs.Unit.{UnitRecord}
-use Rattle.addr2line_lines.specs.Details.{Detail, detail_takes_memory as takes}
-use Rattle.addr2line_lines.specs.Functions.{FunctionRange, entries_of, functions_of}
-use Rattle.addr2line_lines.specs.FunctionTable.{CachedFunction}
-use Rattle.addr2line_lines.specs.FunctionDetails.{HasDetail, IsDetailOf, details_fault, details_take_memory, read_fault}
-use Rattle.addr2line_lines.specs.References.{Scope}
-use Rattle.addr2line_units.specs.declared.entries.LazyFunctions.{LazyFunctions}
+use Rattle.addr2line_units.proofs.Common.{◌≡◌, ℕ, zero, suc, ◌<◌, Bool, true, false, not, ◌&&◌, ◌||◌, List, [], ◌∷◌, length, get_or, slice_get, Option, Some, None, Result, Ok, Err, is_ok, is_some, refl, ap, sym, subst, ◌∙◌, arith, set, OnOk, AllByRecursion, Error, ◌>>=◌, ExactlyUnlessOomIf, fault_of, UnitRecord, Detail, FunctionRange, entries_of, functions_of, CachedFunction, HasDetail, IsDetailOf, details_fault, details_take_memory, read_fault, Scope, LazyFunctions, ReadingDepth, UnitCache, UnitEntries, answer_of, parse_of_takes_memory, parse_takes_memory, read_of_functions, read_of_number, read_of_unit, read_of_view, StayEntries, first_answer_of, AreFunctionsOf, StayFunctions, details_at, functions_fault, cached_functions, is_cached_fault, reading_takes_memory, were_read, answers_in, known_functions, View, view_scope}
+use Rattle.addr2line_lines.specs.Details.{detail_takes_memory as takes}
 use Rattle.addr2line_units.specs.declared.entries.LazyFunctions.TheVariants as lazy
-use Rattle.addr2line_units.specs.declared.parses.ReadingDepth.{ReadingDepth}
 use Rattle.addr2line_units.specs.declared.parses.ReadingDepth.TheVariants as depths
-use Rattle.addr2line_units.specs.declared.entries.UnitCache.{UnitCache}
-use Rattle.addr2line_units.specs.declared.entries.UnitEntries.{UnitEntries}
-use Rattle.addr2line_units.specs.FramesLookup.{answer_of}
-use Rattle.addr2line_units.specs.FunctionParses.{parse_of_takes_memory, parse_takes_memory, read_of_functions, read_of_number, read_of_unit, read_of_view}
-use Rattle.addr2line_units.specs.CachedEntries.{StayEntries, first_answer_of}
-use Rattle.addr2line_units.specs.CachedFunctions.{AreFunctionsOf, StayFunctions, details_at, functions_fault, cached_functions, is_cached_fault, reading_takes_memory, were_read}
-use Rattle.addr2line_units.specs.CachedUnits.{answers_in}
-use Rattle.addr2line_units.specs.CachedKnown.{known_functions}
 use Rattle.addr2line_units.specs.StaysKnown.{IsReadBy}
-use Rattle.addr2line_units.specs.Views.{View, view_scope}
 use Rattle.addr2line_units.proofs.AnswerLemmas.{answer_at, got_unit}
 use Rattle.addr2line_units.proofs.EntryLemmas.{functions_stay}
 use Rattle.addr2line_units.proofs.CachedFunctionLemmas.{fault_is, no_fault_of}

@@ -1,24 +1,8 @@
 -- What is known of the function at an address by what is cached (on specs/CachedFunctions.antt).
-use Rattle.std.proofs.Common.{Box, Global, ◌≡◌, ◌≢◌, ℕ, inl, inr, true, false, List, [], slice_get, Option, Some, None, option_and_then, Result, Ok, Err, refl, ap, sym, ◌∙◌}
+use Rattle.addr2line_units.proofs.Common.{Box, Global, ◌≡◌, ◌≢◌, ℕ, inl, inr, true, false, List, [], slice_get, Option, Some, None, option_and_then, Result, Ok, Err, refl, ap, sym, ◌∙◌, Error, OutOfMemory, UnitRecord, Detail, InlinedEntry, InlinedRange, function_offset_at, CachedFunction, FunctionTable, cached_detail, cached_inlined, function_place_at, inlined_of_detail, cached_offset_at, IsDetailOf, IsReadAt, IsReadOf, IsReadOnce, exceeds_inline_room, Scope, all_at, read_more, LazyFunctions, function_at, IsTableOf, has_detail, cached_has_function, has_place, has_table, is_cached_fault, were_read, inlined_of_found}
 use Rattle.std.specs.Box.{with_value}
-use Rattle.gimli_read.specs.declared.error.Error.{Error}
-use Rattle.gimli_read.specs.declared.error.Error.TheVariants.{OutOfMemory}
-use Rattle.gimli.specs.Unit.{UnitRecord}
-use Rattle.addr2line_lines.specs.Details.{Detail}
-use Rattle.addr2line_lines.specs.InlinedEntries.{InlinedEntry, InlinedRange}
 use Rattle.addr2line_lines.specs.InlinedChain.{inlined_chain}
-use Rattle.addr2line_lines.specs.Functions.{function_offset_at}
-use Rattle.addr2line_lines.specs.FunctionTable.{CachedFunction, FunctionTable, cached_detail, cached_inlined, function_place_at, inlined_of_detail, cached_offset_at}
-use Rattle.addr2line_lines.specs.FunctionDetails.{IsDetailOf, IsReadAt, IsReadOf, IsReadOnce}
-use Rattle.addr2line_lines.specs.InlineRoom.{exceeds_inline_room}
-use Rattle.addr2line_lines.specs.References.{Scope}
-use Rattle.addr2line_lines.proofs.PlaceLemmas.{all_at}
-use Rattle.addr2line_lines.proofs.ReadLemmas.{read_more}
-use Rattle.addr2line_units.specs.declared.entries.LazyFunctions.{LazyFunctions}
 use Rattle.addr2line_units.specs.declared.entries.LazyFunctions.TheVariants as lazy
-use Rattle.addr2line_units.specs.Frames.{function_at}
-use Rattle.addr2line_units.specs.CachedFunctions.{IsTableOf, has_detail, cached_has_function, has_place, has_table, is_cached_fault, were_read}
-use Rattle.addr2line_units.specs.UnitFrames.{inlined_of_found}
 use Rattle.addr2line_units.proofs.CachedFunctionLemmas.{cached_is, from_detail, place_stays, read_err, read_ok}
 
 -- any fault but OutOfMemory is cached

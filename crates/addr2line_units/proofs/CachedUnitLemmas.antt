@@ -1,30 +1,11 @@
 -- What is cached of the entries of all units, one unit after another (on specs/CachedEntries.antt
 -- and specs/CachedUnits.antt).
-use Rattle.std.proofs.Common.{◌≡◌, ◌≢◌, ℕ, zero, suc, ◌<◌, inl, inr, true, List, [], ◌∷◌, length, get_or, slice_get, Option, Some, None, option_and_then, Result, Ok, Err, refl, ap, sym, subst, ◌∙◌, arith}
-use Rattle.std.proofs.Math.ListN.{set}
+use Rattle.addr2line_units.proofs.Common.{◌≡◌, ◌≢◌, ℕ, zero, suc, ◌<◌, inl, inr, true, List, [], ◌∷◌, length, get_or, slice_get, Option, Some, None, option_and_then, Result, Ok, Err, refl, ap, sym, subst, ◌∙◌, arith, set, AllZip, Error, UnitRecord, Detail, CachedFunction, FunctionTable, cached_detail, function_place_at, IsFunctionMore, IsTableMore, Scope, LazyFunctions, UnitCache, UnitEntries, ViewState, AreEntriesOf, ReadsEntriesOf, StayEntries, has_answered, has_entries, has_entries_by, first_answer_of, StayFunctions, has_detail, cached_has_function, has_place, cached_functions, no_functions, known_by, known_in, HaveLinesOf, HaveSameEntries, indexed_unit, indexed_units, is_parsed, parsed_units, HaveCachesOf, HaveEntriesOf, HaveSameLines, IsCacheOf, ReadsOnly, StayAllEntries, answers_in, has_entries_at, was_checked, functions_same}
 use Rattle.std.specs.Prelude.{IfSome}
-use Rattle.std.specs.List.{AllZip}
-use Rattle.gimli_read.specs.declared.error.Error.{Error}
-use Rattle.gimli.specs.Unit.{UnitRecord}
-use Rattle.addr2line_lines.specs.Details.{Detail}
-use Rattle.addr2line_lines.specs.FunctionTable.{CachedFunction, FunctionTable, cached_detail, function_place_at}
-use Rattle.addr2line_lines.specs.FunctionDetails.{IsFunctionMore, IsTableMore}
-use Rattle.addr2line_lines.specs.References.{Scope}
 use Rattle.addr2line_lines.proofs.NestingLemmas.{grown_not}
-use Rattle.addr2line_units.specs.declared.entries.LazyFunctions.{LazyFunctions}
 use Rattle.addr2line_units.specs.declared.entries.LazyFunctions.TheVariants as lazy
-use Rattle.addr2line_units.specs.declared.entries.UnitCache.{UnitCache}
-use Rattle.addr2line_units.specs.declared.entries.UnitEntries.{UnitEntries}
-use Rattle.addr2line_units.specs.declared.unit.ViewState.{ViewState}
 use Rattle.addr2line_units.specs.declared.unit.ViewState.TheVariants as states
-use Rattle.addr2line_units.specs.CachedEntries.{AreEntriesOf, ReadsEntriesOf, StayEntries, has_answered, has_entries, has_entries_by, first_answer_of}
-use Rattle.addr2line_units.specs.CachedFunctions.{StayFunctions, has_detail, cached_has_function, has_place, cached_functions, no_functions}
-use Rattle.addr2line_units.specs.CachedKnown.{known_by, known_in}
-use Rattle.addr2line_units.specs.CachedLines.{HaveLinesOf, HaveSameEntries, indexed_unit, indexed_units, is_parsed, parsed_units}
-use Rattle.addr2line_units.specs.CachedUnits.{HaveCachesOf, HaveEntriesOf, HaveSameLines, IsCacheOf, ReadsOnly, StayAllEntries, answers_in, has_entries_at}
-use Rattle.addr2line_units.specs.CachedViews.{was_checked}
 use Rattle.addr2line_units.proofs.CachedFunctionLemmas.{place_stays}
-use Rattle.addr2line_lines.proofs.ReadLemmas.{functions_same}
 
 }
 

@@ -1,20 +1,8 @@
 -- The view of a unit that is known (on specs/CachedUnits.antt and specs/FramesLookup.antt).
-use Rattle.std.proofs.Common.{◌≡◌, ℕ, zero, suc, ◌<◌, arith, get_or, true, List, [], ◌∷◌, length, Option, Some, None, option_and_then, option_map, unwrap_or, is_some, Result, Ok, Err, ap, refl, sym, subst, ◌∙◌}
+use Rattle.addr2line_units.proofs.Common.{◌≡◌, ℕ, zero, suc, ◌<◌, arith, get_or, true, List, [], ◌∷◌, length, Option, Some, None, option_and_then, option_map, unwrap_or, is_some, Result, Ok, Err, ap, refl, sym, subst, ◌∙◌, Error, Exactly, Sections, UnitRecord, UnitCache, UnitEntries, ViewState, answer_of, readable_view, view_of_number, first_answer_of, HaveViewsOf, answers_in, decided_at, IsViewOf, is_decided, cached_verdict, parts_or_fault, seen_first_answer, View, parts_of, verdict}
 use Rattle.std.specs.Prelude.{IfSome}
 use Rattle.std.specs.Result.{result_ok}
-use Rattle.gimli_read.specs.declared.error.Error.{Error}
-use Rattle.gimli_read.specs.Reading.{Exactly}
-use Rattle.gimli.specs.Sections.{Sections}
-use Rattle.gimli.specs.Unit.{UnitRecord}
-use Rattle.addr2line_units.specs.declared.entries.UnitCache.{UnitCache}
-use Rattle.addr2line_units.specs.declared.entries.UnitEntries.{UnitEntries}
-use Rattle.addr2line_units.specs.declared.unit.ViewState.{ViewState}
 use Rattle.addr2line_units.specs.declared.unit.ViewState.TheVariants as states
-use Rattle.addr2line_units.specs.FramesLookup.{answer_of, readable_view, view_of_number}
-use Rattle.addr2line_units.specs.CachedEntries.{first_answer_of}
-use Rattle.addr2line_units.specs.CachedUnits.{HaveViewsOf, answers_in, decided_at}
-use Rattle.addr2line_units.specs.CachedViews.{IsViewOf, is_decided, cached_verdict, parts_or_fault, seen_first_answer}
-use Rattle.addr2line_units.specs.Views.{View, parts_of, verdict}
 use Rattle.addr2line_units.proofs.AnswerLemmas.{got_unit}
 use Rattle.addr2line_units.proofs.CachedUnitLemmas.{answer_at}
 

@@ -1,38 +1,12 @@
 -- A unit of which it is known that it has nothing at any address is passed by a lookup, and nothing
 -- is left to read there (on specs/EmptyUnits.antt).
-use Rattle.std.proofs.Common.{◌≡◌, ◌∙◌, ℕ, ◌<◌, ◌&&◌, ◌||◌, Bool, true, false, not, is_none, is_ok, List, [], length, get_or, slice_get, Option, Some, None, IfSome, IfOk, Result, Ok, Err, refl, sym, ap, subst, arith}
+use Rattle.addr2line_units.proofs.Common.{◌≡◌, ◌∙◌, ℕ, ◌<◌, ◌&&◌, ◌||◌, Bool, true, false, not, is_none, is_ok, List, [], length, get_or, slice_get, Option, Some, None, IfSome, IfOk, Result, Ok, Err, refl, sym, ap, subst, arith, set, set-get_or, Error, ◌>>=◌, Sections, UnitRecord, functions_of, location_at, Scope, unit_lines, LazyFunctions, UnitCache, FramesStop, LazyLines, ViewState, AreEntriesOf, first_answer_of, has_answered, has_entries, has_entries_by, has_frames_at, AreFunctionsOf, AreLinesOf, indexed_unit, indexed_units, is_uncached, no_lines, parsed_units, answers_in, seen_sections, unboxed, verdict_in, view_by, FindsNothing, LookupStop, after_fault, asks_lines_of, or_stop, has_parsed, AreUnits, seen_units, FramesResult, frames_in, function_by, function_in, View, is_open, verdict, view_scope}
 use Rattle.std.specs.Prelude.{Box}
 use Rattle.std.specs.declared.alloc.Global.{Global}
-use Rattle.std.proofs.Math.ListN.{set}
-use Rattle.std.proofs.lemmas.List.{set-get_or}
-use Rattle.gimli_read.specs.declared.error.Error.{Error}
-use Rattle.gimli_read.specs.Reading.{◌>>=◌}
-use Rattle.gimli.specs.Sections.{Sections}
-use Rattle.gimli.specs.Unit.{UnitRecord}
-use Rattle.addr2line_lines.specs.Functions.{functions_of}
-use Rattle.addr2line_lines.specs.Location.{location_at}
-use Rattle.addr2line_lines.specs.References.{Scope}
-use Rattle.addr2line_lines.specs.UnitLines.{unit_lines}
-use Rattle.addr2line_units.specs.declared.entries.LazyFunctions.{LazyFunctions}
 use Rattle.addr2line_units.specs.declared.entries.LazyFunctions.TheVariants as functions
-use Rattle.addr2line_units.specs.declared.entries.UnitCache.{UnitCache}
-use Rattle.addr2line_units.specs.declared.frames.FramesStop.{FramesStop}
-use Rattle.addr2line_units.specs.declared.unit.LazyLines.{LazyLines}
 use Rattle.addr2line_units.specs.declared.unit.LazyLines.TheVariants as lines
-use Rattle.addr2line_units.specs.declared.unit.ViewState.{ViewState}
 use Rattle.addr2line_units.specs.declared.unit.ViewState.TheVariants as states
-use Rattle.addr2line_units.specs.CachedEntries.{AreEntriesOf, first_answer_of, has_answered, has_entries, has_entries_by}
-use Rattle.addr2line_units.specs.CachedFrames.{has_frames_at}
-use Rattle.addr2line_units.specs.CachedFunctions.{AreFunctionsOf}
-use Rattle.addr2line_units.specs.CachedLines.{AreLinesOf, indexed_unit, indexed_units, is_uncached, no_lines, parsed_units}
-use Rattle.addr2line_units.specs.CachedUnits.{answers_in}
-use Rattle.addr2line_units.specs.CachedViews.{seen_sections, unboxed, verdict_in, view_by}
 use Rattle.addr2line_units.specs.EmptyUnits.{HasNothingAt, has_no_functions, has_no_lines, has_nothing, has_view}
-use Rattle.addr2line_units.specs.FramesLookup.{FindsNothing, LookupStop, after_fault, asks_lines_of, or_stop}
-use Rattle.addr2line_units.specs.Parsed.{has_parsed}
-use Rattle.addr2line_units.specs.StoredUnits.{AreUnits, seen_units}
-use Rattle.addr2line_units.specs.UnitFrames.{FramesResult, frames_in, function_by, function_in}
-use Rattle.addr2line_units.specs.Views.{View, is_open, verdict, view_scope}
 use Rattle.addr2line_units.proofs.CachedFunctionLemmas.{function_is}
 use Rattle.addr2line_units.proofs.KnownLemmas.{known_is}
 use Rattle.addr2line_units.proofs.NumberedFrames.{frames_are, known_then}

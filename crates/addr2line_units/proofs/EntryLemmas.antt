@@ -1,28 +1,9 @@
 -- What is cached of the entries of a unit (on specs/CachedEntries.antt and specs/UnitFrames.antt).
-use Rattle.std.proofs.Common.{◌≡◌, ◌∙◌, ℕ, ap, sym, refl, subst, Bool, true, false, Option, Some, IfOk, IfSome, is_none, Result, Ok, Err}
+use Rattle.addr2line_units.proofs.Common.{◌≡◌, ◌∙◌, ℕ, ap, sym, refl, subst, Bool, true, false, Option, Some, IfOk, IfSome, is_none, Result, Ok, Err, Error, ◌>>=◌, ExactlyUnlessOom, ExactlyUnlessOomIf, Sections, UnitRecord, functions_take_memory, exceeds_inline_room, Scope, table_same, LazyFunctions, UnitEntries, UnitView, ViewState, functions_in_take_memory, view_takes_memory, function_at, AreEntriesOf, StayEntries, has_answered, has_entries_by, first_answer_of, AreFunctionsOf, StayFunctions, cached_has_function, is_cached_fault, were_read, IsViewOf, is_decided, parts_or_fault, seen_first_answer, seen_sections, unboxed, verdict_in, view_by, waits, was_checked, function_by, function_in, inlined_of_unit, inlined_of_found, View, is_open, parts_of, verdict, view_scope}
 use Rattle.std.specs.Prelude.{Box}
 use Rattle.std.specs.declared.alloc.Global.{Global}
-use Rattle.gimli_read.specs.declared.error.Error.{Error}
-use Rattle.gimli_read.specs.Reading.{◌>>=◌, ExactlyUnlessOom, ExactlyUnlessOomIf}
-use Rattle.gimli.specs.Sections.{Sections}
-use Rattle.gimli.specs.Unit.{UnitRecord}
-use Rattle.addr2line_lines.specs.Functions.{functions_take_memory}
-use Rattle.addr2line_lines.specs.InlineRoom.{exceeds_inline_room}
-use Rattle.addr2line_lines.specs.References.{Scope}
-use Rattle.addr2line_lines.proofs.ReadLemmas.{table_same}
-use Rattle.addr2line_units.specs.declared.entries.LazyFunctions.{LazyFunctions}
 use Rattle.addr2line_units.specs.declared.entries.LazyFunctions.TheVariants as lazy
-use Rattle.addr2line_units.specs.declared.entries.UnitEntries.{UnitEntries}
-use Rattle.addr2line_units.specs.declared.unit.UnitView.{UnitView}
-use Rattle.addr2line_units.specs.declared.unit.ViewState.{ViewState}
 use Rattle.addr2line_units.specs.declared.unit.ViewState.TheVariants as states
-use Rattle.addr2line_units.specs.AskMemory.{functions_in_take_memory, view_takes_memory}
-use Rattle.addr2line_units.specs.Frames.{function_at}
-use Rattle.addr2line_units.specs.CachedEntries.{AreEntriesOf, StayEntries, has_answered, has_entries_by, first_answer_of}
-use Rattle.addr2line_units.specs.CachedFunctions.{AreFunctionsOf, StayFunctions, cached_has_function, is_cached_fault, were_read}
-use Rattle.addr2line_units.specs.CachedViews.{IsViewOf, is_decided, parts_or_fault, seen_first_answer, seen_sections, unboxed, verdict_in, view_by, waits, was_checked}
-use Rattle.addr2line_units.specs.UnitFrames.{function_by, function_in, inlined_of_unit, inlined_of_found}
-use Rattle.addr2line_units.specs.Views.{View, is_open, parts_of, verdict, view_scope}
 
 -- functions stay what they are
 pub functions_stay : {R : Type 0} (scope : Scope) (u : UnitRecord) (f : LazyFunctions R) → StayFunctions f f

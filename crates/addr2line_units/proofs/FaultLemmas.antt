@@ -1,50 +1,18 @@
 -- Nothing that units, their views, lines and functions give is OutOfMemory (on the specs of this crate).
-use Rattle.std.proofs.Common.{ℕ, Bool, true, false, if◌then◌else◌, List, [], ◌∷◌, map, is_some, slice_get, Option, Some, None, IfSome, IfOk, Result, Ok, Err}
-use Rattle.gimli_read.specs.declared.error.Error.{Error}
-use Rattle.gimli_read.specs.declared.error.Error.TheVariants.{UnknownToken}
-use Rattle.gimli_read.specs.declared.range.Range.{Range}
-use Rattle.gimli_read.specs.Costed.{Costed, free}
+use Rattle.addr2line_units.proofs.Common.{ℕ, Bool, true, false, if◌then◌else◌, List, [], ◌∷◌, map, is_some, slice_get, Option, Some, None, IfSome, IfOk, Result, Ok, Err, Error, UnknownToken, Range, Costed, free, ◌>>=◌, WasNotRefused, Section, IsByBytes, AreByBytes, step, either, value, fault, moved_fault, fault_of_is, are_joined, not_refused, none_refused, UnitHeaderFields, Sections, SupSections, UnitRecord, unit_record_of, all_headers, entries_of, function_offset_at, LineTable, Location, Scope, UnitArange, OnFault, Stop, Skip, UnitRange, ReadingDepth, aranges_at, aranges_in, by_abbreviations, units_of, IndexedUnit, is_type_unit, is_partial, or_attribute_ranges, listed_unit_ranges, listed_in_unit, unless_faulty, unit_of_header, ranged_units, UnitsState, new_units, asked_by, stop_of, FirstAnswers, View, SplitLoad, split_name_of, first_of, first_unit, answered_view, load_by, load_of_unit, verdict_by, verdict, is_open, decided_answer, view_scope, FoundFunction, FrameRecord, function_from, function_at, FramesResult, function_by, function_in, frames_by, frames_in, LookupStop, FindsNothing, answer_of, frames_of_number, after_fault, asked_frames, or_stop, stop_along, stop_at, details_at, functions_fault, read_of_functions, read_of_view, read_of_unit, read_of_number, read_of_units, unit_of_token, view_fault, load_result, forget_result, LocationResult, lines_of_unit, location_in, or_first_location, first_location, location_of, all_read, spans_or_fault, spans_in, spans_along, spans_of, all_lines}
 use Rattle.gimli_read.specs.FaultLaws.{NoneWasRefused}
 use Rattle.gimli_read.specs.Form.{NamedValue}
-use Rattle.gimli_read.specs.Reading.{◌>>=◌, WasNotRefused}
-use Rattle.gimli_read.specs.Section.{Section}
-use Rattle.gimli_read.proofs.FaultLemmas.{IsByBytes, AreByBytes, step, either, value, fault, moved_fault, fault_of_is, are_joined, not_refused, none_refused}
 use Rattle.gimli.specs.declared.unit.DwoId.{DwoId}
-use Rattle.gimli.specs.Header.{UnitHeaderFields}
-use Rattle.gimli.specs.Sections.{Sections, SupSections}
-use Rattle.gimli.specs.Unit.{UnitRecord, unit_record_of}
-use Rattle.gimli.specs.UnitsLeft.{all_headers}
 use Rattle.gimli.specs.Aranges.{arange_sets_of}
 use Rattle.gimli.proofs.FaultLemmas.{all_headers_are, arange_sets_are, dwo_name_is, root_attributes_of_are, taken_in_is, unit_record_is}
 use Rattle.addr2line_lines.specs.declared.function.RangeAttributes.{RangeAttributes}
-use Rattle.addr2line_lines.specs.Functions.{entries_of, function_offset_at}
-use Rattle.addr2line_lines.specs.Location.{LineTable, Location}
 use Rattle.addr2line_lines.specs.RangeLocations.{LocatedSpan, locations_in_range}
-use Rattle.addr2line_lines.specs.References.{Scope}
 use Rattle.addr2line_lines.proofs.FaultLemmas.{read_all_is, optional_string_is, unit_lines_are, with_range_attribute_is, attribute_ranges_are, functions_are, detail_is}
-use Rattle.addr2line_units.specs.declared.index.UnitArange.{UnitArange}
 use Rattle.addr2line_units.specs.declared.attributes.UnitAttributes.{UnitAttributes}
-use Rattle.addr2line_units.specs.declared.frames.OnFault.{OnFault}
-use Rattle.addr2line_units.specs.declared.frames.OnFault.TheVariants.{Stop, Skip}
-use Rattle.addr2line_units.specs.declared.index.UnitRange.{UnitRange}
-use Rattle.addr2line_units.specs.declared.parses.ReadingDepth.{ReadingDepth}
 use Rattle.addr2line_units.specs.declared.parses.ReadingDepth.TheVariants as depths
 use Rattle.addr2line_units.specs.Cover.{cover, cover_range}
-use Rattle.addr2line_units.specs.UnitAranges.{aranges_at, aranges_in}
 use Rattle.addr2line_units.specs.UnitAttributes.{no_unit_attributes, with_unit_attribute, unit_attributes}
-use Rattle.addr2line_units.specs.HeaderUnits.{by_abbreviations, units_of}
-use Rattle.addr2line_units.specs.RangedUnits.{IndexedUnit, is_type_unit, is_partial, or_attribute_ranges, listed_unit_ranges, listed_in_unit, unless_faulty, unit_of_header, ranged_units}
 use Rattle.addr2line_units.specs.UnitIndex.{UnitIndex, sup_unit_of_header, sup_sections, sup_units, index_units}
-use Rattle.addr2line_units.specs.UnitsState.{UnitsState, new_units, asked_by, stop_of}
-use Rattle.addr2line_units.specs.Views.{FirstAnswers, View, SplitLoad, split_name_of, first_of, first_unit, answered_view, load_by, load_of_unit, verdict_by, verdict, is_open, decided_answer, view_scope}
-use Rattle.addr2line_units.specs.Frames.{FoundFunction, FrameRecord, function_from, function_at}
-use Rattle.addr2line_units.specs.UnitFrames.{FramesResult, function_by, function_in, frames_by, frames_in}
-use Rattle.addr2line_units.specs.FramesLookup.{LookupStop, FindsNothing, answer_of, frames_of_number, after_fault, asked_frames, or_stop, stop_along}
-use Rattle.addr2line_units.specs.AskedUnits.{stop_at}
-use Rattle.addr2line_units.specs.CachedFunctions.{details_at, functions_fault}
-use Rattle.addr2line_units.specs.FunctionParses.{read_of_functions, read_of_view, read_of_unit, read_of_number, read_of_units}
-use Rattle.addr2line_units.specs.Loads.{unit_of_token, view_fault, load_result, forget_result}
-use Rattle.addr2line_units.specs.Located.{LocationResult, lines_of_unit, location_in, or_first_location, first_location, location_of, all_read, spans_or_fault, spans_in, spans_along, spans_of, all_lines}
 
 -- ---- the units of a file
 pub aranges_are : (s : Section) → IsByBytes (aranges_in s)

@@ -1,15 +1,7 @@
 -- Frames by the places of inlined entries (on specs/FramesLeft.antt).
-use Rattle.std.proofs.Common.{ℕ, ◌≡◌, ◌+◌, ◌<◌, List, [], ◌∷◌, ◌++◌, map, length, reverse, arith, ◌∙◌, ap, sym, subst, refl}
+use Rattle.addr2line_units.proofs.Common.{ℕ, ◌≡◌, ◌+◌, ◌<◌, List, [], ◌∷◌, ◌++◌, map, length, reverse, arith, ◌∙◌, ap, sym, subst, refl, AllByRecursion, length-reverse, map-append, reverse-append, slice_get-get_or, DwLang, InlinedEntry, FunctionTable, cached_name, cached_offset_at, Location, call_location, frames_from, function_frame}
 use Rattle.std.specs.Prelude.{Option, Some, None, option_map, slice_get, IfSome}
-use Rattle.std.specs.List.{AllByRecursion}
-use Rattle.std.proofs.lemmas.List.{length-reverse, map-append, reverse-append}
-use Rattle.std.proofs.lemmas.Option.{slice_get-get_or}
-use Rattle.gimli_read.specs.declared.constants.DwLang.{DwLang}
-use Rattle.addr2line_lines.specs.InlinedEntries.{InlinedEntry}
 use Rattle.addr2line_lines.specs.FoundInlined.{entry_among, no_inlined}
-use Rattle.addr2line_lines.specs.FunctionTable.{FunctionTable, cached_name, cached_offset_at}
-use Rattle.addr2line_lines.specs.Location.{Location}
-use Rattle.addr2line_units.specs.Frames.{call_location, frames_from, function_frame}
 use Rattle.addr2line_units.specs.FramesLeft.{entry_frame, frames_inside}
 
 -- a mapped list from its end is the list from its end, mapped

@@ -1,26 +1,9 @@
 -- Lookups of frames along ranges (on specs/FramesLookup.antt and specs/CachedFrames.antt).
-use Rattle.std.proofs.Common.{◌≡◌, ◌≢◌, ℕ, inl, inr, Bool, true, false, ◌&&◌, ◌||◌, List, [], ◌∷◌, Option, Some, None, Result, Ok, Err, refl, ap, sym, subst, ◌∙◌}
+use Rattle.addr2line_units.proofs.Common.{◌≡◌, ◌≢◌, ℕ, inl, inr, Bool, true, false, ◌&&◌, ◌||◌, List, [], ◌∷◌, Option, Some, None, Result, Ok, Err, refl, ap, sym, subst, ◌∙◌, DwLang, Error, OutOfMemory, ◌>>=◌, ExactlyUnlessOom, WasNotRefused, Section, InlinedEntry, Location, OnFault, Stop, Skip, FramesStop, UnitRange, UnitCache, FrameRecord, frames_from, LookupStop, Finds, after_fault, ends_lookup, holds_along, or_stop, stop_along, AreFoundAt, IsStopIn, found_after_fault, frames_found_at, seen_stop, stop_of_found, ParsesOnly, FramesResult}
 use Rattle.std.specs.Prelude.{IfOk}
-use Rattle.gimli_read.specs.declared.constants.DwLang.{DwLang}
-use Rattle.gimli_read.specs.declared.error.Error.{Error}
-use Rattle.gimli_read.specs.declared.error.Error.TheVariants.{OutOfMemory}
-use Rattle.gimli_read.specs.Reading.{◌>>=◌, ExactlyUnlessOom, WasNotRefused}
-use Rattle.gimli_read.specs.Section.{Section}
-use Rattle.addr2line_lines.specs.InlinedEntries.{InlinedEntry}
-use Rattle.addr2line_lines.specs.Location.{Location}
-use Rattle.addr2line_units.specs.declared.frames.OnFault.{OnFault}
-use Rattle.addr2line_units.specs.declared.frames.OnFault.TheVariants.{Stop, Skip}
-use Rattle.addr2line_units.specs.declared.frames.FramesStop.{FramesStop}
 use Rattle.addr2line_units.specs.declared.frames.FramesStop.TheVariants as stops
-use Rattle.addr2line_units.specs.declared.index.UnitRange.{UnitRange}
-use Rattle.addr2line_units.specs.declared.entries.UnitCache.{UnitCache}
 use Rattle.addr2line_units.specs.declared.entries.UnitFrames.{UnitFrames}
 use Rattle.addr2line_units.specs.declared.entries.UnitFrames.TheVariants as found
-use Rattle.addr2line_units.specs.Frames.{FrameRecord, frames_from}
-use Rattle.addr2line_units.specs.FramesLookup.{LookupStop, Finds, after_fault, ends_lookup, holds_along, or_stop, stop_along}
-use Rattle.addr2line_units.specs.CachedFrames.{AreFoundAt, IsStopIn, found_after_fault, frames_found_at, seen_stop, stop_of_found}
-use Rattle.addr2line_units.specs.Parsed.{ParsesOnly}
-use Rattle.addr2line_units.specs.UnitFrames.{FramesResult}
 
 -- a fault that a lookup passes over
 module _ (faults : OnFault) where

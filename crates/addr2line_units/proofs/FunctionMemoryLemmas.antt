@@ -1,23 +1,11 @@
 -- Where memory is taken for the functions of a view (on specs/CachedFunctions.antt).
-use Rattle.std.proofs.Common.{◌≡◌, ℕ, ◌<◌, ◌==◌, ◌&&◌, is_ok, ◌⊎◌, inl, inr, Bool, true, false, cond, List, [], ◌∷◌, ◌++◌, map, length, slice_get, option_map, Option, Some, None, Result, Ok, Err, option_and_then, refl, ap, sym, subst, ◌∙◌, arith, append-nil}
+use Rattle.addr2line_units.proofs.Common.{◌≡◌, ℕ, ◌<◌, ◌==◌, ◌&&◌, is_ok, ◌⊎◌, inl, inr, Bool, true, false, cond, List, [], ◌∷◌, ◌++◌, map, length, slice_get, option_map, Option, Some, None, Result, Ok, Err, option_and_then, refl, ap, sym, subst, ◌∙◌, arith, append-nil, Error, Range, ◌>>=◌, Section, Sections, UnitRecord, details_take_memory, FunctionRange, entries_of, entry_gives_a_range, once_before, entry_ranges, function_offset_at, functions_of, functions_take_memory, has_function, have_function, is_subprogram, with_function, AreListed, CachedFunction, FunctionTable, cached_offset_at, Scope, IsTableOf, place_takes_memory, table_takes_memory, or_left, or_right}
 use Rattle.std.specs.Prelude.{position}
-use Rattle.gimli_read.specs.declared.error.Error.{Error}
-use Rattle.gimli_read.specs.declared.range.Range.{Range}
-use Rattle.gimli_read.specs.Reading.{◌>>=◌}
 use Rattle.gimli_read.specs.Run.{fold_run}
-use Rattle.gimli_read.specs.Section.{Section}
 use Rattle.gimli.specs.Items.{Entry, Item, items_of}
-use Rattle.gimli.specs.Sections.{Sections}
-use Rattle.gimli.specs.Unit.{UnitRecord}
 use Rattle.addr2line_lines.specs.declared.function.RangeAttributes.{RangeAttributes}
 use Rattle.addr2line_lines.specs.RangeAttributes.{attribute_ranges, gives_a_range, range_attributes_of}
-use Rattle.addr2line_lines.specs.FunctionDetails.{details_take_memory}
-use Rattle.addr2line_lines.specs.Functions.{FunctionRange, entries_of, entry_gives_a_range, once_before, entry_ranges, function_offset_at, functions_of, functions_take_memory, has_function, have_function, is_subprogram, with_function}
-use Rattle.addr2line_lines.specs.FunctionTable.{AreListed, CachedFunction, FunctionTable, cached_offset_at}
-use Rattle.addr2line_lines.specs.References.{Scope}
 use Rattle.addr2line_lines.proofs.FunctionMemory.{listed_well}
-use Rattle.addr2line_units.specs.CachedFunctions.{IsTableOf, place_takes_memory, table_takes_memory}
-use Rattle.std.proofs.lemmas.Bool.{or_left, or_right}
 
 module _ (d : Sections) (u : UnitRecord) where
   abbrev ranged : ℕ → List Range → List FunctionRange

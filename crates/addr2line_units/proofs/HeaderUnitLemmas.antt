@@ -1,12 +1,8 @@
 -- Steps with the memory that they take, and the units of headers, one after another (on
 -- specs/HeaderUnits.antt and gimli_read/specs/Costed.antt).
-use Rattle.std.proofs.Common.{◌≡◌, ◌≢◌, ◌∙◌, ◌||◌, Bool, true, false, List, [], ◌∷◌, ◌++◌, Option, option_to_list, Result, Ok, Err, refl, sym, ap, subst}
-use Rattle.gimli_read.specs.declared.error.Error.{Error}
-use Rattle.gimli_read.specs.declared.error.Error.TheVariants.{OutOfMemory}
-use Rattle.gimli_read.specs.Costed.{Costed, ◌>>=◌, free, takes_memory_after}
+use Rattle.addr2line_units.proofs.Common.{◌≡◌, ◌≢◌, ◌∙◌, ◌||◌, Bool, true, false, List, [], ◌∷◌, ◌++◌, Option, option_to_list, Result, Ok, Err, refl, sym, ap, subst, Error, OutOfMemory, Costed, free, takes_memory_after, UnitHeaderFields, put_to, units_of}
+use Rattle.gimli_read.specs.Costed.{◌>>=◌}
 use Rattle.gimli_read.specs.Reading as reading
-use Rattle.gimli.specs.Header.{UnitHeaderFields}
-use Rattle.addr2line_units.specs.HeaderUnits.{put_to, units_of}
 
 or_true : (b : Bool) → (b || true) ≡ true
 or_true true = refl

@@ -1,17 +1,10 @@
 -- Ranges of units in order (on specs/Cover.antt and specs/LeastBegins.antt).
-use Rattle.std.proofs.Common.{ℕ, ◌≡◌, ◌+◌, ◌≤◌, Bool, true, false, cond, not, ◌&&◌, nat_le, nat_lt, nat_cmp, List, [], ◌∷◌, get_or, arith, ◌∙◌, ap, sym, refl, zero, suc}
+use Rattle.addr2line_units.proofs.Common.{ℕ, ◌≡◌, ◌+◌, ◌≤◌, Bool, true, false, cond, not, ◌&&◌, nat_le, nat_lt, nat_cmp, List, [], ◌∷◌, get_or, arith, ◌∙◌, ap, sym, refl, zero, suc, AllByRecursion, IsSortedBy, IsSortedByKey, ties, nat_tests, ranks_by, filter_agree, in_order, IsInOrder, in_order_ordered, in_order_ties, one_order, UnitRange}
 use Rattle.std.specs.Cmp.{IsStrictWeakOrder}
-use Rattle.std.specs.List.{filter, AllByRecursion}
-use Rattle.std.specs.List.Sorted.{IsSortedBy, IsSortedByKey, ties}
+use Rattle.std.specs.List.{filter}
 use Rattle.std.specs.Ordering.{is_lt, ordering_then}
-use Rattle.std.proofs.lemmas.Bool.Decides.{nat_tests}
 use Rattle.std.proofs.lemmas.Cmp.{on_total, then_total, nat_cmp_total}
-use Rattle.std.proofs.lemmas.List.Sorted.{ranks_by}
-use Rattle.std.proofs.lemmas.List.Elements.{filter_agree}
-use Rattle.addr2line_lines.specs.InOrder.{in_order, IsInOrder}
 use Rattle.addr2line_lines.proofs.InlinedOrder.{ordering_then_assoc}
-use Rattle.addr2line_lines.proofs.OrderLemmas.{in_order_ordered, in_order_ties, one_order}
-use Rattle.addr2line_units.specs.declared.index.UnitRange.{UnitRange}
 use Rattle.addr2line_units.specs.Cover.{cover, cover_range, ends_sooner, range_covers, range_overlaps}
 use Rattle.addr2line_units.specs.LeastBegins.{is_between}
 

@@ -1,21 +1,8 @@
 -- What is known of functions by a table of them (on specs/KnownEntries.antt and
 -- specs/CachedKnown.antt).
-use Rattle.std.proofs.Common.{◌≡◌, ◌≢◌, ◌∙◌, ap, sym, refl, subst, ℕ, ◌==◌, nat_lt, cond, ltb-true, ltb-false, Bool, true, false, List, [], ◌∷◌, length, map, position, Option, Some, None, option_and_then, option_map, slice_get, Result, Ok, Err, if◌then◌else◌, find}
+use Rattle.addr2line_units.proofs.Common.{◌≡◌, ◌≢◌, ◌∙◌, ap, sym, refl, subst, ℕ, ◌==◌, nat_lt, cond, ltb-true, ltb-false, Bool, true, false, List, [], ◌∷◌, length, map, position, Option, Some, None, option_and_then, option_map, slice_get, Result, Ok, Err, if◌then◌else◌, find, slice_get_past, AllByRecursion, position_or_len, Error, OutOfMemory, Detail, AreCachedToFault, HasDetail, IsCachedToFault, CachedFunction, FunctionTable, function_offset_at, some_at, has_detail, has_place, has_table, is_cached_fault, known_detail, known_function, known_table, AreKnownToFault, IsKnownToFault, HasFault, IsRead, KnownFunction, NotRead, is_detail_known, is_known_at}
 use Rattle.std.proofs.lemmas.List.Folds.{find_at}
-use Rattle.std.proofs.lemmas.Option.{slice_get_past}
 use Rattle.std.specs.Prelude.{unwrap_or}
-use Rattle.std.specs.List.{AllByRecursion, position_or_len}
-use Rattle.gimli_read.specs.declared.error.Error.{Error}
-use Rattle.gimli_read.specs.declared.error.Error.TheVariants.{OutOfMemory}
-use Rattle.addr2line_lines.specs.Details.{Detail}
-use Rattle.addr2line_lines.specs.FunctionDetails.{AreCachedToFault, HasDetail, IsCachedToFault}
-use Rattle.addr2line_lines.specs.FunctionTable.{CachedFunction, FunctionTable}
-use Rattle.addr2line_lines.specs.Functions.{function_offset_at}
-use Rattle.addr2line_lines.proofs.PlaceLemmas.{some_at}
-use Rattle.addr2line_units.specs.CachedFunctions.{has_detail, has_place, has_table, is_cached_fault}
-use Rattle.addr2line_units.specs.CachedKnown.{known_detail, known_function, known_table}
-use Rattle.addr2line_units.specs.FunctionParses.{AreKnownToFault, IsKnownToFault}
-use Rattle.addr2line_units.specs.KnownEntries.{HasFault, IsRead, KnownFunction, NotRead, is_detail_known, is_known_at}
 use Rattle.addr2line_units.proofs.CachedPlaceLemmas.{cached_is_not_oom, cached_unless_oom}
 
 fault_known : (b : Bool) → is_detail_known (if b then HasFault else NotRead) ≡ b

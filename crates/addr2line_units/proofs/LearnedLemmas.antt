@@ -1,35 +1,11 @@
 -- Of which functions details become known where a unit is asked (on specs/KnownEntries.antt and
 -- specs/CachedKnown.antt).
-use Rattle.std.proofs.Common.{Box, Global, ◌≡◌, ◌≢◌, ◌⊎◌, inl, inr, ◌∙◌, ap, sym, refl, subst, ℕ, ◌<◌, ◌==◌, nat_lt, cond, lt-ltb, eqb-true, Bool, true, false, List, get_or, length, position, Option, Some, None, option_and_then, option_map, slice_get, Result, Ok, Err, if◌then◌else◌}
-use Rattle.std.proofs.lemmas.Bool.{cases_eq}
+use Rattle.addr2line_units.proofs.Common.{Box, Global, ◌≡◌, ◌≢◌, ◌⊎◌, inl, inr, ◌∙◌, ap, sym, refl, subst, ℕ, ◌<◌, ◌==◌, nat_lt, cond, lt-ltb, eqb-true, Bool, true, false, List, get_or, length, position, Option, Some, None, option_and_then, option_map, slice_get, Result, Ok, Err, if◌then◌else◌, cases_eq, slice_get-map, slice_get_read, slice_get_within, set, position_or_len, Error, ◌>>=◌, Sections, UnitRecord, AreUnread, CachedFunction, FunctionTable, cached_detail, function_place_at, function_offset_at, Scope, some_at, LazyFunctions, UnitCache, UnitEntries, ViewState, AreEntriesOf, StayEntries, first_answer_of, AreFunctionsOf, ReadsNoDetail, ReadsNoOther, StayFunctions, cached_functions, has_detail, is_cached_fault, no_functions, were_read, known_answer, known_by, known_fault, known_function, known_functions, known_in, known_table, is_decided, seen_sections, unboxed, verdict_in, view_by, was_checked, AllKnown, FunctionsKnown, HasNoFunctions, KnownEntries, KnownFunction, LearnsNoDetails, LearnsNoFunctions, NothingKnown, is_detail_known, knows_detail, knows_detail_at, function_offset_among, function_offset_by, function_offset_in, View, verdict, view_scope}
 use Rattle.std.proofs.lemmas.List.Folds.{find_at}
 use Rattle.std.proofs.lemmas.List.Quantifiers.{position-Some}
-use Rattle.std.proofs.lemmas.Option.{slice_get-map, slice_get_read, slice_get_within}
-use Rattle.std.proofs.Math.ListN.{set}
 use Rattle.std.specs.Prelude.{IfOk, IfSome, is_some, unwrap_or}
-use Rattle.std.specs.List.{position_or_len}
-use Rattle.gimli_read.specs.declared.error.Error.{Error}
-use Rattle.gimli_read.specs.Reading.{◌>>=◌}
-use Rattle.gimli.specs.Sections.{Sections}
-use Rattle.gimli.specs.Unit.{UnitRecord}
-use Rattle.addr2line_lines.specs.FunctionDetails.{AreUnread}
-use Rattle.addr2line_lines.specs.FunctionTable.{CachedFunction, FunctionTable, cached_detail, function_place_at}
-use Rattle.addr2line_lines.specs.Functions.{function_offset_at}
-use Rattle.addr2line_lines.specs.References.{Scope}
-use Rattle.addr2line_lines.proofs.PlaceLemmas.{some_at}
-use Rattle.addr2line_units.specs.declared.entries.LazyFunctions.{LazyFunctions}
 use Rattle.addr2line_units.specs.declared.entries.LazyFunctions.TheVariants as lazy
-use Rattle.addr2line_units.specs.declared.entries.UnitCache.{UnitCache}
-use Rattle.addr2line_units.specs.declared.entries.UnitEntries.{UnitEntries}
-use Rattle.addr2line_units.specs.declared.unit.ViewState.{ViewState}
 use Rattle.addr2line_units.specs.declared.unit.ViewState.TheVariants as states
-use Rattle.addr2line_units.specs.CachedEntries.{AreEntriesOf, StayEntries, first_answer_of}
-use Rattle.addr2line_units.specs.CachedFunctions.{AreFunctionsOf, ReadsNoDetail, ReadsNoOther, StayFunctions, cached_functions, has_detail, is_cached_fault, no_functions, were_read}
-use Rattle.addr2line_units.specs.CachedKnown.{known_answer, known_by, known_fault, known_function, known_functions, known_in, known_table}
-use Rattle.addr2line_units.specs.CachedViews.{is_decided, seen_sections, unboxed, verdict_in, view_by, was_checked}
-use Rattle.addr2line_units.specs.KnownEntries.{AllKnown, FunctionsKnown, HasNoFunctions, KnownEntries, KnownFunction, LearnsNoDetails, LearnsNoFunctions, NothingKnown, is_detail_known, knows_detail, knows_detail_at}
-use Rattle.addr2line_units.specs.UnitFrames.{function_offset_among, function_offset_by, function_offset_in}
-use Rattle.addr2line_units.specs.Views.{View, verdict, view_scope}
 use Rattle.addr2line_units.proofs.AnswerLemmas.{others_stay, decided_was_checked}
 use Rattle.addr2line_units.proofs.CachedFunctionLemmas.{first_same, unread_at}
 use Rattle.addr2line_units.proofs.KnownLemmas.{known_unchanged}

@@ -1,17 +1,11 @@
 -- Least begins beside ranges (on specs/LeastBegins.antt).
-use Rattle.std.proofs.Common.{ℕ, ◌≡◌, ◌-◌, ◌<◌, ◌≤◌, Bool, true, false, cond, ◌&&◌, nat_le, nat_lt, nat_cmp, leb, min, List, [], ◌∷◌, ◌++◌, Result, Ok, map, length, take, drop, reverse, arith, ◌∙◌, ap, sym, subst, refl, zero, suc}
-use Rattle.std.specs.List.{filter, AllByRecursion}
-use Rattle.std.specs.List.Sorted.{IsNonDecreasingBy, IsPartitionPoint}
+use Rattle.addr2line_units.proofs.Common.{ℕ, ◌≡◌, ◌-◌, ◌<◌, ◌≤◌, Bool, true, false, cond, ◌&&◌, nat_le, nat_lt, nat_cmp, leb, min, List, [], ◌∷◌, ◌++◌, Result, Ok, map, length, take, drop, reverse, arith, ◌∙◌, ap, sym, subst, refl, zero, suc, AllByRecursion, IsNonDecreasingBy, IsPartitionPoint, nat_tests, reverse-append, take_all, Error, IsInOrder, in_order, in_order_ordered, UnitRange}
+use Rattle.std.specs.List.{filter}
 use Rattle.std.specs.Ordering.{is_lt, ordering_then}
-use Rattle.std.proofs.lemmas.Bool.Decides.{nat_tests}
-use Rattle.std.proofs.lemmas.List.{append-nil, append_assoc, length-drop, reverse-append, take_all}
-use Rattle.gimli_read.specs.declared.error.Error.{Error}
-use Rattle.addr2line_lines.specs.InOrder.{IsInOrder, in_order}
-use Rattle.addr2line_lines.proofs.OrderLemmas.{in_order_ordered}
+use Rattle.std.proofs.lemmas.List.{append-nil, append_assoc, length-drop}
 use Rattle.addr2line_lines.proofs.SeekLemmas.{Up, non_decreasing}
 use Rattle.addr2line_lines.specs.LastAddress.{last_address}
 use Rattle.addr2line_units.specs.declared.index.IndexedRange.{IndexedRange}
-use Rattle.addr2line_units.specs.declared.index.UnitRange.{UnitRange}
 use Rattle.addr2line_units.specs.Cover.{ends_sooner}
 use Rattle.addr2line_units.specs.LeastBegins.{AreIndexed, AreLeastBegins, EndFits, range_begins_by, is_between, least_begin, unit_range_of, with_least_begins}
 use Rattle.addr2line_units.proofs.IndexLemmas.{ends_order}

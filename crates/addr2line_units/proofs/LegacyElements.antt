@@ -1,15 +1,10 @@
 -- Elements after their lengths: the relation and the function agree.
-use Rattle.std.proofs.Common.{◌≡◌, ◌∙◌, ◌<◌, ◌+◌, ℕ, zero, suc, true, false, cond, ◌&&◌, Some, None, List, [], ◌∷◌, ◌++◌, take, drop, length, length-append, take-append-drop, ap, sym, subst, refl, arith, ltb-true, lt-ltb, le-leb}
+use Rattle.addr2line_units.proofs.Common.{◌≡◌, ◌∙◌, ◌<◌, ◌+◌, ℕ, zero, suc, true, false, cond, ◌&&◌, Some, None, List, [], ◌∷◌, ◌++◌, take, drop, length, length-append, take-append-drop, ap, sym, subst, refl, arith, ltb-true, lt-ltb, le-leb, is_ascii, is_ascii_digit, list_all, prefix_len, byte, digits_value, ascii_front, element_at, elements_by, elements_within, elements_at}
 use Rattle.std.specs.Prelude.{nat_lt, if◌then◌else◌}
-use Rattle.std.specs.Char.{is_ascii, is_ascii_digit}
-use Rattle.std.specs.List.{list_all, prefix_len}
-use Rattle.std.specs.Str.{byte}
-use Rattle.std.specs.Str.Parse.{digits_value}
 use Rattle.std.proofs.Math.Seq.{take-append_seam, drop-append_seam}
 use Rattle.std.proofs.lemmas.List.Folds.{length-prefix_len}
 use Rattle.addr2line_units.proofs.LegacySteps.{some_if, front_parts, elements_some, elements_none}
 use Rattle.addr2line_units.specs.LegacyElements.{is_first, IsElement, AreElements}
-use Rattle.addr2line_units.specs.LegacyText.{ascii_front, element_at, elements_by, elements_within, elements_at}
 use Rattle.addr2line_units.proofs.WalkLemmas.{and_first, and_second}
 
 -- all digits that stand first, and none after them

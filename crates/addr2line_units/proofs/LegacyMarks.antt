@@ -1,16 +1,11 @@
 -- Marks of LLVM, prefixes, hashes and suffixes: the relation and the function agree.
-use Rattle.std.proofs.Common.{◌≡◌, ◌∙◌, ◌≤◌, ◌<◌, ℕ, zero, suc, Bool, true, false, ◌&&◌, Some, None, List, [], ◌∷◌, ◌++◌, drop, length, ap, sym, refl, arith}
-use Rattle.std.specs.Prelude.{nat_eq, if◌then◌else◌, ◌==◌, slice_index_or}
-use Rattle.std.specs.List.{Contains, list_all, starts_with}
-use Rattle.std.specs.Str.{byte}
-use Rattle.std.proofs.lemmas.List.Elements.{All-contains}
+use Rattle.addr2line_units.proofs.Common.{◌≡◌, ◌∙◌, ◌≤◌, ◌<◌, ℕ, zero, suc, Bool, true, false, ◌&&◌, Some, None, List, [], ◌∷◌, ◌++◌, drop, length, ap, sym, refl, arith, nat_eq, slice_index_or, Contains, list_all, starts_with, byte, All-contains, Decides-eqb, without_llvm, after_first, without_prefix, without_hash, suffix_at}
+use Rattle.std.specs.Prelude.{if◌then◌else◌, ◌==◌}
 use Rattle.std.proofs.lemmas.Slice.Eq.{starts_is}
 use Rattle.std.proofs.lemmas.Bool.{eqb-true}
-use Rattle.std.proofs.lemmas.Bool.Decides.{Decides-eqb}
 use Rattle.addr2line_units.proofs.LegacySteps.{some_if, some_inj}
 use Rattle.addr2line_units.specs.LegacyName.{llvm_mark, is_llvm_byte, IsFirstMark, IsKept, cut, whole, prefixes, is_suffix}
 use Rattle.addr2line_units.specs.LegacyElements.{is_hash, AreShown, hashed, all}
-use Rattle.addr2line_units.specs.LegacyText.{without_llvm, after_first, without_prefix, without_hash, suffix_at}
 use Rattle.addr2line_units.proofs.WalkLemmas.{and_first, and_second}
 
 -- a mark stands first

@@ -1,22 +1,15 @@
 -- The text of an element: the relation and the function agree.
-use Rattle.std.proofs.Common.{◌≡◌, ◌≢◌, ◌∙◌, ◌≤◌, ◌<◌, ◌+◌, ℕ, zero, suc, Bool, true, false, cond, not, ◌&&◌, ◌||◌, Option, Some, None, List, [], ◌∷◌, ◌++◌, take, drop, length, length-append, length-drop, take-append-drop, get_or, ap, sym, subst, refl, arith, ltb-true, lt-ltb}
-use Rattle.std.specs.Prelude.{nat_eq, nat_lt, nat_le, if◌then◌else◌, ◌==◌, codes, encode_utf8, option_and_then, option_map, map}
-use Rattle.std.specs.Char.{IsScalar, is_control}
-use Rattle.std.specs.List.{list_all, prefix_len, position, position_or_len, starts_with}
+use Rattle.addr2line_units.proofs.Common.{◌≡◌, ◌≢◌, ◌∙◌, ◌≤◌, ◌<◌, ◌+◌, ℕ, zero, suc, Bool, true, false, cond, not, ◌&&◌, ◌||◌, Option, Some, None, List, [], ◌∷◌, ◌++◌, take, drop, length, length-append, length-drop, take-append-drop, get_or, ap, sym, subst, refl, arith, ltb-true, lt-ltb, nat_eq, codes, encode_utf8, IsScalar, is_control, list_all, prefix_len, position_or_len, starts_with, option_or, byte, bytes_eq, digits_value, eq-eqb, nat_tests, Decides-eqb, All-contains, shown_char, numbered_char, escape_char, escape_in, escape_text, plain_from, element_text}
+use Rattle.std.specs.Prelude.{nat_lt, nat_le, if◌then◌else◌, ◌==◌, option_and_then, option_map, map}
+use Rattle.std.specs.List.{position}
 use Rattle.std.specs.Map.{lookup}
-use Rattle.std.specs.Option.{option_or}
-use Rattle.std.specs.Str.{byte, bytes_eq}
-use Rattle.std.specs.Str.Parse.{digits_value}
 use Rattle.std.proofs.Math.Seq.{take-append_seam, drop-append-add, drop-cons}
-use Rattle.std.proofs.lemmas.Bool.{eqb-true, eq-eqb}
-use Rattle.std.proofs.lemmas.Bool.Decides.{nat_tests, Decides-eqb}
+use Rattle.std.proofs.lemmas.Bool.{eqb-true}
 use Rattle.std.proofs.lemmas.List.Sums.{prefix_len_stops, AllPass-from_list_all}
-use Rattle.std.proofs.lemmas.List.Elements.{All-contains}
 use Rattle.std.proofs.lemmas.Map.Views.{Contains-from_lookup}
 use Rattle.std.proofs.lemmas.Slice.Eq.{bytes_eq-Decides, starts_is}
 use Rattle.addr2line_units.proofs.LegacySteps.{some_if, some_inj, plain_skip}
 use Rattle.addr2line_units.specs.LegacyElements.{after_code_points, after_surrogates, first_surrogate, is_scalar_value, is_lower_hex, escapes, IsEscape, NoEscape, is_first, is_dot, IsPlain, IsElementText, AreTexts, by_name, by_number, nothing, dots, escape, as_it_stands, any_other, bare, other}
-use Rattle.addr2line_units.specs.LegacyText.{shown_char, numbered_char, escape_char, escape_in, escape_text, plain_from, element_text}
 use Rattle.addr2line_units.proofs.WalkLemmas.{and_first, and_second}
 
 or_cond : (a b : Bool) → (a || b) ≡ cond a true b

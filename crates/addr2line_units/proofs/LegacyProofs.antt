@@ -1,8 +1,6 @@
 -- That the relation of a legacy name and its text, and the function, agree.
-use Rattle.std.proofs.Common.{◌≡◌, ◌∙◌, ◌<◌, ℕ, true, Some, List, [], ◌∷◌, ◌++◌, length, ap, sym, subst, arith}
+use Rattle.addr2line_units.proofs.Common.{◌≡◌, ◌∙◌, ◌<◌, ℕ, true, Some, List, [], ◌∷◌, ◌++◌, length, ap, sym, subst, arith, Contains, byte, without_llvm, without_prefix, element_at, elements_at, without_hash, element_text, elements_text, suffix_at, spelled_text, legacy_text, demangled}
 use Rattle.std.specs.Prelude.{◌==◌, option_and_then, option_map, map}
-use Rattle.std.specs.List.{Contains}
-use Rattle.std.specs.Str.{byte}
 use Rattle.std.proofs.lemmas.Bool.{eqb-true}
 use Rattle.addr2line_units.proofs.LegacySteps.{some_if, some_inj, elements_some}
 use Rattle.addr2line_units.proofs.LegacyMarks.{kept_is, kept_only, prefix_found, prefix_read, shown_are, shown_only, suffix_found, suffix_read}
@@ -10,7 +8,6 @@ use Rattle.addr2line_units.proofs.LegacyElements.{elements_are, elements_read, e
 use Rattle.addr2line_units.proofs.LegacyPlain.{then_some, map_some, texts_are, texts_only}
 use Rattle.addr2line_units.specs.LegacyName.{IsLegacyName, prefixes, is_suffix, joined}
 use Rattle.addr2line_units.specs.LegacyElements.{AreElements}
-use Rattle.addr2line_units.specs.LegacyText.{without_llvm, without_prefix, element_at, elements_at, without_hash, element_text, elements_text, suffix_at, spelled_text, legacy_text, demangled}
 use Rattle.addr2line_units.specs.LegacyLaws.{FindsLegacyNames, FindsOnlyLegacyNames, HasOneText}
 
 -- what the function finds is a legacy name and its text

@@ -1,18 +1,11 @@
 -- The steps by which the functions of *LegacyText* go through a name.
-use Rattle.std.proofs.Common.{◌≡◌, ◌∙◌, ◌≤◌, ◌<◌, ◌+◌, ◌*◌, ℕ, zero, suc, Bool, true, false, ◌&&◌, Option, Some, None, List, [], ◌∷◌, ◌++◌, take, drop, length, length-take, length-drop, length-append, take-append-drop, append_assoc, append-nil, get_or, map, ap, sym, refl, arith, add-one, leb-true, ltb-true}
-use Rattle.std.specs.Prelude.{nat_eq, nat_lt, nat_le, is_none, encode_utf8, codes, if◌then◌else◌, ◌==◌}
-use Rattle.std.specs.Char.{digit_value, is_ascii, is_ascii_digit}
-use Rattle.std.specs.List.{list_all, prefix_len, starts_with}
-use Rattle.std.proofs.lemmas.Bool.Decides.{nat_tests}
-use Rattle.std.proofs.lemmas.List.{drop_all}
+use Rattle.addr2line_units.proofs.Common.{◌≡◌, ◌∙◌, ◌≤◌, ◌<◌, ◌+◌, ◌*◌, ℕ, zero, suc, Bool, true, false, ◌&&◌, Option, Some, None, List, [], ◌∷◌, ◌++◌, take, drop, length, length-take, length-drop, length-append, take-append-drop, append_assoc, append-nil, get_or, map, ap, sym, refl, arith, add-one, leb-true, ltb-true, nat_eq, encode_utf8, codes, digit_value, is_ascii, is_ascii_digit, list_all, prefix_len, starts_with, nat_tests, drop_all, byte, digits_value, without_llvm, element_at, ascii_front, elements_by, elements_within, elements_at, without_hash, element_text, joint_text, escape_in, escape_text, plain_from}
+use Rattle.std.specs.Prelude.{nat_lt, nat_le, is_none, if◌then◌else◌, ◌==◌}
 use Rattle.std.proofs.lemmas.List.Sums.{prefix_len-le-length}
-use Rattle.std.specs.Str.{byte}
-use Rattle.std.specs.Str.Parse.{digits_value}
 use Rattle.std.proofs.lemmas.Str.Parse.{digits_value-take-le}
 use Rattle.std.proofs.lemmas.Int.Digits.{digits_value_more}
 use Rattle.addr2line_units.specs.LegacyName.{llvm_mark, is_llvm_byte, is_suffix_byte, is_suffix, joined, after_colons}
 use Rattle.addr2line_units.specs.LegacyElements.{is_hash, is_first, is_dot}
-use Rattle.addr2line_units.specs.LegacyText.{without_llvm, element_at, ascii_front, elements_by, elements_within, elements_at, without_hash, element_text, joint_text, escape_in, escape_text, plain_from}
 use Rattle.addr2line_units.proofs.WalkLemmas.{and_first, and_second}
 
 pub some_inj : {A : Type 0} (x y : A) → Some x ≡ Some y → x ≡ y

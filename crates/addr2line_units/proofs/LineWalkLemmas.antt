@@ -1,24 +1,9 @@
 -- Lookups of rows and parses of lines, one unit after another (on specs/AfterUnits.antt and
 -- specs/AskedUnits.antt).
-use Rattle.std.proofs.Common.{◌≡◌, ◌≢◌, inl, inr, ℕ, ◌+◌, ◌<◌, ◌≤◌, Bool, true, false, List, [], ◌∷◌, drop, length, slice_get, Option, Some, None, Result, Ok, Err, refl, sym, ap, subst, ◌∙◌, arith}
-use Rattle.std.proofs.lemmas.Bool.{false≢true}
-use Rattle.std.specs.List.{AllByRecursion}
-use Rattle.gimli_read.specs.declared.error.Error.{Error}
-use Rattle.gimli_read.specs.declared.error.Error.TheVariants.{OutOfMemory}
-use Rattle.gimli_read.specs.Reading.{fault_of}
-use Rattle.gimli.specs.Sections.{Sections}
+use Rattle.addr2line_units.proofs.Common.{◌≡◌, ◌≢◌, inl, inr, ℕ, ◌+◌, ◌<◌, ◌≤◌, Bool, true, false, List, [], ◌∷◌, drop, length, slice_get, Option, Some, None, Result, Ok, Err, refl, sym, ap, subst, ◌∙◌, arith, false≢true, AllByRecursion, Error, OutOfMemory, fault_of, Sections, UnitRange, AfterCachingAt, AfterRowAt, lines_of_take_memory, lines_result_at, unit_row, FindsNothing, all_lines, first_location, location_in, looks_along, looks_in, AllAskFor, AreAllParsed, AreParsed, AsksFor, LeadTo, StaysParsed, decides, has_parsed, parses_no_memory, ready_along, takes_none_along, unit_decides, IndexedUnit, UnitsState, row_location}
 use Rattle.addr2line_lines.specs.declared.row.Row.{Row}
-use Rattle.addr2line_units.specs.declared.index.UnitRange.{UnitRange}
 use Rattle.addr2line_units.specs.AfterUnits.{AfterCaching, AfterLineParse, AfterLines, AfterRow}
-use Rattle.addr2line_units.specs.AskedUnits.{AfterCachingAt, AfterRowAt}
-use Rattle.addr2line_units.specs.AskMemory.{lines_of_take_memory}
-use Rattle.addr2line_units.specs.CachedLines.{lines_result_at, unit_row}
 use Rattle.addr2line_units.specs.Cover.{holds_until}
-use Rattle.addr2line_units.specs.FramesLookup.{FindsNothing}
-use Rattle.addr2line_units.specs.Located.{all_lines, first_location, location_in, looks_along, looks_in}
-use Rattle.addr2line_units.specs.Parsed.{AllAskFor, AreAllParsed, AreParsed, AsksFor, LeadTo, StaysParsed, decides, has_parsed, parses_no_memory, ready_along, takes_none_along, unit_decides}
-use Rattle.addr2line_units.specs.RangedUnits.{IndexedUnit}
-use Rattle.addr2line_units.specs.UnitsState.{UnitsState, row_location}
 use Rattle.addr2line_units.proofs.AskMemoryLemmas.{alone_if_none}
 use Rattle.addr2line_units.proofs.UnitsLemmas.{all_parsed, first_location_fault, first_location_none, first_location_some, asks_more, lines_end, lines_more, lines_stop, looks_counted, looks_first, looks_of_step, looks_raised, looks_within, only_more, parsed_below, readable, ready_at_fault, ready_both, ready_decided, ready_first, such_first, such_rest}
 

@@ -1,27 +1,7 @@
 -- The lines of the unit of a number (on specs/AskedUnits.antt and specs/StoredUnits.antt).
-use Rattle.std.proofs.Common.{◌≡◌, inl, ℕ, ◌+◌, ◌<◌, ◌≤◌, Bool, true, false, List, length, get_or, slice_get, Option, Some, None, option_map, Result, Ok, Err, refl, sym, ap, subst, ◌∙◌, arith}
-use Rattle.std.proofs.Math.ListN.{set}
-use Rattle.std.proofs.lemmas.Bool.{false≢true}
-use Rattle.std.specs.Prelude.{IfErr}
-use Rattle.gimli_read.specs.declared.error.Error.{Error}
-use Rattle.gimli_read.specs.Reading.{ExactlyUnlessOom, WasNotRefused}
-use Rattle.gimli.specs.Sections.{Sections}
-use Rattle.gimli.specs.Unit.{UnitRecord}
+use Rattle.addr2line_units.proofs.Common.{◌≡◌, inl, ℕ, ◌+◌, ◌<◌, ◌≤◌, Bool, true, false, List, length, get_or, slice_get, Option, Some, None, option_map, Result, Ok, Err, refl, sym, ap, subst, ◌∙◌, arith, set, false≢true, IfErr, Error, ExactlyUnlessOom, WasNotRefused, Sections, UnitRecord, LineTable, location_of_row, Scope, FramesStop, UnitLines, UnitCache, AfterCachingAt, AfterRowAt, lines_of_take_memory, lines_take_memory, AreLinesOf, CachesResult, StaysUnit, StayUnits, cached_files, indexed_unit, is_uncached, lines_result, lines_result_at, parsed_units, unit_row, FindsNothing, LookupStop, is_found, location_in, looks_in, has_parsed, AreUnits, seen_units, UnitsState, files_of, row_location}
 use Rattle.addr2line_lines.specs.declared.row.Row.{Row}
-use Rattle.addr2line_lines.specs.Location.{LineTable, location_of_row}
-use Rattle.addr2line_lines.specs.References.{Scope}
-use Rattle.addr2line_units.specs.declared.frames.FramesStop.{FramesStop}
-use Rattle.addr2line_units.specs.declared.unit.UnitLines.{UnitLines}
-use Rattle.addr2line_units.specs.declared.entries.UnitCache.{UnitCache}
 use Rattle.addr2line_units.specs.AfterUnits.{AfterLines}
-use Rattle.addr2line_units.specs.AskedUnits.{AfterCachingAt, AfterRowAt}
-use Rattle.addr2line_units.specs.AskMemory.{lines_of_take_memory, lines_take_memory}
-use Rattle.addr2line_units.specs.CachedLines.{AreLinesOf, CachesResult, StaysUnit, StayUnits, cached_files, indexed_unit, is_uncached, lines_result, lines_result_at, parsed_units, unit_row}
-use Rattle.addr2line_units.specs.FramesLookup.{FindsNothing, LookupStop}
-use Rattle.addr2line_units.specs.Located.{is_found, location_in, looks_in}
-use Rattle.addr2line_units.specs.Parsed.{has_parsed}
-use Rattle.addr2line_units.specs.StoredUnits.{AreUnits, seen_units}
-use Rattle.addr2line_units.specs.UnitsState.{UnitsState, files_of, row_location}
 use Rattle.addr2line_units.proofs.AskMemoryLemmas.{either_none, none_refused}
 use Rattle.addr2line_units.proofs.CachedUnitLemmas.{same_entries_set}
 use Rattle.addr2line_units.proofs.StateLemmas.{after_lines, files_are}

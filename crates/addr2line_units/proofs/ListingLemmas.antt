@@ -1,18 +1,10 @@
 -- Loads that are listed, one unit after another (on specs/AfterUnits.antt and
 -- specs/ListedLoads.antt).
-use Rattle.std.proofs.Common.{◌≡◌, inl, inr, ℕ, ◌++◌, Bool, List, [], ◌∷◌, filter, Option, refl, sym, ap, subst, ◌∙◌}
+use Rattle.addr2line_units.proofs.Common.{◌≡◌, inl, inr, ℕ, ◌++◌, Bool, List, [], ◌∷◌, filter, Option, refl, sym, ap, subst, ◌∙◌, Sections, UnitRecord, UnitRange, FindsNothing, NoneOpen, load_of_number, LeadTo, UnitsState, SplitLoad}
 use Rattle.std.specs.Option.{option_to_list}
-use Rattle.gimli.specs.Sections.{Sections}
-use Rattle.gimli.specs.Unit.{UnitRecord}
-use Rattle.addr2line_units.specs.declared.index.UnitRange.{UnitRange}
 use Rattle.addr2line_units.specs.AfterUnits.{AfterListing}
-use Rattle.addr2line_units.specs.FramesLookup.{FindsNothing}
 use Rattle.addr2line_units.specs.ListedLoads.{MarksLoad, if_new, is_new}
 use Rattle.addr2line_units.specs.LoadLaws.{loads_of}
-use Rattle.addr2line_units.specs.Loads.{NoneOpen, load_of_number}
-use Rattle.addr2line_units.specs.Parsed.{LeadTo}
-use Rattle.addr2line_units.specs.UnitsState.{UnitsState}
-use Rattle.addr2line_units.specs.Views.{SplitLoad}
 use Rattle.addr2line_units.proofs.LearnedLemmas.{learns_none_twice}
 use Rattle.addr2line_units.proofs.LoadLemmas.{listed_more, none_marked}
 use Rattle.addr2line_units.proofs.StayLemmas.{known_twice}

@@ -1,23 +1,7 @@
 -- Laws of the loads that an address waits for (on specs/LoadLaws.antt).
-use Rattle.std.proofs.Common.{◌≡◌, ◌≢◌, ◌⊎◌, inl, inr, ℕ, zero, suc, ◌<◌, ◌≤◌, ◌==◌, ◌&&◌, not, cond, Bool, true, false, List, [], ◌∷◌, filter, length, slice_get, arith, subst, Option, Some, None, option_map, Result, Ok, Err, ap, refl, sym, ◌∙◌}
-use Rattle.std.proofs.lemmas.Bool.{eq-eqb}
-use Rattle.std.proofs.lemmas.Bool.Decides.{eqb_tells}
-use Rattle.std.proofs.Math.ListN.{set}
-use Rattle.std.proofs.lemmas.Option.{slice_get_within}
+use Rattle.addr2line_units.proofs.Common.{◌≡◌, ◌≢◌, ◌⊎◌, inl, inr, ℕ, zero, suc, ◌<◌, ◌≤◌, ◌==◌, ◌&&◌, not, cond, Bool, true, false, List, [], ◌∷◌, filter, length, slice_get, arith, subst, Option, Some, None, option_map, Result, Ok, Err, ap, refl, sym, ◌∙◌, eq-eqb, eqb_tells, set, slice_get_within, Error, ◌>>=◌, Sections, UnitRecord, Scope, UnitRange, Waits, answer_of, asked_frames, frames_of_number, or_stop, stop_along, with_answer, before_others, is_of_other, is_open_at, load_of_number, loads_along, LeadTo, FramesResult, frames_in, IndexedUnit, unit_records, FirstAnswers, SplitLoad, awaited_by, awaited_load, decided_answer, is_open, load_of_unit}
 use Rattle.std.specs.Prelude.{is_some, unwrap_or}
-use Rattle.gimli_read.specs.declared.error.Error.{Error}
-use Rattle.gimli_read.specs.Reading.{◌>>=◌}
-use Rattle.gimli.specs.Sections.{Sections}
-use Rattle.gimli.specs.Unit.{UnitRecord}
-use Rattle.addr2line_lines.specs.References.{Scope}
-use Rattle.addr2line_units.specs.declared.index.UnitRange.{UnitRange}
-use Rattle.addr2line_units.specs.FramesLookup.{Waits, answer_of, asked_frames, frames_of_number, or_stop, stop_along, with_answer}
 use Rattle.addr2line_units.specs.LoadLaws.{IsListed, LeaveFewer, LeaveOthers, NeedLoadsToWait, WaitForListed, loads_of}
-use Rattle.addr2line_units.specs.Loads.{before_others, is_of_other, is_open_at, load_of_number, loads_along}
-use Rattle.addr2line_units.specs.Parsed.{LeadTo}
-use Rattle.addr2line_units.specs.UnitFrames.{FramesResult, frames_in}
-use Rattle.addr2line_units.specs.RangedUnits.{IndexedUnit, unit_records}
-use Rattle.addr2line_units.specs.Views.{FirstAnswers, SplitLoad, awaited_by, awaited_load, decided_answer, is_open, load_of_unit}
 use Rattle.addr2line_units.proofs.AnswerLemmas.{decided_if_not, decided_if_open, no_answer, others_stay}
 use Rattle.addr2line_units.proofs.LoadLemmas.{answer_after, awaited_unit, filter_twice, open_awaits}
 use Rattle.addr2line_units.proofs.WaitLemmas.{open_of_none, same_number, told_by_unit}

@@ -1,25 +1,11 @@
 -- Answers to the loads of units, and the loads that are listed (on specs/Loads.antt and
 -- specs/ListedLoads.antt).
-use Rattle.std.proofs.Common.{◌≡◌, ℕ, zero, suc, ◌<◌, ◌≤◌, ◌==◌, ◌++◌, ◌||◌, ◌&&◌, not, cond, Bool, true, false, List, [], ◌∷◌, filter, length, get_or, slice_get, arith, subst, Option, Some, None, Result, Ok, Err, ap, refl, sym, ◌∙◌}
-use Rattle.std.proofs.Math.ListN.{set}
+use Rattle.addr2line_units.proofs.Common.{◌≡◌, ℕ, zero, suc, ◌<◌, ◌≤◌, ◌==◌, ◌++◌, ◌||◌, ◌&&◌, not, cond, Bool, true, false, List, [], ◌∷◌, filter, length, get_or, slice_get, arith, subst, Option, Some, None, Result, Ok, Err, ap, refl, sym, ◌∙◌, set, Error, UnknownToken, ◌>>=◌, ExactlyUnlessOom, Section, Sections, UnitRecord, UnitCache, answer_of, with_answer, first_answer_of, answers_in, parts_or_fault, before_others, forget_result, is_of_other, load_of_number, load_result, unit_of_token, view_fault, FirstAnswers, SplitLoad, View, awaited_by, awaited_load, decided_answer, is_open, load_by, load_of_unit, split_name_of, verdict, verdict_by}
 use Rattle.std.proofs.lemmas.List.{append_assoc}
 use Rattle.std.specs.Option.{option_to_list}
 use Rattle.std.specs.Prelude.{IfSome, is_none, is_some, if◌then◌else◌}
-use Rattle.gimli_read.specs.declared.error.Error.{Error}
-use Rattle.gimli_read.specs.declared.error.Error.TheVariants.{UnknownToken}
-use Rattle.gimli_read.specs.Reading.{◌>>=◌, ExactlyUnlessOom}
-use Rattle.gimli_read.specs.Section.{Section}
 use Rattle.gimli.specs.declared.unit.DwoId.{DwoId}
-use Rattle.gimli.specs.Sections.{Sections}
-use Rattle.gimli.specs.Unit.{UnitRecord}
-use Rattle.addr2line_units.specs.declared.entries.UnitCache.{UnitCache}
-use Rattle.addr2line_units.specs.FramesLookup.{answer_of, with_answer}
-use Rattle.addr2line_units.specs.CachedEntries.{first_answer_of}
-use Rattle.addr2line_units.specs.CachedUnits.{answers_in}
-use Rattle.addr2line_units.specs.CachedViews.{parts_or_fault}
 use Rattle.addr2line_units.specs.ListedLoads.{MarksLoad, MarksUnit, if_new, is_marked, is_new}
-use Rattle.addr2line_units.specs.Loads.{before_others, forget_result, is_of_other, load_of_number, load_result, unit_of_token, view_fault}
-use Rattle.addr2line_units.specs.Views.{FirstAnswers, SplitLoad, View, awaited_by, awaited_load, decided_answer, is_open, load_by, load_of_unit, split_name_of, verdict, verdict_by}
 use Rattle.addr2line_units.proofs.AnswerLemmas.{answer_at}
 
 -- a view with a unit has no fault

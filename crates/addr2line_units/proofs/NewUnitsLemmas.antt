@@ -1,30 +1,10 @@
 -- The units of a context as they are read (on specs/UnitsState.antt and specs/StoredUnits.antt).
-use Rattle.std.proofs.Common.{◌≡◌, List, [], ◌∷◌, map, Option, Some, None, option_map, Result, Ok, Err, refl, sym, ap, subst, ◌∙◌}
-use Rattle.gimli_read.specs.declared.error.Error.{Error}
-use Rattle.gimli_read.specs.Reading.{◌>>=◌}
-use Rattle.gimli.specs.Sections.{Sections, SupSections}
-use Rattle.gimli.specs.Unit.{UnitRecord}
-use Rattle.gimli.specs.UnitsLeft.{all_headers}
-use Rattle.addr2line_lines.specs.References.{FileRecord, IsScope, Scope}
+use Rattle.addr2line_units.proofs.Common.{◌≡◌, List, [], ◌∷◌, map, Option, Some, None, option_map, Result, Ok, Err, refl, sym, ap, subst, ◌∙◌, Error, ◌>>=◌, Sections, SupSections, UnitRecord, all_headers, FileRecord, IsScope, Scope, UnitArange, UnitRange, UnitCache, HaveLinesOf, indexed_units, parsed_units, AreFreshOf, answers_in, FindsNothing, main_scope, units_of, known_in, KnownEntries, NothingKnown, IndexedUnit, RangedUnit, indexed_of, ranged_units, unit_of_header, unit_ranges_from, unit_records, AreUnits, seen_units, aranges_in, UnitsState, first_state, new_units, FirstAnswers}
 use Rattle.addr2line_units.specs.declared.frames.FramesStop.TheVariants as stops
-use Rattle.addr2line_units.specs.declared.index.UnitArange.{UnitArange}
-use Rattle.addr2line_units.specs.declared.index.UnitRange.{UnitRange}
 use Rattle.addr2line_units.specs.declared.sup.SupUnits.{SupUnits}
-use Rattle.addr2line_units.specs.declared.entries.UnitCache.{UnitCache}
-use Rattle.addr2line_units.specs.CachedLines.{HaveLinesOf, indexed_units, parsed_units}
-use Rattle.addr2line_units.specs.CachedUnits.{AreFreshOf, answers_in}
-use Rattle.addr2line_units.specs.FramesLookup.{FindsNothing, main_scope}
 use Rattle.addr2line_units.specs.Indexed.{IndexState, index_of, index_read}
-use Rattle.addr2line_units.specs.HeaderUnits.{units_of}
-use Rattle.addr2line_units.specs.CachedKnown.{known_in}
-use Rattle.addr2line_units.specs.KnownEntries.{KnownEntries, NothingKnown}
-use Rattle.addr2line_units.specs.RangedUnits.{IndexedUnit, RangedUnit, indexed_of, ranged_units, unit_of_header, unit_ranges_from, unit_records}
 use Rattle.addr2line_units.specs.SeenUnit.{scope_in}
-use Rattle.addr2line_units.specs.StoredUnits.{AreUnits, seen_units}
-use Rattle.addr2line_units.specs.UnitAranges.{aranges_in}
 use Rattle.addr2line_units.specs.UnitIndex.{UnitIndex, index_units, sup_sections, sup_units}
-use Rattle.addr2line_units.specs.UnitsState.{UnitsState, first_state, new_units}
-use Rattle.addr2line_units.specs.Views.{FirstAnswers}
 use Rattle.addr2line_units.proofs.CachedUnitLemmas.{caches_right}
 use Rattle.addr2line_units.proofs.KnownLemmas.{nothing_known}
 use Rattle.addr2line_units.proofs.ScopeLemmas.{fresh_entries, main_scope_in_order, no_answers, records_beside}

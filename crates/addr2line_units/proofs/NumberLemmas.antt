@@ -1,30 +1,8 @@
 -- What is answered, loaded, listed and forgotten of the unit of a number (on
 -- specs/AfterUnits.antt and specs/StoredUnits.antt).
-use Rattle.std.proofs.Common.{◌≡◌, inl, inr, ℕ, ◌<◌, ◌≤◌, Bool, true, false, List, length, get_or, slice_get, Option, Some, None, Result, Ok, Err, refl, sym, ap, ◌∙◌, arith}
-use Rattle.std.proofs.Math.ListN.{set}
-use Rattle.std.proofs.lemmas.Bool.{cases_eq}
-use Rattle.std.specs.Prelude.{IfErr, OnOk, is_some}
-use Rattle.gimli_read.specs.declared.error.Error.{Error}
-use Rattle.gimli_read.specs.declared.error.Error.TheVariants.{OutOfMemory, UnknownToken}
-use Rattle.gimli_read.specs.Reading.{◌>>=◌}
-use Rattle.gimli.specs.Sections.{Sections}
-use Rattle.gimli.specs.Unit.{UnitRecord}
-use Rattle.addr2line_lines.specs.References.{Scope}
-use Rattle.addr2line_units.specs.declared.frames.FramesStop.{FramesStop}
-use Rattle.addr2line_units.specs.declared.entries.UnitCache.{UnitCache}
-use Rattle.addr2line_units.specs.declared.entries.UnitEntries.{UnitEntries}
+use Rattle.addr2line_units.proofs.Common.{◌≡◌, inl, inr, ℕ, ◌<◌, ◌≤◌, Bool, true, false, List, length, get_or, slice_get, Option, Some, None, Result, Ok, Err, refl, sym, ap, ◌∙◌, arith, set, cases_eq, IfErr, OnOk, Error, OutOfMemory, UnknownToken, ◌>>=◌, Sections, UnitRecord, Scope, FramesStop, UnitCache, UnitEntries, AreEntriesOf, StayEntries, first_answer_of, were_read, known_in, HaveSameLines, answers_in, decided_at, is_decided, FindsNothing, LookupStop, answer_of, LearnsNoFunctions, is_open_at, load_of_number, load_result, view_fault, AreUnits, seen_units, UnitsState, awaited_load, decided_answer, is_open, verdict}
+use Rattle.std.specs.Prelude.{is_some}
 use Rattle.addr2line_units.specs.AfterUnits.{AfterAnswer, AfterForget, AfterListing, AfterLoad}
-use Rattle.addr2line_units.specs.CachedEntries.{AreEntriesOf, StayEntries, first_answer_of}
-use Rattle.addr2line_units.specs.CachedFunctions.{were_read}
-use Rattle.addr2line_units.specs.CachedKnown.{known_in}
-use Rattle.addr2line_units.specs.CachedUnits.{HaveSameLines, answers_in, decided_at}
-use Rattle.addr2line_units.specs.CachedViews.{is_decided}
-use Rattle.addr2line_units.specs.FramesLookup.{FindsNothing, LookupStop, answer_of}
-use Rattle.addr2line_units.specs.KnownEntries.{LearnsNoFunctions}
-use Rattle.addr2line_units.specs.Loads.{is_open_at, load_of_number, load_result, view_fault}
-use Rattle.addr2line_units.specs.StoredUnits.{AreUnits, seen_units}
-use Rattle.addr2line_units.specs.UnitsState.{UnitsState}
-use Rattle.addr2line_units.specs.Views.{awaited_load, decided_answer, is_open, verdict}
 use Rattle.addr2line_units.proofs.AnswerLemmas.{answer_at, answered_if_ok, answers_if_refused, answers_set, decided_there, others_stay, same_set}
 use Rattle.addr2line_units.proofs.CachedUnitLemmas.{as_many_entries, entries_set, same_lines_set, stay_entries_set}
 use Rattle.addr2line_units.proofs.LearnedLemmas.{UnitLearnsNone, answered_learns, forgotten_learns, set_learns}

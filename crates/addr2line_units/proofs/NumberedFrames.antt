@@ -1,25 +1,9 @@
 -- What the unit of a number has at an address, of all units (on specs/FramesLookup.antt and
 -- specs/CachedFrames.antt).
-use Rattle.std.proofs.Common.{◌≡◌, ℕ, suc, zero, ◌<◌, ◌≤◌, ◌⊎◌, inl, inr, Bool, true, false, ◌&&◌, ◌||◌, not, List, [], ◌∷◌, length, get_or, slice_get, Option, Some, None, option_map, unwrap_or, Result, Ok, Err, refl, ap, sym, subst, ◌∙◌, arith}
-use Rattle.std.proofs.Math.ListN.{set}
-use Rattle.std.proofs.lemmas.Option.{slice_get_past}
+use Rattle.addr2line_units.proofs.Common.{◌≡◌, ℕ, suc, zero, ◌<◌, ◌≤◌, ◌⊎◌, inl, inr, Bool, true, false, ◌&&◌, ◌||◌, not, List, [], ◌∷◌, length, get_or, slice_get, Option, Some, None, option_map, unwrap_or, Result, Ok, Err, refl, ap, sym, subst, ◌∙◌, arith, set, slice_get_past, Error, ExactlyUnlessOom, UnitRecord, exceeds_inline_room, Scope, UnitCache, functions_in_take_memory, lines_of_take_memory, lines_take_memory, indexed_unit, indexed_units, is_uncached, parsed_units, asks_lines_of, frames_of_number, function_offset_of, functions_of_take_memory, inlined_at_number, AreFramesIn, AsksNoMemoryIn, frames_of_place, has_entries, first_answer_of, AreFoundAt, frames_found_at, functions_at, has_frames_at, language_at, HaveEntriesOf, answers_in, has_entries_at, ParsesOnly, has_parsed, asks_lines_in, frames_in, function_offset_in, inlined_of_unit}
 use Rattle.std.specs.Prelude.{IfOk}
-use Rattle.gimli_read.specs.declared.error.Error.{Error}
-use Rattle.gimli_read.specs.Reading.{ExactlyUnlessOom}
-use Rattle.gimli.specs.Unit.{UnitRecord}
-use Rattle.addr2line_lines.specs.InlineRoom.{exceeds_inline_room}
-use Rattle.addr2line_lines.specs.References.{Scope}
-use Rattle.addr2line_units.specs.declared.entries.UnitCache.{UnitCache}
 use Rattle.addr2line_units.specs.declared.entries.UnitFrames.{UnitFrames}
 use Rattle.addr2line_units.specs.declared.entries.UnitFrames.TheVariants as found
-use Rattle.addr2line_units.specs.AskMemory.{functions_in_take_memory, lines_of_take_memory, lines_take_memory}
-use Rattle.addr2line_units.specs.CachedLines.{indexed_unit, indexed_units, is_uncached, parsed_units}
-use Rattle.addr2line_units.specs.FramesLookup.{asks_lines_of, frames_of_number, function_offset_of, functions_of_take_memory, inlined_at_number}
-use Rattle.addr2line_units.specs.CachedEntries.{AreFramesIn, AsksNoMemoryIn, frames_of_place, has_entries, first_answer_of}
-use Rattle.addr2line_units.specs.CachedFrames.{AreFoundAt, frames_found_at, functions_at, has_frames_at, language_at}
-use Rattle.addr2line_units.specs.CachedUnits.{HaveEntriesOf, answers_in, has_entries_at}
-use Rattle.addr2line_units.specs.Parsed.{ParsesOnly, has_parsed}
-use Rattle.addr2line_units.specs.UnitFrames.{asks_lines_in, frames_in, function_offset_in, inlined_of_unit}
 use Rattle.addr2line_units.proofs.UnitsLemmas.{no_parsed, no_unit, only_set, parsed_set, set_parsed, unit_at}
 use Rattle.addr2line_units.proofs.CachedUnitLemmas.{answer_at, as_many_entries, parsed_by_lines, same_lines_set}
 use Rattle.addr2line_units.proofs.WalkLemmas.{and_first, and_second}

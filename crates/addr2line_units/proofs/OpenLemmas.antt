@@ -1,16 +1,6 @@
 -- Units that aren't open (on specs/Loads.antt).
-use Rattle.std.proofs.Common.{◌≡◌, ℕ, get_or, Bool, true, false, List, length, ◌<◌, slice_get, Option, Some, None, sym, ap, ◌∙◌}
+use Rattle.addr2line_units.proofs.Common.{◌≡◌, ℕ, get_or, Bool, true, false, List, length, ◌<◌, slice_get, Option, Some, None, sym, ap, ◌∙◌, Sections, UnitRecord, UnitCache, UnitView, answer_of, first_answer_of, answers_in, IsViewOf, seen_first_answer, waits, was_checked, is_open_at, is_open}
 use Rattle.std.specs.Prelude.{unwrap_or}
-use Rattle.gimli.specs.Sections.{Sections}
-use Rattle.gimli.specs.Unit.{UnitRecord}
-use Rattle.addr2line_units.specs.declared.entries.UnitCache.{UnitCache}
-use Rattle.addr2line_units.specs.declared.unit.UnitView.{UnitView}
-use Rattle.addr2line_units.specs.FramesLookup.{answer_of}
-use Rattle.addr2line_units.specs.CachedEntries.{first_answer_of}
-use Rattle.addr2line_units.specs.CachedUnits.{answers_in}
-use Rattle.addr2line_units.specs.CachedViews.{IsViewOf, seen_first_answer, waits, was_checked}
-use Rattle.addr2line_units.specs.Loads.{is_open_at}
-use Rattle.addr2line_units.specs.Views.{is_open}
 use Rattle.addr2line_units.proofs.AnswerLemmas.{open_by_look}
 use Rattle.addr2line_units.proofs.CachedUnitLemmas.{answer_at}
 

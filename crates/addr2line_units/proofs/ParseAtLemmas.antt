@@ -1,29 +1,9 @@
 -- What a parse of functions leaves of the unit of a number (on specs/AfterParses.antt and
 -- specs/StoredUnits.antt).
-use Rattle.std.proofs.Common.{◌≡◌, ◌∙◌, inl, inr, ℕ, zero, suc, ◌<◌, arith, Bool, true, false, List, [], ◌∷◌, length, get_or, slice_get, Option, Some, None, option_map, Result, Ok, Err, refl, sym, ap, subst}
-use Rattle.std.proofs.Math.ListN.{set}
-use Rattle.std.proofs.lemmas.Option.{slice_get-map, slice_get_past, slice_get_read}
-use Rattle.std.specs.Prelude.{IfErr, IfSome, OnOk, unwrap_or}
-use Rattle.gimli_read.specs.declared.error.Error.{Error}
-use Rattle.gimli.specs.Sections.{Sections}
-use Rattle.gimli.specs.Unit.{UnitRecord}
-use Rattle.addr2line_lines.specs.References.{Scope}
-use Rattle.addr2line_units.specs.declared.frames.FramesStop.{FramesStop}
-use Rattle.addr2line_units.specs.declared.parses.ReadingDepth.{ReadingDepth}
-use Rattle.addr2line_units.specs.declared.entries.UnitCache.{UnitCache}
-use Rattle.addr2line_units.specs.declared.entries.UnitEntries.{UnitEntries}
+use Rattle.addr2line_units.proofs.Common.{◌≡◌, ◌∙◌, inl, inr, ℕ, zero, suc, ◌<◌, arith, Bool, true, false, List, [], ◌∷◌, length, get_or, slice_get, Option, Some, None, option_map, Result, Ok, Err, refl, sym, ap, subst, set, slice_get-map, slice_get_past, slice_get_read, IfErr, OnOk, Error, Sections, UnitRecord, Scope, FramesStop, ReadingDepth, UnitCache, UnitEntries, first_answer_of, has_entries, known_by, known_in, HaveSameLines, answers_in, is_decided, was_checked, FindsNothing, LookupStop, answer_of, IsReadyFor, parse_of_takes_memory, parse_takes_memory, read_of_number, read_of_unit, is_open_at, AreUnits, seen_units, UnitsState, FirstAnswers, is_open}
+use Rattle.std.specs.Prelude.{IfSome, unwrap_or}
 use Rattle.addr2line_units.specs.AfterParses.{AfterReadingAt, AfterReadingUnit}
-use Rattle.addr2line_units.specs.CachedEntries.{first_answer_of, has_entries}
-use Rattle.addr2line_units.specs.CachedKnown.{known_by, known_in}
-use Rattle.addr2line_units.specs.CachedUnits.{HaveSameLines, answers_in}
-use Rattle.addr2line_units.specs.CachedViews.{is_decided, was_checked}
-use Rattle.addr2line_units.specs.FramesLookup.{FindsNothing, LookupStop, answer_of}
-use Rattle.addr2line_units.specs.FunctionParses.{IsReadyFor, parse_of_takes_memory, parse_takes_memory, read_of_number, read_of_unit}
-use Rattle.addr2line_units.specs.Loads.{is_open_at}
 use Rattle.addr2line_units.specs.StaysKnown.{IsReadBy, StaysKnownOf}
-use Rattle.addr2line_units.specs.StoredUnits.{AreUnits, seen_units}
-use Rattle.addr2line_units.specs.UnitsState.{UnitsState}
-use Rattle.addr2line_units.specs.Views.{FirstAnswers, is_open}
 use Rattle.addr2line_units.proofs.AnswerLemmas.{answered_all, answers_stay, decided_if_not, looked_waits, others_stay}
 use Rattle.addr2line_units.proofs.CachedParseLemmas.{got_set}
 use Rattle.addr2line_units.proofs.CachedUnitLemmas.{entries_more, same_lines_set}

@@ -1,17 +1,6 @@
 -- Parses of the functions of units, one unit after another (on specs/FunctionParses.antt).
-use Rattle.std.proofs.Common.{◌≡◌, ℕ, zero, suc, ◌≤◌, ◌<◌, ◌⊎◌, inl, inr, Bool, true, false, List, [], ◌∷◌, length, slice_get, Option, Some, None, Result, Ok, Err, refl, ap, ◌∙◌, arith}
-use Rattle.std.proofs.Math.ListN.{set}
+use Rattle.addr2line_units.proofs.Common.{◌≡◌, ℕ, zero, suc, ◌≤◌, ◌<◌, ◌⊎◌, inl, inr, Bool, true, false, List, [], ◌∷◌, length, slice_get, Option, Some, None, Result, Ok, Err, refl, ap, ◌∙◌, arith, set, Error, ◌>>=◌, Sections, UnitRecord, Scope, ReadingDepth, answer_of, with_answer, AreReadBefore, answers_after_parse, first_decided, read_of_number, read_of_unit, read_of_units, read_of_view, unless_fault, is_open_at, FirstAnswers, SplitLoad, View, decided_answer, is_open, load_of_unit, verdict, verdict_by}
 use Rattle.std.specs.Prelude.{is_none, if◌then◌else◌}
-use Rattle.gimli_read.specs.declared.error.Error.{Error}
-use Rattle.gimli_read.specs.Reading.{◌>>=◌}
-use Rattle.gimli.specs.Sections.{Sections}
-use Rattle.gimli.specs.Unit.{UnitRecord}
-use Rattle.addr2line_lines.specs.References.{Scope}
-use Rattle.addr2line_units.specs.declared.parses.ReadingDepth.{ReadingDepth}
-use Rattle.addr2line_units.specs.FramesLookup.{answer_of, with_answer}
-use Rattle.addr2line_units.specs.FunctionParses.{AreReadBefore, answers_after_parse, first_decided, read_of_number, read_of_unit, read_of_units, read_of_view, unless_fault}
-use Rattle.addr2line_units.specs.Loads.{is_open_at}
-use Rattle.addr2line_units.specs.Views.{FirstAnswers, SplitLoad, View, decided_answer, is_open, load_of_unit, verdict, verdict_by}
 
 -- one of two numbers is not above the other
 pub at_or_behind : (n k : ℕ) → (n ≤ k) ⊎ (k < n)

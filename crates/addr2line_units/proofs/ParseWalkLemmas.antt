@@ -1,27 +1,11 @@
 -- Parses of the functions of units, one unit after another, by what each leaves (on
 -- specs/AfterUnits.antt and specs/AfterParses.antt).
-use Rattle.std.proofs.Common.{◌≡◌, ◌≢◌, ◌⊎◌, ◌∙◌, inl, inr, ℕ, zero, suc, ◌+◌, ◌<◌, ◌≤◌, ◌==◌, cond, arith, Bool, true, false, List, [], ◌∷◌, length, slice_get, Option, Some, None, option_and_then, option_map, Result, Ok, Err, refl, sym, ap, subst}
-use Rattle.std.proofs.lemmas.Bool.{cases_eq}
-use Rattle.std.proofs.lemmas.Option.{slice_get_past}
-use Rattle.std.specs.List.{AllByRecursion}
+use Rattle.addr2line_units.proofs.Common.{◌≡◌, ◌≢◌, ◌⊎◌, ◌∙◌, inl, inr, ℕ, zero, suc, ◌+◌, ◌<◌, ◌≤◌, ◌==◌, cond, arith, Bool, true, false, List, [], ◌∷◌, length, slice_get, Option, Some, None, option_and_then, option_map, Result, Ok, Err, refl, sym, ap, subst, cases_eq, slice_get_past, AllByRecursion, Error, OutOfMemory, Sections, UnitRecord, function_offset_at, ReadingDepth, CountsUnits, FindsNothing, answer_of, with_answer, AreKnownToFault, AreReadBefore, AreReadyFor, IsKnownToFault, IsReadyFor, IsReadyOf, ReadsNoMemory, first_decided, parse_of_takes_memory, read_of_number, read_of_units, AllKnown, FunctionsKnown, IsRead, KnownEntries, KnownFunction, LearnsNoDetails, NothingKnown, is_detail_known, is_known_at, known_function_at, knows_at, is_open_at, UnitsState, is_open}
 use Rattle.std.specs.Prelude.{IfSome, unwrap_or}
-use Rattle.gimli_read.specs.declared.error.Error.{Error}
-use Rattle.gimli_read.specs.declared.error.Error.TheVariants.{OutOfMemory}
-use Rattle.gimli.specs.Sections.{Sections}
-use Rattle.gimli.specs.Unit.{UnitRecord}
-use Rattle.addr2line_lines.specs.Functions.{function_offset_at}
-use Rattle.addr2line_units.specs.declared.parses.ReadingDepth.{ReadingDepth}
 use Rattle.addr2line_units.specs.declared.parses.ReadingDepth.TheVariants as depths
 use Rattle.addr2line_units.specs.AfterParses.{AfterReadingAt}
 use Rattle.addr2line_units.specs.AfterUnits.{AfterReading, StayRead}
-use Rattle.addr2line_units.specs.AskedUnits.{CountsUnits}
-use Rattle.addr2line_units.specs.FramesLookup.{FindsNothing, answer_of, with_answer}
-use Rattle.addr2line_units.specs.FunctionParses.{AreKnownToFault, AreReadBefore, AreReadyFor, IsKnownToFault, IsReadyFor, IsReadyOf, ReadsNoMemory, first_decided, parse_of_takes_memory, read_of_number, read_of_units}
-use Rattle.addr2line_units.specs.KnownEntries.{AllKnown, FunctionsKnown, IsRead, KnownEntries, KnownFunction, LearnsNoDetails, NothingKnown, is_detail_known, is_known_at, known_function_at, knows_at}
-use Rattle.addr2line_units.specs.Loads.{is_open_at}
 use Rattle.addr2line_units.specs.StaysKnown.{IsReadBy, StaysKnownOf}
-use Rattle.addr2line_units.specs.UnitsState.{UnitsState}
-use Rattle.addr2line_units.specs.Views.{is_open}
 use Rattle.addr2line_units.proofs.ParseLemmas.{after_end, after_stop, at_or_behind, before_more, below_next, decided_more, number_behind, open_behind, read_end, read_stop, shut_before}
 use Rattle.addr2line_units.proofs.ReadyLemmas.{before_decided, number_decided}
 use Rattle.addr2line_units.proofs.StayLemmas.{known_of_twice, same_stays_known}

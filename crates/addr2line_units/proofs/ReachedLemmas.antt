@@ -1,32 +1,12 @@
 -- Lookups after a parse of all functions and their details (on specs/FunctionParseLaws.antt).
-use Rattle.std.proofs.Common.{◌≡◌, ◌∙◌, ℕ, zero, suc, ◌==◌, ◌⊎◌, inl, inr, Bool, true, false, List, [], ◌∷◌, length, map, Option, Some, None, option_map, Result, Ok, Err, ap, sym, refl, subst, arith}
+use Rattle.addr2line_units.proofs.Common.{◌≡◌, ◌∙◌, ℕ, zero, suc, ◌==◌, ◌⊎◌, inl, inr, Bool, true, false, List, [], ◌∷◌, length, map, Option, Some, None, option_map, Result, Ok, Err, ap, sym, refl, subst, arith, Error, ◌>>=◌, fault_of, result_map, Sections, UnitRecord, Detail, detail_at, FunctionRange, entries_of, function_begin, function_end, function_offset, functions_of, once_before, LineTable, location_at, Scope, read_all, unit_lines, OnFault, UnitRange, FoundFunction, FrameRecord, found_frames, found_function, function_at, function_from, after_fault, asked_frames, frames_of_number, or_stop, stop_along, answers_after_parse, read_of_unit, read_of_units, read_of_view, unless_fault, details_at, functions_fault, all_lines, lines_of_unit, FramesResult, frames_by, frames_in, function_by, function_in, IndexedUnit, unit_records, FirstAnswers, View, decided_answer, is_open, verdict, view_scope}
 use Rattle.std.specs.Prelude.{is_none, if◌then◌else◌}
 use Rattle.std.proofs.lemmas.Bool.{eqb-true}
-use Rattle.gimli_read.specs.declared.error.Error.{Error}
-use Rattle.gimli_read.specs.Reading.{◌>>=◌, fault_of, result_map}
-use Rattle.gimli.specs.Sections.{Sections}
-use Rattle.gimli.specs.Unit.{UnitRecord}
-use Rattle.addr2line_lines.specs.Details.{Detail, detail_at}
-use Rattle.addr2line_lines.specs.Functions.{FunctionRange, entries_of, function_begin, function_end, function_offset, functions_of, once_before}
-use Rattle.addr2line_lines.specs.Location.{LineTable, location_at}
-use Rattle.addr2line_lines.specs.References.{Scope}
-use Rattle.addr2line_lines.specs.Rows.{read_all}
 use Rattle.addr2line_lines.specs.Shortest.{shortest}
-use Rattle.addr2line_lines.specs.UnitLines.{unit_lines}
 use Rattle.gimli_read.proofs.TopmostLemmas.{In}
 use Rattle.addr2line_lines.proofs.ShortestLemmas.{shortest_holds}
-use Rattle.addr2line_units.specs.declared.frames.OnFault.{OnFault}
-use Rattle.addr2line_units.specs.declared.index.UnitRange.{UnitRange}
 use Rattle.addr2line_units.specs.declared.parses.ReadingDepth.TheVariants.{Details}
-use Rattle.addr2line_units.specs.Frames.{FoundFunction, FrameRecord, found_frames, found_function, function_at, function_from}
-use Rattle.addr2line_units.specs.FramesLookup.{after_fault, asked_frames, frames_of_number, or_stop, stop_along}
 use Rattle.addr2line_units.specs.FunctionParseLaws.{IsReached}
-use Rattle.addr2line_units.specs.FunctionParses.{answers_after_parse, read_of_unit, read_of_units, read_of_view, unless_fault}
-use Rattle.addr2line_units.specs.CachedFunctions.{details_at, functions_fault}
-use Rattle.addr2line_units.specs.Located.{all_lines, lines_of_unit}
-use Rattle.addr2line_units.specs.UnitFrames.{FramesResult, frames_by, frames_in, function_by, function_in}
-use Rattle.addr2line_units.specs.RangedUnits.{IndexedUnit, unit_records}
-use Rattle.addr2line_units.specs.Views.{FirstAnswers, View, decided_answer, is_open, verdict, view_scope}
 use Rattle.addr2line_units.proofs.CachedFunctionLemmas.{function_is}
 use Rattle.addr2line_units.proofs.ParseLemmas.{decided_verdict}
 

@@ -1,22 +1,8 @@
 -- What is known of units that were read, and of units that aren't open (on specs/StaysKnown.antt).
-use Rattle.std.proofs.Common.{◌≡◌, ◌⊎◌, inl, inr, ℕ, zero, suc, ◌≤◌, arith, Bool, true, false, List, [], ◌∷◌, length, Option, Some, refl, ◌∙◌}
+use Rattle.addr2line_units.proofs.Common.{◌≡◌, ◌⊎◌, inl, inr, ℕ, zero, suc, ◌≤◌, arith, Bool, true, false, List, [], ◌∷◌, length, Option, Some, refl, ◌∙◌, Sections, UnitRecord, Scope, is_open_at, LazyFunctions, ReadingDepth, UnitCache, ViewState, were_read, HaveEntriesOf, answers_in, decided_at, has_entries_at, answer_of, answer_in, is_decided, known_by, known_functions, NothingKnown, AllKnown}
 use Rattle.std.specs.Prelude.{if◌then◌else◌}
-use Rattle.gimli.specs.Sections.{Sections}
-use Rattle.gimli.specs.Unit.{UnitRecord}
-use Rattle.addr2line_lines.specs.References.{Scope}
-use Rattle.addr2line_units.specs.Loads.{is_open_at}
-use Rattle.addr2line_units.specs.declared.entries.LazyFunctions.{LazyFunctions}
 use Rattle.addr2line_units.specs.declared.entries.LazyFunctions.TheVariants as lazy
-use Rattle.addr2line_units.specs.declared.parses.ReadingDepth.{ReadingDepth}
-use Rattle.addr2line_units.specs.declared.entries.UnitCache.{UnitCache}
-use Rattle.addr2line_units.specs.declared.unit.ViewState.{ViewState}
 use Rattle.addr2line_units.specs.declared.unit.ViewState.TheVariants as states
-use Rattle.addr2line_units.specs.CachedFunctions.{were_read}
-use Rattle.addr2line_units.specs.CachedUnits.{HaveEntriesOf, answers_in, decided_at, has_entries_at}
-use Rattle.addr2line_units.specs.FramesLookup.{answer_of}
-use Rattle.addr2line_units.specs.CachedViews.{answer_in, is_decided}
-use Rattle.addr2line_units.specs.CachedKnown.{known_by, known_functions}
-use Rattle.addr2line_units.specs.KnownEntries.{NothingKnown, AllKnown}
 use Rattle.addr2line_units.proofs.AnswerLemmas.{looked_waits}
 use Rattle.addr2line_units.proofs.WaitLemmas.{known_was_checked}
 use Rattle.addr2line_units.specs.StaysKnown.{IsReadBy}

@@ -1,26 +1,10 @@
 -- Functions and views of which all is known that a parse reads, up to the first fault (on
 -- specs/FunctionParses.antt).
-use Rattle.std.proofs.Common.{◌≡◌, ◌≢◌, ◌∙◌, ℕ, zero, suc, Bool, true, List, [], ◌∷◌, Option, Some, Result, Ok, Err, refl, ap, sym, subst}
+use Rattle.addr2line_units.proofs.Common.{◌≡◌, ◌≢◌, ◌∙◌, ℕ, zero, suc, Bool, true, List, [], ◌∷◌, Option, Some, Result, Ok, Err, refl, ap, sym, subst, Error, OutOfMemory, ◌>>=◌, WasNotRefused, Sections, UnitRecord, FunctionRange, entries_of, functions_of, Scope, LazyFunctions, ReadingDepth, ViewState, AreReadBefore, IsReadyFor, first_decided, read_of_number, details_at, functions_fault, were_read, is_decided, seen_sections, unboxed, verdict_in, view_by, known_answer, known_by, known_fault, known_functions, AllKnown, NothingKnown, FirstAnswers, View}
 use Rattle.std.specs.Prelude.{IfSome, if◌then◌else◌, Box}
 use Rattle.std.specs.declared.alloc.Global.{Global}
-use Rattle.gimli_read.specs.declared.error.Error.{Error}
-use Rattle.gimli_read.specs.declared.error.Error.TheVariants.{OutOfMemory}
-use Rattle.gimli_read.specs.Reading.{◌>>=◌, WasNotRefused}
-use Rattle.gimli.specs.Sections.{Sections}
-use Rattle.gimli.specs.Unit.{UnitRecord}
-use Rattle.addr2line_lines.specs.Functions.{FunctionRange, entries_of, functions_of}
-use Rattle.addr2line_lines.specs.References.{Scope}
-use Rattle.addr2line_units.specs.declared.entries.LazyFunctions.{LazyFunctions}
 use Rattle.addr2line_units.specs.declared.entries.LazyFunctions.TheVariants as lazy
-use Rattle.addr2line_units.specs.declared.parses.ReadingDepth.{ReadingDepth}
-use Rattle.addr2line_units.specs.declared.unit.ViewState.{ViewState}
 use Rattle.addr2line_units.specs.declared.unit.ViewState.TheVariants as states
-use Rattle.addr2line_units.specs.FunctionParses.{AreReadBefore, IsReadyFor, first_decided, read_of_number}
-use Rattle.addr2line_units.specs.CachedFunctions.{details_at, functions_fault, were_read}
-use Rattle.addr2line_units.specs.CachedViews.{is_decided, seen_sections, unboxed, verdict_in, view_by}
-use Rattle.addr2line_units.specs.CachedKnown.{known_answer, known_by, known_fault, known_functions}
-use Rattle.addr2line_units.specs.KnownEntries.{AllKnown, NothingKnown}
-use Rattle.addr2line_units.specs.Views.{FirstAnswers, View}
 use Rattle.addr2line_units.proofs.CachedPlaceLemmas.{cached_unless_oom}
 use Rattle.addr2line_units.proofs.ParseLemmas.{unit_again}
 

@@ -1,39 +1,13 @@
 -- The units that references lead to in a context, and what is cached of their entries at first (on
 -- specs/UnitIndexLaws.antt, specs/FramesLookup.antt and specs/CachedUnits.antt).
-use Rattle.std.proofs.Common.{◌≡◌, ◌∙◌, ap, sym, refl, subst, Bool, true, false, List, [], ◌∷◌, ◌++◌, filter_map, map, Option, Some, None, option_map, is_some, IfSome, IfOk, Result, Ok, Err, if◌then◌else◌}
+use Rattle.addr2line_units.proofs.Common.{◌≡◌, ◌∙◌, ap, sym, refl, subst, Bool, true, false, List, [], ◌∷◌, ◌++◌, filter_map, map, Option, Some, None, option_map, is_some, IfSome, IfOk, Result, Ok, Err, if◌then◌else◌, DwLang, Error, Range, Costed, free, ◌>>=◌, result_map, UnitHeaderFields, Sections, SupSections, UnitRecord, unit_record_of, all_headers, read_all, AreInOrder, IsFileInOrder, IsScope, Scope, UnitArange, LazyFunctions, UnitCache, UnitEntries, ViewState, HaveLinesOf, indexed_units, main_scope, AreEntriesOf, AreFresh, first_answer_of, AreFunctionsOf, were_read, AreFreshOf, HaveEntriesOf, answers_in, answer_in, verdict_in, was_checked, by_abbreviations, units_of, aranges_in, indexed_of, unit_records, RangedUnit, listed_in_unit, is_type_unit, ranged_units, unit_ranges_from, unit_of_header, unless_faulty, FirstAnswers, View, verdict, view_scope}
 use Rattle.std.specs.Prelude.{option_to_list}
 use Rattle.std.specs.Result.{result_ok}
-use Rattle.gimli_read.specs.declared.constants.DwLang.{DwLang}
-use Rattle.gimli_read.specs.declared.error.Error.{Error}
-use Rattle.gimli_read.specs.declared.range.Range.{Range}
-use Rattle.gimli_read.specs.Costed.{Costed, free}
-use Rattle.gimli_read.specs.Reading.{◌>>=◌, result_map}
 use Rattle.gimli.proofs.HeaderOrder.{headers_in_order}
-use Rattle.gimli.specs.Header.{UnitHeaderFields}
-use Rattle.gimli.specs.Sections.{Sections, SupSections}
-use Rattle.gimli.specs.Unit.{UnitRecord, unit_record_of}
-use Rattle.gimli.specs.UnitsLeft.{all_headers}
 use Rattle.addr2line_lines.proofs.UnitOrder.{kept_in_order, record_header, units_read}
-use Rattle.addr2line_lines.specs.Rows.{read_all}
-use Rattle.addr2line_lines.specs.References.{AreInOrder, IsFileInOrder, IsScope, Scope}
-use Rattle.addr2line_units.specs.declared.index.UnitArange.{UnitArange}
-use Rattle.addr2line_units.specs.declared.entries.LazyFunctions.{LazyFunctions}
 use Rattle.addr2line_units.specs.declared.entries.LazyFunctions.TheVariants as lazy
-use Rattle.addr2line_units.specs.declared.entries.UnitCache.{UnitCache}
-use Rattle.addr2line_units.specs.declared.entries.UnitEntries.{UnitEntries}
-use Rattle.addr2line_units.specs.declared.unit.ViewState.{ViewState}
 use Rattle.addr2line_units.specs.declared.unit.ViewState.TheVariants as states
-use Rattle.addr2line_units.specs.CachedLines.{HaveLinesOf, indexed_units}
-use Rattle.addr2line_units.specs.FramesLookup.{main_scope}
-use Rattle.addr2line_units.specs.CachedEntries.{AreEntriesOf, AreFresh, first_answer_of}
-use Rattle.addr2line_units.specs.CachedFunctions.{AreFunctionsOf, were_read}
-use Rattle.addr2line_units.specs.CachedUnits.{AreFreshOf, HaveEntriesOf, answers_in}
-use Rattle.addr2line_units.specs.CachedViews.{answer_in, verdict_in, was_checked}
-use Rattle.addr2line_units.specs.HeaderUnits.{by_abbreviations, units_of}
-use Rattle.addr2line_units.specs.UnitAranges.{aranges_in}
-use Rattle.addr2line_units.specs.RangedUnits.{indexed_of, unit_records, RangedUnit, listed_in_unit, is_type_unit, ranged_units, unit_ranges_from, unit_of_header, unless_faulty}
 use Rattle.addr2line_units.specs.UnitIndex.{UnitIndex, index_units, sup_sections, sup_unit_of_header, sup_units}
-use Rattle.addr2line_units.specs.Views.{FirstAnswers, View, verdict, view_scope}
 use Rattle.addr2line_units.proofs.AnswerLemmas.{unread_are}
 
 -- the unit of a header has it

@@ -1,44 +1,13 @@
 -- What calls leave of the units of a context, by what is cached of them (on specs/AfterUnits.antt
 -- and specs/StoredUnits.antt).
-use Rattle.std.proofs.Common.{◌≡◌, ◌≢◌, ◌⊎◌, inl, inr, ℕ, zero, suc, ◌<◌, ◌≤◌, ◌&&◌, ◌||◌, ◌++◌, Bool, true, false, not, List, [], ◌∷◌, length, get_or, slice_get, Option, Some, None, option_map, unwrap_or, Result, Ok, Err, refl, sym, ap, subst, ◌∙◌}
-use Rattle.std.proofs.lemmas.Bool.Decides.{eqb_tells}
-use Rattle.std.proofs.lemmas.List.{length-map}
-use Rattle.std.specs.Prelude.{IfErr, IfOk, IfSome, OnOk, is_some}
-use Rattle.gimli_read.specs.declared.error.Error.{Error}
-use Rattle.gimli_read.specs.declared.error.Error.TheVariants.{OutOfMemory}
-use Rattle.gimli_read.specs.Reading.{WasNotRefused}
-use Rattle.gimli_read.specs.declared.range.Range.{Range}
-use Rattle.gimli.specs.Sections.{Sections}
-use Rattle.gimli.specs.Unit.{UnitRecord}
-use Rattle.addr2line_lines.specs.References.{Scope}
-use Rattle.addr2line_lines.specs.UnitLines.{unit_lines}
+use Rattle.addr2line_units.proofs.Common.{◌≡◌, ◌≢◌, ◌⊎◌, inl, inr, ℕ, zero, suc, ◌<◌, ◌≤◌, ◌&&◌, ◌||◌, ◌++◌, Bool, true, false, not, List, [], ◌∷◌, length, get_or, slice_get, Option, Some, None, option_map, unwrap_or, Result, Ok, Err, refl, sym, ap, subst, ◌∙◌, eqb_tells, length-map, IfErr, OnOk, Error, OutOfMemory, WasNotRefused, Range, Sections, UnitRecord, Scope, unit_lines, FramesStop, UnitRange, ReadingDepth, LazyLines, UnitCache, has_entries, IsLendable, seen_stop, AreLinesOf, HaveLinesOf, HaveSameEntries, StayUnits, cached_files, cached_spans, indexed_units, is_parsed, is_uncached, lines_at, parsed_units, HaveEntriesOf, HaveSameLines, StayAllEntries, answers_in, decided_at, has_entries_at, waits_at, FindsNothing, LookupStop, Waits, answer_of, ends_lookup, holds_along, with_answer, IsReadyFor, known_in, KnownEntries, LearnsNoFunctions, forgotten, is_open_at, load_result, spans_along, spans_in, spans_or_fault, AreParsed, ParsesOnly, has_parsed, IndexedUnit, seen_units, FramesResult, UnitsState, table_files, files_of, FirstAnswers, SplitLoad, load_of_unit}
+use Rattle.std.specs.Prelude.{IfOk, IfSome, is_some}
 use Rattle.addr2line_units.specs.declared.frames.FramePlace.{FramePlace}
-use Rattle.addr2line_units.specs.declared.frames.FramesStop.{FramesStop}
 use Rattle.addr2line_units.specs.declared.frames.FramesStop.TheVariants as stops
-use Rattle.addr2line_units.specs.declared.index.UnitRange.{UnitRange}
-use Rattle.addr2line_units.specs.declared.parses.ReadingDepth.{ReadingDepth}
-use Rattle.addr2line_units.specs.declared.unit.LazyLines.{LazyLines}
 use Rattle.addr2line_units.specs.declared.unit.LazyLines.TheVariants.{Absent, Faulty, Read, Unread}
-use Rattle.addr2line_units.specs.declared.entries.UnitCache.{UnitCache}
 use Rattle.addr2line_units.specs.AfterUnits.{AfterAnswer, AfterForget, AfterLines, AfterListing, AfterLoad}
-use Rattle.addr2line_units.specs.CachedEntries.{has_entries}
-use Rattle.addr2line_units.specs.CachedFrames.{IsLendable, seen_stop}
-use Rattle.addr2line_units.specs.CachedLines.{AreLinesOf, HaveLinesOf, HaveSameEntries, StayUnits, cached_files, cached_spans, indexed_units, is_parsed, is_uncached, lines_at, parsed_units}
-use Rattle.addr2line_units.specs.CachedUnits.{HaveEntriesOf, HaveSameLines, StayAllEntries, answers_in, decided_at, has_entries_at, waits_at}
-use Rattle.addr2line_units.specs.FramesLookup.{FindsNothing, LookupStop, Waits, answer_of, ends_lookup, holds_along, with_answer}
-use Rattle.addr2line_units.specs.FunctionParses.{IsReadyFor}
-use Rattle.addr2line_units.specs.CachedKnown.{known_in}
-use Rattle.addr2line_units.specs.KnownEntries.{KnownEntries, LearnsNoFunctions}
-use Rattle.addr2line_units.specs.Loads.{forgotten, is_open_at, load_result}
-use Rattle.addr2line_units.specs.Located.{spans_along, spans_in, spans_or_fault}
-use Rattle.addr2line_units.specs.Parsed.{AreParsed, ParsesOnly, has_parsed}
-use Rattle.addr2line_units.specs.RangedUnits.{IndexedUnit}
 use Rattle.addr2line_units.specs.RangeLookup.{cached_along}
 use Rattle.addr2line_units.specs.StaysKnown.{IsReadyAt, StaysKnown}
-use Rattle.addr2line_units.specs.StoredUnits.{seen_units}
-use Rattle.addr2line_units.specs.UnitFrames.{FramesResult}
-use Rattle.addr2line_units.specs.UnitsState.{UnitsState, table_files, files_of}
-use Rattle.addr2line_units.specs.Views.{FirstAnswers, SplitLoad, load_of_unit}
 use Rattle.addr2line_units.proofs.AnswerLemmas.{got_unit}
 use Rattle.addr2line_units.proofs.CachedUnitLemmas.{answers_by_entries, as_many_entries, known_by_entries, parsed_by_lines, same_answers, units_by_lines}
 use Rattle.addr2line_units.proofs.KnownLemmas.{known_is, known_unchanged}

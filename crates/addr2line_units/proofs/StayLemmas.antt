@@ -1,29 +1,9 @@
 -- What was known of units stays known (on specs/StaysKnown.antt).
-use Rattle.std.proofs.Common.{◌≡◌, ◌⊎◌, inl, inr, ℕ, zero, suc, ◌≤◌, arith, true, false, List, [], ◌∷◌, length, slice_get, Option, Some, None, option_map, Result, Ok, Err, refl, sym, ◌∙◌, subst}
+use Rattle.addr2line_units.proofs.Common.{◌≡◌, ◌⊎◌, inl, inr, ℕ, zero, suc, ◌≤◌, arith, true, false, List, [], ◌∷◌, length, slice_get, Option, Some, None, option_map, Result, Ok, Err, refl, sym, ◌∙◌, subst, AllZip, Error, UnitRecord, Detail, AreCachedToFault, IsCachedToFault, IsFunctionMore, IsTableMore, CachedFunction, FunctionTable, Scope, LazyFunctions, ReadingDepth, UnitCache, UnitEntries, ViewState, IsReadyFor, StayEntries, StayFunctions, HaveEntriesOf, StayAllEntries, answers_in, decided_at, was_checked, known_answer, known_by, known_functions, known_in, known_table, KnownEntries, is_known_at, is_open_at}
 use Rattle.std.specs.Prelude.{IfSome, unwrap_or}
-use Rattle.std.specs.List.{AllZip}
-use Rattle.gimli_read.specs.declared.error.Error.{Error}
-use Rattle.gimli.specs.Unit.{UnitRecord}
-use Rattle.addr2line_lines.specs.Details.{Detail}
-use Rattle.addr2line_lines.specs.FunctionDetails.{AreCachedToFault, IsCachedToFault, IsFunctionMore, IsTableMore}
-use Rattle.addr2line_lines.specs.FunctionTable.{CachedFunction, FunctionTable}
-use Rattle.addr2line_lines.specs.References.{Scope}
-use Rattle.addr2line_units.specs.declared.entries.LazyFunctions.{LazyFunctions}
 use Rattle.addr2line_units.specs.declared.entries.LazyFunctions.TheVariants as lazy
-use Rattle.addr2line_units.specs.declared.parses.ReadingDepth.{ReadingDepth}
 use Rattle.addr2line_units.specs.declared.parses.ReadingDepth.TheVariants as depths
-use Rattle.addr2line_units.specs.declared.entries.UnitCache.{UnitCache}
-use Rattle.addr2line_units.specs.declared.entries.UnitEntries.{UnitEntries}
-use Rattle.addr2line_units.specs.declared.unit.ViewState.{ViewState}
 use Rattle.addr2line_units.specs.declared.unit.ViewState.TheVariants as states
-use Rattle.addr2line_units.specs.FunctionParses.{IsReadyFor}
-use Rattle.addr2line_units.specs.CachedEntries.{StayEntries}
-use Rattle.addr2line_units.specs.CachedFunctions.{StayFunctions}
-use Rattle.addr2line_units.specs.CachedUnits.{HaveEntriesOf, StayAllEntries, answers_in, decided_at}
-use Rattle.addr2line_units.specs.CachedViews.{was_checked}
-use Rattle.addr2line_units.specs.CachedKnown.{known_answer, known_by, known_functions, known_in, known_table}
-use Rattle.addr2line_units.specs.KnownEntries.{KnownEntries, is_known_at}
-use Rattle.addr2line_units.specs.Loads.{is_open_at}
 use Rattle.addr2line_units.proofs.AnswerLemmas.{looked_waits}
 use Rattle.addr2line_units.proofs.CachedUnitLemmas.{entries_more_at}
 use Rattle.addr2line_units.proofs.KnownLemmas.{known_is}

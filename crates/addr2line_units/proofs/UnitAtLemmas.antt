@@ -1,24 +1,7 @@
 -- The unit of a number, what is cached of it, and the units when that is put back (on
 -- specs/StoredUnits.antt).
-use Rattle.std.proofs.Common.{◌≡◌, ℕ, ◌<◌, nat_lt, ltb-false, ltb-true, true, false, List, length, get_or, slice_get, Some, None, refl, sym, ap, subst, ◌∙◌}
-use Rattle.std.proofs.Math.ListN.{set}
-use Rattle.std.proofs.lemmas.List.{length-map}
-use Rattle.std.proofs.lemmas.Option.{get_or_from_slice_get, slice_get_past, slice_get_read, slice_get_within}
-use Rattle.gimli.specs.Unit.{UnitRecord}
-use Rattle.addr2line_lines.specs.References.{Scope}
-use Rattle.addr2line_units.specs.declared.frames.FramesStop.{FramesStop}
+use Rattle.addr2line_units.proofs.Common.{◌≡◌, ℕ, ◌<◌, nat_lt, ltb-false, ltb-true, true, false, List, length, get_or, slice_get, Some, None, refl, sym, ap, subst, ◌∙◌, set, length-map, get_or_from_slice_get, slice_get_past, slice_get_read, slice_get_within, UnitRecord, Scope, FramesStop, UnitLines, UnitCache, UnitEntries, CountsUnits, AreEntriesOf, first_answer_of, IsLendable, known_by, AreLinesOf, HaveLinesOf, is_parsed, HaveEntriesOf, LookupStop, AreUnits, seen_units}
 use Rattle.addr2line_units.specs.declared.frames.FramesStop.TheVariants as stops
-use Rattle.addr2line_units.specs.declared.unit.UnitLines.{UnitLines}
-use Rattle.addr2line_units.specs.declared.entries.UnitCache.{UnitCache}
-use Rattle.addr2line_units.specs.declared.entries.UnitEntries.{UnitEntries}
-use Rattle.addr2line_units.specs.AskedUnits.{CountsUnits}
-use Rattle.addr2line_units.specs.CachedEntries.{AreEntriesOf, first_answer_of}
-use Rattle.addr2line_units.specs.CachedFrames.{IsLendable}
-use Rattle.addr2line_units.specs.CachedKnown.{known_by}
-use Rattle.addr2line_units.specs.CachedLines.{AreLinesOf, HaveLinesOf, is_parsed}
-use Rattle.addr2line_units.specs.CachedUnits.{HaveEntriesOf}
-use Rattle.addr2line_units.specs.FramesLookup.{LookupStop}
-use Rattle.addr2line_units.specs.StoredUnits.{AreUnits, seen_units}
 use Rattle.addr2line_units.proofs.CachedUnitLemmas.{as_many_entries, cache_set, entries_at, entries_right, lines_right}
 use Rattle.addr2line_units.proofs.UnitsLemmas.{as_many_indexed, own_at}
 

@@ -1,34 +1,9 @@
 -- The frames in a unit by its functions and its lines (on specs/UnitFrames.antt).
-use Rattle.std.proofs.Common.{◌≡◌, ◌≢◌, ◌∙◌, ℕ, ap, sym, refl, subst, not, ◌&&◌, is_ok, is_none, box_value, Bool, true, false, Option, Some, None, option_map, Result, Ok, Err, if◌then◌else◌}
-use Rattle.gimli_read.specs.declared.error.Error.{Error}
-use Rattle.gimli_read.specs.declared.error.Error.TheVariants.{OutOfMemory}
-use Rattle.gimli_read.specs.Reading.{◌>>=◌}
-use Rattle.gimli.specs.Sections.{Sections}
-use Rattle.gimli.specs.Unit.{UnitRecord}
+use Rattle.addr2line_units.proofs.Common.{◌≡◌, ◌≢◌, ◌∙◌, ℕ, ap, sym, refl, subst, not, ◌&&◌, is_ok, is_none, box_value, Bool, true, false, Option, Some, None, option_map, Result, Ok, Err, if◌then◌else◌, Error, OutOfMemory, ◌>>=◌, Sections, UnitRecord, cached_detail, exceeds_inline_room, Location, location_at, location_of_row, Scope, unit_lines, LazyFunctions, LazyLines, UnitLines, UnitEntries, UnitView, ViewState, functions_in_take_memory, lines_take_memory, AreLinesOf, cached_files, is_uncached, no_lines, FoundFunction, found_frames, AreRead, AsksNoMemoryIn, ReadsEntriesOf, StayEntries, has_entries, has_entries_by, StayFunctions, cached_functions, IsViewOf, answer_in, seen_first_answer, waits, was_checked, LocationResult, location_in, asks_lines_in, frames_by, frames_in, function_in, inlined_of_unit, IndexedUnit, is_open}
 use Rattle.addr2line_lines.specs.declared.row.Row.{Row}
-use Rattle.addr2line_lines.specs.FunctionTable.{cached_detail}
-use Rattle.addr2line_lines.specs.InlineRoom.{exceeds_inline_room}
-use Rattle.addr2line_lines.specs.Location.{LineTable as Lines, Location, location_at, location_of_row}
-use Rattle.addr2line_lines.specs.References.{Scope}
-use Rattle.addr2line_lines.specs.UnitLines.{unit_lines}
-use Rattle.addr2line_units.specs.declared.entries.LazyFunctions.{LazyFunctions}
-use Rattle.addr2line_units.specs.declared.unit.LazyLines.{LazyLines}
+use Rattle.addr2line_lines.specs.Location.{LineTable as Lines}
 use Rattle.addr2line_units.specs.declared.unit.LazyLines.TheVariants as lines
-use Rattle.addr2line_units.specs.declared.unit.UnitLines.{UnitLines}
-use Rattle.addr2line_units.specs.declared.entries.UnitEntries.{UnitEntries}
-use Rattle.addr2line_units.specs.declared.unit.UnitView.{UnitView}
-use Rattle.addr2line_units.specs.declared.unit.ViewState.{ViewState}
 use Rattle.addr2line_units.specs.declared.unit.ViewState.TheVariants as states
-use Rattle.addr2line_units.specs.AskMemory.{functions_in_take_memory, lines_take_memory}
-use Rattle.addr2line_units.specs.CachedLines.{AreLinesOf, cached_files, is_uncached, no_lines}
-use Rattle.addr2line_units.specs.Frames.{FoundFunction, found_frames}
-use Rattle.addr2line_units.specs.CachedEntries.{AreRead, AsksNoMemoryIn, ReadsEntriesOf, StayEntries, has_entries, has_entries_by}
-use Rattle.addr2line_units.specs.CachedFunctions.{StayFunctions, cached_functions}
-use Rattle.addr2line_units.specs.CachedViews.{IsViewOf, answer_in, seen_first_answer, waits, was_checked}
-use Rattle.addr2line_units.specs.Located.{LocationResult, location_in}
-use Rattle.addr2line_units.specs.UnitFrames.{asks_lines_in, frames_by, frames_in, function_in, inlined_of_unit}
-use Rattle.addr2line_units.specs.RangedUnits.{IndexedUnit}
-use Rattle.addr2line_units.specs.Views.{is_open}
 use Rattle.addr2line_units.proofs.ViewLemmas.{waiting_is_open}
 
 open_by : {R : Type 0} (d : Sections) (u : UnitRecord) (s : ViewState R) → waits s ≡ true → IsViewOf d u (record { state = s }) → is_open d u (answer_in s) ≡ true

@@ -1,26 +1,14 @@
 -- The units of a context as they are read (on specs/RangedUnits.antt and specs/UnitIndex.antt and
 -- specs/Indexed.antt).
-use Rattle.std.proofs.Common.{◌≡◌, ◌≢◌, ◌+◌, ℕ, suc, Bool, true, false, is_ok, if◌then◌else◌, ◌<◌, subst, arith, List, [], ◌∷◌, ◌++◌, length, map, drop, Option, Some, None, Result, Ok, Err, refl, sym, ap, ◌∙◌, nat_lt}
+use Rattle.addr2line_units.proofs.Common.{◌≡◌, ◌≢◌, ◌+◌, ℕ, suc, Bool, true, false, is_ok, if◌then◌else◌, ◌<◌, subst, arith, List, [], ◌∷◌, ◌++◌, length, map, drop, Option, Some, None, Result, Ok, Err, refl, sym, ap, ◌∙◌, nat_lt, nat_tests, length-map, map-append, Error, OffsetOutOfBounds, OutOfMemory, Section, after, Costed, free, UnitHeaderFields, Sections, UnitRecord, unit_by, unit_record_of, UnitArange, UnitRange, IndexedUnit, indexed_of, RangedUnit, has_lines, is_type_unit, range_of_unit, ranged_unit, unit_ranges_from, unit_of_header, unit_ranges, unless_faulty, by_abbreviations, has_abbreviations}
 use Rattle.std.specs.Result.{result_ok}
-use Rattle.std.proofs.lemmas.Bool.Decides.{nat_tests}
-use Rattle.std.proofs.lemmas.List.{append-nil, append_assoc, length-append, length-map, map-append}
-use Rattle.gimli_read.specs.declared.error.Error.{Error}
-use Rattle.gimli_read.specs.declared.error.Error.TheVariants.{OffsetOutOfBounds, OutOfMemory}
+use Rattle.std.proofs.lemmas.List.{append-nil, append_assoc, length-append}
 use Rattle.gimli_read.specs.Abbrev.{table_at}
-use Rattle.gimli_read.specs.Section.{Section, after}
-use Rattle.gimli_read.specs.Costed.{Costed, free}
 use Rattle.gimli_read.specs.Reading as reading
 use Rattle.gimli_read.specs.Yields.{next_given}
-use Rattle.gimli.specs.Header.{UnitHeaderFields}
-use Rattle.gimli.specs.Sections.{Sections}
 use Rattle.gimli.specs.CachedTables.{CachedTables, cached_unit_takes_memory, is_cached}
 use Rattle.gimli.specs.Text.{from_offset}
-use Rattle.gimli.specs.Unit.{UnitRecord, unit_by, unit_record_of}
-use Rattle.addr2line_units.specs.declared.index.UnitArange.{UnitArange}
-use Rattle.addr2line_units.specs.declared.index.UnitRange.{UnitRange}
 use Rattle.addr2line_units.specs.Indexed.{IndexState, appended}
-use Rattle.addr2line_units.specs.RangedUnits.{IndexedUnit, indexed_of, RangedUnit, has_lines, is_type_unit, range_of_unit, ranged_unit, unit_ranges_from, unit_of_header, unit_ranges, unless_faulty}
-use Rattle.addr2line_units.specs.HeaderUnits.{by_abbreviations, has_abbreviations}
 
 -- what was left, by what a call gave of it
 module _ {X : Type 0} where

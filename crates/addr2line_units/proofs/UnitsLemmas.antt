@@ -1,28 +1,10 @@
 -- The units of a context whose lines are cached one after another (on specs/CachedLines.antt and
 -- specs/Parsed.antt).
-use Rattle.std.proofs.Common.{◌≡◌, ℕ, zero, suc, ◌+◌, ◌-◌, ◌≤◌, ◌<◌, Bool, true, false, not, ◌&&◌, ◌||◌, List, [], ◌∷◌, ◌++◌, length, map, drop, add-one, get_or, Option, Some, None, slice_get, Result, Ok, Err, is_ok, refl, sym, ap, subst, arith, ◌∙◌, ◌⊎◌, inl, inr}
-use Rattle.std.proofs.Math.ListN.{drop_of_length-le, set}
+use Rattle.addr2line_units.proofs.Common.{◌≡◌, ℕ, zero, suc, ◌+◌, ◌-◌, ◌≤◌, ◌<◌, Bool, true, false, not, ◌&&◌, ◌||◌, List, [], ◌∷◌, ◌++◌, length, map, drop, add-one, get_or, Option, Some, None, slice_get, Result, Ok, Err, is_ok, refl, sym, ap, subst, arith, ◌∙◌, ◌⊎◌, inl, inr, drop_of_length-le, set, Error, Range, ◌>>=◌, ExactlyUnlessOom, fault_of, result_map, WasNotRefused, Sections, UnitRecord, LineTable, Location, read_all, unit_lines, LazyLines, UnitLines, UnitCache, UnitRange, IndexedUnit, has_lines, range_of_unit, unit_ranges, all_lines, first_location, lines_of_unit, location_in, looks_along, looks_in, or_first_location, lines_of_take_memory, AllAskFor, AreParsed, AreReadyForAll, ParsesOnly, StaysParsed, TakeNone, TakeNoneForAll, can_be_read, decides, has_parsed, parses_no_memory, ready_along, unit_decides, AreLinesOf, CachesResult, HaveLinesOf, StayUnits, StaysUnit, indexed_unit, indexed_units, is_parsed, is_uncached, lines_result, lines_result_at, lines_at, parsed_units}
 use Rattle.std.proofs.lemmas.List.{append-nil}
 use Rattle.std.proofs.lemmas.List.Sums.{sum_by-cons}
-use Rattle.gimli_read.specs.declared.error.Error.{Error}
-use Rattle.gimli_read.specs.declared.range.Range.{Range}
-use Rattle.gimli_read.specs.Reading.{◌>>=◌, ExactlyUnlessOom, fault_of, result_map, WasNotRefused}
-use Rattle.gimli.specs.Sections.{Sections}
-use Rattle.gimli.specs.Unit.{UnitRecord}
-use Rattle.addr2line_lines.specs.Location.{LineTable, Location}
-use Rattle.addr2line_lines.specs.Rows.{read_all}
-use Rattle.addr2line_lines.specs.UnitLines.{unit_lines}
-use Rattle.addr2line_units.specs.declared.unit.LazyLines.{LazyLines}
-use Rattle.addr2line_units.specs.declared.unit.UnitLines.{UnitLines}
-use Rattle.addr2line_units.specs.declared.entries.UnitCache.{UnitCache}
-use Rattle.addr2line_units.specs.declared.index.UnitRange.{UnitRange}
 use Rattle.addr2line_units.specs.Indexed.{IndexState, appended, ranged_seen}
-use Rattle.addr2line_units.specs.RangedUnits.{IndexedUnit, has_lines, range_of_unit, unit_ranges}
-use Rattle.addr2line_units.specs.Located.{all_lines, first_location, lines_of_unit, location_in, looks_along, looks_in, or_first_location}
 use Rattle.addr2line_units.specs.Cover.{holds_until}
-use Rattle.addr2line_units.specs.AskMemory.{lines_of_take_memory}
-use Rattle.addr2line_units.specs.Parsed.{AllAskFor, AreParsed, AreReadyForAll, ParsesOnly, StaysParsed, TakeNone, TakeNoneForAll, can_be_read, decides, has_parsed, parses_no_memory, ready_along, unit_decides}
-use Rattle.addr2line_units.specs.CachedLines.{AreLinesOf, CachesResult, HaveLinesOf, StayUnits, StaysUnit, indexed_unit, indexed_units, is_parsed, is_uncached, lines_result, lines_result_at, lines_at, parsed_units}
 
 -- what is cached is no longer uncached
 parsed_is : (l : LazyLines) → not (is_uncached l) ≡ true → is_uncached l ≡ false

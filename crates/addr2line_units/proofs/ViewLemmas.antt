@@ -1,27 +1,13 @@
 -- The views of units (on specs/Views.antt and specs/CachedViews.antt).
-use Rattle.std.proofs.Common.{◌≡◌, ◌≢◌, ◌∙◌, ℕ, ap, sym, refl, subst, not, ◌⊎◌, inl, inr, ⊎_elim, ◌||◌, Bool, true, false, List, [], ◌∷◌, Option, Some, None, is_some, is_none, option_map, IfSome, IfOk, Result, Ok, Err, if◌then◌else◌}
-use Rattle.gimli_read.specs.declared.error.Error.{Error}
-use Rattle.gimli_read.specs.declared.error.Error.TheVariants.{OutOfMemory}
+use Rattle.addr2line_units.proofs.Common.{◌≡◌, ◌≢◌, ◌∙◌, ℕ, ap, sym, refl, subst, not, ◌⊎◌, inl, inr, ⊎_elim, ◌||◌, Bool, true, false, List, [], ◌∷◌, Option, Some, None, is_some, is_none, option_map, IfSome, IfOk, Result, Ok, Err, if◌then◌else◌, Error, OutOfMemory, ◌>>=◌, fault_of, Section, Sections, UnitHeaderFields, UnitRecord, attr_string_of, unit_record_of, all_headers, IsScope, Scope, UnitView, ViewState, IsViewOf, answer_in, scope_by, seen_first_answer, seen_sections, split_file_by, split_file_in, split_unit, unboxed, verdict_in, view_by, waits, SplitLoad, View, answered_view, first_of, first_takes_memory, first_unit, first_unit_takes_memory, first_view, load_by, load_of_unit, main_view, split_name_of, verdict, verdict_by, view_scope, memory_or_not}
 use Rattle.gimli_read.specs.declared.value.AttributeValue.{AttributeValue}
-use Rattle.gimli_read.specs.Reading.{◌>>=◌, fault_of}
-use Rattle.gimli_read.specs.Section.{Section}
 use Rattle.gimli.specs.declared.unit.DwoId.{DwoId}
-use Rattle.gimli.specs.Sections.{Sections}
 use Rattle.gimli.specs.Split.{dwo_name_fault, dwo_name_of, relocated, string_fault_if}
-use Rattle.gimli.specs.Header.{UnitHeaderFields}
-use Rattle.gimli.specs.Unit.{UnitRecord, attr_string_of, unit_record_of}
 use Rattle.gimli.specs.UnitMemory.{unit_takes_memory}
-use Rattle.gimli.specs.UnitsLeft.{all_headers}
 use Rattle.gimli.proofs.UnitLemmas.{read_takes_memory}
 use Rattle.addr2line_lines.specs.FileTexts.{optional_string}
-use Rattle.addr2line_lines.specs.References.{IsScope, Scope}
 use Rattle.addr2line_units.specs.declared.unit.AnsweredLoad.{AnsweredLoad}
-use Rattle.addr2line_units.specs.declared.unit.UnitView.{UnitView}
-use Rattle.addr2line_units.specs.declared.unit.ViewState.{ViewState}
 use Rattle.addr2line_units.specs.declared.unit.ViewState.TheVariants as states
-use Rattle.addr2line_units.specs.CachedViews.{IsViewOf, answer_in, scope_by, seen_first_answer, seen_sections, split_file_by, split_file_in, split_unit, unboxed, verdict_in, view_by, waits}
-use Rattle.addr2line_units.specs.Views.{SplitLoad, View, answered_view, first_of, first_takes_memory, first_unit, first_unit_takes_memory, first_view, load_by, load_of_unit, main_view, split_name_of, verdict, verdict_by, view_scope}
-use Rattle.gimli_read.proofs.FaultLemmas.{memory_or_not}
 
 decided_by : (d : Sections) (u : UnitRecord) (load : Result (Option SplitLoad) Error) (r : Result View Error) (answer : Option (Option Sections)) → verdict_by d u load None ≡ Some r → verdict_by d u load answer ≡ Some r
 decided_by d u (Err e) r answer h = h

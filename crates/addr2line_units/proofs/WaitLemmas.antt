@@ -1,29 +1,8 @@
 -- The unit that a lookup of frames waits for has no answer yet (on specs/FramesLookup.antt and
 -- specs/CachedUnits.antt).
-use Rattle.std.proofs.Common.{◌≡◌, ℕ, zero, suc, ◌<◌, arith, get_or, Bool, true, false, ◌&&◌, ◌||◌, List, [], ◌∷◌, length, slice_get, Option, Some, None, Result, Ok, Err, ap, refl, sym, subst, ◌∙◌}
+use Rattle.addr2line_units.proofs.Common.{◌≡◌, ℕ, zero, suc, ◌<◌, arith, get_or, Bool, true, false, ◌&&◌, ◌||◌, List, [], ◌∷◌, length, slice_get, Option, Some, None, Result, Ok, Err, ap, refl, sym, subst, ◌∙◌, Error, ◌>>=◌, Sections, UnitRecord, Scope, OnFault, Stop, Skip, UnitRange, UnitCache, UnitEntries, ViewState, indexed_units, FrameRecord, LookupStop, Waits, Finds, FindsNothing, after_fault, asked_frames, ends_lookup, frames_of_number, holds_along, or_stop, stop_along, has_entries, first_answer_of, HaveEntriesOf, HaveViewsOf, answers_in, has_entries_at, waits_at, has_frames_at, IsViewOf, was_checked, waits, FramesResult, frames_by, frames_in, function_in, IndexedUnit, is_open}
 use Rattle.std.specs.Prelude.{IfOk, IfSome, if◌then◌else◌}
-use Rattle.gimli_read.specs.declared.error.Error.{Error}
-use Rattle.gimli_read.specs.Reading.{◌>>=◌}
-use Rattle.gimli.specs.Sections.{Sections}
-use Rattle.gimli.specs.Unit.{UnitRecord}
-use Rattle.addr2line_lines.specs.References.{Scope}
-use Rattle.addr2line_units.specs.declared.frames.OnFault.{OnFault}
-use Rattle.addr2line_units.specs.declared.frames.OnFault.TheVariants.{Stop, Skip}
-use Rattle.addr2line_units.specs.declared.index.UnitRange.{UnitRange}
-use Rattle.addr2line_units.specs.declared.entries.UnitCache.{UnitCache}
-use Rattle.addr2line_units.specs.declared.entries.UnitEntries.{UnitEntries}
-use Rattle.addr2line_units.specs.declared.unit.ViewState.{ViewState}
 use Rattle.addr2line_units.specs.declared.unit.ViewState.TheVariants as states
-use Rattle.addr2line_units.specs.CachedLines.{indexed_units}
-use Rattle.addr2line_units.specs.Frames.{FrameRecord}
-use Rattle.addr2line_units.specs.FramesLookup.{LookupStop, Waits, Finds, FindsNothing, after_fault, asked_frames, ends_lookup, frames_of_number, holds_along, or_stop, stop_along}
-use Rattle.addr2line_units.specs.CachedEntries.{has_entries, first_answer_of}
-use Rattle.addr2line_units.specs.CachedUnits.{HaveEntriesOf, HaveViewsOf, answers_in, has_entries_at, waits_at}
-use Rattle.addr2line_units.specs.CachedFrames.{has_frames_at}
-use Rattle.addr2line_units.specs.CachedViews.{IsViewOf, was_checked, waits}
-use Rattle.addr2line_units.specs.UnitFrames.{FramesResult, frames_by, frames_in, function_in}
-use Rattle.addr2line_units.specs.RangedUnits.{IndexedUnit}
-use Rattle.addr2line_units.specs.Views.{is_open}
 use Rattle.addr2line_units.proofs.AnswerLemmas.{got_unit, looked_waits}
 use Rattle.addr2line_units.proofs.WalkLemmas.{and_first, and_second}
 

@@ -1,21 +1,6 @@
 -- Walks over the units of a context, one unit after another (on specs/AfterUnits.antt).
-use Rattle.std.proofs.Common.{◌≡◌, ◌≢◌, inl, inr, ℕ, ◌&&◌, ◌||◌, Bool, true, false, not, List, [], ◌∷◌, Some, None, Result, Ok, Err, refl, sym, ap, subst, ◌∙◌, arith}
-use Rattle.std.specs.Prelude.{⊤}
-use Rattle.gimli_read.specs.declared.error.Error.{Error}
-use Rattle.gimli_read.specs.declared.error.Error.TheVariants.{OutOfMemory}
-use Rattle.gimli_read.specs.Reading.{◌>>=◌}
-use Rattle.addr2line_lines.specs.References.{Scope}
-use Rattle.addr2line_units.specs.declared.frames.OnFault.{OnFault}
-use Rattle.addr2line_units.specs.declared.index.UnitRange.{UnitRange}
-use Rattle.addr2line_units.specs.FramesLookup.{FindsNothing, Finds, LookupAsks, LookupStop, Waits, asked_frames, asks_lines_of, ends_lookup, frames_of_number, function_offset_of, holds_along, or_stop, stop_along}
-use Rattle.addr2line_units.specs.KnownEntries.{LearnsDetailsAt, knows_at}
-use Rattle.addr2line_units.specs.Parsed.{ParsesOnly, has_parsed}
-use Rattle.addr2line_units.specs.RangedUnits.{IndexedUnit}
-use Rattle.addr2line_units.specs.UnitFrames.{FramesResult}
+use Rattle.addr2line_units.proofs.Common.{◌≡◌, ◌≢◌, inl, inr, ℕ, ◌&&◌, ◌||◌, Bool, true, false, not, List, [], ◌∷◌, Some, None, Result, Ok, Err, refl, sym, ap, subst, ◌∙◌, arith, ⊤, Error, OutOfMemory, ◌>>=◌, Scope, OnFault, UnitRange, FindsNothing, Finds, LookupAsks, LookupStop, Waits, asked_frames, asks_lines_of, ends_lookup, frames_of_number, function_offset_of, holds_along, or_stop, stop_along, LearnsDetailsAt, knows_at, ParsesOnly, has_parsed, IndexedUnit, FramesResult, AfterAsk, has_stopped, stop_at, IsFaultAt, UnitsState, asked_by, asks_no_memory_at, has_all_at, has_few_at, stop_of, FirstAnswers}
 use Rattle.addr2line_units.specs.AfterUnits.{AfterWalk, IsFaultAlong, WereAsked}
-use Rattle.addr2line_units.specs.AskedUnits.{AfterAsk, has_stopped, stop_at}
-use Rattle.addr2line_units.specs.UnitsState.{IsFaultAt, UnitsState, asked_by, asks_no_memory_at, has_all_at, has_few_at, stop_of}
-use Rattle.addr2line_units.specs.Views.{FirstAnswers}
 use Rattle.addr2line_units.proofs.FramesLookupLemmas.{faults_there, goes_on, holds_both, holds_ended, holds_first, holds_rest, parses_more}
 use Rattle.addr2line_units.proofs.StayLemmas.{known_twice}
 use Rattle.addr2line_units.proofs.WalkLemmas.{asked_first}

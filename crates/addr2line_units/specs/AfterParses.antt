@@ -1,11 +1,7 @@
 -- What a parse of functions leaves of a view, of a unit, and of the unit of a number, as the
 -- private functions see it (DWARF 5, section 3.3: entries of subprograms and of inlined functions).
 use Rattle.std.specs.Prelude.{◌≡◌, ◌≢◌, ◌⊎◌, ℕ, Bool, true, false, IfErr, IfSome, OnOk, slice_get, None, Result, Ok, Err}
-use Rattle.gimli_read.specs.declared.error.Error.{Error}
-use Rattle.gimli_read.specs.Reading.{WasNotRefused}
-use Rattle.gimli.specs.Unit.{UnitRecord}
-use Rattle.addr2line_lines.specs.Functions.{functions_take_memory}
-use Rattle.addr2line_lines.specs.References.{Scope}
+use Rattle.addr2line_units.specs.Common.{Error, WasNotRefused, UnitRecord, functions_take_memory, Scope}
 use Rattle.addr2line_units.specs.declared.entries.LazyFunctions.{LazyFunctions}
 use Rattle.addr2line_units.specs.declared.parses.ReadingDepth.{ReadingDepth}
 use Rattle.addr2line_units.specs.declared.parses.ReadingDepth.TheVariants as depths

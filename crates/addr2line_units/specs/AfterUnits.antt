@@ -4,10 +4,7 @@
 -- unit is forgotten.
 use Rattle.std.specs.Prelude.{◌≡◌, ◌≢◌, ◌⊎◌, ◌+◌, ◌<◌, ◌≤◌, ℕ, Bool, true, false, List, length, IfErr, OnOk, is_some, slice_get, Option, Some, None, Result, Ok}
 use Rattle.std.specs.List.{AllByRecursion}
-use Rattle.gimli_read.specs.declared.error.Error.{Error}
-use Rattle.gimli_read.specs.declared.error.Error.TheVariants.{OutOfMemory}
-use Rattle.gimli_read.specs.Reading.{WasNotRefused}
-use Rattle.gimli.specs.Sections.{Sections}
+use Rattle.addr2line_units.specs.Common.{Error, OutOfMemory, WasNotRefused, Sections}
 use Rattle.addr2line_units.specs.declared.frames.OnFault.{OnFault}
 use Rattle.addr2line_units.specs.declared.index.UnitRange.{UnitRange}
 use Rattle.addr2line_units.specs.declared.parses.ReadingDepth.{ReadingDepth}

@@ -1,6 +1,6 @@
 -- When an answer to the load of a unit takes memory (DWARF 5, section 7.3.2).
 use Rattle.std.specs.Prelude.{Bool, false, Option, Some, None}
-use Rattle.gimli.specs.Sections.{Sections}
+use Rattle.addr2line_units.specs.Common.{Sections}
 use Rattle.addr2line_units.specs.Views.{first_unit_takes_memory}
 
 -- whether memory may be taken for an answer: for the first unit of its sections, which is stored,

@@ -4,14 +4,10 @@
 -- range before the first fault, nor for lines whose header has neither a directory nor a file, and
 -- whose program has a fault before its first row and before a file that it defines.
 use Rattle.std.specs.Prelude.{ℕ, ◌||◌, not, Bool, true, false, List, [], ◌∷◌, slice_get, Option, Some, None, Result, Ok, Err}
-use Rattle.gimli_read.specs.declared.error.Error.{Error}
+use Rattle.addr2line_units.specs.Common.{Error, Sections, UnitRecord, functions_take_memory, Scope}
 use Rattle.gimli_line.specs.declared.row.LineRow.{LineRow}
 use Rattle.gimli_line.specs.Header.{File, Program, header_copy_takes_memory}
 use Rattle.gimli_line.specs.Lines.{lines_of}
-use Rattle.gimli.specs.Sections.{Sections}
-use Rattle.gimli.specs.Unit.{UnitRecord}
-use Rattle.addr2line_lines.specs.Functions.{functions_take_memory}
-use Rattle.addr2line_lines.specs.References.{Scope}
 use Rattle.addr2line_units.specs.RangedUnits.{IndexedUnit}
 use Rattle.addr2line_units.specs.Views.{View, verdict, view_scope}
 

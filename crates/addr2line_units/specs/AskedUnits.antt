@@ -1,7 +1,6 @@
 -- What a lookup comes to in one unit after another, as the private functions see it.
 use Rattle.std.specs.Prelude.{◌≡◌, ◌+◌, ◌<◌, ◌≤◌, ℕ, Bool, true, false, length, slice_get, Option, unwrap_or, Result, Ok}
-use Rattle.gimli_read.specs.declared.error.Error.{Error}
-use Rattle.gimli_read.specs.Reading.{◌>>=◌, WasNotRefused}
+use Rattle.addr2line_units.specs.Common.{Error, ◌>>=◌, WasNotRefused}
 use Rattle.addr2line_units.specs.declared.frames.OnFault.{OnFault}
 use Rattle.addr2line_units.specs.declared.frames.FramesStop.{FramesStop}
 use Rattle.addr2line_units.specs.declared.frames.FramesStop.TheVariants as stops

@@ -4,11 +4,7 @@
 -- then, their fault too, until the unit is forgotten; so is each detail. OutOfMemory is never
 -- cached.
 use Rattle.std.specs.Prelude.{◌≡◌, ℕ, Bool, true, false, List, Option, Some, None, Result, Ok, Err, IfOk, IfSome, option_map}
-use Rattle.gimli_read.specs.declared.error.Error.{Error}
-use Rattle.gimli.specs.Sections.{Sections}
-use Rattle.gimli.specs.Unit.{UnitRecord}
-use Rattle.addr2line_lines.specs.Location.{location_of_row}
-use Rattle.addr2line_lines.specs.References.{Scope}
+use Rattle.addr2line_units.specs.Common.{Error, Sections, UnitRecord, location_of_row, Scope}
 use Rattle.addr2line_units.specs.declared.entries.LazyFunctions.{LazyFunctions}
 use Rattle.addr2line_units.specs.declared.unit.LazyLines.{LazyLines}
 use Rattle.addr2line_units.specs.declared.unit.LazyLines.TheVariants as lines

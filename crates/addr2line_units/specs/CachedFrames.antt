@@ -1,10 +1,6 @@
 -- The frames that lookups find in what is cached of units, as the private functions see them.
 use Rattle.std.specs.Prelude.{◌≡◌, ◌<◌, ℕ, Bool, true, ◌&&◌, ◌||◌, not, length, List, Option, Some, None, IfSome, option_map, slice_get, Result, Ok, Err}
-use Rattle.gimli_read.specs.declared.constants.DwLang.{DwLang}
-use Rattle.gimli_read.specs.declared.error.Error.{Error}
-use Rattle.gimli_read.specs.declared.error.Error.TheVariants.{OutOfMemory}
-use Rattle.addr2line_lines.specs.FunctionTable.{FunctionTable}
-use Rattle.addr2line_lines.specs.Location.{location_of_row}
+use Rattle.addr2line_units.specs.Common.{DwLang, Error, OutOfMemory, FunctionTable, location_of_row}
 use Rattle.addr2line_units.specs.declared.frames.OnFault.{OnFault}
 use Rattle.addr2line_units.specs.declared.frames.OnFault.TheVariants.{Skip}
 use Rattle.addr2line_units.specs.declared.frames.FramePlace.{FramePlace}

@@ -3,20 +3,12 @@
 -- each detail. OutOfMemory is never cached. Functions are absent where a view has none.
 use Rattle.std.specs.Prelude.{◌≡◌, ◌≢◌, ◌<◌, ℕ, Bool, true, false, List, [], ◌∷◌, length, map, Option, Some, None, option_map, unwrap_or, Result, Ok, Err, box_value}
 use Rattle.std.specs.List.{AllByRecursion}
-use Rattle.gimli_read.specs.declared.error.Error.{Error}
-use Rattle.gimli_read.specs.declared.error.Error.TheVariants.{OutOfMemory}
-use Rattle.gimli_read.specs.Reading.{◌>>=◌}
-use Rattle.gimli.specs.Unit.{UnitRecord}
+use Rattle.addr2line_units.specs.Common.{Error, OutOfMemory, ◌>>=◌, UnitRecord, AreListed, FunctionTable, cached_detail, cached_inlined, cached_name, function_place_at, inlined_of_detail, cached_offset_at, entries_of, functions_of, functions_take_memory, exceeds_inline_room, InlinedEntry, Scope}
 use Rattle.addr2line_lines.specs.CachedNames.{AreNamesOf}
 use Rattle.addr2line_lines.specs.Details.{Detail, detail_at}
 use Rattle.addr2line_lines.specs.InlinedChain.{inlined_chain}
 use Rattle.addr2line_lines.specs.FoundInlined.{entry_among}
 use Rattle.addr2line_lines.specs.FunctionDetails.{AreDetailsOf, IsTableMore, details_take_memory}
-use Rattle.addr2line_lines.specs.FunctionTable.{AreListed, FunctionTable, cached_detail, cached_inlined, cached_name, function_place_at, inlined_of_detail, cached_offset_at}
-use Rattle.addr2line_lines.specs.Functions.{entries_of, functions_of, functions_take_memory}
-use Rattle.addr2line_lines.specs.InlineRoom.{exceeds_inline_room}
-use Rattle.addr2line_lines.specs.InlinedEntries.{InlinedEntry}
-use Rattle.addr2line_lines.specs.References.{Scope}
 use Rattle.addr2line_units.specs.declared.entries.FunctionPlace.{FunctionPlace}
 use Rattle.addr2line_units.specs.declared.entries.LazyFunctions.{LazyFunctions}
 use Rattle.addr2line_units.specs.declared.entries.LazyFunctions.TheVariants as lazy

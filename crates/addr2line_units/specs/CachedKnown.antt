@@ -1,8 +1,7 @@
 -- What is known of the entries of units by what is cached of them, as the private functions see it.
 use Rattle.std.specs.Prelude.{List, map, Option, Some, None, Result, Ok, Err, box_value, if◌then◌else◌}
-use Rattle.gimli_read.specs.declared.error.Error.{Error}
+use Rattle.addr2line_units.specs.Common.{Error, CachedFunction, FunctionTable}
 use Rattle.addr2line_lines.specs.Details.{Detail}
-use Rattle.addr2line_lines.specs.FunctionTable.{CachedFunction, FunctionTable}
 use Rattle.addr2line_units.specs.declared.entries.LazyFunctions.{LazyFunctions}
 use Rattle.addr2line_units.specs.declared.entries.LazyFunctions.TheVariants as lazy
 use Rattle.addr2line_units.specs.declared.entries.UnitCache.{UnitCache}

@@ -4,18 +4,11 @@
 -- program.
 use Rattle.std.specs.Prelude.{◌≡◌, ◌≢◌, ℕ, Bool, true, false, not, List, [], ◌∷◌, map, Option, Some, None, is_some, slice_get, Result, Ok, Err, box_value}
 use Rattle.std.specs.List.{AllZip}
-use Rattle.gimli_read.specs.declared.error.Error.{Error}
-use Rattle.gimli_read.specs.declared.error.Error.TheVariants.{OutOfMemory}
-use Rattle.gimli_read.specs.declared.range.Range.{Range}
-use Rattle.gimli_read.specs.Reading.{◌>>=◌, fault_of}
-use Rattle.gimli.specs.Sections.{Sections}
-use Rattle.gimli.specs.Unit.{UnitRecord}
+use Rattle.addr2line_units.specs.Common.{Error, OutOfMemory, Range, ◌>>=◌, fault_of, Sections, UnitRecord, Location, location_of_row, LocatedSpan, locations_in_range, sequence_ranges, unit_lines}
 use Rattle.addr2line_lines.specs.declared.row.Row.{Row}
-use Rattle.addr2line_lines.specs.Location.{LineTable as Lines, Location, location_of_row}
-use Rattle.addr2line_lines.specs.RangeLocations.{LocatedSpan, locations_in_range, sequence_ranges}
+use Rattle.addr2line_lines.specs.Location.{LineTable as Lines}
 use Rattle.addr2line_lines.specs.Counts.{most_looks_in}
 use Rattle.addr2line_lines.specs.Spans.{row_at}
-use Rattle.addr2line_lines.specs.UnitLines.{unit_lines}
 use Rattle.addr2line_units.specs.declared.units.UnitRow.{UnitRow}
 use Rattle.addr2line_units.specs.declared.unit.LazyLines.{LazyLines}
 use Rattle.addr2line_units.specs.declared.unit.LazyLines.TheVariants.{Unread, Absent, Read, Faulty}

@@ -2,9 +2,7 @@
 -- unit, their first answers, and which units wait.
 use Rattle.std.specs.Prelude.{◌≡◌, ◌⊎◌, ℕ, Bool, true, false, List, map, IfSome, option_map, slice_get, unwrap_or}
 use Rattle.std.specs.List.{AllZip}
-use Rattle.gimli.specs.Sections.{Sections}
-use Rattle.gimli.specs.Unit.{UnitRecord}
-use Rattle.addr2line_lines.specs.References.{Scope}
+use Rattle.addr2line_units.specs.Common.{Sections, UnitRecord, Scope}
 use Rattle.addr2line_units.specs.declared.entries.UnitCache.{UnitCache}
 use Rattle.addr2line_units.specs.CachedViews.{IsViewOf, is_decided, waits}
 use Rattle.addr2line_units.specs.CachedLines.{AreLinesOf}

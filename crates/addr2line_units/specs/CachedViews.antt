@@ -3,12 +3,8 @@
 -- and what it decides is cached, until the unit is forgotten. OutOfMemory is never cached.
 use Rattle.std.specs.Prelude.{◌≡◌, Bool, true, false, [], is_some, Option, Some, None, option_map, IfSome, Result, Ok, Err, Box, box_value}
 use Rattle.std.specs.declared.alloc.Global.{Global}
-use Rattle.gimli_read.specs.declared.error.Error.{Error}
-use Rattle.gimli_read.specs.Reading.{◌>>=◌, result_map}
-use Rattle.gimli.specs.Sections.{Sections}
+use Rattle.addr2line_units.specs.Common.{Error, ◌>>=◌, result_map, Sections, UnitRecord, Scope}
 use Rattle.gimli.specs.Split.{relocated}
-use Rattle.gimli.specs.Unit.{UnitRecord}
-use Rattle.addr2line_lines.specs.References.{Scope}
 use Rattle.addr2line_units.specs.declared.unit.AnsweredLoad.{AnsweredLoad}
 use Rattle.addr2line_units.specs.declared.unit.UnitView.{UnitView}
 use Rattle.addr2line_units.specs.declared.unit.ViewState.{ViewState}

@@ -3,13 +3,8 @@
 -- Own: a refused growth alone answers OutOfMemory, so only where a contract allows it beside what
 -- is given.
 use Rattle.std.specs.Prelude.{ℕ, List, Option, IfOk, IfSome}
-use Rattle.gimli_read.specs.Reading.{WasNotRefused}
+use Rattle.addr2line_units.specs.Common.{WasNotRefused, Section, UnitHeaderFields, Sections, SupSections, UnitRecord, Scope}
 use Rattle.gimli_read.specs.FaultLaws.{NoneWasRefused}
-use Rattle.gimli_read.specs.Section.{Section}
-use Rattle.gimli.specs.Header.{UnitHeaderFields}
-use Rattle.gimli.specs.Sections.{Sections, SupSections}
-use Rattle.gimli.specs.Unit.{UnitRecord}
-use Rattle.addr2line_lines.specs.References.{Scope}
 use Rattle.addr2line_units.specs.declared.index.UnitArange.{UnitArange}
 use Rattle.addr2line_units.specs.declared.frames.OnFault.{OnFault}
 use Rattle.addr2line_units.specs.declared.index.UnitRange.{UnitRange}

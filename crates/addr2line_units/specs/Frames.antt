@@ -4,18 +4,10 @@
 -- and column 0 no column. Where no function holds the address, its location alone is a frame. The
 -- first fault counts of the functions, the detail of the function, and the lines of the main unit.
 use Rattle.std.specs.Prelude.{ℕ, ◌==◌, List, [], ◌∷◌, reverse, slice_get, Option, Some, None, option_and_then, option_map, Result, Ok, if◌then◌else◌}
-use Rattle.gimli_read.specs.declared.constants.DwLang.{DwLang}
-use Rattle.gimli_read.specs.declared.error.Error.{Error}
-use Rattle.gimli_read.specs.Reading.{◌>>=◌}
-use Rattle.gimli_read.specs.Section.{Section}
-use Rattle.gimli.specs.Unit.{UnitRecord}
+use Rattle.addr2line_units.specs.Common.{DwLang, Error, ◌>>=◌, Section, UnitRecord, InlinedEntry, function_offset_at, functions_of, Location, Scope}
 use Rattle.addr2line_lines.specs.declared.inlined.CallSite.{CallSite}
-use Rattle.addr2line_lines.specs.InlinedEntries.{InlinedEntry}
 use Rattle.addr2line_lines.specs.Details.{Detail, detail_at}
 use Rattle.addr2line_lines.specs.InlinedChain.{inlined_chain}
-use Rattle.addr2line_lines.specs.Functions.{function_offset_at, functions_of}
-use Rattle.addr2line_lines.specs.Location.{Location}
-use Rattle.addr2line_lines.specs.References.{Scope}
 
 -- the name of a function, and the language of the main unit
 pub record NameRecord : Type 0 where

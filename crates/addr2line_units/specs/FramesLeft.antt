@@ -1,11 +1,7 @@
 -- The frames that an iterator has left, as the private functions see them.
 use Rattle.std.specs.Borrow.{Bor}
 use Rattle.std.specs.Prelude.{ℕ, List, [], ◌∷◌, reverse, slice_get, Option, Some, None, option_map}
-use Rattle.gimli_read.specs.declared.constants.DwLang.{DwLang}
-use Rattle.addr2line_lines.specs.InlinedEntries.{InlinedEntry}
-use Rattle.addr2line_lines.specs.FunctionTable.{FunctionTable, cached_name, cached_offset_at}
-use Rattle.addr2line_lines.specs.Location.{LineTable, Location}
-use Rattle.addr2line_lines.specs.SeenLocation.{seen_location}
+use Rattle.addr2line_units.specs.Common.{DwLang, InlinedEntry, FunctionTable, cached_name, cached_offset_at, LineTable, Location, seen_location}
 use Rattle.addr2line_units.specs.declared.frames.FrameIter.{FrameIter}
 use Rattle.addr2line_units.specs.declared.frames.FrameState.{FrameState}
 use Rattle.addr2line_units.specs.declared.frames.FrameState.TheVariants.{Empty, Located, Function}

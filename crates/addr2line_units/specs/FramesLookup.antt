@@ -2,12 +2,7 @@
 -- Own: the units are asked one after another: the first that waits for an answer, that has a fault,
 -- or that has frames ends the lookup. A lookup of a unit passes over each unit with a fault.
 use Rattle.std.specs.Prelude.{ℕ, Bool, true, false, List, [], ◌∷◌, set, slice_get, Option, Some, None, option_and_then, option_map, unwrap_or, Result, Ok, Err}
-use Rattle.gimli_read.specs.declared.error.Error.{Error}
-use Rattle.gimli_read.specs.Reading.{◌>>=◌}
-use Rattle.gimli.specs.Sections.{Sections}
-use Rattle.gimli.specs.Unit.{UnitRecord}
-use Rattle.addr2line_lines.specs.InlinedEntries.{InlinedEntry}
-use Rattle.addr2line_lines.specs.References.{Scope}
+use Rattle.addr2line_units.specs.Common.{Error, ◌>>=◌, Sections, UnitRecord, InlinedEntry, Scope}
 use Rattle.addr2line_units.specs.declared.index.UnitRange.{UnitRange}
 use Rattle.addr2line_units.specs.declared.frames.OnFault.{OnFault}
 use Rattle.addr2line_units.specs.declared.frames.OnFault.TheVariants.{Stop, Skip}

@@ -1,15 +1,12 @@
 -- Laws of parses of the functions of all units (on FunctionParses and FramesLookup).
 use Rattle.std.specs.Prelude.{◌≡◌, ℕ, length, List, Result, Ok, Err}
-use Rattle.gimli_read.specs.declared.error.Error.{Error}
-use Rattle.gimli.specs.Unit.{UnitRecord}
-use Rattle.addr2line_lines.specs.References.{Scope}
+use Rattle.addr2line_units.specs.Common.{Error, UnitRecord, Scope, fault_of}
 use Rattle.addr2line_units.specs.declared.frames.OnFault.{OnFault}
 use Rattle.addr2line_units.specs.declared.index.UnitRange.{UnitRange}
 use Rattle.addr2line_units.specs.declared.parses.ReadingDepth.{ReadingDepth}
 use Rattle.addr2line_units.specs.declared.parses.ReadingDepth.TheVariants.{Details}
 use Rattle.addr2line_units.specs.FramesLookup.{LookupStop, Waits, asked_frames, stop_along}
 use Rattle.addr2line_units.specs.FunctionParses.{answers_after_parse, read_of_units}
-use Rattle.gimli_read.specs.Reading.{fault_of}
 use Rattle.addr2line_units.specs.Located.{all_lines}
 use Rattle.addr2line_units.specs.RangedUnits.{IndexedUnit, unit_records}
 use Rattle.addr2line_units.specs.Views.{FirstAnswers}

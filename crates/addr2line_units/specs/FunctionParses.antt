@@ -4,12 +4,7 @@
 -- answer is decided by none first. The first fault counts of the view of a unit, of its functions,
 -- and, where they are asked for, of their details in the order of the entries.
 use Rattle.std.specs.Prelude.{ℕ, zero, suc, ◌≡◌, ◌⊎◌, ◌<◌, Bool, false, List, [], ◌∷◌, slice_get, Option, Some, None, IfSome, Result, Ok, Err}
-use Rattle.gimli_read.specs.declared.error.Error.{Error}
-use Rattle.gimli_read.specs.Reading.{◌>>=◌, fault_of}
-use Rattle.gimli.specs.Sections.{Sections}
-use Rattle.gimli.specs.Unit.{UnitRecord}
-use Rattle.addr2line_lines.specs.Functions.{functions_of}
-use Rattle.addr2line_lines.specs.References.{Scope}
+use Rattle.addr2line_units.specs.Common.{Error, ◌>>=◌, fault_of, Sections, UnitRecord, functions_of, Scope}
 use Rattle.addr2line_units.specs.declared.parses.ReadingDepth.{ReadingDepth}
 use Rattle.addr2line_units.specs.declared.parses.ReadingDepth.TheVariants as depths
 use Rattle.addr2line_units.specs.AskMemory.{functions_in_take_memory}

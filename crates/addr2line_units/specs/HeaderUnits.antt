@@ -3,10 +3,8 @@
 -- Own: a unit is read whole before the next header; the first fault counts. Where readers share
 -- their bytes a second reader of the headers takes memory, even if there is no header.
 use Rattle.std.specs.Prelude.{Bool, List, [], ◌∷◌, ◌++◌, is_ok, Option, option_to_list, Result, Ok}
-use Rattle.gimli_read.specs.declared.error.Error.{Error}
-use Rattle.gimli_read.specs.Costed.{Costed, ◌>>=◌, free, parts_on_the_way}
-use Rattle.gimli.specs.Header.{UnitHeaderFields}
-use Rattle.gimli.specs.Sections.{Sections}
+use Rattle.addr2line_units.specs.Common.{Error, Costed, free, parts_on_the_way, UnitHeaderFields, Sections}
+use Rattle.gimli_read.specs.Costed.{◌>>=◌}
 use Rattle.gimli.specs.Text.{from_offset}
 
 -- whether a unit's abbreviations begin in their section

@@ -1,13 +1,8 @@
 -- The units of a context and their ranges as they are read, one after another, as the private
 -- functions see them.
 use Rattle.std.specs.Prelude.{Bool, List, [], ◌++◌, length, map, nat_lt, Ok}
-use Rattle.gimli_read.specs.declared.range.Range.{Range}
-use Rattle.gimli_read.specs.Costed.{Costed, ◌>>=◌, free}
-use Rattle.gimli_read.specs.Section.{Section}
-use Rattle.gimli.specs.Header.{UnitHeaderFields}
-use Rattle.gimli.specs.Sections.{Sections}
-use Rattle.gimli.specs.Unit.{UnitRecord}
-use Rattle.gimli.specs.UnitsLeft.{all_headers}
+use Rattle.addr2line_units.specs.Common.{Range, Costed, free, Section, UnitHeaderFields, Sections, UnitRecord, all_headers}
+use Rattle.gimli_read.specs.Costed.{◌>>=◌}
 use Rattle.addr2line_units.specs.declared.index.UnitArange.{UnitArange}
 use Rattle.addr2line_units.specs.declared.index.UnitRange.{UnitRange}
 use Rattle.addr2line_units.specs.declared.unit.UnitLines.{UnitLines}

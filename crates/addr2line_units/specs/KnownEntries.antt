@@ -3,7 +3,7 @@
 -- the functions of its view, and of each its detail, or the fault of that, once it is read.
 use Rattle.std.specs.Prelude.{◌≡◌, ◌⊎◌, ℕ, ◌==◌, Bool, true, false, List, slice_get, Option, Some, IfSome, option_and_then, option_map, unwrap_or}
 use Rattle.std.specs.List.{find}
-use Rattle.addr2line_lines.specs.Functions.{FunctionRange, function_offset_at}
+use Rattle.addr2line_units.specs.Common.{FunctionRange, function_offset_at}
 
 -- what is known of the detail of a function
 pub data KnownDetail : Type 0 where

@@ -1,3 +1,4 @@
+pub mod Common
 pub mod LegacyElements
 pub mod LegacyName
 pub mod LegacyText

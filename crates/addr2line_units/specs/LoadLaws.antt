@@ -1,9 +1,7 @@
 -- Laws of the loads that an address waits for, and of lookups that wait (on Loads and
 -- FramesLookup).
 use Rattle.std.specs.Prelude.{◌≡◌, ◌≢◌, ◌⊎◌, ◌<◌, ℕ, true, filter, length, List, [], ◌∷◌, Option, Ok}
-use Rattle.gimli.specs.Sections.{Sections}
-use Rattle.gimli.specs.Unit.{UnitRecord}
-use Rattle.addr2line_lines.specs.References.{Scope}
+use Rattle.addr2line_units.specs.Common.{Sections, UnitRecord, Scope}
 use Rattle.addr2line_units.specs.declared.frames.OnFault.{OnFault}
 use Rattle.addr2line_units.specs.declared.index.UnitRange.{UnitRange}
 use Rattle.addr2line_units.specs.FramesLookup.{Waits, asked_frames, stop_along, with_answer}

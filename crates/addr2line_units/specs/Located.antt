@@ -4,15 +4,9 @@
 -- gives it, whichever comes first. A range lookup gives the fault of a unit in its place and goes
 -- on with the next one.
 use Rattle.std.specs.Prelude.{ℕ, Bool, true, false, List, [], ◌∷◌, flat_map, map, slice_get, sum_by, Option, Some, None, Result, Ok, Err}
-use Rattle.gimli_read.specs.declared.error.Error.{Error}
-use Rattle.gimli_read.specs.declared.range.Range.{Range}
-use Rattle.gimli_read.specs.Reading.{◌>>=◌}
-use Rattle.gimli.specs.Sections.{Sections}
+use Rattle.addr2line_units.specs.Common.{Error, Range, ◌>>=◌, Sections, LineTable, Location, location_at, LocatedSpan, locations_in_range, unit_lines}
 use Rattle.addr2line_lines.specs.Counts.{most_looks_in}
-use Rattle.addr2line_lines.specs.Location.{LineTable, Location, location_at}
-use Rattle.addr2line_lines.specs.RangeLocations.{LocatedSpan, locations_in_range}
 use Rattle.addr2line_lines.specs.Rows.{read_all}
-use Rattle.addr2line_lines.specs.UnitLines.{unit_lines}
 use Rattle.addr2line_units.specs.declared.index.UnitRange.{UnitRange}
 use Rattle.addr2line_units.specs.UnitIndex.{index_units}
 use Rattle.addr2line_units.specs.RangedUnits.{IndexedUnit}

@@ -1,7 +1,6 @@
 -- The rows and faults that a range lookup has left.
 use Rattle.std.specs.Prelude.{List, ◌++◌, option_map, Result}
-use Rattle.gimli_read.specs.declared.error.Error.{Error}
-use Rattle.addr2line_lines.specs.RangeLocations.{LocatedSpan}
+use Rattle.addr2line_units.specs.Common.{Error, LocatedSpan}
 use Rattle.addr2line_lines.specs.RangesLeft.{located_rows_left}
 use Rattle.addr2line_units.specs.declared.locations.LocationRangeIter.{LocationRangeIter}
 use Rattle.addr2line_units.specs.RangeLookup.{cached_along, unit_rows_left}

@@ -4,7 +4,7 @@
 -- order, up to the first that has a fault.
 use Rattle.std.specs.Prelude.{ℕ, ◌≡◌, ◌<◌, ◌⊎◌, ◌||◌, not, Bool, true, false, List, [], ◌∷◌, slice_get, Option, Some, None, unwrap_or, Ok, Err, is_ok}
 use Rattle.std.specs.List.{AllByRecursion}
-use Rattle.gimli.specs.Sections.{Sections}
+use Rattle.addr2line_units.specs.Common.{Sections}
 use Rattle.addr2line_units.specs.declared.index.UnitRange.{UnitRange}
 use Rattle.addr2line_units.specs.AskMemory.{lines_of_take_memory}
 use Rattle.addr2line_units.specs.Cover.{ComesTo, holds_until}

@@ -2,8 +2,7 @@
 -- Own: a fault ends nothing: the next call goes on after it. As an iterator the lookup gives none
 -- in the place of a fault.
 use Rattle.std.specs.Prelude.{◌≡◌, ℕ, List, [], ◌∷◌, flat_map, Option, Some, None, Result, Ok, Err}
-use Rattle.gimli_read.specs.declared.error.Error.{Error}
-use Rattle.addr2line_lines.specs.RangeLocations.{LocatedSpan}
+use Rattle.addr2line_units.specs.Common.{Error, LocatedSpan}
 use Rattle.addr2line_units.specs.declared.index.UnitRange.{UnitRange}
 use Rattle.addr2line_units.specs.declared.entries.UnitCache.{UnitCache}
 use Rattle.addr2line_units.specs.CachedLines.{cached_spans, lines_at}

@@ -1,10 +1,8 @@
 -- Frames as contracts see them, and the texts of their names.
 -- Own: a name that is no UTF-8 has U+FFFD for each piece that isn't.
 use Rattle.std.specs.Prelude.{◌≡◌, ℕ, List, [], ◌∷◌, Option, Some, None, option_map, unwrap_or, Result, Ok, Err}
-use Rattle.gimli_read.specs.declared.error.Error.{Error}
-use Rattle.gimli_read.specs.Section.{Section}
+use Rattle.addr2line_units.specs.Common.{Error, Section, seen_location}
 use Rattle.gimli_read.specs.Text.{lossy_text}
-use Rattle.addr2line_lines.specs.SeenLocation.{seen_location}
 use Rattle.addr2line_units.specs.declared.frames.Frame.{Frame}
 use Rattle.addr2line_units.specs.declared.frames.FunctionName.{FunctionName}
 use Rattle.addr2line_units.specs.Frames.{FrameRecord, NameRecord}

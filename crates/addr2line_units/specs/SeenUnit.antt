@@ -1,9 +1,7 @@
 -- References to units, and where references lead from units, as contracts see them.
 use Rattle.std.specs.Prelude.{List, Option, Some, option_map}
 use Rattle.gimli.specs.declared.unit_ref.UnitRef.{UnitRef}
-use Rattle.gimli.specs.Sections.{Sections}
-use Rattle.gimli.specs.Unit.{UnitRecord}
-use Rattle.addr2line_lines.specs.References.{FileRecord, Scope}
+use Rattle.addr2line_units.specs.Common.{Sections, UnitRecord, FileRecord, Scope}
 use Rattle.addr2line_units.specs.declared.sup.SupUnits.{SupUnits}
 
 -- the sections and the unit of a reference

@@ -1,6 +1,6 @@
 -- That what is cached of the units of a context is their own, as the private functions see it.
 use Rattle.std.specs.Prelude.{ℕ, List}
-use Rattle.addr2line_lines.specs.References.{IsScope, Scope}
+use Rattle.addr2line_units.specs.Common.{IsScope, Scope}
 use Rattle.addr2line_units.specs.declared.frames.FramesStop.{FramesStop}
 use Rattle.addr2line_units.specs.declared.entries.UnitCache.{UnitCache}
 use Rattle.addr2line_units.specs.declared.units.Sources.{Sources}

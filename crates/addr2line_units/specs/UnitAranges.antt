@@ -1,11 +1,8 @@
 -- The ranges that `.debug_aranges` lists for units (DWARF 5, section 6.1.2).
 use Rattle.std.specs.Prelude.{ℕ, ◌==◌, ◌||◌, Bool, false, List, [], ◌∷◌, filter, flat_map, length, map, nat_lt, Result, Ok, Err}
 use Rattle.std.specs.Ordering.{is_lt, nat_cmp}
-use Rattle.gimli_read.specs.declared.error.Error.{Error}
-use Rattle.gimli_read.specs.declared.range.Range.{Range}
+use Rattle.addr2line_units.specs.Common.{Error, Range, Section, ◌>>=◌}
 use Rattle.gimli_read.specs.declared.value.DebugInfoOffset.{DebugInfoOffset}
-use Rattle.gimli_read.specs.Section.{Section}
-use Rattle.gimli_read.specs.Reading.{◌>>=◌}
 use Rattle.gimli.specs.Aranges.{ArangeSet, arange_sets_of, aranges_of}
 use Rattle.addr2line_lines.specs.Rows.{read_all}
 use Rattle.addr2line_units.specs.declared.index.UnitArange.{UnitArange}

@@ -3,16 +3,11 @@
 -- Own: the last language that is a constant of at most 65535 counts.
 use Rattle.std.specs.Prelude.{ℕ, ◌==◌, ◌^◌, nat_lt, Option, Some, None, option_and_then, Result, Ok, if◌then◌else◌}
 use Rattle.std.specs.Option.{option_or}
-use Rattle.gimli_read.specs.declared.error.Error.{Error}
-use Rattle.gimli_read.specs.declared.constants.DwLang.{DwLang}
+use Rattle.addr2line_units.specs.Common.{Error, DwLang, Section, ◌>>=◌, Sections, UnitRecord}
 use Rattle.gimli_read.specs.declared.constants.TheConstants.DwAt.{DW_AT_language}
 use Rattle.gimli_read.specs.declared.value.AttributeValue.{AttributeValue}
-use Rattle.gimli_read.specs.Section.{Section}
-use Rattle.gimli_read.specs.Reading.{◌>>=◌}
 use Rattle.gimli_read.specs.Form.{NamedValue, constant_of}
-use Rattle.gimli.specs.Sections.{Sections}
 use Rattle.gimli.specs.TakenAttributes.{taken_in}
-use Rattle.gimli.specs.Unit.{UnitRecord}
 use Rattle.gimli.specs.Entries.{root_attributes_of}
 use Rattle.addr2line_lines.specs.RangeAttributes.{no_range_attributes, with_range_attribute}
 use Rattle.addr2line_units.specs.declared.attributes.UnitAttributes.{UnitAttributes}

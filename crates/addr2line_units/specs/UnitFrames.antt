@@ -3,16 +3,7 @@
 -- Own: the first fault counts of the view, its functions, the detail of the function, and the lines
 -- of the main unit. A unit that waits for an answer has no frames yet.
 use Rattle.std.specs.Prelude.{◌≡◌, ℕ, Bool, false, ◌&&◌, not, List, [], Option, Some, None, Result, Ok, Err, is_ok, if◌then◌else◌}
-use Rattle.gimli_read.specs.declared.error.Error.{Error}
-use Rattle.gimli_read.specs.Reading.{◌>>=◌}
-use Rattle.gimli.specs.Sections.{Sections}
-use Rattle.gimli.specs.Unit.{UnitRecord}
-use Rattle.addr2line_lines.specs.Functions.{FunctionRange, function_offset_at, functions_of}
-use Rattle.addr2line_lines.specs.InlineRoom.{exceeds_inline_room}
-use Rattle.addr2line_lines.specs.InlinedEntries.{InlinedEntry}
-use Rattle.addr2line_lines.specs.Location.{location_at}
-use Rattle.addr2line_lines.specs.References.{Scope}
-use Rattle.addr2line_lines.specs.UnitLines.{unit_lines}
+use Rattle.addr2line_units.specs.Common.{Error, ◌>>=◌, Sections, UnitRecord, FunctionRange, function_offset_at, functions_of, exceeds_inline_room, InlinedEntry, location_at, Scope, unit_lines}
 use Rattle.addr2line_units.specs.Frames.{FoundFunction, FrameRecord, found_frames, function_at}
 use Rattle.addr2line_units.specs.RangedUnits.{IndexedUnit}
 use Rattle.addr2line_units.specs.Views.{View, is_open, verdict, view_scope}

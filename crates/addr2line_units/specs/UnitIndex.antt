@@ -6,14 +6,8 @@
 -- Own: in the supplementary file every unit whose record can be read counts.
 use Rattle.std.specs.Prelude.{List, [], map, Option, Some, None, Result, Ok}
 use Rattle.std.specs.Result.{result_ok}
-use Rattle.gimli_read.specs.declared.error.Error.{Error}
-use Rattle.gimli_read.specs.Reading.{◌>>=◌}
-use Rattle.gimli_read.specs.Costed.{Costed, free}
+use Rattle.addr2line_units.specs.Common.{Error, ◌>>=◌, Costed, free, UnitHeaderFields, Sections, SupSections, UnitRecord, unit_record_of, all_headers}
 use Rattle.gimli.specs.declared.dwarf.DwarfFileType.TheVariants.{Main}
-use Rattle.gimli.specs.Header.{UnitHeaderFields}
-use Rattle.gimli.specs.Sections.{Sections, SupSections}
-use Rattle.gimli.specs.Unit.{UnitRecord, unit_record_of}
-use Rattle.gimli.specs.UnitsLeft.{all_headers}
 use Rattle.addr2line_units.specs.declared.index.UnitRange.{UnitRange}
 use Rattle.addr2line_units.specs.HeaderUnits.{by_abbreviations, units_of}
 use Rattle.addr2line_units.specs.RangedUnits.{IndexedUnit, indexed_of, unit_ranges_from, ranged_units}

@@ -1,8 +1,7 @@
 -- Laws of what a context is made of (on UnitIndex; DWARF 5, section 7.5: units stand in a section
 -- one after another).
 use Rattle.std.specs.Prelude.{◌≡◌, Ok}
-use Rattle.gimli.specs.Sections.{Sections}
-use Rattle.addr2line_lines.specs.References.{AreInOrder}
+use Rattle.addr2line_units.specs.Common.{Sections, AreInOrder}
 use Rattle.addr2line_units.specs.UnitIndex.{UnitIndex, index_units}
 use Rattle.addr2line_units.specs.RangedUnits.{unit_records}
 

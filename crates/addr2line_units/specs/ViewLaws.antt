@@ -1,9 +1,6 @@
 -- Laws of the views of units (on Views).
 use Rattle.std.specs.Prelude.{◌≡◌, Option, Some, None, Result}
-use Rattle.gimli_read.specs.declared.error.Error.{Error}
-use Rattle.gimli.specs.Sections.{Sections}
-use Rattle.gimli.specs.Unit.{UnitRecord}
-use Rattle.addr2line_lines.specs.References.{IsScope, Scope}
+use Rattle.addr2line_units.specs.Common.{Error, Sections, UnitRecord, IsScope, Scope}
 use Rattle.addr2line_units.specs.Views.{View, answered_view, verdict, view_scope}
 
 -- a unit that is decided without an answer has its verdict with every answer

@@ -6,18 +6,11 @@
 -- Own: the identifier of what is answered isn't compared. Lines and language stay those of the main
 -- unit. References lead to no other unit of a split file.
 use Rattle.std.specs.Prelude.{ℕ, ◌||◌, Bool, true, false, List, [], ◌∷◌, Option, Some, None, is_none, option_map, Result, Ok, Err, if◌then◌else◌}
-use Rattle.gimli_read.specs.declared.error.Error.{Error}
-use Rattle.gimli_read.specs.Reading.{◌>>=◌}
-use Rattle.gimli_read.specs.Section.{Section}
+use Rattle.addr2line_units.specs.Common.{Error, ◌>>=◌, Section, UnitHeaderFields, Sections, UnitRecord, unit_record_of, all_headers, Scope}
 use Rattle.gimli.specs.declared.unit.DwoId.{DwoId}
-use Rattle.gimli.specs.Header.{UnitHeaderFields}
-use Rattle.gimli.specs.Sections.{Sections}
 use Rattle.gimli.specs.Split.{dwo_name_of, relocated}
-use Rattle.gimli.specs.Unit.{UnitRecord, unit_record_of}
 use Rattle.gimli.specs.UnitMemory.{unit_takes_memory}
-use Rattle.gimli.specs.UnitsLeft.{all_headers}
 use Rattle.addr2line_lines.specs.FileTexts.{optional_string}
-use Rattle.addr2line_lines.specs.References.{Scope}
 
 -- of each unit the first answer to its load, none before it has one: the sections of its split
 -- file, or none

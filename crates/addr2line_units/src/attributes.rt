@@ -1,7 +1,7 @@
 //! What the root entry of a unit says for lookups.
 
 ghost use Rattle.std.specs.Prelude.{◌≡◌};
-ghost use Rattle.gimli_read.specs.Reading.{ExactlyUnlessOomIf};
+ghost use Rattle.addr2line_units.specs.Common.{ExactlyUnlessOomIf};
 ghost use Rattle.addr2line_units.specs.UnitAttributes.{language_after, language_of_number, no_unit_attributes, unit_attributes};
 
 use addr2line_lines::RangeAttributes;

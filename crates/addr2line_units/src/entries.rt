@@ -2,13 +2,8 @@
 
 ghost use Rattle.std.specs.Prelude.{◌≡◌, ◌≢◌, ◌&&◌, ℕ, Err, IfErr, IfOk, IfSome, Ok, OnOk, false, option_map, true, ◌≤◌, None};
 ghost use Rattle.std.specs.List.{AllByRecursion};
-ghost use Rattle.gimli_read.specs.declared.error.Error.TheVariants.{OutOfMemory};
-ghost use Rattle.gimli_read.specs.Reading.{ExactlyUnlessOomIf, ExactlyUnlessOom, WasNotRefused};
+ghost use Rattle.addr2line_units.specs.Common.{OutOfMemory, ExactlyUnlessOomIf, ExactlyUnlessOom, WasNotRefused, functions_of, functions_take_memory, exceeds_inline_room, IsScope, seen_scope};
 ghost use Rattle.addr2line_lines.specs.FunctionDetails.{AreUnread, HasDetail, IsTableMore};
-ghost use Rattle.addr2line_lines.specs.Functions.{functions_of, functions_take_memory};
-ghost use Rattle.addr2line_lines.specs.InlineRoom.{exceeds_inline_room};
-ghost use Rattle.addr2line_lines.specs.References.{IsScope};
-ghost use Rattle.addr2line_lines.specs.SeenScope.{seen_scope};
 ghost use Rattle.addr2line_units.specs.Frames.{function_at};
 ghost use Rattle.addr2line_units.specs.FunctionParses.{IsReadyFor};
 ghost use Rattle.addr2line_units.specs.CachedFunctions.{AreFunctionsOf, ArePlacesIn, IsTableOf, ReadsNoOther, StayFunctions, cached_inlined_at, find_takes_memory, found_in_cache, function_of_place, functions_fault, cached_has_function, has_table, cached_functions, reading_takes_memory, table_takes_memory, were_read};

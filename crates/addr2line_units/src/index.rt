@@ -4,9 +4,7 @@
 ghost use Rattle.std.specs.Prelude.{◌≡◌, ◌++◌, [], true, IfErr, IsOk, OnOk, filter, length, nat_lt, Ok, min};
 ghost use Rattle.std.specs.List.{AllByRecursion};
 ghost use Rattle.std.specs.Iterator.{YieldsFirst, item_count};
-ghost use Rattle.gimli_read.specs.declared.error.Error.TheVariants.{OutOfMemory};
-ghost use Rattle.gimli_read.specs.Costed.{ExactlyAtCost};
-ghost use Rattle.gimli_read.specs.Reading.{ExactlyUnlessOomIf};
+ghost use Rattle.addr2line_units.specs.Common.{OutOfMemory, ExactlyAtCost, ExactlyUnlessOomIf};
 ghost use Rattle.addr2line_units.specs.Indexed.{aranges_read};
 ghost use Rattle.addr2line_lines.specs.InOrder.{in_order};
 ghost use Rattle.addr2line_lines.specs.LastAddress.{last_address};

@@ -5,7 +5,7 @@ ghost use Rattle.std.specs.Char.{is_ascii};
 ghost use Rattle.std.specs.List.{list_all};
 ghost use Rattle.std.specs.Cow.{cow_str_bytes};
 ghost use Rattle.gimli_read.specs.declared.constants.TheConstants.DwLang.{DW_LANG_Rust};
-ghost use Rattle.gimli_read.specs.declared.error.Error.TheVariants.{OutOfMemory};
+ghost use Rattle.addr2line_units.specs.Common.{OutOfMemory};
 ghost use Rattle.addr2line_units.specs.LegacyElements.{is_hash};
 ghost use Rattle.addr2line_units.specs.LegacyName.{is_llvm_byte, is_suffix, is_suffix_byte};
 ghost use Rattle.addr2line_units.specs.LegacyText.{ascii_front, element_at, elements_at, elements_text, legacy_text, suffix_at, without_llvm, without_prefix, demangled, demangled_auto};

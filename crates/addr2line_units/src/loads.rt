@@ -2,9 +2,7 @@
 
 ghost use Rattle.std.specs.Prelude.{◌≡◌, Err, IfErr, IfOk, None, OnOk, Ok, Some, false, is_some, option_map, true, ◌⊎◌, ◌++◌, ◌<◌, IsOk, length, not};
 ghost use Rattle.std.specs.Option.{option_to_list};
-ghost use Rattle.gimli_read.specs.declared.error.Error.TheVariants.{OutOfMemory};
-ghost use Rattle.gimli_read.specs.Reading.{IsUnlessOom};
-ghost use Rattle.addr2line_lines.specs.SeenScope.{seen_scope};
+ghost use Rattle.addr2line_units.specs.Common.{OutOfMemory, IsUnlessOom, seen_scope};
 ghost use Rattle.addr2line_units.specs.CachedEntries.{AreEntriesOf, StayEntries, first_answer_of};
 ghost use Rattle.addr2line_units.specs.CachedFunctions.{were_read};
 ghost use Rattle.addr2line_units.specs.CachedViews.{IsViewOf, is_decided, waits};

@@ -2,10 +2,7 @@
 //! that a range of addresses meets.
 
 ghost use Rattle.std.specs.Prelude.{◌≡◌, false, true, Err, IfErr, IfOk, IfSome, Ok, option_map, slice_get};
-ghost use Rattle.gimli_read.specs.declared.error.Error.TheVariants.{OutOfMemory};
-ghost use Rattle.gimli_read.specs.Reading.{ExactlyUnlessOom, IsUnlessOom, fault_of, result_map};
-ghost use Rattle.addr2line_lines.specs.Location.{location_of_row};
-ghost use Rattle.addr2line_lines.specs.SeenLocation.{seen_location};
+ghost use Rattle.addr2line_units.specs.Common.{OutOfMemory, ExactlyUnlessOom, IsUnlessOom, fault_of, result_map, location_of_row, seen_location};
 ghost use Rattle.addr2line_lines.specs.RangesLeft.{located_rows_left, seen_located};
 ghost use Rattle.addr2line_units.specs.AskMemory.{lines_of_take_memory};
 ghost use Rattle.addr2line_units.specs.AskedUnits.{AfterCachingAt, AfterRowAt, CountsUnits};

@@ -1,9 +1,7 @@
 //! Parses of the functions of all units.
 
 ghost use Rattle.std.specs.Prelude.{◌≡◌, Err, IfErr, Ok, true};
-ghost use Rattle.gimli_read.specs.Reading.{IsUnlessOom};
-ghost use Rattle.addr2line_lines.specs.References.{IsScope};
-ghost use Rattle.addr2line_lines.specs.SeenScope.{seen_scope};
+ghost use Rattle.addr2line_units.specs.Common.{IsUnlessOom, IsScope, seen_scope};
 ghost use Rattle.addr2line_units.specs.declared.parses.ReadingDepth.TheVariants.{Functions};
 ghost use Rattle.addr2line_units.specs.AfterParses.{AfterReadingAt, AfterReadingFunctions, AfterReadingUnit, AfterReadingView};
 ghost use Rattle.addr2line_units.specs.AfterUnits.{AfterReading};

@@ -1,10 +1,7 @@
 //! The units of a supplementary file.
 
 ghost use Rattle.std.specs.Prelude.{◌≡◌, ◌++◌, [], IfErr, IfOk, None, Ok, option_map};
-ghost use Rattle.gimli_read.specs.declared.error.Error.TheVariants.{OutOfMemory};
-ghost use Rattle.gimli_read.specs.Costed.{ExactlyAtCost};
-ghost use Rattle.gimli_read.specs.Reading.{ExactlyUnlessOomIf};
-ghost use Rattle.gimli.specs.UnitsLeft.{all_headers};
+ghost use Rattle.addr2line_units.specs.Common.{OutOfMemory, ExactlyAtCost, ExactlyUnlessOomIf, all_headers};
 ghost use Rattle.addr2line_units.specs.UnitIndex.{sup_sections, sup_unit_of_header, sup_read};
 ghost use Rattle.addr2line_units.specs.HeaderUnits.{put_to, units_of};
 

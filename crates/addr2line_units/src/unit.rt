@@ -2,13 +2,7 @@
 //! entries are read that say what stands at an address.
 
 ghost use Rattle.std.specs.Prelude.{◌≡◌, ◌≢◌, ◌+◌, ◌<◌, ◌≤◌, true, false, not, map, Ok, Err, OnOk, OnErr, IfOk, IfErr, IfSome, IsOk, is_some, length, nat_lt, option_map, None, Some};
-ghost use Rattle.gimli_read.specs.Reading.{Exactly, ExactlyUnlessOom, ExactlyUnlessOomIf, WasNotRefused};
-ghost use Rattle.gimli_read.specs.declared.error.Error.TheVariants.{OutOfMemory};
-ghost use Rattle.gimli.specs.Sections.{Sections};
-ghost use Rattle.gimli.specs.Unit.{UnitRecord};
-ghost use Rattle.addr2line_lines.specs.Location.{location_of_row};
-ghost use Rattle.addr2line_lines.specs.References.{IsScope};
-ghost use Rattle.addr2line_lines.specs.SeenScope.{seen_scope};
+ghost use Rattle.addr2line_units.specs.Common.{Exactly, ExactlyUnlessOom, ExactlyUnlessOomIf, WasNotRefused, OutOfMemory, Sections, UnitRecord, location_of_row, IsScope, seen_scope};
 ghost use Rattle.addr2line_units.specs.RangedUnits.{is_partial, is_type_unit, listed_in_unit, listed_unit_ranges, has_lines, asks_lines, ranged_unit, unit_ranges};
 ghost use Rattle.addr2line_units.specs.AskMemory.{lines_take_memory};
 ghost use Rattle.addr2line_units.specs.Located.{is_found, location_in, looks_in};

@@ -1,10 +1,7 @@
 //! The units of a context, and the ranges that lead to them.
 
 ghost use Rattle.std.specs.Prelude.{◌≡◌, ◌++◌, [], ◌∷◌, IfErr, IfOk, IfSome, IsOk, OnOk, map, option_map};
-ghost use Rattle.gimli_read.specs.declared.error.Error.TheVariants.{OutOfMemory};
-ghost use Rattle.gimli_read.specs.Costed.{ExactlyAtCost};
-ghost use Rattle.gimli_read.specs.Reading.{ExactlyUnlessOomIf};
-ghost use Rattle.addr2line_lines.specs.SeenScope.{seen_scope};
+ghost use Rattle.addr2line_units.specs.Common.{OutOfMemory, ExactlyAtCost, ExactlyUnlessOomIf, seen_scope};
 ghost use Rattle.addr2line_units.specs.CachedLines.{HaveLinesOf, IsUnparsed};
 ghost use Rattle.addr2line_units.specs.CachedUnits.{AreFreshOf};
 ghost use Rattle.addr2line_units.specs.Indexed.{appended, context_takes_memory, index_seen, index_read, indexed_with, no_index, ranged_seen, units_seen, with_header};

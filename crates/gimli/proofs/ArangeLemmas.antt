@@ -1,17 +1,8 @@
 -- Sets of address ranges and their pairs (on specs/Aranges.antt).
-use Rattle.std.proofs.Common.{◌≡◌, ℕ, ◌*◌, ◌<◌, Bool, true, false, cond, List, [], ◌∷◌, length, filter_map, Option, Some, None, IfOk, IfSome, Ok, Err, ltb, refl, ap, sym, ◌∙◌, arith, length-drop}
-use Rattle.std.proofs.lemmas.Bool.Decides.{nat_tests}
-use Rattle.gimli_read.specs.declared.error.Error.{Error}
+use Rattle.gimli.proofs.Common.{◌≡◌, ℕ, ◌*◌, ◌<◌, Bool, true, false, cond, List, [], ◌∷◌, length, filter_map, Option, Some, None, IfOk, IfSome, Ok, Err, ltb, refl, ap, sym, ◌∙◌, arith, length-drop, nat_tests, Error, Section, after, Reading, ◌>>=◌, is_address_size, address_at, Run, next_of, continued, run_of, Shorter, shorter_bind, shorter_then, shorter_ok, initial_length-shorter, split-shorter, TakesBytes, address-shorter, end_is_none, same_rest, ArangeSet, arange_set_at, next_set_at, arange_sets_of, next_pair_at, arange_of, aranges_of}
 use Rattle.gimli_read.specs.declared.range.Range.{Range}
-use Rattle.gimli_read.specs.Section.{Section, after}
-use Rattle.gimli_read.specs.Reading.{Reading, ◌>>=◌}
-use Rattle.gimli_read.specs.Number.{is_address_size, address_at}
-use Rattle.gimli_read.specs.Run.{Run, next_of, continued, run_of}
 use Rattle.gimli_read.specs.Yields.{next_given}
-use Rattle.gimli_read.proofs.Shorter.{Shorter, shorter_bind, shorter_then, shorter_ok, initial_length-shorter, split-shorter, TakesBytes, address-shorter}
 use Rattle.gimli_read.proofs.RunLemmas.{run_of-step}
-use Rattle.gimli_read.proofs.Steps.{end_is_none, same_rest}
-use Rattle.gimli.specs.Aranges.{ArangeSet, arange_set_at, next_set_at, arange_sets_of, next_pair_at, arange_of, aranges_of}
 use Rattle.gimli.proofs.UpToEnd.{end_gives, end_refuses, end_is_empty}
 
 set_shorter : (s : Section) → Shorter (length s.bytes) (arange_set_at s)

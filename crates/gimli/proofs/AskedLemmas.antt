@@ -1,7 +1,5 @@
 -- One answer of a caller's function before those after it (on specs/Asked.antt).
-use Rattle.std.proofs.Common.{◌≡◌, List, [], ◌∷◌, Result, Ok, Err, refl}
-use Rattle.gimli_read.specs.Section.{Section}
-use Rattle.gimli_read.specs.Reading.{◌>>=◌}
+use Rattle.gimli.proofs.Common.{◌≡◌, List, [], ◌∷◌, Result, Ok, Err, refl, Section, ◌>>=◌}
 use Rattle.gimli.specs.declared.load.SectionId.{SectionId}
 use Rattle.gimli.specs.Asked.{Asked}
 

@@ -1,20 +1,9 @@
 -- What a cache of tables finds, and units by it (on specs/CachedTables.antt).
-use Rattle.std.proofs.Common.{◌≡◌, ◌≢◌, ℕ, Bool, true, false, cond, List, Option, Some, is_some, is_ok, Result, Ok, Err, refl, ap, sym, ◌∙◌}
-use Rattle.std.specs.List.{list_any}
+use Rattle.gimli.proofs.Common.{◌≡◌, ◌≢◌, ℕ, Bool, true, false, cond, List, Option, Some, is_some, is_ok, Result, Ok, Err, refl, ap, sym, ◌∙◌, list_any, Error, OutOfMemory, Section, ◌>>=◌, ExactlyUnlessOomIf, Abbrev, given_as, UnitHeaderFields, from_offset, UnitRecord, table_from, unit_by, unit_record_of, CachedTables, is_cached, cached_unit_takes_memory}
 use Rattle.std.specs.Ordering.{nat_cmp}
 use Rattle.std.specs.BTreeMap.{BTreeMap, get, keys, is_at}
 use Rattle.std.proofs.lemmas.Map.Made.{is_some-lookup}
-use Rattle.gimli_read.specs.declared.error.Error.{Error}
-use Rattle.gimli_read.specs.declared.error.Error.TheVariants.{OutOfMemory}
-use Rattle.gimli_read.specs.Section.{Section}
-use Rattle.gimli_read.specs.Reading.{◌>>=◌, ExactlyUnlessOomIf}
-use Rattle.gimli_read.specs.Abbreviations.{Abbrev}
-use Rattle.gimli_read.proofs.Steps.{given_as}
 use Rattle.gimli_read.specs.Abbrev.{table_at}
-use Rattle.gimli.specs.Header.{UnitHeaderFields}
-use Rattle.gimli.specs.Text.{from_offset}
-use Rattle.gimli.specs.Unit.{UnitRecord, table_from, unit_by, unit_record_of}
-use Rattle.gimli.specs.CachedTables.{CachedTables, is_cached, cached_unit_takes_memory}
 
 -- a table is found where its offset is among the keys
 pub found_is_cached : {T : Type 0} (tables : BTreeMap ℕ T) (cache : CachedTables) (offset : ℕ) → keys tables ≡ cache.offsets → is_some (get nat_cmp tables offset) ≡ is_cached offset cache

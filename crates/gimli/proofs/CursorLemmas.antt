@@ -1,15 +1,5 @@
 -- What is read at a place is what is read of its bytes, at its depth (on specs/EntryCursor.antt).
-use Rattle.std.proofs.Common.{◌≡◌, ℕ, ◌==◌, Bool, true, false, cond, List, length, Option, Some, None, Result, Ok, Err, refl, sym, ap, ◌∙◌, ℤ}
-use Rattle.gimli_read.specs.declared.error.Error.{Error}
-use Rattle.gimli_read.specs.declared.error.Error.TheVariants.{UnknownAbbreviation}
-use Rattle.gimli_read.specs.Section.{Section}
-use Rattle.gimli_read.specs.Reading.{Reading, ◌>>=◌}
-use Rattle.gimli_read.specs.Leb128.{uleb128_at}
-use Rattle.gimli_read.specs.Abbreviations.{Abbrev, with_code}
-use Rattle.gimli_read.specs.Form.{NamedValue, attributes_at}
-use Rattle.gimli.specs.Entry.{EntryUnit, depth_after_entry, depth_after_closing, entry_code_at, known_abbreviation}
-use Rattle.gimli.specs.EntryCursor.{EntryCursor, depth_after_code, depth_after_next, entry_abbreviation_at, next_item_at, next_offset_of}
-use Rattle.gimli.specs.Items.{Entry, Item, entry_of_code, item_at}
+use Rattle.gimli.proofs.Common.{◌≡◌, ℕ, ◌==◌, Bool, true, false, cond, List, length, Option, Some, None, Result, Ok, Err, refl, sym, ap, ◌∙◌, ℤ, Error, UnknownAbbreviation, Section, Reading, ◌>>=◌, uleb128_at, Abbrev, with_code, NamedValue, attributes_at, EntryUnit, depth_after_entry, depth_after_closing, entry_code_at, known_abbreviation, EntryCursor, depth_after_code, depth_after_next, entry_abbreviation_at, next_item_at, next_offset_of, Entry, Item, entry_of_code, item_at}
 
 -- the abbreviation of a code, where the table has it, and the place after it
 abbrev pub opening_entry : Option Abbrev → EntryCursor → Result (Option Abbrev × EntryCursor) Error

@@ -1,27 +1,14 @@
 -- Each level of depth took a byte of the unit (on specs/Entry.antt).
-use Rattle.std.proofs.Common.{◌≡◌, ℕ, zero, suc, ◌+◌, ◌^◌, ◌<◌, ◌≤◌, ◌++◌, ◌==◌, Bool, true, false, cond, List, [], ◌∷◌, Option, Some, None, IfOk, length, Result, Ok, Err, refl, ap, sym, ◌∙◌, arith, ℤ, pos, negsuc, ◌+ℤ◌, FitsSigned, w64, length-append}
-use Rattle.std.specs.Prelude.{unsigned_abs}
-use Rattle.std.proofs.lemmas.Bool.{eqb-true}
+use Rattle.gimli.proofs.Common.{◌≡◌, ℕ, zero, suc, ◌+◌, ◌^◌, ◌<◌, ◌≤◌, ◌++◌, ◌==◌, Bool, true, false, cond, List, [], ◌∷◌, Option, Some, None, IfOk, length, Result, Ok, Err, refl, ap, sym, ◌∙◌, arith, ℤ, pos, negsuc, ◌+ℤ◌, FitsSigned, w64, length-append, unsigned_abs, eqb-true, IfOk-at_ok, Encoding, Error, Abbrev, Specification, with_code, Section, Exactly, Reading, ◌>>=◌, uleb128_at, NamedValue, attribute_at, rest_of, Shorter, shorter_at, uleb128-shorter, skipped_at, depth_after_entry, depth_after_closing, EntryCursor, IsInUnit, entry_abbreviation_at}
 use Rattle.std.proofs.lemmas.Grind.{common_steps}
-use Rattle.std.proofs.lemmas.Result.{IfOk-at_ok}
 use Rattle.std.proofs.lemmas.Int.{fits_signed_from_abs}
-use Rattle.gimli_read.specs.declared.endian.Encoding.{Encoding}
-use Rattle.gimli_read.specs.declared.error.Error.{Error}
-use Rattle.gimli_read.specs.Abbreviations.{Abbrev, Specification, with_code}
-use Rattle.gimli_read.specs.Section.{Section}
-use Rattle.gimli_read.specs.Reading.{Exactly, Reading, ◌>>=◌}
-use Rattle.gimli_read.specs.Leb128.{uleb128_at}
-use Rattle.gimli_read.specs.Form.{NamedValue, attribute_at, rest_of}
 use Rattle.gimli_read.specs.NumberValue.{implicit_number, is_number_form, number_at, number_if}
 use Rattle.gimli_read.specs.declared.constants.TheConstants.DwForm.{DW_FORM_implicit_const}
 use Rattle.gimli_read.specs.declared.number_value.NumberValue.{NumberValue}
-use Rattle.gimli_read.proofs.Shorter.{Shorter, shorter_at, uleb128-shorter}
-use Rattle.gimli_read.specs.Number.{skipped_at}
 use Rattle.gimli_read.specs.ValueSize.{attribute_size}
 use Rattle.gimli_read.proofs.AttributeTexts.{attribute_alone}
 use Rattle.gimli_read.proofs.SizeLemmas.{attribute_leaves_size}
-use Rattle.gimli.specs.Entry.{attributes_at, depth_after_entry, depth_after_closing}
-use Rattle.gimli.specs.EntryCursor.{EntryCursor, IsInUnit, entry_abbreviation_at}
+use Rattle.gimli.specs.Entry.{attributes_at}
 use Rattle.gimli.proofs.CursorLemmas.{abbreviation_is, opening_entry}
 
 -- a code takes a byte at least

@@ -1,21 +1,8 @@
 -- Nothing that units, entries, strings, addresses and ranges give is OutOfMemory (on the specs of this crate).
-use Rattle.std.proofs.Common.{ℕ, zero, suc, ◌+◌, ◌-◌, ◌*◌, ◌==◌, not, Bool, true, false, cond, List, [], ◌∷◌, length, Option, Some, None, Result, Ok, Err, nat_lt, ℤ, pos, int_lt, IfOk}
+use Rattle.gimli.proofs.Common.{ℕ, zero, suc, ◌+◌, ◌-◌, ◌*◌, ◌==◌, not, Bool, true, false, cond, List, [], ◌∷◌, length, Option, Some, None, Result, Ok, Err, nat_lt, ℤ, pos, int_lt, IfOk, Encoding, Format, Error, UnexpectedEof, OffsetOutOfBounds, ExpectedString, NoSupplementary, UnknownVersion, UnknownUnitType, UnknownAbbreviation, MissingUnitDie, UnknownRangeListEntry, UnsupportedAddressSize, UnsupportedSegmentSize, AttributeValue, Section, after, is_unknown, is_before_5, Reading, ◌>>=◌, refused_if, address_at, fits_u64, is_address_size, offset_size, uleb128_at, Run, cons, run_of, NamedValue, Abbrev, with_code, Sections, SupSections, taken_in, from_offset, string_at, string_length_at, indexed_number, indexed_string, sup_string_at, string_of, UnitHeaderFields, unit_type_of, unit_type_at, dwo_id_at, signature_at, type_fields_at, fields_5_at, fields_4_at, header_fields_at, unit_header_at, next_header_at, headers_left, all_headers, EntryUnit, known_abbreviation, entry_code_at, root_specifications, root_attributes, EntryCursor, entry_abbreviation_at, next_item_at, entries_from, Item, depth_after, entry_of_code, entry_at, item_at, items_after, items_within, items_from, items_of, items_at, items_inside, subtree_of, UnitRecord, address_from, low_pc_of, line_program_of, completed_record, unit_by, table_from, unit_record_of, attr_string_of, arange_fields_at, arange_set_at, next_set_at, arange_sets_of, next_pair_at, pair_size, indexed_address, range_of_entry, with_range_first, ranges_of_entries, ranges_from, range_lists_of, ranges_at}
 use Rattle.gimli_read.specs.declared.constants.TheConstants.{CLOSING_CODE}
-use Rattle.gimli_read.specs.declared.endian.Encoding.{Encoding}
-use Rattle.gimli_read.specs.declared.endian.Format.{Format}
-use Rattle.gimli_read.specs.declared.error.Error.{Error}
-use Rattle.gimli_read.specs.declared.error.Error.TheVariants.{UnexpectedEof, OffsetOutOfBounds, ExpectedString, NoSupplementary, UnknownVersion, UnknownUnitType, UnknownAbbreviation, MissingUnitDie, UnknownRangeListEntry, UnsupportedAddressSize, UnsupportedSegmentSize}
 use Rattle.gimli_read.specs.declared.range.Range.{Range}
-use Rattle.gimli_read.specs.declared.value.AttributeValue.{AttributeValue}
 use Rattle.gimli_read.specs.declared.value.AttributeValue.TheVariants as values
-use Rattle.gimli_read.specs.Section.{Section, after}
-use Rattle.gimli_read.specs.Version.{is_unknown, is_before_5}
-use Rattle.gimli_read.specs.Reading.{Reading, ◌>>=◌, refused_if}
-use Rattle.gimli_read.specs.Number.{address_at, fits_u64, is_address_size, offset_size}
-use Rattle.gimli_read.specs.Leb128.{uleb128_at}
-use Rattle.gimli_read.specs.Run.{Run, cons, run_of}
-use Rattle.gimli_read.specs.Form.{NamedValue}
-use Rattle.gimli_read.specs.Abbreviations.{Abbrev, with_code}
 use Rattle.gimli_read.specs.FaultLaws.{NoneWasRefused}
 use Rattle.gimli_read.proofs.FaultLemmas.{IsByBytes, AreByBytes, step, either, value, fault, test, ends, moved_fault, mapped_is, fault_of_is, fold_is, skipped_is, split_is, fixed_is, address_size_is, address_is, offset_is, null_terminated_is, initial_length_is, uleb128_is, attributes_are, table_is, run_of_is, listed_are, none_refused}
 use Rattle.gimli_line.proofs.FaultLemmas.{line_program_is}
@@ -26,22 +13,11 @@ use Rattle.gimli.specs.declared.rnglists.RangeListEntry.{RangeListEntry}
 use Rattle.gimli.specs.declared.rnglists.RangeListEntry.TheVariants.{BaseAddressx, StartxEndx, StartxLength, OffsetPair, BaseAddress, StartEnd, StartLength}
 use Rattle.gimli.specs.declared.unit.UnitType.{UnitType}
 use Rattle.gimli.specs.declared.unit.UnitType.TheVariants.{Compile, TypeUnit, Partial, Skeleton, SplitCompile, SplitType}
-use Rattle.gimli.specs.Sections.{Sections, SupSections}
-use Rattle.gimli.specs.TakenAttributes.{taken_in}
-use Rattle.gimli.specs.Text.{from_offset, string_at, string_length_at, indexed_number, indexed_string, sup_string_at, string_of}
 use Rattle.gimli.specs.StringPlaces.{sup_strings, string_place_of}
-use Rattle.gimli.specs.Header.{UnitHeaderFields, unit_type_of, unit_type_at, dwo_id_at, signature_at, type_fields_at, fields_5_at, fields_4_at, header_fields_at, unit_header_at, next_header_at}
-use Rattle.gimli.specs.UnitsLeft.{headers_left, all_headers}
-use Rattle.gimli.specs.Entry.{EntryUnit, known_abbreviation, entry_code_at, root_specifications, root_attributes}
 use Rattle.gimli.specs.Entries.{entry_bytes_from, entry_unit, root_attributes_of, unit_length}
-use Rattle.gimli.specs.EntryCursor.{EntryCursor, entry_abbreviation_at, next_item_at, entries_from}
-use Rattle.gimli.specs.Items.{Item, depth_after, entry_of_code, entry_at, item_at, items_after, items_within, items_from, items_of, items_at, items_inside, subtree_of}
 use Rattle.gimli.specs.Record.{RootValues, line_offset, root_values_of}
-use Rattle.gimli.specs.Unit.{UnitRecord, address_from, low_pc_of, line_program_of, completed_record, unit_by, table_from, unit_record_of, attr_string_of}
 use Rattle.gimli.specs.Split.{dwo_name_of, string_fault_if, dwo_name_fault}
-use Rattle.gimli.specs.Aranges.{arange_fields_at, arange_set_at, next_set_at, arange_sets_of, next_pair_at, pair_size}
 use Rattle.gimli.specs.RangeListEntries.{entry_of_two, rnglists_fields_at, rnglists_entry_at, ranges_entry_at, range_list_entry_at, range_list_entries}
-use Rattle.gimli.specs.Ranges.{indexed_address, range_of_entry, with_range_first, ranges_of_entries, ranges_from, range_lists_of, ranges_at}
 use Rattle.gimli.specs.RangesOffset.{offset_from_base, ranges_base, rnglists_offset, offset_with_base, ranges_offset_of}
 
 -- an offset past the section's end, or an entry of a table there

@@ -1,22 +1,8 @@
 -- A unit's header and its entries are the bytes at the front of the section (on specs/Header.antt).
-use Rattle.std.proofs.Common.{◌≡◌, ℕ, ◌+◌, ◌-◌, ◌≤◌, Bool, true, false, cond, not, List, length, take, drop, Option, Some, None, IfOk, Result, Ok, Err, ap, sym, refl, ◌∙◌, arith, ltb, nat_lt, length-drop}
-use Rattle.std.proofs.lemmas.List.{drop-drop, drop-take, length-take-le}
-use Rattle.std.proofs.lemmas.Bool.Decides.{nat_tests}
-use Rattle.std.proofs.lemmas.Result.{IfOk-at_ok}
-use Rattle.gimli_read.specs.declared.error.Error.{Error}
-use Rattle.gimli_read.specs.declared.error.Error.TheVariants.{UnexpectedEof, UnsupportedAddressSize, UnknownVersion}
-use Rattle.gimli_read.specs.declared.endian.Format.{Format}
+use Rattle.gimli.proofs.Common.{◌≡◌, ℕ, ◌+◌, ◌-◌, ◌≤◌, Bool, true, false, cond, not, List, length, take, drop, Option, Some, None, IfOk, Result, Ok, Err, ap, sym, refl, ◌∙◌, arith, ltb, nat_lt, length-drop, drop-drop, drop-take, length-take-le, nat_tests, IfOk-at_ok, Error, UnexpectedEof, UnsupportedAddressSize, UnknownVersion, Format, Section, first, after, is_unknown, is_before_5, Reading, ◌>>=◌, refused_if, number_of, is_address_size, address_size_at, fixed_at, offset_at, skipped_at, split_at, long_length_at, initial_length_at, UnitHeaderFields, unit_type_of, unit_type_at, dwo_id_at, signature_at, type_fields_at, fields_4_at, fields_5_at, header_fields_at, unit_header_at, next_header_at, gives_header, done, guard_ok, ne_eqb}
 use Rattle.gimli_read.specs.declared.endian.Format.TheVariants.{Dwarf32, Dwarf64}
-use Rattle.gimli_read.specs.Section.{Section, first, after}
-use Rattle.gimli_read.specs.Version.{is_unknown, is_before_5}
-use Rattle.gimli_read.specs.Reading.{Reading, ◌>>=◌, refused_if}
-use Rattle.gimli_read.specs.Number.{number_of, is_address_size, address_size_at, fixed_at, offset_at, skipped_at, split_at, long_length_at, initial_length_at}
 use Rattle.gimli.specs.declared.unit.UnitType.{UnitType}
 use Rattle.gimli.specs.declared.unit.UnitType.TheVariants.{Compile, TypeUnit, Partial, Skeleton, SplitCompile, SplitType}
-use Rattle.gimli.specs.Header.{UnitHeaderFields, unit_type_of, unit_type_at, dwo_id_at, signature_at, type_fields_at, fields_4_at, fields_5_at, header_fields_at, unit_header_at, next_header_at}
-use Rattle.gimli.specs.UnitsLeft.{gives_header}
-use Rattle.gimli_read.proofs.Steps.{done, guard_ok}
-use Rattle.std.proofs.lemmas.Bool.{ne_eqb}
 
 -- the second section is what follows some bytes of the first
 pub record Follows (s t : Section) : Type 0 where

@@ -1,13 +1,7 @@
 -- A unit's header takes a byte at least (on specs/Header.antt).
-use Rattle.std.proofs.Common.{◌≡◌, ℕ, [], length, Option, Ok, Err, refl, ap, arith}
-use Rattle.gimli_read.specs.declared.error.Error.{Error}
-use Rattle.gimli_read.specs.Section.{Section}
-use Rattle.gimli_read.specs.Reading.{Reading}
+use Rattle.gimli.proofs.Common.{◌≡◌, ℕ, [], length, Option, Ok, Err, refl, ap, arith, Error, Section, Reading, Shorter, shorter_bind, shorter_then, shorter_ok, initial_length-shorter, split-shorter, UnitHeaderFields, unit_header_at, next_header_at, headers_left, gives_header}
 use Rattle.gimli_read.specs.Yields.{next_given}
-use Rattle.gimli_read.proofs.Shorter.{Shorter, shorter_bind, shorter_then, shorter_ok, initial_length-shorter, split-shorter}
 use Rattle.gimli.proofs.UpToEnd.{end_gives, end_refuses, end_is_empty}
-use Rattle.gimli.specs.Header.{UnitHeaderFields, unit_header_at, next_header_at}
-use Rattle.gimli.specs.UnitsLeft.{headers_left, gives_header}
 
 header_shorter : (section_length : ℕ) (s : Section) → Shorter (length s.bytes) (unit_header_at section_length s)
 unfolding unit_header_at

@@ -1,10 +1,6 @@
 -- The units of a section stand one after another (on specs/HeaderOrder.antt).
-use Rattle.std.proofs.Common.{ℕ, zero, suc, ◌≡◌, ◌+◌, ◌-◌, ◌≤◌, List, [], ◌∷◌, length, drop, Option, Some, None, IfOk, Result, Ok, Err, arith, refl, ap, length-drop}
-use Rattle.gimli_read.specs.declared.error.Error.{Error}
-use Rattle.gimli_read.specs.Section.{Section}
-use Rattle.gimli_read.specs.Run.{continued, listed, listed_with, next_of, run_within}
+use Rattle.gimli.proofs.Common.{ℕ, zero, suc, ◌≡◌, ◌+◌, ◌-◌, ◌≤◌, List, [], ◌∷◌, length, drop, Option, Some, None, IfOk, Result, Ok, Err, arith, refl, ap, length-drop, Error, Section, continued, listed, listed_with, next_of, run_within, UnitHeaderFields, next_header_at}
 use Rattle.gimli.specs.Entries.{unit_length}
-use Rattle.gimli.specs.Header.{UnitHeaderFields, next_header_at}
 use Rattle.gimli.specs.HeaderOrder.{AreHeadersInOrder, BeginFrom, HeadersInOrder}
 use Rattle.gimli.proofs.UnitTexts.{IsNextUnit, IsUnitAt, headers_within, next_unit}
 

@@ -1,21 +1,8 @@
 -- Items, one at a time, and subtrees (on specs/Items.antt).
-use Rattle.std.proofs.Common.{◌≡◌, ℕ, zero, suc, ◌+◌, ◌==◌, Bool, true, false, cond, List, [], length, IfOk, Option, Some, None, Result, Ok, Err, refl, sym, ap, subst, arith, ℤ}
-use Rattle.std.specs.Prelude.{int_lt, ◌<ℤ◌}
-use Rattle.std.specs.List.{AllByRecursion}
+use Rattle.gimli.proofs.Common.{◌≡◌, ℕ, zero, suc, ◌+◌, ◌==◌, Bool, true, false, cond, List, [], length, IfOk, Option, Some, None, Result, Ok, Err, refl, sym, ap, subst, arith, ℤ, ◌<ℤ◌, AllByRecursion, Error, UnexpectedEof, Section, Reading, ◌>>=◌, uleb128_at, Abbrev, with_code, NamedValue, attributes_at, Run, cons, EntryUnit, depth_after_entry, depth_after_closing, Item, depth_after, item_at, items_after, items_inside, items_within, EntryCursor, entry_abbreviation_at, next_item_at, SubtreesLieDeeper}
+use Rattle.std.specs.Prelude.{int_lt}
 use Rattle.std.proofs.lemmas.Int.{ints}
-use Rattle.gimli_read.specs.declared.error.Error.{Error}
-use Rattle.gimli_read.specs.declared.error.Error.TheVariants.{UnexpectedEof}
-use Rattle.gimli_read.specs.Section.{Section}
-use Rattle.gimli_read.specs.Reading.{Reading, ◌>>=◌}
-use Rattle.gimli_read.specs.Leb128.{uleb128_at}
-use Rattle.gimli_read.specs.Abbreviations.{Abbrev, with_code}
-use Rattle.gimli_read.specs.Form.{NamedValue, attributes_at}
-use Rattle.gimli_read.specs.Run.{Run, cons}
-use Rattle.gimli.specs.Entry.{EntryUnit, depth_after_entry, depth_after_closing}
-use Rattle.gimli.specs.Items.{Item, depth_after, item_at, items_after, items_inside, items_within}
-use Rattle.gimli.specs.EntryCursor.{EntryCursor, entry_abbreviation_at, next_item_at}
 use Rattle.gimli.proofs.CursorLemmas.{abbreviation_is, item_from, item_is, item_here, next_of_item, opening_entry}
-use Rattle.gimli.specs.ItemLaws.{SubtreesLieDeeper}
 
 -- an item that is read lies at the depth where it begins, and the next one at the depth after it
 pub record IsNext (start following : EntryCursor) (x : Item) : Type 0 where

@@ -1,24 +1,10 @@
 -- Each list of items whose texts are the bytes is what is read (on specs/ItemLaws.antt).
-use Rattle.std.proofs.Common.{◌≡◌, ◌≢◌, ℕ, zero, suc, add-one, ◌+◌, ◌<◌, ◌≤◌, ◌==◌, cond, List, [], ◌∷◌, ◌++◌, length, Option, Some, None, Result, Ok, Err, refl, sym, ap, subst, ◌∙◌, arith, ℤ, length-append, append_assoc}
-use Rattle.std.specs.Prelude.{IsOk}
-use Rattle.std.proofs.lemmas.Bool.{ne_eqb}
-use Rattle.gimli_read.specs.declared.error.Error.{Error}
+use Rattle.gimli.proofs.Common.{◌≡◌, ◌≢◌, ℕ, zero, suc, add-one, ◌+◌, ◌<◌, ◌≤◌, ◌==◌, cond, List, [], ◌∷◌, ◌++◌, length, Option, Some, None, Result, Ok, Err, refl, sym, ap, subst, ◌∙◌, arith, ℤ, length-append, append_assoc, IsOk, ne_eqb, Error, Encoding, Section, Reading, ◌>>=◌, IsUleb128, uleb128_at, Abbrev, Specification, with_code, NamedValue, attribute_at, attributes_at, Run, cons, EntryUnit, depth_after_entry, depth_after_closing, Entry, Item, depth_after, depth_behind, item_at, items_after, items_from, items_within, EntryCursor, entry_abbreviation_at, items_left, next_item_at, next_offset_of, AreAttributes, IsEntryText, AreItems, ItemsAlone}
 use Rattle.gimli_read.specs.declared.endian.RunTimeEndian.{RunTimeEndian}
-use Rattle.gimli_read.specs.declared.endian.Encoding.{Encoding}
-use Rattle.gimli_read.specs.Section.{Section}
-use Rattle.gimli_read.specs.Reading.{Reading, ◌>>=◌}
-use Rattle.gimli_read.specs.Leb128.{IsUleb128, uleb128_at}
-use Rattle.gimli_read.specs.Abbreviations.{Abbrev, Specification, with_code}
-use Rattle.gimli_read.specs.Form.{NamedValue, attribute_at, attributes_at}
-use Rattle.gimli_read.specs.Run.{Run, cons}
 use Rattle.gimli_read.specs.Value.{section_of}
 use Rattle.gimli_read.proofs.Leb128Texts.{uleb128_reads}
 use Rattle.gimli_read.proofs.AttributeTexts.{attribute_reads}
-use Rattle.gimli.specs.Entry.{EntryUnit, depth_after_entry, depth_after_closing}
-use Rattle.gimli.specs.Items.{Entry, Item, depth_after, depth_behind, item_at, items_after, items_from, items_within}
-use Rattle.gimli.specs.EntryCursor.{EntryCursor, entry_abbreviation_at, items_left, next_item_at, next_offset_of}
 use Rattle.gimli.proofs.CursorLemmas.{abbreviation_is, item_from, item_is, item_here, item_of_next, item_refused, opening_entry}
-use Rattle.gimli.specs.ItemLaws.{AreAttributes, IsEntryText, AreItems, ItemsAlone}
 use Rattle.gimli.proofs.ItemTexts.{item_text}
 
 -- the text of an item has a byte at least

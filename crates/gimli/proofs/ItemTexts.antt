@@ -1,24 +1,10 @@
 -- The texts of items, one after another (on specs/ItemLaws.antt).
-use Rattle.std.proofs.Common.{◌≡◌, ℕ, zero, suc, ◌+◌, ◌≤◌, ◌==◌, Bool, true, false, cond, List, [], ◌∷◌, ◌++◌, length, IfOk, Option, Some, None, Result, Ok, Err, refl, sym, ap, subst, ◌∙◌, arith, length-append, append_assoc, ℤ}
-use Rattle.std.proofs.lemmas.Bool.{eqb-true, eqb-false}
-use Rattle.std.proofs.lemmas.List.{nil_from_length}
-use Rattle.gimli_read.specs.declared.error.Error.{Error}
-use Rattle.gimli_read.specs.declared.endian.Encoding.{Encoding}
-use Rattle.gimli_read.specs.Section.{Section}
-use Rattle.gimli_read.specs.Reading.{Reading, ◌>>=◌}
-use Rattle.gimli_read.specs.Leb128.{IsUleb128, uleb128_in, uleb128_at}
-use Rattle.gimli_read.specs.Abbreviations.{Abbrev, Specification, with_code}
-use Rattle.gimli_read.specs.Form.{NamedValue, attribute_at, attributes_at}
+use Rattle.gimli.proofs.Common.{◌≡◌, ℕ, zero, suc, ◌+◌, ◌≤◌, ◌==◌, Bool, true, false, cond, List, [], ◌∷◌, ◌++◌, length, IfOk, Option, Some, None, Result, Ok, Err, refl, sym, ap, subst, ◌∙◌, arith, length-append, append_assoc, ℤ, eqb-true, eqb-false, nil_from_length, Error, Encoding, Section, Reading, ◌>>=◌, IsUleb128, uleb128_in, uleb128_at, Abbrev, Specification, with_code, NamedValue, attribute_at, attributes_at, bind_ok, same_rest, same_value, EntryUnit, depth_after_entry, depth_after_closing, Item, depth_after, item_at, items_after, items_within, offset_of, EntryCursor, entry_abbreviation_at, next_item_at, next_offset_of, AreAttributes, IsEntryText, AreItems, ItemsCover}
 use Rattle.gimli_read.specs.Value.{section_of}
 use Rattle.gimli_read.specs.ValueLaws.{IsTextAndRest}
-use Rattle.gimli_read.proofs.Steps.{bind_ok, same_rest, same_value}
 use Rattle.gimli_read.proofs.Leb128Texts.{uleb128_alone}
 use Rattle.gimli_read.proofs.AttributeTexts.{attribute_alone}
-use Rattle.gimli.specs.Entry.{EntryUnit, depth_after_entry, depth_after_closing}
-use Rattle.gimli.specs.Items.{Item, depth_after, item_at, items_after, items_within, offset_of}
-use Rattle.gimli.specs.EntryCursor.{EntryCursor, entry_abbreviation_at, next_item_at, next_offset_of}
 use Rattle.gimli.proofs.CursorLemmas.{abbreviation_is, item_from, item_is, item_here, next_of_item, opening_entry}
-use Rattle.gimli.specs.ItemLaws.{AreAttributes, IsEntryText, AreItems, ItemsCover}
 
 -- the text of a code
 code_alone : (s rest : Section) (n : ℕ) → uleb128_at s ≡ Ok (n, rest) → (text : List ℕ) × IsUleb128 text n × IsTextAndRest s text rest

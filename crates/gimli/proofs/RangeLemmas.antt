@@ -1,27 +1,15 @@
 -- Range lists, one entry on (on specs/RangeListEntries.antt and specs/Ranges.antt).
-use Rattle.std.proofs.Common.{◌≡◌, ℕ, ◌+◌, ◌-◌, ◌*◌, ◌^◌, ◌%◌, ◌==◌, bit_and, true, List, [], ◌∷◌, length, Option, Some, None, Result, Ok, Err, ap, sym, ◌∙◌, arith}
+use Rattle.gimli.proofs.Common.{◌≡◌, ℕ, ◌+◌, ◌-◌, ◌*◌, ◌^◌, ◌%◌, ◌==◌, bit_and, true, List, [], ◌∷◌, length, Option, Some, None, Result, Ok, Err, ap, sym, ◌∙◌, arith, Error, Encoding, is_before_5, Section, Reading, mapped, is_address_size, address_at, uleb128_at, Run, next_of, continued, Shorter, TakesBytes, takes_by, shorter_bind, shorter_if, shorter_ok, shorter_err, fixed-shorter, uleb128-shorter, address-shorter, sum_of_size, range_of_entry, with_range_first, ranges_of_entries, ranges_from, Sections, UnitRecord}
 use Rattle.std.proofs.lemmas.Nat.{and_mask}
 use lib.Pow.{mod-mod-pow}
-use Rattle.gimli_read.specs.declared.error.Error.{Error}
-use Rattle.gimli_read.specs.declared.endian.Encoding.{Encoding}
-use Rattle.gimli_read.specs.Version.{is_before_5}
 use Rattle.gimli_read.specs.declared.range.Range.{Range}
-use Rattle.gimli_read.specs.Section.{Section}
-use Rattle.gimli_read.specs.Reading.{Reading, mapped}
-use Rattle.gimli_read.specs.Number.{is_address_size, address_at}
-use Rattle.gimli_read.specs.Leb128.{uleb128_at}
-use Rattle.gimli_read.specs.Run.{Run, next_of, continued}
 use Rattle.gimli_read.proofs.RunLemmas.{run_of-step}
-use Rattle.gimli_read.proofs.Shorter.{Shorter, TakesBytes, takes_by, shorter_bind, shorter_if, shorter_ok, shorter_err, fixed-shorter, uleb128-shorter, address-shorter}
 use Rattle.gimli.specs.declared.constants.TheConstants.{DW_RLE_end_of_list, DW_RLE_base_addressx, DW_RLE_startx_endx, DW_RLE_startx_length, DW_RLE_offset_pair, DW_RLE_base_address, DW_RLE_start_end, DW_RLE_start_length}
 use Rattle.gimli.specs.declared.rnglists.RangeListEntry.{RangeListEntry}
 use Rattle.gimli.specs.declared.rnglists.RangeListEntry.TheVariants.{BaseAddressx, StartxEndx, StartxLength, OffsetPair, BaseAddress, StartEnd, StartLength}
 use Rattle.gimli_line.specs.AddressSize.{greatest_address}
 use Rattle.gimli_line.proofs.Limits.{size_small}
 use Rattle.gimli.specs.RangeListEntries.{entry_of_two, rnglists_fields_at, rnglists_entry_at, ranges_entry_at, range_list_entry_at, range_list_entries}
-use Rattle.gimli.specs.Ranges.{sum_of_size, range_of_entry, with_range_first, ranges_of_entries, ranges_from}
-use Rattle.gimli.specs.Sections.{Sections}
-use Rattle.gimli.specs.Unit.{UnitRecord}
 
 -- a sum of 64 bits and all ones
 masked : (n j k : ℕ) → j + k ≡ 64 → bit_and (n % 2 ^ 64) (2 ^ k - 1) ≡ n % 2 ^ k

@@ -1,18 +1,9 @@
 -- The attributes of a unit's root entry (on specs/Record.antt).
-use Rattle.std.proofs.Common.{◌≡◌, ◌==◌, ◌||◌, Bool, true, false, cond, List, [], ◌∷◌, fold, Option, Some, None, Result, Ok, Err, refl, ap, sym, ◌∙◌}
-use Rattle.std.proofs.lemmas.Bool.{or_parts, or_from}
+use Rattle.gimli.proofs.Common.{◌≡◌, ◌==◌, ◌||◌, Bool, true, false, cond, List, [], ◌∷◌, fold, Option, Some, None, Result, Ok, Err, refl, ap, sym, ◌∙◌, or_parts, or_from, Error, Encoding, Abbrev, Reading, ◌>>=◌, NamedValue, constant_of, is_before_5, entry_code_at, root_attributes, root_specifications, EntryCursor, depth_after_code, entry_abbreviation_at, taken_after, taken_in}
 use Rattle.gimli_read.specs.declared.constants.TheConstants.DwAt.{DW_AT_name, DW_AT_comp_dir, DW_AT_low_pc, DW_AT_stmt_list, DW_AT_str_offsets_base, DW_AT_addr_base, DW_AT_GNU_addr_base, DW_AT_rnglists_base, DW_AT_GNU_ranges_base, DW_AT_GNU_dwo_id, DW_AT_GNU_dwo_name, DW_AT_dwo_name}
 use Rattle.std.specs.Option.{option_or}
-use Rattle.gimli_read.specs.declared.error.Error.{Error}
-use Rattle.gimli_read.specs.declared.endian.Encoding.{Encoding}
-use Rattle.gimli_read.specs.Abbreviations.{Abbrev}
-use Rattle.gimli_read.specs.Reading.{Reading, ◌>>=◌}
-use Rattle.gimli_read.specs.Form.{NamedValue, constant_of}
-use Rattle.gimli_read.specs.Version.{is_before_5}
-use Rattle.gimli.specs.Entry.{attributes_at, entry_code_at, root_attributes, root_specifications}
-use Rattle.gimli.specs.EntryCursor.{EntryCursor, depth_after_code, entry_abbreviation_at}
+use Rattle.gimli.specs.Entry.{attributes_at}
 use Rattle.gimli.specs.Record.{RootValues, address_value, dwo_name_attribute, line_offset, no_root_values, section_offset, with_root_attribute, root_values_of}
-use Rattle.gimli.specs.TakenAttributes.{taken_after, taken_in}
 use Rattle.gimli.specs.WantedAttributes.{is_root_name}
 
 -- a test that fails

@@ -1,22 +1,13 @@
 -- Attributes that are taken in one after another, or passed over (on specs/TakenAttributes.antt).
-use Rattle.std.proofs.Common.{◌≡◌, ℕ, ◌+◌, ◌<◌, ◌≤◌, ◌==◌, Bool, true, false, cond, List, drop, get_or, length, Option, Some, None, Result, Ok, Err, refl, ap, subst, sym, ◌∙◌, ℤ, pos, negsuc}
+use Rattle.gimli.proofs.Common.{◌≡◌, ℕ, ◌+◌, ◌<◌, ◌≤◌, ◌==◌, Bool, true, false, cond, List, drop, get_or, length, Option, Some, None, Result, Ok, Err, refl, ap, subst, sym, ◌∙◌, ℤ, pos, negsuc, at_drop_more, at_drop_all, Encoding, Error, Specification, NamedValue, attribute_at, attributes_at, implicit_of, named_value, rest_of, value_at, Reading, ◌>>=◌, ExactlyUnlessOomIf, Section, IsTakenIn, SaysNothingElse, or_fault, taken_after}
 use Rattle.std.specs.Result.{result_err}
-use Rattle.std.proofs.lemmas.List.{at_drop_more, at_drop_all}
 use Rattle.gimli_read.specs.declared.constants.DwAt.{DwAt}
 use Rattle.gimli_read.specs.declared.constants.TheConstants.DwForm.{DW_FORM_implicit_const}
-use Rattle.gimli_read.specs.declared.endian.Encoding.{Encoding}
-use Rattle.gimli_read.specs.declared.error.Error.{Error}
 use Rattle.gimli_read.specs.declared.number_value.NumberValue.{NumberValue}
 use Rattle.gimli_read.specs.declared.number_value.NumberValue.TheVariants as numbers
 use Rattle.gimli_read.specs.declared.value.AttributeValue.TheVariants as values
-use Rattle.gimli_read.specs.Abbreviations.{Specification}
-use Rattle.gimli_read.specs.Form.{NamedValue, attribute_at, attributes_at, implicit_of, named_value, rest_of, value_at}
 use Rattle.gimli_read.specs.NumberValue.{implicit_number, is_number_form, number_at, number_if}
-use Rattle.gimli_read.specs.Reading.{Reading, ◌>>=◌, ExactlyUnlessOomIf}
-use Rattle.gimli_read.specs.Section.{Section}
 use Rattle.gimli_read.proofs.SizeLemmas.{rests_more}
-use Rattle.gimli.specs.AttributeSinks.{IsTakenIn, SaysNothingElse, or_fault}
-use Rattle.gimli.specs.TakenAttributes.{taken_after}
 use Rattle.gimli.proofs.WantedLemmas.{PassesOver, fold_passes}
 
 -- the next one that is passed over, and those after it

@@ -1,23 +1,9 @@
 -- Strings that are given only where they can be read, and those whose length is known (on specs/Text.antt).
-use Rattle.std.proofs.Common.{◌≡◌, ◌≢◌, ℕ, ◌==◌, Bool, true, false, cond, length, take, Option, Some, None, Result, Ok, Err, ltb, refl, ap, ◌∙◌, sym, arith, length-take}
-use Rattle.std.proofs.lemmas.List.{take_min}
-use Rattle.std.proofs.lemmas.Bool.Decides.{nat_tests}
+use Rattle.gimli.proofs.Common.{◌≡◌, ◌≢◌, ℕ, ◌==◌, Bool, true, false, cond, length, take, Option, Some, None, Result, Ok, Err, ltb, refl, ap, ◌∙◌, sym, arith, length-take, take_min, nat_tests, position, Error, OutOfMemory, UnexpectedEof, Format, AttributeValue, Section, first, after, Reading, ◌>>=◌, ended_at, split_at, null_terminated_at, done, Sections, from_offset, string_at, string_length_at, string_of, string_takes_memory, readable_string}
 use Rattle.std.specs.Prelude.{is_ok}
 use Rattle.std.specs.Result.{result_ok}
-use Rattle.std.specs.List.{position}
-use Rattle.gimli_read.specs.declared.error.Error.{Error}
-use Rattle.gimli_read.specs.declared.error.Error.TheVariants.{OutOfMemory, UnexpectedEof}
-use Rattle.gimli_read.specs.declared.endian.Format.{Format}
-use Rattle.gimli_read.specs.declared.value.AttributeValue.{AttributeValue}
 use Rattle.gimli_read.specs.declared.value.AttributeValue.TheVariants as values
-use Rattle.gimli_read.specs.Section.{Section, first, after}
-use Rattle.gimli_read.specs.Reading.{Reading, ◌>>=◌}
-use Rattle.gimli_read.specs.Number.{ended_at, split_at, null_terminated_at}
 use Rattle.gimli_read.proofs.FaultLemmas.{IsByBytes}
-use Rattle.gimli_read.proofs.Steps.{done}
-use Rattle.gimli.specs.Sections.{Sections}
-use Rattle.gimli.specs.Text.{from_offset, string_at, string_length_at, string_of, string_takes_memory}
-use Rattle.gimli.specs.Unit.{readable_string}
 use Rattle.gimli.specs.UnitMemory.{gives_some}
 use Rattle.gimli.proofs.FaultLemmas.{string_of_is}
 

@@ -1,17 +1,9 @@
 -- The string of a value by where it stands (on specs/StringPlaces.antt).
-use Rattle.std.proofs.Common.{◌≡◌, ℕ, Bool, Option, Some, None, Result, Ok, Err, refl, ap, ◌∙◌}
-use Rattle.gimli_read.specs.declared.error.Error.{Error}
-use Rattle.gimli_read.specs.declared.endian.Format.{Format}
-use Rattle.gimli_read.specs.declared.value.AttributeValue.{AttributeValue}
+use Rattle.gimli.proofs.Common.{◌≡◌, ℕ, Bool, Option, Some, None, Result, Ok, Err, refl, ap, ◌∙◌, Error, Format, AttributeValue, Section, ◌>>=◌, fault_of, offset_size, Sections, SupSections, indexed_number, string_at, string_of, string_takes_memory, sup_string_at}
 use Rattle.gimli_read.specs.declared.value.AttributeValue.TheVariants as values
-use Rattle.gimli_read.specs.Section.{Section}
-use Rattle.gimli_read.specs.Reading.{◌>>=◌, fault_of}
-use Rattle.gimli_read.specs.Number.{offset_size}
 use Rattle.gimli.specs.declared.text.StringPlace.{StringPlace}
 use Rattle.gimli.specs.declared.text.StringPlace.TheVariants.{InValue, InSection}
-use Rattle.gimli.specs.Sections.{Sections, SupSections}
 use Rattle.gimli.specs.StringPlaces.{string_place_of, sup_strings}
-use Rattle.gimli.specs.Text.{indexed_number, string_at, string_of, string_takes_memory, sup_string_at}
 
 -- the string at a place
 abbrev by_place : StringPlace Section Section → Result Section Error

@@ -1,15 +1,7 @@
 -- Where subtrees end (on specs/ItemLaws.antt).
-use Rattle.std.proofs.Common.{◌≡◌, ℕ, zero, suc, ◌+◌, Bool, true, false, cond, List, [], ◌∷◌, length, Option, Some, None, Result, Ok, Err, refl, sym, ap, subst, arith, ℤ, pos, negsuc}
+use Rattle.gimli.proofs.Common.{◌≡◌, ℕ, zero, suc, ◌+◌, Bool, true, false, cond, List, [], ◌∷◌, length, Option, Some, None, Result, Ok, Err, refl, sym, ap, subst, arith, ℤ, pos, negsuc, Error, UnexpectedEof, Reading, ◌>>=◌, Run, cons, Section, EntryUnit, Entry, Item, depth_after, depth_behind, item_at, items_after, items_inside, items_within, Closes, SubtreesClose}
 use Rattle.std.specs.Prelude.{int_lt, ◌+ℤ◌}
 use Rattle.std.proofs.lemmas.Int.{ints}
-use Rattle.gimli_read.specs.declared.error.Error.{Error}
-use Rattle.gimli_read.specs.declared.error.Error.TheVariants.{UnexpectedEof}
-use Rattle.gimli_read.specs.Reading.{Reading, ◌>>=◌}
-use Rattle.gimli_read.specs.Run.{Run, cons}
-use Rattle.gimli_read.specs.Section.{Section}
-use Rattle.gimli.specs.Entry.{EntryUnit}
-use Rattle.gimli.specs.Items.{Entry, Item, depth_after, depth_behind, item_at, items_after, items_inside, items_within}
-use Rattle.gimli.specs.ItemLaws.{Closes, SubtreesClose}
 use Rattle.gimli.proofs.ItemLemmas.{depth_is, less}
 
 equal : (a b : ℤ) → int_lt a b ≡ false → int_lt b a ≡ false → b ≡ a

@@ -1,21 +1,9 @@
 -- A unit whose root entry is read has abbreviations, which take memory (on specs/Unit.antt).
-use Rattle.std.proofs.Common.{◌≡◌, ℕ, ◌==◌, ◌||◌, Bool, true, false, cond, List, [], Option, Some, None, IfOk, Result, Ok, Err, refl, ap, sym, ◌∙◌}
-use Rattle.std.proofs.lemmas.Bool.{or_right}
-use Rattle.gimli_read.specs.declared.error.Error.{Error}
-use Rattle.gimli_read.specs.declared.error.Error.TheVariants.{UnknownAbbreviation}
-use Rattle.gimli_read.specs.declared.endian.Encoding.{Encoding}
-use Rattle.gimli_read.specs.Section.{Section}
-use Rattle.gimli_read.specs.Reading.{Reading, ◌>>=◌}
-use Rattle.gimli_read.specs.Leb128.{uleb128_at}
-use Rattle.gimli_read.specs.Abbreviations.{Abbrev}
+use Rattle.gimli.proofs.Common.{◌≡◌, ℕ, ◌==◌, ◌||◌, Bool, true, false, cond, List, [], Option, Some, None, IfOk, Result, Ok, Err, refl, ap, sym, ◌∙◌, or_right, Error, UnknownAbbreviation, Encoding, Section, Reading, ◌>>=◌, uleb128_at, Abbrev, entry_code_at, root_specifications, root_attributes, UnitHeaderFields, Sections, from_offset, UnitRecord, completed_record, unit_by, unit_record_of}
 use Rattle.gimli_read.specs.Abbrev.{abbreviation_at, table_at, takes_memory}
 use Rattle.gimli_read.proofs.AbbrevLemmas.{table_ends, table_fault, abbreviation_front}
-use Rattle.gimli.specs.Entry.{entry_code_at, root_specifications, root_attributes, attributes_at}
-use Rattle.gimli.specs.Header.{UnitHeaderFields}
+use Rattle.gimli.specs.Entry.{attributes_at}
 use Rattle.gimli.specs.Record.{RootValues, root_values_of}
-use Rattle.gimli.specs.Sections.{Sections}
-use Rattle.gimli.specs.Text.{from_offset}
-use Rattle.gimli.specs.Unit.{UnitRecord, completed_record, unit_by, unit_record_of}
 use Rattle.gimli.specs.UnitMemory.{abbreviations_take_memory, unit_takes_memory}
 
 -- a reading of no value

@@ -1,21 +1,7 @@
 -- The texts of units, one after another (on specs/ItemLaws.antt).
-use Rattle.std.proofs.Common.{◌≡◌, ℕ, zero, suc, ◌+◌, ◌-◌, ◌==◌, Bool, true, false, cond, List, [], ◌++◌, length, take, drop, IfOk, Option, Some, None, Result, Ok, Err, refl, sym, ap, subst, ◌∙◌, arith, length-append, append_assoc}
-use Rattle.std.specs.List.{AllByRecursion, flat_map}
-use Rattle.std.proofs.lemmas.Bool.{eqb-true}
-use Rattle.std.proofs.lemmas.List.{nil_from_length, take-append-drop}
-use Rattle.std.proofs.lemmas.Result.{IfOk-at_ok}
+use Rattle.gimli.proofs.Common.{◌≡◌, ℕ, zero, suc, ◌+◌, ◌-◌, ◌==◌, Bool, true, false, cond, List, [], ◌++◌, length, take, drop, IfOk, Option, Some, None, Result, Ok, Err, refl, sym, ap, subst, ◌∙◌, arith, length-append, append_assoc, AllByRecursion, flat_map, eqb-true, nil_from_length, take-append-drop, IfOk-at_ok, Error, UnknownVersion, Format, Section, is_unknown, is_before_5, Reading, ◌>>=◌, refused_if, address_size_at, fixed_at, offset_at, split_at, initial_length_at, Run, next_of, continued, run_within, UnitHeaderFields, unit_type_at, type_fields_at, fields_4_at, fields_5_at, header_fields_at, unit_header_at, next_header_at, unit_text, UnitsCover, EntriesFollowHeaders}
 use Rattle.std.proofs.Math.Seq.{drop-append_seam}
-use Rattle.gimli_read.specs.declared.error.Error.{Error}
-use Rattle.gimli_read.specs.declared.error.Error.TheVariants.{UnknownVersion}
-use Rattle.gimli_read.specs.declared.endian.Format.{Format}
-use Rattle.gimli_read.specs.Section.{Section}
-use Rattle.gimli_read.specs.Version.{is_unknown, is_before_5}
-use Rattle.gimli_read.specs.Reading.{Reading, ◌>>=◌, refused_if}
-use Rattle.gimli_read.specs.Number.{address_size_at, fixed_at, offset_at, split_at, initial_length_at}
-use Rattle.gimli_read.specs.Run.{Run, next_of, continued, run_within}
-use Rattle.gimli.specs.Header.{UnitHeaderFields, unit_type_at, type_fields_at, fields_4_at, fields_5_at, header_fields_at, unit_header_at, next_header_at}
 use Rattle.gimli.specs.Entries.{unit_length}
-use Rattle.gimli.specs.ItemLaws.{unit_text, UnitsCover, EntriesFollowHeaders}
 use Rattle.gimli.proofs.FrontLemmas.{IsFront, header_front}
 
 -- a unit begins where its header says

@@ -1,14 +1,6 @@
 -- Parts one after another up to a section's end: what one reading takes from the parts that are left.
-use Rattle.std.proofs.Common.{◌≡◌, ℕ, ◌<◌, ◌==◌, Bool, true, false, cond, List, [], ◌∷◌, length, drop, ltb, Option, Some, None, IfOk, IfSome, Result, Ok, Err, ap, sym, ◌∙◌, arith, length-drop}
-use Rattle.gimli_read.specs.declared.error.Error.{Error}
-use Rattle.gimli_read.specs.declared.error.Error.TheVariants.{UnexpectedEof}
-use Rattle.gimli_read.specs.Section.{Section, after}
-use Rattle.gimli_read.specs.Reading.{Reading, ◌>>=◌}
-use Rattle.gimli_read.specs.Number.{skipped_at}
-use Rattle.gimli_read.specs.Run.{run_of, listed}
+use Rattle.gimli.proofs.Common.{◌≡◌, ℕ, ◌<◌, ◌==◌, Bool, true, false, cond, List, [], ◌∷◌, length, drop, ltb, Option, Some, None, IfOk, IfSome, Result, Ok, Err, ap, sym, ◌∙◌, arith, length-drop, Error, UnexpectedEof, Section, after, Reading, ◌>>=◌, skipped_at, run_of, listed, Shorter, TakesBytes, end_is_none, same_rest, same_value, guard_ok}
 use Rattle.gimli_read.specs.Yields.{next_given}
-use Rattle.gimli_read.proofs.Shorter.{Shorter, TakesBytes}
-use Rattle.gimli_read.proofs.Steps.{end_is_none, same_rest, same_value, guard_ok}
 use Rattle.gimli_read.proofs.Listed.{listed_ends, listed_more, listed_fault}
 
 -- the next part, or none at the section's end

@@ -1,19 +1,9 @@
 -- Attributes that are asked for, among others that are passed over (on specs/WantedAttributes.antt).
-use Rattle.std.proofs.Common.{ℕ, zero, suc, ◌+◌, ◌-◌, ◌<◌, ◌≤◌, ◌≡◌, ◌==◌, Bool, true, false, cond, nat_lt, List, [], ◌∷◌, ◌++◌, fold, length, take, drop, slice_index_or, Option, Some, None, Result, Ok, Err, arith, refl, ap, sym, ◌∙◌, append-nil, length-drop, length-take}
-use Rattle.std.specs.List.{All, position, position_or_len}
-use Rattle.std.proofs.lemmas.Bool.Decides.{nat_tests}
-use Rattle.std.proofs.lemmas.List.{drop_more, get_or-take, take-append-drop, take_all}
+use Rattle.gimli.proofs.Common.{ℕ, zero, suc, ◌+◌, ◌-◌, ◌<◌, ◌≤◌, ◌≡◌, ◌==◌, Bool, true, false, cond, nat_lt, List, [], ◌∷◌, ◌++◌, fold, length, take, drop, slice_index_or, Option, Some, None, Result, Ok, Err, arith, refl, ap, sym, ◌∙◌, append-nil, length-drop, length-take, All, position, position_or_len, nat_tests, drop_more, get_or-take, take-append-drop, take_all, Encoding, Error, AttributeValue, Specification, NamedValue, attribute_at, implicit_of, named_value, rest_of, value_at, Reading, ◌>>=◌, Section}
 use Rattle.std.proofs.lemmas.List.Quantifiers.{position-Some}
 use Rattle.std.proofs.lemmas.List.Sums.{fails_before_first}
 use Rattle.gimli_read.specs.declared.constants.DwAt.{DwAt}
 use Rattle.gimli_read.specs.declared.constants.TheConstants.DwForm.{DW_FORM_implicit_const}
-use Rattle.gimli_read.specs.declared.endian.Encoding.{Encoding}
-use Rattle.gimli_read.specs.declared.error.Error.{Error}
-use Rattle.gimli_read.specs.declared.value.AttributeValue.{AttributeValue}
-use Rattle.gimli_read.specs.Abbreviations.{Specification}
-use Rattle.gimli_read.specs.Form.{NamedValue, attribute_at, implicit_of, named_value, rest_of, value_at}
-use Rattle.gimli_read.specs.Reading.{Reading, ◌>>=◌}
-use Rattle.gimli_read.specs.Section.{Section}
 use Rattle.gimli.specs.Entry.{attributes_at}
 use Rattle.gimli.specs.WantedAttributes.{HasNoWanted, IsSplitAtWanted}
 

@@ -5,17 +5,9 @@
 -- Own: pairs of length 0, pairs whose sum passes the greatest address, and a tail that is shorter
 -- than a pair are passed over.
 use Rattle.std.specs.Prelude.{ℕ, ◌+◌, ◌-◌, ◌*◌, ◌%◌, ◌==◌, ◌||◌, not, nat_lt, List, length, filter_map, Option, Some, None, Result, Ok, if◌then◌else◌}
-use Rattle.gimli_read.specs.declared.error.Error.{Error}
-use Rattle.gimli_read.specs.declared.error.Error.TheVariants.{UnknownVersion, UnsupportedSegmentSize}
-use Rattle.gimli_read.specs.declared.endian.Format.{Format}
-use Rattle.gimli_read.specs.declared.range.Range.{Range}
+use Rattle.gimli.specs.Common.{Error, UnknownVersion, UnsupportedSegmentSize, Format, Range, Section, Reading, mapped, ◌>>=◌, refused_if, address_at, address_size_at, fixed_at, offset_at, skipped_at, split_at, initial_length_at, run_of, listed, greatest_address}
 use Rattle.gimli_read.specs.declared.value.DebugInfoOffset.{DebugInfoOffset}
-use Rattle.gimli_read.specs.Section.{Section}
-use Rattle.gimli_read.specs.Reading.{Reading, mapped, ◌>>=◌, refused_if}
-use Rattle.gimli_read.specs.Number.{address_at, address_size_at, fixed_at, offset_at, skipped_at, split_at, initial_length_at}
-use Rattle.gimli_read.specs.Run.{run_of, listed}
 use Rattle.gimli.specs.declared.constants.TheConstants.{ARANGES_VERSION}
-use Rattle.gimli_line.specs.AddressSize.{greatest_address}
 
 -- a set: where its unit begins in .debug_info, the size of its addresses, and the bytes of its
 -- pairs

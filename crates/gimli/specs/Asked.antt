@@ -2,8 +2,7 @@
 -- files: section 7.3.2.2), and how a caller is asked for them.
 -- Own: they are asked for in the order of their names, up to the first one that is refused.
 use Rattle.std.specs.Prelude.{◌≡◌, ℕ, List, [], ◌∷◌, codes, Option, Some, None, Result, Ok, Err}
-use Rattle.gimli_read.specs.Section.{Section}
-use Rattle.gimli_read.specs.Reading.{◌>>=◌}
+use Rattle.gimli.specs.Common.{Section, ◌>>=◌}
 use Rattle.gimli.specs.declared.load.SectionId.{SectionId}
 use Rattle.gimli.specs.declared.load.SectionId.TheVariants.{DebugAbbrev, DebugAddr, DebugAranges, DebugInfo, DebugLine, DebugLineStr, DebugRanges, DebugRngLists, DebugStr, DebugStrOffsets}
 use Rattle.gimli.specs.Sections.{Sections, SupSections}

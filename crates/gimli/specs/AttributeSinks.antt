@@ -1,13 +1,8 @@
 -- What takes attributes in, and how they are read for it, as the private functions see it.
 use Rattle.std.specs.Prelude.{◌≡◌, Bool, true, false, Option, Some, None, Result, Ok, Err}
-use Rattle.gimli_read.specs.declared.constants.DwAt.{DwAt}
-use Rattle.gimli_read.specs.declared.error.Error.{Error}
+use Rattle.gimli.specs.Common.{DwAt, Error, AttributeValue, NamedValue, Reading, ExactlyUnlessOomIf, Section}
 use Rattle.gimli_read.specs.declared.number_value.NumberValue.{NumberValue}
-use Rattle.gimli_read.specs.declared.value.AttributeValue.{AttributeValue}
-use Rattle.gimli_read.specs.Form.{NamedValue}
 use Rattle.gimli_read.specs.NumberValue.{number_if}
-use Rattle.gimli_read.specs.Reading.{Reading, ExactlyUnlessOomIf}
-use Rattle.gimli_read.specs.Section.{Section}
 
 -- an attribute that isn't asked for says nothing
 abbrev pub SaysNothingElse : {Y : Type 0} → (DwAt → Bool) → (Y → NamedValue → Result Y Error)

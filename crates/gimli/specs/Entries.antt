@@ -2,11 +2,7 @@
 -- Own: an offset counts from the start of the unit's length, and is valid from the end of the
 -- header to below the unit's end; any other is OffsetOutOfBounds.
 use Rattle.std.specs.Prelude.{ℕ, ◌+◌, ◌-◌, nat_lt, List, length, Option, Some, None, Result, Ok, Err, if◌then◌else◌}
-use Rattle.gimli_read.specs.declared.error.Error.{Error}
-use Rattle.gimli_read.specs.declared.error.Error.TheVariants.{OffsetOutOfBounds}
-use Rattle.gimli_read.specs.Abbreviations.{Abbrev}
-use Rattle.gimli_read.specs.Section.{Section, after}
-use Rattle.gimli_read.specs.Form.{NamedValue}
+use Rattle.gimli.specs.Common.{Error, OffsetOutOfBounds, Abbrev, Section, after, NamedValue}
 use Rattle.gimli.specs.Header.{UnitHeaderFields}
 use Rattle.gimli.specs.Entry.{EntryUnit, root_attributes}
 use Rattle.gimli.specs.Unit.{UnitRecord}

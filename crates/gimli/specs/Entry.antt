@@ -1,15 +1,9 @@
 -- Entries (DWARF 5, sections 2.3 and 7.5.2): a code, and the values of the attributes that its
 -- abbreviation lists.
 use Rattle.std.specs.Prelude.{◌==◌, ℕ, ◌+ℤ◌, ℤ, pos, negsuc, Bool, List, Option, Some, None, Result, Ok, Err, if◌then◌else◌}
-use Rattle.gimli_read.specs.declared.error.Error.{Error}
-use Rattle.gimli_read.specs.declared.error.Error.TheVariants.{UnknownAbbreviation, MissingUnitDie}
-use Rattle.gimli_read.specs.declared.endian.Encoding.{Encoding}
+use Rattle.gimli.specs.Common.{Error, UnknownAbbreviation, MissingUnitDie, Encoding, Section, Reading, ◌>>=◌, Abbrev, Specification, with_code, NamedValue}
 use Rattle.gimli_read.specs.declared.constants.TheConstants.{CLOSING_CODE}
-use Rattle.gimli_read.specs.Section.{Section}
-use Rattle.gimli_read.specs.Reading.{Reading, ◌>>=◌}
 use Rattle.gimli_read.specs.Leb128.{uleb128_at}
-use Rattle.gimli_read.specs.Abbreviations.{Abbrev, Specification, with_code}
-use Rattle.gimli_read.specs.Form.{NamedValue}
 unfoldable pub use Rattle.gimli_read.specs.Form.{attributes_at}
 
 -- what the entries of a unit are read by: the sizes of values, the abbreviations, and the unit's

@@ -2,11 +2,7 @@
 -- entry, and as the private functions above it see what it reads. What is read there is said in
 -- Entry and Items, which know no place.
 use Rattle.std.specs.Prelude.{◌+◌, ◌<◌, ◌≤◌, ◌^◌, ℕ, ℤ, pos, unsigned_abs, List, length, Option, Some, None, Result, Ok}
-use Rattle.gimli_read.specs.declared.error.Error.{Error}
-use Rattle.gimli_read.specs.Abbreviations.{Abbrev}
-use Rattle.gimli_read.specs.Reading.{◌>>=◌}
-use Rattle.gimli_read.specs.Run.{Run}
-use Rattle.gimli_read.specs.Section.{Section}
+use Rattle.gimli.specs.Common.{Error, Abbrev, ◌>>=◌, Run, Section}
 use Rattle.gimli.specs.Entries.{entry_bytes_from, entry_unit}
 use Rattle.gimli.specs.Entry.{EntryUnit, depth_after_entry, depth_after_closing, entry_code_at}
 use Rattle.gimli.specs.Header.{UnitHeaderFields}

@@ -3,14 +3,8 @@
 -- Own: a refused growth alone answers OutOfMemory, so only where a contract allows it beside what
 -- is given.
 use Rattle.std.specs.Prelude.{ℕ, List, Option, IfOk, ℤ}
-use Rattle.gimli_read.specs.declared.endian.Encoding.{Encoding}
-use Rattle.gimli_read.specs.declared.endian.Format.{Format}
-use Rattle.gimli_read.specs.declared.value.AttributeValue.{AttributeValue}
-use Rattle.gimli_read.specs.Abbreviations.{Abbrev}
-use Rattle.gimli_read.specs.Reading.{WasNotRefused}
+use Rattle.gimli.specs.Common.{Encoding, Format, AttributeValue, Abbrev, WasNotRefused, Run, Section}
 use Rattle.gimli_read.specs.FaultLaws.{NoneWasRefused}
-use Rattle.gimli_read.specs.Run.{Run}
-use Rattle.gimli_read.specs.Section.{Section}
 use Rattle.gimli.specs.declared.record.AddressValue.{AddressValue}
 use Rattle.gimli.specs.Aranges.{arange_set_at, arange_sets_of}
 use Rattle.gimli.specs.Entries.{entry_bytes_from, root_attributes_of}

@@ -2,21 +2,13 @@
 -- Own: versions 2 to 5; another is UnknownVersion. A unit type other than those of section 7.5.1 is
 -- UnknownUnitType.
 use Rattle.std.specs.Prelude.{ℕ, ◌-◌, ◌==◌, length, Option, Some, None, Result, Ok, Err, if◌then◌else◌}
-use Rattle.gimli_read.specs.declared.error.Error.{Error}
-use Rattle.gimli_read.specs.declared.error.Error.TheVariants.{UnknownVersion, UnknownUnitType}
+use Rattle.gimli.specs.Common.{Error, UnknownVersion, UnknownUnitType, Format, Section, is_unknown, is_before_5, Reading, mapped, ◌>>=◌, refused_if, fixed_at, offset_at, skipped_at, split_at, initial_length_at, address_size_at, Run, run_of, Encoding}
 use Rattle.gimli_read.specs.declared.constants.TheConstants.{DWARF_5}
-use Rattle.gimli_read.specs.declared.endian.Format.{Format}
-use Rattle.gimli_read.specs.Section.{Section}
-use Rattle.gimli_read.specs.Version.{is_unknown, is_before_5}
-use Rattle.gimli_read.specs.Reading.{Reading, mapped, ◌>>=◌, refused_if}
-use Rattle.gimli_read.specs.Number.{fixed_at, offset_at, skipped_at, split_at, initial_length_at, address_size_at}
-use Rattle.gimli_read.specs.Run.{Run, run_of}
 use Rattle.gimli.specs.declared.constants.TheConstants.{DW_UT_compile, DW_UT_type, DW_UT_partial, DW_UT_skeleton, DW_UT_split_compile, DW_UT_split_type}
 use Rattle.gimli.specs.declared.unit.UnitType.{UnitType}
 use Rattle.gimli.specs.declared.unit.UnitType.TheVariants.{Compile, TypeUnit, Partial, Skeleton, SplitCompile, SplitType}
 use Rattle.gimli.specs.declared.unit.DwoId.{DwoId}
 use Rattle.gimli_read.specs.declared.value.DebugInfoOffset.{DebugInfoOffset}
-use Rattle.gimli_read.specs.declared.endian.Encoding.{Encoding}
 
 -- the fields of a unit's header, the unit's offset in the section, the header's length, and the
 -- bytes of the unit's entries

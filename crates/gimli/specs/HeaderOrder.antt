@@ -1,8 +1,7 @@
 -- The order of units in a section (DWARF 5, section 7.5).
 use Rattle.std.specs.Prelude.{ℕ, ◌+◌, ◌≤◌, List, [], ◌∷◌, Result, IfOk}
 use Rattle.std.specs.List.{AllByRecursion}
-use Rattle.gimli_read.specs.declared.error.Error.{Error}
-use Rattle.gimli_read.specs.Section.{Section}
+use Rattle.gimli.specs.Common.{Error, Section}
 use Rattle.gimli.specs.Header.{UnitHeaderFields}
 use Rattle.gimli.specs.Entries.{unit_length}
 use Rattle.gimli.specs.UnitsLeft.{all_headers}

@@ -4,15 +4,8 @@
 use Rattle.std.specs.Prelude.{◌≡◌, ◌≢◌, ℕ, ◌+◌, ◌≤◌, ℤ, ◌<ℤ◌, List, [], ◌∷◌, ◌++◌, length, take, drop, Option, Some, None, Result, Ok, Err, IsOk}
 use Rattle.std.specs.List.{AllByRecursion, flat_map}
 use Rattle.gimli_read.specs.declared.endian.RunTimeEndian.{RunTimeEndian}
-use Rattle.gimli_read.specs.declared.endian.Encoding.{Encoding}
-use Rattle.gimli_read.specs.declared.error.Error.{Error}
-use Rattle.gimli_read.specs.declared.error.Error.TheVariants.{UnexpectedEof}
-use Rattle.gimli_read.specs.Section.{Section}
-use Rattle.gimli_read.specs.Reading.{◌>>=◌}
-use Rattle.gimli_read.specs.Run.{Run}
-use Rattle.gimli_read.specs.Abbreviations.{Specification, with_code}
+use Rattle.gimli.specs.Common.{Encoding, Error, UnexpectedEof, Section, ◌>>=◌, Run, Specification, with_code, NamedValue}
 use Rattle.gimli_read.specs.Leb128.{IsUleb128}
-use Rattle.gimli_read.specs.Form.{NamedValue}
 use Rattle.gimli_read.specs.Value.{IsAttribute}
 use Rattle.gimli.specs.Header.{UnitHeaderFields, headers_of}
 use Rattle.gimli.specs.Entry.{EntryUnit}

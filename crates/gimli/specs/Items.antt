@@ -3,13 +3,7 @@
 -- Own: depths count from where the reading begins, and a closing entry takes one also below 0.
 -- Own: a subtree that isn't closed before the items end is UnexpectedEof.
 use Rattle.std.specs.Prelude.{ℕ, zero, suc, ◌+◌, ◌-◌, ◌==◌, ℤ, pos, int_lt, List, [], ◌∷◌, length, Option, Some, None, Result, Ok, Err, if◌then◌else◌}
-use Rattle.gimli_read.specs.declared.error.Error.{Error}
-use Rattle.gimli_read.specs.declared.error.Error.TheVariants.{UnexpectedEof}
-use Rattle.gimli_read.specs.Abbreviations.{Abbrev}
-use Rattle.gimli_read.specs.Section.{Section}
-use Rattle.gimli_read.specs.Reading.{Reading, ◌>>=◌}
-use Rattle.gimli_read.specs.Form.{NamedValue, attributes_at}
-use Rattle.gimli_read.specs.Run.{Run, cons}
+use Rattle.gimli.specs.Common.{Error, UnexpectedEof, Abbrev, Section, Reading, ◌>>=◌, NamedValue, attributes_at, Run, cons}
 use Rattle.gimli.specs.Entry.{EntryUnit, depth_after_entry, depth_after_closing, entry_code_at}
 use Rattle.gimli.specs.Entries.{entry_bytes_from, entry_unit}
 use Rattle.gimli.specs.Unit.{UnitRecord}

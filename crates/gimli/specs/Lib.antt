@@ -1,3 +1,4 @@
+pub mod Common
 pub mod Header
 pub mod UnitsLeft
 pub mod Sections

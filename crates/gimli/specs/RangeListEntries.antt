@@ -3,16 +3,9 @@
 -- Own: a kind that section 7.25 doesn't list is UnknownRangeListEntry. A list that the section's
 -- end cuts is UnexpectedEof.
 use Rattle.std.specs.Prelude.{ℕ, ◌==◌, ◌&&◌, Option, Some, None, Ok, Err, if◌then◌else◌}
-use Rattle.gimli_read.specs.declared.error.Error.TheVariants.{UnknownRangeListEntry}
-use Rattle.gimli_read.specs.declared.endian.Encoding.{Encoding}
-use Rattle.gimli_read.specs.Section.{Section}
-use Rattle.gimli_read.specs.Version.{is_before_5}
-use Rattle.gimli_read.specs.Reading.{Reading, mapped, ◌>>=◌}
-use Rattle.gimli_read.specs.Number.{fixed_at, address_at}
+use Rattle.gimli.specs.Common.{UnknownRangeListEntry, Encoding, Section, is_before_5, Reading, mapped, ◌>>=◌, fixed_at, address_at, Run, run_of, greatest_address}
 use Rattle.gimli_read.specs.Leb128.{uleb128_at}
-use Rattle.gimli_read.specs.Run.{Run, run_of}
 use Rattle.gimli.specs.declared.constants.TheConstants.{DW_RLE_end_of_list, DW_RLE_base_addressx, DW_RLE_startx_endx, DW_RLE_startx_length, DW_RLE_offset_pair, DW_RLE_base_address, DW_RLE_start_end, DW_RLE_start_length}
-use Rattle.gimli_line.specs.AddressSize.{greatest_address}
 use Rattle.gimli.specs.declared.rnglists.RangeListEntry.{RangeListEntry}
 use Rattle.gimli.specs.declared.rnglists.RangeListEntry.TheVariants.{BaseAddressx, StartxEndx, StartxLength, OffsetPair, BaseAddress, StartEnd, StartLength}
 

@@ -4,16 +4,9 @@
 -- Own: an offset past the section's end is OffsetOutOfBounds. An entry is read whole before the
 -- addresses of its indexes are, and each of these is read, also where the range is passed over.
 use Rattle.std.specs.Prelude.{ℕ, ◌+◌, ◌%◌, not, nat_lt, List, [], ◌∷◌, Option, Some, None, Result, Ok, Err, if◌then◌else◌}
-use Rattle.gimli_read.specs.declared.error.Error.{Error}
-use Rattle.gimli_read.specs.declared.error.Error.TheVariants.{UnsupportedAddressSize}
-use Rattle.gimli_read.specs.declared.range.Range.{Range}
-use Rattle.gimli_read.specs.Section.{Section}
-use Rattle.gimli_read.specs.Version.{is_before_5}
-use Rattle.gimli_read.specs.Reading.{◌>>=◌, refused_if}
-use Rattle.gimli_read.specs.Number.{is_address_size}
+use Rattle.gimli.specs.Common.{Error, UnsupportedAddressSize, Range, Section, is_before_5, ◌>>=◌, refused_if, is_address_size, address_limit, is_tombstone}
 use Rattle.gimli.specs.declared.rnglists.RangeListEntry.{RangeListEntry}
 use Rattle.gimli.specs.declared.rnglists.RangeListEntry.TheVariants.{BaseAddressx, StartxEndx, StartxLength, OffsetPair, BaseAddress, StartEnd, StartLength}
-use Rattle.gimli_line.specs.AddressSize.{address_limit, is_tombstone}
 use Rattle.gimli.specs.RangeListEntries.{range_list_entries}
 use Rattle.gimli.specs.Sections.{Sections}
 use Rattle.gimli.specs.Text.{from_offset, indexed_number}

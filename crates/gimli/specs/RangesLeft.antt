@@ -1,7 +1,6 @@
 -- What is left of a range list, as the private functions see it.
 use Rattle.std.specs.Prelude.{◌≡◌, List, [], ◌∷◌, Option, Some, None, Result, Ok, Err}
-use Rattle.gimli_read.specs.declared.error.Error.{Error}
-use Rattle.gimli_read.specs.declared.range.Range.{Range}
+use Rattle.gimli.specs.Common.{Error, Range}
 
 -- what a search found of the ranges that were left, and which are left after that range
 abbrev pub FindsRange : List (Result Range Error) → Result (Option Range) Error

@@ -4,14 +4,8 @@
 -- counts from the unit's rnglists_base.
 -- Own: an offset of 2^64 or more is OffsetOutOfBounds.
 use Rattle.std.specs.Prelude.{ℕ, ◌+◌, Option, Some, None, Result, Ok, Err, if◌then◌else◌}
-use Rattle.gimli_read.specs.declared.error.Error.{Error}
-use Rattle.gimli_read.specs.declared.error.Error.TheVariants.{OffsetOutOfBounds}
-use Rattle.gimli_read.specs.declared.value.AttributeValue.{AttributeValue}
+use Rattle.gimli.specs.Common.{Error, OffsetOutOfBounds, AttributeValue, Section, is_before_5, ◌>>=◌, fits_u64, offset_size}
 use Rattle.gimli_read.specs.declared.value.AttributeValue.TheVariants as values
-use Rattle.gimli_read.specs.Section.{Section}
-use Rattle.gimli_read.specs.Version.{is_before_5}
-use Rattle.gimli_read.specs.Reading.{◌>>=◌}
-use Rattle.gimli_read.specs.Number.{fits_u64, offset_size}
 use Rattle.gimli.specs.declared.dwarf.DwarfFileType.{DwarfFileType}
 use Rattle.gimli.specs.declared.dwarf.DwarfFileType.TheVariants.{Main, Dwo}
 use Rattle.gimli.specs.Sections.{Sections}

@@ -6,19 +6,10 @@
 -- file below version 5, dwo_name from then on, in any form.
 use Rattle.std.specs.Prelude.{ℕ, ◌==◌, ◌||◌, List, fold, Option, Some, None, Result, Ok, if◌then◌else◌}
 use Rattle.std.specs.Option.{option_or}
-use Rattle.gimli_read.specs.declared.error.Error.{Error}
+use Rattle.gimli.specs.Common.{Error, DwAt, Encoding, Format, AttributeValue, Section, is_before_4, is_before_5, ◌>>=◌, NamedValue, constant_of, Abbrev}
 use Rattle.gimli_read.specs.declared.constants.TheConstants.DwAt.{DW_AT_name, DW_AT_comp_dir, DW_AT_low_pc, DW_AT_stmt_list, DW_AT_str_offsets_base, DW_AT_addr_base, DW_AT_GNU_addr_base, DW_AT_rnglists_base, DW_AT_GNU_ranges_base, DW_AT_GNU_dwo_id, DW_AT_GNU_dwo_name, DW_AT_dwo_name}
-use Rattle.gimli_read.specs.declared.constants.DwAt.{DwAt}
-use Rattle.gimli_read.specs.declared.endian.Encoding.{Encoding}
-use Rattle.gimli_read.specs.declared.endian.Format.{Format}
 use Rattle.gimli_read.specs.declared.endian.Format.TheVariants.{Dwarf32, Dwarf64}
-use Rattle.gimli_read.specs.declared.value.AttributeValue.{AttributeValue}
 use Rattle.gimli_read.specs.declared.value.AttributeValue.TheVariants as values
-use Rattle.gimli_read.specs.Section.{Section}
-use Rattle.gimli_read.specs.Version.{is_before_4, is_before_5}
-use Rattle.gimli_read.specs.Reading.{◌>>=◌}
-use Rattle.gimli_read.specs.Form.{NamedValue, constant_of}
-use Rattle.gimli_read.specs.Abbreviations.{Abbrev}
 use Rattle.gimli.specs.declared.record.AddressValue.{AddressValue}
 use Rattle.gimli.specs.declared.record.AddressValue.TheVariants.{Address, Index}
 use Rattle.gimli.specs.Entry.{root_attributes}

@@ -1,7 +1,7 @@
 -- The sections that DWARF is read from (DWARF 5, section 7.5 and appendix B), each as bytes in an
 -- order.
 use Rattle.std.specs.Prelude.{Option}
-use Rattle.gimli_read.specs.Section.{Section}
+use Rattle.gimli.specs.Common.{Section}
 use Rattle.gimli.specs.declared.dwarf.DwarfFileType.{DwarfFileType}
 
 -- ten sections of a supplementary file (DWARF 5, section 7.3.6)

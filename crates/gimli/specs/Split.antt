@@ -1,10 +1,6 @@
 -- Split files and what they take from the file that they belong to (DWARF 5, section 7.3.2).
 use Rattle.std.specs.Prelude.{Option, Some, None, Result, Ok, if◌then◌else◌}
-use Rattle.gimli_read.specs.declared.error.Error.{Error}
-use Rattle.gimli_read.specs.declared.value.AttributeValue.{AttributeValue}
-use Rattle.gimli_read.specs.Section.{Section}
-use Rattle.gimli_read.specs.Version.{is_before_5}
-use Rattle.gimli_read.specs.Reading.{◌>>=◌, fault_of}
+use Rattle.gimli.specs.Common.{Error, AttributeValue, Section, is_before_5, ◌>>=◌, fault_of}
 use Rattle.gimli.specs.declared.dwarf.DwarfFileType.TheVariants.{Dwo}
 use Rattle.gimli.specs.Sections.{Sections}
 use Rattle.gimli.specs.Record.{root_values_of}

@@ -1,13 +1,7 @@
 -- Where the string of a value stands, as the private functions see it (on specs/Text.antt).
 use Rattle.std.specs.Prelude.{ℕ, Option, None, Some, Result, Ok, Err}
-use Rattle.gimli_read.specs.declared.error.Error.{Error}
-use Rattle.gimli_read.specs.declared.error.Error.TheVariants.{ExpectedString, NoSupplementary}
-use Rattle.gimli_read.specs.declared.endian.Format.{Format}
-use Rattle.gimli_read.specs.declared.value.AttributeValue.{AttributeValue}
+use Rattle.gimli.specs.Common.{Error, ExpectedString, NoSupplementary, Format, AttributeValue, Section, ◌>>=◌, offset_size}
 use Rattle.gimli_read.specs.declared.value.AttributeValue.TheVariants as values
-use Rattle.gimli_read.specs.Section.{Section}
-use Rattle.gimli_read.specs.Reading.{◌>>=◌}
-use Rattle.gimli_read.specs.Number.{offset_size}
 use Rattle.gimli.specs.declared.text.StringPlace.{StringPlace}
 use Rattle.gimli.specs.declared.text.StringPlace.TheVariants.{InValue, InSection}
 use Rattle.gimli.specs.Sections.{Sections, SupSections}

@@ -1,8 +1,6 @@
 -- Attributes that are taken in one after another, where none before has a fault.
 use Rattle.std.specs.Prelude.{List, fold, Result}
-use Rattle.gimli_read.specs.declared.error.Error.{Error}
-use Rattle.gimli_read.specs.Form.{NamedValue}
-use Rattle.gimli_read.specs.Reading.{Reading, ◌>>=◌}
+use Rattle.gimli.specs.Common.{Error, NamedValue, Reading, ◌>>=◌}
 
 -- what attributes say after what was said before, or the first fault
 abbrev pub taken_in : {Y : Type 0} → (Y → NamedValue → Result Y Error) → Result Y Error

@@ -4,14 +4,8 @@
 -- Own: a value of no string form is ExpectedString, and a string of a supplementary file that isn't
 -- there is NoSupplementary.
 use Rattle.std.specs.Prelude.{ℕ, ◌+◌, ◌*◌, Bool, false, nat_lt, length, Option, Some, None, Result, Ok, Err, if◌then◌else◌}
-use Rattle.gimli_read.specs.declared.error.Error.{Error}
-use Rattle.gimli_read.specs.declared.error.Error.TheVariants.{OffsetOutOfBounds, ExpectedString, NoSupplementary}
-use Rattle.gimli_read.specs.declared.endian.Format.{Format}
-use Rattle.gimli_read.specs.declared.value.AttributeValue.{AttributeValue}
+use Rattle.gimli.specs.Common.{Error, OffsetOutOfBounds, ExpectedString, NoSupplementary, Format, AttributeValue, Section, after, ◌>>=◌, address_at, null_terminated_at, offset_size}
 use Rattle.gimli_read.specs.declared.value.AttributeValue.TheVariants as values
-use Rattle.gimli_read.specs.Section.{Section, after}
-use Rattle.gimli_read.specs.Reading.{◌>>=◌}
-use Rattle.gimli_read.specs.Number.{address_at, null_terminated_at, offset_size}
 use Rattle.gimli.specs.Sections.{Sections, SupSections}
 
 -- a section from an offset on

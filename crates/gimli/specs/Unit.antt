@@ -4,16 +4,10 @@
 -- index of its low_pc, in this order. A name or a directory that can't be read counts as none.
 use Rattle.std.specs.Prelude.{ℕ, true, List, option_map, option_and_then, Option, Some, None, Result, Ok, unwrap_or, if◌then◌else◌}
 use Rattle.std.specs.Result.{result_ok}
-use Rattle.gimli_read.specs.declared.error.Error.{Error}
-use Rattle.gimli_read.specs.declared.endian.Encoding.{Encoding}
-use Rattle.gimli_read.specs.declared.endian.Format.{Format}
+use Rattle.gimli.specs.Common.{Error, Encoding, Format, AttributeValue, Section, is_5, Abbrev}
 use Rattle.gimli_read.specs.declared.endian.Format.TheVariants.{Dwarf32, Dwarf64}
-use Rattle.gimli_read.specs.declared.value.AttributeValue.{AttributeValue}
-use Rattle.gimli_read.specs.Section.{Section}
-use Rattle.gimli_read.specs.Version.{is_5}
 use Rattle.gimli_read.specs.Reading as reading
 use Rattle.gimli_read.specs.Costed.{Costed, ◌>>=◌, free, parts, parts_on_the_way, room_if}
-use Rattle.gimli_read.specs.Abbreviations.{Abbrev}
 use Rattle.gimli_read.specs.Abbrev.{table_at}
 use Rattle.gimli_line.specs.Header.{Program}
 use Rattle.gimli_line.specs.Stored.{line_program_at}

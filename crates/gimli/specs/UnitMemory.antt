@@ -2,9 +2,7 @@
 -- Own: OutOfMemory is an answer only there.
 use Rattle.std.specs.Prelude.{◌||◌, Bool, false, Option, Some, None, is_some, Result, Ok, Err, if◌then◌else◌}
 use Rattle.std.specs.Option.{option_map_or}
-use Rattle.gimli_read.specs.declared.error.Error.{Error}
-use Rattle.gimli_read.specs.declared.value.AttributeValue.{AttributeValue}
-use Rattle.gimli_read.specs.Section.{Section}
+use Rattle.gimli.specs.Common.{Error, AttributeValue, Section}
 use Rattle.gimli_read.specs.HeldBytes.{holds_bytes}
 use Rattle.gimli_read.specs.Abbrev.{takes_memory}
 use Rattle.gimli.specs.Header.{UnitHeaderFields}

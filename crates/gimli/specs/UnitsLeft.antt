@@ -1,8 +1,6 @@
 -- What is left of a section's units (DWARF 5, section 7.5).
 use Rattle.std.specs.Prelude.{ℕ, Bool, false, List, Option, is_some, Result, Ok, Err}
-use Rattle.gimli_read.specs.declared.error.Error.{Error}
-use Rattle.gimli_read.specs.Section.{Section}
-use Rattle.gimli_read.specs.Run.{listed, run_of}
+use Rattle.gimli.specs.Common.{Error, Section, listed, run_of}
 use Rattle.gimli.specs.Header.{UnitHeaderFields, next_header_at, headers_of}
 
 -- the headers that are left of a section of this length, and the fault after them, if there is one

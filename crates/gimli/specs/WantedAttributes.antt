@@ -2,9 +2,8 @@
 -- are, as the private functions see them.
 use Rattle.std.specs.Prelude.{◌≡◌, ◌==◌, ◌||◌, Bool, false, List, ◌∷◌, ◌++◌}
 use Rattle.std.specs.List.{All}
-use Rattle.gimli_read.specs.declared.constants.DwAt.{DwAt}
+use Rattle.gimli.specs.Common.{DwAt, Specification}
 use Rattle.gimli_read.specs.declared.constants.TheConstants.DwAt.{DW_AT_name, DW_AT_comp_dir, DW_AT_low_pc, DW_AT_stmt_list, DW_AT_str_offsets_base, DW_AT_addr_base, DW_AT_GNU_addr_base, DW_AT_rnglists_base, DW_AT_GNU_ranges_base, DW_AT_GNU_dwo_id, DW_AT_GNU_dwo_name, DW_AT_dwo_name}
-use Rattle.gimli_read.specs.Abbreviations.{Specification}
 
 -- whether a specification is that of an attribute that is asked for
 abbrev pub is_wanted_specification : (DwAt → Bool) → Specification → Bool

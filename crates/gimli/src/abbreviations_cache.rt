@@ -3,9 +3,8 @@
 ghost use Rattle.std.specs.Prelude.{◌≡◌, ◌≢◌, Ok, Err, true, false, is_ok, is_some, IfOk, IfErr, IfSome, OnOk};
 ghost use Rattle.std.specs.Result.{result_map_both};
 ghost use Rattle.gimli_read.specs.Costed.{ExactlyAtCost};
-ghost use Rattle.gimli_read.specs.Reading.{ExactlyUnlessOomIf};
+ghost use Rattle.gimli.specs.Common.{ExactlyUnlessOomIf, OutOfMemory};
 ghost use Rattle.gimli_read.specs.Abbrev.{table_at};
-ghost use Rattle.gimli_read.specs.declared.error.Error.TheVariants.{OutOfMemory};
 ghost use Rattle.gimli.specs.Text.{from_offset};
 ghost use Rattle.gimli.specs.Unit.{table_from, unit_by, unit_record_of};
 ghost use Rattle.gimli.specs.CachedTables.{empty_cache, is_cached, StaysCached, CachesTable, seen_table, room_after, cached_unit_takes_memory};

@@ -2,8 +2,7 @@
 
 ghost use Rattle.std.specs.Prelude.{◌≡◌, ◌+◌, ◌*◌, ◌<◌, true, drop, [], IfErr};
 ghost use Rattle.std.specs.List.{slice_get};
-ghost use Rattle.gimli_read.specs.Number.{is_address_size};
-ghost use Rattle.gimli_read.specs.Reading.{Exactly};
+ghost use Rattle.gimli.specs.Common.{is_address_size, Exactly};
 ghost use Rattle.gimli_read.specs.Yields.{next_given};
 ghost use Rattle.gimli.specs.Aranges.{pair_size, padding, arange_fields_at, arange_set_at, next_set_at, arange_sets_of, next_pair_at, arange_of, aranges_of};
 

@@ -1,7 +1,7 @@
 //! The sections of a file together, and what is read from several of them.
 
 ghost use Rattle.std.specs.Prelude.{◌≡◌, ◌||◌, Ok, OnErr, is_ok, is_some};
-ghost use Rattle.gimli_read.specs.Reading.{ExactlyUnlessOomFor, ExactlyUnlessOomIf};
+ghost use Rattle.gimli.specs.Common.{ExactlyUnlessOomFor, ExactlyUnlessOomIf};
 ghost use Rattle.gimli.specs.Split.{split_sections};
 ghost use Rattle.gimli.specs.UnitsLeft.{all_headers};
 

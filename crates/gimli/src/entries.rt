@@ -1,9 +1,8 @@
 //! The entries of a unit.
 
 ghost use Rattle.std.specs.Prelude.{◌≡◌, ◌<◌, ◌≤◌, ◌+◌, ◌-◌, ◌^◌, ◌==◌, [], length, None, Ok, option_map, OnErr, unsigned_abs};
-ghost use Rattle.gimli_read.specs.Reading.{Exactly, ExactlyUnlessOomFor};
+ghost use Rattle.gimli.specs.Common.{Exactly, ExactlyUnlessOomFor, attribute_at, attributes_at, rest_of};
 ghost use Rattle.gimli_read.specs.HeldBytes.{gives_attribute_bytes};
-ghost use Rattle.gimli_read.specs.Form.{attribute_at, attributes_at, rest_of};
 ghost use Rattle.gimli_read.specs.NumberValue.{number_at};
 ghost use Rattle.gimli.specs.Entry.{depth_after_entry, depth_after_closing};
 ghost use Rattle.gimli.specs.EntryCursor.{entries_at, entry_abbreviation_at};

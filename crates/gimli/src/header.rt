@@ -1,7 +1,7 @@
 //! Reading the headers of units.
 
 ghost use Rattle.std.specs.Prelude.{◌<◌, ◌^◌};
-ghost use Rattle.gimli_read.specs.Reading.{Exactly, Reads, ReadsUnlessOomIf};
+ghost use Rattle.gimli.specs.Common.{Exactly, Reads, ReadsUnlessOomIf};
 ghost use Rattle.gimli.specs.Header.{unit_type_at, type_fields_at};
 ghost use Rattle.gimli.specs.Header.{fields_4_at, fields_5_at, header_fields_at, unit_header_at};
 

@@ -3,7 +3,7 @@
 ghost use Rattle.std.specs.Prelude.{◌≡◌, option_map, IfOk, Result, None};
 ghost use Rattle.gimli.specs.Asked.{section_name, dwo_section_name, all_sections, Asked, section_list, sup_section_list, Supplies};
 ghost use Rattle.gimli.specs.Sections.{SupSections};
-ghost use Rattle.gimli_read.specs.declared.error.Error.TheVariants.{OutOfMemory};
+ghost use Rattle.gimli.specs.Common.{OutOfMemory};
 ghost use Rattle.std.specs.Result.{result_map_both};
 ghost use Rattle.gimli.specs.declared.dwarf.DwarfFileType.TheVariants.{Main};
 

@@ -1,10 +1,8 @@
 //! The ranges of range lists, and where these begin.
 
 ghost use Rattle.std.specs.Prelude.{◌≡◌, true};
-ghost use Rattle.gimli_read.specs.Number.{is_address_size};
-ghost use Rattle.gimli_read.specs.Reading.{Exactly};
+ghost use Rattle.gimli.specs.Common.{is_address_size, Exactly, is_tombstone};
 ghost use Rattle.gimli_read.specs.Yields.{Yields};
-ghost use Rattle.gimli_line.specs.AddressSize.{is_tombstone};
 ghost use Rattle.gimli.specs.Ranges.{sum_of_size, range_of, range_of_length, range_from_base, range_of_entry, ranges_from, range_lists_of, ranges_at};
 ghost use Rattle.gimli.specs.RangesLeft.{FindsRange};
 

@@ -1,8 +1,7 @@
 //! Where the range lists of attributes begin.
 
 ghost use Rattle.std.specs.Prelude.{◌≡◌};
-ghost use Rattle.gimli_read.specs.Form.{seen_value};
-ghost use Rattle.gimli_read.specs.Reading.{Exactly};
+ghost use Rattle.gimli.specs.Common.{seen_value, Exactly};
 ghost use Rattle.gimli.specs.RangesOffset.{offset_from_base, ranges_base, rnglists_offset, offset_with_base, ranges_offset_of};
 
 use crate::dwarf::{Dwarf, DwarfFileType};

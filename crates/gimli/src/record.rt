@@ -1,8 +1,7 @@
 //! The record of a unit: what its root entry's attributes give.
 
 ghost use Rattle.std.specs.Prelude.{◌≡◌};
-ghost use Rattle.gimli_read.specs.Reading.{ExactlyUnlessOomIf};
-ghost use Rattle.gimli_read.specs.Form.{seen_value};
+ghost use Rattle.gimli.specs.Common.{ExactlyUnlessOomIf, seen_value};
 ghost use Rattle.gimli.specs.Record.{address_value, section_offset, line_offset, dwo_name_attribute, with_root_attribute, no_root_values, root_values_of};
 
 use crate::entries::EntriesRaw;

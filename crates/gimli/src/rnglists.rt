@@ -1,8 +1,7 @@
 //! The entries of range lists.
 
 ghost use Rattle.std.specs.Prelude.{◌≡◌, true};
-ghost use Rattle.gimli_read.specs.Number.{is_address_size};
-ghost use Rattle.gimli_read.specs.Reading.{Reads};
+ghost use Rattle.gimli.specs.Common.{is_address_size, Reads};
 ghost use Rattle.gimli.specs.RangeListEntries.{rnglists_fields_at, rnglists_entry_at, entry_of_pair, ranges_entry_at, range_list_entry_at};
 
 use crate::constants::{

@@ -1,9 +1,8 @@
 //! Attributes of an entry that are asked for, taken in one after another.
 
 ghost use Rattle.std.specs.Prelude.{◌≡◌, true, Ok, OnOk};
-ghost use Rattle.gimli_read.specs.Form.{attribute_at, attributes_at, rest_of};
+ghost use Rattle.gimli.specs.Common.{attribute_at, attributes_at, rest_of, Exactly, ExactlyUnlessOomIf};
 ghost use Rattle.gimli_read.specs.NumberValue.{number_at};
-ghost use Rattle.gimli_read.specs.Reading.{Exactly, ExactlyUnlessOomIf};
 ghost use Rattle.gimli.specs.AttributeSinks.{IsGrowth, IsNextRead, IsNumberRead, IsSeenSame, SaysNothingElse, or_fault};
 ghost use Rattle.gimli.specs.TakenAttributes.{taken_after};
 

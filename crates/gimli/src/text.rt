@@ -1,8 +1,7 @@
 //! Strings and addresses by offset and by index (DWARF 5, sections 7.26 and 7.27).
 
 ghost use Rattle.std.specs.Prelude.{◌≡◌, is_ok, option_map};
-ghost use Rattle.gimli_read.specs.Reading.{Exactly, ExactlyUnlessOomFor, fault_of};
-ghost use Rattle.gimli_read.specs.Form.{seen_value};
+ghost use Rattle.gimli.specs.Common.{Exactly, ExactlyUnlessOomFor, fault_of, seen_value};
 ghost use Rattle.gimli.specs.Unit.{attr_string_of};
 ghost use Rattle.gimli.specs.StringPlaces.{seen_string_place, string_place_of, sup_strings};
 ghost use Rattle.gimli.specs.Text.{from_offset, string_at, string_length_at, indexed_number, string_of, string_takes_memory};

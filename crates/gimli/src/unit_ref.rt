@@ -1,8 +1,7 @@
 //! A unit with the sections that it is read from.
 
 ghost use Rattle.std.specs.Prelude.{◌≡◌, is_ok, option_map};
-ghost use Rattle.gimli_read.specs.Reading.{Exactly, ExactlyUnlessOomFor};
-ghost use Rattle.gimli_read.specs.Form.{seen_value};
+ghost use Rattle.gimli.specs.Common.{Exactly, ExactlyUnlessOomFor, seen_value};
 ghost use Rattle.gimli.specs.Text.{indexed_number, string_takes_memory};
 ghost use Rattle.gimli.specs.Unit.{attr_string_of};
 ghost use Rattle.gimli.specs.Entries.{entry_bytes_from};

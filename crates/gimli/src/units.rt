@@ -2,8 +2,7 @@
 
 ghost use Rattle.std.specs.Prelude.{◌≡◌, ◌≢◌, [], IfErr, OnErr};
 ghost use Rattle.gimli_read.specs.Yields.{next_given};
-ghost use Rattle.gimli_read.specs.Reading.{ExactlyUnlessOomFor};
-ghost use Rattle.gimli_read.specs.declared.error.Error.TheVariants.{OutOfMemory};
+ghost use Rattle.gimli.specs.Common.{ExactlyUnlessOomFor, OutOfMemory};
 ghost use Rattle.gimli.specs.Header.{next_header_at};
 ghost use Rattle.gimli.specs.UnitsLeft.{all_headers, gives_header};
 

@@ -1,8 +1,7 @@
 //! Runs over files and lookups that tests know.
 
 ghost use Rattle.std.specs.Prelude.{◌≡◌, [], None, Ok, option_map};
-ghost use Rattle.gimli_read.specs.Reading.{result_map};
-ghost use Rattle.addr2line_lines.specs.SeenLocation.{seen_location};
+ghost use Rattle.addr2line_bin.specs.Common.{result_map, seen_location};
 
 use crate::command_line::{Request, command_line};
 use crate::exit::Exit;

@@ -1,6 +1,4 @@
-use Rattle.std.proofs.Common.{rules, subst}
-use Rattle.addr2line_c.specs.Calls.{AnswersToken}
-use Rattle.addr2line_c.specs.declared.file.OpenFile.{OpenFile}
+use Rattle.addr2line_c.proofs.Common.{rules, subst, AnswersToken, OpenFile}
 use Rattle.addr2line_c.proofs.CallLemmas.{calls_open}
 use Rattle.addr2line_c.proofs.addr2line_answer_load.Goals as goal
 

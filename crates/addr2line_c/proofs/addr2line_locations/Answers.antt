@@ -1,6 +1,4 @@
-use Rattle.std.proofs.Common.{rules, subst, length}
-use Rattle.addr2line_c.specs.Calls.{SpansFrom}
-use Rattle.addr2line_c.specs.declared.file.OpenFile.{OpenFile}
+use Rattle.addr2line_c.proofs.Common.{rules, subst, length, SpansFrom, OpenFile}
 use Rattle.addr2line_c.proofs.CallLemmas.{calls_open}
 use Rattle.addr2line_c.proofs.addr2line_locations.Goals as goal
 

@@ -1,6 +1,4 @@
-use Rattle.std.proofs.Common.{rules, subst}
-use Rattle.addr2line_c.specs.Calls.{PreloadsAt}
-use Rattle.addr2line_c.specs.declared.file.OpenFile.{OpenFile}
+use Rattle.addr2line_c.proofs.Common.{rules, subst, PreloadsAt, OpenFile}
 use Rattle.addr2line_c.proofs.CallLemmas.{calls_open}
 use Rattle.addr2line_c.proofs.addr2line_preload.Goals as goal
 

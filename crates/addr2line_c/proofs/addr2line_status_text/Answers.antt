@@ -1,7 +1,4 @@
-use Rattle.std.proofs.Common.{rules, ◌≡◌, ◌∙◌, ◌++◌, ◌∷◌, [], ap, inl, refl, sym, subst}
-use Rattle.std.proofs.lemmas.List.{append-nil}
-use Rattle.addr2line_c.specs.Filled.{IsFilled}
-use Rattle.addr2line_c.specs.Status.{status_number, status_text}
+use Rattle.addr2line_c.proofs.Common.{rules, ◌≡◌, ◌∙◌, ◌++◌, ◌∷◌, [], ap, inl, refl, sym, subst, append-nil, IsFilled, status_number, status_text}
 use Rattle.addr2line_c.proofs.addr2line_status_text.Goals as goal
 
 pub returns : goal.returns

@@ -1,10 +1,4 @@
-use Rattle.std.proofs.Common.{◌≡◌, ◌≢◌, Err, Ok, option_map, refl, rules, subst, true, ◌∙◌}
-use Rattle.std.specs.Prelude.{IfSome}
-use Rattle.elf.specs.declared.error.LoaderError.TheVariants.{OutOfMemory}
-use Rattle.addr2line_units.specs.declared.frames.OnFault.TheVariants.{Stop}
-use Rattle.addr2line.specs.Answers.{SuspendsAgain}
-use Rattle.addr2line.specs.Files.{as_read_if_known}
-use Rattle.addr2line.specs.SplitFiles.{given_by_files}
+use Rattle.addr2line.proofs.Common.{◌≡◌, ◌≢◌, Err, Ok, option_map, refl, rules, subst, true, ◌∙◌, IfSome, OutOfMemory, Stop, SuspendsAgain, as_read_if_known, given_by_files}
 use Rattle.addr2line.proofs.ByFilesLemmas.{begins_waiting, ends_at_once, ends_resumed, given_up, goes_on, if_read}
 use Rattle.addr2line.proofs.by_files.answer_loads.Goals as goal
 

@@ -1,6 +1,4 @@
-use Rattle.std.proofs.Common.{◌≡◌}
-use Rattle.addr2line.specs.Files.{as_read_if_known}
-use Rattle.addr2line.specs.WaitingLookups.{count_loads}
+use Rattle.addr2line.proofs.Common.{◌≡◌, as_read_if_known, count_loads}
 use Rattle.addr2line.proofs.ByFilesLemmas.{WaitsByFiles}
 use Rattle.addr2line.proofs.by_files.answer_loads.Given as goal
 

@@ -1,7 +1,4 @@
-use Rattle.std.proofs.Common.{◌≡◌, ◌++◌, length, map}
-use Rattle.addr2line_units.specs.FramesLeft.{frames_left}
-use Rattle.addr2line.specs.Replies.{copied_frame}
-use Rattle.addr2line.specs.SeenReplies.{seen_owned_frame}
+use Rattle.addr2line.proofs.Common.{◌≡◌, ◌++◌, length, map, frames_left, copied_frame, seen_owned_frame}
 use Rattle.addr2line.proofs.copies.copy_frames.Given as goal
 
 -- the copies, and the frames that are left, are all frames

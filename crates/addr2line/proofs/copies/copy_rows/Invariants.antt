@@ -1,7 +1,5 @@
-use Rattle.std.proofs.Common.{◌≡◌, ◌++◌, length, map}
-use Rattle.gimli_read.specs.Reading.{result_map}
+use Rattle.addr2line.proofs.Common.{◌≡◌, ◌++◌, length, map, result_map, seen_owned_span}
 use Rattle.addr2line_units.specs.LocationsLeft.{locations_left}
-use Rattle.addr2line.specs.SeenReplies.{seen_owned_span}
 use Rattle.addr2line.proofs.copies.copy_rows.Given as goal
 
 -- the copies, and the rows that are left, are all rows

@@ -1,6 +1,4 @@
-use Rattle.std.proofs.Common.{◌≡◌, ◌++◌, drop, map}
-use Rattle.addr2line.specs.Replies.{copied_load}
-use Rattle.addr2line.specs.SeenReplies.{seen_owned_load}
+use Rattle.addr2line.proofs.Common.{◌≡◌, ◌++◌, drop, map, copied_load, seen_owned_load}
 use Rattle.addr2line.proofs.copies.loads_reply.Given as goal
 
 -- the copies, and those of the loads that are left, are those of all loads

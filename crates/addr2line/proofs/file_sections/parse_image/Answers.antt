@@ -1,8 +1,5 @@
-use Rattle.std.proofs.Common.{◌≡◌, [], Err, Ok, ap, refl, subst, sym, ◌∙◌}
-use Rattle.elf.specs.declared.error.LoaderError.TheVariants.{NotElf}
+use Rattle.addr2line.proofs.Common.{◌≡◌, [], Err, Ok, ap, refl, subst, sym, ◌∙◌, NotElf, Loading, LoadsUnlessOomFor, ObjectFile, gives_sections, object_file_of}
 use Rattle.elf.specs.Header.{ident_in}
-use Rattle.elf.specs.Loading.{Loading, LoadsUnlessOomFor}
-use Rattle.elf.specs.ObjectFile.{ObjectFile, gives_sections, object_file_of}
 use Rattle.addr2line.proofs.file_sections.parse_image.Goals as goal
 
 -- no byte is no ELF file

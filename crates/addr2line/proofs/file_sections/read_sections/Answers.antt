@@ -1,4 +1,4 @@
-use Rattle.std.proofs.lemmas.Result.{err_from_is_err_and}
+use Rattle.addr2line.proofs.Common.{err_from_is_err_and}
 use Rattle.addr2line.proofs.FileSectionLemmas.{fault_of_abbrevs, fault_of_addr, fault_of_aranges, fault_of_info, fault_of_line, fault_of_line_str, fault_of_ranges, fault_of_rnglists, fault_of_str, fault_of_str_offsets, sections_are}
 use Rattle.addr2line.proofs.file_sections.read_sections.Goals as goal
 

@@ -1,8 +1,7 @@
 use Rattle.gimli_read.proofs.FaultLemmas.{not_refused}
-use Rattle.addr2line_units.specs.declared.frames.OnFault.TheVariants.{Stop, Skip}
+use Rattle.addr2line.proofs.Common.{Stop, Skip, frames_value, unit_value}
 use Rattle.addr2line_units.proofs.FaultLemmas.{location_of_is, spans_of_are, spans_unrefused}
 use Rattle.addr2line.proofs.FaultLemmas.{forget_reply_is, found_are, lines_of_all_are, load_reply_is, lookup_stop_is, new_context_is, parse_reply_is, replies_are}
-use Rattle.addr2line.specs.Lookups.{frames_value, unit_value}
 use Rattle.addr2line.proofs.laws.fault_laws.Goals as goal
 
 pub returns : goal.returns

@@ -1,4 +1,4 @@
-use Rattle.std.proofs.Common.{is_some, option_map}
+use Rattle.addr2line.proofs.Common.{is_some, option_map}
 use Rattle.addr2line.proofs.LoadedLemmas.{dwarf_made}
 use Rattle.addr2line.proofs.loader.read_dwarf.Goals as goal
 

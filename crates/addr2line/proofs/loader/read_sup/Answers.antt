@@ -1,4 +1,4 @@
-use Rattle.std.proofs.Common.{option_map}
+use Rattle.addr2line.proofs.Common.{option_map}
 use Rattle.addr2line.proofs.LoadedLemmas.{sup_made}
 use Rattle.addr2line.proofs.loader.read_sup.Goals as goal
 

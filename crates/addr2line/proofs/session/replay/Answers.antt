@@ -1,11 +1,7 @@
-use Rattle.std.proofs.Common.{ap, drop, map, refl, rules, subst, sym, ◌+◌, ◌∙◌}
-use Rattle.std.proofs.lemmas.List.{map-append}
-use Rattle.std.proofs.lemmas.Result.{err_from_is_err_and}
+use Rattle.addr2line.proofs.Common.{ap, drop, map, refl, rules, subst, sym, ◌+◌, ◌∙◌, map-append, err_from_is_err_and, seen_call, seen_reply}
 use Rattle.gimli_read.specs.declared.error.Error.TheVariants.{OutOfMemory}
 use Rattle.addr2line.proofs.HistoryLemmas.{drop_one}
 use Rattle.addr2line.proofs.RunLemmas.{HasMade, made_all, made_none, made_one, none_left, refused_after, refused_at_once, refused_in, told_all}
-use Rattle.addr2line.specs.SeenCalls.{seen_call}
-use Rattle.addr2line.specs.SeenReplies.{seen_reply}
 use Rattle.addr2line.proofs.session.replay.Goals as goal
 
 pub returns-in_err-replies-clause-after : goal.returns-in_err-replies-clause-after

@@ -1,7 +1,5 @@
-use Rattle.std.proofs.Common.{drop, map}
+use Rattle.addr2line.proofs.Common.{drop, map, seen_call, seen_reply}
 use Rattle.addr2line.proofs.RunLemmas.{HasMade}
-use Rattle.addr2line.specs.SeenCalls.{seen_call}
-use Rattle.addr2line.specs.SeenReplies.{seen_reply}
 use Rattle.addr2line.proofs.session.replay.Given as goal
 
 -- the calls so far were made

@@ -1,14 +1,5 @@
-use Rattle.std.proofs.Common.{◌≤◌, Some, ap, length, map, option_map, refl, rules, subst, sym, ◌∙◌}
-use Rattle.std.proofs.lemmas.List.{length-map}
-use Rattle.gimli_read.specs.Reading.{ExactlyUnlessOom}
-use Rattle.addr2line_units.specs.declared.frames.OnFault.TheVariants.{Stop}
-use Rattle.addr2line_units.specs.FramesLeft.{frames_left}
+use Rattle.addr2line.proofs.Common.{◌≤◌, Some, ap, length, map, option_map, refl, rules, subst, sym, ◌∙◌, length-map, ExactlyUnlessOom, Stop, frames_left, SuspendsAgain, answered, frames_replied, lookup_stop, frames_of, reply_of_frames, given_by, seen_given}
 use Rattle.addr2line.proofs.ReplayLemmas.{begun_at, ends_at_once, ends_resumed, goes_on, is_left, is_refused, left_at_end, left_by, load_token, next_of}
-use Rattle.addr2line.specs.Answers.{SuspendsAgain, answered}
-use Rattle.addr2line.specs.History.{frames_replied}
-use Rattle.addr2line.specs.Lookups.{lookup_stop, frames_of}
-use Rattle.addr2line.specs.Replies.{reply_of_frames}
-use Rattle.addr2line.specs.SeenCalls.{given_by, seen_given}
 use Rattle.addr2line.proofs.session.replay_frames.Goals as goal
 
 pub returns-in-Output : goal.returns-in-Output

@@ -1,7 +1,5 @@
-use Rattle.std.proofs.Common.{◌≡◌, map}
-use Rattle.addr2line_units.specs.declared.frames.OnFault.TheVariants.{Stop}
+use Rattle.addr2line.proofs.Common.{◌≡◌, map, Stop, seen_given}
 use Rattle.addr2line.proofs.ReplayLemmas.{HasAnswered}
-use Rattle.addr2line.specs.SeenCalls.{seen_given}
 use Rattle.addr2line.proofs.session.replay_frames.Given as goal
 
 -- the lookup that waits was given the answers so far

@@ -1,14 +1,6 @@
-use Rattle.std.proofs.Common.{◌≤◌, ap, length, map, option_map, refl, rules, subst, sym, ◌∙◌}
-use Rattle.std.proofs.lemmas.List.{length-map}
-use Rattle.gimli_read.specs.Reading.{ExactlyUnlessOom}
-use Rattle.addr2line_units.specs.declared.frames.OnFault.TheVariants.{Skip}
+use Rattle.addr2line.proofs.Common.{◌≤◌, ap, length, map, option_map, refl, rules, subst, sym, ◌∙◌, length-map, ExactlyUnlessOom, Skip, SuspendsAgain, answered, unit_replied, lookup_stop, unit_of, unit_value, reply_of_unit, given_by, seen_given}
 use Rattle.addr2line_units.specs.SeenUnit.{seen_found}
 use Rattle.addr2line.proofs.ReplayLemmas.{begun_at, ends_at_once, ends_resumed, goes_on, is_left, is_refused, left_at_end, left_by, load_token, next_of, found_waiting}
-use Rattle.addr2line.specs.Answers.{SuspendsAgain, answered}
-use Rattle.addr2line.specs.History.{unit_replied}
-use Rattle.addr2line.specs.Lookups.{lookup_stop, unit_of, unit_value}
-use Rattle.addr2line.specs.Replies.{reply_of_unit}
-use Rattle.addr2line.specs.SeenCalls.{given_by, seen_given}
 use Rattle.addr2line.proofs.session.replay_unit.Goals as goal
 
 pub returns-in-Output : goal.returns-in-Output

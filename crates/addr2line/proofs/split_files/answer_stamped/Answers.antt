@@ -1,9 +1,6 @@
-use Rattle.std.proofs.Common.{◌≡◌, Some, Ok, option_map, ap, sym, subst, refl, ◌∙◌}
-use Rattle.elf.specs.Loading.{LoadsUnlessOom}
-use Rattle.elf.specs.ObjectFile.{ObjectFile}
+use Rattle.addr2line.proofs.Common.{◌≡◌, Some, Ok, option_map, ap, sym, subst, refl, ◌∙◌, LoadsUnlessOom, ObjectFile, or_none, split_by}
 use Rattle.addr2line.specs.declared.kept_files.KeptFile.{KeptFile}
 use Rattle.addr2line.specs.FileSections.{split_section}
-use Rattle.addr2line.specs.SplitFiles.{or_none, split_by}
 use Rattle.addr2line.proofs.split_files.answer_stamped.Goals as goal
 
 pub returns-in-Some-clause-found : goal.returns-in-Some-clause-found

@@ -1,8 +1,5 @@
-use Rattle.std.proofs.Common.{Ok, option_map, subst, sym}
-use Rattle.std.proofs.lemmas.Option.{IfSome_then}
+use Rattle.addr2line.proofs.Common.{Ok, option_map, subst, sym, IfSome_then, LoadsUnlessOom, as_read}
 use Rattle.elf.specs.FileImage.{image_bytes}
-use Rattle.elf.specs.Loading.{LoadsUnlessOom}
-use Rattle.addr2line.specs.Files.{as_read}
 use Rattle.addr2line.proofs.SplitFileLemmas.{split_found}
 use Rattle.addr2line.proofs.split_files.read_answering.Goals as goal
 

@@ -1,7 +1,5 @@
-use Rattle.std.proofs.Common.{Ok, Err, Some, refl, sym, ap, false, true, ◌∙◌}
-use Rattle.std.proofs.lemmas.Result.{err_from_is_err_and}
+use Rattle.addr2line.proofs.Common.{Ok, Err, Some, refl, sym, ap, false, true, ◌∙◌, err_from_is_err_and, has_wanted_id}
 use Rattle.gimli.specs.Split.{split_sections}
-use Rattle.addr2line.specs.SplitFiles.{has_wanted_id}
 use Rattle.addr2line.proofs.LoadingLemmas.{no_oom}
 use Rattle.addr2line.proofs.SplitFileLemmas.{as_made, never_fault, split_is, split_tested, split_unread}
 use Rattle.addr2line.proofs.split_files.read_split.Goals as goal

@@ -1,5 +1,4 @@
-use Rattle.std.proofs.Common.{Some, None, Ok, Err, ap, refl, sym}
-use Rattle.elf.specs.declared.error.LoaderError.TheVariants.{PathNotUtf8}
+use Rattle.addr2line.proofs.Common.{Some, None, Ok, Err, ap, refl, sym, PathNotUtf8}
 use Rattle.elf.proofs.Utf8Lemmas.{utf8_some, utf8_none}
 use Rattle.addr2line.proofs.split_files.text_of.Goals as goal
 

@@ -1,6 +1,5 @@
-use Rattle.std.proofs.Common.{Some, refl}
+use Rattle.addr2line.proofs.Common.{Some, refl, found_at}
 use Rattle.addr2line.proofs.AfterLemmas.{frames_over, if_load, outputs_same, suspends}
-use Rattle.addr2line.specs.Lookups.{found_at}
 use Rattle.addr2line.proofs.suspended.begin.Goals as goal
 
 pub returns : goal.returns

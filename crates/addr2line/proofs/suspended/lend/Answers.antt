@@ -1,6 +1,4 @@
-use Rattle.std.proofs.Common.{Ok, refl, rules, subst}
-use Rattle.gimli_read.specs.Reading.{ExactlyUnlessOom}
-use Rattle.addr2line.specs.Lookups.{lookup_stop}
+use Rattle.addr2line.proofs.Common.{Ok, refl, rules, subst, ExactlyUnlessOom, lookup_stop}
 use Rattle.addr2line.proofs.AfterLemmas.{found_lent}
 use Rattle.addr2line.proofs.SkippedLemmas.{told_ended}
 use Rattle.addr2line.proofs.suspended.lend.Goals as goal

@@ -1,4 +1,4 @@
-use Rattle.std.proofs.Common.{string_bytes}
+use Rattle.addr2line_bin.proofs.Common.{string_bytes}
 use Rattle.addr2line_bin.proofs.AddressLemmas.{three_texts}
 use Rattle.addr2line_bin.proofs.address_text.push_topic.Goals as goal
 

@@ -1,4 +1,4 @@
-use Rattle.std.proofs.Common.{ap, option_map, refl}
+use Rattle.addr2line_bin.proofs.Common.{ap, option_map, refl}
 use Rattle.addr2line_units.specs.LocationsLeft.{locations_left}
 use Rattle.addr2line_lines.specs.RangesLeft.{seen_located}
 use Rattle.addr2line_bin.proofs.AddressListLemmas.{given_row, kept_more, no_row}

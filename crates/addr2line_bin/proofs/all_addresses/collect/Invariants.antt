@@ -1,4 +1,4 @@
-use Rattle.std.proofs.Common.{◌≡◌, []}
+use Rattle.addr2line_bin.proofs.Common.{◌≡◌, []}
 use Rattle.addr2line_units.specs.LocationsLeft.{locations_left}
 use Rattle.addr2line_bin.specs.AllAddresses.{addresses_in, rising_after}
 use Rattle.addr2line_bin.proofs.all_addresses.collect.Given as goal

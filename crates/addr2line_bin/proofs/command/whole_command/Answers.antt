@@ -1,7 +1,5 @@
 -- Each part adds its rules, in turn.
-use Rattle.std.proofs.Common.{◌∙◌, ap}
-use Rattle.std.proofs.lemmas.Result.{IfOk-weaker}
-use Rattle.addr2line_bin.specs.Command.{address_words, with_lookup_options, with_style_options}
+use Rattle.addr2line_bin.proofs.Common.{◌∙◌, ap, IfOk-weaker, address_words, with_lookup_options, with_style_options}
 use Rattle.addr2line_bin.proofs.CommandLemmas.{adds_next}
 use Rattle.addr2line_bin.proofs.command.whole_command.Goals as goal
 

@@ -1,8 +1,5 @@
 -- Each argument adds its rule, in turn.
-use Rattle.std.proofs.Common.{codes}
-use Rattle.std.proofs.lemmas.Result.{IfOk-weaker}
-use Rattle.std.specs.Str.{byte}
-use Rattle.addr2line_bin.specs.Command.{long_option, long_switch, option}
+use Rattle.addr2line_bin.proofs.Common.{codes, IfOk-weaker, byte, long_option, long_switch, option}
 use Rattle.addr2line_bin.proofs.CommandLemmas.{adds_next}
 use Rattle.addr2line_bin.proofs.command.with_lookup_options.Goals as goal
 

@@ -1,6 +1,5 @@
 -- The matches are those of the words, and so are the faults; the request is what they ask for.
-use Rattle.std.proofs.Common.{◌∙◌, ap, sym, subst, string_bytes}
-use Rattle.std.proofs.lemmas.Result.{IfErr-weaker}
+use Rattle.addr2line_bin.proofs.Common.{◌∙◌, ap, sym, subst, string_bytes, IfErr-weaker}
 use Rattle.addr2line_bin.specs.CommandLine.{IsAsked, IsUnasked, matches_in}
 use Rattle.addr2line_bin.proofs.CommandLemmas.{err_weaker, is_free_by, is_simple_by, ok_of_both}
 use Rattle.addr2line_bin.proofs.CommandLemmas.{faults_by, matches_by, taken_by}

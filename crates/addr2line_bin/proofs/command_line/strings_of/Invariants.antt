@@ -1,5 +1,5 @@
 -- The strings so far are the first texts.
-use Rattle.std.proofs.Common.{◌≡◌, map, take}
+use Rattle.addr2line_bin.proofs.Common.{◌≡◌, map, take}
 use Rattle.addr2line_bin.specs.CommandLine.{texts_in}
 use Rattle.addr2line_bin.proofs.command_line.strings_of.Given as goal
 

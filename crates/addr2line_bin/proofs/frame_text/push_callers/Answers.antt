@@ -1,6 +1,4 @@
-use Rattle.std.proofs.Common.{◌∙◌, option_map, string_bytes, refl, sym, append-nil, arith}
-use Rattle.std.specs.Option.{option_copied}
-use Rattle.addr2line_units.specs.FramesLeft.{frames_left}
+use Rattle.addr2line_bin.proofs.Common.{◌∙◌, option_map, string_bytes, refl, sym, append-nil, arith, option_copied, frames_left}
 use Rattle.addr2line_units.specs.SeenFrame.{seen_frame}
 use Rattle.addr2line_bin.specs.FrameTexts.{next_and}
 use Rattle.addr2line_bin.proofs.FrameLemmas.{caller_more}

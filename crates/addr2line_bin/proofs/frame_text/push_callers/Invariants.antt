@@ -1,6 +1,4 @@
-use Rattle.std.proofs.Common.{◌≡◌, ◌++◌, option_map, string_bytes, length}
-use Rattle.std.specs.Option.{option_copied}
-use Rattle.addr2line_units.specs.FramesLeft.{frames_left}
+use Rattle.addr2line_bin.proofs.Common.{◌≡◌, ◌++◌, option_map, string_bytes, length, option_copied, frames_left}
 use Rattle.addr2line_units.specs.SeenFrame.{seen_frame}
 use Rattle.addr2line_bin.specs.FrameTexts.{callers_text, next_and}
 use Rattle.addr2line_bin.proofs.frame_text.push_callers.Given as goal

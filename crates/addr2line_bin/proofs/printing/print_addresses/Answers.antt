@@ -1,8 +1,4 @@
-use Rattle.std.proofs.Common.{◌≡◌, ◌∙◌, ◌+◌, ◌≤◌, [], ◌∷◌, ◌++◌, ap, append-nil, append_assoc, arith, drop, length, refl, subst, sym, Some, get_or, map}
-use Rattle.std.proofs.lemmas.Result.{err_from_is_err_and}
-use Rattle.std.proofs.lemmas.List.{drop_all}
-use Rattle.addr2line_bin.specs.Printing.{PrintsOf}
-use Rattle.addr2line_bin.specs.ProbeTexts.{IsText}
+use Rattle.addr2line_bin.proofs.Common.{◌≡◌, ◌∙◌, ◌+◌, ◌≤◌, [], ◌∷◌, ◌++◌, ap, append-nil, append_assoc, arith, drop, length, refl, subst, sym, Some, get_or, map, err_from_is_err_and, drop_all, PrintsOf, IsText}
 use Rattle.addr2line_bin.proofs.AnswerLemmas.{stays_itself, stays_on, text_before}
 use Rattle.addr2line_bin.proofs.PrintingLemmas.{ends_next, prints_next, prints_none, somes_next}
 use Rattle.addr2line_bin.proofs.printing.print_addresses.Goals as goal

@@ -1,7 +1,4 @@
-use Rattle.std.proofs.Common.{◌≡◌, ◌++◌, List, ℕ, Option, Some, drop, map}
-use Rattle.addr2line_bin.specs.FileAnswers.{StaysAnswered}
-use Rattle.addr2line_bin.specs.Printing.{PrintsOf}
-use Rattle.addr2line_bin.specs.ProbeTexts.{IsText}
+use Rattle.addr2line_bin.proofs.Common.{◌≡◌, ◌++◌, List, ℕ, Option, Some, drop, map, StaysAnswered, PrintsOf, IsText}
 use Rattle.addr2line_bin.proofs.printing.print_addresses.Given as goal
 
 -- what was printed so far, and the addresses that are left

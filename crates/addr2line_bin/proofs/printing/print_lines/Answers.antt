@@ -1,10 +1,4 @@
-use Rattle.std.proofs.Common.{◌≡◌, ◌∙◌, ◌+◌, inl, inr, [], ◌∷◌, ◌++◌, ap, arith, refl, subst, sym}
-use Rattle.std.proofs.lemmas.Result.{err_from_is_err_and}
-use Rattle.std.proofs.lemmas.List.{length-append}
-use Rattle.addr2line_bin.specs.Address.{address_in}
-use Rattle.addr2line_bin.specs.InputLines.{line_probes}
-use Rattle.addr2line_bin.specs.Printing.{PrintsOf}
-use Rattle.addr2line_bin.specs.ProbeTexts.{IsText}
+use Rattle.addr2line_bin.proofs.Common.{◌≡◌, ◌∙◌, ◌+◌, inl, inr, [], ◌∷◌, ◌++◌, ap, arith, refl, subst, sym, err_from_is_err_and, length-append, address_in, line_probes, PrintsOf, IsText}
 use Rattle.addr2line_bin.proofs.AnswerLemmas.{stays_itself, stays_on, text_before}
 use Rattle.addr2line_bin.proofs.LineLemmas.{all_before_foreign, all_counted, all_without, are_first, counted_more, probes_more, read_more, read_nothing, to_fault}
 use Rattle.addr2line_bin.proofs.Runs.{plus_nothing}

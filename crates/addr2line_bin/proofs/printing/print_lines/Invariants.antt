@@ -1,9 +1,4 @@
-use Rattle.std.proofs.Common.{◌≡◌, List, ℕ, length}
-use Rattle.addr2line_bin.specs.FileAnswers.{StaysAnswered}
-use Rattle.addr2line_bin.specs.InputLines.{line_probes}
-use Rattle.addr2line_bin.specs.Printing.{PrintsOf}
-use Rattle.addr2line_bin.specs.Put.{plus}
-use Rattle.addr2line_bin.specs.ProbeTexts.{IsText}
+use Rattle.addr2line_bin.proofs.Common.{◌≡◌, List, ℕ, length, StaysAnswered, line_probes, PrintsOf, plus, IsText}
 use Rattle.addr2line_bin.proofs.LineLemmas.{ReadSoFar}
 use Rattle.addr2line_bin.proofs.printing.print_lines.Given as goal
 

@@ -1,7 +1,5 @@
-use Rattle.std.proofs.Common.{string_bytes}
-use Rattle.std.proofs.lemmas.Result.{err_from_is_err_and}
+use Rattle.addr2line_bin.proofs.Common.{string_bytes, err_from_is_err_and, IsText}
 use Rattle.addr2line_bin.specs.Print.{ProbeText}
-use Rattle.addr2line_bin.specs.ProbeTexts.{IsText}
 use Rattle.addr2line_bin.proofs.PrintingLemmas.{ends_at_once, sends_one}
 use Rattle.addr2line_bin.proofs.printing.print_one.Goals as goal
 

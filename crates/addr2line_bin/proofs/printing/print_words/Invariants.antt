@@ -1,8 +1,4 @@
-use Rattle.std.proofs.Common.{◌≡◌, ◌++◌, List, ℕ, Option, drop}
-use Rattle.addr2line_bin.specs.FileAnswers.{StaysAnswered}
-use Rattle.addr2line_bin.specs.Printing.{PrintsOf}
-use Rattle.addr2line_bin.specs.ProbeTexts.{IsText}
-use Rattle.addr2line_bin.specs.Address.{probes_in}
+use Rattle.addr2line_bin.proofs.Common.{◌≡◌, ◌++◌, List, ℕ, Option, drop, StaysAnswered, PrintsOf, IsText, probes_in}
 use Rattle.addr2line_bin.proofs.printing.print_words.Given as goal
 
 -- what was printed so far, and the words that are left

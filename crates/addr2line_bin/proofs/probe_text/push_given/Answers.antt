@@ -1,10 +1,6 @@
-use Rattle.std.proofs.Common.{◌∙◌, option_map, string_bytes, sym}
-use Rattle.std.proofs.lemmas.Result.{on_ok_weaker}
-use Rattle.std.specs.Option.{option_copied}
+use Rattle.addr2line_bin.proofs.Common.{◌∙◌, option_map, string_bytes, sym, on_ok_weaker, option_copied, frames_left, GivesFrames, GivesLocation}
 use Rattle.gimli_read.specs.Reading.{result_map}
 use Rattle.addr2line_lines.specs.SeenLocation.{seen_location}
-use Rattle.addr2line_units.specs.FramesLeft.{frames_left}
-use Rattle.addr2line_bin.specs.ProbeTexts.{GivesFrames, GivesLocation}
 use Rattle.addr2line_bin.proofs.CommandLemmas.{deref_text}
 use Rattle.addr2line_bin.proofs.probe_text.push_given.Goals as goal
 

@@ -1,5 +1,4 @@
-use Rattle.std.proofs.Common.{inl, inr, refl}
-use Rattle.addr2line_bin.specs.ProbeTexts.{IsText}
+use Rattle.addr2line_bin.proofs.Common.{inl, inr, refl, IsText}
 use Rattle.addr2line_bin.proofs.PrintingLemmas.{ends_reported}
 use Rattle.addr2line_bin.proofs.program.run_addresses.Goals as goal
 

@@ -1,5 +1,4 @@
-use Rattle.std.proofs.Common.{Some, inl, inr, map, refl}
-use Rattle.addr2line_bin.specs.ProbeTexts.{IsText}
+use Rattle.addr2line_bin.proofs.Common.{Some, inl, inr, map, refl, IsText}
 use Rattle.addr2line_bin.proofs.AnswerLemmas.{text_before}
 use Rattle.addr2line_bin.proofs.PrintingLemmas.{run_before}
 use Rattle.addr2line_bin.proofs.program.run_all.Goals as goal

@@ -1,5 +1,4 @@
-use Rattle.std.proofs.Common.{inl, inr, refl}
-use Rattle.addr2line_bin.specs.ProbeTexts.{IsText}
+use Rattle.addr2line_bin.proofs.Common.{inl, inr, refl, IsText}
 use Rattle.addr2line_bin.proofs.PrintingLemmas.{lines_reported}
 use Rattle.addr2line_bin.proofs.program.run_lines.Goals as goal
 

@@ -1,4 +1,4 @@
-use Rattle.addr2line_bin.specs.Put.{has_fault}
+use Rattle.addr2line_bin.proofs.Common.{has_fault}
 use Rattle.addr2line_bin.proofs.Parts.{sends_on}
 use Rattle.addr2line_bin.proofs.program.tell_addresses_fault.Goals as goal
 

@@ -1,4 +1,4 @@
-use Rattle.std.proofs.Common.{inl}
+use Rattle.addr2line_bin.proofs.Common.{inl}
 use Rattle.addr2line_bin.proofs.whole_run.answer_command.Goals as goal
 
 pub returns-in-Ok : goal.returns-in-Ok

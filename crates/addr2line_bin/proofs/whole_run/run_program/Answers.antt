@@ -1,4 +1,4 @@
-use Rattle.std.proofs.Common.{inr, refl, rules, subst}
+use Rattle.addr2line_bin.proofs.Common.{inr, refl, rules, subst}
 use Rattle.std.specs.Process.{exit_status}
 use Rattle.addr2line_bin.specs.WholeRun.{AnswersCommand}
 use Rattle.addr2line_bin.proofs.whole_run.run_program.Goals as goal

@@ -1,4 +1,4 @@
-use Rattle.std.proofs.Common.{◌∙◌, inl, subst, sym}
+use Rattle.addr2line_bin.proofs.Common.{◌∙◌, inl, subst, sym}
 use Rattle.std.specs.Process.{exit_status}
 use Rattle.addr2line_bin.specs.WordAnswers.{AnswersWords}
 use Rattle.addr2line_bin.proofs.word_answers.answer_words.Goals as goal

@@ -1,4 +1,4 @@
-use Rattle.std.proofs.Common.{rules}
+use Rattle.addr2line_c.proofs.Common.{rules}
 use Rattle.addr2line_c.proofs.LoadCallLemmas.{loads_refused}
 use Rattle.addr2line_c.proofs.answers.answer_by.Goals as goal
 

@@ -1,6 +1,5 @@
-use Rattle.std.proofs.Common.{◌∙◌, refl, sym}
+use Rattle.addr2line_c.proofs.Common.{◌∙◌, refl, sym, Refused}
 use Rattle.addr2line_units.specs.Loads.{token_number}
-use Rattle.addr2line_c.specs.declared.status.Status.TheVariants.{Refused}
 use Rattle.addr2line_c.proofs.LoadCallLemmas.{none_given, none_refused}
 use Rattle.addr2line_c.proofs.answers.answer_none.Goals as goal
 

@@ -1,4 +1,4 @@
-use Rattle.std.proofs.Common.{◌≡◌, ◌++◌}
+use Rattle.addr2line_c.proofs.Common.{◌≡◌, ◌++◌}
 use Rattle.addr2line_c.specs.AskedLoads.{with_loads}
 use Rattle.addr2line_c.proofs.answers.ask_all.Given as goal
 

@@ -1,5 +1,4 @@
-use Rattle.std.proofs.Common.{◌∙◌, ap, sym}
-use Rattle.addr2line_c.specs.Status.{after_reply}
+use Rattle.addr2line_c.proofs.Common.{◌∙◌, ap, sym, after_reply}
 use Rattle.addr2line_c.proofs.LoadCallLemmas.{warm_when_done}
 use Rattle.addr2line_c.proofs.answers.parse_all.Goals as goal
 

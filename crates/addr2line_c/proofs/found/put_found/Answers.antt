@@ -1,11 +1,6 @@
-use Rattle.std.proofs.Common.{rules, ◌≡◌, ◌<◌, ◌^◌, [], Ok, Some, ap, refl, sym, subst, nat_le, length, option_map, arith}
-use Rattle.gimli_read.specs.Reading.{ExactlyUnlessOom}
+use Rattle.addr2line_c.proofs.Common.{rules, ◌≡◌, ◌<◌, ◌^◌, [], Ok, Some, ap, refl, sym, subst, nat_le, length, option_map, arith, ExactlyUnlessOom, of_file, IsFilled, NamesText, optional_text, zero_ended, IsWrittenLocation, location_file}
 use Rattle.addr2line_lines.specs.SeenLocation.{seen_location}
-use Rattle.addr2line.specs.SplitFiles.{of_file}
 use Rattle.addr2line_c.specs.declared.location.WrittenLocation.{WrittenLocation}
-use Rattle.addr2line_c.specs.Filled.{IsFilled}
-use Rattle.addr2line_c.specs.Texts.{NamesText, optional_text, zero_ended}
-use Rattle.addr2line_c.specs.Written.{IsWrittenLocation, location_file}
 use Rattle.addr2line_c.proofs.AnswerLemmas.{says_there}
 use Rattle.addr2line_c.proofs.TextLemmas.{text_alone}
 use Rattle.addr2line_c.proofs.found.put_found.Goals as goal

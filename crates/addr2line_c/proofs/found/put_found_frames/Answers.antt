@@ -1,8 +1,5 @@
-use Rattle.std.proofs.Common.{rules, ◌≡◌, ◌<◌, ◌^◌, ◌&&◌, Ok, Some, ap, nat_le, length, arith}
-use Rattle.addr2line_units.specs.FramesLeft.{frames_left}
-use Rattle.addr2line.specs.SplitFiles.{of_file}
+use Rattle.addr2line_c.proofs.Common.{rules, ◌≡◌, ◌<◌, ◌^◌, ◌&&◌, Ok, Some, ap, nat_le, length, arith, frames_left, of_file, IsWrittenFrames}
 use Rattle.addr2line_c.specs.Answered.{done_if}
-use Rattle.addr2line_c.specs.Written.{IsWrittenFrames}
 use Rattle.addr2line_c.proofs.AnswerLemmas.{frames_given, says_frames}
 use Rattle.addr2line_c.proofs.TextLemmas.{frames_named}
 use Rattle.addr2line_c.proofs.found.put_found_frames.Goals as goal

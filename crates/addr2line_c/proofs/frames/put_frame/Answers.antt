@@ -1,9 +1,5 @@
-use Rattle.std.proofs.Common.{◌++◌, subst}
-use Rattle.std.proofs.lemmas.List.{append_assoc}
+use Rattle.addr2line_c.proofs.Common.{◌++◌, subst, append_assoc, IsFilled, optional_text, zero_ended, location_file, frame_name}
 use Rattle.addr2line_units.specs.SeenFrame.{seen_frame}
-use Rattle.addr2line_c.specs.Filled.{IsFilled}
-use Rattle.addr2line_c.specs.Texts.{optional_text, zero_ended}
-use Rattle.addr2line_c.specs.Written.{location_file, frame_name}
 use Rattle.addr2line_c.proofs.frames.put_frame.Goals as goal
 
 pub returns-clause-gives : goal.returns-clause-gives

@@ -1,8 +1,5 @@
-use Rattle.std.proofs.Common.{rules, ◌≡◌, ◌∷◌, ◌∙◌, [], subst}
-use Rattle.addr2line_units.specs.FramesLeft.{frames_left}
+use Rattle.addr2line_c.proofs.Common.{rules, ◌≡◌, ◌∷◌, ◌∙◌, [], subst, frames_left, texts_of_items, written_items, frame_texts, written_frame}
 use Rattle.addr2line_units.specs.SeenFrame.{seen_frame}
-use Rattle.addr2line_c.specs.Sequence.{texts_of_items, written_items}
-use Rattle.addr2line_c.specs.Written.{frame_texts, written_frame}
 use Rattle.addr2line_c.proofs.SequenceLemmas.{WroteSome, wrote_one}
 use Rattle.addr2line_c.proofs.frames.put_frames.Goals as goal
 

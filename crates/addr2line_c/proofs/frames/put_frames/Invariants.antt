@@ -1,6 +1,4 @@
-use Rattle.std.proofs.Common.{◌≡◌, length}
-use Rattle.addr2line_units.specs.FramesLeft.{frames_left}
-use Rattle.addr2line_c.specs.Written.{frame_texts, written_frame}
+use Rattle.addr2line_c.proofs.Common.{◌≡◌, length, frames_left, frame_texts, written_frame}
 use Rattle.addr2line_c.proofs.SequenceLemmas.{WroteSome}
 use Rattle.addr2line_c.proofs.frames.put_frames.Given as goal
 

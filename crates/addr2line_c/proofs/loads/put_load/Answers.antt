@@ -1,7 +1,5 @@
-use Rattle.std.proofs.Common.{◌≡◌, ◌++◌, ◌∙◌, [], ap, refl, subst, option_map}
-use Rattle.addr2line_c.specs.Filled.{IsFilled}
+use Rattle.addr2line_c.proofs.Common.{◌≡◌, ◌++◌, ◌∙◌, [], ap, refl, subst, option_map, IsFilled, optional_text, zero_ended, text_after}
 use Rattle.addr2line_c.specs.Loads.{bytes_if, texts_of_load, written_load}
-use Rattle.addr2line_c.specs.Texts.{optional_text, zero_ended, text_after}
 use Rattle.addr2line_c.proofs.LoadLemmas.{same_load}
 use Rattle.addr2line_c.proofs.loads.put_load.Goals as goal
 

@@ -1,6 +1,4 @@
-use Rattle.std.proofs.Common.{rules, ◌∙◌, ap, inl, inr, refl}
-use Rattle.addr2line_c.specs.declared.status.Status.TheVariants.{Waits}
-use Rattle.addr2line_c.specs.Status.{status_of_error}
+use Rattle.addr2line_c.proofs.Common.{rules, ◌∙◌, ap, inl, inr, refl, Waits, status_of_error}
 use Rattle.addr2line_c.proofs.LeftLemmas.{frames_had_memory, leaves_frames, leaves_waiting}
 use Rattle.addr2line_c.proofs.lookups.find_frames.Goals as goal
 

@@ -1,12 +1,6 @@
-use Rattle.std.proofs.Common.{rules, ◌≡◌, ◌<◌, ◌^◌, Ok, Some, ap, subst, nat_le, length, take, drop, arith}
+use Rattle.addr2line_c.proofs.Common.{rules, ◌≡◌, ◌<◌, ◌^◌, Ok, Some, ap, subst, nat_le, length, take, drop, arith, ◌>>=◌, locations_left, of_file, IsFilled, zero_ended, IsWrittenSpans, spans_from, texts_of_spans, written_spans}
 use Rattle.std.specs.Prelude.{IfOk}
-use Rattle.gimli_read.specs.Reading.{◌>>=◌}
 use Rattle.addr2line_units.specs.Located.{spans_of}
-use Rattle.addr2line_units.specs.LocationsLeft.{locations_left}
-use Rattle.addr2line.specs.SplitFiles.{of_file}
-use Rattle.addr2line_c.specs.Filled.{IsFilled}
-use Rattle.addr2line_c.specs.Texts.{zero_ended}
-use Rattle.addr2line_c.specs.WrittenSpans.{IsWrittenSpans, spans_from, texts_of_spans, written_spans}
 use Rattle.addr2line_c.proofs.AnswerLemmas.{says_there}
 use Rattle.addr2line_c.proofs.TextLemmas.{spans_named}
 use Rattle.addr2line_c.proofs.spans.put_found_spans.Goals as goal

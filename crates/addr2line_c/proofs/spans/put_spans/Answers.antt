@@ -1,9 +1,5 @@
-use Rattle.std.proofs.Common.{rules, ◌<◌, ◌^◌, ◌∙◌, [], ap, inl, inr, length, subst, arith}
-use Rattle.gimli_read.specs.Reading.{result_map}
+use Rattle.addr2line_c.proofs.Common.{rules, ◌<◌, ◌^◌, ◌∙◌, [], ap, inl, inr, length, subst, arith, result_map, locations_left, texts_of_items, written_items, texts_of_span, written_span}
 use Rattle.addr2line_lines.specs.RangesLeft.{seen_located}
-use Rattle.addr2line_units.specs.LocationsLeft.{locations_left}
-use Rattle.addr2line_c.specs.Sequence.{texts_of_items, written_items}
-use Rattle.addr2line_c.specs.WrittenSpans.{texts_of_span, written_span}
 use Rattle.addr2line_c.proofs.SequenceLemmas.{WroteSome, first_items, first_texts, room_left, wrote_one}
 use Rattle.addr2line_c.proofs.SpanLemmas.{yields_first, yields_none}
 use Rattle.addr2line_c.proofs.spans.put_spans.Goals as goal

@@ -1,6 +1,4 @@
-use Rattle.std.proofs.Common.{◌≡◌, ◌≤◌, ◌+◌, length}
-use Rattle.addr2line_units.specs.LocationsLeft.{locations_left}
-use Rattle.addr2line_c.specs.WrittenSpans.{texts_of_span, written_span}
+use Rattle.addr2line_c.proofs.Common.{◌≡◌, ◌≤◌, ◌+◌, length, locations_left, texts_of_span, written_span}
 use Rattle.addr2line_c.proofs.SequenceLemmas.{WroteSome}
 use Rattle.addr2line_c.proofs.spans.put_spans.Given as goal
 

@@ -1,5 +1,4 @@
-use Rattle.std.proofs.Common.{◌≡◌, drop}
-use Rattle.addr2line_units.specs.LocationsLeft.{locations_left}
+use Rattle.addr2line_c.proofs.Common.{◌≡◌, drop, locations_left}
 use Rattle.addr2line_c.proofs.spans.skip_spans.Given as goal
 
 -- what is to be passed over yet leaves the same

@@ -1,7 +1,5 @@
-use Rattle.std.proofs.Common.{rules, ◌≡◌, ◌<◌, ◌^◌, ◌∷◌, ◌∙◌, [], Ok, Some, ap, refl, sym, subst, nat_le, length, arith}
+use Rattle.addr2line_c.proofs.Common.{rules, ◌≡◌, ◌<◌, ◌^◌, ◌∷◌, ◌∙◌, [], Ok, Some, ap, refl, sym, subst, nat_le, length, arith, IsFilled, NamesText, zero_ended, text_after}
 use Rattle.elf.specs.Symbols.{named_address, symbol_at}
-use Rattle.addr2line_c.specs.Filled.{IsFilled}
-use Rattle.addr2line_c.specs.Texts.{NamesText, zero_ended, text_after}
 use Rattle.addr2line_c.specs.WrittenSymbols.{IsWrittenSymbol}
 use Rattle.addr2line_c.proofs.AnswerLemmas.{says_there}
 use Rattle.addr2line_c.proofs.TextLemmas.{text_alone}

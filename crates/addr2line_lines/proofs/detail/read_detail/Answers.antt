@@ -1,15 +1,9 @@
-use Rattle.std.proofs.Common.{ap, subst, sym, ◌∙◌}
-use Rattle.std.proofs.lemmas.Result.{err_from_is_err_and}
-use Rattle.gimli_read.specs.Costed.{ExactlyAtCost}
-use Rattle.gimli.specs.Entry.{EntryUnit}
+use Rattle.addr2line_lines.proofs.Common.{ap, subst, sym, ◌∙◌, err_from_is_err_and, ExactlyAtCost, EntryUnit, named_lists, seen_lists, seen_scope, or_left}
 use Rattle.addr2line_lines.specs.CostedSteps.{on_parts}
-use Rattle.addr2line_lines.specs.FoundInlined.{named_lists, seen_lists}
 use Rattle.addr2line_lines.specs.FoundDetails.{function_found_at}
-use Rattle.addr2line_lines.specs.SeenScope.{seen_scope}
 use Rattle.addr2line_lines.proofs.CachedNameLemmas.{names_same}
 use Rattle.addr2line_lines.proofs.NestingLemmas.{detail-encoding, detail-opened, detail-read, found_same}
 use Rattle.addr2line_lines.proofs.detail.read_detail.Goals as goal
-use Rattle.std.proofs.lemmas.Bool.{or_left}
 
 pub returns-in_err-entries : goal.returns-in_err-entries
 returns-in_err-entries g c =

@@ -1,19 +1,11 @@
-use Rattle.std.proofs.Common.{ℕ, false, ap, subst, sym, ◌∙◌}
-use Rattle.std.proofs.lemmas.Result.{err_from_is_err_and}
-use Rattle.gimli_read.specs.Reading.{ExactlyUnlessOomIf}
-use Rattle.gimli.specs.Sections.{Sections}
-use Rattle.gimli.specs.Unit.{UnitRecord}
+use Rattle.addr2line_lines.proofs.Common.{ℕ, false, ap, subst, sym, ◌∙◌, err_from_is_err_and, ExactlyUnlessOomIf, Sections, UnitRecord, gives_a_range, seen_lists, with_inlined_found, seen_scope, or_left, or_right}
 use Rattle.addr2line_lines.specs.OpenEntries.{is_listed}
 use Rattle.addr2line_lines.specs.FoundAttributes.{seen_attributes}
-use Rattle.addr2line_lines.specs.RangeAttributes.{gives_a_range}
-use Rattle.addr2line_lines.specs.FoundInlined.{seen_lists, with_inlined_found}
-use Rattle.addr2line_lines.specs.SeenScope.{seen_scope}
 use Rattle.addr2line_lines.proofs.FunctionLemmas.{beside_if}
 use Rattle.addr2line_lines.proofs.NestingLemmas.{found_same}
 use Rattle.addr2line_lines.proofs.CachedNameLemmas.{names_same}
 use Rattle.addr2line_lines.proofs.DetailLemmas.{entry-fault, entry-listed, entry-other}
 use Rattle.addr2line_lines.proofs.detail.read_entry.Goals as goal
-use Rattle.std.proofs.lemmas.Bool.{or_left, or_right}
 
 pub returns-in_err-attributes-clause-gives : goal.returns-in_err-attributes-clause-gives
 returns-in_err-attributes-clause-gives g c =

@@ -1,14 +1,9 @@
-use Rattle.std.proofs.Common.{[], Ok, ap, option_map, subst, sym, ◌∙◌}
-use Rattle.std.proofs.lemmas.Result.{err_from_is_err_and}
-use Rattle.gimli_read.specs.Reading.{◌>>=◌}
-use Rattle.addr2line_lines.specs.FoundInlined.{seen_lists}
+use Rattle.addr2line_lines.proofs.Common.{[], Ok, ap, option_map, subst, sym, ◌∙◌, err_from_is_err_and, ◌>>=◌, seen_lists, seen_scope, or_left}
 use Rattle.addr2line_lines.specs.FoundItems.{inside_found, seen_around}
-use Rattle.addr2line_lines.specs.SeenScope.{seen_scope}
 use Rattle.addr2line_lines.proofs.CachedNameLemmas.{names_on}
 use Rattle.addr2line_lines.proofs.CostLemmas.{IsPartOf, map_part, refused_part}
 use Rattle.addr2line_lines.proofs.NestingLemmas.{found_same, function-found, name-part}
 use Rattle.addr2line_lines.proofs.detail.read_function.Goals as goal
-use Rattle.std.proofs.lemmas.Bool.{or_left}
 
 pub returns-in_err-name : goal.returns-in_err-name
 returns-in_err-name g c =

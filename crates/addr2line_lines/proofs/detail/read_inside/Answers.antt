@@ -1,8 +1,5 @@
-use Rattle.std.proofs.Common.{[], List, subst, sym, ap, ◌∙◌}
-use Rattle.std.proofs.lemmas.Result.{err_from_is_err_and}
-use Rattle.addr2line_lines.specs.declared.nesting.Kind.{Kind}
+use Rattle.addr2line_lines.proofs.Common.{[], List, subst, sym, ap, ◌∙◌, err_from_is_err_and, Kind, seen_scope}
 use Rattle.addr2line_lines.specs.FoundItems.{inside_found, seen_around}
-use Rattle.addr2line_lines.specs.SeenScope.{seen_scope}
 use Rattle.addr2line_lines.proofs.CachedNameLemmas.{names_on, names_same}
 use Rattle.addr2line_lines.proofs.CostLemmas.{IsRestOf, part_on, refused_part, rest_on, rest_part, rest_same}
 use Rattle.addr2line_lines.proofs.NestingLemmas.{found_on, found_same, inside-end, inside-part, inside-step}

@@ -1,8 +1,5 @@
-use Rattle.std.proofs.Common.{◌≡◌, [], length}
-use Rattle.addr2line_lines.specs.CachedNames.{AreNamesMore, seen_names}
-use Rattle.addr2line_lines.specs.FoundInlined.{IsFoundMore, seen_lists}
+use Rattle.addr2line_lines.proofs.Common.{◌≡◌, [], length, AreNamesMore, seen_names, IsFoundMore, seen_lists, seen_scope}
 use Rattle.addr2line_lines.specs.FoundItems.{inside_found, seen_around}
-use Rattle.addr2line_lines.specs.SeenScope.{seen_scope}
 use Rattle.addr2line_lines.proofs.CostLemmas.{IsRestOf}
 use Rattle.addr2line_lines.proofs.detail.read_inside.Given as goal
 

@@ -1,7 +1,4 @@
-use Rattle.std.proofs.Common.{option_map, subst, sym}
-use Rattle.std.proofs.lemmas.Result.{err_from_is_err_and}
-use Rattle.gimli_read.specs.Reading.{ExactlyUnlessOomIf}
-use Rattle.addr2line_lines.specs.SeenScope.{seen_scope}
+use Rattle.addr2line_lines.proofs.Common.{option_map, subst, sym, err_from_is_err_and, ExactlyUnlessOomIf, seen_scope}
 use Rattle.addr2line_lines.proofs.CachedNameLemmas.{names_growth, names_same}
 use Rattle.addr2line_lines.proofs.DetailLemmas.{nameless}
 use Rattle.addr2line_lines.proofs.RangeLemmas.{on_ok}

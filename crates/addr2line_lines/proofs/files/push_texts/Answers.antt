@@ -1,6 +1,4 @@
-use Rattle.std.proofs.Common.{sym, ◌∙◌}
-use Rattle.std.proofs.lemmas.List.{map_push}
-use Rattle.std.proofs.lemmas.Result.{err_from_is_err_and}
+use Rattle.addr2line_lines.proofs.Common.{sym, ◌∙◌, map_push, err_from_is_err_and}
 use Rattle.addr2line_lines.proofs.FileLemmas.{texts_more, texts_fault, texts_end}
 use Rattle.addr2line_lines.proofs.files.push_texts.Goals as goal
 

@@ -1,4 +1,4 @@
-use Rattle.std.proofs.Common.{◌≡◌, map, drop}
+use Rattle.addr2line_lines.proofs.Common.{◌≡◌, map, drop}
 use Rattle.std.specs.String.{string_bytes}
 use Rattle.addr2line_lines.specs.FileTexts.{texts_of, texts_after}
 use Rattle.addr2line_lines.proofs.files.push_texts.Given as goal

@@ -1,4 +1,4 @@
-use Rattle.std.proofs.lemmas.Result.{err_from_is_err_and}
+use Rattle.addr2line_lines.proofs.Common.{err_from_is_err_and}
 use Rattle.addr2line_lines.proofs.FoundRanges.{rangeless}
 use Rattle.addr2line_lines.proofs.function.read_range_attributes.Goals as goal
 

@@ -1,10 +1,5 @@
-use Rattle.std.proofs.Common.{List, map, ◌++◌, Result, Ok, ap, refl, sym, ◌∙◌, append-nil}
-use Rattle.std.proofs.lemmas.Result.{err_from_is_err_and}
+use Rattle.addr2line_lines.proofs.Common.{List, map, ◌++◌, Result, Ok, ap, refl, sym, ◌∙◌, append-nil, err_from_is_err_and, Range, result_map, read_all, all_ranges, begins_well}
 use Rattle.gimli_read.specs.declared.error.Error.{Error as Fault}
-use Rattle.gimli_read.specs.declared.range.Range.{Range}
-use Rattle.gimli_read.specs.Reading.{result_map}
-use Rattle.addr2line_lines.specs.Rows.{read_all}
-use Rattle.addr2line_lines.specs.RangeAttributes.{all_ranges, begins_well}
 use Rattle.addr2line_lines.proofs.FunctionLemmas.{one_read}
 use Rattle.addr2line_lines.proofs.RangeLemmas.{begins_with_one, fault_left, none_left, one_left, read_after}
 use Rattle.addr2line_lines.proofs.function.read_range_list.Goals as goal

@@ -1,5 +1,4 @@
-use Rattle.std.proofs.Common.{◌≡◌, ◌++◌, length, map, Ok}
-use Rattle.gimli.specs.Ranges.{ranges_at}
+use Rattle.addr2line_lines.proofs.Common.{◌≡◌, ◌++◌, length, map, Ok, ranges_at}
 use Rattle.addr2line_lines.proofs.function.read_range_list.Given as goal
 
 abbrev pub invariant-loop-ranges : goal.invariant-loop-ranges

@@ -1,12 +1,5 @@
-use Rattle.std.proofs.Common.{ℕ, List, [], ◌∷◌, map, ◌++◌, Result, Ok, ap, sym, ◌∙◌, append-nil, refl}
-use Rattle.std.proofs.lemmas.Result.{err_from_is_err_and}
-use Rattle.gimli_read.specs.Reading.{◌>>=◌, result_map}
+use Rattle.addr2line_lines.proofs.Common.{ℕ, List, [], ◌∷◌, map, ◌++◌, Result, Ok, ap, sym, ◌∙◌, append-nil, refl, err_from_is_err_and, ◌>>=◌, result_map, Range, FunctionAddress, function_address, read_all, all_ranges, begins_well}
 use Rattle.gimli_read.specs.declared.error.Error.{Error as Fault}
-use Rattle.gimli_read.specs.declared.range.Range.{Range}
-use Rattle.addr2line_lines.specs.declared.segments.FunctionAddress.{FunctionAddress}
-use Rattle.addr2line_lines.specs.FoundFunctions.{function_address}
-use Rattle.addr2line_lines.specs.Rows.{read_all}
-use Rattle.addr2line_lines.specs.RangeAttributes.{all_ranges, begins_well}
 use Rattle.addr2line_lines.proofs.FunctionLemmas.{one_added, one_read}
 use Rattle.addr2line_lines.proofs.RangeLemmas.{begins_with_one, fault_left, none_left, one_left, read_after}
 use Rattle.addr2line_lines.proofs.functions.push_range_list.Goals as goal

@@ -1,7 +1,4 @@
-use Rattle.std.proofs.Common.{◌≡◌, ◌++◌, List, length, map, Ok}
-use Rattle.gimli_read.specs.declared.range.Range.{Range}
-use Rattle.gimli.specs.Ranges.{ranges_at}
-use Rattle.addr2line_lines.specs.FoundFunctions.{function_address}
+use Rattle.addr2line_lines.proofs.Common.{◌≡◌, ◌++◌, List, length, map, Ok, Range, ranges_at, function_address}
 use Rattle.addr2line_lines.proofs.functions.push_range_list.Given as goal
 
 abbrev pub invariant-loop-range : goal.invariant-loop-range

@@ -1,8 +1,4 @@
-use Rattle.std.proofs.Common.{sym, ap, ◌∙◌}
-use Rattle.std.proofs.lemmas.Result.{err_from_is_err_and}
-use Rattle.gimli.specs.EntryCursor.{items_left}
-use Rattle.addr2line_lines.specs.Functions.{have_function}
-use Rattle.addr2line_lines.specs.FoundFunctions.{found_from, seen_functions}
+use Rattle.addr2line_lines.proofs.Common.{sym, ap, ◌∙◌, err_from_is_err_and, items_left, have_function, found_from, seen_functions}
 use Rattle.addr2line_lines.proofs.FunctionLemmas.{found_end, found_fault, found_step, or_more}
 use Rattle.addr2line_lines.proofs.FunctionMemory.{have_next, have_step}
 use Rattle.addr2line_lines.proofs.functions.read_functions.Goals as goal

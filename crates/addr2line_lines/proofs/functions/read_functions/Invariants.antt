@@ -1,8 +1,4 @@
-use Rattle.std.proofs.Common.{◌≡◌, true, length}
-use Rattle.gimli.specs.Items.{items_of}
-use Rattle.gimli.specs.EntryCursor.{items_left}
-use Rattle.addr2line_lines.specs.Functions.{have_function}
-use Rattle.addr2line_lines.specs.FoundFunctions.{AreFoundUnread, found_from, found_in, seen_functions}
+use Rattle.addr2line_lines.proofs.Common.{◌≡◌, true, length, items_of, items_left, have_function, AreFoundUnread, found_from, found_in, seen_functions}
 use Rattle.addr2line_lines.proofs.functions.read_functions.Given as goal
 
 abbrev pub invariant-loop-unit : goal.invariant-loop-unit

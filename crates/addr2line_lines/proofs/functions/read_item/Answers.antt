@@ -1,10 +1,8 @@
-use Rattle.std.proofs.Common.{sym, ap}
-use Rattle.std.proofs.lemmas.Result.{err_from_is_err_and}
+use Rattle.addr2line_lines.proofs.Common.{sym, ap, err_from_is_err_and, or_left, or_right}
 use Rattle.addr2line_lines.proofs.RangeLemmas.{on_ok}
 use Rattle.addr2line_lines.proofs.FunctionLemmas.{beside_if, closing_found, closing_shorter, code_fault, entry_shorter, function_fault, function_found, function_takes, skipped_shorter}
 use Rattle.addr2line_lines.proofs.FoundRanges.{function_subprogram, no_function_found}
 use Rattle.addr2line_lines.proofs.functions.read_item.Goals as goal
-use Rattle.std.proofs.lemmas.Bool.{or_left, or_right}
 
 pub returns-in_err-read_abbreviation-clause-gives : goal.returns-in_err-read_abbreviation-clause-gives
 returns-in_err-read_abbreviation-clause-gives g c =

@@ -1,5 +1,4 @@
-use Rattle.std.proofs.lemmas.Result.{err_from_is_err_and}
-use Rattle.addr2line_lines.specs.SeenScope.{seen_scope}
+use Rattle.addr2line_lines.proofs.Common.{err_from_is_err_and, seen_scope}
 use Rattle.addr2line_lines.proofs.CachedNameLemmas.{names_growth, names_same}
 use Rattle.addr2line_lines.proofs.DetailLemmas.{unwanted}
 use Rattle.addr2line_lines.proofs.inlined.read_inlined_attributes.Goals as goal

@@ -1,7 +1,4 @@
-use Rattle.std.proofs.Common.{◌≡◌, ◌++◌, List, length, map, Ok}
-use Rattle.gimli_read.specs.declared.range.Range.{Range}
-use Rattle.gimli.specs.Ranges.{ranges_at}
-use Rattle.addr2line_lines.specs.FoundInlined.{inlined_address}
+use Rattle.addr2line_lines.proofs.Common.{◌≡◌, ◌++◌, List, length, map, Ok, Range, ranges_at, inlined_address}
 use Rattle.addr2line_lines.proofs.inlined_lists.push_range_list.Given as goal
 
 abbrev pub invariant-loop-range : goal.invariant-loop-range

@@ -1,4 +1,4 @@
-use Rattle.addr2line_lines.specs.Sequences.{start_of, end_of}
+use Rattle.addr2line_lines.proofs.Common.{start_of, end_of}
 use Rattle.addr2line_lines.proofs.LonePick
 use Rattle.addr2line_lines.proofs.laws.lone_is_picked.Goals as goal
 

@@ -1,4 +1,4 @@
-use Rattle.addr2line_lines.specs.Functions.{function_begin, function_end, function_offset}
+use Rattle.addr2line_lines.proofs.Common.{function_begin, function_end, function_offset}
 use Rattle.addr2line_lines.proofs.ShortestLemmas
 use Rattle.addr2line_lines.proofs.laws.lone_is_shortest.Goals as goal
 

@@ -1,6 +1,4 @@
-use Rattle.std.proofs.Common.{◌∙◌, ap}
-use Rattle.std.proofs.lemmas.Result.{err_from_is_err_and}
-use Rattle.gimli_line.specs.Header.{Header}
+use Rattle.addr2line_lines.proofs.Common.{◌∙◌, ap, err_from_is_err_and, Header}
 use Rattle.addr2line_lines.proofs.ProgramLemmas.{program_rows_fault, program_files_fault, program_made, read_at_once, refused_at_once}
 use Rattle.addr2line_lines.proofs.line.read_program.Goals as goal
 

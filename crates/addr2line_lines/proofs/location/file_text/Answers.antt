@@ -1,4 +1,4 @@
-use Rattle.std.proofs.Common.{Global, String, Some, ap, string_bytes, ◌∙◌}
+use Rattle.addr2line_lines.proofs.Common.{Global, String, Some, ap, string_bytes, ◌∙◌}
 use Rattle.addr2line_lines.proofs.LentLemmas.{lent_is}
 use Rattle.addr2line_lines.proofs.location.file_text.Goals as goal
 

@@ -1,8 +1,5 @@
-use Rattle.std.proofs.Common.{subst, sym}
+use Rattle.addr2line_lines.proofs.Common.{subst, sym, ExactlyUnlessOomIf, found_name, seen_scope}
 use Rattle.gimli_read.specs.declared.value.AttributeValue.TheVariants as values
-use Rattle.gimli_read.specs.Reading.{ExactlyUnlessOomIf}
-use Rattle.addr2line_lines.specs.FoundNames.{found_name}
-use Rattle.addr2line_lines.specs.SeenScope.{seen_scope}
 use Rattle.addr2line_lines.proofs.CachedNameLemmas.{names_same}
 use Rattle.addr2line_lines.proofs.NameLemmas.{referred_else, referred_stays}
 use Rattle.addr2line_lines.proofs.name.name_by_origin.Goals as goal

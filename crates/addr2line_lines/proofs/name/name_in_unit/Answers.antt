@@ -1,5 +1,4 @@
-use Rattle.std.proofs.Common.{Ok, Err, option_map, ap, sym, ◌∙◌}
-use Rattle.addr2line_lines.specs.SeenScope.{seen_scope}
+use Rattle.addr2line_lines.proofs.Common.{Ok, Err, option_map, ap, sym, ◌∙◌, seen_scope}
 use Rattle.addr2line_lines.proofs.CachedNameLemmas.{names_one_more, names_same}
 use Rattle.addr2line_lines.proofs.name.name_in_unit.Goals as goal
 

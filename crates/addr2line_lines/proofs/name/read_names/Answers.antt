@@ -1,10 +1,6 @@
-use Rattle.std.proofs.Common.{ap, refl, sym, ◌∙◌}
-use Rattle.std.proofs.lemmas.Result.{err_from_is_err_and}
+use Rattle.addr2line_lines.proofs.Common.{ap, refl, sym, ◌∙◌, err_from_is_err_and, seen_name_or_origin, seen_scope, named_at}
 use Rattle.gimli.proofs.WantedLemmas.{wanted_end, wanted_next, wanted_passed}
-use Rattle.addr2line_lines.specs.FoundNames.{seen_name_or_origin}
-use Rattle.addr2line_lines.specs.SeenScope.{seen_scope}
 use Rattle.addr2line_lines.proofs.NameLemmas.{name_passes, named_linkage, named_other}
-use Rattle.addr2line_lines.specs.Names.{named_at}
 use Rattle.addr2line_lines.proofs.name.read_names.Goals as goal
 
 pub returns-in_err-pass_over : goal.returns-in_err-pass_over

@@ -1,7 +1,4 @@
-use Rattle.std.proofs.Common.{◌≡◌, length}
-use Rattle.addr2line_lines.specs.FoundNames.{seen_name_or_origin}
-use Rattle.addr2line_lines.specs.Names.{named_at, no_name}
-use Rattle.addr2line_lines.specs.SeenScope.{seen_scope}
+use Rattle.addr2line_lines.proofs.Common.{◌≡◌, length, seen_name_or_origin, named_at, no_name, seen_scope}
 use Rattle.addr2line_lines.proofs.name.read_names.Given as goal
 
 abbrev pub invariant-loop-next : goal.invariant-loop-next

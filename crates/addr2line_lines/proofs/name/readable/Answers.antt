@@ -1,6 +1,5 @@
-use Rattle.std.proofs.Common.{Ok, ap}
+use Rattle.addr2line_lines.proofs.Common.{Ok, ap, seen_scope}
 use Rattle.gimli.proofs.StringLemmas.{string_refused}
-use Rattle.addr2line_lines.specs.SeenScope.{seen_scope}
 use Rattle.addr2line_lines.proofs.NameLemmas.{unreadable}
 use Rattle.addr2line_lines.proofs.name.readable.Goals as goal
 

@@ -1,6 +1,4 @@
-use Rattle.std.proofs.Common.{◌+◌, ◌-◌, arith, sym, ◌∙◌}
-use Rattle.std.proofs.lemmas.Result.{err_from_is_err_and}
-use Rattle.addr2line_lines.specs.FoundNames.{seen_place}
+use Rattle.addr2line_lines.proofs.Common.{◌+◌, ◌-◌, arith, sym, ◌∙◌, err_from_is_err_and, seen_place}
 use Rattle.addr2line_lines.proofs.NameLemmas.{visit_ends, visit_goes_on, visit_named, within_fault, within_none, within_place, within_zero}
 use Rattle.addr2line_lines.proofs.ReferenceLemmas.{referred_in_order}
 use Rattle.addr2line_lines.proofs.name.referred_name.Goals as goal

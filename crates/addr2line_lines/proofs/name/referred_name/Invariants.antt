@@ -1,8 +1,4 @@
-use Rattle.std.proofs.Common.{◌≡◌, ◌-◌}
-use Rattle.gimli_read.specs.Form.{seen_value}
-use Rattle.addr2line_lines.specs.Names.{name_within, referred_name}
-use Rattle.addr2line_lines.specs.References.{IsScope}
-use Rattle.addr2line_lines.specs.SeenScope.{seen_scope}
+use Rattle.addr2line_lines.proofs.Common.{◌≡◌, ◌-◌, seen_value, name_within, referred_name, IsScope, seen_scope}
 use Rattle.addr2line_lines.proofs.name.referred_name.Given as goal
 
 abbrev pub invariant-loop : goal.invariant-loop

@@ -1,8 +1,4 @@
-use Rattle.std.proofs.Common.{Ok, ap, false, true, refl, subst, sym, ◌∙◌}
-use Rattle.std.proofs.lemmas.Result.{err_from_is_err_and}
-use Rattle.gimli_read.specs.Reading.{ExactlyUnlessOomIf}
-use Rattle.addr2line_lines.specs.FoundNames.{found_name}
-use Rattle.addr2line_lines.specs.SeenScope.{seen_scope}
+use Rattle.addr2line_lines.proofs.Common.{Ok, ap, false, true, refl, subst, sym, ◌∙◌, err_from_is_err_and, ExactlyUnlessOomIf, found_name, seen_scope}
 use Rattle.addr2line_lines.proofs.CachedNameLemmas.{names_same}
 use Rattle.addr2line_lines.proofs.NameLemmas.{name_by, name_stays}
 use Rattle.addr2line_lines.proofs.name.take_name.Goals as goal

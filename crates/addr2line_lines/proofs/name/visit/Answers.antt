@@ -1,7 +1,4 @@
-use Rattle.std.proofs.Common.{ap, sym, subst, ◌∙◌}
-use Rattle.std.proofs.lemmas.Result.{err_from_is_err_and}
-use Rattle.gimli_read.specs.Reading.{ExactlyUnlessOomIf}
-use Rattle.addr2line_lines.specs.FoundNames.{seen_name_or_origin, seen_place}
+use Rattle.addr2line_lines.proofs.Common.{ap, sym, subst, ◌∙◌, err_from_is_err_and, ExactlyUnlessOomIf, seen_name_or_origin, seen_place}
 use Rattle.addr2line_lines.proofs.NameLemmas.{visited_by, visited_fault}
 use Rattle.addr2line_lines.proofs.NestingLemmas.{detail-encoding}
 use Rattle.addr2line_lines.proofs.name.visit.Goals as goal

@@ -1,7 +1,5 @@
-use Rattle.std.proofs.Common.{◌≡◌, ℕ, ◌+◌, ◌*◌, ◌<◌, List, [], ◌∷◌, ◌++◌, length, slice_index, ap, sym, subst, ◌∙◌}
-use Rattle.std.proofs.lemmas.List.{get_or_append_left, get_or_push, length_push}
+use Rattle.addr2line_lines.proofs.Common.{◌≡◌, ℕ, ◌+◌, ◌*◌, ◌<◌, List, [], ◌∷◌, ◌++◌, length, slice_index, ap, sym, subst, ◌∙◌, get_or_append_left, get_or_push, length_push, row_address_at}
 use borrow.Author.Count.{below_more}
-use Rattle.addr2line_lines.specs.Packed.{row_address_at}
 use Rattle.addr2line_lines.proofs.packed.first_addresses.Goals as goal
 
 -- each element, after one more

@@ -1,5 +1,4 @@
-use Rattle.std.proofs.Common.{ℕ, ◌≡◌, ◌*◌, ◌<◌, length, slice_index}
-use Rattle.addr2line_lines.specs.Packed.{row_address_at}
+use Rattle.addr2line_lines.proofs.Common.{ℕ, ◌≡◌, ◌*◌, ◌<◌, length, slice_index, row_address_at}
 use Rattle.addr2line_lines.proofs.packed.first_addresses.Given as goal
 
 abbrev pub invariant-loop-block : goal.invariant-loop-block

@@ -1,8 +1,4 @@
-use Rattle.std.proofs.Common.{rules, ℕ}
-use Rattle.std.proofs.lemmas.List.Sorted.{answers_always}
-use Rattle.std.proofs.lemmas.Result.{on_ok_weaker}
-use Rattle.addr2line_lines.specs.declared.sequence.LineSequence.{LineSequence}
-use Rattle.addr2line_lines.specs.Packed.{packed_start, packed_end, packed_sooner}
+use Rattle.addr2line_lines.proofs.Common.{rules, ℕ, answers_always, on_ok_weaker, LineSequence, packed_start, packed_end, packed_sooner}
 use Rattle.addr2line_lines.proofs.OrderLemmas.{sorted_is, begins_order}
 use Rattle.addr2line_lines.proofs.packed.sort_sequences.Goals as goal
 

@@ -1,6 +1,4 @@
-use Rattle.std.proofs.Common.{◌≡◌, ◌∷◌, [], ◌++◌, length, map, append-nil, ◌+◌, ◌-◌, suc, arith, ap, sym, ◌∙◌, append_assoc}
-use Rattle.std.proofs.lemmas.List.{length-map}
-use Rattle.addr2line_lines.specs.InlinedOrder.{places_chain, places_within}
+use Rattle.addr2line_lines.proofs.Common.{◌≡◌, ◌∷◌, [], ◌++◌, length, map, append-nil, ◌+◌, ◌-◌, suc, arith, ap, sym, ◌∙◌, append_assoc, length-map, places_chain, places_within}
 use Rattle.addr2line_lines.proofs.InlinedOrder.{listed_chain}
 use Rattle.addr2line_lines.proofs.InlinedPick.{within_none, within_some}
 use Rattle.addr2line_lines.proofs.picks.find_chain.Goals as goal

@@ -1,5 +1,4 @@
-use Rattle.std.proofs.Common.{◌≡◌, ◌++◌, length, map, ◌-◌, ◌≤◌}
-use Rattle.addr2line_lines.specs.InlinedOrder.{places_chain, places_within}
+use Rattle.addr2line_lines.proofs.Common.{◌≡◌, ◌++◌, length, map, ◌-◌, ◌≤◌, places_chain, places_within}
 use Rattle.addr2line_lines.proofs.picks.find_chain.Given as goal
 
 abbrev pub invariant-loop-depth : goal.invariant-loop-depth

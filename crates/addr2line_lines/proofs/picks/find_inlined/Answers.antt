@@ -1,7 +1,4 @@
-use Rattle.std.proofs.Common.{◌≤◌, rules, length, map, Some, arith, ap, sym, inl, inr, ◌∙◌}
-use Rattle.std.proofs.lemmas.List.{length-map}
-use Rattle.std.proofs.lemmas.List.Sorted.{IsPartitionPoint-from_clause}
-use Rattle.addr2line_lines.specs.declared.picks.InlinedFunctionAddress.{InlinedFunctionAddress}
+use Rattle.addr2line_lines.proofs.Common.{◌≤◌, rules, length, map, Some, arith, ap, sym, inl, inr, ◌∙◌, length-map, IsPartitionPoint-from_clause, InlinedFunctionAddress}
 use Rattle.addr2line_lines.proofs.InlinedPick.{IsPlacePast, begins_by, it_counts, it_ends, none_counts, other_depth, parted}
 use Rattle.addr2line_lines.proofs.StoredRangeLemmas.{image_at, images_parted, images_point}
 use Rattle.addr2line_lines.proofs.picks.find_inlined.Goals as goal

@@ -1,8 +1,5 @@
-use Rattle.std.proofs.Common.{◌≡◌, rules, map, subst, sym}
-use Rattle.std.proofs.lemmas.List.Sorted.{IsPermutation-map}
+use Rattle.addr2line_lines.proofs.Common.{◌≡◌, rules, map, subst, sym, IsPermutation-map, inlined_sooner, IsInOrder}
 use Rattle.std.proofs.lemmas.Fn.{always_returns_same}
-use Rattle.addr2line_lines.specs.InlinedOrder.{inlined_sooner}
-use Rattle.addr2line_lines.specs.InOrder.{IsInOrder}
 use Rattle.addr2line_lines.proofs.OrderLemmas.{in_order_ordered}
 use Rattle.addr2line_lines.proofs.InlinedOrder.{by_tuple, inlined_order, key, one_range, permuted_is}
 use Rattle.addr2line_lines.proofs.picks.sort_inlined.Goals as goal

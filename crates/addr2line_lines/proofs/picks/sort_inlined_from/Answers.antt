@@ -1,7 +1,4 @@
-use Rattle.std.proofs.Common.{arith}
-use Rattle.std.proofs.lemmas.Grind.{common_steps}
-use Rattle.addr2line_lines.specs.InlinedOrder.{inlined_sooner}
-use Rattle.addr2line_lines.specs.InOrder.{in_order}
+use Rattle.addr2line_lines.proofs.Common.{arith, common_steps, inlined_sooner, in_order}
 use Rattle.addr2line_lines.proofs.StoredRangeLemmas.{images_from}
 use Rattle.addr2line_lines.proofs.picks.sort_inlined_from.Goals as goal
 

@@ -1,6 +1,4 @@
-use Rattle.std.proofs.Common.{rules}
-use Rattle.std.proofs.lemmas.List.Sorted.{IsPartitionPoint-from_clause, IsPartitionedBy-leb}
-use Rattle.addr2line_lines.specs.FoundNames.{unit_begins_by}
+use Rattle.addr2line_lines.proofs.Common.{rules, IsPartitionPoint-from_clause, IsPartitionedBy-leb, unit_begins_by}
 use Rattle.addr2line_lines.proofs.ReferenceLemmas.{unit_begin, units_rise}
 use Rattle.addr2line_lines.proofs.references.count_begun.Goals as goal
 

@@ -1,4 +1,4 @@
-use Rattle.std.proofs.Common.{ap, arith, option_map, sym, ◌∙◌}
+use Rattle.addr2line_lines.proofs.Common.{ap, arith, option_map, sym, ◌∙◌}
 use Rattle.gimli.specs.Offsets.{unit_offset_of}
 use Rattle.addr2line_lines.proofs.ReferenceLemmas.{before_all, last_begun, placed}
 use Rattle.addr2line_lines.proofs.references.find_unit.Goals as goal

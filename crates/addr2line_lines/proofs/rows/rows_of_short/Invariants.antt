@@ -1,4 +1,4 @@
-use Rattle.std.proofs.Common.{◌≡◌, ◌++◌, drop, map}
+use Rattle.addr2line_lines.proofs.Common.{◌≡◌, ◌++◌, drop, map}
 use Rattle.addr2line_lines.specs.StoredRows.{row_of_short}
 use Rattle.addr2line_lines.proofs.rows.rows_of_short.Given as goal
 

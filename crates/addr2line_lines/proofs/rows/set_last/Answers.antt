@@ -1,4 +1,4 @@
-use Rattle.std.proofs.Common.{arith}
+use Rattle.addr2line_lines.proofs.Common.{arith}
 use Rattle.addr2line_lines.proofs.StoredRowLemmas.{set_last}
 use Rattle.addr2line_lines.proofs.rows.set_last.Goals as goal
 

@@ -1,7 +1,5 @@
-use Rattle.std.proofs.Common.{ℕ, ◌≡◌, ◌+◌, ◌-◌, ◌*◌, ◌/◌, ◌≤◌, List, length, arith, ◌∙◌, ap, sym, refl, subst}
-use Rattle.addr2line_lines.specs.Packed.{row_address_at}
+use Rattle.addr2line_lines.proofs.Common.{ℕ, ◌≡◌, ◌+◌, ◌-◌, ◌*◌, ◌/◌, ◌≤◌, List, length, arith, ◌∙◌, ap, sym, refl, subst, row_address_at, Row}
 use Rattle.addr2line_lines.specs.Counts.{blocks}
-use Rattle.addr2line_lines.specs.declared.row.Row.{Row}
 use Rattle.addr2line_lines.proofs.DigitLemmas.{digits_half, digits_le}
 use Rattle.addr2line_lines.proofs.PackedLemmas.{sequence_rows_of}
 use Rattle.addr2line_lines.proofs.SearchLemmas.{past_from}

@@ -1,6 +1,5 @@
-use Rattle.std.proofs.Common.{◌-◌, ◌≡◌, ◌+◌, ◌*◌, ◌/◌, ◌<◌, ◌≤◌, length}
+use Rattle.addr2line_lines.proofs.Common.{◌-◌, ◌≡◌, ◌+◌, ◌*◌, ◌/◌, ◌<◌, ◌≤◌, length, ArePastFrom, row_address_at}
 use Rattle.addr2line_lines.specs.Digits.{digits}
-use Rattle.addr2line_lines.specs.Packed.{ArePastFrom, row_address_at}
 use Rattle.addr2line_lines.specs.Counts.{blocks}
 use Rattle.addr2line_lines.proofs.search.first_row.Given as goal
 

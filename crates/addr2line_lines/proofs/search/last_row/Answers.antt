@@ -1,6 +1,4 @@
-use Rattle.std.proofs.Common.{◌≡◌, ◌+◌, ◌-◌, arith, ◌∙◌, ap, sym, refl}
-use Rattle.addr2line_lines.specs.Packed.{row_address_at}
-use Rattle.addr2line_lines.specs.declared.row.Row.{Row}
+use Rattle.addr2line_lines.proofs.Common.{◌≡◌, ◌+◌, ◌-◌, arith, ◌∙◌, ap, sym, refl, row_address_at, Row}
 use Rattle.addr2line_lines.proofs.PackedLemmas.{sequence_rows_of}
 use Rattle.addr2line_lines.proofs.SearchLemmas.{past_from, read_at, row_found}
 use Rattle.addr2line_lines.proofs.search.last_row.Goals as goal

@@ -1,5 +1,4 @@
-use Rattle.std.proofs.Common.{◌-◌, ◌≡◌, ◌+◌, ◌≤◌}
-use Rattle.addr2line_lines.specs.Packed.{row_address_at}
+use Rattle.addr2line_lines.proofs.Common.{◌-◌, ◌≡◌, ◌+◌, ◌≤◌, row_address_at}
 use Rattle.addr2line_lines.proofs.search.last_row.Given as goal
 
 abbrev pub invariant-loop-next : goal.invariant-loop-next

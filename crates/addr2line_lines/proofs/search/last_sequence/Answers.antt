@@ -1,4 +1,4 @@
-use Rattle.std.proofs.Common.{◌+◌, ◌-◌, ◌/◌, arith, ◌∙◌}
+use Rattle.addr2line_lines.proofs.Common.{◌+◌, ◌-◌, ◌/◌, arith, ◌∙◌}
 use Rattle.addr2line_lines.proofs.DigitLemmas.{digits_half}
 use Rattle.addr2line_lines.proofs.SearchLemmas.{read_at, last_before_is, sequences_past_from}
 use Rattle.addr2line_lines.proofs.search.last_sequence.Goals as goal

@@ -1,4 +1,4 @@
-use Rattle.std.proofs.Common.{◌-◌, ◌≡◌, ◌+◌, ◌≤◌, length}
+use Rattle.addr2line_lines.proofs.Common.{◌-◌, ◌≡◌, ◌+◌, ◌≤◌, length}
 use Rattle.addr2line_lines.specs.Digits.{digits}
 use Rattle.addr2line_lines.proofs.SearchLemmas.{SequencesPast, IsLastBefore}
 use Rattle.addr2line_lines.proofs.search.last_sequence.Given as goal

@@ -1,9 +1,5 @@
-use Rattle.std.proofs.Common.{◌≡◌, ◌∙◌, sym, ap, subst, List}
-use Rattle.gimli_read.specs.Topmost.{last}
-use Rattle.addr2line_lines.specs.Pick.{at_or_below}
+use Rattle.addr2line_lines.proofs.Common.{◌≡◌, ◌∙◌, sym, ap, subst, List, last, at_or_below, IsAmong, unpacked, Row}
 use Rattle.addr2line_lines.specs.Spans.{row_address}
-use Rattle.addr2line_lines.specs.Packed.{IsAmong, unpacked}
-use Rattle.addr2line_lines.specs.declared.row.Row.{Row}
 use Rattle.addr2line_lines.proofs.SearchLemmas.{found_among, found_low, no_sequence, past_end, row_is}
 use Rattle.addr2line_lines.proofs.search.search.Goals as goal
 

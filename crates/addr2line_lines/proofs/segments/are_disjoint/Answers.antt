@@ -1,5 +1,4 @@
-use Rattle.std.proofs.Common.{◌-◌, arith, inl, inr}
-use Rattle.addr2line_lines.specs.declared.segments.FunctionAddress.{FunctionAddress}
+use Rattle.addr2line_lines.proofs.Common.{◌-◌, arith, inl, inr, FunctionAddress}
 use Rattle.addr2line_lines.proofs.segments.are_disjoint.Goals as goal
 use Rattle.addr2line_lines.proofs.segments.are_disjoint.Goals.{then-begin-past-via-then-begin-past, then-begin-past-via-else-begin-past+then-end-begin}
 

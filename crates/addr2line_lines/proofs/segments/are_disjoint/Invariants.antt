@@ -1,5 +1,4 @@
-use Rattle.std.proofs.Common.{ℕ, ◌≡◌, ◌-◌, ◌<◌, ◌≤◌, ◌⊎◌, slice_index_or}
-use Rattle.addr2line_lines.specs.declared.segments.FunctionAddress.{FunctionAddress}
+use Rattle.addr2line_lines.proofs.Common.{ℕ, ◌≡◌, ◌-◌, ◌<◌, ◌≤◌, ◌⊎◌, slice_index_or, FunctionAddress}
 use Rattle.addr2line_lines.proofs.segments.are_disjoint.Given as goal
 
 abbrev pub invariant-loop-address : goal.invariant-loop-address

@@ -1,7 +1,5 @@
-use Rattle.std.proofs.Common.{length, heap_items, arith, ap, refl}
-use Rattle.addr2line_lines.specs.declared.segments.FunctionAddress.{FunctionAddress}
+use Rattle.addr2line_lines.proofs.Common.{length, heap_items, arith, ap, refl, FunctionAddress, err_from_is_err_and}
 use Rattle.addr2line_lines.proofs.SweepLemmas.{all_cut, begun_from}
-use Rattle.std.proofs.lemmas.Result.{err_from_is_err_and}
 use Rattle.addr2line_lines.proofs.segments.cut.Goals as goal
 
 pub loop-address-init : goal.loop-address-init

@@ -1,4 +1,4 @@
-use Rattle.std.proofs.Common.{◌+◌, ◌*◌, ◌≤◌, length, heap_items}
+use Rattle.addr2line_lines.proofs.Common.{◌+◌, ◌*◌, ◌≤◌, length, heap_items}
 use Rattle.addr2line_lines.specs.Sweep.{IsSweptBy}
 use Rattle.addr2line_lines.proofs.segments.cut.Given as goal
 

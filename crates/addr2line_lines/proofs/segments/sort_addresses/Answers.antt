@@ -1,6 +1,4 @@
-use Rattle.std.proofs.Common.{rules}
-use Rattle.std.proofs.lemmas.List.Sorted.{IsNonDecreasingBy-from_sort_by_key}
-use Rattle.addr2line_lines.specs.Segments.{address_begin}
+use Rattle.addr2line_lines.proofs.Common.{rules, IsNonDecreasingBy-from_sort_by_key, address_begin}
 use Rattle.addr2line_lines.proofs.segments.sort_addresses.Goals as goal
 
 pub returns-clause-right : goal.returns-clause-right

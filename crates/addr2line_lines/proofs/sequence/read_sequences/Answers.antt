@@ -1,10 +1,5 @@
-use Rattle.std.proofs.Common.{Ok, ◌∙◌, ap, fold, sym}
-use Rattle.std.proofs.lemmas.Result.{err_from_is_err_and}
-use Rattle.gimli_line.specs.Rises.{rows_before}
-use Rattle.gimli_read.specs.Reading.{result_map}
+use Rattle.addr2line_lines.proofs.Common.{Ok, ◌∙◌, ap, fold, sym, err_from_is_err_and, rows_before, result_map, read_all, sequences_of}
 use Rattle.addr2line_lines.specs.Building.{StoredBuilt, all_built, need_width, nothing_built, nothing_stored, stored_taken}
-use Rattle.addr2line_lines.specs.Rows.{read_all}
-use Rattle.addr2line_lines.specs.Sequences.{sequences_of}
 use Rattle.addr2line_lines.proofs.BuildLemmas.{taken_all, read_fault, read_whole, stored_sequences}
 use Rattle.addr2line_lines.proofs.PackedLemmas.{all_among}
 use Rattle.addr2line_lines.proofs.RiseLemmas.{rising_of}

@@ -1,4 +1,4 @@
-use Rattle.std.proofs.Common.{◌≡◌, ◌++◌, drop, map}
+use Rattle.addr2line_lines.proofs.Common.{◌≡◌, ◌++◌, drop, map}
 use Rattle.addr2line_lines.proofs.short_list.wholes_of.Given as goal
 
 abbrev pub invariant-loop-element : goal.invariant-loop-element

@@ -1,5 +1,4 @@
-use Rattle.std.proofs.Common.{ap, ◌∙◌}
-use Rattle.std.proofs.lemmas.Result.{err_from_is_err_and}
+use Rattle.addr2line_units.proofs.Common.{ap, ◌∙◌, err_from_is_err_and}
 use Rattle.addr2line_units.proofs.AttributeLemmas.{attributes-by, encoding-of, unit_others}
 use Rattle.addr2line_units.proofs.attributes.read_unit_attributes.Goals as goal
 

@@ -1,15 +1,4 @@
-use Rattle.std.proofs.Common.{◌≡◌, ◌∙◌, Err, Ok, Some, ap, false, option_map, subst, sym, true}
-use Rattle.std.proofs.lemmas.Result.{err_from_is_err_and}
-use Rattle.addr2line_lines.specs.InlineRoom.{exceeds_inline_room}
-use Rattle.addr2line_lines.specs.Location.{location_of_row}
-use Rattle.addr2line_lines.specs.SeenScope.{seen_scope}
-use Rattle.addr2line_units.specs.CachedLines.{cached_files, indexed_unit}
-use Rattle.addr2line_units.specs.Frames.{found_frames}
-use Rattle.addr2line_units.specs.CachedEntries.{AsksNoMemoryIn, first_answer_of}
-use Rattle.addr2line_units.specs.CachedFunctions.{function_of_place, cached_functions}
-use Rattle.addr2line_units.specs.Located.{location_in}
-use Rattle.addr2line_units.specs.UnitFrames.{function_in, inlined_of_unit}
-use Rattle.addr2line_units.specs.Views.{is_open}
+use Rattle.addr2line_units.proofs.Common.{◌≡◌, ◌∙◌, Err, Ok, Some, ap, false, option_map, subst, sym, true, err_from_is_err_and, exceeds_inline_room, location_of_row, seen_scope, cached_files, indexed_unit, found_frames, AsksNoMemoryIn, first_answer_of, function_of_place, cached_functions, location_in, function_in, inlined_of_unit, is_open}
 use Rattle.addr2line_units.proofs.EntryLemmas.{looked_decides, not_open}
 use Rattle.addr2line_units.proofs.UnitFrameLemmas.{closed_asks, fault_frames, function_alone, lines_alone, lines_fault_frames, lines_frames, look_only, only_after, open_asks, open_frames, stay_after, waiting_entries, waiting_stays_open}
 use Rattle.addr2line_units.proofs.entries.find_frames_in.Goals as goal

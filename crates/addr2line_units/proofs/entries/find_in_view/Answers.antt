@@ -1,11 +1,4 @@
-use Rattle.std.proofs.Common.{Err, ap, option_map, subst, sym, ◌&&◌, ◌≡◌, ◌∙◌}
-use Rattle.std.specs.Prelude.{IfErr}
-use Rattle.std.proofs.lemmas.Result.{err_from_is_err_and}
-use Rattle.gimli_read.specs.Reading.{ExactlyUnlessOom}
-use Rattle.addr2line_lines.specs.SeenScope.{seen_scope}
-use Rattle.addr2line_units.specs.declared.entries.UnitEntries.{UnitEntries}
-use Rattle.addr2line_units.specs.CachedFunctions.{find_takes_memory, function_of_place, cached_functions}
-use Rattle.addr2line_units.specs.Frames.{function_at}
+use Rattle.addr2line_units.proofs.Common.{Err, ap, option_map, subst, sym, ◌&&◌, ◌≡◌, ◌∙◌, IfErr, err_from_is_err_and, ExactlyUnlessOom, seen_scope, UnitEntries, find_takes_memory, function_of_place, cached_functions, function_at}
 use Rattle.addr2line_units.proofs.AskMemoryLemmas.{exactly_if_none, find_takes_none}
 use Rattle.addr2line_units.proofs.EntryLemmas.{exactly_unless_oom, fault_entries, fault_in, fault_known, few_in, function_entries, function_is_in, functions_keep, functions_right, functions_stay, functions_take_in, view_known}
 use Rattle.addr2line_units.proofs.CachedPlaceLemmas.{cached_is_not_oom, cached_unless_oom}

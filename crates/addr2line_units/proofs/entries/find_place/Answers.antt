@@ -1,8 +1,4 @@
-use Rattle.std.proofs.Common.{Err, ap, arith, refl, sym}
-use Rattle.std.proofs.lemmas.Result.{err_from_is_err_and}
-use Rattle.addr2line_lines.specs.SeenScope.{seen_scope}
-use Rattle.addr2line_lines.proofs.PlaceLemmas.{some_at}
-use Rattle.addr2line_lines.proofs.ReadLemmas.{read_more, table_same}
+use Rattle.addr2line_units.proofs.Common.{Err, ap, arith, refl, sym, err_from_is_err_and, seen_scope, some_at, read_more, table_same}
 use Rattle.addr2line_units.proofs.CachedFunctionLemmas.{chain_found, chain_ready, none_found, number_stays, reads_one, refused_chain, refused_detail, refused_ready, table_stays}
 use Rattle.addr2line_units.proofs.CachedPlaceLemmas.{chain_fits, chain_known, known_stays, refused_fault, refused_known}
 use Rattle.addr2line_units.proofs.entries.find_place.Goals as goal

@@ -1,11 +1,4 @@
-use Rattle.std.proofs.Common.{◌≡◌, ◌∙◌, Bool, Ok, ap, false, refl, subst, sym, true}
-use Rattle.std.proofs.lemmas.Bool.{false≢true}
-use Rattle.std.proofs.lemmas.Result.{err_from_is_err_and}
-use Rattle.gimli.specs.Sections.{Sections}
-use Rattle.gimli.specs.Unit.{UnitRecord}
-use Rattle.addr2line_lines.specs.Functions.{functions_take_memory}
-use Rattle.addr2line_lines.specs.SeenScope.{seen_scope}
-use Rattle.addr2line_units.specs.CachedFunctions.{IsTableOf}
+use Rattle.addr2line_units.proofs.Common.{◌≡◌, ◌∙◌, Bool, Ok, ap, false, refl, subst, sym, true, false≢true, err_from_is_err_and, Sections, UnitRecord, functions_take_memory, seen_scope, IsTableOf}
 use Rattle.addr2line_units.proofs.CachedFunctionLemmas.{read_fault_of, read_table}
 use Rattle.addr2line_units.proofs.FunctionMemoryLemmas.{functions_took, no_ranges}
 use Rattle.addr2line_units.proofs.entries.read_functions.Goals as goal

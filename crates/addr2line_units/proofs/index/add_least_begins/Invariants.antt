@@ -1,4 +1,4 @@
-use Rattle.std.proofs.Common.{length}
+use Rattle.addr2line_units.proofs.Common.{length}
 use Rattle.addr2line_units.proofs.LeastBeginLemmas.{IsMade}
 use Rattle.addr2line_units.proofs.index.add_least_begins.Given as goal
 

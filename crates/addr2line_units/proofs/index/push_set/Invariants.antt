@@ -1,5 +1,4 @@
-use Rattle.std.proofs.Common.{◌≡◌, ◌++◌, length, map, nat_lt, true}
-use Rattle.addr2line_units.specs.UnitAranges.{set_aranges, unit_arange}
+use Rattle.addr2line_units.proofs.Common.{◌≡◌, ◌++◌, length, map, nat_lt, true, set_aranges, unit_arange}
 use Rattle.addr2line_units.proofs.index.push_set.Given as goal
 
 abbrev pub invariant-loop-range : goal.invariant-loop-range

@@ -1,7 +1,4 @@
-use Rattle.std.proofs.Common.{◌≡◌, ◌++◌, Ok, flat_map, length, true}
-use Rattle.gimli_read.specs.Reading.{◌>>=◌}
-use Rattle.addr2line_lines.specs.Rows.{read_all}
-use Rattle.addr2line_units.specs.UnitAranges.{aranges_in, lists_aranges, set_aranges, some_lists}
+use Rattle.addr2line_units.proofs.Common.{◌≡◌, ◌++◌, Ok, flat_map, length, true, ◌>>=◌, read_all, aranges_in, lists_aranges, set_aranges, some_lists}
 use Rattle.addr2line_units.proofs.index.read_sets.Given as goal
 
 abbrev pub invariant-loop-aranges : goal.invariant-loop-aranges

@@ -1,9 +1,4 @@
-use Rattle.std.proofs.Common.{rules, ℕ}
-use Rattle.std.proofs.lemmas.List.Sorted.{answers_always}
-use Rattle.std.proofs.lemmas.Result.{on_ok_weaker}
-use Rattle.addr2line_units.specs.declared.index.UnitArange.{UnitArange}
-use Rattle.addr2line_units.specs.UnitAranges.{offset_sooner}
-use Rattle.addr2line_lines.proofs.OrderLemmas.{sorted_is}
+use Rattle.addr2line_units.proofs.Common.{rules, ℕ, answers_always, on_ok_weaker, UnitArange, offset_sooner, sorted_is}
 use Rattle.addr2line_units.proofs.ArangeLemmas.{offset_order}
 use Rattle.addr2line_units.proofs.index.sort_by_unit.Goals as goal
 

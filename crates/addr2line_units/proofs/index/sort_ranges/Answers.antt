@@ -1,6 +1,4 @@
-use Rattle.std.proofs.Common.{rules, ℕ}
-use Rattle.std.proofs.lemmas.List.Sorted.{answers_always}
-use Rattle.addr2line_units.specs.declared.index.UnitRange.{UnitRange}
+use Rattle.addr2line_units.proofs.Common.{rules, ℕ, answers_always, UnitRange}
 use Rattle.addr2line_units.specs.Cover.{ends_sooner}
 use Rattle.addr2line_lines.proofs.InlinedOrder.{permuted_is}
 use Rattle.addr2line_units.proofs.IndexLemmas.{by_tuple, ends_order, one_range}

@@ -1,6 +1,4 @@
-use Rattle.gimli_read.proofs.FaultLemmas.{not_refused, none_refused}
-use Rattle.addr2line_units.specs.Located.{spans_along}
-use Rattle.addr2line_units.specs.Views.{verdict}
+use Rattle.addr2line_units.proofs.Common.{not_refused, none_refused, spans_along, verdict}
 use Rattle.addr2line_units.proofs.FaultLemmas.{aranges_are, unit_attributes_are, unit_of_header_is, ranged_units_are, sup_units_are, index_units_is, new_units_are, lines_of_unit_are, location_in_is, first_location_is, location_of_is, spans_along_are, spans_of_are, spans_unrefused, all_lines_are, split_name_is, first_unit_is, answered_view_is, load_of_unit_is, verdict_is, view_not_refused, function_at_is, function_in_is, frames_in_are, frames_of_number_are, asked_frames_are, stop_of_is, stop_at_is, unit_of_token_is, load_result_is, forget_result_is, functions_fault_is, read_of_unit_is, read_of_units_is}
 use Rattle.addr2line_units.proofs.laws.fault_laws.Goals as goal
 

@@ -1,5 +1,4 @@
-use Rattle.std.proofs.Common.{◌≡◌, length}
-use Rattle.addr2line_units.specs.LegacyText.{elements_at}
+use Rattle.addr2line_units.proofs.Common.{◌≡◌, length, elements_at}
 use Rattle.addr2line_units.proofs.legacy.after_elements.Given as goal
 
 abbrev pub invariant-loop-after : goal.invariant-loop-after

@@ -1,4 +1,4 @@
-use Rattle.std.proofs.Common.{sym}
+use Rattle.addr2line_units.proofs.Common.{sym}
 use Rattle.addr2line_units.proofs.LegacySteps.{left_kept, left_hash, left_none}
 use Rattle.addr2line_units.proofs.legacy.push_elements.Goals as goal
 

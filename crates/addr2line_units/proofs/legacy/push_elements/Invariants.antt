@@ -1,6 +1,4 @@
-use Rattle.std.proofs.Common.{◌≡◌, ◌++◌, length}
-use Rattle.std.specs.Prelude.{string_bytes}
-use Rattle.addr2line_units.specs.LegacyText.{elements_text}
+use Rattle.addr2line_units.proofs.Common.{◌≡◌, ◌++◌, length, string_bytes, elements_text}
 use Rattle.addr2line_units.proofs.LegacySteps.{left_text}
 use Rattle.addr2line_units.proofs.legacy.push_elements.Given as goal
 

@@ -1,6 +1,4 @@
-use Rattle.std.proofs.Common.{[], List, ap, drop, length, sym, take, take-append-drop, ℕ, ◌++◌, ◌∙◌, ◌≡◌, ◌≤◌}
-use Rattle.std.proofs.Math.ListN.{drop_of_length-le}
-use Rattle.addr2line_units.specs.LegacyText.{without_llvm}
+use Rattle.addr2line_units.proofs.Common.{[], List, ap, drop, length, sym, take, take-append-drop, ℕ, ◌++◌, ◌∙◌, ◌≡◌, ◌≤◌, drop_of_length-le, without_llvm}
 use Rattle.addr2line_units.proofs.legacy.strip_llvm.Goals as goal
 
 -- a name without a mark before its end stays whole

@@ -1,5 +1,4 @@
-use Rattle.std.proofs.Common.{◌≡◌, ◌++◌, take, drop}
-use Rattle.addr2line_units.specs.LegacyText.{without_llvm}
+use Rattle.addr2line_units.proofs.Common.{◌≡◌, ◌++◌, take, drop, without_llvm}
 use Rattle.addr2line_units.proofs.legacy.strip_llvm.Given as goal
 
 abbrev pub invariant-loop-at : goal.invariant-loop-at

@@ -1,6 +1,4 @@
-use Rattle.std.proofs.Common.{ap, ltb-false, ltb-true, refl, sym, ◌∙◌}
-use Rattle.std.proofs.lemmas.Option.{slice_get_past, slice_get_read}
-use Rattle.addr2line_units.specs.CachedLines.{cached_spans, lines_at, lines_in_cache}
+use Rattle.addr2line_units.proofs.Common.{ap, ltb-false, ltb-true, refl, sym, ◌∙◌, slice_get_past, slice_get_read, cached_spans, lines_at, lines_in_cache}
 use Rattle.addr2line_units.proofs.locations.rows_in.Goals as goal
 
 pub returns-in-Some : goal.returns-in-Some

@@ -1,8 +1,4 @@
-use Rattle.std.proofs.Common.{subst, sym}
-use Rattle.std.proofs.lemmas.Result.{err_from_is_err_and}
-use Rattle.gimli_read.specs.Reading.{ExactlyUnlessOom}
-use Rattle.addr2line_lines.specs.SeenScope.{seen_scope}
-use Rattle.addr2line_units.specs.declared.entries.UnitEntries.{UnitEntries}
+use Rattle.addr2line_units.proofs.Common.{subst, sym, err_from_is_err_and, ExactlyUnlessOom, seen_scope, UnitEntries}
 use Rattle.addr2line_units.proofs.AfterParseLemmas.{refused_view_after, view_after, view_reads, view_refused}
 use Rattle.addr2line_units.proofs.EntryLemmas.{fault_known, functions_right, view_known}
 use Rattle.addr2line_units.proofs.parses.read_in_view.Goals as goal

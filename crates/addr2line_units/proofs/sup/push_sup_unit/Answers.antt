@@ -1,5 +1,4 @@
-use Rattle.std.proofs.Common.{refl}
-use Rattle.std.proofs.lemmas.Result.{err_from_is_err_and}
+use Rattle.addr2line_units.proofs.Common.{refl, err_from_is_err_and}
 use Rattle.addr2line_units.proofs.HeaderUnitLemmas.{first_takes}
 use Rattle.addr2line_units.proofs.UnitIndexLemmas.{where_found}
 use Rattle.addr2line_units.proofs.sup.push_sup_unit.Goals as goal

@@ -1,4 +1,4 @@
-use Rattle.std.proofs.Common.{refl}
+use Rattle.addr2line_units.proofs.Common.{refl}
 use Rattle.addr2line_units.proofs.UnitIndexLemmas.{where_taken}
 use Rattle.addr2line_units.proofs.sup.read_sup_unit.Goals as goal
 

@@ -1,9 +1,6 @@
-use Rattle.std.proofs.Common.{Ok, ap, rules, sym, ◌++◌, ◌∙◌, ◌≡◌}
+use Rattle.addr2line_units.proofs.Common.{Ok, ap, rules, sym, ◌++◌, ◌∙◌, ◌≡◌, err_from_is_err_and, free, all_headers, units_of}
 use Rattle.std.proofs.lemmas.List.{append_assoc}
-use Rattle.std.proofs.lemmas.Result.{err_from_is_err_and}
-use Rattle.gimli_read.specs.Costed.{◌>>=◌, free}
-use Rattle.gimli.specs.UnitsLeft.{all_headers}
-use Rattle.addr2line_units.specs.HeaderUnits.{units_of}
+use Rattle.gimli_read.specs.Costed.{◌>>=◌}
 use Rattle.addr2line_units.specs.UnitIndex.{sup_unit_of_header}
 use Rattle.addr2line_units.proofs.HeaderUnitLemmas.{fault_of_rest, put_to_nothing, rest_of_rest, shared_take, unit_fault, unit_step}
 use Rattle.addr2line_units.proofs.UnitIndexLemmas.{given_fault, given_some, shorter}

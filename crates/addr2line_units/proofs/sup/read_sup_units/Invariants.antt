@@ -1,7 +1,5 @@
-use Rattle.std.proofs.Common.{◌≡◌, ◌++◌, Ok, length}
-use Rattle.gimli_read.specs.Costed.{◌>>=◌, free}
-use Rattle.gimli.specs.UnitsLeft.{all_headers}
-use Rattle.addr2line_units.specs.HeaderUnits.{units_of}
+use Rattle.addr2line_units.proofs.Common.{◌≡◌, ◌++◌, Ok, length, free, all_headers, units_of}
+use Rattle.gimli_read.specs.Costed.{◌>>=◌}
 use Rattle.addr2line_units.specs.UnitIndex.{sup_unit_of_header}
 use Rattle.addr2line_units.proofs.HeaderUnitLemmas.{IsRestOf}
 use Rattle.addr2line_units.proofs.sup.read_sup_units.Given as goal

@@ -1,5 +1,4 @@
-use Rattle.std.proofs.Common.{◌≡◌, ◌++◌, drop, map}
-use Rattle.addr2line_units.specs.UnitAranges.{range_in}
+use Rattle.addr2line_units.proofs.Common.{◌≡◌, ◌++◌, drop, map, range_in}
 use Rattle.addr2line_units.proofs.unit.copy_ranges.Given as goal
 
 abbrev pub invariant-loop-arange : goal.invariant-loop-arange

@@ -1,4 +1,4 @@
-use Rattle.std.proofs.Common.{◌≡◌, Some, ap, sym, is_some, true, false}
+use Rattle.addr2line_units.proofs.Common.{◌≡◌, Some, ap, sym, is_some, true, false}
 use Rattle.addr2line_units.proofs.ViewLemmas.{is_there, verdict_of_fault, verdict_of_main, verdict_of_no_fault}
 use Rattle.addr2line_units.proofs.unit.first_state.Goals as goal
 

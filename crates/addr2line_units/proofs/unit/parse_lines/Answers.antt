@@ -1,5 +1,4 @@
-use Rattle.std.proofs.Common.{Err, rules, subst, ◌≡◌}
-use Rattle.addr2line_units.specs.CachedLines.{lines_result}
+use Rattle.addr2line_units.proofs.Common.{Err, rules, subst, ◌≡◌, lines_result}
 use Rattle.addr2line_units.proofs.AskMemoryLemmas.{lines_exact, lines_took}
 use Rattle.addr2line_units.proofs.unit.parse_lines.Goals as goal
 

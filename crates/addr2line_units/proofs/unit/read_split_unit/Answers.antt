@@ -1,7 +1,5 @@
-use Rattle.std.proofs.Common.{rules, ◌≡◌, ◌∙◌, ap, refl, option_map}
-use Rattle.std.proofs.lemmas.Result.{err_from_is_err_and}
+use Rattle.addr2line_units.proofs.Common.{rules, ◌≡◌, ◌∙◌, ap, refl, option_map, err_from_is_err_and, first_unit}
 use Rattle.addr2line_units.specs.AnswerMemory.{answer_takes_memory}
-use Rattle.addr2line_units.specs.Views.{first_unit}
 use Rattle.addr2line_units.proofs.ViewLemmas.{first_read}
 use Rattle.addr2line_units.proofs.unit.read_split_unit.Goals as goal
 

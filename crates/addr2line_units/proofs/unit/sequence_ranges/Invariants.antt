@@ -1,5 +1,4 @@
-use Rattle.std.proofs.Common.{◌≡◌, ◌++◌, length}
-use Rattle.addr2line_units.specs.CachedLines.{cached_ranges}
+use Rattle.addr2line_units.proofs.Common.{◌≡◌, ◌++◌, length, cached_ranges}
 use Rattle.addr2line_units.proofs.unit.sequence_ranges.Given as goal
 
 abbrev pub invariant-loop-range : goal.invariant-loop-range

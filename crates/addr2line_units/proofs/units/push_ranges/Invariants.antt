@@ -1,5 +1,4 @@
-use Rattle.std.proofs.Common.{◌≡◌, ◌++◌, drop, map}
-use Rattle.addr2line_units.specs.RangedUnits.{range_of_unit}
+use Rattle.addr2line_units.proofs.Common.{◌≡◌, ◌++◌, drop, map, range_of_unit}
 use Rattle.addr2line_units.proofs.units.push_ranges.Given as goal
 
 abbrev pub invariant-loop-range : goal.invariant-loop-range

@@ -1,7 +1,4 @@
-use Rattle.std.proofs.Common.{◌≡◌, false, refl, rules, subst, true}
-use Rattle.std.proofs.lemmas.Result.{err_from_is_err_and}
-use Rattle.addr2line_units.specs.HeaderUnits.{has_abbreviations}
-use Rattle.addr2line_units.specs.RangedUnits.{is_type_unit}
+use Rattle.addr2line_units.proofs.Common.{◌≡◌, false, refl, rules, subst, true, err_from_is_err_and, has_abbreviations, is_type_unit}
 use Rattle.addr2line_units.proofs.UnitIndexLemmas.{kept_fault, takes_unit, where_read, where_taken}
 use Rattle.addr2line_units.proofs.units.read_unit.Goals as goal
 

@@ -1,10 +1,6 @@
-use Rattle.std.proofs.Common.{◌≡◌, Ok, length}
-use Rattle.gimli_read.specs.Costed.{◌>>=◌, free}
-use Rattle.addr2line_units.specs.CachedLines.{HaveLinesOf}
+use Rattle.addr2line_units.proofs.Common.{◌≡◌, Ok, length, free, HaveLinesOf, AreFreshOf, units_of, unit_of_header}
+use Rattle.gimli_read.specs.Costed.{◌>>=◌}
 use Rattle.addr2line_units.specs.Indexed.{appended, index_seen, indexed_with}
-use Rattle.addr2line_units.specs.CachedUnits.{AreFreshOf}
-use Rattle.addr2line_units.specs.HeaderUnits.{units_of}
-use Rattle.addr2line_units.specs.RangedUnits.{unit_of_header}
 use Rattle.addr2line_units.proofs.HeaderUnitLemmas.{IsRestOf}
 use Rattle.addr2line_units.proofs.units.read_units.Given as goal
 

@@ -1,6 +1,5 @@
-use Rattle.std.proofs.Common.{◌≡◌, ◌-◌, ◌+◌, ℕ, length, take}
+use Rattle.gimli.proofs.Common.{◌≡◌, ◌-◌, ◌+◌, ℕ, length, take, Abbrev}
 use Rattle.std.specs.List.{fold}
-use Rattle.gimli_read.specs.Abbreviations.{Abbrev}
 use Rattle.gimli.proofs.abbreviations_cache.room_after.Given as goal
 
 abbrev pub invariant-loop-abbreviation : goal.invariant-loop-abbreviation

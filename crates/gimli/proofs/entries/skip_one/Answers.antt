@@ -1,4 +1,4 @@
-use Rattle.std.proofs.Common.{sym}
+use Rattle.gimli.proofs.Common.{sym}
 use Rattle.gimli.proofs.EntryLemmas.{sized_passed}
 use Rattle.gimli.proofs.entries.skip_one.Goals as goal
 

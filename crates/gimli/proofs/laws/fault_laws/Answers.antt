@@ -1,7 +1,5 @@
 use Rattle.gimli_read.proofs.FaultLemmas.{by_bytes, not_refused, none_refused}
-use Rattle.gimli.specs.Aranges.{arange_sets_of}
-use Rattle.gimli.specs.Ranges.{ranges_from}
-use Rattle.gimli.specs.UnitsLeft.{headers_left, all_headers}
+use Rattle.gimli.proofs.Common.{arange_sets_of, ranges_from, headers_left, all_headers}
 use Rattle.gimli.proofs.FaultLemmas.{from_offset_is, string_is, string_length_is, indexed_number_is, string_of_is, indexed_address_is, attr_string_is, unit_header_is, next_header_is, headers_left_are, all_headers_are, entry_code_is, root_attributes_are, root_attributes_of_are, entry_bytes_is, item_is, entry_abbreviation_is, next_item_is, entries_are, items_from_end, items_of_end, items_at_end, subtree_end, root_values_are, address_from_is, line_program_of_is, table_from_is, unit_record_is, dwo_name_is, dwo_name_fault_is, arange_set_is, arange_sets_are, range_list_entry_is, range_list_entries_end, ranges_from_are, ranges_are, list_items_unrefused, ranges_offset_is}
 use Rattle.gimli.proofs.laws.fault_laws.Goals as goal
 

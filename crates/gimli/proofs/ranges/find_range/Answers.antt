@@ -1,6 +1,4 @@
-use Rattle.std.proofs.Common.{sym, ◌∙◌}
-use Rattle.std.proofs.lemmas.Result.{err_from_is_err_and}
-use Rattle.gimli_read.proofs.Shorter.{shorter_by}
+use Rattle.gimli.proofs.Common.{sym, ◌∙◌, err_from_is_err_and, shorter_by}
 use Rattle.gimli.specs.RangeListEntries.{range_list_entry_at}
 use Rattle.gimli.proofs.RangeLemmas.{entry_takes, from_end, from_fault, from_none, from_range, from_index}
 use Rattle.gimli.proofs.ranges.find_range.Goals as goal

@@ -1,5 +1,4 @@
-use Rattle.std.proofs.Common.{◌≡◌, length}
-use Rattle.gimli.specs.Ranges.{ranges_from}
+use Rattle.gimli.proofs.Common.{◌≡◌, length, ranges_from}
 use Rattle.gimli.proofs.ranges.find_range.Given as goal
 
 abbrev pub invariant-loop-entry : goal.invariant-loop-entry

@@ -1,5 +1,4 @@
-use Rattle.std.proofs.Common.{◌≡◌, Ok, ap, ◌∙◌}
-use Rattle.std.proofs.lemmas.Result.{err_from_is_err_and}
+use Rattle.gimli.proofs.Common.{◌≡◌, Ok, ap, ◌∙◌, err_from_is_err_and}
 use Rattle.gimli.proofs.RecordLemmas.{root_values_by, still_root}
 use Rattle.gimli.proofs.record.read_root.Goals as goal
 

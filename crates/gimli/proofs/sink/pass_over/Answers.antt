@@ -1,5 +1,4 @@
-use Rattle.std.proofs.Common.{ap, sym, ◌∙◌}
-use Rattle.std.proofs.lemmas.Result.{err_from_is_err_and}
+use Rattle.gimli.proofs.Common.{ap, sym, ◌∙◌, err_from_is_err_and}
 use Rattle.gimli.proofs.SinkLemmas.{pass_next, rest-end}
 use Rattle.gimli.proofs.sink.pass_over.Goals as goal
 

@@ -1,6 +1,4 @@
-use Rattle.std.proofs.Common.{◌≡◌, drop}
-use Rattle.gimli_read.specs.Form.{rest_of}
-use Rattle.gimli_read.specs.Form.{attributes_at}
+use Rattle.gimli.proofs.Common.{◌≡◌, drop, rest_of, attributes_at}
 use Rattle.gimli.proofs.sink.pass_over.Given as goal
 
 abbrev pub invariant-loop-specification : goal.invariant-loop-specification

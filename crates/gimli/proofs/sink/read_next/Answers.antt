@@ -1,8 +1,6 @@
-use Rattle.std.proofs.Common.{refl, subst, sym, ◌∙◌}
+use Rattle.gimli.proofs.Common.{refl, subst, sym, ◌∙◌, ExactlyUnlessOomIf, or_fault}
 use Rattle.std.specs.Result.{result_err}
 use Rattle.gimli_read.specs.declared.constants.DwAt.{DwAt}
-use Rattle.gimli_read.specs.Reading.{ExactlyUnlessOomIf}
-use Rattle.gimli.specs.AttributeSinks.{or_fault}
 use Rattle.gimli.proofs.SinkLemmas.{number_read, or_its_fault}
 use Rattle.gimli.proofs.WantedLemmas.{named}
 use Rattle.gimli.proofs.sink.read_next.Goals as goal

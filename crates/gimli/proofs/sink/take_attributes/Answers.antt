@@ -1,7 +1,4 @@
-use Rattle.std.proofs.Common.{refl, sym, ap, ◌∙◌}
-use Rattle.std.proofs.lemmas.Result.{err_from_is_err_and}
-use Rattle.gimli_read.specs.Reading.{◌>>=◌}
-use Rattle.gimli.specs.AttributeSinks.{or_fault}
+use Rattle.gimli.proofs.Common.{refl, sym, ap, ◌∙◌, err_from_is_err_and, ◌>>=◌, or_fault}
 use Rattle.gimli.proofs.SinkLemmas.{taken, taken_passes}
 use Rattle.gimli.proofs.WantedLemmas.{rest_passes, wanted_end, wanted_next, wanted_passed}
 use Rattle.gimli.proofs.sink.take_attributes.Goals as goal

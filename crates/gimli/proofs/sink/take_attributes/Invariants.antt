@@ -1,9 +1,5 @@
-use Rattle.std.proofs.Common.{◌≡◌, length, Ok, Result}
+use Rattle.gimli.proofs.Common.{◌≡◌, length, Ok, Result, attributes_at, rest_of, ExactlyUnlessOomIf, or_fault, taken_after}
 use Rattle.gimli_read.specs.declared.error.Error.{Error as Fault}
-use Rattle.gimli_read.specs.Form.{attributes_at, rest_of}
-use Rattle.gimli_read.specs.Reading.{ExactlyUnlessOomIf}
-use Rattle.gimli.specs.AttributeSinks.{or_fault}
-use Rattle.gimli.specs.TakenAttributes.{taken_after}
 use Rattle.gimli.proofs.sink.take_attributes.Given as goal
 
 abbrev pub invariant-loop-next : goal.invariant-loop-next

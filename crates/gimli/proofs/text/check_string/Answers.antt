@@ -1,4 +1,4 @@
-use Rattle.std.proofs.lemmas.Result.{err_from_is_err_and}
+use Rattle.gimli.proofs.Common.{err_from_is_err_and}
 use Rattle.gimli.proofs.StringPlaces.{fault_unplaced}
 use Rattle.gimli.proofs.text.check_string.Goals as goal
 

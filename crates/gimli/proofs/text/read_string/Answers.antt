@@ -1,4 +1,4 @@
-use Rattle.std.proofs.lemmas.Result.{err_from_is_err_and}
+use Rattle.gimli.proofs.Common.{err_from_is_err_and}
 use Rattle.gimli.proofs.StringPlaces.{string_unplaced}
 use Rattle.gimli.proofs.text.read_string.Goals as goal
 

@@ -1,6 +1,4 @@
-use Rattle.std.proofs.Common.{◌≡◌, sym, ◌∙◌, refl}
-use Rattle.std.proofs.lemmas.Bool.{eqb-false}
-use Rattle.std.proofs.lemmas.Result.{err_from_is_err_and}
+use Rattle.gimli.proofs.Common.{◌≡◌, sym, ◌∙◌, refl, eqb-false, err_from_is_err_and}
 use Rattle.gimli.proofs.FrontLemmas.{next_refused, next_split, split_fits, gives_some}
 use Rattle.gimli.proofs.units.read_next_header.Goals as goal
 

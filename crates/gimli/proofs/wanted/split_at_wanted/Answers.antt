@@ -1,4 +1,4 @@
-use Rattle.std.proofs.Common.{sym}
+use Rattle.gimli.proofs.Common.{sym}
 use Rattle.gimli.specs.WantedAttributes.{is_wanted_specification}
 use Rattle.gimli.proofs.WantedLemmas.{holds_there, none_split, split_at}
 use Rattle.gimli.proofs.wanted.split_at_wanted.Goals as goal

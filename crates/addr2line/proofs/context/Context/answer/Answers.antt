@@ -1,4 +1,4 @@
-use Rattle.std.proofs.Common.{option_map, sym}
+use Rattle.addr2line.proofs.Common.{option_map, sym}
 use Rattle.addr2line.proofs.AnsweredLemmas.{after_answer, read_context, reply_alone}
 use Rattle.addr2line.proofs.context.Context.answer.Goals as goal
 

@@ -1,7 +1,4 @@
-use Rattle.std.proofs.Common.{Ok, ap, subst, sym, ◌∙◌}
-use Rattle.addr2line_units.specs.Cover.{cover_range}
-use Rattle.addr2line_units.specs.Located.{spans_along}
-use Rattle.addr2line_units.specs.Parsed.{AreParsed}
+use Rattle.addr2line.proofs.Common.{Ok, ap, subst, sym, ◌∙◌, cover_range, spans_along, AreParsed}
 use Rattle.addr2line.proofs.ContextLemmas.{at_made, spans_are}
 use Rattle.addr2line.proofs.context.Context.cached_rows.Goals as goal
 

@@ -1,11 +1,7 @@
-use Rattle.std.proofs.Common.{refl}
-use Rattle.addr2line_units.specs.declared.frames.OnFault.TheVariants.{Skip}
+use Rattle.addr2line.proofs.Common.{refl, Skip, IsUncovered, unit_value, unit_of_context}
 use Rattle.addr2line_units.specs.SeenUnit.{seen_found}
 use Rattle.addr2line.proofs.AfterLemmas.{if_load}
 use Rattle.addr2line.proofs.UncoveredLemmas.{uncovered_ends, uncovered_ok}
-use Rattle.addr2line.specs.Context.{IsUncovered}
-use Rattle.addr2line.specs.Lookups.{unit_value}
-use Rattle.addr2line.specs.WaitingLookups.{unit_of_context}
 use Rattle.addr2line.proofs.context.Context.find_dwarf_and_unit.Goals as goal
 
 pub returns : goal.returns

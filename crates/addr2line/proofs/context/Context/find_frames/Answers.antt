@@ -1,11 +1,6 @@
-use Rattle.std.proofs.Common.{Some, refl}
-use Rattle.addr2line_units.specs.declared.frames.OnFault.TheVariants.{Stop}
-use Rattle.addr2line_units.specs.FramesLeft.{frames_left}
+use Rattle.addr2line.proofs.Common.{Some, refl, Stop, frames_left, IsUncovered, frames_value, frames_of_context}
 use Rattle.addr2line.proofs.AfterLemmas.{if_load}
 use Rattle.addr2line.proofs.UncoveredLemmas.{uncovered_ends, uncovered_ok}
-use Rattle.addr2line.specs.Context.{IsUncovered}
-use Rattle.addr2line.specs.Lookups.{frames_value}
-use Rattle.addr2line.specs.WaitingLookups.{frames_of_context}
 use Rattle.addr2line.proofs.context.Context.find_frames.Goals as goal
 
 pub returns : goal.returns

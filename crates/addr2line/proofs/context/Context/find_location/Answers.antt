@@ -1,6 +1,4 @@
-use Rattle.std.proofs.Common.{Err, None, Ok, Some, ap, refl, sym, ◌∙◌}
-use Rattle.std.proofs.lemmas.Result.{err_from_is_err_and}
-use Rattle.addr2line_units.specs.UnitsState.{UnitsState, row_location}
+use Rattle.addr2line.proofs.Common.{Err, None, Ok, Some, ap, refl, sym, ◌∙◌, err_from_is_err_and, UnitsState, row_location}
 use Rattle.addr2line.proofs.ContextLemmas.{after_lookup, covers_none, lines_context, located_alone, location_is, none_covered, ready_told}
 use Rattle.addr2line.proofs.context.Context.find_location.Goals as goal
 

@@ -1,4 +1,4 @@
-use Rattle.std.proofs.Common.{sym, ◌∙◌}
+use Rattle.addr2line.proofs.Common.{sym, ◌∙◌}
 use Rattle.addr2line.proofs.AnsweredLemmas.{read_context}
 use Rattle.addr2line.proofs.LoadLemmas.{after_forget, forget_is}
 use Rattle.addr2line.proofs.context.Context.forget.Goals as goal

@@ -1,5 +1,4 @@
-use Rattle.std.proofs.Common.{option_map, sym, ◌≡◌, ◌∙◌}
-use Rattle.addr2line_units.specs.FramesLookup.{unit_found}
+use Rattle.addr2line.proofs.Common.{option_map, sym, ◌≡◌, ◌∙◌, unit_found}
 use Rattle.addr2line_units.specs.SeenUnit.{seen_unit}
 use Rattle.addr2line.proofs.AfterLemmas.{unit_found_is}
 use Rattle.addr2line.proofs.ContextLemmas.{of_made}

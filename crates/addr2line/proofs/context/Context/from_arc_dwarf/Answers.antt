@@ -1,4 +1,4 @@
-use Rattle.std.proofs.lemmas.Result.{err_from_is_err_and}
+use Rattle.addr2line.proofs.Common.{err_from_is_err_and}
 use Rattle.addr2line.proofs.ContextLemmas.{context_fault, context_made}
 use Rattle.addr2line.proofs.context.Context.from_arc_dwarf.Goals as goal
 

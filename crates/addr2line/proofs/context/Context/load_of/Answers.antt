@@ -1,4 +1,4 @@
-use Rattle.std.proofs.Common.{sym}
+use Rattle.addr2line.proofs.Common.{sym}
 use Rattle.addr2line.proofs.LookupLemmas.{load_told}
 use Rattle.addr2line.proofs.context.Context.load_of.Goals as goal
 

@@ -1,5 +1,4 @@
-use Rattle.std.proofs.Common.{None, option_map, refl, subst, sym, ◌∙◌}
-use Rattle.gimli_read.specs.Reading.{ExactlyUnlessOom}
+use Rattle.addr2line.proofs.Common.{None, option_map, refl, subst, sym, ◌∙◌, ExactlyUnlessOom}
 use Rattle.addr2line.proofs.AnsweredLemmas.{read_context}
 use Rattle.addr2line.proofs.LoadLemmas.{after_load, load_is, not_open_is}
 use Rattle.addr2line.proofs.context.Context.load_unit.Goals as goal

@@ -1,10 +1,7 @@
-use Rattle.std.proofs.Common.{subst, sym, ◌∙◌, ◌≡◌}
-use Rattle.std.specs.Prelude.{IfOk}
+use Rattle.addr2line.proofs.Common.{subst, sym, ◌∙◌, ◌≡◌, IfOk, cover, NoneOpen, load_of_number}
 use Rattle.addr2line.proofs.AnsweredLemmas.{loads_are, read_context}
 use Rattle.addr2line.proofs.LoadLemmas.{after_preload, none_listed, none_open_are}
 use Rattle.addr2line.proofs.ContextLemmas.{covers_none}
-use Rattle.addr2line_units.specs.Cover.{cover}
-use Rattle.addr2line_units.specs.Loads.{NoneOpen, load_of_number}
 use Rattle.addr2line.proofs.context.Context.preload_units.Goals as goal
 
 pub invariant_of-self : goal.invariant_of-self

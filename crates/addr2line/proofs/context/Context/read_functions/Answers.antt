@@ -1,5 +1,4 @@
-use Rattle.std.proofs.Common.{subst, sym}
-use Rattle.gimli_read.specs.Reading.{ExactlyUnlessOom}
+use Rattle.addr2line.proofs.Common.{subst, sym, ExactlyUnlessOom}
 use Rattle.addr2line.proofs.AnsweredLemmas.{read_context}
 use Rattle.addr2line.proofs.LoadLemmas.{after_parse, all_known, all_reached, parse_is, parsed_alone}
 use Rattle.addr2line.proofs.context.Context.read_functions.Goals as goal

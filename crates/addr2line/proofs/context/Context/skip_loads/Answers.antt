@@ -1,6 +1,4 @@
-use Rattle.std.proofs.Common.{Err, ap, rules}
-use Rattle.std.proofs.lemmas.Result.{err_from_is_err_and}
-use Rattle.addr2line_units.specs.FramesLookup.{is_waiting}
+use Rattle.addr2line.proofs.Common.{Err, ap, rules, err_from_is_err_and, is_waiting}
 use Rattle.addr2line.proofs.SkippedLemmas.{after_skip, fault_now, skipped_look, skipped_more, skipped_none, skipped_refused, told_ended, told_waits}
 use Rattle.addr2line.proofs.context.Context.skip_loads.Goals as goal
 

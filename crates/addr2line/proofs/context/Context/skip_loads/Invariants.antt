@@ -1,6 +1,5 @@
-use Rattle.std.proofs.Common.{length}
+use Rattle.addr2line.proofs.Common.{length, loads_at}
 use Rattle.addr2line.proofs.SkippedLemmas.{HasSkipped}
-use Rattle.addr2line.specs.Lookups.{loads_at}
 use Rattle.addr2line.proofs.context.Context.skip_loads.Given as goal
 
 abbrev pub invariant-loop-self : goal.invariant-loop-self

@@ -1,6 +1,4 @@
-use Rattle.std.proofs.Common.{[], subst, sym, ◌∙◌, ◌≡◌}
-use Rattle.gimli_read.specs.Reading.{ExactlyUnlessOom}
-use Rattle.addr2line_units.specs.Cover.{cover}
+use Rattle.addr2line.proofs.Common.{[], subst, sym, ◌∙◌, ◌≡◌, ExactlyUnlessOom, cover}
 use Rattle.addr2line.proofs.LookupLemmas.{after_frames, refused_for_memory, stop_now, walk_alone, walk_memory, walked_context}
 use Rattle.addr2line.proofs.context.Context.walk.Goals as goal
 

@@ -1,5 +1,4 @@
-use Rattle.std.proofs.Common.{◌≡◌, ◌≤◌}
-use Rattle.std.specs.Prelude.{vec_len}
+use Rattle.addr2line.proofs.Common.{◌≡◌, ◌≤◌, vec_len}
 use Rattle.addr2line.proofs.files.HostFilePartSource.part.Given as goal
 
 abbrev pub invariant-loop-left : goal.invariant-loop-left

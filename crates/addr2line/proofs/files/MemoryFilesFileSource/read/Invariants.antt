@@ -1,5 +1,4 @@
-use Rattle.std.proofs.Common.{◌≡◌, drop, map}
-use Rattle.addr2line.specs.Files.{listed_files, seen_entry}
+use Rattle.addr2line.proofs.Common.{◌≡◌, drop, map, listed_files, seen_entry}
 use Rattle.addr2line.proofs.files.MemoryFilesFileSource.read.Given as goal
 
 -- the files from here on have what all have at the path

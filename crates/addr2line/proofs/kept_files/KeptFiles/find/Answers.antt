@@ -1,4 +1,4 @@
-use Rattle.std.proofs.Common.{sym, ◌∙◌}
+use Rattle.addr2line.proofs.Common.{sym, ◌∙◌}
 use Rattle.addr2line.proofs.KeptFileLemmas.{found_with, same_stamp}
 use Rattle.addr2line.proofs.kept_files.KeptFiles.find.Goals as goal
 

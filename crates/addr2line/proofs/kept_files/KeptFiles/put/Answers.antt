@@ -1,6 +1,5 @@
-use Rattle.std.proofs.Common.{◌≡◌, string_bytes}
+use Rattle.addr2line.proofs.Common.{◌≡◌, string_bytes, IfOk-at_ok}
 use Rattle.std.proofs.lemmas.Map.Text.{btree_map_updates_text}
-use Rattle.std.proofs.lemmas.Result.{IfOk-at_ok}
 use Rattle.addr2line.proofs.kept_files.KeptFiles.put.Goals as goal
 
 pub returns-clause-after : goal.returns-clause-after

@@ -1,7 +1,4 @@
-use Rattle.std.proofs.Common.{Ok, refl, subst, sym}
-use Rattle.std.proofs.lemmas.Result.{err_from_is_err_and}
-use Rattle.addr2line_units.specs.FramesLeft.{frames_left}
-use Rattle.addr2line.specs.Files.{as_read_if_known}
+use Rattle.addr2line.proofs.Common.{Ok, refl, subst, sym, err_from_is_err_and, frames_left, as_read_if_known}
 use Rattle.addr2line.specs.LoadsByFiles.{AfterFramesByFiles}
 use Rattle.addr2line.proofs.ByFilesLemmas.{gives_by_files}
 use Rattle.addr2line.proofs.NoLoadLemmas.{gives_exactly, gives_if_none, last_frames}

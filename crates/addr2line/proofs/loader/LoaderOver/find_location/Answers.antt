@@ -1,5 +1,4 @@
-use Rattle.std.proofs.Common.{Err, ap, refl, sym, ◌∙◌}
-use Rattle.addr2line.specs.SplitFiles.{of_file}
+use Rattle.addr2line.proofs.Common.{Err, ap, refl, sym, ◌∙◌, of_file}
 use Rattle.addr2line.proofs.LoadingLemmas.{looked_in_context, no_oom}
 use Rattle.addr2line.proofs.loader.LoaderOver.find_location.Goals as goal
 

@@ -1,6 +1,5 @@
-use Rattle.std.proofs.Common.{Err, ap, refl, sym, ◌∙◌}
+use Rattle.addr2line.proofs.Common.{Err, ap, refl, sym, ◌∙◌, of_file}
 use Rattle.elf.specs.Text.{loader_error_of}
-use Rattle.addr2line.specs.SplitFiles.{of_file}
 use Rattle.addr2line.proofs.LoadingLemmas.{looked_in_context}
 use Rattle.addr2line.proofs.loader.LoaderOver.find_location_range.Goals as goal
 

@@ -1,6 +1,4 @@
-use Rattle.std.proofs.Common.{is_some}
-use Rattle.std.proofs.lemmas.Result.{err_from_is_err_and}
-use Rattle.addr2line.specs.Files.{as_read}
+use Rattle.addr2line.proofs.Common.{is_some, err_from_is_err_and, as_read}
 use Rattle.addr2line.proofs.LoadedLemmas.{loaded_by, loaded_fault, loader_made}
 use Rattle.addr2line.proofs.LoadingLemmas.{if_some_both}
 use Rattle.addr2line.proofs.loader.LoaderOver.over_with.Goals as goal

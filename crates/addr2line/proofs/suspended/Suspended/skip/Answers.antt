@@ -1,6 +1,5 @@
-use Rattle.std.proofs.Common.{Some, refl}
+use Rattle.addr2line.proofs.Common.{Some, refl, found_at}
 use Rattle.addr2line.proofs.AfterLemmas.{if_load, never_waits, outputs_skipped, skip_after}
-use Rattle.addr2line.specs.Lookups.{found_at}
 use Rattle.addr2line.proofs.suspended.Suspended.skip.Goals as goal
 
 pub returns : goal.returns

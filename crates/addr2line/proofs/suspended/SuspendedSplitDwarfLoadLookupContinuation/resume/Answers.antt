@@ -1,10 +1,6 @@
-use Rattle.std.proofs.Common.{Some, ap, option_map, refl, subst, ◌∙◌}
-use Rattle.gimli_read.specs.Reading.{ExactlyUnlessOom}
-use Rattle.addr2line_units.specs.Suspended.{IfOutput}
+use Rattle.addr2line.proofs.Common.{Some, ap, option_map, refl, subst, ◌∙◌, ExactlyUnlessOom, IfOutput, answered, found_at}
 use Rattle.addr2line.proofs.AfterLemmas.{if_load}
 use Rattle.addr2line.proofs.SkipLemmas.{skip_told}
-use Rattle.addr2line.specs.Answers.{answered}
-use Rattle.addr2line.specs.Lookups.{found_at}
 use Rattle.addr2line.proofs.suspended.SuspendedSplitDwarfLoadLookupContinuation.resume.Goals as goal
 
 pub returns : goal.returns

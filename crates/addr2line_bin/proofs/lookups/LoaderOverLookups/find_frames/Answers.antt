@@ -1,7 +1,5 @@
-use Rattle.std.proofs.Common.{refl}
-use Rattle.addr2line.specs.Loader.{seen_loader}
+use Rattle.addr2line_bin.proofs.Common.{refl, seen_loader, frames_left}
 use Rattle.addr2line_bin.proofs.LoaderLemmas.{gives_frames, same_after_loads}
-use Rattle.addr2line_units.specs.FramesLeft.{frames_left}
 use Rattle.addr2line_bin.proofs.lookups.LoaderOverLookups.find_frames.Goals as goal
 
 pub returns : goal.returns

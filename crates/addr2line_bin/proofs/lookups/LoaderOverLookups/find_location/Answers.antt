@@ -1,6 +1,5 @@
-use Rattle.std.proofs.Common.{refl}
+use Rattle.addr2line_bin.proofs.Common.{refl, seen_loader}
 use Rattle.addr2line_lines.specs.SeenLocation.{seen_location}
-use Rattle.addr2line.specs.Loader.{seen_loader}
 use Rattle.addr2line_bin.proofs.LoaderLemmas.{finds, same_after_location}
 use Rattle.addr2line_bin.proofs.lookups.LoaderOverLookups.find_location.Goals as goal
 

@@ -1,5 +1,4 @@
-use Rattle.std.proofs.Common.{refl}
-use Rattle.addr2line.specs.Loader.{seen_loader}
+use Rattle.addr2line_bin.proofs.Common.{refl, seen_loader}
 use Rattle.addr2line_bin.proofs.LoaderLemmas.{same_after_range}
 use Rattle.addr2line_bin.proofs.lookups.LoaderOverLookups.find_location_range.Goals as goal
 

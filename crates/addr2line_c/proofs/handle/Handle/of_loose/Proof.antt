@@ -1,27 +1,9 @@
 -- `of_loose` hands the box on, whose pointer may be compared with null.
-use Rattle.std.proofs.Common.{◌≡◌, List, [], ◌∷◌, ◌++◌, refl, sym, subst}
+use Rattle.addr2line_c.proofs.Common.{◌≡◌, List, [], ◌∷◌, ◌++◌, refl, sym, subst, Val, vptr, SProp, ent, emp, guard, guard_i, via, snd∗, id⊢, ftrue, WpFn, Logic, sem, ‵, raw, given, ◌⊛◌, ◌$◌, ◌∵◌, !, qed, by, move, keep, split, fsplit, fjoin, suffices, use0, use1, learn, stop, fld, of_opd, no_more, and_then, returns, enter, alloc_all, pass_all, free_all, look_at, get, get_in, sets, agg, sub, whole, fact, fact_i, fact_use, tables, RattleType, owns, types_at, plain, Ptr, block_ptr, Testable, nothing, Stays, stay_dropped, walk_of, Goes-blank, proved_at, leaves}
 use mir.Raw.{raw as bare}
-use mir.Val.{Val, vptr}
-use base.Logic.{SProp, ent, emp, guard, guard_i, via, snd∗, id⊢}
-use base.Fml.{ftrue}
 use seplogic.Ra.Ura.{Ura}
-use prog.Wp.{WpFn}
-use types.Logic.{Logic, sem}
-use types.Kit.{‵, raw, given, ◌⊛◌, ◌$◌, ◌∵◌, !, qed, by, move, keep, split, fsplit, fjoin, suffices, use0, use1, learn}
-use types.Run.{stop, fld, of_opd, no_more, and_then, returns, enter}
-use types.ByLocal.{alloc_all, pass_all, free_all, look_at, get, get_in, sets}
-use types.Part.{agg, sub, whole}
-use contract.Monad.{fact, fact_i, fact_use}
-use contract.Running.{tables}
-use denote.RattleType.{RattleType, owns}
 use denote.Memory.{lone}
-use denote.Signature.{types_at, plain}
-use denote.RawPtr.{Ptr, block_ptr, Testable}
-use denote.Steps.{nothing}
 use denote.Triple.Entry.{alive}
-use denote.Triple.Walked.{Stays, stay_dropped, walk_of}
-use Rattle.core.proofs.alloc.Calls.{Goes-blank}
-use Rattle.std.proofs.raw_atomic.Walks.{proved_at, leaves}
 use Rattle.std.proofs.GlobalToken.{dealloc_token-Testable}
 use Rattle.std.specs.contracts.alloc.Global as heap
 use Rattle.std.proofs.alloc.Global.TheLaws as heap_laws

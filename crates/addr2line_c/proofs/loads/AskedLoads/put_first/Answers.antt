@@ -1,4 +1,4 @@
-use Rattle.std.proofs.Common.{◌≡◌, ◌<◌, ◌^◌, Ok, Some, ap, sym, subst, nat_le, length, arith}
+use Rattle.addr2line_c.proofs.Common.{◌≡◌, ◌<◌, ◌^◌, Ok, Some, ap, sym, subst, nat_le, length, arith}
 use Rattle.addr2line_c.specs.declared.loads.WrittenLoad.{WrittenLoad}
 use Rattle.addr2line_c.specs.AskedLoads.{first_waiting, load_of_token, waiting_load}
 use Rattle.addr2line_c.specs.Loads.{IsWrittenLoad, NamesLoad}

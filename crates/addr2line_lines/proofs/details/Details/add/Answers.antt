@@ -1,12 +1,5 @@
-use Rattle.std.proofs.Common.{◌≡◌, refl, ◌++◌, ◌∷◌, [], ◌+◌, None, length, map, option_map, slice_index_or, ap, arith, length-append, ◌∙◌, subst, sym, append-nil}
-use Rattle.std.proofs.lemmas.List.{length-map, map-append}
-use Rattle.std.proofs.lemmas.Result.{err_from_is_err_and}
-use Rattle.addr2line_lines.specs.declared.details.FunctionDetail.{FunctionDetail}
-use Rattle.addr2line_lines.specs.CachedNames.{seen_names}
-use Rattle.addr2line_lines.specs.FoundInlined.{FoundInlined, seen_lists}
+use Rattle.addr2line_lines.proofs.Common.{◌≡◌, refl, ◌++◌, ◌∷◌, [], ◌+◌, None, length, map, option_map, slice_index_or, ap, arith, length-append, ◌∙◌, subst, sym, append-nil, length-map, map-append, err_from_is_err_and, FunctionDetail, seen_names, FoundInlined, seen_lists, CachedDetails, seen_details, seen_scope, or_right}
 use Rattle.addr2line_lines.specs.Grown.{IsGrown}
-use Rattle.addr2line_lines.specs.CachedDetails.{CachedDetails, seen_details}
-use Rattle.addr2line_lines.specs.SeenScope.{seen_scope}
 use Rattle.addr2line_lines.proofs.CostLemmas.{refused_part}
 use Rattle.addr2line_lines.proofs.DetailMemory.{found_takes}
 use Rattle.addr2line_lines.proofs.DetailOrder.{detail_part}
@@ -14,7 +7,6 @@ use Rattle.addr2line_lines.proofs.DetailPlaces.{AreCachedAt, detail_cached, last
 use Rattle.addr2line_lines.proofs.NestingLemmas.{grown_by, grown_not}
 use Rattle.addr2line_lines.proofs.details.Details.add.Given.{Over}
 use Rattle.addr2line_lines.proofs.details.Details.add.Goals as goal
-use Rattle.std.proofs.lemmas.Bool.{or_right}
 
 pub returns-in_err-read-clause-gives : goal.returns-in_err-read-clause-gives
 returns-in_err-read-clause-gives g c =

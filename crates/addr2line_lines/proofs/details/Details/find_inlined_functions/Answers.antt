@@ -1,4 +1,4 @@
-use Rattle.addr2line_lines.specs.CachedDetails.{seen_details}
+use Rattle.addr2line_lines.proofs.Common.{seen_details}
 use Rattle.addr2line_lines.proofs.DetailPlaces.{chain_gives, chain_items, run_ordered}
 use Rattle.addr2line_lines.proofs.details.Details.find_inlined_functions.Goals as goal
 

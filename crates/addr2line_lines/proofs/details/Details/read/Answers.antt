@@ -1,8 +1,4 @@
-use Rattle.std.proofs.Common.{◌≡◌, length, sym, subst, ◌∙◌}
-use Rattle.addr2line_lines.specs.CachedNames.{AreNamesMore, seen_names}
-use Rattle.addr2line_lines.specs.SeenScope.{seen_scope}
-use Rattle.addr2line_lines.specs.FoundInlined.{seen_lists}
-use Rattle.addr2line_lines.specs.CachedDetails.{seen_details}
+use Rattle.addr2line_lines.proofs.Common.{◌≡◌, length, sym, subst, ◌∙◌, AreNamesMore, seen_names, seen_scope, seen_lists, seen_details}
 use Rattle.addr2line_lines.proofs.CachedNameLemmas.{first_names, names_same}
 use Rattle.addr2line_lines.proofs.DetailPlaces.{details_refused, first_is}
 use Rattle.addr2line_lines.proofs.details.Details.read.Goals as goal

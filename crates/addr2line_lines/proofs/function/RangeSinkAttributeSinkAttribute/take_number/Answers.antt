@@ -1,4 +1,4 @@
-use Rattle.std.proofs.Common.{Ok, ap, sym, ◌∙◌}
+use Rattle.addr2line_lines.proofs.Common.{Ok, ap, sym, ◌∙◌}
 use Rattle.addr2line_lines.proofs.NumberLemmas.{address_number}
 use Rattle.addr2line_lines.proofs.function.RangeSinkAttributeSinkAttribute.take_number.Goals as goal
 

@@ -1,12 +1,5 @@
-use Rattle.std.proofs.Common.{arith, refl, ◌≡◌, ◌<◌, ◌≤◌, List, Ok, ap, length, map, subst, sym, ◌∙◌}
-use Rattle.std.proofs.lemmas.Result.{err_from_is_err_and}
+use Rattle.addr2line_lines.proofs.Common.{arith, refl, ◌≡◌, ◌<◌, ◌≤◌, List, Ok, ap, length, map, subst, sym, ◌∙◌, err_from_is_err_and, length-map, map-append, AllByRecursion, UnitOffset, LazyFunction, FunctionAddress, FoundFunctions, IsUnread, seen_functions}
 use Rattle.addr2line_lines.proofs.FunctionMemory.{pushed_well}
-use Rattle.std.proofs.lemmas.List.{length-map, map-append}
-use Rattle.std.specs.List.{AllByRecursion}
-use Rattle.gimli_read.specs.declared.value.UnitOffset.{UnitOffset}
-use Rattle.addr2line_lines.specs.declared.functions.LazyFunction.{LazyFunction}
-use Rattle.addr2line_lines.specs.declared.segments.FunctionAddress.{FunctionAddress}
-use Rattle.addr2line_lines.specs.FoundFunctions.{FoundFunctions, IsUnread, seen_functions}
 use Rattle.addr2line_lines.proofs.FunctionLemmas.{none_added, ranges_refused, some_added}
 use Rattle.addr2line_lines.proofs.functions.FunctionLists.add.Goals as goal
 

@@ -1,11 +1,4 @@
-use Rattle.std.proofs.Common.{◌≡◌, ◌<◌, ℕ, List, Option, Some, None, IfSome, length, option_and_then, ap, sym, subst, ◌∙◌}
-use Rattle.addr2line_lines.specs.declared.functions.LazyFunction.{LazyFunction}
-use Rattle.addr2line_lines.specs.declared.segments.FunctionAddress.{FunctionAddress}
-use Rattle.addr2line_lines.specs.Functions.{function_offset_at}
-use Rattle.addr2line_lines.specs.FoundFunctions.{AreFunctions, function_offsets}
-use Rattle.addr2line_lines.specs.FunctionTable.{FunctionTable, function_place_at, cached_offset_at}
-use Rattle.addr2line_lines.specs.CachedDetails.{CachedDetails, seen_details}
-use Rattle.addr2line_lines.specs.Segments.{shortest_function_at}
+use Rattle.addr2line_lines.proofs.Common.{◌≡◌, ◌<◌, ℕ, List, Option, Some, None, IfSome, length, option_and_then, ap, sym, subst, ◌∙◌, LazyFunction, FunctionAddress, function_offset_at, AreFunctions, function_offsets, FunctionTable, function_place_at, cached_offset_at, CachedDetails, seen_details, shortest_function_at}
 use Rattle.addr2line_lines.proofs.CachedPlaces.{entry_found, place_is, place_seen}
 use Rattle.addr2line_lines.proofs.FunctionCacheLemmas.{table_of}
 use Rattle.addr2line_lines.proofs.functions.Functions.find.Goals as goal

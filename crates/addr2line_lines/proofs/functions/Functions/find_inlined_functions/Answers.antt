@@ -1,12 +1,5 @@
-use Rattle.std.proofs.Common.{◌≡◌, ◌<◌, List, [], Ok, IfOk, length, map, ap, sym, subst, ◌∙◌}
-use Rattle.std.specs.List.{AllByRecursion}
-use Rattle.gimli_read.specs.Reading.{ExactlyUnlessOomIf}
-use Rattle.addr2line_lines.specs.InlinedEntries.{InlinedRange}
+use Rattle.addr2line_lines.proofs.Common.{◌≡◌, ◌<◌, List, [], Ok, IfOk, length, map, ap, sym, subst, ◌∙◌, AllByRecursion, ExactlyUnlessOomIf, InlinedRange, entry_among, read_at, FunctionTable, cached_inlined, seen_details}
 use Rattle.addr2line_lines.specs.InlinedChain.{inlined_chain}
-use Rattle.addr2line_lines.specs.FoundInlined.{entry_among}
-use Rattle.addr2line_lines.specs.FunctionCache.{read_at}
-use Rattle.addr2line_lines.specs.FunctionTable.{FunctionTable, cached_inlined}
-use Rattle.addr2line_lines.specs.CachedDetails.{seen_details}
 use Rattle.addr2line_lines.specs.InlineRoom.{exceeds_inline_room}
 use Rattle.addr2line_lines.proofs.CachedPlaces.{inlined_cached, none_read, place_cached, read_is}
 use Rattle.addr2line_lines.proofs.functions.Functions.find_inlined_functions.Goals as goal

@@ -1,7 +1,4 @@
-use Rattle.std.proofs.Common.{option_map, option_and_then, ap, sym, ◌∙◌}
-use Rattle.addr2line_lines.specs.FunctionTable.{cached_name, name_of_detail}
-use Rattle.addr2line_lines.specs.FunctionCache.{read_at}
-use Rattle.addr2line_lines.specs.CachedDetails.{seen_details}
+use Rattle.addr2line_lines.proofs.Common.{option_map, option_and_then, ap, sym, ◌∙◌, cached_name, name_of_detail, read_at, seen_details}
 use Rattle.addr2line_lines.proofs.CachedPlaces.{none_read, place_cached, read_is}
 use Rattle.addr2line_lines.proofs.functions.Functions.name.Goals as goal
 

@@ -1,8 +1,5 @@
-use Rattle.std.proofs.Common.{Some, ap, option_map, subst, ◌∙◌}
+use Rattle.addr2line_lines.proofs.Common.{Some, ap, option_map, subst, ◌∙◌, seen_details, seen_function, CachedFunction, cached_offset_at}
 use Rattle.std.specs.Slice.{IsItemAt}
-use Rattle.addr2line_lines.specs.CachedDetails.{seen_details}
-use Rattle.addr2line_lines.specs.FunctionCache.{seen_function}
-use Rattle.addr2line_lines.specs.FunctionTable.{CachedFunction, cached_offset_at}
 use Rattle.addr2line_lines.proofs.LentLemmas.{lent_is}
 use Rattle.addr2line_lines.proofs.functions.Functions.offset.Goals as goal
 

@@ -1,20 +1,10 @@
-use Rattle.std.proofs.Common.{◌≡◌, List, map, Ok, Result, refl, ap, subst, ◌∙◌}
-use Rattle.std.proofs.lemmas.Result.{err_from_is_err_and}
+use Rattle.addr2line_lines.proofs.Common.{◌≡◌, List, map, Ok, Result, refl, ap, subst, ◌∙◌, err_from_is_err_and, items_of, FunctionAddress, LazyFunction, entries_of, functions_of, have_function, AreFunctions, function_range_of, seen_functions, seen_function, CachedFunction, CachedDetails, seen_details, or_right}
 use Rattle.gimli_read.specs.declared.error.Error.{Error as Fault}
-use Rattle.gimli.specs.Items.{items_of}
-use Rattle.addr2line_lines.specs.declared.segments.FunctionAddress.{FunctionAddress}
-use Rattle.addr2line_lines.specs.declared.functions.LazyFunction.{LazyFunction}
-use Rattle.addr2line_lines.specs.Functions.{entries_of, functions_of, have_function}
-use Rattle.addr2line_lines.specs.FoundFunctions.{AreFunctions, function_range_of, seen_functions}
-use Rattle.addr2line_lines.specs.FunctionCache.{seen_function}
-use Rattle.addr2line_lines.specs.FunctionTable.{CachedFunction}
-use Rattle.addr2line_lines.specs.CachedDetails.{CachedDetails, seen_details}
 use Rattle.addr2line_lines.proofs.FunctionCacheLemmas.{runs_unread, seen_unread}
 use Rattle.addr2line_lines.proofs.FunctionMemory.{found_has}
 use Rattle.addr2line_lines.proofs.FunctionOrder.{AgreesFound, are_functions, functions_agree}
 use Rattle.addr2line_lines.proofs.ListedFunctions.{offsets_seen}
 use Rattle.addr2line_lines.proofs.functions.Functions.parse.Goals as goal
-use Rattle.std.proofs.lemmas.Bool.{or_right}
 
 ok_is : (xs ys : List FunctionAddress) → ◌≡◌ {A = Result (List FunctionAddress) Fault} (Ok xs) (Ok ys) → xs ≡ ys
 ok_is xs ys e = cc

@@ -1,10 +1,5 @@
-use Rattle.std.proofs.Common.{rules, ◌≡◌, ◌≤◌, length, Some, None, Ok, Err, slice_get, ap, sym, subst, ◌∙◌}
-use Rattle.std.proofs.lemmas.Option.{gets}
-use Rattle.addr2line_lines.specs.FunctionTable.{FunctionTable}
+use Rattle.addr2line_lines.proofs.Common.{rules, ◌≡◌, ◌≤◌, length, Some, None, Ok, Err, slice_get, ap, sym, subst, ◌∙◌, gets, FunctionTable, seen_function, seen_lazy, detail_of, seen_details, seen_scope}
 use Rattle.addr2line_lines.specs.FunctionDetails.{read_fault}
-use Rattle.addr2line_lines.specs.FunctionCache.{seen_function, seen_lazy}
-use Rattle.addr2line_lines.specs.CachedDetails.{detail_of, seen_details}
-use Rattle.addr2line_lines.specs.SeenScope.{seen_scope}
 use Rattle.addr2line_lines.proofs.ReadPlaces.{fault_again, none_at, read_again, read_past, some_at}
 use Rattle.addr2line_lines.proofs.functions.Functions.read.Given.{Over}
 use Rattle.addr2line_lines.proofs.functions.Functions.read.Goals as goal

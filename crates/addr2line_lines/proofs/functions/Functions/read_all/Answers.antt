@@ -1,13 +1,6 @@
-use Rattle.std.proofs.Common.{◌≡◌, true, false, List, [], ◌∷◌, Err, length, map, suc, refl, ap, sym, ◌∙◌, arith}
-use Rattle.std.proofs.lemmas.Result.{err_from_is_err_and}
-use Rattle.gimli_read.specs.declared.error.Error.TheVariants.{OutOfMemory}
-use Rattle.addr2line_lines.specs.FunctionTable.{FunctionTable}
-use Rattle.addr2line_lines.specs.FunctionCache.{seen_function}
-use Rattle.addr2line_lines.specs.CachedDetails.{seen_details}
-use Rattle.addr2line_lines.specs.SeenScope.{seen_scope}
+use Rattle.addr2line_lines.proofs.Common.{◌≡◌, true, false, List, [], ◌∷◌, Err, length, map, suc, refl, ap, sym, ◌∙◌, arith, err_from_is_err_and, OutOfMemory, FunctionTable, seen_function, seen_details, seen_scope, length-map}
 use Rattle.addr2line_lines.proofs.ReadLemmas.{all_read, all_ready, fault_kept, fault_read, fault_ready, had_memory, no_memory_to_fault, none_read, one_read, reads_nothing}
 use Rattle.addr2line_lines.proofs.functions.Functions.read_all.Goals as goal
-use Rattle.std.proofs.lemmas.List.{length-map}
 
 pub loop-place-init : goal.loop-place-init
 loop-place-init g c =

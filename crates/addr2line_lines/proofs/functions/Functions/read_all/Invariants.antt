@@ -1,6 +1,4 @@
-use Rattle.std.proofs.Common.{◌≡◌, length}
-use Rattle.addr2line_lines.specs.CachedNames.{AreNamesOf}
-use Rattle.addr2line_lines.specs.SeenScope.{seen_scope}
+use Rattle.addr2line_lines.proofs.Common.{◌≡◌, length, AreNamesOf, seen_scope}
 use Rattle.addr2line_lines.proofs.ReadLemmas.{IsReadTo}
 use Rattle.addr2line_lines.proofs.functions.Functions.read_all.Given as goal
 

@@ -1,16 +1,7 @@
-use Rattle.std.proofs.Common.{Ok, Err, slice_get, slice_set, ap, subst, refl, ◌∙◌, arith, sym}
-use Rattle.std.proofs.lemmas.Option.{get_or_from_slice_get, slice_get_within}
+use Rattle.addr2line_lines.proofs.Common.{Ok, Err, slice_get, slice_set, ap, subst, refl, ◌∙◌, arith, sym, get_or_from_slice_get, slice_get_within, LazyFunction, detail_at, fault_of, FunctionTable, AreNamesOf, IsRefusedThen, seen_details, seen_scope, AreCachedFunctions}
 use Rattle.addr2line_lines.specs.declared.functions.LazyDetail.TheVariants.{Read, Faulty}
-use Rattle.addr2line_lines.specs.declared.functions.LazyFunction.{LazyFunction}
-use Rattle.addr2line_lines.specs.Details.{detail_at}
-use Rattle.gimli_read.specs.Reading.{fault_of}
-use Rattle.addr2line_lines.specs.FunctionTable.{FunctionTable}
 use Rattle.addr2line_lines.specs.FunctionDetails.{IsReadAt, read_fault, read_once}
-use Rattle.addr2line_lines.specs.CachedNames.{AreNamesOf}
-use Rattle.addr2line_lines.specs.CachedDetails.{IsRefusedThen, seen_details}
-use Rattle.addr2line_lines.specs.SeenScope.{seen_scope}
 use Rattle.addr2line_lines.proofs.FunctionCacheLemmas.{fault_cached, nothing_cached, read_cached, reads, table_fault, table_of, table_read, unread_at}
-use Rattle.addr2line_lines.specs.FunctionCache.{AreCachedFunctions}
 use Rattle.addr2line_lines.proofs.functions.Functions.read_unread.Goals as goal
 
 pub invariant_of-self : goal.invariant_of-self

@@ -1,18 +1,9 @@
-use Rattle.std.proofs.Common.{◌≡◌, ℕ, Ok, ap, sym, ◌∙◌, true, false, Option, Result}
-use Rattle.gimli.specs.Unit.{UnitRecord}
+use Rattle.addr2line_lines.proofs.Common.{◌≡◌, ℕ, Ok, ap, sym, ◌∙◌, true, false, Option, Result, UnitRecord, InlinedAttributes, with_call_constant, seen_scope, err_from_is_err_and, Error, constant_of, ◌>>=◌, Section, RangeAttributes}
 use Rattle.addr2line_lines.specs.declared.inlined.CallSite.{CallSite}
-use Rattle.addr2line_lines.specs.InlinedEntries.{InlinedAttributes, with_call_constant}
 use Rattle.addr2line_lines.specs.FoundAttributes.{is_call, seen_attributes}
 use Rattle.addr2line_lines.specs.FoundRanges.{is_range_name}
-use Rattle.addr2line_lines.specs.SeenScope.{seen_scope}
 use Rattle.addr2line_lines.proofs.DetailLemmas.{call_taken, ranges_taken, name_taken}
-use Rattle.std.proofs.lemmas.Result.{err_from_is_err_and}
 use Rattle.gimli_read.specs.declared.constants.DwAt.{DwAt}
-use Rattle.gimli_read.specs.declared.error.Error.{Error}
-use Rattle.gimli_read.specs.Form.{constant_of}
-use Rattle.gimli_read.specs.Reading.{◌>>=◌}
-use Rattle.gimli_read.specs.Section.{Section}
-use Rattle.addr2line_lines.specs.declared.function.RangeAttributes.{RangeAttributes}
 use Rattle.addr2line_lines.proofs.inlined.InlinedSinkAttributeSinkAttribute.take.Goals as goal
 
 -- the ranges of an attribute, beside what else was known

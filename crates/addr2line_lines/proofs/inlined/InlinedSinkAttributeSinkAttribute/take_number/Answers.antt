@@ -1,14 +1,7 @@
-use Rattle.std.proofs.Common.{◌≡◌, ℕ, Ok, Option, Result, ap, sym, ◌∙◌}
-use Rattle.std.proofs.lemmas.Result.{err_from_is_err_and}
-use Rattle.gimli_read.specs.declared.error.Error.{Error}
+use Rattle.addr2line_lines.proofs.Common.{◌≡◌, ℕ, Ok, Option, Result, ap, sym, ◌∙◌, err_from_is_err_and, Error, ◌>>=◌, Section, UnitRecord, InlinedAttributes, with_call_constant, seen_scope}
 use Rattle.gimli_read.specs.NumberValue.{number_constant}
-use Rattle.gimli_read.specs.Reading.{◌>>=◌}
-use Rattle.gimli_read.specs.Section.{Section}
-use Rattle.gimli.specs.Unit.{UnitRecord}
 use Rattle.addr2line_lines.specs.declared.inlined.CallSite.{CallSite}
-use Rattle.addr2line_lines.specs.InlinedEntries.{InlinedAttributes, with_call_constant}
 use Rattle.addr2line_lines.specs.FoundAttributes.{seen_attributes}
-use Rattle.addr2line_lines.specs.SeenScope.{seen_scope}
 use Rattle.addr2line_lines.proofs.NumberLemmas.{call_number, name_by_number, no_reference, origin_number, ranges_number}
 use Rattle.addr2line_lines.proofs.inlined.InlinedSinkAttributeSinkAttribute.take_number.Goals as goal
 

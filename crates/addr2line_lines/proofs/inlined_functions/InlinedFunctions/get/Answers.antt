@@ -1,7 +1,5 @@
-use Rattle.std.proofs.Common.{◌≡◌, Option, Some, None, map, option_map, slice_get, subst, ap, sym, ◌∙◌}
+use Rattle.addr2line_lines.proofs.Common.{◌≡◌, Option, Some, None, map, option_map, slice_get, subst, ap, sym, ◌∙◌, Section, InlinedEntry}
 use Rattle.std.specs.Slice.{IsItemAt}
-use Rattle.gimli_read.specs.Section.{Section}
-use Rattle.addr2line_lines.specs.InlinedEntries.{InlinedEntry}
 use Rattle.addr2line_lines.specs.SeenInlined.{seen_inlined}
 use Rattle.addr2line_lines.specs.StoredInlined.{StoredInlined, stored_name}
 use Rattle.addr2line_lines.proofs.LentLemmas.{lent_copied, lent_is}

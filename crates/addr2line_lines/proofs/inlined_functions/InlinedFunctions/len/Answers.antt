@@ -1,5 +1,4 @@
-use Rattle.std.proofs.Common.{length, map, ap, sym, ◌∙◌}
-use Rattle.std.proofs.lemmas.List.{length-map}
+use Rattle.addr2line_lines.proofs.Common.{length, map, ap, sym, ◌∙◌, length-map}
 use Rattle.addr2line_lines.specs.StoredInlined.{StoredInlined, stored_name}
 use Rattle.addr2line_lines.proofs.StoredInlinedLemmas.{entries_count}
 use Rattle.addr2line_lines.proofs.inlined_functions.InlinedFunctions.len.Goals as goal

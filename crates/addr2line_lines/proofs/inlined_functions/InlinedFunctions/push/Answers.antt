@@ -1,5 +1,4 @@
-use Rattle.std.proofs.Common.{[], ◌∷◌, ◌++◌, map, ap, ◌∙◌}
-use Rattle.std.proofs.lemmas.List.{length-map, map-append}
+use Rattle.addr2line_lines.proofs.Common.{[], ◌∷◌, ◌++◌, map, ap, ◌∙◌, length-map, map-append}
 use Rattle.addr2line_lines.specs.StoredInlined.{StoredInlined, entries_of_calls, entry_of_call, stored_name}
 use Rattle.addr2line_lines.proofs.StoredInlinedLemmas.{one_entry_more}
 use Rattle.addr2line_lines.proofs.inlined_functions.InlinedFunctions.push.Goals as goal

@@ -1,5 +1,4 @@
-use Rattle.std.proofs.Common.{map, take, ap, sym, ◌∙◌}
-use Rattle.std.proofs.lemmas.List.{take-map}
+use Rattle.addr2line_lines.proofs.Common.{map, take, ap, sym, ◌∙◌, take-map}
 use Rattle.addr2line_lines.specs.StoredInlined.{StoredInlined, entries_of_calls, stored_name}
 use Rattle.addr2line_lines.proofs.StoredInlinedLemmas.{first_entries}
 use Rattle.addr2line_lines.proofs.inlined_functions.InlinedFunctions.truncate.Goals as goal

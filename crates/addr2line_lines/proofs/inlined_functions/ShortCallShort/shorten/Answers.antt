@@ -1,4 +1,4 @@
-use Rattle.std.proofs.Common.{ℕ, Option, ap, ◌∙◌}
+use Rattle.addr2line_lines.proofs.Common.{ℕ, Option, ap, ◌∙◌}
 use Rattle.addr2line_lines.specs.declared.inlined_functions.InlinedCall.{InlinedCall}
 use Rattle.addr2line_lines.specs.StoredInlined.{file_of_short}
 use Rattle.addr2line_lines.proofs.StoredInlinedLemmas.{fitting_file, short_file_is}

@@ -1,13 +1,7 @@
-use Rattle.std.proofs.Common.{arith, ◌≤◌, ◌++◌, ◌∷◌, length, refl, ◌≡◌, ◌<◌, List, [], Ok, Option, option_map, ap, sym, append-nil, ◌∙◌}
-use Rattle.std.proofs.lemmas.Bool.Decides.{nat_tests}
-use Rattle.std.proofs.lemmas.Result.{err_from_is_err_and}
-use Rattle.gimli_read.specs.Section.{Section}
+use Rattle.addr2line_lines.proofs.Common.{arith, ◌≤◌, ◌++◌, ◌∷◌, length, refl, ◌≡◌, ◌<◌, List, [], Ok, Option, option_map, ap, sym, append-nil, ◌∙◌, nat_tests, err_from_is_err_and, Section, seen_lists, FoundInlined, InlinedFunctionAddress, InlinedEntry}
 use Rattle.addr2line_lines.specs.FoundAttributes.{seen_attributes}
-use Rattle.addr2line_lines.specs.FoundInlined.{seen_lists, FoundInlined}
 use Rattle.addr2line_lines.proofs.DetailMemory.{pushed_well}
 use Rattle.addr2line_lines.proofs.NestingLemmas.{none_added, grown_by, grown_not, ranges_refused, some_added}
-use Rattle.addr2line_lines.specs.declared.picks.InlinedFunctionAddress.{InlinedFunctionAddress}
-use Rattle.addr2line_lines.specs.InlinedEntries.{InlinedEntry}
 use Rattle.addr2line_lines.proofs.inlined_lists.InlinedLists.add.Goals as goal
 
 abbrev found_of : List InlinedEntry → List InlinedFunctionAddress → FoundInlined

@@ -1,7 +1,4 @@
-use Rattle.std.proofs.Common.{List, take, ap, ◌∙◌}
-use Rattle.addr2line_lines.specs.declared.picks.InlinedFunctionAddress.{InlinedFunctionAddress}
-use Rattle.addr2line_lines.specs.InlinedEntries.{InlinedEntry}
-use Rattle.addr2line_lines.specs.FoundInlined.{FoundInlined}
+use Rattle.addr2line_lines.proofs.Common.{List, take, ap, ◌∙◌, InlinedFunctionAddress, InlinedEntry, FoundInlined}
 use Rattle.addr2line_lines.proofs.inlined_lists.InlinedLists.truncate.Goals as goal
 
 pub returns : goal.returns

@@ -1,11 +1,5 @@
-use Rattle.std.proofs.Common.{ℕ, List, Ok, Result, Global, ap, subst, sym, ◌∙◌}
-use Rattle.std.proofs.lemmas.List.{map-id}
+use Rattle.addr2line_lines.proofs.Common.{ℕ, List, Ok, Result, Global, ap, subst, sym, ◌∙◌, map-id, Error, ExactlyUnlessOomIf, InlinedFunctionAddress, IsInOrder, inlined_sooner, places_chain}
 use Rattle.smallvec.specs.declared.small_vec.SmallVec.{SmallVec}
-use Rattle.gimli_read.specs.declared.error.Error.{Error}
-use Rattle.gimli_read.specs.Reading.{ExactlyUnlessOomIf}
-use Rattle.addr2line_lines.specs.declared.picks.InlinedFunctionAddress.{InlinedFunctionAddress}
-use Rattle.addr2line_lines.specs.InOrder.{IsInOrder}
-use Rattle.addr2line_lines.specs.InlinedOrder.{inlined_sooner, places_chain}
 use Rattle.addr2line_lines.specs.InlineRoom.{exceeds_inline_room}
 use Rattle.addr2line_lines.specs.ShortLists.{StoredList, whole_elements}
 use Rattle.addr2line_lines.specs.StoredRanges.{range_of_short}

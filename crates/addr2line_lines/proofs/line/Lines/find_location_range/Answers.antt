@@ -1,9 +1,7 @@
-use Rattle.std.proofs.Common.{List, flat_map, map, max, min, ap, ◌∙◌}
+use Rattle.addr2line_lines.proofs.Common.{List, flat_map, map, max, min, ap, ◌∙◌, unpacked, Sequence}
 use Rattle.std.specs.String.{string_bytes}
 use Rattle.addr2line_lines.specs.Location.{LineTable}
-use Rattle.addr2line_lines.specs.Packed.{unpacked}
 use Rattle.addr2line_lines.specs.RangeLocations.{located_in, locations_in_range}
-use Rattle.addr2line_lines.specs.Sequences.{Sequence}
 use Rattle.addr2line_lines.proofs.TableLemmas.{ordered_are}
 use Rattle.addr2line_lines.proofs.line.Lines.find_location_range.Goals as goal
 

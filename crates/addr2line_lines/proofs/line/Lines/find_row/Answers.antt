@@ -1,4 +1,4 @@
-use Rattle.std.proofs.Common.{◌∙◌, ap, arith}
+use Rattle.addr2line_lines.proofs.Common.{◌∙◌, ap, arith}
 use Rattle.addr2line_lines.specs.Counts.{most_looks_in}
 use Rattle.addr2line_lines.specs.Location.{LineTable}
 use Rattle.addr2line_lines.specs.Spans.{row_at}

@@ -1,4 +1,4 @@
-use Rattle.std.proofs.Common.{◌∙◌, ap}
+use Rattle.addr2line_lines.proofs.Common.{◌∙◌, ap}
 use Rattle.addr2line_lines.specs.Location.{LineTable}
 use Rattle.addr2line_lines.specs.Spans.{row_at}
 use Rattle.addr2line_lines.proofs.TableLemmas.{row_at_listed}

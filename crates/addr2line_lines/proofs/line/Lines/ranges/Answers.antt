@@ -1,4 +1,4 @@
-use Rattle.std.proofs.Common.{map, ap, ◌∙◌}
+use Rattle.addr2line_lines.proofs.Common.{map, ap, ◌∙◌}
 use Rattle.addr2line_lines.specs.Location.{LineTable}
 use Rattle.addr2line_lines.specs.RangeLocations.{sequence_range, sequence_ranges}
 use Rattle.addr2line_lines.specs.RangesLeft.{packed_range}

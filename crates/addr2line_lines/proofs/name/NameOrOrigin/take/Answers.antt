@@ -1,7 +1,4 @@
-use Rattle.std.proofs.Common.{sym}
-use Rattle.std.proofs.lemmas.Result.{err_from_is_err_and}
-use Rattle.addr2line_lines.specs.FoundNames.{seen_name_or_origin}
-use Rattle.addr2line_lines.specs.SeenScope.{seen_scope}
+use Rattle.addr2line_lines.proofs.Common.{sym, err_from_is_err_and, seen_name_or_origin, seen_scope}
 use Rattle.addr2line_lines.proofs.NameLemmas.{linkage_taken}
 use Rattle.addr2line_lines.proofs.name.NameOrOrigin.take.Goals as goal
 

@@ -1,6 +1,4 @@
-use Rattle.std.proofs.Common.{rules, ◌≡◌, Some, slice_get, subst}
-use Rattle.std.proofs.lemmas.Option.{gets}
-use Rattle.addr2line_lines.specs.CachedNames.{seen_cached_name}
+use Rattle.addr2line_lines.proofs.Common.{rules, ◌≡◌, Some, slice_get, subst, gets, seen_cached_name}
 use Rattle.addr2line_lines.proofs.CachedNameLemmas.{known_at, known_shared}
 use Rattle.addr2line_lines.proofs.names.NameCache.find.Goals as goal
 

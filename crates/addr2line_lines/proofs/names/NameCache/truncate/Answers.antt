@@ -1,6 +1,4 @@
-use Rattle.std.proofs.Common.{map, sym, ap, ◌∙◌}
-use Rattle.std.proofs.lemmas.List.{take-map}
-use Rattle.addr2line_lines.specs.CachedNames.{seen_cached_name}
+use Rattle.addr2line_lines.proofs.Common.{map, sym, ap, ◌∙◌, take-map, seen_cached_name}
 use Rattle.addr2line_lines.proofs.names.NameCache.truncate.Goals as goal
 
 pub returns : goal.returns

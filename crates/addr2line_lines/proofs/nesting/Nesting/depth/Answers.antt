@@ -1,4 +1,4 @@
-use Rattle.std.proofs.Common.{ap, sym, ◌∙◌, count_by}
+use Rattle.addr2line_lines.proofs.Common.{ap, sym, ◌∙◌, count_by}
 use Rattle.addr2line_lines.specs.OpenEntries.{is_inlined_kind}
 use Rattle.addr2line_lines.proofs.NestingLemmas.{count_reverse}
 use Rattle.addr2line_lines.proofs.nesting.Nesting.depth.Goals as goal

@@ -1,5 +1,4 @@
-use Rattle.std.proofs.Common.{arith}
-use Rattle.std.proofs.lemmas.List.Sums.{count_by-le-length}
+use Rattle.addr2line_lines.proofs.Common.{arith, count_by-le-length}
 use Rattle.addr2line_lines.specs.OpenEntries.{is_inlined_kind, is_subprogram_kind}
 use Rattle.addr2line_lines.proofs.NestingLemmas.{opened_more}
 use Rattle.addr2line_lines.proofs.nesting.Nesting.enter.Goals as goal

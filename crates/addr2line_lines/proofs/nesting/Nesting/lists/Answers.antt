@@ -1,5 +1,4 @@
-use Rattle.std.proofs.Common.{◌==◌, ap, sym, ◌∙◌, count_by}
-use Rattle.addr2line_lines.specs.declared.nesting.Kind.{Kind}
+use Rattle.addr2line_lines.proofs.Common.{◌==◌, ap, sym, ◌∙◌, count_by, Kind}
 use Rattle.addr2line_lines.specs.OpenEntries.{is_listed, is_subprogram_kind}
 use Rattle.addr2line_lines.proofs.NestingLemmas.{count_reverse}
 use Rattle.addr2line_lines.proofs.nesting.Nesting.lists.Goals as goal

@@ -1,5 +1,4 @@
-use Rattle.std.proofs.Common.{◌<◌, ◌^◌, arith, length, subst}
-use Rattle.addr2line_lines.specs.Packed.{IsTable, Packed}
+use Rattle.addr2line_lines.proofs.Common.{◌<◌, ◌^◌, arith, length, subst, IsTable, Packed}
 use Rattle.addr2line_lines.proofs.TableLemmas.{table_of}
 use Rattle.addr2line_lines.proofs.packed.PackedRows.known.Goals as goal
 

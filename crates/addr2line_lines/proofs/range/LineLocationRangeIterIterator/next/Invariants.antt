@@ -1,4 +1,4 @@
-use Rattle.std.proofs.Common.{◌≡◌, ◌-◌, length}
+use Rattle.addr2line_lines.proofs.Common.{◌≡◌, ◌-◌, length}
 use Rattle.addr2line_lines.specs.RangesLeft.{located_rows_left}
 use Rattle.addr2line_lines.proofs.range.LineLocationRangeIterIterator.next.Given as goal
 

@@ -1,9 +1,6 @@
-use Rattle.std.proofs.Common.{◌≡◌, ◌-◌, ◌<◌, List, length, true, drop, ap, sym, ◌∙◌, arith}
-use Rattle.std.proofs.lemmas.List.{get_or_read}
-use Rattle.gimli_read.specs.Topmost.{last}
+use Rattle.addr2line_lines.proofs.Common.{◌≡◌, ◌-◌, ◌<◌, List, length, true, drop, ap, sym, ◌∙◌, arith, get_or_read, last, Row}
 use Rattle.addr2line_lines.specs.Building.{has_address}
 use Rattle.addr2line_lines.specs.StoredRows.{fits, stores, whole_rows, width_of}
-use Rattle.addr2line_lines.specs.declared.row.Row.{Row}
 use Rattle.addr2line_lines.proofs.BuildLemmas.{ends_at_short, ends_at_is}
 use Rattle.addr2line_lines.proofs.rows.RowStore.ends_at.Goals as goal
 

@@ -1,6 +1,4 @@
-use Rattle.std.proofs.Common.{◌≡◌, true, List, [], ◌∷◌, ◌++◌, map, take, ap, sym, ◌∙◌}
-use Rattle.std.proofs.lemmas.List.{map_push, take-map}
-use Rattle.addr2line_lines.specs.declared.row.Row.{Row}
+use Rattle.addr2line_lines.proofs.Common.{◌≡◌, true, List, [], ◌∷◌, ◌++◌, map, take, ap, sym, ◌∙◌, map_push, take-map, Row}
 use Rattle.addr2line_lines.specs.declared.rows.ShortRow.{ShortRow}
 use Rattle.addr2line_lines.specs.StoredRows.{fits, row_of_short, stores, whole_rows, width_of}
 use Rattle.addr2line_lines.proofs.StoredRowLemmas.{short_is}

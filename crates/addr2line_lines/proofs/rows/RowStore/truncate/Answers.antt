@@ -1,5 +1,4 @@
-use Rattle.std.proofs.Common.{map, take, ap, sym, ◌∙◌}
-use Rattle.std.proofs.lemmas.List.{take-map}
+use Rattle.addr2line_lines.proofs.Common.{map, take, ap, sym, ◌∙◌, take-map}
 use Rattle.addr2line_lines.specs.StoredRows.{row_of_short, whole_rows}
 use Rattle.addr2line_lines.proofs.rows.RowStore.truncate.Goals as goal
 

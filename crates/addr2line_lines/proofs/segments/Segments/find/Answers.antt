@@ -1,8 +1,4 @@
-use Rattle.std.proofs.Common.{rules, true, false, List, length, ◌≡◌, ◌∙◌, ◌-◌, arith, ap, sym, subst}
-use Rattle.std.specs.List.Sorted.{IsNonDecreasingBy, IsPartitionPoint}
-use Rattle.std.proofs.lemmas.List.Sorted.{IsPartitionPoint-from_clause, IsPartitionedBy-leb}
-use Rattle.addr2line_lines.specs.declared.segments.FunctionAddress.{FunctionAddress}
-use Rattle.addr2line_lines.specs.Segments.{address_begin, shortest_function_at}
+use Rattle.addr2line_lines.proofs.Common.{rules, true, false, List, length, ◌≡◌, ◌∙◌, ◌-◌, arith, ap, sym, subst, IsNonDecreasingBy, IsPartitionPoint, IsPartitionPoint-from_clause, IsPartitionedBy-leb, FunctionAddress, address_begin, shortest_function_at}
 use Rattle.addr2line_lines.proofs.SegmentSearch.{begins_by, last_begins, last_ends, none_found, out_of_all, segment_found, segments_rise}
 use Rattle.addr2line_lines.proofs.segments.Segments.find.Goals as goal
 

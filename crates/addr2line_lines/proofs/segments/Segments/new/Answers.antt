@@ -1,8 +1,4 @@
-use Rattle.std.proofs.Common.{ℕ, ◌≡◌, ◌<◌, true, nat_lt, length, ap, sym, subst, refl, arith}
-use Rattle.std.proofs.lemmas.Bool.Decides.{nat_tests}
-use Rattle.std.proofs.lemmas.List.Sorted.{length_permutation}
-use Rattle.std.proofs.lemmas.Result.{err_from_is_err_and}
-use Rattle.addr2line_lines.specs.Segments.{AreDisjoint, AreSegments}
+use Rattle.addr2line_lines.proofs.Common.{ℕ, ◌≡◌, ◌<◌, true, nat_lt, length, ap, sym, subst, refl, arith, nat_tests, length_permutation, err_from_is_err_and, AreDisjoint, AreSegments}
 use Rattle.addr2line_lines.proofs.SegmentLemmas.{disjoint_segments}
 use Rattle.addr2line_lines.proofs.SegmentSearch.{permuted_segments}
 use Rattle.addr2line_lines.proofs.segments.Segments.new.Goals as goal

@@ -1,5 +1,4 @@
-use Rattle.std.proofs.Common.{◌≡◌, ◌∙◌, length, heap_items, arith, ap, sym, Some}
-use Rattle.addr2line_lines.specs.Segments.{first_end}
+use Rattle.addr2line_lines.proofs.Common.{◌≡◌, ◌∙◌, length, heap_items, arith, ap, sym, Some, first_end}
 use Rattle.addr2line_lines.proofs.SweepLemmas.{advanced_to, begun_before, first_ends, fits_first, no_more_than_one, none_first, popped, popped_few}
 use Rattle.addr2line_lines.proofs.segments.Sweep.close.Goals as goal
 

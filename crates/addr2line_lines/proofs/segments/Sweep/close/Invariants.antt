@@ -1,5 +1,4 @@
-use Rattle.std.proofs.Common.{◌≡◌, ◌+◌, ◌≤◌, ℕ, List, [], length, heap_items}
-use Rattle.addr2line_lines.specs.declared.segments.FunctionAddress.{FunctionAddress}
+use Rattle.addr2line_lines.proofs.Common.{◌≡◌, ◌+◌, ◌≤◌, ℕ, List, [], length, heap_items, FunctionAddress}
 use Rattle.addr2line_lines.specs.Sweep.{IsBegunFrom, IsSweptBy}
 use Rattle.addr2line_lines.proofs.segments.Sweep.close.Given as goal
 

@@ -1,5 +1,4 @@
-use Rattle.std.proofs.Common.{◌∷◌, ◌∙◌, heap_items, arith, ap, subst, sym}
-use Rattle.std.specs.List.Sorted.{IsPermutation}
+use Rattle.addr2line_lines.proofs.Common.{◌∷◌, ◌∙◌, heap_items, arith, ap, subst, sym, IsPermutation}
 use Rattle.addr2line_lines.specs.Sweep.{is_outdone}
 use Rattle.addr2line_lines.proofs.SweepLemmas.{advanced_to, entered, none_ends, passed_over}
 use Rattle.addr2line_lines.proofs.segments.Sweep.enter.Goals as goal

@@ -1,4 +1,4 @@
-use Rattle.std.proofs.Common.{ap, ◌∙◌}
+use Rattle.addr2line_lines.proofs.Common.{ap, ◌∙◌}
 use Rattle.addr2line_lines.specs.Building.{Built, StoredBuilt, built, built_ended}
 use Rattle.addr2line_lines.proofs.BuildLemmas.{built_dropped, closes_is, ended_none}
 use Rattle.addr2line_lines.proofs.sequence.Builder.close.Goals as goal

@@ -1,4 +1,4 @@
-use Rattle.std.proofs.Common.{ap, ◌∙◌}
+use Rattle.addr2line_lines.proofs.Common.{ap, ◌∙◌}
 use Rattle.addr2line_lines.specs.Building.{StoredBuilt}
 use Rattle.addr2line_lines.specs.StoredRows.{StoredRows}
 use Rattle.addr2line_lines.proofs.BuildLemmas.{finished_is}

@@ -1,8 +1,5 @@
-use Rattle.std.proofs.Common.{◌≡◌, true, List, [], ◌∷◌, ◌++◌, drop, ap, sym, ◌∙◌}
-use Rattle.std.proofs.lemmas.Result.{on_err_weaker, on_ok_weaker}
-use Rattle.gimli_read.specs.Topmost.{last}
+use Rattle.addr2line_lines.proofs.Common.{◌≡◌, true, List, [], ◌∷◌, ◌++◌, drop, ap, sym, ◌∙◌, on_err_weaker, on_ok_weaker, last, Row}
 use Rattle.addr2line_lines.specs.Building.{Built, StoredBuilt, has_address, stored_rows, without_last}
-use Rattle.addr2line_lines.specs.declared.row.Row.{Row}
 use Rattle.addr2line_lines.specs.StoredRows.{stores, width_after}
 use Rattle.addr2line_lines.proofs.BuildLemmas.{built_put, stored_rows_are}
 use Rattle.addr2line_lines.proofs.sequence.Builder.put.Goals as goal

@@ -1,5 +1,4 @@
-use Rattle.std.proofs.Common.{map, take, ap, sym, ◌∙◌}
-use Rattle.std.proofs.lemmas.List.{take-map}
+use Rattle.addr2line_lines.proofs.Common.{map, take, ap, sym, ◌∙◌, take-map}
 use Rattle.addr2line_lines.specs.ShortLists.{whole_elements}
 use Rattle.addr2line_lines.proofs.short_list.ListStore.truncate.Goals as goal
 

@@ -1,4 +1,4 @@
-use Rattle.std.proofs.Common.{◌≡◌, ◌-◌}
+use Rattle.addr2line_lines.proofs.Common.{◌≡◌, ◌-◌}
 use Rattle.addr2line_lines.specs.RangesLeft.{spans_of_sequence}
 use Rattle.addr2line_lines.proofs.spans.SequenceSpans.next_span.Given as goal
 

@@ -1,19 +1,6 @@
-use Rattle.std.proofs.Common.{[], Bool, Err, Ok, Result, ap, false, refl, true, ℕ, ◌&&◌, ◌≡◌, ◌≢◌, ◌∙◌, option_map, subst, sym}
+use Rattle.addr2line_units.proofs.Common.{[], Bool, Err, Ok, Result, ap, false, refl, true, ℕ, ◌&&◌, ◌≡◌, ◌≢◌, ◌∙◌, option_map, subst, sym, false≢true, err_from_is_err_and, Error, OutOfMemory, UnitRecord, functions_of, functions_take_memory, cached_detail, exceeds_inline_room, Scope, seen_scope, LazyFunctions, function_at, AreFunctionsOf, IsTableOf, StayFunctions, cached_functions, cached_has_function, find_takes_memory, function_of_place, cached_inlined_at, table_takes_memory, were_read}
 use Rattle.std.specs.Box.{with_value}
-use Rattle.std.proofs.lemmas.Bool.{false≢true}
-use Rattle.std.proofs.lemmas.Result.{err_from_is_err_and}
-use Rattle.gimli_read.specs.declared.error.Error.{Error}
-use Rattle.gimli_read.specs.declared.error.Error.TheVariants.{OutOfMemory}
-use Rattle.gimli.specs.Unit.{UnitRecord}
-use Rattle.addr2line_lines.specs.Functions.{functions_of, functions_take_memory}
-use Rattle.addr2line_lines.specs.FunctionTable.{cached_detail}
-use Rattle.addr2line_lines.specs.InlineRoom.{exceeds_inline_room}
-use Rattle.addr2line_lines.specs.References.{Scope}
-use Rattle.addr2line_lines.specs.SeenScope.{seen_scope}
-use Rattle.addr2line_units.specs.declared.entries.LazyFunctions.{LazyFunctions}
 use Rattle.addr2line_units.specs.declared.entries.LazyFunctions.TheVariants as lazy
-use Rattle.addr2line_units.specs.Frames.{function_at}
-use Rattle.addr2line_units.specs.CachedFunctions.{AreFunctionsOf, IsTableOf, StayFunctions, cached_functions, cached_has_function, find_takes_memory, function_of_place, cached_inlined_at, table_takes_memory, were_read}
 use Rattle.addr2line_units.proofs.CachedFunctionLemmas.{and_weaker, details_before, exactly_weaker, function_is, memory_before, none_before, stay_faulty, stay_read}
 use Rattle.addr2line_units.proofs.CachedParseLemmas.{cached_stay}
 use Rattle.addr2line_units.proofs.LearnedLemmas.{cache_reads_none}

@@ -1,9 +1,5 @@
-use Rattle.std.proofs.Common.{subst, sym}
-use Rattle.gimli_read.specs.Reading.{ExactlyUnlessOom}
-use Rattle.addr2line_lines.specs.SeenScope.{seen_scope}
+use Rattle.addr2line_units.proofs.Common.{subst, sym, ExactlyUnlessOom, seen_scope, functions_fault, reading_takes_memory, read_of_functions}
 use Rattle.addr2line_units.specs.AfterParses.{AfterReadingFunctions}
-use Rattle.addr2line_units.specs.CachedFunctions.{functions_fault, reading_takes_memory}
-use Rattle.addr2line_units.specs.FunctionParses.{read_of_functions}
 use Rattle.addr2line_units.proofs.AfterParseLemmas.{details_after}
 use Rattle.addr2line_units.proofs.EntryLemmas.{exactly_unless_oom}
 use Rattle.addr2line_units.proofs.entries.LazyFunctions.read.Goals as goal

@@ -1,24 +1,8 @@
-use Rattle.std.proofs.Common.{◌≡◌, ◌≢◌, Bool, Err, Result, false, refl, true, ◌∙◌, ap, subst, sym}
+use Rattle.addr2line_units.proofs.Common.{◌≡◌, ◌≢◌, Bool, Err, Result, false, refl, true, ◌∙◌, ap, subst, sym, AllByRecursion, err_from_is_err_and, Error, ExactlyUnlessOomIf, OutOfMemory, UnitRecord, HasDetail, details_take_memory, FunctionTable, functions_of, functions_take_memory, exceeds_inline_room, Scope, seen_scope, LazyFunctions, AreFunctionsOf, cached_functions, find_takes_memory, functions_fault, reading_takes_memory, cached_inlined_at, were_read, known_functions, IsReadyFor}
 use Rattle.std.specs.Box.{with_value}
-use Rattle.std.specs.List.{AllByRecursion}
-use Rattle.std.proofs.lemmas.Result.{err_from_is_err_and}
-use Rattle.gimli_read.specs.declared.error.Error.{Error}
-use Rattle.gimli_read.specs.Reading.{ExactlyUnlessOomIf}
-use Rattle.gimli_read.specs.declared.error.Error.TheVariants.{OutOfMemory}
-use Rattle.gimli.specs.Unit.{UnitRecord}
 use Rattle.addr2line_lines.specs.CachedNames.{AreNamesOf}
-use Rattle.addr2line_lines.specs.FunctionDetails.{HasDetail, details_take_memory}
-use Rattle.addr2line_lines.specs.FunctionTable.{FunctionTable}
-use Rattle.addr2line_lines.specs.Functions.{functions_of, functions_take_memory}
-use Rattle.addr2line_lines.specs.InlineRoom.{exceeds_inline_room}
-use Rattle.addr2line_lines.specs.References.{Scope}
-use Rattle.addr2line_lines.specs.SeenScope.{seen_scope}
-use Rattle.addr2line_units.specs.declared.entries.LazyFunctions.{LazyFunctions}
 use Rattle.addr2line_units.specs.declared.entries.LazyFunctions.TheVariants as lazy
 use Rattle.addr2line_units.specs.declared.parses.ReadingDepth.TheVariants as depths
-use Rattle.addr2line_units.specs.CachedFunctions.{AreFunctionsOf, cached_functions, find_takes_memory, functions_fault, reading_takes_memory, cached_inlined_at, were_read}
-use Rattle.addr2line_units.specs.CachedKnown.{known_functions}
-use Rattle.addr2line_units.specs.FunctionParses.{IsReadyFor}
 use Rattle.addr2line_units.proofs.CachedFunctionLemmas.{all_ready, exactly_weaker, fault_is, no_fault_of, on_ok, reading_before, stay_faulty, stay_read, table_more}
 use Rattle.addr2line_units.proofs.CachedParseLemmas.{cached_stay}
 use Rattle.addr2line_units.proofs.ReadyLemmas.{fault_of_functions, had_not_oom, known_not_oom, not_oom, ready_fault, ready_same, ready_then, ready_were_read}

@@ -1,5 +1,4 @@
-use Rattle.std.proofs.lemmas.Result.{err_from_is_err_and}
-use Rattle.addr2line_lines.specs.SeenScope.{seen_scope}
+use Rattle.addr2line_units.proofs.Common.{err_from_is_err_and, seen_scope}
 use Rattle.addr2line_units.proofs.AfterParseLemmas.{alone_after, alone_gives, refused_after}
 use Rattle.addr2line_units.proofs.LoadLemmas.{exactly_this}
 use Rattle.addr2line_units.proofs.entries.LazyFunctions.read_alone.Goals as goal

@@ -1,10 +1,4 @@
-use Rattle.std.proofs.Common.{◌≡◌, ◌∙◌, Result, ap, option_map, refl, subst, sym, true, false, rules}
-use Rattle.std.proofs.lemmas.Result.{err_from_is_err_and}
-use Rattle.addr2line_units.specs.CachedEntries.{StayEntries, first_answer_of}
-use Rattle.gimli_read.specs.Reading.{fault_of}
-use Rattle.gimli_read.specs.declared.error.Error.{Error}
-use Rattle.addr2line_units.specs.Loads.{view_fault}
-use Rattle.addr2line_units.specs.Views.{View, is_open, verdict}
+use Rattle.addr2line_units.proofs.Common.{◌≡◌, ◌∙◌, Result, ap, option_map, refl, subst, sym, true, false, rules, err_from_is_err_and, StayEntries, first_answer_of, fault_of, Error, view_fault, View, is_open, verdict}
 use Rattle.addr2line_units.proofs.ViewLemmas.{verdict_of_open, waiting_is_open}
 use Rattle.addr2line_units.proofs.AnswerLemmas.{decided_if_not, decided_if_open, decided_was_checked, never_waits, open_by_look}
 use Rattle.addr2line_units.proofs.EntryLemmas.{looked_decides}

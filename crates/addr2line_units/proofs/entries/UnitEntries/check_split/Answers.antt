@@ -1,5 +1,4 @@
-use Rattle.std.proofs.Common.{ap}
-use Rattle.addr2line_lines.specs.SeenScope.{seen_scope}
+use Rattle.addr2line_units.proofs.Common.{ap, seen_scope}
 use Rattle.addr2line_units.proofs.EntryLemmas.{look_keeps, look_stays}
 use Rattle.addr2line_units.proofs.entries.UnitEntries.check_split.Goals as goal
 

@@ -1,5 +1,4 @@
-use Rattle.std.proofs.Common.{◌≡◌, is_some, refl, true}
-use Rattle.addr2line_lines.specs.SeenScope.{seen_scope}
+use Rattle.addr2line_units.proofs.Common.{◌≡◌, is_some, refl, true, seen_scope}
 use Rattle.addr2line_units.proofs.AnswerLemmas.{same_entries, unread_entries, waiting_is_undecided}
 use Rattle.addr2line_units.proofs.entries.UnitEntries.decide.Goals as goal
 

@@ -1,4 +1,4 @@
-use Rattle.std.proofs.Common.{ap}
+use Rattle.addr2line_units.proofs.Common.{ap}
 use Rattle.addr2line_units.proofs.EntryLemmas.{looked_decides}
 use Rattle.addr2line_units.proofs.entries.UnitEntries.find_function.Goals as goal
 

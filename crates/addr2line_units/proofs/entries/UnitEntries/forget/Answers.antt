@@ -1,7 +1,5 @@
-use Rattle.std.proofs.Common.{refl, rules}
-use Rattle.addr2line_lines.specs.SeenScope.{seen_scope}
+use Rattle.addr2line_units.proofs.Common.{refl, rules, seen_scope, first_answer_of}
 use Rattle.addr2line_units.specs.declared.entries.LazyFunctions.TheVariants.{Unread}
-use Rattle.addr2line_units.specs.CachedEntries.{first_answer_of}
 use Rattle.addr2line_units.proofs.AnswerLemmas.{no_answer, unread_entries}
 use Rattle.addr2line_units.proofs.entries.UnitEntries.forget.Goals as goal
 

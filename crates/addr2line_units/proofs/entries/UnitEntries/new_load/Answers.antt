@@ -1,11 +1,8 @@
-use Rattle.std.proofs.Common.{◌≡◌, ◌∙◌, None, Some, ap, false, is_some, not, rules, subst, sym, true}
-use Rattle.addr2line_units.specs.CachedEntries.{first_answer_of}
+use Rattle.addr2line_units.proofs.Common.{◌≡◌, ◌∙◌, None, Some, ap, false, is_some, not, rules, subst, sym, true, first_answer_of, awaited_load, is_open, seen_scope}
 use Rattle.addr2line_units.specs.ListedLoads.{if_new, is_marked}
-use Rattle.addr2line_units.specs.Views.{awaited_load, is_open}
 use Rattle.addr2line_units.proofs.AnswerLemmas.{no_answer, open_by_look}
 use Rattle.addr2line_units.proofs.LoadLemmas.{awaited_unit, awaits_this, is_new_load, marks_load, marks_none, not_new, open_awaits}
 use Rattle.addr2line_units.proofs.OpenLemmas.{waits_only_open}
-use Rattle.addr2line_lines.specs.SeenScope.{seen_scope}
 use Rattle.addr2line_units.proofs.LearnedLemmas.{looked_learns}
 use Rattle.addr2line_units.proofs.entries.UnitEntries.new_load.Goals as goal
 

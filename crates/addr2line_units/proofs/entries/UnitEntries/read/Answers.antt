@@ -1,8 +1,4 @@
-use Rattle.std.proofs.Common.{subst}
-use Rattle.gimli_read.specs.Reading.{ExactlyUnlessOom}
-use Rattle.addr2line_lines.specs.SeenScope.{seen_scope}
-use Rattle.addr2line_units.specs.FunctionParses.{read_of_view}
-use Rattle.addr2line_units.specs.Views.{verdict}
+use Rattle.addr2line_units.proofs.Common.{subst, ExactlyUnlessOom, seen_scope, read_of_view, verdict}
 use Rattle.addr2line_units.proofs.AfterParseLemmas.{unit_after}
 use Rattle.addr2line_units.proofs.entries.UnitEntries.read.Goals as goal
 

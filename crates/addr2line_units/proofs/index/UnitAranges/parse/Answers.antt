@@ -1,5 +1,4 @@
-use Rattle.std.proofs.Common.{◌≡◌, false, refl, true}
-use Rattle.std.proofs.lemmas.Result.{err_from_is_err_and}
+use Rattle.addr2line_units.proofs.Common.{◌≡◌, false, refl, true, err_from_is_err_and}
 use Rattle.addr2line_units.proofs.HeaderUnitLemmas.{then_takes}
 use Rattle.addr2line_units.proofs.UnitIndexLemmas.{some_there}
 use Rattle.addr2line_units.proofs.index.UnitAranges.parse.Goals as goal

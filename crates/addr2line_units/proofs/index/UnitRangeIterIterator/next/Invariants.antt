@@ -1,5 +1,4 @@
-use Rattle.std.proofs.Common.{◌≡◌, length}
-use Rattle.addr2line_units.specs.UnitRangesLeft.{ranges_left}
+use Rattle.addr2line_units.proofs.Common.{◌≡◌, length, ranges_left}
 use Rattle.addr2line_units.proofs.index.UnitRangeIterIterator.next.Given as goal
 
 abbrev pub invariant-loop-first : goal.invariant-loop-first

@@ -1,8 +1,5 @@
-use Rattle.std.proofs.Common.{rules, List, ap, sym, subst, ◌∙◌, filter}
-use Rattle.std.specs.List.{AllByRecursion}
-use Rattle.std.proofs.lemmas.List.Sorted.{IsPartitionPoint-from_clause, IsPartitionedBy-leb}
+use Rattle.addr2line_units.proofs.Common.{rules, List, ap, sym, subst, ◌∙◌, filter, AllByRecursion, IsPartitionPoint-from_clause, IsPartitionedBy-leb, in_order}
 use Rattle.addr2line_units.specs.declared.index.IndexedRange.{IndexedRange}
-use Rattle.addr2line_lines.specs.InOrder.{in_order}
 use Rattle.addr2line_units.specs.LeastBegins.{AreLeastBegins, EndFits, is_between}
 use Rattle.addr2line_units.specs.Cover.{ends_sooner}
 use Rattle.addr2line_units.proofs.LeastBeginLemmas.{EndsRise, dropped_least, ends_by, ends_rise, found_from, none_past_greatest, rest_is}

@@ -1,5 +1,4 @@
-use Rattle.std.proofs.Common.{◌≡◌, ◌≤◌, take}
-use Rattle.std.specs.Str.Parse.{digits_value}
+use Rattle.addr2line_units.proofs.Common.{◌≡◌, ◌≤◌, take, digits_value}
 use Rattle.addr2line_units.proofs.legacy.digits.number_up_to.Given as goal
 
 abbrev pub invariant-loop-b : goal.invariant-loop-b

@@ -1,5 +1,4 @@
-use Rattle.std.proofs.Common.{◌≡◌, ◌++◌, take}
-use Rattle.std.specs.Prelude.{string_bytes}
+use Rattle.addr2line_units.proofs.Common.{◌≡◌, ◌++◌, take, string_bytes}
 use Rattle.addr2line_units.proofs.legacy.plain.push_ascii.Given as goal
 
 abbrev pub invariant-loop-b : goal.invariant-loop-b

@@ -1,8 +1,4 @@
-use Rattle.std.proofs.Common.{◌≡◌, ◌++◌, true, length}
-use Rattle.std.specs.Char.{is_ascii}
-use Rattle.std.specs.List.{list_all}
-use Rattle.std.specs.Prelude.{string_bytes}
-use Rattle.addr2line_units.specs.LegacyText.{plain_from}
+use Rattle.addr2line_units.proofs.Common.{◌≡◌, ◌++◌, true, length, is_ascii, list_all, string_bytes, plain_from}
 use Rattle.addr2line_units.proofs.legacy.plain.push_plain.Given as goal
 
 abbrev pub invariant-loop-first : goal.invariant-loop-first

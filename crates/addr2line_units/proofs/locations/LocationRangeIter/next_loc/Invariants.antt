@@ -1,6 +1,5 @@
-use Rattle.std.proofs.Common.{◌≡◌, length}
+use Rattle.addr2line_units.proofs.Common.{◌≡◌, length, ranges_left}
 use Rattle.addr2line_units.specs.LocationsLeft.{locations_left}
-use Rattle.addr2line_units.specs.UnitRangesLeft.{ranges_left}
 use Rattle.addr2line_units.proofs.locations.LocationRangeIter.next_loc.Given as goal
 
 abbrev pub invariant-loop-self : goal.invariant-loop-self

@@ -1,10 +1,5 @@
-use Rattle.std.proofs.Common.{Err, Ok, Result, Some, ap, option_map, sym, ◌∙◌, ◌≡◌}
-use Rattle.std.proofs.lemmas.Result.{err_from_is_err_and}
-use Rattle.gimli_read.specs.declared.error.Error.{Error}
-use Rattle.gimli.specs.Sections.{Sections}
-use Rattle.gimli.specs.UnitsLeft.{all_headers}
+use Rattle.addr2line_units.proofs.Common.{Err, Ok, Result, Some, ap, option_map, sym, ◌∙◌, ◌≡◌, err_from_is_err_and, Error, Sections, all_headers, units_of}
 use Rattle.addr2line_units.specs.UnitIndex.{sup_read, sup_sections, sup_unit_of_header}
-use Rattle.addr2line_units.specs.HeaderUnits.{units_of}
 use Rattle.addr2line_units.proofs.HeaderUnitLemmas.{shared_take}
 use Rattle.addr2line_units.proofs.sup.SupUnits.parse.Goals as goal
 

@@ -1,6 +1,4 @@
-use Rattle.std.proofs.Common.{rules, ◌≡◌, ◌∙◌, ap, sym, None, Err, option_map}
-use Rattle.addr2line_units.specs.CachedViews.{split_unit, unboxed}
-use Rattle.addr2line_units.specs.Views.{verdict}
+use Rattle.addr2line_units.proofs.Common.{rules, ◌≡◌, ◌∙◌, ap, sym, None, Err, option_map, split_unit, unboxed, verdict}
 use Rattle.addr2line_units.proofs.ViewLemmas.{answered_is_right, verdict_of_open, waiting_is_open}
 use Rattle.addr2line_units.proofs.unit.UnitView.decide.Goals as goal
 use Rattle.addr2line_units.proofs.unit.UnitView.decide.Goals.{in-Ok, in-Err}

@@ -1,7 +1,5 @@
-use Rattle.std.proofs.Common.{◌≡◌, arith, None}
+use Rattle.addr2line_units.proofs.Common.{◌≡◌, arith, None, OutOfMemory, verdict}
 use Rattle.std.proofs.lemmas.Grind.{common_steps}
-use Rattle.gimli_read.specs.declared.error.Error.TheVariants.{OutOfMemory}
-use Rattle.addr2line_units.specs.Views.{verdict}
 use Rattle.addr2line_units.proofs.ViewLemmas.{open_has_load, refused_load, waiting_is_open}
 use Rattle.addr2line_units.proofs.unit.UnitView.load.Goals as goal
 

@@ -1,4 +1,4 @@
-use Rattle.std.proofs.Common.{refl}
+use Rattle.addr2line_units.proofs.Common.{refl}
 use Rattle.addr2line_units.proofs.units.Index.new.Goals as goal
 
 pub returns-clause-none : goal.returns-clause-none

@@ -1,8 +1,5 @@
-use Rattle.std.proofs.Common.{◌≡◌, ◌++◌, ◌∙◌, List, Ok, Result, ap, length, map, rules, sym}
-use Rattle.gimli_read.specs.declared.error.Error.{Error}
-use Rattle.gimli_read.specs.declared.range.Range.{Range}
+use Rattle.addr2line_units.proofs.Common.{◌≡◌, ◌++◌, ◌∙◌, List, Ok, Result, ap, length, map, rules, sym, Error, Range, range_of_unit, unit_ranges}
 use Rattle.addr2line_units.specs.Indexed.{ranged_seen}
-use Rattle.addr2line_units.specs.RangedUnits.{range_of_unit, unit_ranges}
 use Rattle.addr2line_units.proofs.ScopeLemmas.{fresh_push}
 use Rattle.addr2line_units.proofs.UnitsLemmas.{own_push, pushed}
 use Rattle.addr2line_units.proofs.units.Index.push.Goals as goal

@@ -1,4 +1,4 @@
-use Rattle.std.proofs.lemmas.Result.{err_from_is_err_and}
+use Rattle.addr2line_units.proofs.Common.{err_from_is_err_and}
 use Rattle.addr2line_units.proofs.HeaderUnitLemmas.{first_takes}
 use Rattle.addr2line_units.proofs.UnitIndexLemmas.{where_kept}
 use Rattle.addr2line_units.proofs.units.Index.take.Goals as goal

@@ -1,6 +1,4 @@
-use Rattle.std.proofs.Common.{ap, sym, ◌∙◌}
-use Rattle.std.proofs.lemmas.Result.{err_from_is_err_and}
-use Rattle.gimli.specs.Sections.{Sections}
+use Rattle.addr2line_units.proofs.Common.{ap, sym, ◌∙◌, err_from_is_err_and, Sections}
 use Rattle.addr2line_units.specs.Indexed.{aranges_read}
 use Rattle.addr2line_units.proofs.HeaderUnitLemmas.{first_takes, then_takes}
 use Rattle.addr2line_units.proofs.units.IndexedUnits.parse.Goals as goal

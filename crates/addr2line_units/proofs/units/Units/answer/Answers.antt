@@ -1,6 +1,4 @@
-use Rattle.std.proofs.Common.{arith, option_map, subst, sym}
-use Rattle.addr2line_units.specs.CachedEntries.{AreEntriesOf}
-use Rattle.addr2line_units.specs.CachedFrames.{seen_stop}
+use Rattle.addr2line_units.proofs.Common.{arith, option_map, subst, sym, AreEntriesOf, seen_stop}
 use Rattle.addr2line_units.proofs.NumberLemmas.{answered_there, none_answered, refused_told}
 use Rattle.addr2line_units.proofs.StateLemmas.{some_given}
 use Rattle.addr2line_units.proofs.UnitAtLemmas.{cache_within, its_entries, none_got, sections_seen, unit_got, units_with_entries}

@@ -1,14 +1,4 @@
-use Rattle.std.proofs.Common.{Err, Ok, arith, refl, subst, sym, ◌≡◌}
-use Rattle.std.proofs.lemmas.Result.{err_from_is_err_and}
-use Rattle.std.proofs.Math.ListN.{set}
-use Rattle.gimli_read.specs.Reading.{WasNotRefused}
-use Rattle.addr2line_lines.specs.References.{IsScope}
-use Rattle.addr2line_units.specs.CachedEntries.{AreEntriesOf}
-use Rattle.addr2line_units.specs.CachedFrames.{seen_stop}
-use Rattle.addr2line_units.specs.CachedLines.{AreLinesOf}
-use Rattle.addr2line_units.specs.FramesLookup.{FindsNothing}
-use Rattle.addr2line_units.specs.AskedUnits.{found_stop, stop_at}
-use Rattle.addr2line_units.specs.UnitsState.{IsFaultAt}
+use Rattle.addr2line_units.proofs.Common.{Err, Ok, arith, refl, subst, sym, ◌≡◌, err_from_is_err_and, set, WasNotRefused, IsScope, AreEntriesOf, seen_stop, AreLinesOf, FindsNothing, found_stop, stop_at, IsFaultAt}
 use Rattle.addr2line_units.proofs.AskLemmas.{after_asked, asked_err, asked_ok, none_after, none_gives, refused_alone, stop_lendable}
 use Rattle.addr2line_units.proofs.FramesLookupLemmas.{oom_after, oom_before}
 use Rattle.addr2line_units.proofs.UnitAtLemmas.{cache_within, its_entries, its_lines, none_got, sections_seen, unit_got, units_with}

@@ -1,6 +1,4 @@
-use Rattle.std.proofs.Common.{sym, ◌∙◌}
-use Rattle.addr2line_units.specs.UnitRangesLeft.{ranges_left}
-use Rattle.addr2line_units.specs.StoredUnits.{scope_of}
+use Rattle.addr2line_units.proofs.Common.{sym, ◌∙◌, ranges_left, scope_of}
 use Rattle.addr2line_units.proofs.CachedUnitLemmas.{lines_right}
 use Rattle.addr2line_units.proofs.StateLemmas.{spans_cached}
 use Rattle.addr2line_units.proofs.units.Units.find_location_range.Goals as goal

@@ -1,12 +1,4 @@
-use Rattle.std.proofs.Common.{◌+◌, ◌≤◌, Err, None, Ok, Some, arith, false, option_map, slice_get, subst, sym, ◌≡◌}
-use Rattle.std.specs.Prelude.{IfErr}
-use Rattle.gimli_read.specs.Reading.{ExactlyUnlessOom}
-use Rattle.addr2line_lines.specs.Location.{location_of_row}
-use Rattle.addr2line_units.specs.AskMemory.{lines_of_take_memory, lines_take_memory}
-use Rattle.addr2line_units.specs.CachedFrames.{seen_stop}
-use Rattle.addr2line_units.specs.CachedLines.{AreLinesOf, cached_files, indexed_unit, unit_row}
-use Rattle.addr2line_units.specs.Located.{location_in, looks_in}
-use Rattle.addr2line_units.specs.UnitsState.{UnitsState, row_location}
+use Rattle.addr2line_units.proofs.Common.{◌+◌, ◌≤◌, Err, None, Ok, Some, arith, false, option_map, slice_get, subst, sym, ◌≡◌, IfErr, ExactlyUnlessOom, location_of_row, lines_of_take_memory, lines_take_memory, seen_stop, AreLinesOf, cached_files, indexed_unit, unit_row, location_in, looks_in, UnitsState, row_location}
 use Rattle.addr2line_units.proofs.LinesAtLemmas.{none_after_row, none_row, row_after, row_alone, row_there}
 use Rattle.addr2line_units.proofs.UnitAtLemmas.{cache_within, its_lines, none_got, sections_seen, unit_got, units_with_lines}
 use Rattle.addr2line_units.proofs.units.Units.find_row_in.Goals as goal

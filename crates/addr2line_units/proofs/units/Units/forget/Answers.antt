@@ -1,6 +1,4 @@
-use Rattle.std.proofs.Common.{None, arith, subst, sym}
-use Rattle.addr2line_units.specs.CachedEntries.{AreEntriesOf}
-use Rattle.addr2line_units.specs.CachedFrames.{seen_stop}
+use Rattle.addr2line_units.proofs.Common.{None, arith, subst, sym, AreEntriesOf, seen_stop}
 use Rattle.addr2line_units.proofs.LoadLemmas.{known_forget, unknown_forget}
 use Rattle.addr2line_units.proofs.NumberLemmas.{forgotten_there, none_forgotten}
 use Rattle.addr2line_units.proofs.UnitAtLemmas.{cache_within, its_entries, none_got, unit_got, units_with_entries}

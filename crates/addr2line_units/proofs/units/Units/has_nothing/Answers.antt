@@ -1,5 +1,4 @@
-use Rattle.std.proofs.Common.{ltb-true, subst, sym, ◌∙◌}
-use Rattle.addr2line_units.specs.CachedFrames.{seen_stop}
+use Rattle.addr2line_units.proofs.Common.{ltb-true, subst, sym, ◌∙◌, seen_stop}
 use Rattle.addr2line_units.specs.EmptyUnits.{HasNothingAt}
 use Rattle.addr2line_units.proofs.EmptyUnitLemmas.{nothing_there}
 use Rattle.addr2line_units.proofs.units.Units.has_nothing.Goals as goal

@@ -1,6 +1,4 @@
-use Rattle.std.proofs.Common.{length, rules, subst, ◌≡◌}
-use Rattle.addr2line_units.specs.AskedUnits.{CountsUnits}
-use Rattle.addr2line_units.specs.CachedFrames.{seen_stop}
+use Rattle.addr2line_units.proofs.Common.{length, rules, subst, ◌≡◌, CountsUnits, seen_stop}
 use Rattle.addr2line_units.proofs.UnitAtLemmas.{counts}
 use Rattle.addr2line_units.proofs.units.Units.len.Goals as goal
 

@@ -1,5 +1,4 @@
-use Rattle.std.proofs.Common.{arith, rules, sym}
-use Rattle.addr2line_units.specs.StoredUnits.{scope_of}
+use Rattle.addr2line_units.proofs.Common.{arith, rules, sym, scope_of}
 use Rattle.addr2line_units.proofs.CachedUnitLemmas.{entries_right}
 use Rattle.addr2line_units.proofs.StateLemmas.{load_there, waits_if_stored}
 use Rattle.addr2line_units.proofs.WaitLemmas.{as_many_views, views_of_entries, waiting_view, waits_within}

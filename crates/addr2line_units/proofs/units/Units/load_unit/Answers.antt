@@ -1,8 +1,4 @@
-use Rattle.std.proofs.Common.{arith, option_map, subst, sym}
-use Rattle.std.proofs.lemmas.Result.{err_from_is_err_and}
-use Rattle.addr2line_units.specs.CachedEntries.{AreEntriesOf}
-use Rattle.addr2line_units.specs.CachedFrames.{seen_stop}
-use Rattle.addr2line_units.specs.CachedUnits.{answers_in}
+use Rattle.addr2line_units.proofs.Common.{arith, option_map, subst, sym, err_from_is_err_and, AreEntriesOf, seen_stop, answers_in}
 use Rattle.addr2line_units.proofs.LoadLemmas.{exactly_this, unknown_load}
 use Rattle.addr2line_units.proofs.NumberLemmas.{fault_told, load_told, loaded_there, none_loaded, refused_there}
 use Rattle.addr2line_units.proofs.StateLemmas.{some_given}

@@ -1,8 +1,4 @@
-use Rattle.std.proofs.Common.{ap, ltb-false, ltb-true, refl, sym, ◌∙◌}
-use Rattle.std.proofs.lemmas.Option.{slice_get_past, slice_get_read}
-use Rattle.addr2line_lines.specs.Location.{location_of_row}
-use Rattle.addr2line_units.specs.CachedLines.{cached_files, lines_in_cache, location_of_unit_row}
-use Rattle.addr2line_units.specs.StoredUnits.{scope_of}
+use Rattle.addr2line_units.proofs.Common.{ap, ltb-false, ltb-true, refl, sym, ◌∙◌, slice_get_past, slice_get_read, location_of_row, cached_files, lines_in_cache, location_of_unit_row, scope_of}
 use Rattle.addr2line_units.proofs.CachedUnitLemmas.{lines_right}
 use Rattle.addr2line_units.proofs.StateLemmas.{files_are}
 use Rattle.addr2line_units.proofs.units.Units.location.Goals as goal

@@ -1,12 +1,6 @@
-use Rattle.std.proofs.Common.{None, Ok, ap, arith, false, refl, subst, sym, ◌≡◌}
-use Rattle.std.specs.Prelude.{IfOk, OnOk}
-use Rattle.addr2line_units.specs.CachedEntries.{AreEntriesOf}
-use Rattle.addr2line_units.specs.CachedFrames.{seen_stop}
-use Rattle.addr2line_units.specs.CachedUnits.{answers_in}
+use Rattle.addr2line_units.proofs.Common.{None, Ok, ap, arith, false, refl, subst, sym, ◌≡◌, OnOk, AreEntriesOf, seen_stop, answers_in, is_open_at, load_of_number, scope_of, seen_units, UnitsState}
+use Rattle.std.specs.Prelude.{IfOk}
 use Rattle.addr2line_units.specs.ListedLoads.{MarksLoad, if_new}
-use Rattle.addr2line_units.specs.Loads.{is_open_at, load_of_number}
-use Rattle.addr2line_units.specs.StoredUnits.{scope_of, seen_units}
-use Rattle.addr2line_units.specs.UnitsState.{UnitsState}
 use Rattle.addr2line_units.proofs.ListingLemmas.{listing_first, load_in}
 use Rattle.addr2line_units.proofs.LoadLemmas.{marks_none, no_load}
 use Rattle.addr2line_units.proofs.NumberLemmas.{listed_there, load_listed, shut_there}

@@ -1,6 +1,4 @@
-use Rattle.std.proofs.Common.{subst, sym, ◌∙◌}
-use Rattle.std.proofs.lemmas.Result.{err_from_is_err_and}
-use Rattle.addr2line_units.specs.CachedLines.{HaveLinesOf}
+use Rattle.addr2line_units.proofs.Common.{subst, sym, ◌∙◌, err_from_is_err_and, HaveLinesOf}
 use Rattle.addr2line_units.proofs.HeaderUnitLemmas.{first_takes, then_takes}
 use Rattle.addr2line_units.proofs.NewUnitsLemmas.{are_units, index_is, sup_fault, units_fault, units_made}
 use Rattle.addr2line_units.proofs.units.Units.parse.Goals as goal

@@ -1,6 +1,4 @@
-use Rattle.std.proofs.Common.{subst, ◌<◌, ◌≤◌}
-use Rattle.std.proofs.lemmas.Result.{err_from_is_err_and}
-use Rattle.addr2line_units.specs.AskedUnits.{CountsUnits}
+use Rattle.addr2line_units.proofs.Common.{subst, ◌<◌, ◌≤◌, err_from_is_err_and, CountsUnits}
 use Rattle.addr2line_units.proofs.LineWalkLemmas.{parse_fault, parse_fault_after, parsed_end, parsed_end_after, parsed_first, parsed_on}
 use Rattle.addr2line_units.proofs.units.Units.parse_lines.Goals as goal
 

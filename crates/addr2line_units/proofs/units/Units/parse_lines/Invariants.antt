@@ -1,5 +1,4 @@
-use Rattle.addr2line_units.specs.AskedUnits.{CountsUnits}
-use Rattle.addr2line_units.specs.FramesLookup.{FindsNothing}
+use Rattle.addr2line_units.proofs.Common.{CountsUnits, FindsNothing}
 use Rattle.addr2line_units.proofs.LineWalkLemmas.{ParsedSoFar}
 use Rattle.addr2line_units.proofs.units.Units.parse_lines.Given as goal
 

@@ -1,5 +1,4 @@
-use Rattle.std.proofs.Common.{rules}
-use Rattle.addr2line_units.specs.UnitRangesLeft.{ranges_left}
+use Rattle.addr2line_units.proofs.Common.{rules, ranges_left}
 use Rattle.addr2line_units.proofs.ListingLemmas.{after_next, listed_first, listed_next}
 use Rattle.addr2line_units.proofs.units.Units.preload.Goals as goal
 

@@ -1,6 +1,4 @@
-use Rattle.std.proofs.Common.{subst}
-use Rattle.std.proofs.lemmas.Result.{err_from_is_err_and}
-use Rattle.addr2line_units.specs.AskedUnits.{CountsUnits}
+use Rattle.addr2line_units.proofs.Common.{subst, err_from_is_err_and, CountsUnits}
 use Rattle.addr2line_units.proofs.ParseWalkLemmas.{read_fault, read_fault_after, read_fault_alone, read_first, read_last, read_last_after, read_on}
 use Rattle.addr2line_units.proofs.units.Units.read_functions.Goals as goal
 

@@ -1,5 +1,4 @@
-use Rattle.addr2line_units.specs.AskedUnits.{CountsUnits}
-use Rattle.addr2line_units.specs.FramesLookup.{FindsNothing}
+use Rattle.addr2line_units.proofs.Common.{CountsUnits, FindsNothing}
 use Rattle.addr2line_units.proofs.ParseWalkLemmas.{ReadSoFar}
 use Rattle.addr2line_units.proofs.units.Units.read_functions.Given as goal
 

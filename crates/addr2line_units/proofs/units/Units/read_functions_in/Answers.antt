@@ -1,11 +1,5 @@
-use Rattle.std.proofs.Common.{Ok, arith, subst, sym}
-use Rattle.gimli_read.specs.Reading.{ExactlyUnlessOom}
-use Rattle.addr2line_lines.specs.References.{IsScope}
+use Rattle.addr2line_units.proofs.Common.{Ok, arith, subst, sym, ExactlyUnlessOom, IsScope, AreEntriesOf, first_answer_of, seen_stop, read_of_number, read_of_unit, UnitsState}
 use Rattle.addr2line_units.specs.AfterParses.{AfterReadingUnit}
-use Rattle.addr2line_units.specs.CachedEntries.{AreEntriesOf, first_answer_of}
-use Rattle.addr2line_units.specs.CachedFrames.{seen_stop}
-use Rattle.addr2line_units.specs.FunctionParses.{read_of_number, read_of_unit}
-use Rattle.addr2line_units.specs.UnitsState.{UnitsState}
 use Rattle.addr2line_units.proofs.ParseAtLemmas.{after_there, none_after, none_gives, reading_was}
 use Rattle.addr2line_units.proofs.UnitAtLemmas.{cache_within, its_entries, none_got, unit_got, units_with_entries}
 use Rattle.addr2line_units.proofs.units.Units.read_functions_in.Goals as goal

@@ -1,10 +1,4 @@
-use Rattle.std.proofs.Common.{Err, Ok, arith, false, slice_get, subst, sym, ◌≡◌}
-use Rattle.std.specs.Prelude.{IfErr}
-use Rattle.gimli_read.specs.Reading.{ExactlyUnlessOom}
-use Rattle.addr2line_units.specs.AskMemory.{lines_take_memory}
-use Rattle.addr2line_units.specs.CachedFrames.{seen_stop}
-use Rattle.addr2line_units.specs.CachedLines.{AreLinesOf, cached_lines, lines_result, lines_result_at}
-use Rattle.addr2line_units.specs.UnitsState.{UnitsState}
+use Rattle.addr2line_units.proofs.Common.{Err, Ok, arith, false, slice_get, subst, sym, ◌≡◌, IfErr, ExactlyUnlessOom, lines_take_memory, seen_stop, AreLinesOf, cached_lines, lines_result, lines_result_at, UnitsState}
 use Rattle.addr2line_units.proofs.LinesAtLemmas.{caching_after, none_after_caching, none_read, read_there}
 use Rattle.addr2line_units.proofs.UnitAtLemmas.{cache_within, its_lines, none_got, sections_seen, unit_got, units_with_lines}
 use Rattle.addr2line_units.proofs.UnitsLemmas.{answer_cached}

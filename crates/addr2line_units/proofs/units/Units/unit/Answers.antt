@@ -1,9 +1,5 @@
-use Rattle.std.proofs.Common.{ap, arith, option_map, rules, sym, ◌∙◌, ◌≡◌}
+use Rattle.addr2line_units.proofs.Common.{ap, arith, option_map, rules, sym, ◌∙◌, ◌≡◌, seen_stop, answers_in, unit_found, scope_of}
 use Rattle.addr2line_units.specs.declared.frames.FramesStop.TheVariants as stops
-use Rattle.addr2line_units.specs.CachedFrames.{seen_stop}
-use Rattle.addr2line_units.specs.CachedUnits.{answers_in}
-use Rattle.addr2line_units.specs.FramesLookup.{unit_found}
-use Rattle.addr2line_units.specs.StoredUnits.{scope_of}
 use Rattle.addr2line_units.proofs.CachedUnitLemmas.{entries_right}
 use Rattle.addr2line_units.proofs.DecidedLemmas.{decided_view, decided_within, parts_at}
 use Rattle.addr2line_units.proofs.StateLemmas.{place_if_stored}

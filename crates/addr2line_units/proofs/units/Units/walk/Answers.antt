@@ -1,6 +1,4 @@
-use Rattle.std.proofs.Common.{sym}
-use Rattle.std.proofs.lemmas.Result.{err_from_is_err_and}
-use Rattle.addr2line_units.specs.UnitRangesLeft.{ranges_left}
+use Rattle.addr2line_units.proofs.Common.{sym, err_from_is_err_and, ranges_left}
 use Rattle.addr2line_units.proofs.WalkedLemmas.{fault_after, fault_alone, stop_after, walked_on}
 use Rattle.addr2line_units.proofs.units.Units.walk.Goals as goal
 

@@ -1,5 +1,4 @@
-use Rattle.std.proofs.Common.{length}
-use Rattle.addr2line_units.specs.UnitRangesLeft.{ranges_left}
+use Rattle.addr2line_units.proofs.Common.{length, ranges_left}
 use Rattle.addr2line_units.proofs.WalkedLemmas.{Walked}
 use Rattle.addr2line_units.proofs.units.Units.walk.Given as goal
 

@@ -1,5 +1,4 @@
-use Rattle.std.proofs.Common.{◌≡◌, Option, Some, None, is_some, option_copied, Bor, refl, ap, ◌∙◌}
-use Rattle.gimli.specs.CachedTables.{CachedTables}
+use Rattle.gimli.proofs.Common.{◌≡◌, Option, Some, None, is_some, option_copied, Bor, refl, ap, ◌∙◌, CachedTables}
 use Rattle.gimli.proofs.CachedTableLemmas.{found_is_cached}
 use Rattle.gimli.proofs.abbreviations_cache.AbbreviationsCache.get.Goals as goal
 

@@ -1,5 +1,4 @@
-use Rattle.std.proofs.Common.{ap, ◌∙◌}
-use Rattle.gimli.specs.CachedTables.{CachedTables, is_cached}
+use Rattle.gimli.proofs.Common.{ap, ◌∙◌, CachedTables, is_cached}
 use Rattle.gimli.proofs.CachedTableLemmas.{cached_now, cached_still}
 use Rattle.gimli.proofs.abbreviations_cache.AbbreviationsCache.insert.Goals as goal
 

@@ -1,8 +1,4 @@
-use Rattle.std.proofs.Common.{ap, sym, ◌∙◌}
-use Rattle.std.proofs.lemmas.Result.{err_from_is_err_and}
-use Rattle.gimli.specs.Header.{UnitHeaderFields}
-use Rattle.gimli.specs.Sections.{Sections}
-use Rattle.gimli.specs.CachedTables.{CachedTables}
+use Rattle.gimli.proofs.Common.{ap, sym, ◌∙◌, err_from_is_err_and, UnitHeaderFields, Sections, CachedTables}
 use Rattle.gimli.proofs.CachedTableLemmas.{unit_cached, unit_read, unit_oom, unit_outside}
 use Rattle.gimli.proofs.abbreviations_cache.AbbreviationsCache.unit.Goals as goal
 

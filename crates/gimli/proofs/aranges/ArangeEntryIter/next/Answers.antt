@@ -1,6 +1,4 @@
-use Rattle.std.proofs.Common.{sym, ◌∙◌, refl}
-use Rattle.gimli_read.proofs.Shorter.{shorter_by}
-use Rattle.gimli.specs.Aranges.{next_pair_at}
+use Rattle.gimli.proofs.Common.{sym, ◌∙◌, refl, shorter_by, next_pair_at}
 use Rattle.gimli.proofs.ArangeLemmas.{range_given, pair_passed, pairs_end, none_after, pair_never, pair_takes}
 use Rattle.gimli.proofs.aranges.ArangeEntryIter.next.Goals as goal
 

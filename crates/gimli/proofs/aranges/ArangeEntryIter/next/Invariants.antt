@@ -1,6 +1,4 @@
-use Rattle.std.proofs.Common.{◌≡◌, true, length}
-use Rattle.gimli_read.specs.Number.{is_address_size}
-use Rattle.gimli.specs.Aranges.{aranges_of}
+use Rattle.gimli.proofs.Common.{◌≡◌, true, length, is_address_size, aranges_of}
 use Rattle.gimli.proofs.aranges.ArangeEntryIter.next.Given as goal
 
 abbrev pub invariant-loop-pair : goal.invariant-loop-pair

@@ -1,6 +1,4 @@
-use Rattle.std.proofs.Common.{refl}
-use Rattle.std.proofs.lemmas.Result.{err_from_is_err_and}
-use Rattle.gimli_read.proofs.Steps.{given_as}
+use Rattle.gimli.proofs.Common.{refl, err_from_is_err_and, given_as}
 use Rattle.gimli.proofs.UnitLemmas.{unit_is}
 use Rattle.gimli.proofs.dwarf.Dwarf.unit.Goals as goal
 

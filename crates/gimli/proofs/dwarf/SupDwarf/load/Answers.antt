@@ -1,4 +1,4 @@
-use Rattle.std.proofs.lemmas.Result.{err_from_is_err_and}
+use Rattle.gimli.proofs.Common.{err_from_is_err_and}
 use Rattle.gimli.proofs.AskedLemmas.{asked_more, asked_stop, asked_all}
 use Rattle.gimli.proofs.dwarf.SupDwarf.load.Goals as goal
 

@@ -1,4 +1,4 @@
-use Rattle.std.proofs.Common.{Err, ap, ◌∙◌, refl}
+use Rattle.gimli.proofs.Common.{Err, ap, ◌∙◌, refl}
 use Rattle.gimli.proofs.HeaderLemmas.{next_gives, next_refuses, given_alike, none_left}
 use Rattle.gimli.proofs.UpToEnd.{skipped_all}
 use Rattle.gimli.proofs.units.UnitHeaders.next.Goals as goal

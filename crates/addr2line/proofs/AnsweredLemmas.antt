@@ -62,7 +62,7 @@ module _ (ranges : List UnitRange) (u : UnitsState) (i : IsContext ranges u) whe
     after_answer = record {
       sections = ap (λ (x : UnitsState). x.scope.file.sections) a.stays;
       parsed = ap (λ (x : UnitsState). x.parsed) a.stays;
-      looks = ap (λ (x : UnitsState). x.looks) a.stays;
+      steps = ap (λ (x : UnitsState). x.steps) a.stays;
       answers = of_ok r a.answers;
       refused = a.refused;
       others = a.others;

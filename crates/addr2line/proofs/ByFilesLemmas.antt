@@ -44,7 +44,7 @@ same_stop probe old new s a = ap (λ d. lookup_stop Stop d new.answers probe) s 
 
 module _ (files : Option ReadFiles) where
   -- neither sections nor first answers were changed, and what was read stays
-  unchanged : (old new : ContextState) → new.sections ≡ old.sections → new.answers ≡ old.answers → StaysParsed old.parsed new.parsed → StaysKnown old.known new.known → old.looks ≤ new.looks → AfterAnswers files old new
+  unchanged : (old new : ContextState) → new.sections ≡ old.sections → new.answers ≡ old.answers → StaysParsed old.parsed new.parsed → StaysKnown old.known new.known → old.steps ≤ new.steps → AfterAnswers files old new
   unchanged old new s a parsed known raised = record {
     sections = s;
     answers = subst (λ x. StayAnswered old.answers x) (sym a) (λ n given e. e);
@@ -83,7 +83,7 @@ module _ (files : Option ReadFiles) where
       ended = λ q w. ap (λ d. lookup_stop Stop d new.answers q) a.sections ∙ ap (λ x. lookup_stop Stop old.sections x q) a.answers ∙ stop_stays old.sections old.answers probe n load waits is given q w;
       parsed = λ k e. subst (λ p. has_parsed p k ≡ true) (sym a.parsed) e;
       known = λ k same. elim (eqb_tells k n) [ inl p ↦ absurd (changed k p.1 same) | inr q ↦ same_stays_known k old.known new.known (a.others k q.1) ];
-      raised = subst (λ l. old.looks ≤ l) (sym a.looks) (omega arith);
+      raised = subst (λ l. old.steps ≤ l) (sym a.steps) (omega arith);
     }
       where
         changed : (k : ℕ) → k ≡ n → answer_of new.answers k ≢ answer_of old.answers k
@@ -126,8 +126,8 @@ module _ (files : Option ReadFiles) (probe : ℕ) (first : ContextState) where
   none_answered = record { after = unchanged files first first refl refl (λ n e. e) (λ n. same_stays_known n first.known first.known refl) (omega arith); only = reads_nothing Stop probe first; given = []; so = λ rest. refl }
 
   module _ (now : ContextState) (h : HasAnswered files probe first now) where
-    looked : {X : Type 0} (r : Result X Error) (new : ContextState) → AfterFrames Stop probe r now new → HasAnswered files probe first new
-    looked r new a = record {
+    checked : {X : Type 0} (r : Result X Error) (new : ContextState) → AfterFrames Stop probe r now new → HasAnswered files probe first new
+    checked r new a = record {
       after = then_answered files first now new h.after (unchanged files now new a.sections a.answers a.parsed a.known a.raised);
       only = reads_more Stop probe r first now new a h.only;
       given = h.given;
@@ -139,7 +139,7 @@ module _ (files : Option ReadFiles) (probe : ℕ) (first : ContextState) where
 
     waits_then : (n : ℕ) (load : SplitLoad) (new : ContextState) → Suspends Stop probe n load now new → WaitsByFiles files probe first n load new
     waits_then n load new s = record {
-      so = looked (Ok (tt {0})) new s.after;
+      so = checked (Ok (tt {0})) new s.after;
       waits = same_stop probe now new s.after.sections s.after.answers ∙ s.waits;
       own = subst (λ d. IsLoadOf d n load) (sym s.after.sections) s.load;
     }
@@ -148,7 +148,7 @@ module _ (files : Option ReadFiles) (probe : ℕ) (first : ContextState) where
   module _ {X : Type 0} (shares : Bool) (now : ContextState) (h : HasAnswered files probe first now) (new : ContextState) where
     ended_with : (o : Result X Error) → AfterFramesOver shares Stop probe o now new → AnswersByFiles files probe (of_file (result_map (λ _. tt {0}) o)) first new
     ended_with (Ok x) a =
-        let so = looked now h (Ok x) new a.after in record {
+        let so = checked now h (Ok x) new a.after in record {
           answers = so.after;
           lookup = record {
             in_turn = in_turn new so;
@@ -163,7 +163,7 @@ module _ (files : Option ReadFiles) (probe : ℕ) (first : ContextState) where
           refused = tt;
         }
     ended_with (Err e) a =
-        let so = looked now h {X = X} (Err e) new a.after in
+        let so = checked now h {X = X} (Err e) new a.after in
         let memory = λ (none : WaitsForNone new probe) (few : IsKnownFew Stop new probe).
         not_told e (a.after.memory few (ap is_waiting (sym (same_stop probe now new a.after.sections a.after.answers)) ∙ none)) in record {
           answers = so.after;
@@ -227,7 +227,7 @@ module _ (files : Option ReadFiles) (probe : ℕ) (first : ContextState) where
     refused_then new a = record {
       so = record {
         after = then_answered files first now new w.so.after
-            (unchanged files now new a.sections a.refused.1 (λ k q. subst (λ p. has_parsed p k ≡ true) (sym a.parsed) q) a.refused.2 (subst (λ l. now.looks ≤ l) (sym a.looks) (omega arith)));
+            (unchanged files now new a.sections a.refused.1 (λ k q. subst (λ p. has_parsed p k ≡ true) (sym a.parsed) q) a.refused.2 (subst (λ l. now.steps ≤ l) (sym a.steps) (omega arith)));
         only = reads_answered Stop probe n first now new w.waits w.so.only x (Err reading.OutOfMemory) a;
         given = w.so.given;
         so = subst (λ y. HasGiven Stop first.sections probe first.answers w.so.given y) (sym a.refused.1) w.so.so;

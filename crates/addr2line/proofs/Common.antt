@@ -24,7 +24,7 @@ pub use Rattle.addr2line_units.specs.FramesLeft.{frames_left}
 pub use Rattle.addr2line_units.specs.FramesLookup.{Finds, FindsNothing, LookupAsks, LookupStop, Waits, after_fault, answer_of, asked_frames, asks_lines_of, ends_lookup, frames_of_number, function_offset_of, holds_along, inlined_at_number, is_waiting, main_scope, or_stop, readable_view, stop_along, unit_found, view_of_number, with_answer}
 pub use Rattle.addr2line_units.specs.KnownEntries.{KnownEntries, LearnsDetailsAt, LearnsNoDetails, NothingKnown, knows_at}
 pub use Rattle.addr2line_units.specs.Loads.{NoneOpen, before_others, forget_result, forgotten, is_of_other, is_open_at, load_of_number, load_result, loads_along}
-pub use Rattle.addr2line_units.specs.Located.{LocationResult, all_lines, first_location, is_found, lines_of_unit, location_in, location_of, looks_along, or_first_location, spans_along, spans_of}
+pub use Rattle.addr2line_units.specs.Located.{LocationResult, all_lines, first_location, is_found, lines_of_unit, location_in, location_of, steps_along, or_first_location, spans_along, spans_of}
 pub use Rattle.addr2line_units.specs.Parsed.{AllAskFor, AreAllParsed, AreParsed, AreReadyForAll, AsksFor, LeadTo, ParsesOnly, StaysParsed, TakeNone, TakeNoneForAll, decides, has_parsed, ready_along, takes_none_along, unit_decides}
 pub use Rattle.addr2line_units.specs.RangedUnits.{IndexedUnit, RangedUnit, has_lines, indexed_of, ranged_units, unit_ranges_from, unit_records}
 pub use Rattle.addr2line_units.specs.StaysKnown.{IsReadyAt, StaysKnown, StaysKnownOf}

@@ -1,5 +1,5 @@
 -- What a context has and what its sections give (on specs/Context.antt).
-use Rattle.addr2line.proofs.Common.{◌≡◌, ℕ, zero, suc, ◌≤◌, ◌&&◌, ◌||◌, inl, inr, Bool, true, false, List, [], ◌∷◌, length, map, slice_get, Option, Some, None, option_map, Result, Ok, Err, refl, sym, ap, subst, ◌∙◌, arith, ◌+◌, IfErr, OnOk, Error, ◌>>=◌, Exactly, ExactlyUnlessOom, fault_of, result_map, WasNotRefused, Sections, UnitRecord, Scope, UnitRange, cover, cover_range, FindsNothing, main_scope, LocationResult, first_location, all_lines, is_found, lines_of_unit, location_in, location_of, looks_along, or_first_location, spans_along, spans_of, AreAllParsed, AreParsed, AsksFor, LeadTo, ParsesOnly, StaysParsed, decides, has_parsed, ready_along, takes_none_along, NothingKnown, IndexedUnit, RangedUnit, has_lines, indexed_of, ranged_units, unit_ranges_from, UnitIndex, index_units, sup_units, UnitsState, first_state, new_units, AfterLookup, AfterRangeLookup, ContextState, IsContext, IsReady, IsUncovered, IsReadyForRange, LocatesNoMemory, Stays, lines_of_all, new_context, seen_context}
+use Rattle.addr2line.proofs.Common.{◌≡◌, ℕ, zero, suc, ◌≤◌, ◌&&◌, ◌||◌, inl, inr, Bool, true, false, List, [], ◌∷◌, length, map, slice_get, Option, Some, None, option_map, Result, Ok, Err, refl, sym, ap, subst, ◌∙◌, arith, ◌+◌, IfErr, OnOk, Error, ◌>>=◌, Exactly, ExactlyUnlessOom, fault_of, result_map, WasNotRefused, Sections, UnitRecord, Scope, UnitRange, cover, cover_range, FindsNothing, main_scope, LocationResult, first_location, all_lines, is_found, lines_of_unit, location_in, location_of, steps_along, or_first_location, spans_along, spans_of, AreAllParsed, AreParsed, AsksFor, LeadTo, ParsesOnly, StaysParsed, decides, has_parsed, ready_along, takes_none_along, NothingKnown, IndexedUnit, RangedUnit, has_lines, indexed_of, ranged_units, unit_ranges_from, UnitIndex, index_units, sup_units, UnitsState, first_state, new_units, AfterLookup, AfterRangeLookup, ContextState, IsContext, IsReady, IsUncovered, IsReadyForRange, LocatesNoMemory, Stays, lines_of_all, new_context, seen_context}
 use Rattle.std.specs.Prelude.{is_ok}
 use Rattle.addr2line_lines.specs.Location.{LineTable, Location, location_at}
 use Rattle.addr2line_lines.specs.Rows.{read_all}
@@ -159,7 +159,7 @@ module _ (ranges : List UnitRange) (u : UnitsState) (i : IsContext ranges u) whe
       same = λ ready. same_if_asked asked u now a.lines (asked_ready d u.units u.parsed probe (cover probe ranges) (at_made (ready_by u.parsed) ready));
       raised = a.raised;
       counted = λ found. a.counted (k found);
-      cost = of_made (λ s xs rs. now.looks ≤ u.looks + looks_along s.file.sections xs (cover probe rs)) a.cost;
+      cost = of_made (λ s xs rs. now.steps ≤ u.steps + steps_along s.file.sections xs (cover probe rs)) a.cost;
     }
 
     -- where the lookup takes no memory, a refusal is the fault of lines
@@ -197,7 +197,7 @@ module _ (ranges : List UnitRange) (u : UnitsState) (i : IsContext ranges u) whe
     memory = λ ready. h (a.memory (parsed_none_along shares u.units now.parsed (cover_range low high ranges) (at_lines (LeadTo (cover_range low high ranges)) now a.lines (λ s xs rs. AreParsed now.parsed (cover_range low high rs)) ready)));
     only = of_made (λ s xs rs. ParsesOnly (LeadTo (cover_range low high rs)) u.parsed now.parsed) a.lines.only;
     same = λ ready. same_if_asked (LeadTo (cover_range low high ranges)) u now a.lines (led_ready u.parsed (cover_range low high ranges) (at_made (λ s xs rs. AreParsed u.parsed (cover_range low high rs)) ready));
-    looks = a.looks;
+    steps = a.steps;
   }
 
 -- whether lines can be read, of each unit and along ranges
@@ -259,7 +259,7 @@ err_is_not_ok e x k = cc
 -- a context that is made
 module _ (d : Sections) where
   abbrev state : List RangedUnit → ContextState
-  state units = record { sections = d; answers = map (λ _. None) units; parsed = map has_lines units; known = map (λ _. NothingKnown) units; looks = 0; stop = FindsNothing }
+  state units = record { sections = d; answers = map (λ _. None) units; parsed = map has_lines units; known = map (λ _. NothingKnown) units; steps = 0; stop = FindsNothing }
 
   abbrev made_of : List RangedUnit → List UnitRecord → UnitIndex
   made_of units sup = record { units = map indexed_of units; ranges = unit_ranges_from d 0 units; sup_units = sup }

@@ -44,7 +44,7 @@ module _ (ranges : List UnitRange) (u : UnitsState) (i : IsContext ranges u) whe
   stays_read now stays = record {
     sections = ap (λ (x : UnitsState). x.scope.file.sections) stays;
     parsed = ap (λ (x : UnitsState). x.parsed) stays;
-    looks = ap (λ (x : UnitsState). x.looks) stays;
+    steps = ap (λ (x : UnitsState). x.steps) stays;
   }
 
   pub after_load : (n : ℕ) (given : Option Sections) (r : Result (Unit {0}) Error) (now : UnitsState) → left.AfterLoad n given r u now → AfterLoading n given r (seen_context u) (seen_context now)

@@ -85,7 +85,7 @@ pub record HasSkipped (faults : OnFault) (probe : ℕ) (first now : ContextState
   pub shut : (n : ℕ) → IsNotOpen first n → IsNotOpen now n
   pub known : (n : ℕ) → IsNotOpen first n → StaysKnownOf n first.known now.known
   pub only : ReadsAsked faults probe first now
-  pub raised : first.looks ≤ now.looks
+  pub raised : first.steps ≤ now.steps
 
 module _ (faults : OnFault) (probe : ℕ) (first : ContextState) where
   pub skipped_none : HasSkipped faults probe first first
@@ -131,7 +131,7 @@ module _ (faults : OnFault) (probe : ℕ) (first : ContextState) where
       shut = λ k h. still_shut faults probe n now new waits None a.sections a.answers k (so.shut k h);
       known = λ k h. known_of_twice k first.known now.known new.known (so.known k h) (same_stays_known k now.known new.known (a.others k (not_this faults probe n now new waits k (so.shut k h))));
       only = reads_answered faults probe n first now new waits so.only None (Ok tt) a;
-      raised = subst (λ l. first.looks ≤ l) (sym a.looks) so.raised;
+      raised = subst (λ l. first.steps ≤ l) (sym a.steps) so.raised;
     }
 
     -- none could not be given
@@ -146,7 +146,7 @@ module _ (faults : OnFault) (probe : ℕ) (first : ContextState) where
       shut = λ k h. subst (λ d. Shut d new.answers k) (sym a.sections) (subst (λ x. Shut now.sections x k) (sym a.refused.1) (so.shut k h));
       known = λ k h. known_of_twice k first.known now.known new.known (so.known k h) (a.refused.2 k);
       only = reads_answered faults probe n first now new waits so.only None (Err e) a;
-      raised = subst (λ l. first.looks ≤ l) (sym a.looks) so.raised;
+      raised = subst (λ l. first.steps ≤ l) (sym a.steps) so.raised;
     }
 
     -- a lookup that has ended was given none for each load

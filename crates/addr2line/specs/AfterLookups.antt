@@ -15,7 +15,7 @@ units_in c m = record {
   answers = c.answers;
   parsed = c.parsed;
   known = c.known;
-  looks = c.looks;
+  steps = c.steps;
   stop = c.stop;
 }
 
@@ -92,7 +92,7 @@ pub record AfterFrames {X : Type 0} (faults : OnFault) (probe : ℕ) (result : R
   pub only : ParsesAsked faults probe old old new
   pub learns : LearnsAsked faults probe old old new
   pub details : LearnsDetails probe old old new
-  pub raised : old.looks ≤ new.looks
+  pub raised : old.steps ≤ new.steps
   pub ready : WasNotRefused result → IsKnown faults new probe
   pub memory : IsKnownFew faults new probe
       → is_waiting (lookup_stop faults old.sections old.answers probe) ≡ false

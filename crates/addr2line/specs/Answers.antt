@@ -27,7 +27,7 @@ pub record AfterAnswering (n : ℕ) (given : Option Sections) (result : Result (
     (old new : ContextState) : Type 0 where
   pub sections : new.sections ≡ old.sections
   pub parsed : new.parsed ≡ old.parsed
-  pub looks : new.looks ≡ old.looks
+  pub steps : new.steps ≡ old.steps
   pub answers : OnOk result (new.answers ≡ answered old.sections old.answers n given)
   pub refused : IfErr result (λ e. (e ≡ OutOfMemory) × (new.answers ≡ old.answers)
       × StaysKnown old.known new.known × (is_some given ≡ true))

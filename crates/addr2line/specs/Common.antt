@@ -16,7 +16,7 @@ pub use Rattle.addr2line_units.specs.FramesLeft.{frames_left}
 pub use Rattle.addr2line_units.specs.FramesLookup.{Finds, FindsNothing, LookupAsks, LookupStop, Waits, answer_of, asked_frames, asks_lines_of, frames_found, frames_of_number, function_offset_of, holds_along, inlined_at_number, is_waiting, main_scope, readable_view, stop_along, view_of_number, with_answer}
 pub use Rattle.addr2line_units.specs.KnownEntries.{KnownEntries, LearnsDetailsAt, LearnsNoDetails, LearnsNoFunctions, NothingKnown, knows_at}
 pub use Rattle.addr2line_units.specs.Loads.{NoneOpen, forget_result, forgotten, is_open_at, load_result, token_number}
-pub use Rattle.addr2line_units.specs.Located.{LocationResult, all_lines, is_found, location_of, looks_along, spans_of}
+pub use Rattle.addr2line_units.specs.Located.{LocationResult, all_lines, is_found, location_of, steps_along, spans_of}
 pub use Rattle.addr2line_units.specs.Parsed.{AllAskFor, AreAllParsed, AreParsed, AreReadyForAll, AsksFor, LeadTo, ParsesOnly, StaysParsed, TakeNone, TakeNoneForAll, ready_along, takes_none_along}
 pub use Rattle.addr2line_units.specs.RangedUnits.{IndexedUnit, has_lines, ranged_units, unit_records}
 pub use Rattle.addr2line_units.specs.StaysKnown.{IsReadBy, IsReadyAt, StaysKnown, StaysKnownOf}

@@ -7,7 +7,7 @@
 -- without a line program has its lines, which are none.
 -- Own: of a unit the first answer to its load counts: the sections of a split file, or none.
 use Rattle.std.specs.Prelude.{◌≡◌, ℕ, ◌+◌, ◌<◌, ◌≤◌, Bool, true, List, [], map, Option, None, IfErr, Result, Ok, Err}
-use Rattle.addr2line.specs.Common.{Error, ◌>>=◌, fault_of, WasNotRefused, Section, Sections, FindsNothing, LookupStop, main_scope, KnownEntries, NothingKnown, all_lines, is_found, location_of, looks_along, UnitIndex, index_units, sup_units, has_lines, ranged_units, AllAskFor, AreParsed, AreReadyForAll, AsksFor, LeadTo, ParsesOnly, StaysParsed, TakeNone, TakeNoneForAll, ready_along, takes_none_along, cover, cover_range, UnitsState, FirstAnswers}
+use Rattle.addr2line.specs.Common.{Error, ◌>>=◌, fault_of, WasNotRefused, Section, Sections, FindsNothing, LookupStop, main_scope, KnownEntries, NothingKnown, all_lines, is_found, location_of, steps_along, UnitIndex, index_units, sup_units, has_lines, ranged_units, AllAskFor, AreParsed, AreReadyForAll, AsksFor, LeadTo, ParsesOnly, StaysParsed, TakeNone, TakeNoneForAll, ready_along, takes_none_along, cover, cover_range, UnitsState, FirstAnswers}
 use Rattle.gimli.specs.declared.dwarf.DwarfFileType.TheVariants.{Main}
 use Rattle.addr2line_units.specs.declared.index.UnitRange.{UnitRange}
 
@@ -19,7 +19,7 @@ pub record ContextState : Type 0 where
   pub answers : FirstAnswers
   pub parsed : List Bool
   pub known : List KnownEntries
-  pub looks : ℕ
+  pub steps : ℕ
   pub stop : LookupStop
 
 -- the sections of a main file, each by itself, without a supplementary file
@@ -51,7 +51,7 @@ new_context d = do
     answers = map (λ _. None) units;
     parsed = map has_lines units;
     known = map (λ _. NothingKnown) units;
-    looks = 0;
+    steps = 0;
     stop = FindsNothing;
   })
 
@@ -96,9 +96,9 @@ ParsesToFault old new = (m : UnitIndex) → index_units old.sections ≡ Ok m
     → ParsesOnly (AllAskFor old.sections m.units) old.parsed new.parsed
 
 -- a lookup of the probe looks at lines at most as often as lookups in the units that cover it do
-abbrev pub LooksWithin : ℕ → ContextState → ContextState → Type 0
-LooksWithin probe old new = (m : UnitIndex) → index_units old.sections ≡ Ok m
-    → new.looks ≤ old.looks + looks_along old.sections m.units (cover probe m.ranges)
+abbrev pub StepsWithin : ℕ → ContextState → ContextState → Type 0
+StepsWithin probe old new = (m : UnitIndex) → index_units old.sections ≡ Ok m
+    → new.steps ≤ old.steps + steps_along old.sections m.units (cover probe m.ranges)
 
 -- the sections, the first answers and what is known of entries are the same, and what was parsed
 -- stays parsed
@@ -120,9 +120,9 @@ pub record AfterLookup {X : Type 0} (probe : ℕ) (result : Result (Option X) Er
       → ParsesOnly (AsksFor old.sections m.units probe (cover probe m.ranges)) old.parsed
       new.parsed
   pub same : IsReady old probe → new.parsed ≡ old.parsed
-  pub raised : old.looks ≤ new.looks
-  pub counted : is_found result ≡ true → old.looks < new.looks
-  pub cost : LooksWithin probe old new
+  pub raised : old.steps ≤ new.steps
+  pub counted : is_found result ≡ true → old.steps < new.steps
+  pub cost : StepsWithin probe old new
 
 -- the same over readers that share their bytes or don't: where the lookup takes no memory, a
 -- refusal is the fault of lines
@@ -143,7 +143,7 @@ pub record AfterRangeLookup {X : Type 0} (low high : ℕ) (result : Result X Err
   pub only : (m : UnitIndex) → index_units old.sections ≡ Ok m
       → ParsesOnly (LeadTo (cover_range low high m.ranges)) old.parsed new.parsed
   pub same : IsReadyForRange old low high → new.parsed ≡ old.parsed
-  pub looks : new.looks ≡ old.looks
+  pub steps : new.steps ≡ old.steps
 
 -- whether the lines of all units can be read, or the first fault
 abbrev pub lines_of_all : Sections → Result (Unit {0}) Error
@@ -156,7 +156,7 @@ seen_context u = record {
   answers = u.answers;
   parsed = u.parsed;
   known = u.known;
-  looks = u.looks;
+  steps = u.steps;
   stop = u.stop;
 }
 

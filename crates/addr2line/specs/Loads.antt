@@ -44,7 +44,7 @@ NoneOpenAt c probe = (m : UnitIndex) → index_units c.sections ≡ Ok m
 pub record StaysRead (old new : ContextState) : Type 0 where
   pub sections : new.sections ≡ old.sections
   pub parsed : new.parsed ≡ old.parsed
-  pub looks : new.looks ≡ old.looks
+  pub steps : new.steps ≡ old.steps
 
 -- after an answer to the load of the unit of a number nothing is changed but of that unit, of which
 -- what was known stays unless it was open, and nothing is changed where it had an answer; no

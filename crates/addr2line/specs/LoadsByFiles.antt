@@ -53,7 +53,7 @@ pub record AfterAnswers (files : Option ReadFiles) (old new : ContextState) : Ty
   pub parsed : StaysParsed old.parsed new.parsed
   pub known : (n : ℕ) → answer_of new.answers n ≡ answer_of old.answers n
       → StaysKnownOf n old.known new.known
-  pub raised : old.looks ≤ new.looks
+  pub raised : old.steps ≤ new.steps
 
 -- a lookup of the probe was given answers in turn, each for the unit that it waited for by then; no
 -- other unit was answered

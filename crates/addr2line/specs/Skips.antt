@@ -32,7 +32,7 @@ pub record AfterSkip {X : Type 0} (shares : Bool) (faults : OnFault) (probe : �
   pub parsed : StaysParsed old.parsed new.parsed
   pub known : (n : ℕ) → IsNotOpen old n → StaysKnownOf n old.known new.known
   pub only : ReadsAsked faults probe old new
-  pub raised : old.looks ≤ new.looks
+  pub raised : old.steps ≤ new.steps
   pub ready : WasNotRefused result → IsKnown faults new probe
   pub memory : IsKnownFew faults new probe → WasNotRefused result
   pub no_memory : NeedsNoMemory shares faults new probe

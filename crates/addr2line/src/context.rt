@@ -200,7 +200,7 @@ impl<R: Reader> Context<R> {
         ensures exact { ParsesNoMemory R.shares self.old
             → Exactly (λ x. x) result (lines_of_all self.old.sections) }
         ensures after { Stays self.old self.new }
-        ensures looks { self.new.looks ≡ self.old.looks }
+        ensures steps { self.new.steps ≡ self.old.steps }
         ensures whole { WasNotRefused result → IsReadyForAll self.new }
         ensures memory { ParsesNoMemory R.shares self.new → WasNotRefused result }
         ensures within { ParsesToFault self.old self.new }

@@ -46,10 +46,10 @@ came_status missing fits (Ok None) = refl
 came_status missing fits (Err e) = refl
 
 -- a lookup has left the same context whatever it found
-looked_alike : {X Y : Type 0} (probe : ℕ) (r : Result (Option X) Error) (q : Result (Option Y) Error)
+checked_alike : {X Y : Type 0} (probe : ℕ) (r : Result (Option X) Error) (q : Result (Option Y) Error)
     (old new : ContextState) → (WasNotRefused q → WasNotRefused r) → (WasNotRefused r → WasNotRefused q)
     → is_found q ≡ is_found r → AfterLookup probe r old new → AfterLookup probe q old new
-looked_alike probe r q old new to from found a = record {
+checked_alike probe r q old new to from found a = record {
   stays = a.stays;
   ready = λ had. a.ready (to had);
   memory = λ ready. from (a.memory ready);
@@ -60,11 +60,11 @@ looked_alike probe r q old new to from found a = record {
   cost = a.cost;
 }
 
-looked_came : {X : Type 0} (probe : ℕ) (r : Result (Option X) Error) (old new : ContextState)
+checked_came : {X : Type 0} (probe : ℕ) (r : Result (Option X) Error) (old new : ContextState)
     → AfterLookup probe r old new → AfterLookup probe (came_to r) old new
-looked_came probe (Ok (Some x)) old new a = looked_alike probe (Ok (Some x)) (Ok (Some tt)) old new (λ h. h) (λ h. h) refl a
-looked_came {X} probe (Ok None) old new a = looked_alike {X = X} probe (Ok None) (Ok None) old new (λ h. h) (λ h. h) refl a
-looked_came {X} probe (Err e) old new a = looked_alike {X = X} probe (Err e) (Err e) old new (λ h. h) (λ h. h) refl a
+checked_came probe (Ok (Some x)) old new a = checked_alike probe (Ok (Some x)) (Ok (Some tt)) old new (λ h. h) (λ h. h) refl a
+checked_came {X} probe (Ok None) old new a = checked_alike {X = X} probe (Ok None) (Ok None) old new (λ h. h) (λ h. h) refl a
+checked_came {X} probe (Err e) old new a = checked_alike {X = X} probe (Err e) (Err e) old new (λ h. h) (λ h. h) refl a
 
 pub leaves_location : {X : Type 0} (probe : ℕ) (fits : Bool) (s : Status) (r : Result (Option X) Error)
     (old new : ContextState) → s ≡ status_by Nothing fits r → AfterLookup probe r old new
@@ -72,7 +72,7 @@ pub leaves_location : {X : Type 0} (probe : ℕ) (fits : Bool) (s : Status) (r :
 leaves_location probe fits s r old new is a = record {
   came = came_to r;
   status = is ∙ came_status Nothing fits r;
-  after = looked_came probe r old new a;
+  after = checked_came probe r old new a;
 }
 
 -- where it was ready, it had memory
@@ -93,7 +93,7 @@ range_came low high (Ok x) old new a = record {
   memory = a.memory;
   only = a.only;
   same = a.same;
-  looks = a.looks;
+  steps = a.steps;
 }
 range_came low high (Err e) old new a = record {
   stays = a.stays;
@@ -101,7 +101,7 @@ range_came low high (Err e) old new a = record {
   memory = a.memory;
   only = a.only;
   same = a.same;
-  looks = a.looks;
+  steps = a.steps;
 }
 
 pub leaves_range : {X : Type 0} (low high : ℕ) (fits : Bool) (s : Status) (r : Result X Error)

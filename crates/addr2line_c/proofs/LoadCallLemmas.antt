@@ -28,7 +28,7 @@ found_status false b (Some d) is = refl
 pub no_answer : (n : ℕ) (given : Option Sections) (c : ContextState)
     → AfterLoading n given (Err reading.OutOfMemory) c c
 no_answer n given c = record {
-  stays = record { sections = refl; parsed = refl; looks = refl };
+  stays = record { sections = refl; parsed = refl; steps = refl };
   answers = λ had. absurd (had refl);
   begun = inl refl;
   refused = λ ne. (refl, λ k. same_stays_known k c.known c.known refl);

@@ -1,7 +1,7 @@
 -- Packed rows as a table that is searched (on specs/Packed.antt).
 use Rattle.addr2line_lines.proofs.Common.{ℕ, ◌≡◌, ◌<◌, ◌^◌, List, map, length, ◌∙◌, ap, sym, subst, AllByRecursion, length-map, Row, LineSequence, begins_sooner, in_order, start_of, end_of, IsAmong, IsTable, packed_rows_in, packed_start, packed_end, packed_sooner, unpacked}
 use Rattle.std.specs.Option.{option_and_then}
-use Rattle.addr2line_lines.specs.Counts.{most_looks, rows_in}
+use Rattle.addr2line_lines.specs.Counts.{most_steps, rows_in}
 use Rattle.addr2line_lines.specs.Spans.{row_at, row_in}
 use Rattle.addr2line_lines.proofs.OrderLemmas.{begins_order, in_order_all, in_order_ordered}
 use Rattle.addr2line_lines.proofs.OrderPick.{pick_in_order}
@@ -22,11 +22,11 @@ module _ (rows : List Row) (listed sequences : List LineSequence) (sorted : sequ
   ordered_are = ap (map (unpacked rows)) sorted ∙ in_order-map rows listed
 
   -- the looks of a search are those of the listed sequences
-  pub looks_are : length rows ≡ packed_rows_in listed → AllByRecursion (IsAmong rows) listed
-      → most_looks (length sequences) (length rows) ≡ most_looks (length (map (unpacked rows) listed)) (rows_in (map (unpacked rows) listed))
-  looks_are all among =
-      ap (λ n. most_looks n (length rows)) (ap length sorted ∙ in_order-length listed ∙ sym (length-map listed (unpacked rows)))
-      ∙ ap (most_looks (length (map (unpacked rows) listed))) (all ∙ sym (rows_in_is rows listed (all_end rows listed among)))
+  pub steps_are : length rows ≡ packed_rows_in listed → AllByRecursion (IsAmong rows) listed
+      → most_steps (length sequences) (length rows) ≡ most_steps (length (map (unpacked rows) listed)) (rows_in (map (unpacked rows) listed))
+  steps_are all among =
+      ap (λ n. most_steps n (length rows)) (ap length sorted ∙ in_order-length listed ∙ sym (length-map listed (unpacked rows)))
+      ∙ ap (most_steps (length (map (unpacked rows) listed))) (all ∙ sym (rows_in_is rows listed (all_end rows listed among)))
 
   -- the row of the sequences as they are searched is that of the listed ones
   pub row_at_listed : (probe : ℕ) → row_at probe (map (unpacked rows) sequences) ≡ row_at probe (map (unpacked rows) listed)

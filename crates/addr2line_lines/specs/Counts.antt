@@ -1,5 +1,5 @@
--- How often a lookup looks at the lines of a unit.
--- Own: a look is one at a sequence, at the first address of a block of 64 rows, or at a row.
+-- How many steps a lookup takes in the lines of a unit.
+-- Own: a step is a look at a sequence, at the first address of a block of 64 rows, or at a row.
 use Rattle.std.specs.Prelude.{ℕ, ◌+◌, ◌-◌, ◌/◌, List, length, sum_by}
 use Rattle.addr2line_lines.specs.Digits.{digits}
 use Rattle.addr2line_lines.specs.Sequences.{Sequence}
@@ -17,10 +17,10 @@ blocks rows = (rows + (block_rows - 1)) / block_rows
 abbrev pub rows_in : List Sequence → ℕ
 rows_in sequences = sum_by (λ (s : Sequence). length s.rows) sequences
 
--- the most looks of a search among so many sequences and rows
-abbrev pub most_looks : ℕ → ℕ → ℕ
-most_looks sequences rows = digits sequences + digits (blocks rows) + block_rows
+-- the most steps of a search among so many sequences and rows
+abbrev pub most_steps : ℕ → ℕ → ℕ
+most_steps sequences rows = digits sequences + digits (blocks rows) + block_rows
 
--- the most looks of a lookup
-abbrev pub most_looks_in : LineTable → ℕ
-most_looks_in table = most_looks (length table.sequences) (rows_in table.sequences)
+-- the most steps of a lookup
+abbrev pub most_steps_in : LineTable → ℕ
+most_steps_in table = most_steps (length table.sequences) (rows_in table.sequences)

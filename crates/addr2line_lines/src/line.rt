@@ -5,7 +5,7 @@ ghost use Rattle.std.specs.Option.{option_copied};
 ghost use Rattle.std.specs.List.{AllByRecursion};
 ghost use Rattle.std.specs.String.{string_bytes};
 ghost use Rattle.addr2line_lines.specs.Packed.{IsAmong, packed_rows_in, unpacked};
-ghost use Rattle.addr2line_lines.specs.Counts.{most_looks_in};
+ghost use Rattle.addr2line_lines.specs.Counts.{most_steps_in};
 ghost use Rattle.addr2line_lines.specs.RangeLocations.{locations_in_range, sequence_ranges};
 ghost use Rattle.addr2line_lines.specs.RangesLeft.{located_rows_left};
 ghost use Rattle.addr2line_lines.specs.Common.{ExactlyUnlessOomIf, IsUnlessOom, header_copy_takes_memory};
@@ -15,7 +15,7 @@ ghost use Rattle.addr2line_lines.specs.Location.{location_at, location_of_row};
 ghost use Rattle.addr2line_lines.specs.SeenLocation.{seen_location};
 ghost use Rattle.addr2line_lines.specs.Spans.{row_at};
 
-mod looks;
+mod steps;
 
 use crate::count::Count;
 use crate::files::read_file_texts;
@@ -130,22 +130,22 @@ impl Lines {
 
     /// The row of an address, `None` where no sequence has it. Takes no memory.
     ///
-    /// `probe` and `looks` are those of `find_location_counted`.
+    /// `probe` and `steps` are those of `find_location_counted`.
     ///
     /// Source: DWARF 5, section 6.2.2. Own: which of several sequences counts.
-    pub fn find_row(&self, looks: &mut Count, probe: u64) -> Option<Row>
+    pub fn find_row(&self, steps: &mut Count, probe: u64) -> Option<Row>
         ensures found { result ≡ row_at probe self.now.sequences }
-        ensures bound { looks.new ≤ looks.old + most_looks_in self.now }
-        ensures looks { looks.old ≤ looks.new }
-        ensures some { IfSome result (λ row. looks.old < looks.new) }
+        ensures bound { steps.new ≤ steps.old + most_steps_in self.now }
+        ensures steps { steps.old ≤ steps.new }
+        ensures some { IfSome result (λ row. steps.old < steps.new) }
     {
         self.packed.known();
         let mut rows = CountedRows {
             packed: &self.packed,
-            looks: mem::replace(looks, Count::new()),
+            steps: mem::replace(steps, Count::new()),
         };
         let row = search(&mut rows, probe);
-        *looks = rows.looks;
+        *steps = rows.steps;
         row
     }
 
@@ -172,17 +172,17 @@ impl Lines {
 
     /// The same, and how often it looked at the lines. Takes no memory.
     ///
-    /// `looks` is raised by one with each look at a sequence, at the first address of a block of 64
+    /// `steps` is raised by one with each look at a sequence, at the first address of a block of 64
     /// rows, and at a row: together at most by the number of binary digits of the number of
     /// sequences, that of the number of blocks, and 64, and by one at least where there is a
     /// location.
-    pub fn find_location_counted(&self, looks: &mut Count, probe: u64) -> Option<Location<'_>>
+    pub fn find_location_counted(&self, steps: &mut Count, probe: u64) -> Option<Location<'_>>
         ensures found { option_map seen_location result ≡ location_at probe self.now }
-        ensures bound { looks.new ≤ looks.old + most_looks_in self.now }
-        ensures looks { looks.old ≤ looks.new }
-        ensures some { IfSome result (λ location. looks.old < looks.new) }
+        ensures bound { steps.new ≤ steps.old + most_steps_in self.now }
+        ensures steps { steps.old ≤ steps.new }
+        ensures some { IfSome result (λ location. steps.old < steps.new) }
     {
-        Some(self.location(self.find_row(looks, probe)?))
+        Some(self.location(self.find_row(steps, probe)?))
     }
 
     /// The rows of a unit's range whose spans meet the addresses from `low` up to `high`, each with

@@ -143,11 +143,11 @@ pub(crate) struct CountedRows<'a> {
     /// What is searched.
     pub packed: &'a PackedRows,
     /// How often it was looked at.
-    pub looks: Count,
+    pub steps: Count,
 }
 
 impl<'a> Table for CountedRows<'a> {
-    ghost looks = { λ l. l.looks };
+    ghost steps = { λ l. l.steps };
 
     ghost sequences = { λ l. l.packed.now.sequences };
 
@@ -159,19 +159,19 @@ impl<'a> Table for CountedRows<'a> {
     }
 
     fn sequence(&mut self, place: usize) -> LineSequence {
-        self.looks.tick();
+        self.steps.tick();
         let packed = self.packed;
         packed.sequences[place]
     }
 
     fn block(&mut self, place: usize) -> u64 {
-        self.looks.tick();
+        self.steps.tick();
         let packed = self.packed;
         packed.coarse[place]
     }
 
     fn row(&mut self, place: usize) -> Row {
-        self.looks.tick();
+        self.steps.tick();
         let packed = self.packed;
         packed.rows.row(place)
     }

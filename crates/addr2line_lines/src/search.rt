@@ -5,7 +5,7 @@ ghost use Rattle.addr2line_lines.specs.Common.{last};
 ghost use Rattle.addr2line_lines.specs.Digits.{digits};
 ghost use Rattle.addr2line_lines.specs.InOrder.{IsInOrder};
 ghost use Rattle.addr2line_lines.specs.Packed.{ArePastFrom, IsAmong, IsTable, row_address_at, packed_sooner, packed_start, unpacked};
-ghost use Rattle.addr2line_lines.specs.Counts.{block_rows, blocks, most_looks};
+ghost use Rattle.addr2line_lines.specs.Counts.{block_rows, blocks, most_steps};
 ghost use Rattle.addr2line_lines.specs.Pick.{at_or_below};
 ghost use Rattle.addr2line_lines.specs.Spans.{row_address, row_at};
 ghost use Rattle.addr2line_lines.specs.declared.row.Row.{Row as TableRow};
@@ -20,7 +20,7 @@ pub(crate) const BLOCK_ROWS: usize = 64;
 /// Sequences and rows that are looked at one by one; each look counts.
 pub(crate) trait Table {
     /// How often it was looked at.
-    ghost looks: { Self → ℕ };
+    ghost steps: { Self → ℕ };
 
     ghost sequences: { Self → List TableSequence };
 
@@ -34,7 +34,7 @@ pub(crate) trait Table {
     fn sequence(&mut self, place: usize) -> LineSequence
         requires there { place < length (sequences self.old) }
         ensures gives { slice_get (sequences self.old) place ≡ Some result }
-        ensures looks { looks self.new ≡ looks self.old + 1 }
+        ensures steps { steps self.new ≡ steps self.old + 1 }
         ensures sequences { sequences self.new ≡ sequences self.old }
         ensures rows { rows self.new ≡ rows self.old };
 
@@ -42,7 +42,7 @@ pub(crate) trait Table {
     fn block(&mut self, place: usize) -> u64
         requires there { block_rows * place < length (rows self.old) }
         ensures gives { result ≡ row_address_at (rows self.old) (block_rows * place) }
-        ensures looks { looks self.new ≡ looks self.old + 1 }
+        ensures steps { steps self.new ≡ steps self.old + 1 }
         ensures sequences { sequences self.new ≡ sequences self.old }
         ensures rows { rows self.new ≡ rows self.old };
 
@@ -50,7 +50,7 @@ pub(crate) trait Table {
     fn row(&mut self, place: usize) -> Row
         requires there { place < length (rows self.old) }
         ensures gives { slice_get (rows self.old) place ≡ Some result }
-        ensures looks { looks self.new ≡ looks self.old + 1 }
+        ensures steps { steps self.new ≡ steps self.old + 1 }
         ensures sequences { sequences self.new ≡ sequences self.old }
         ensures rows { rows self.new ≡ rows self.old };
 }
@@ -59,9 +59,9 @@ pub(crate) trait Table {
 fn last_sequence<T: Table>(table: &mut T, probe: u64) -> Option<LineSequence>
     requires ordered { IsInOrder packed_sooner (T.sequences table.old) }
     ensures found { result ≡ last (at_or_below packed_start probe (T.sequences table.old)) }
-    ensures bound { T.looks table.new
-        ≤ T.looks table.old + digits (length (T.sequences table.old)) }
-    ensures looks { T.looks table.old ≤ T.looks table.new }
+    ensures bound { T.steps table.new
+        ≤ T.steps table.old + digits (length (T.sequences table.old)) }
+    ensures steps { T.steps table.old ≤ T.steps table.new }
     ensures sequences { T.sequences table.new ≡ T.sequences table.old }
     ensures rows { T.rows table.new ≡ T.rows table.old }
 {
@@ -91,9 +91,9 @@ fn first_row<T: Table>(table: &mut T, sequence: LineSequence, probe: u64) -> usi
     ensures found { row_address_at (T.rows table.old) result ≤ probe }
     ensures none { ArePastFrom probe (T.rows table.old) sequence
         (result - result % block_rows + block_rows) }
-    ensures bound { T.looks table.new
-        ≤ T.looks table.old + digits (blocks (length (T.rows table.old))) }
-    ensures looks { T.looks table.old ≤ T.looks table.new }
+    ensures bound { T.steps table.new
+        ≤ T.steps table.old + digits (blocks (length (T.rows table.old))) }
+    ensures steps { T.steps table.old ≤ T.steps table.new }
     ensures sequences { T.sequences table.new ≡ T.sequences table.old }
     ensures rows { T.rows table.new ≡ T.rows table.old }
 {
@@ -123,8 +123,8 @@ fn last_row<T: Table>(table: &mut T, sequence: LineSequence, from: usize, probe:
         (from - from % block_rows + block_rows) }
     ensures found { Some result ≡
         last (at_or_below row_address probe (unpacked (T.rows table.old) sequence).rows) }
-    ensures bound { T.looks table.new ≤ T.looks table.old + block_rows }
-    ensures looks { T.looks table.old < T.looks table.new }
+    ensures bound { T.steps table.new ≤ T.steps table.old + block_rows }
+    ensures steps { T.steps table.old < T.steps table.new }
     ensures sequences { T.sequences table.new ≡ T.sequences table.old }
     ensures rows { T.rows table.new ≡ T.rows table.old }
 {
@@ -143,10 +143,10 @@ pub(crate) fn search<T: Table>(table: &mut T, probe: u64) -> Option<Row>
     requires table { IsTable (T.sequences table.old) (T.rows table.old) }
     ensures found { result ≡
         row_at probe (map (unpacked (T.rows table.old)) (T.sequences table.old)) }
-    ensures bound { T.looks table.new ≤ T.looks table.old
-        + most_looks (length (T.sequences table.old)) (length (T.rows table.old)) }
-    ensures looks { T.looks table.old ≤ T.looks table.new }
-    ensures some { IfSome result (λ row. T.looks table.old < T.looks table.new) }
+    ensures bound { T.steps table.new ≤ T.steps table.old
+        + most_steps (length (T.sequences table.old)) (length (T.rows table.old)) }
+    ensures steps { T.steps table.old ≤ T.steps table.new }
+    ensures some { IfSome result (λ row. T.steps table.old < T.steps table.new) }
     ensures sequences { T.sequences table.new ≡ T.sequences table.old }
     ensures rows { T.rows table.new ≡ T.rows table.old }
 {

@@ -5,10 +5,10 @@ use Rattle.addr2line_units.specs.declared.entries.LazyFunctions.TheVariants as l
 use Rattle.addr2line_units.specs.declared.parses.ReadingDepth.TheVariants as depths
 use Rattle.addr2line_units.specs.AfterParses.{AfterReadingFunctions, AfterReadingOf, AfterReadingUnit, AfterReadingView, IsDecidedAndReady}
 use Rattle.addr2line_units.specs.StaysKnown.{IsReadBy}
-use Rattle.addr2line_units.proofs.AnswerLemmas.{decided_if_not, looked_waits}
+use Rattle.addr2line_units.proofs.AnswerLemmas.{decided_if_not, checked_waits}
 use Rattle.addr2line_units.proofs.AskMemoryLemmas.{exactly_if_none, reading_takes_none}
 use Rattle.addr2line_units.proofs.CachedParseLemmas.{alone_fault, alone_read, cached_stay, details_cached, details_read, entries_then, view_read}
-use Rattle.addr2line_units.proofs.EntryLemmas.{IsView, functions_keep, functions_stay, functions_take_in, not_open, looked_decides}
+use Rattle.addr2line_units.proofs.EntryLemmas.{IsView, functions_keep, functions_stay, functions_take_in, not_open, checked_decides}
 use Rattle.addr2line_units.proofs.LearnedLemmas.{cache_reads_none, functions_learn_none}
 use Rattle.addr2line_units.proofs.ReadByLemmas.{never_fault, read_decided, read_were_read}
 use Rattle.addr2line_units.proofs.ReadyLemmas.{fault_by_view, functions_by_view, known_not_oom, ready_fault, ready_were_read}
@@ -177,8 +177,8 @@ module _ {R : Type 0} (shares : Bool) (depth : ReadingDepth) (scope : Scope) (u 
   -- of what was known of a unit that wasn't open
   was_decided : IsDecidedAndReady depth (is_open d u (first_answer_of old)) (known_by old.view.state old.functions) → is_decided old.view.state ≡ true
   was_decided k =
-      let looked = whole_was_checked depth old.view.state old.functions k.1 in
-      looked_decides old.view.state looked (looked_waits d u old.view before.view looked ∙ k.0)
+      let checked = whole_was_checked depth old.view.state old.functions k.1 in
+      checked_decides old.view.state checked (checked_waits d u old.view before.view checked ∙ k.0)
 
   still_ready : IsDecidedAndReady depth (is_open d u (first_answer_of old)) (known_by old.view.state old.functions) → IsDecidedAndReady depth false (known_by mid.view.state mid.functions)
   still_ready k = (refl, subst (λ (v : UnitEntries R). IsReadyFor depth (known_by v.view.state v.functions)) (sym (same (was_decided k))) k.1)

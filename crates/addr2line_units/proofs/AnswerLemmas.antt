@@ -40,8 +40,8 @@ no_answer None e = refl
 no_answer (Some x) e = absurd cc
 
 -- what was looked at waits where the unit is open
-pub looked_waits : {R : Type 0} (d : Sections) (u : UnitRecord) (v : UnitView R) → IsViewOf d u v → was_checked v.state ≡ true → waits v.state ≡ is_open d u (seen_first_answer v)
-looked_waits {R} d u v h k = by v.state (verdict d u (seen_first_answer v)) h.right k
+pub checked_waits : {R : Type 0} (d : Sections) (u : UnitRecord) (v : UnitView R) → IsViewOf d u v → was_checked v.state ≡ true → waits v.state ≡ is_open d u (seen_first_answer v)
+checked_waits {R} d u v h k = by v.state (verdict d u (seen_first_answer v)) h.right k
   where
     by : (s : ViewState R) (w : Option (Result View Error)) → IfSome (verdict_in d u s) (λ cached. cached ≡ w) → was_checked s ≡ true → waits s ≡ is_none w
     by states.Undecided w e l = absurd cc
@@ -72,9 +72,9 @@ decided_waits_not (states.Unnamed x) e = refl
 decided_waits_not (states.Answered a) e = refl
 
 -- whether the unit is open, by what waits after it was looked at
-pub open_by_look : {R : Type 0} (d : Sections) (u : UnitRecord) (v w : UnitView R) (b : Bool) → IsViewOf d u w → was_checked w.state ≡ true → seen_first_answer w ≡ seen_first_answer v → b ≡ waits w.state
+pub open_by_check : {R : Type 0} (d : Sections) (u : UnitRecord) (v w : UnitView R) (b : Bool) → IsViewOf d u w → was_checked w.state ≡ true → seen_first_answer w ≡ seen_first_answer v → b ≡ waits w.state
     → is_open d u (seen_first_answer v) ≡ b
-open_by_look d u v w b h l same e = ap (λ a. is_open d u a) (sym same) ∙ sym (looked_waits d u w h l) ∙ sym e
+open_by_check d u v w b h l same e = ap (λ a. is_open d u a) (sym same) ∙ sym (checked_waits d u w h l) ∙ sym e
 
 -- what was decided before a check of the split file doesn't wait after it
 pub never_waits : {R : Type 0} (v w : UnitEntries R) (b : Bool) → is_decided v.view.state ≡ true → (was_checked v.view.state ≡ true → w ≡ v) → b ≡ waits w.view.state → b ≡ true → ⊥

@@ -28,7 +28,7 @@ holds_alone h x e = by (ends_lookup x) h e
     by false true e = refl
     by b false e = cc
 
-module _ {R : Type 0} {scope : Scope} {cs : List (UnitCache R)} {last : FramesStop} (i : AreUnits scope cs last) (probe n : ℕ) (looks : ℕ) (was : LookupStop) where
+module _ {R : Type 0} {scope : Scope} {cs : List (UnitCache R)} {last : FramesStop} (i : AreUnits scope cs last) (probe n : ℕ) (steps : ℕ) (was : LookupStop) where
   abbrev us : List UnitRecord
   us = scope.file.units
 
@@ -36,7 +36,7 @@ module _ {R : Type 0} {scope : Scope} {cs : List (UnitCache R)} {last : FramesSt
   d = scope.file.sections
 
   abbrev old : UnitsState
-  old = seen_units scope cs looks was
+  old = seen_units scope cs steps was
 
   -- there is no unit of that number
   module _ (none : slice_get us n ≡ None) where
@@ -49,7 +49,7 @@ module _ {R : Type 0} {scope : Scope} {cs : List (UnitCache R)} {last : FramesSt
     pub none_gives : (faults : OnFault) → stop_at faults probe old n ≡ Ok FindsNothing
     none_gives faults = of_faults faults _ (nothing_at scope probe us cs n past)
 
-    pub none_after : AfterAsk {X = Unit {0}} n probe (Ok tt) old (seen_units scope cs looks FindsNothing)
+    pub none_after : AfterAsk {X = Unit {0}} n probe (Ok tt) old (seen_units scope cs steps FindsNothing)
     none_after = record {
       asked = record { scope = refl; units = refl; answers = refl; parsed = λ m e. e; known = λ m. record { at = λ p e. e; whole = λ k h. h }; only = λ m e. inl e; learns = λ m. inl refl; details = λ m o e. inl e; raised = omega arith };
       ready = λ h. ap (λ b. b && (not (asks_lines_of scope (indexed_units us cs) (answers_in cs) probe n) || has_parsed (parsed_units cs) n)) (known_is probe cs n) ∙ none_known scope probe us cs n past;
@@ -135,7 +135,7 @@ module _ {R : Type 0} {scope : Scope} {cs : List (UnitCache R)} {last : FramesSt
                 (sym units_same) (sym answers_same) (stop_right ok f e) (asked_ok f e)
                 (λ _. holds_alone (has_frames_at asks probe now_cs n) (asked_by faults probe old n) (known_there (oom_before faults result (subst WasNotRefused (sym e) tt))))
 
-            module _ (now : ℕ) (raised : looks ≤ now) (stop : LookupStop) where
+            module _ (now : ℕ) (raised : steps ≤ now) (stop : LookupStop) where
               abbrev new : UnitsState
               new = seen_units scope now_cs now stop
 

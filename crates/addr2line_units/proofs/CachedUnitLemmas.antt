@@ -103,15 +103,15 @@ module _ {R : Type 0} where
   entries_more_by probe (states.Unnamed x) f g a e = e
   entries_more_by probe (states.Answered x) f g a e = answered_more probe x.unit f g a e
 
-  looked_by : (probe : ℕ) (s : ViewState R) (f : LazyFunctions R) → has_entries_by probe s f ≡ true → was_checked s ≡ true
-  looked_by probe states.Undecided f e = e
-  looked_by probe states.Open f e = refl
-  looked_by probe states.Main f e = refl
-  looked_by probe (states.Unnamed x) f e = refl
-  looked_by probe (states.Answered x) f e = refl
+  checked_by : (probe : ℕ) (s : ViewState R) (f : LazyFunctions R) → has_entries_by probe s f ≡ true → was_checked s ≡ true
+  checked_by probe states.Undecided f e = e
+  checked_by probe states.Open f e = refl
+  checked_by probe states.Main f e = refl
+  checked_by probe (states.Unnamed x) f e = refl
+  checked_by probe (states.Answered x) f e = refl
 
   pub entries_more : (probe : ℕ) (v w : UnitEntries R) → StayEntries v w → has_entries probe v ≡ true → has_entries probe w ≡ true
-  entries_more probe v w a e = ap (λ y. has_entries_by probe y.state w.functions) (a.view (looked_by probe v.view.state v.functions e)) ∙ entries_more_by probe v.view.state v.functions w.functions a.functions e
+  entries_more probe v w a e = ap (λ y. has_entries_by probe y.state w.functions) (a.view (checked_by probe v.view.state v.functions e)) ∙ entries_more_by probe v.view.state v.functions w.functions a.functions e
 
   pub entries_more_at : (probe : ℕ) (vs ws : List (UnitCache R)) → StayAllEntries vs ws → (n : ℕ) → has_entries_at probe vs n ≡ true → has_entries_at probe ws n ≡ true
   entries_more_at probe [] [] a n e = refl

@@ -63,7 +63,7 @@ pub use Rattle.addr2line_units.specs.KnownEntries.{AllKnown, FunctionsKnown, Has
 pub use Rattle.addr2line_units.specs.LegacyText.{after_first, ascii_front, elements_by, elements_within, escape_text, joint_text, numbered_char, plain_from, shown_char, without_hash, without_llvm}
 unfoldable pub use Rattle.addr2line_units.specs.LegacyText.{demangled, element_at, element_text, elements_at, elements_text, escape_char, escape_in, legacy_text, spelled_text, suffix_at, without_prefix}
 pub use Rattle.addr2line_units.specs.Loads.{NoneOpen, before_others, forget_result, forgotten, is_of_other, is_open_at, load_of_number, load_result, loads_along, unit_of_token, view_fault}
-pub use Rattle.addr2line_units.specs.Located.{LocationResult, all_lines, all_read, first_location, is_found, lines_of_unit, location_in, location_of, looks_along, looks_in, or_first_location, spans_along, spans_in, spans_of, spans_or_fault}
+pub use Rattle.addr2line_units.specs.Located.{LocationResult, all_lines, all_read, first_location, is_found, lines_of_unit, location_in, location_of, steps_along, steps_in, or_first_location, spans_along, spans_in, spans_of, spans_or_fault}
 pub use Rattle.addr2line_units.specs.Parsed.{AllAskFor, AreAllParsed, AreParsed, AreReadyForAll, AsksFor, LeadTo, ParsesOnly, StaysParsed, TakeNone, TakeNoneForAll, can_be_read, decides, has_parsed, parses_no_memory, ready_along, takes_none_along, unit_decides}
 pub use Rattle.addr2line_units.specs.RangedUnits.{IndexedUnit, RangedUnit, has_lines, indexed_of, is_partial, is_type_unit, listed_unit_ranges, or_attribute_ranges, range_of_unit, ranged_unit, ranged_units, unit_ranges, unit_ranges_from, unit_records, unless_faulty}
 unfoldable pub use Rattle.addr2line_units.specs.RangedUnits.{listed_in_unit, unit_of_header}

@@ -93,18 +93,18 @@ module _ {R : Type 0} (scope : Scope) (u : UnitRecord) (c : UnitCache R) (none :
     frames_none = (lines_frames scope (indexed_unit u c.lines) (first_answer_of c.entries) probe closed None function_none lines.Absent None lines_none refl
         (ap (λ r. r >>= λ table. Ok (location_at probe table)) lines_none)).1
 
-module _ {R : Type 0} {scope : Scope} {cs : List (UnitCache R)} {last : FramesStop} (i : AreUnits scope cs last) (n looks : ℕ) (was : LookupStop) {c : UnitCache R} (within : n < length cs) (at : c ≡ get_or cs n c) (none : has_nothing c ≡ true) where
+module _ {R : Type 0} {scope : Scope} {cs : List (UnitCache R)} {last : FramesStop} (i : AreUnits scope cs last) (n steps : ℕ) (was : LookupStop) {c : UnitCache R} (within : n < length cs) (at : c ≡ get_or cs n c) (none : has_nothing c ≡ true) where
   abbrev us : List UnitRecord
   us = scope.file.units
 
   -- the unit of the number has nothing
-  pub nothing_there : HasNothingAt (seen_units scope cs looks was) n
+  pub nothing_there : HasNothingAt (seen_units scope cs steps was) n
   nothing_there = by_unit (slice_get us n) refl
     where
       same : set cs n c ≡ cs
       same = ap (set cs n) at ∙ set-get_or cs n c
 
-      by_unit : (o : Option UnitRecord) → slice_get us n ≡ o → HasNothingAt (seen_units scope cs looks was) n
+      by_unit : (o : Option UnitRecord) → slice_get us n ≡ o → HasNothingAt (seen_units scope cs steps was) n
       by_unit None e = let past = slice_get_none us n e in let many = as_many i in absurd (omega (arith, past, many, within))
       by_unit (Some u) there = record {
         stop = λ faults probe. ap (λ (r : FramesResult). after_fault faults r >>= or_stop n (Ok FindsNothing))

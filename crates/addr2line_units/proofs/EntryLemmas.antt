@@ -20,31 +20,31 @@ undecided (states.Unnamed e) h = cc
 undecided (states.Answered a) h = cc
 
 -- a unit that was looked at and doesn't wait is decided
-pub looked_decides : {R : Type 0} (s : ViewState R) → was_checked s ≡ true → waits s ≡ false → is_decided s ≡ true
-looked_decides states.Undecided h k = cc
-looked_decides states.Open h k = cc
-looked_decides states.Main h k = refl
-looked_decides (states.Unnamed e) h k = refl
-looked_decides (states.Answered a) h k = refl
+pub checked_decides : {R : Type 0} (s : ViewState R) → was_checked s ≡ true → waits s ≡ false → is_decided s ≡ true
+checked_decides states.Undecided h k = cc
+checked_decides states.Open h k = cc
+checked_decides states.Main h k = refl
+checked_decides (states.Unnamed e) h k = refl
+checked_decides (states.Answered a) h k = refl
 
 module _ {R : Type 0} (scope : Scope) (u : UnitRecord) (old : UnitEntries R) (view : UnitView R) (kept : was_checked old.view.state ≡ true → (view ≡ old.view)) where
   abbrev with_view : UnitView R → UnitEntries R
   with_view v = record { view = v; functions = old.functions }
 
   -- what is cached stays right where the view is looked at
-  pub look_keeps : seen_first_answer view ≡ seen_first_answer old.view → AreEntriesOf scope u old → IsViewOf scope.file.sections u view → AreEntriesOf scope u (record { view = view; functions = old.functions })
-  look_keeps answer h right = record {
+  pub check_keeps : seen_first_answer view ≡ seen_first_answer old.view → AreEntriesOf scope u old → IsViewOf scope.file.sections u view → AreEntriesOf scope u (record { view = view; functions = old.functions })
+  check_keeps answer h right = record {
     view = right;
     functions = subst (λ a. IfSome (verdict scope.file.sections u a) (λ r. IfOk r (λ x. AreFunctionsOf (view_scope scope x) x.unit old.functions))) (sym answer) h.functions;
-    unread = by_look (was_checked old.view.state) refl;
+    unread = by_check (was_checked old.view.state) refl;
   }
     where
-      by_look : (b : Bool) → was_checked old.view.state ≡ b → is_decided view.state ≡ false → were_read old.functions ≡ false
-      by_look true e waiting = h.unread (ap (λ (v : UnitView R). is_decided v.state) (sym (kept e)) ∙ waiting)
-      by_look false e waiting = h.unread (undecided old.view.state e)
+      by_check : (b : Bool) → was_checked old.view.state ≡ b → is_decided view.state ≡ false → were_read old.functions ≡ false
+      by_check true e waiting = h.unread (ap (λ (v : UnitView R). is_decided v.state) (sym (kept e)) ∙ waiting)
+      by_check false e waiting = h.unread (undecided old.view.state e)
 
-  pub look_stays : seen_first_answer view ≡ seen_first_answer old.view → StayEntries old (record { view = view; functions = old.functions })
-  look_stays answer = record { answer = answer; view = kept; functions = functions_stay scope u old.functions }
+  pub check_stays : seen_first_answer view ≡ seen_first_answer old.view → StayEntries old (record { view = view; functions = old.functions })
+  check_stays answer = record { answer = answer; view = kept; functions = functions_stay scope u old.functions }
 
 -- memory may be taken at any time
 pub exactly_unless_oom : {X Y : Type 0} (may : Bool) (see : X → Y) (r : Result X Error) (given : Result Y Error) → ExactlyUnlessOomIf may see r given → ExactlyUnlessOom see r given

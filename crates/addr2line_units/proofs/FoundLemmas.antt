@@ -4,10 +4,10 @@ use Rattle.addr2line_units.proofs.Common.{◌≡◌, ℕ, zero, suc, Bool, true,
 use Rattle.std.specs.Prelude.{IfOk, if◌then◌else◌}
 use Rattle.addr2line_units.specs.declared.frames.FramesStop.TheVariants as stops
 use Rattle.addr2line_units.specs.declared.unit.ViewState.TheVariants as states
-use Rattle.addr2line_units.proofs.AnswerLemmas.{looked_waits}
+use Rattle.addr2line_units.proofs.AnswerLemmas.{checked_waits}
 use Rattle.addr2line_units.proofs.WaitLemmas.{known_was_checked, waits_where_told}
 use Rattle.addr2line_units.proofs.WalkLemmas.{and_first, and_second}
-use Rattle.addr2line_units.proofs.EntryLemmas.{looked_decides}
+use Rattle.addr2line_units.proofs.EntryLemmas.{checked_decides}
 
 number_of : LookupStop → ℕ → ℕ
 number_of (Waits n) d = d
@@ -75,8 +75,8 @@ module _ {R : Type 0} (scope : Scope) (probe : ℕ) where
   decided_there (u ∷ us) [] n own e h = absurd cc
   decided_there (u ∷ us) (v ∷ vs) zero own e h =
       let decided = decided_by_frames scope (record { unit = u; language = v.lines.lang }) (first_answer_of v.entries) probe e in
-      let looked = known_was_checked probe v.entries h in
-      looked_decides v.entries.view.state looked (looked_waits scope.file.sections u v.entries.view own.0.view looked ∙ decided)
+      let checked = known_was_checked probe v.entries h in
+      checked_decides v.entries.view.state checked (checked_waits scope.file.sections u v.entries.view own.0.view checked ∙ decided)
   decided_there (u ∷ us) (v ∷ vs) (suc n) own e h = decided_there us vs n own.1 e h
 
   -- so it is where a lookup has found something

@@ -198,8 +198,8 @@ pub answered_learns : {R : Type 0} (scope : Scope) (u : UnitRecord) (v w : UnitE
 answered_learns scope u v w before functions same = decided_or_unread scope u v w before functions (λ e. ap (λ y. known_by y.view.state y.functions) (same e))
 
 -- a unit that was looked at, by which nothing is changed of its functions
-pub looked_learns : {R : Type 0} (scope : Scope) (u : UnitRecord) (v w : UnitEntries R) → AreEntriesOf scope u v → StayEntries v w → w.functions ≡ v.functions → UnitLearnsNone v w
-looked_learns scope u v w before stay functions = decided_or_unread scope u v w before functions
+pub checked_learns : {R : Type 0} (scope : Scope) (u : UnitRecord) (v w : UnitEntries R) → AreEntriesOf scope u v → StayEntries v w → w.functions ≡ v.functions → UnitLearnsNone v w
+checked_learns scope u v w before stay functions = decided_or_unread scope u v w before functions
     (λ e. ap (known_by w.view.state) functions ∙ ap (λ y. known_by y.state v.functions) (stay.view (decided_was_checked v.view.state e)))
 
 -- a unit that was forgotten

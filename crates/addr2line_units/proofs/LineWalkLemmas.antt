@@ -1,11 +1,11 @@
 -- Lookups of rows and parses of lines, one unit after another (on specs/AfterUnits.antt and
 -- specs/AskedUnits.antt).
-use Rattle.addr2line_units.proofs.Common.{◌≡◌, ◌≢◌, inl, inr, ℕ, ◌+◌, ◌<◌, ◌≤◌, Bool, true, false, List, [], ◌∷◌, drop, length, slice_get, Option, Some, None, Result, Ok, Err, refl, sym, ap, subst, ◌∙◌, arith, false≢true, AllByRecursion, Error, OutOfMemory, fault_of, Sections, UnitRange, AfterCachingAt, AfterRowAt, lines_of_take_memory, lines_result_at, unit_row, FindsNothing, all_lines, first_location, location_in, looks_along, looks_in, AllAskFor, AreAllParsed, AreParsed, AsksFor, LeadTo, StaysParsed, decides, has_parsed, parses_no_memory, ready_along, takes_none_along, unit_decides, IndexedUnit, UnitsState, row_location}
+use Rattle.addr2line_units.proofs.Common.{◌≡◌, ◌≢◌, inl, inr, ℕ, ◌+◌, ◌<◌, ◌≤◌, Bool, true, false, List, [], ◌∷◌, drop, length, slice_get, Option, Some, None, Result, Ok, Err, refl, sym, ap, subst, ◌∙◌, arith, false≢true, AllByRecursion, Error, OutOfMemory, fault_of, Sections, UnitRange, AfterCachingAt, AfterRowAt, lines_of_take_memory, lines_result_at, unit_row, FindsNothing, all_lines, first_location, location_in, steps_along, steps_in, AllAskFor, AreAllParsed, AreParsed, AsksFor, LeadTo, StaysParsed, decides, has_parsed, parses_no_memory, ready_along, takes_none_along, unit_decides, IndexedUnit, UnitsState, row_location}
 use Rattle.addr2line_lines.specs.declared.row.Row.{Row}
 use Rattle.addr2line_units.specs.AfterUnits.{AfterCaching, AfterLineParse, AfterLines, AfterRow}
 use Rattle.addr2line_units.specs.Cover.{holds_until}
 use Rattle.addr2line_units.proofs.AskMemoryLemmas.{alone_if_none}
-use Rattle.addr2line_units.proofs.UnitsLemmas.{all_parsed, first_location_fault, first_location_none, first_location_some, asks_more, lines_end, lines_more, lines_stop, looks_counted, looks_first, looks_of_step, looks_raised, looks_within, only_more, parsed_below, readable, ready_at_fault, ready_both, ready_decided, ready_first, such_first, such_rest}
+use Rattle.addr2line_units.proofs.UnitsLemmas.{all_parsed, first_location_fault, first_location_none, first_location_some, asks_more, lines_end, lines_more, lines_stop, steps_counted, steps_first, steps_of_one, steps_raised, steps_within, only_more, parsed_below, readable, ready_at_fault, ready_both, ready_decided, ready_first, such_first, such_rest}
 
 -- no lines were parsed yet
 pub lines_first : (asks : ℕ → Type 0) (old : UnitsState) → AfterLines asks old (record old { stop = FindsNothing })
@@ -14,7 +14,7 @@ lines_first asks old = record { same = refl; many = refl; parsed = λ n e. e; on
 -- those of one more unit
 pub lines_over : (asks : ℕ → Type 0) (k : ℕ) (old mid now : UnitsState) → AfterLines asks old mid → AfterLines (λ n. n ≡ k) mid now → asks k → AfterLines asks old now
 lines_over asks k old mid now a b asked = record {
-  same = b.same ∙ ap (λ (s : UnitsState). record s { parsed = now.parsed; looks = now.looks; stop = FindsNothing }) a.same;
+  same = b.same ∙ ap (λ (s : UnitsState). record s { parsed = now.parsed; steps = now.steps; stop = FindsNothing }) a.same;
   many = b.many ∙ a.many;
   parsed = λ n e. b.parsed n (a.parsed n e);
   only = only_more asks old.parsed mid.parsed now.parsed k a.only b.only asked;
@@ -27,8 +27,8 @@ pub record RowsSoFar (probe : ℕ) (all rest : List UnitRange) (old now : UnitsS
   pub less : (such : ℕ → Bool) → holds_until (unit_decides old.scope.file.sections old.units probe) such all ≡ true → holds_until (unit_decides old.scope.file.sections old.units probe) such rest ≡ true
   pub more : (p : List Bool) → StaysParsed now.parsed p → ready_along old.scope.file.sections old.units p probe rest ≡ true → ready_along old.scope.file.sections old.units p probe all ≡ true
   pub asks : (n : ℕ) → AsksFor old.scope.file.sections old.units probe rest n → AsksFor old.scope.file.sections old.units probe all n
-  pub cost : now.looks + looks_along old.scope.file.sections old.units rest ≤ old.looks + looks_along old.scope.file.sections old.units all
-  pub raised : old.looks ≤ now.looks
+  pub cost : now.steps + steps_along old.scope.file.sections old.units rest ≤ old.steps + steps_along old.scope.file.sections old.units all
+  pub raised : old.steps ≤ now.steps
 
 pub rows_first : (probe : ℕ) (all : List UnitRange) (old : UnitsState) → RowsSoFar probe all all old (record old { stop = FindsNothing })
 rows_first probe all old = record {
@@ -55,13 +55,13 @@ module _ (probe : ℕ) (all : List UnitRange) (r : UnitRange) (rest ranges : Lis
     both_lines : AfterLines (AsksFor d us probe all) old now
     both_lines = lines_over (AsksFor d us probe all) r.unit old mid now w.lines a.lines asked
 
-    raised_now : old.looks ≤ now.looks
-    raised_now = looks_raised old.looks mid.looks now.looks w.raised a.raised
+    raised_now : old.steps ≤ now.steps
+    raised_now = steps_raised old.steps mid.steps now.steps w.raised a.raised
 
-    cost_now : now.looks + looks_along d us rest ≤ old.looks + looks_along d us all
-    cost_now = looks_within mid.looks now.looks (old.looks + looks_along d us all) (looks_in d (slice_get us r.unit)) (looks_along d us rest) (looks_along d us ranges)
-        (subst (λ (s : UnitsState). now.looks ≤ mid.looks + looks_in s.scope.file.sections (slice_get s.units r.unit)) w.lines.same a.cost)
-        w.cost (ap (looks_along d us) is ∙ looks_first d us r rest)
+    cost_now : now.steps + steps_along d us rest ≤ old.steps + steps_along d us all
+    cost_now = steps_within mid.steps now.steps (old.steps + steps_along d us all) (steps_in d (slice_get us r.unit)) (steps_along d us rest) (steps_along d us ranges)
+        (subst (λ (s : UnitsState). now.steps ≤ mid.steps + steps_in s.scope.file.sections (slice_get s.units r.unit)) w.lines.same a.cost)
+        w.cost (ap (steps_along d us) is ∙ steps_first d us r rest)
 
   -- a fault ends it
   module _ (e : Error) (a : AfterRowAt {X = Row} r.unit (Err e) mid now) (gives : e ≢ OutOfMemory → location_in mid.scope.file.sections probe (slice_get mid.units r.unit) ≡ Err e) where
@@ -81,7 +81,7 @@ module _ (probe : ℕ) (all : List UnitRange) (r : UnitRange) (rest ranges : Lis
       memory = λ ready. a.memory (ready_first d us probe r rest now.parsed (subst (λ xs. ready_along d us now.parsed probe xs ≡ true) is (w.less (has_parsed now.parsed) ready)));
       raised = raised_now (Err e) a;
       counted = λ found. absurd (false≢true found);
-      cost = looks_of_step _ _ _ (cost_now (Err e) a);
+      cost = steps_of_one _ _ _ (cost_now (Err e) a);
     }
 
     pub row_fault_alone : (shares : Bool) → (lines_of_take_memory shares mid.units r.unit ≡ false → location_in mid.scope.file.sections probe (slice_get mid.units r.unit) ≡ Err e)
@@ -106,8 +106,8 @@ module _ (probe : ℕ) (all : List UnitRange) (r : UnitRange) (rest ranges : Lis
       ready = λ told. w.more now.parsed a.lines.parsed (subst (λ xs. ready_along d us now.parsed probe xs ≡ true) (sym is) (ready_decided d us probe r rest now.parsed (a.ready tt) (ap decides found)));
       memory = λ ready. tt;
       raised = raised_now (Ok (Some row)) a;
-      counted = λ told. looks_counted old.looks mid.looks now.looks w.raised (a.counted refl);
-      cost = looks_of_step _ _ _ (cost_now (Ok (Some row)) a);
+      counted = λ told. steps_counted old.steps mid.steps now.steps w.raised (a.counted refl);
+      cost = steps_of_one _ _ _ (cost_now (Ok (Some row)) a);
     }
 
   -- else it goes on
@@ -138,19 +138,19 @@ module _ (probe : ℕ) (all ranges : List UnitRange) (is : ranges ≡ []) (old n
     memory = λ ready. tt;
     raised = w.raised;
     counted = λ found. absurd (false≢true found);
-    cost = looks_of_step _ _ _ w.cost;
+    cost = steps_of_one _ _ _ w.cost;
   }
 
 -- a parse of lines along ranges that has gone on so far
 pub record CachedSoFar (all rest : List UnitRange) (old now : UnitsState) : Type 0 where
   pub lines : AfterLines (LeadTo all) old now
-  pub looks : now.looks ≡ old.looks
+  pub steps : now.steps ≡ old.steps
   pub less : (such : ℕ → Bool) → AllByRecursion (λ (r : UnitRange). such r.unit ≡ true) all → AllByRecursion (λ (r : UnitRange). such r.unit ≡ true) rest
   pub more : (p : List Bool) → StaysParsed now.parsed p → AreParsed p rest → AreParsed p all
   pub leads : (n : ℕ) → LeadTo rest n → LeadTo all n
 
 pub cached_first : (all : List UnitRange) (old : UnitsState) → CachedSoFar all all old (record old { stop = FindsNothing })
-cached_first all old = record { lines = lines_first (LeadTo all) old; looks = refl; less = λ such e. e; more = λ p stays e. e; leads = λ n e. e }
+cached_first all old = record { lines = lines_first (LeadTo all) old; steps = refl; less = λ such e. e; more = λ p stays e. e; leads = λ n e. e }
 
 module _ (shares : Bool) (all : List UnitRange) (r : UnitRange) (rest ranges : List UnitRange) (is : ranges ≡ r ∷ rest) (old mid now : UnitsState) (w : CachedSoFar all ranges old mid) where
   led : LeadTo all r.unit
@@ -160,7 +160,7 @@ module _ (shares : Bool) (all : List UnitRange) (r : UnitRange) (rest ranges : L
     pub cached_fault : {X : Type 0} → AfterCaching {X = X} shares all (Err e) old now
     cached_fault = record {
       lines = lines_over (LeadTo all) r.unit old mid now w.lines a.lines led;
-      looks = a.looks ∙ w.looks;
+      steps = a.steps ∙ w.steps;
       parsed = tt;
       memory = λ none. a.memory (subst (λ (s : UnitsState). parses_no_memory shares s.units now.parsed r.unit ≡ true) (sym w.lines.same)
           (subst (AllByRecursion (λ (x : UnitRange). parses_no_memory shares old.units now.parsed x.unit ≡ true)) is (w.less (parses_no_memory shares old.units now.parsed) none)).0);
@@ -171,7 +171,7 @@ module _ (shares : Bool) (all : List UnitRange) (r : UnitRange) (rest ranges : L
     pub cached_on : CachedSoFar all rest old now
     cached_on = record {
       lines = lines_over (LeadTo all) r.unit old mid now w.lines a.lines led;
-      looks = a.looks ∙ w.looks;
+      steps = a.steps ∙ w.steps;
       less = λ such e. (subst (AllByRecursion (λ (x : UnitRange). such x.unit ≡ true)) is (w.less such e)).1;
       more = λ p stays e. w.more p (λ n parsed. stays n (a.lines.parsed n parsed)) (subst (AreParsed p) (sym is) (stays r.unit (a.ready tt), e));
       leads = λ n e. w.leads n (subst (λ xs. LeadTo xs n) (sym is) (inr e));
@@ -181,7 +181,7 @@ module _ (shares : Bool) (all ranges : List UnitRange) (is : ranges ≡ []) (old
   pub cached_end : AfterCaching {X = Unit {0}} shares all (Ok tt) old now
   cached_end = record {
     lines = w.lines;
-    looks = w.looks;
+    steps = w.steps;
     parsed = w.more now.parsed (λ n e. e) (subst (AreParsed now.parsed) (sym is) tt);
     memory = λ none. tt;
     refused = tt;
@@ -190,7 +190,7 @@ module _ (shares : Bool) (all ranges : List UnitRange) (is : ranges ≡ []) (old
 -- a parse of the lines of all units that has come to the unit of a number
 pub record ParsedSoFar (k : ℕ) (old now : UnitsState) : Type 0 where
   pub lines : AfterLines (AllAskFor old.scope.file.sections old.units) old now
-  pub looks : now.looks ≡ old.looks
+  pub steps : now.steps ≡ old.steps
   pub rest : fault_of (all_lines old.scope.file.sections (drop k old.units)) ≡ fault_of (all_lines old.scope.file.sections old.units)
   pub parsed : (n : ℕ) → n < k → has_parsed now.parsed n ≡ true
   pub before : AllAskFor old.scope.file.sections old.units k
@@ -198,7 +198,7 @@ pub record ParsedSoFar (k : ℕ) (old now : UnitsState) : Type 0 where
 pub parsed_first : (old : UnitsState) → ParsedSoFar 0 old (record old { stop = FindsNothing })
 parsed_first old = record {
   lines = lines_first (AllAskFor old.scope.file.sections old.units) old;
-  looks = refl;
+  steps = refl;
   rest = refl;
   parsed = λ n below. absurd (omega (arith, below));
   before = λ n below. absurd (omega (arith, below));
@@ -218,7 +218,7 @@ module _ (shares : Bool) (k : ℕ) (old mid now : UnitsState) (w : ParsedSoFar k
     pub parse_fault_after : AfterLineParse shares (Err e) old now
     parse_fault_after = record {
       lines = both (Err e) a;
-      looks = a.looks ∙ w.looks;
+      steps = a.steps ∙ w.steps;
       ready = λ ne. ready_at_fault old.scope.file.sections old.units now.parsed k e (λ n below. a.lines.parsed n (w.parsed n below)) (a.ready ne) (lines_fault ne);
       memory = λ none. a.memory (subst (λ (s : UnitsState). parses_no_memory shares s.units now.parsed k ≡ true) (sym w.lines.same) (none k w.before));
       parsed = tt;
@@ -231,7 +231,7 @@ module _ (shares : Bool) (k : ℕ) (old mid now : UnitsState) (w : ParsedSoFar k
     pub parsed_on : ParsedSoFar (k + 1) old now
     parsed_on = record {
       lines = both (Ok tt) a;
-      looks = a.looks ∙ w.looks;
+      steps = a.steps ∙ w.steps;
       rest = sym (lines_more old.scope.file.sections old.units k within read) ∙ w.rest;
       parsed = parsed_below now.parsed k (λ n below. a.lines.parsed n (w.parsed n below)) (a.ready tt);
       before = asks_more old.scope.file.sections old.units k w.before (readable old.scope.file.sections (slice_get old.units k) read);
@@ -247,7 +247,7 @@ module _ (shares : Bool) (k : ℕ) (old now : UnitsState) (w : ParsedSoFar k old
   pub parsed_end_after : AfterLineParse shares (Ok tt) old now
   parsed_end_after = record {
     lines = w.lines;
-    looks = w.looks;
+    steps = w.steps;
     ready = λ told n asked. all n;
     memory = λ none. tt;
     parsed = all;

@@ -81,7 +81,7 @@ module _ {R : Type 0} (d : Sections) (us : List UnitRecord) (cs : List (UnitCach
   State = UnitsState × List UnitRange
 
   abbrev state : Scope → IndexState → FirstAnswers → List KnownEntries → Result State Error
-  state scope x answers known = Ok (record { scope = scope; units = x.units; answers = answers; parsed = x.parsed; known = known; looks = 0; stop = FindsNothing }, x.ranges)
+  state scope x answers known = Ok (record { scope = scope; units = x.units; answers = answers; parsed = x.parsed; known = known; steps = 0; stop = FindsNothing }, x.ranges)
 
   abbrev of_index : IndexState → Result State Error
   of_index x = state (main_scope d (record { units = x.units; ranges = x.ranges; sup_units = sup.units.items })) x (no_answers_of (unit_records x.units)) (nothing_known_of (unit_records x.units))

@@ -20,8 +20,8 @@ module _ {R : Type 0} {scope : Scope} {held : List (UnitCache R)} {last : Frames
   us = scope.file.units
 
   -- there is none
-  module _ (none : slice_get us n ≡ None) (given : Option Sections) (looks : ℕ) (was : LookupStop) where
-    pub none_answered : AfterAnswer n given (Ok tt) (seen_units scope held looks was) (seen_units scope held looks FindsNothing)
+  module _ (none : slice_get us n ≡ None) (given : Option Sections) (steps : ℕ) (was : LookupStop) where
+    pub none_answered : AfterAnswer n given (Ok tt) (seen_units scope held steps was) (seen_units scope held steps FindsNothing)
     none_answered = record {
       stays = refl;
       answers = sym (unknown_answer d us (answers_in held) n given none);
@@ -34,7 +34,7 @@ module _ {R : Type 0} {scope : Scope} {held : List (UnitCache R)} {last : Frames
       beside = as_many i ∙ sym (as_many_answers held);
     }
 
-    pub none_loaded : AfterLoad n given (Err UnknownToken) (seen_units scope held looks was) (seen_units scope held looks FindsNothing)
+    pub none_loaded : AfterLoad n given (Err UnknownToken) (seen_units scope held steps was) (seen_units scope held steps FindsNothing)
     none_loaded = record {
       stays = refl;
       answers = λ told. sym (unknown_answer d us (answers_in held) n given none);
@@ -48,7 +48,7 @@ module _ {R : Type 0} {scope : Scope} {held : List (UnitCache R)} {last : Frames
       none = λ e. sym (unknown_load d us (answers_in held) n None none);
     }
 
-    pub none_forgotten : AfterForget n (seen_units scope held looks was) (seen_units scope held looks FindsNothing)
+    pub none_forgotten : AfterForget n (seen_units scope held steps was) (seen_units scope held steps FindsNothing)
     none_forgotten = record {
       stays = refl;
       answers = sym (past_set (answers_in held) n None past);
@@ -108,17 +108,17 @@ module _ {R : Type 0} {scope : Scope} {held : List (UnitCache R)} {last : Frames
         fault_told given r e = e ∙ sym (load_is given)
 
         -- its load was listed
-        pub listed_there : (looks : ℕ) (was : LookupStop) → StayEntries v w → UnitLearnsNone v w → AfterListing (λ k. k ≡ n) (seen_units scope held looks was) (seen_units scope now looks FindsNothing)
-        listed_there looks was stay none = after_listing scope held (all_entries i) now same_lines_now looks was (λ k. k ≡ n) (stay_entries_set held n c with_entries within at stay)
+        pub listed_there : (steps : ℕ) (was : LookupStop) → StayEntries v w → UnitLearnsNone v w → AfterListing (λ k. k ≡ n) (seen_units scope held steps was) (seen_units scope now steps FindsNothing)
+        listed_there steps was stay none = after_listing scope held (all_entries i) now same_lines_now steps was (λ k. k ≡ n) (stay_entries_set held n c with_entries within at stay)
             (λ k. elim (cases_eq k n) [ inl is ↦ inr is | inr ne ↦ inl (others_stay held n k with_entries ne) ])
             (set_learns held n c with_entries within at none)
 
-        module _ (given : Option Sections) (b : Bool) (some : is_some given ≡ b) (looks : ℕ) (was : LookupStop) where
+        module _ (given : Option Sections) (b : Bool) (some : is_some given ≡ b) (steps : ℕ) (was : LookupStop) where
           abbrev old : UnitsState
-          old = seen_units scope held looks was
+          old = seen_units scope held steps was
 
           abbrev new : UnitsState
-          new = seen_units scope now looks FindsNothing
+          new = seen_units scope now steps FindsNothing
 
           module _ (own : AreEntriesOf scope u w) (functions : w.functions ≡ v.functions) (same : is_decided v.view.state ≡ true → w ≡ v) where
             same_decided : decided_at held n ≡ true → now ≡ held
@@ -131,7 +131,7 @@ module _ {R : Type 0} {scope : Scope} {held : List (UnitCache R)} {last : Frames
             learns = set_learns held n c with_entries within at (answered_learns scope u v w (its_entries i n there at) functions same)
 
             pub answered_there : (r : Result (Unit {0}) Error) → OnOk r (first_answer_of w ≡ decided_answer d u (first_answer_of v) given) → IfErr r (λ e. (e ≡ OutOfMemory) × StayEntries v w × (b ≡ true)) → (is_open d u (first_answer_of v) ≡ false → r ≡ Ok tt) → AfterAnswer n given r old new
-            answered_there r answer refused shut = after_answer scope held (all_entries i) now same_lines_now looks was n (λ k ne. others_stay held n k with_entries ne) same_decided many given r (λ h. some ∙ h)
+            answered_there r answer refused shut = after_answer scope held (all_entries i) now same_lines_now steps was n (λ k ne. others_stay held n k with_entries ne) same_decided many given r (λ h. some ∙ h)
                 (answered_if_ok d us held n u c with_entries given r (unit_within i n there) within (unit_is i n there) at answer)
                 (answers_if_refused held n c with_entries r (b ≡ true) within at refused) learns
                 (λ h. shut (shut_there h))
@@ -141,19 +141,19 @@ module _ {R : Type 0} {scope : Scope} {held : List (UnitCache R)} {last : Frames
             loaded_there r answer fault =
                 let told = load_told given r answer fault in
                 let answers = answered_if_ok d us held n u c with_entries given (Ok tt) (unit_within i n there) within (unit_is i n there) at answer in
-                after_load scope held (all_entries i) now same_lines_now looks was n (λ k ne. others_stay held n k with_entries ne) same_decided many given r (λ h. answers) (inr answers) (λ ne. absurd (ne told)) (λ shut. told)
+                after_load scope held (all_entries i) now same_lines_now steps was n (λ k ne. others_stay held n k with_entries ne) same_decided many given r (λ h. answers) (inr answers) (λ ne. absurd (ne told)) (λ shut. told)
                 (λ e. told ∙ ap (load_result d us (answers_in held) n) e) learns
 
             -- memory was refused
             pub refused_there : (e : Error) → (e ≡ OutOfMemory) × StayEntries v w × (b ≡ true) → (is_open d u (first_answer_of v) ≡ false → ◌≡◌ {A = Result (Unit {0}) Error} (Err e) (Ok tt)) → AfterLoad n given (Err e) old new
             refused_there e refused shut =
                 let r = answers_if_refused held n c with_entries (Err e) (b ≡ true) within at refused in
-                after_load scope held (all_entries i) now same_lines_now looks was n (λ k ne. others_stay held n k with_entries ne) same_decided many given (Err e) (λ told. absurd (told refused.0)) (inl r.1) (λ ne. (r.1, r.2))
+                after_load scope held (all_entries i) now same_lines_now steps was n (λ k ne. others_stay held n k with_entries ne) same_decided many given (Err e) (λ told. absurd (told refused.0)) (inl r.1) (λ ne. (r.1, r.2))
                 (λ h. absurd (let no = shut (shut_there h) in cc))
                 (λ none. absurd (let f : false ≡ true = ap is_some (sym none) ∙ some ∙ refused.2 in cc)) learns
 
-        pub forgotten_there : (looks : ℕ) (was : LookupStop) → first_answer_of w ≡ None → (first_answer_of v ≡ None → w ≡ v) → (is_some (first_answer_of v) ≡ true → were_read w.functions ≡ false) → AfterForget n (seen_units scope held looks was) (seen_units scope now looks FindsNothing)
-        forgotten_there looks was none same unread = after_forget scope held (all_entries i) now same_lines_now looks was n
+        pub forgotten_there : (steps : ℕ) (was : LookupStop) → first_answer_of w ≡ None → (first_answer_of v ≡ None → w ≡ v) → (is_some (first_answer_of v) ≡ true → were_read w.functions ≡ false) → AfterForget n (seen_units scope held steps was) (seen_units scope now steps FindsNothing)
+        forgotten_there steps was none same unread = after_forget scope held (all_entries i) now same_lines_now steps was n
             (answers_set held n with_entries ∙ ap (λ a. set (answers_in held) n a) none)
             (λ h. same_set held n c with_entries at (ap (λ e. record c { entries = e }) (same (sym answer_is ∙ h)))) (λ k ne. others_stay held n k with_entries ne)
             (set_learns held n c with_entries within at (forgotten_learns v w same unread))

@@ -129,4 +129,3 @@ module _ {R : Type 0} (scope : Scope) (probe : ℕ) (us : List UnitRecord) (cs :
         not_or : (a b : Bool) → (not a || b) ≡ true → a ≡ true → b ≡ true
         not_or true b e q = e
         not_or false b e q = cc
-

@@ -4,7 +4,7 @@ use Rattle.addr2line_units.proofs.Common.{◌≡◌, ◌∙◌, inl, inr, ℕ, z
 use Rattle.std.specs.Prelude.{IfSome, unwrap_or}
 use Rattle.addr2line_units.specs.AfterParses.{AfterReadingAt, AfterReadingUnit}
 use Rattle.addr2line_units.specs.StaysKnown.{IsReadBy, StaysKnownOf}
-use Rattle.addr2line_units.proofs.AnswerLemmas.{answered_all, answers_stay, decided_if_not, looked_waits, others_stay}
+use Rattle.addr2line_units.proofs.AnswerLemmas.{answered_all, answers_stay, decided_if_not, checked_waits, others_stay}
 use Rattle.addr2line_units.proofs.CachedParseLemmas.{got_set}
 use Rattle.addr2line_units.proofs.CachedUnitLemmas.{entries_more, same_lines_set}
 use Rattle.addr2line_units.proofs.KnownLemmas.{known_is, known_unchanged}
@@ -14,7 +14,7 @@ use Rattle.addr2line_units.proofs.StateLemmas.{only_entries}
 use Rattle.addr2line_units.proofs.StayLemmas.{entries_whole, whole_was_checked}
 use Rattle.addr2line_units.proofs.UnitAtLemmas.{all_entries, as_many, cache_within, its_entries, unit_is, unit_within}
 use Rattle.addr2line_units.proofs.WaitLemmas.{known_was_checked}
-use Rattle.addr2line_units.proofs.EntryLemmas.{looked_decides}
+use Rattle.addr2line_units.proofs.EntryLemmas.{checked_decides}
 
 -- what is read of the unit of a number, whether it is open, and whether memory is taken, by its
 -- record and its first answer
@@ -65,7 +65,7 @@ known_stays [] n v w h at same = absurd (omega (arith, h))
 known_stays (x ∷ vs) zero v w h at same = ap (λ k. k ∷ known_in vs) (same ∙ ap (λ (c : UnitCache _). known_by c.entries.view.state c.entries.functions) at)
 known_stays (x ∷ vs) (suc n) v w h at same = ap (λ ks. known_by x.entries.view.state x.entries.functions ∷ ks) (known_stays vs n v w (omega (arith, h)) at same)
 
-module _ {R : Type 0} {scope : Scope} {held : List (UnitCache R)} {last : FramesStop} (i : AreUnits scope held last) (n : ℕ) (shares : Bool) (depth : ReadingDepth) (looks : ℕ) (was : LookupStop) where
+module _ {R : Type 0} {scope : Scope} {held : List (UnitCache R)} {last : FramesStop} (i : AreUnits scope held last) (n : ℕ) (shares : Bool) (depth : ReadingDepth) (steps : ℕ) (was : LookupStop) where
   abbrev d : Sections
   d = scope.file.sections
 
@@ -73,7 +73,7 @@ module _ {R : Type 0} {scope : Scope} {held : List (UnitCache R)} {last : Frames
   us = scope.file.units
 
   abbrev old : UnitsState
-  old = seen_units scope held looks was
+  old = seen_units scope held steps was
 
   -- there is no such unit
   module _ (none : slice_get us n ≡ None) where
@@ -87,7 +87,7 @@ module _ {R : Type 0} {scope : Scope} {held : List (UnitCache R)} {last : Frames
         slice_get-map (λ (x : UnitCache R). known_by x.entries.view.state x.entries.functions) held n
         ∙ ap (option_map (λ (x : UnitCache R). known_by x.entries.view.state x.entries.functions)) (slice_get_past held n (omega (arith, past, many)))
 
-    pub none_after : AfterReadingAt shares depth n (Ok tt) old (seen_units scope held looks FindsNothing)
+    pub none_after : AfterReadingAt shares depth n (Ok tt) old (seen_units scope held steps FindsNothing)
     none_after = record {
       stays = refl;
       answers = λ ne. sym (unknown_answer d us (answers_in held) n None none);
@@ -146,7 +146,7 @@ module _ {R : Type 0} {scope : Scope} {held : List (UnitCache R)} {last : Frames
 
     -- a unit that isn't open is decided where something is known of it, and what was known stays
     decided : was_checked v.view.state ≡ true → is_open_at d us (answers_in held) n ≡ false → is_decided v.view.state ≡ true
-    decided looked shut = looked_decides v.view.state looked (looked_waits d u v.view (its_entries i n there at).view looked ∙ sym open_was ∙ shut)
+    decided checked shut = checked_decides v.view.state checked (checked_waits d u v.view (its_entries i n there at).view checked ∙ sym open_was ∙ shut)
 
     stays_known : is_open_at d us (answers_in held) n ≡ false → StaysKnownOf n (known_in held) (known_in now)
     stays_known shut = record {
@@ -169,9 +169,9 @@ module _ {R : Type 0} {scope : Scope} {held : List (UnitCache R)} {last : Frames
     same_lines_now : HaveSameLines held now
     same_lines_now = same_lines_set held n c with_entries at refl
 
-    pub after_there : AfterReadingAt shares depth n result old (seen_units scope now looks FindsNothing)
+    pub after_there : AfterReadingAt shares depth n result old (seen_units scope now steps FindsNothing)
     after_there = record {
-      stays = only_entries scope held (all_entries i) now same_lines_now looks was;
+      stays = only_entries scope held (all_entries i) now same_lines_now steps was;
       answers = λ ne. answered_all d us held n u c with_entries None (unit_within i n there) within (unit_is i n there) at (a.answer ne);
       begun = elim a.begun [
         | inl same ↦ inl (answers_stay held n c with_entries within at same)

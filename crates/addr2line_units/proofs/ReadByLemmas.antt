@@ -3,10 +3,10 @@ use Rattle.addr2line_units.proofs.Common.{◌≡◌, ◌⊎◌, inl, inr, ℕ, z
 use Rattle.std.specs.Prelude.{if◌then◌else◌}
 use Rattle.addr2line_units.specs.declared.entries.LazyFunctions.TheVariants as lazy
 use Rattle.addr2line_units.specs.declared.unit.ViewState.TheVariants as states
-use Rattle.addr2line_units.proofs.AnswerLemmas.{looked_waits}
+use Rattle.addr2line_units.proofs.AnswerLemmas.{checked_waits}
 use Rattle.addr2line_units.proofs.WaitLemmas.{known_was_checked}
 use Rattle.addr2line_units.specs.StaysKnown.{IsReadBy}
-use Rattle.addr2line_units.proofs.EntryLemmas.{looked_decides}
+use Rattle.addr2line_units.proofs.EntryLemmas.{checked_decides}
 
 -- no fault was read
 pub never_fault : (depth : ReadingDepth) (b : Bool) → IsReadBy depth (if b then AllKnown else NothingKnown) → ⊥
@@ -35,8 +35,8 @@ module _ {R : Type 0} where
   known_is_decided scope probe [] (v ∷ vs) n own shut e = absurd own
   known_is_decided scope probe (u ∷ us) [] n own shut e = absurd own
   known_is_decided scope probe (u ∷ us) (v ∷ vs) zero own shut e =
-      let looked = known_was_checked probe v.entries e in
-      inl (looked_decides v.entries.view.state looked (looked_waits scope.file.sections u v.entries.view own.0.view looked ∙ shut))
+      let checked = known_was_checked probe v.entries e in
+      inl (checked_decides v.entries.view.state checked (checked_waits scope.file.sections u v.entries.view own.0.view checked ∙ shut))
   known_is_decided scope probe (u ∷ us) (v ∷ vs) (suc n) own shut e = elim (known_is_decided scope probe us vs n own.1 shut e) [ inl d ↦ inl d | inr m ↦ inr (omega (arith, m)) ]
 
   -- nothing is asked of a unit that there isn't

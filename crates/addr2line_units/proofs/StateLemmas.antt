@@ -88,15 +88,15 @@ module _ {R : Type 0} (scope : Scope) (held : List (UnitCache R)) where
   us = scope.file.units
 
   -- after lines were parsed
-  module _ (now : List (UnitCache R)) (stay : StayUnits held now) (same : HaveSameEntries held now) (looks later : ℕ) (was : LookupStop) where
+  module _ (now : List (UnitCache R)) (stay : StayUnits held now) (same : HaveSameEntries held now) (steps later : ℕ) (was : LookupStop) where
     abbrev before : UnitsState
-    before = seen_units scope held looks was
+    before = seen_units scope held steps was
 
     abbrev after : UnitsState
     after = seen_units scope now later FindsNothing
 
     abbrev with_units : List IndexedUnit → FirstAnswers → List KnownEntries → UnitsState
-    with_units xs answers known = record { scope = scope; units = xs; answers = answers; parsed = parsed_units now; known = known; looks = later; stop = FindsNothing }
+    with_units xs answers known = record { scope = scope; units = xs; answers = answers; parsed = parsed_units now; known = known; steps = later; stop = FindsNothing }
 
     pub after_lines : (asks : ℕ → Type 0) → ParsesOnly asks (parsed_units held) (parsed_units now) → AfterLines asks before after
     after_lines asks only = record {
@@ -109,15 +109,15 @@ module _ {R : Type 0} (scope : Scope) (held : List (UnitCache R)) where
     }
 
   -- after answers to loads, and what is known of entries
-  module _ (own : HaveEntriesOf scope us held) (entries : List (UnitCache R)) (lines : HaveSameLines held entries) (looks : ℕ) (was : LookupStop) where
+  module _ (own : HaveEntriesOf scope us held) (entries : List (UnitCache R)) (lines : HaveSameLines held entries) (steps : ℕ) (was : LookupStop) where
     abbrev old : UnitsState
-    old = seen_units scope held looks was
+    old = seen_units scope held steps was
 
     abbrev new : UnitsState
-    new = seen_units scope entries looks FindsNothing
+    new = seen_units scope entries steps FindsNothing
 
     abbrev with_lines : List IndexedUnit → List Bool → UnitsState
-    with_lines xs bs = record { scope = scope; units = xs; answers = answers_in entries; parsed = bs; known = known_in entries; looks = looks; stop = FindsNothing }
+    with_lines xs bs = record { scope = scope; units = xs; answers = answers_in entries; parsed = bs; known = known_in entries; steps = steps; stop = FindsNothing }
 
     -- nothing is changed but answers and what is known
     pub only_entries : new ≡ record old { answers = answers_in entries; known = known_in entries; stop = FindsNothing }

@@ -4,12 +4,12 @@ use Rattle.std.specs.Prelude.{IfSome, unwrap_or}
 use Rattle.addr2line_units.specs.declared.entries.LazyFunctions.TheVariants as lazy
 use Rattle.addr2line_units.specs.declared.parses.ReadingDepth.TheVariants as depths
 use Rattle.addr2line_units.specs.declared.unit.ViewState.TheVariants as states
-use Rattle.addr2line_units.proofs.AnswerLemmas.{looked_waits}
+use Rattle.addr2line_units.proofs.AnswerLemmas.{checked_waits}
 use Rattle.addr2line_units.proofs.CachedUnitLemmas.{entries_more_at}
 use Rattle.addr2line_units.proofs.KnownLemmas.{known_is}
 use Rattle.addr2line_units.proofs.KnownTableLemmas.{to_fault_cached, to_fault_known}
 use Rattle.addr2line_units.specs.StaysKnown.{IsReadyAt, StaysKnown, StaysKnownOf}
-use Rattle.addr2line_units.proofs.EntryLemmas.{looked_decides}
+use Rattle.addr2line_units.proofs.EntryLemmas.{checked_decides}
 
 pub known_of_twice : (n : ℕ) (old mid new : List KnownEntries) → StaysKnownOf n old mid → StaysKnownOf n mid new → StaysKnownOf n old new
 known_of_twice n old mid new a b = record {
@@ -97,8 +97,8 @@ module _ {R : Type 0} where
   whole_is_decided r scope [] (v ∷ vs) n own shut h = absurd own
   whole_is_decided r scope (u ∷ us) [] n own shut h = absurd own
   whole_is_decided r scope (u ∷ us) (v ∷ vs) zero own shut h =
-      let looked = whole_was_checked r v.entries.view.state v.entries.functions h in
-      inl (looked_decides v.entries.view.state looked (looked_waits scope.file.sections u v.entries.view own.0.view looked ∙ shut))
+      let checked = whole_was_checked r v.entries.view.state v.entries.functions h in
+      inl (checked_decides v.entries.view.state checked (checked_waits scope.file.sections u v.entries.view own.0.view checked ∙ shut))
   whole_is_decided r scope (u ∷ us) (v ∷ vs) (suc n) own shut h = elim (whole_is_decided r scope us vs n own.1 shut h) [ inl d ↦ inl d | inr m ↦ inr (omega (arith, m)) ]
 
   -- nothing is read of a unit that there isn't

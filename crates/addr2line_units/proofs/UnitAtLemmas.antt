@@ -32,8 +32,8 @@ module _ {R : Type 0} {scope : Scope} {held : List (UnitCache R)} {last : Frames
   pub as_many : length scope.file.units ≡ length held
   as_many = as_many_entries scope scope.file.units held all_entries
 
-  pub counts : {n : ℕ} (looks : ℕ) (was : LookupStop) → n ≡ length held → CountsUnits n (seen_units scope held looks was)
-  counts looks was many = record {
+  pub counts : {n : ℕ} (steps : ℕ) (was : LookupStop) → n ≡ length held → CountsUnits n (seen_units scope held steps was)
+  counts steps was many = record {
     records = many ∙ sym as_many;
     units = many ∙ sym (as_many_indexed scope.file.sections scope.file.units held all_lines);
     answers = many ∙ sym (length-map held (λ (c : UnitCache R). first_answer_of c.entries));

@@ -25,32 +25,32 @@ waiting_entries probe states.Main fs e = absurd cc
 waiting_entries probe (states.Unnamed x) fs e = absurd cc
 waiting_entries probe (states.Answered a) fs e = absurd cc
 
-known_looks : {R : Type 0} (probe : ℕ) (s : ViewState R) (fs : LazyFunctions R) → has_entries_by probe s fs ≡ true → was_checked s ≡ true
-known_looks probe states.Undecided fs h = cc
-known_looks probe states.Open fs h = refl
-known_looks probe states.Main fs h = refl
-known_looks probe (states.Unnamed e) fs h = refl
-known_looks probe (states.Answered a) fs h = refl
+known_checks : {R : Type 0} (probe : ℕ) (s : ViewState R) (fs : LazyFunctions R) → has_entries_by probe s fs ≡ true → was_checked s ≡ true
+known_checks probe states.Undecided fs h = cc
+known_checks probe states.Open fs h = refl
+known_checks probe states.Main fs h = refl
+known_checks probe (states.Unnamed e) fs h = refl
+known_checks probe (states.Answered a) fs h = refl
 
 module _ {R : Type 0} (probe : ℕ) (old mid : UnitEntries R) (functions : mid.functions ≡ old.functions) (same : was_checked old.view.state ≡ true → mid ≡ old) where
   -- a look reads no functions
-  pub look_only : ReadsEntriesOf probe old mid
-  look_only = record {
+  pub check_only : ReadsEntriesOf probe old mid
+  check_only = record {
     alone = λ n ne. ap (λ (fs : LazyFunctions R). cached_detail (cached_functions fs) n) functions;
-    kept = λ has. same (known_looks probe old.view.state old.functions has);
+    kept = λ has. same (known_checks probe old.view.state old.functions has);
   }
 
   -- after a look no more is read
   pub only_after : (new : UnitEntries R) → ReadsEntriesOf probe mid new → ReadsEntriesOf probe old new
   only_after new h = record {
     alone = λ n ne. h.alone n ne ∙ ap (λ (fs : LazyFunctions R). cached_detail (cached_functions fs) n) functions;
-    kept = λ has. (let is = same (known_looks probe old.view.state old.functions has) in h.kept (ap (has_entries probe) is ∙ has) ∙ is);
+    kept = λ has. (let is = same (known_checks probe old.view.state old.functions has) in h.kept (ap (has_entries probe) is ∙ has) ∙ is);
   }
 
   pub stay_after : (new : UnitEntries R) → StayEntries old mid → StayEntries mid new → StayEntries old new
   stay_after new a b = record {
     answer = b.answer ∙ a.answer;
-    view = λ looked. b.view (ap (λ (v : UnitView R). was_checked v.state) (a.view looked) ∙ looked) ∙ a.view looked;
+    view = λ checked. b.view (ap (λ (v : UnitView R). was_checked v.state) (a.view checked) ∙ checked) ∙ a.view checked;
     functions = subst (λ (fs : LazyFunctions R). StayFunctions fs new.functions) functions b.functions;
   }
 

@@ -1,6 +1,6 @@
 -- The units of a context whose lines are cached one after another (on specs/CachedLines.antt and
 -- specs/Parsed.antt).
-use Rattle.addr2line_units.proofs.Common.{◌≡◌, ℕ, zero, suc, ◌+◌, ◌-◌, ◌≤◌, ◌<◌, Bool, true, false, not, ◌&&◌, ◌||◌, List, [], ◌∷◌, ◌++◌, length, map, drop, add-one, get_or, Option, Some, None, slice_get, Result, Ok, Err, is_ok, refl, sym, ap, subst, arith, ◌∙◌, ◌⊎◌, inl, inr, drop_of_length-le, set, Error, Range, ◌>>=◌, ExactlyUnlessOom, fault_of, result_map, WasNotRefused, Sections, UnitRecord, LineTable, Location, read_all, unit_lines, LazyLines, UnitLines, UnitCache, UnitRange, IndexedUnit, has_lines, range_of_unit, unit_ranges, all_lines, first_location, lines_of_unit, location_in, looks_along, looks_in, or_first_location, lines_of_take_memory, AllAskFor, AreParsed, AreReadyForAll, ParsesOnly, StaysParsed, TakeNone, TakeNoneForAll, can_be_read, decides, has_parsed, parses_no_memory, ready_along, unit_decides, AreLinesOf, CachesResult, HaveLinesOf, StayUnits, StaysUnit, indexed_unit, indexed_units, is_parsed, is_uncached, lines_result, lines_result_at, lines_at, parsed_units}
+use Rattle.addr2line_units.proofs.Common.{◌≡◌, ℕ, zero, suc, ◌+◌, ◌-◌, ◌≤◌, ◌<◌, Bool, true, false, not, ◌&&◌, ◌||◌, List, [], ◌∷◌, ◌++◌, length, map, drop, add-one, get_or, Option, Some, None, slice_get, Result, Ok, Err, is_ok, refl, sym, ap, subst, arith, ◌∙◌, ◌⊎◌, inl, inr, drop_of_length-le, set, Error, Range, ◌>>=◌, ExactlyUnlessOom, fault_of, result_map, WasNotRefused, Sections, UnitRecord, LineTable, Location, read_all, unit_lines, LazyLines, UnitLines, UnitCache, UnitRange, IndexedUnit, has_lines, range_of_unit, unit_ranges, all_lines, first_location, lines_of_unit, location_in, steps_along, steps_in, or_first_location, lines_of_take_memory, AllAskFor, AreParsed, AreReadyForAll, ParsesOnly, StaysParsed, TakeNone, TakeNoneForAll, can_be_read, decides, has_parsed, parses_no_memory, ready_along, unit_decides, AreLinesOf, CachesResult, HaveLinesOf, StayUnits, StaysUnit, indexed_unit, indexed_units, is_parsed, is_uncached, lines_result, lines_result_at, lines_at, parsed_units}
 use Rattle.std.proofs.lemmas.List.{append-nil}
 use Rattle.std.proofs.lemmas.List.Sums.{sum_by-cons}
 use Rattle.addr2line_units.specs.Indexed.{IndexState, appended, ranged_seen}
@@ -226,15 +226,15 @@ module _ {R : Type 0} (d : Sections) (us : List UnitRecord) (rs : List (UnitCach
       given (Err x) a i = λ ne. ap fault_of (i ne)
 
 -- the looks along ranges
-pub looks_first : (d : Sections) (units : List IndexedUnit) (r : UnitRange) (rest : List UnitRange) → looks_along d units (r ∷ rest) ≡ looks_in d (slice_get units r.unit) + looks_along d units rest
-looks_first d units r rest = sum_by-cons (λ (x : UnitRange). looks_in d (slice_get units x.unit)) r rest
+pub steps_first : (d : Sections) (units : List IndexedUnit) (r : UnitRange) (rest : List UnitRange) → steps_along d units (r ∷ rest) ≡ steps_in d (slice_get units r.unit) + steps_along d units rest
+steps_first d units r rest = sum_by-cons (λ (x : UnitRange). steps_in d (slice_get units x.unit)) r rest
 
 -- a step's looks, with those of the ranges after it
-pub looks_within : (a b c m n t : ℕ) → b ≤ a + m → a + t ≤ c → t ≡ m + n → b + n ≤ c
-looks_within a b c m n t h k e = omega arith
+pub steps_within : (a b c m n t : ℕ) → b ≤ a + m → a + t ≤ c → t ≡ m + n → b + n ≤ c
+steps_within a b c m n t h k e = omega arith
 
-pub looks_of_step : (b c n : ℕ) → b + n ≤ c → b ≤ c
-looks_of_step b c n h = omega arith
+pub steps_of_one : (b c n : ℕ) → b + n ≤ c → b ≤ c
+steps_of_one b c n h = omega arith
 
 three : (n k : ℕ) → (n < k) ⊎ ((n ≡ k) ⊎ (k < n))
 three zero zero = inr (inl refl)
@@ -333,11 +333,11 @@ all_parsed [] k le f n = refl
 all_parsed (b ∷ p) k le f zero = f zero (omega arith)
 all_parsed (b ∷ p) k le f (suc n) = all_parsed p (k - 1) (omega arith) (λ m h. f (suc m) (omega arith)) n
 
-pub looks_raised : (a b c : ℕ) → a ≤ b → b ≤ c → a ≤ c
-looks_raised a b c h k = omega arith
+pub steps_raised : (a b c : ℕ) → a ≤ b → b ≤ c → a ≤ c
+steps_raised a b c h k = omega arith
 
-pub looks_counted : (a b c : ℕ) → a ≤ b → b < c → a < c
-looks_counted a b c h k = omega arith
+pub steps_counted : (a b c : ℕ) → a ≤ b → b < c → a < c
+steps_counted a b c h k = omega arith
 
 -- what is parsed by one more step is parsed by all of them
 pub only_more : (Asked : ℕ → Type 0) (first mid now : List Bool) (k : ℕ) → ParsesOnly Asked first mid → ParsesOnly (λ n. n ≡ k) mid now → Asked k → ParsesOnly Asked first now

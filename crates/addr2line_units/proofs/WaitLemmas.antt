@@ -3,7 +3,7 @@
 use Rattle.addr2line_units.proofs.Common.{◌≡◌, ℕ, zero, suc, ◌<◌, arith, get_or, Bool, true, false, ◌&&◌, ◌||◌, List, [], ◌∷◌, length, slice_get, Option, Some, None, Result, Ok, Err, ap, refl, sym, subst, ◌∙◌, Error, ◌>>=◌, Sections, UnitRecord, Scope, OnFault, Stop, Skip, UnitRange, UnitCache, UnitEntries, ViewState, indexed_units, FrameRecord, LookupStop, Waits, Finds, FindsNothing, after_fault, asked_frames, ends_lookup, frames_of_number, holds_along, or_stop, stop_along, has_entries, first_answer_of, HaveEntriesOf, HaveViewsOf, answers_in, has_entries_at, waits_at, has_frames_at, IsViewOf, was_checked, waits, FramesResult, frames_by, frames_in, function_in, IndexedUnit, is_open}
 use Rattle.std.specs.Prelude.{IfOk, IfSome, if◌then◌else◌}
 use Rattle.addr2line_units.specs.declared.unit.ViewState.TheVariants as states
-use Rattle.addr2line_units.proofs.AnswerLemmas.{got_unit, looked_waits}
+use Rattle.addr2line_units.proofs.AnswerLemmas.{got_unit, checked_waits}
 use Rattle.addr2line_units.proofs.WalkLemmas.{and_first, and_second}
 
 number_of : LookupStop → ℕ → ℕ
@@ -64,7 +64,7 @@ module _ {R : Type 0} (scope : Scope) (probe : ℕ) where
   waits_there (u ∷ us) [] n own e h = absurd cc
   waits_there (u ∷ us) (v ∷ vs) zero own e h =
       let open_is = open_of_none scope (record { unit = u; language = v.lines.lang }) (first_answer_of v.entries) probe e in
-      looked_waits scope.file.sections u v.entries.view own.0.view (known_was_checked probe v.entries h) ∙ open_is
+      checked_waits scope.file.sections u v.entries.view own.0.view (known_was_checked probe v.entries h) ∙ open_is
   waits_there (u ∷ us) (v ∷ vs) (suc n) own e h = waits_there us vs n own.1 e h
 
   -- so it is where a lookup waits

@@ -13,7 +13,7 @@ use Rattle.addr2line_units.specs.FramesLookup.{FindsNothing, LookupAsks, answer_
 use Rattle.addr2line_units.specs.FunctionParses.{AreFirstDecided, AreReadBefore, AreReadyFor, answers_after_parse, read_of_units}
 use Rattle.addr2line_units.specs.KnownEntries.{LearnsDetailsAt, LearnsNoDetails, LearnsNoFunctions, knows_at}
 use Rattle.addr2line_units.specs.Loads.{forgotten, is_open_at, load_result}
-use Rattle.addr2line_units.specs.Located.{is_found, looks_along}
+use Rattle.addr2line_units.specs.Located.{is_found, steps_along}
 use Rattle.addr2line_units.specs.Parsed.{AllAskFor, AreAllParsed, AreParsed, AreReadyForAll, AsksFor, LeadTo, ParsesOnly, StaysParsed, TakeNone, TakeNoneForAll, ready_along}
 use Rattle.addr2line_units.specs.StaysKnown.{IsReadBy, IsReadyAt, StaysKnown}
 use Rattle.addr2line_units.specs.UnitsState.{IsFaultAt, UnitsState, asked_by, has_all_at, has_few_at}
@@ -21,7 +21,7 @@ use Rattle.addr2line_units.specs.UnitsState.{IsFaultAt, UnitsState, asked_by, ha
 -- nothing is changed but which lines are parsed, how often they were looked at, and that no lookup
 -- of frames is stored: those stay parsed that were, and no others are but those that are asked for
 pub record AfterLines (asks : ℕ → Type 0) (old new : UnitsState) : Type 0 where
-  pub same : new ≡ record old { parsed = new.parsed; looks = new.looks; stop = FindsNothing }
+  pub same : new ≡ record old { parsed = new.parsed; steps = new.steps; stop = FindsNothing }
   pub many : length new.parsed ≡ length old.parsed
   pub parsed : StaysParsed old.parsed new.parsed
   pub only : ParsesOnly asks old.parsed new.parsed
@@ -35,16 +35,16 @@ pub record AfterRow {X : Type 0} (probe : ℕ) (ranges : List UnitRange)
       → ready_along old.scope.file.sections old.units new.parsed probe ranges ≡ true
   pub memory : ready_along old.scope.file.sections old.units new.parsed probe ranges ≡ true
       → WasNotRefused result
-  pub raised : old.looks ≤ new.looks
-  pub counted : is_found result ≡ true → old.looks < new.looks
-  pub cost : new.looks ≤ old.looks + looks_along old.scope.file.sections old.units ranges
+  pub raised : old.steps ≤ new.steps
+  pub counted : is_found result ≡ true → old.steps < new.steps
+  pub cost : new.steps ≤ old.steps + steps_along old.scope.file.sections old.units ranges
 
 -- after the lines of units along ranges were parsed, or after OutOfMemory, where those of a unit
 -- are left that take memory, over readers that share their bytes or don't
 pub record AfterCaching {X : Type 0} (shares : Bool) (ranges : List UnitRange)
     (result : Result X Error) (old new : UnitsState) : Type 0 where
   pub lines : AfterLines (LeadTo ranges) old new
-  pub looks : new.looks ≡ old.looks
+  pub steps : new.steps ≡ old.steps
   pub parsed : OnOk result (AreParsed new.parsed ranges)
   pub memory : TakeNone shares old.units new.parsed ranges → WasNotRefused result
   pub refused : IfErr result (λ e. e ≡ OutOfMemory)
@@ -54,7 +54,7 @@ pub record AfterCaching {X : Type 0} (shares : Bool) (ranges : List UnitRange)
 pub record AfterLineParse (shares : Bool) (result : Result (Unit {0}) Error) (old new : UnitsState)
     : Type 0 where
   pub lines : AfterLines (AllAskFor old.scope.file.sections old.units) old new
-  pub looks : new.looks ≡ old.looks
+  pub steps : new.steps ≡ old.steps
   pub ready : WasNotRefused result → AreReadyForAll old.scope.file.sections old.units new.parsed
   pub memory : TakeNoneForAll shares old.scope.file.sections old.units new.parsed
       → WasNotRefused result
@@ -73,7 +73,7 @@ pub record WereAsked (asks : ℕ → Type 0) (probe : ℕ) (old new : UnitsState
   pub learns : (n : ℕ) → (slice_get new.known n ≡ slice_get old.known n) ⊎ asks n
   pub details : LearnsDetailsAt (function_offset_of old.scope old.units old.answers probe) old.known
       new.known
-  pub raised : old.looks ≤ new.looks
+  pub raised : old.steps ≤ new.steps
 
 -- after units were asked; the same lookup reads nothing more, but after OutOfMemory, and no lookup
 -- of frames is stored where this one was refused

@@ -8,7 +8,7 @@ use Rattle.addr2line_units.specs.declared.entries.UnitFrames.{UnitFrames}
 use Rattle.addr2line_units.specs.AfterUnits.{AfterAsking, AfterLines}
 use Rattle.addr2line_units.specs.CachedFrames.{stop_of_found}
 use Rattle.addr2line_units.specs.FramesLookup.{Finds, FindsNothing, LookupStop, Waits, or_stop}
-use Rattle.addr2line_units.specs.Located.{is_found, looks_in}
+use Rattle.addr2line_units.specs.Located.{is_found, steps_in}
 use Rattle.addr2line_units.specs.Parsed.{has_parsed, parses_no_memory}
 use Rattle.addr2line_units.specs.UnitsState.{UnitsState, asked_by, has_all_at, has_few_at}
 
@@ -40,17 +40,17 @@ pub record AfterRowAt {X : Type 0} (number : ℕ) (result : Result (Option X) Er
   pub lines : AfterLines (λ n. n ≡ number) old new
   pub ready : WasNotRefused result → has_parsed new.parsed number ≡ true
   pub memory : has_parsed new.parsed number ≡ true → WasNotRefused result
-  pub raised : old.looks ≤ new.looks
-  pub counted : is_found result ≡ true → old.looks < new.looks
-  pub cost : new.looks ≤ old.looks
-      + looks_in old.scope.file.sections (slice_get old.units number)
+  pub raised : old.steps ≤ new.steps
+  pub counted : is_found result ≡ true → old.steps < new.steps
+  pub cost : new.steps ≤ old.steps
+      + steps_in old.scope.file.sections (slice_get old.units number)
 
 -- after the lines of the unit of a number were parsed, or after OutOfMemory, where they aren't, and
 -- take memory, over readers that share their bytes or don't
 pub record AfterCachingAt {X : Type 0} (shares : Bool) (number : ℕ) (result : Result X Error)
     (old new : UnitsState) : Type 0 where
   pub lines : AfterLines (λ n. n ≡ number) old new
-  pub looks : new.looks ≡ old.looks
+  pub steps : new.steps ≡ old.steps
   pub ready : WasNotRefused result → has_parsed new.parsed number ≡ true
   pub memory : parses_no_memory shares old.units new.parsed number ≡ true → WasNotRefused result
 

@@ -7,7 +7,7 @@ use Rattle.std.specs.List.{AllZip}
 use Rattle.addr2line_units.specs.Common.{Error, OutOfMemory, Range, ◌>>=◌, fault_of, Sections, UnitRecord, Location, location_of_row, LocatedSpan, locations_in_range, sequence_ranges, unit_lines}
 use Rattle.addr2line_lines.specs.declared.row.Row.{Row}
 use Rattle.addr2line_lines.specs.Location.{LineTable as Lines}
-use Rattle.addr2line_lines.specs.Counts.{most_looks_in}
+use Rattle.addr2line_lines.specs.Counts.{most_steps_in}
 use Rattle.addr2line_lines.specs.Spans.{row_at}
 use Rattle.addr2line_units.specs.declared.units.UnitRow.{UnitRow}
 use Rattle.addr2line_units.specs.declared.unit.LazyLines.{LazyLines}
@@ -76,10 +76,10 @@ abbrev pub cached_row : ℕ → LazyLines → Option Row
 cached_row probe (Read lines) = row_at probe (box_value lines).sequences
 cached_row probe _ = None
 
--- the most looks at cached lines
-abbrev pub cached_looks : LazyLines → ℕ
-cached_looks (Read lines) = most_looks_in (box_value lines)
-cached_looks _ = 0
+-- the most steps in cached lines
+abbrev pub cached_steps : LazyLines → ℕ
+cached_steps (Read lines) = most_steps_in (box_value lines)
+cached_steps _ = 0
 
 -- what cached lines have in a range, or their cached fault
 abbrev pub cached_spans : Range → ℕ → ℕ → LazyLines → List (Result LocatedSpan Error)

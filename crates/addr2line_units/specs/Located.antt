@@ -5,7 +5,7 @@
 -- on with the next one.
 use Rattle.std.specs.Prelude.{ℕ, Bool, true, false, List, [], ◌∷◌, flat_map, map, slice_get, sum_by, Option, Some, None, Result, Ok, Err}
 use Rattle.addr2line_units.specs.Common.{Error, Range, ◌>>=◌, Sections, LineTable, Location, location_at, LocatedSpan, locations_in_range, unit_lines}
-use Rattle.addr2line_lines.specs.Counts.{most_looks_in}
+use Rattle.addr2line_lines.specs.Counts.{most_steps_in}
 use Rattle.addr2line_lines.specs.Rows.{read_all}
 use Rattle.addr2line_units.specs.declared.index.UnitRange.{UnitRange}
 use Rattle.addr2line_units.specs.UnitIndex.{index_units}
@@ -78,16 +78,16 @@ spans_of d low high =
 abbrev pub all_lines : Sections → List IndexedUnit → Result (List LineTable) Error
 all_lines d units = read_all (map (lines_of_unit d) units)
 
--- the most looks at the lines of a unit
-abbrev pub looks_in : Sections → Option IndexedUnit → ℕ
-looks_in d None = 0
-looks_in d (Some u) = of_lines (lines_of_unit d u)
+-- the most steps in the lines of a unit
+abbrev pub steps_in : Sections → Option IndexedUnit → ℕ
+steps_in d None = 0
+steps_in d (Some u) = of_lines (lines_of_unit d u)
   where
     of_lines : Result LineTable Error → ℕ
-    of_lines (Ok lines) = most_looks_in lines
+    of_lines (Ok lines) = most_steps_in lines
     of_lines (Err e) = 0
 
--- the most looks at the lines of the units that ranges lead to
-abbrev pub looks_along : Sections → List IndexedUnit → List UnitRange → ℕ
-looks_along d units ranges =
-    sum_by (λ (r : UnitRange). looks_in d (slice_get units r.unit)) ranges
+-- the most steps in the lines of the units that ranges lead to
+abbrev pub steps_along : Sections → List IndexedUnit → List UnitRange → ℕ
+steps_along d units ranges =
+    sum_by (λ (r : UnitRange). steps_in d (slice_get units r.unit)) ranges

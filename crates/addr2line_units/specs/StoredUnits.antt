@@ -18,13 +18,13 @@ scope_of s = scope_in s.dwarf.value s.units.items s.sup
 
 -- units by what is cached of them
 abbrev pub seen_units : {R : Type 0} → Scope → List (UnitCache R) → ℕ → LookupStop → UnitsState
-seen_units scope caches looks stop = record {
+seen_units scope caches steps stop = record {
   scope = scope;
   units = indexed_units scope.file.units caches;
   answers = answers_in caches;
   parsed = parsed_units caches;
   known = known_in caches;
-  looks = looks;
+  steps = steps;
   stop = stop;
 }
 

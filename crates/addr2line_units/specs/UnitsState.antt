@@ -23,7 +23,7 @@ pub record UnitsState : Type 0 where
   pub answers : FirstAnswers
   pub parsed : List Bool
   pub known : List KnownEntries
-  pub looks : ℕ
+  pub steps : ℕ
   pub stop : LookupStop
 
 -- units as they are read, and those of the supplementary file: nothing is answered, and nothing
@@ -39,7 +39,7 @@ first_state d units sup = record {
   answers = map (λ _. None) units;
   parsed = map has_lines units;
   known = map (λ _. NothingKnown) units;
-  looks = 0;
+  steps = 0;
   stop = FindsNothing;
 }
 

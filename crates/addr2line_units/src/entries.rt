@@ -343,7 +343,7 @@ impl<R: Reader> UnitEntries<R> {
     ) -> Result<Option<FunctionPlace>, Error>
         requires in_order { IsScope (seen_scope scope) }
         requires right { AreEntriesOf (seen_scope scope) dw_unit.now self.old }
-        requires looked { was_checked self.old.view.state ≡ true }
+        requires checked { was_checked self.old.view.state ≡ true }
         requires decided { waits self.old.view.state ≡ false }
         ensures gives { ExactlyUnlessOom (found_in_cache self.new.functions) result
             (function_in (seen_scope scope.entry) dw_unit.now (first_answer_of self.old) probe) }
@@ -378,7 +378,7 @@ pub(crate) fn find_frames_in<'x, R: Reader>(
     dw_unit: &'x Unit<R>,
     unit: &mut UnitLines,
     entries: &mut UnitEntries<R>,
-    looks: &mut Count,
+    steps: &mut Count,
     probe: u64,
 ) -> Result<UnitFrames, Error>
     requires in_order { IsScope (seen_scope scope) }
@@ -406,13 +406,13 @@ pub(crate) fn find_frames_in<'x, R: Reader>(
         (first_answer_of entries.old) probe unit.new entries.new → IfErr result (λ e. frames_in
         (seen_scope scope.entry) (indexed_unit dw_unit.now unit.old) (first_answer_of entries.old)
         probe ≡ Err e) }
-    ensures looks { looks.old ≤ looks.new }
+    ensures steps { steps.old ≤ steps.new }
 {
     entries.check_split(scope, dw_unit);
     if entries.view.is_open() {
         return Ok(UnitFrames::Open);
     }
     let function = entries.find_function(alloc, scope, dw_unit, probe)?;
-    let row = unit.find_row(alloc, scope.file.dwarf, dw_unit, looks, probe)?;
+    let row = unit.find_row(alloc, scope.file.dwarf, dw_unit, steps, probe)?;
     Ok(UnitFrames::Here { function, row })
 }

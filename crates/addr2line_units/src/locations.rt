@@ -173,7 +173,7 @@ impl<R: Reader> Units<R> {
             self.alloc,
             scope.file.dwarf,
             dw_unit,
-            &mut self.looks,
+            &mut self.steps,
             probe,
         )
     }

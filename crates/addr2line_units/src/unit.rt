@@ -5,9 +5,9 @@ ghost use Rattle.std.specs.Prelude.{◌≡◌, ◌≢◌, ◌+◌, ◌<◌, ◌�
 ghost use Rattle.addr2line_units.specs.Common.{Exactly, ExactlyUnlessOom, ExactlyUnlessOomIf, WasNotRefused, OutOfMemory, Sections, UnitRecord, location_of_row, IsScope, seen_scope};
 ghost use Rattle.addr2line_units.specs.RangedUnits.{is_partial, is_type_unit, listed_in_unit, listed_unit_ranges, has_lines, asks_lines, ranged_unit, unit_ranges};
 ghost use Rattle.addr2line_units.specs.AskMemory.{lines_take_memory};
-ghost use Rattle.addr2line_units.specs.Located.{is_found, location_in, looks_in};
+ghost use Rattle.addr2line_units.specs.Located.{is_found, location_in, steps_in};
 ghost use Rattle.addr2line_units.specs.UnitAranges.{range_in};
-ghost use Rattle.addr2line_units.specs.CachedLines.{AreLinesOf, IsUnparsed, LinesStayCached, CachesResult, StaysUnit, cached_lines_result, cached_files, cached_looks, cached_ranges, cached_row, indexed_unit, lines_result, cached_lines, is_parsed, is_uncached};
+ghost use Rattle.addr2line_units.specs.CachedLines.{AreLinesOf, IsUnparsed, LinesStayCached, CachesResult, StaysUnit, cached_lines_result, cached_files, cached_steps, cached_ranges, cached_row, indexed_unit, lines_result, cached_lines, is_parsed, is_uncached};
 ghost use Rattle.addr2line_units.specs.Indexed.{ranged_seen};
 ghost use Rattle.addr2line_units.specs.AnswerMemory.{answer_takes_memory};
 ghost use Rattle.addr2line_units.specs.CachedViews.{IsViewOf, answer_in, is_decided, parts_or_fault, seen_first_answer, seen_sections, split_file_by, split_file_in, split_unit, unboxed, verdict_in, view_in, waits, was_checked};
@@ -203,14 +203,14 @@ fn sequence_ranges(alloc: Global, lines: &LazyLines) -> Result<Vec<Range>, Error
 }
 
 // The row of an address in cached lines.
-fn find_cached_row(lines: &LazyLines, looks: &mut Count, probe: u64) -> Option<Row>
+fn find_cached_row(lines: &LazyLines, steps: &mut Count, probe: u64) -> Option<Row>
     ensures found { result ≡ cached_row probe lines.now }
-    ensures bound { looks.new ≤ looks.old + cached_looks lines.now }
-    ensures looks { looks.old ≤ looks.new }
-    ensures some { IfSome result (λ row. looks.old < looks.new) }
+    ensures bound { steps.new ≤ steps.old + cached_steps lines.now }
+    ensures steps { steps.old ≤ steps.new }
+    ensures some { IfSome result (λ row. steps.old < steps.new) }
 {
     match lines {
-        LazyLines::Read(lines) => lines.find_row(looks, probe),
+        LazyLines::Read(lines) => lines.find_row(steps, probe),
         LazyLines::Faulty(_) | LazyLines::Absent | LazyLines::Unread => None,
     }
 }
@@ -304,7 +304,7 @@ impl UnitLines {
         alloc: Global,
         dwarf: &Dwarf<R>,
         dw_unit: &Unit<R>,
-        looks: &mut Count,
+        steps: &mut Count,
         probe: u64,
     ) -> Result<Option<Row>, Error>
         requires read { AreLinesOf dwarf.now dw_unit.now self.old.lines }
@@ -320,13 +320,13 @@ impl UnitLines {
         ensures no_memory { lines_take_memory R.shares dw_unit.now ≡ false → IfErr result (λ e.
             location_in dwarf.now probe (Some (indexed_unit dw_unit.now self.old)) ≡ Err e) }
         ensures read { AreLinesOf dwarf.now dw_unit.now self.new.lines }
-        ensures bound { looks.new ≤ looks.old
-            + looks_in dwarf.now (Some (indexed_unit dw_unit.now self.old)) }
-        ensures looks { looks.old ≤ looks.new }
-        ensures some { is_found result ≡ true → looks.old < looks.new }
+        ensures bound { steps.new ≤ steps.old
+            + steps_in dwarf.now (Some (indexed_unit dw_unit.now self.old)) }
+        ensures steps { steps.old ≤ steps.new }
+        ensures some { is_found result ≡ true → steps.old < steps.new }
     {
         self.read_lines(alloc, dwarf, dw_unit)?;
-        Ok(find_cached_row(&self.lines, looks, probe))
+        Ok(find_cached_row(&self.lines, steps, probe))
     }
 }
 

@@ -40,7 +40,7 @@ pub struct Units<R: Reader> {
     // What the last lookup of frames or of a unit has come to, from which it is lent.
     pub(crate) stop: FramesStop,
     // How often the lines of units were looked at, for contracts alone: it has no bytes.
-    pub(crate) looks: Count,
+    pub(crate) steps: Count,
 }
 
 impl<R: Reader> Model for Units<R> {
@@ -50,7 +50,7 @@ impl<R: Reader> Model for Units<R> {
 
     ghost Value = { UnitsState };
 
-    ghost view = { λ u. seen_units (scope_of u.sources) u.caches.items u.looks
+    ghost view = { λ u. seen_units (scope_of u.sources) u.caches.items u.steps
         (seen_stop u.caches.items u.stop) };
 
     ghost invariant = { λ u. AreUnits (scope_of u.sources) u.caches.items u.stop };
@@ -284,7 +284,7 @@ impl<R: Reader> Units<R> {
             sources,
             caches,
             stop: FramesStop::FindsNothing,
-            looks: Count::new(),
+            steps: Count::new(),
         };
         Ok((units, ranges))
     }

@@ -91,8 +91,8 @@ fn sequences_have_ranges_in_order(rt: HostRuntime) {
 // The line at an address, with and without the count of looks, and with that which a search raises
 // as it runs; 0 for none.
 fn lines_at(lines: &Lines, probe: u64) -> [u32; 3] {
-    let mut looks = Count::new();
-    let counted = lines.find_location_counted(&mut looks, probe);
+    let mut steps = Count::new();
+    let counted = lines.find_location_counted(&mut steps, probe);
     let plain = lines.find_location(probe);
     let (watched, _) = lines.find_location_watched(probe);
     [counted, plain, watched].map(|found| found.and_then(|location| location.line).unwrap_or(0))
@@ -128,14 +128,14 @@ fn a_lookup_that_counts_answers_alike(rt: HostRuntime) {
 
 // The least and the most looks of searches: of those that find a row, and of the others.
 #[derive(Clone, Copy, Debug)]
-struct Looks {
+struct Steps {
     least: u64,
     most: u64,
     other_least: u64,
     other_most: u64,
 }
 
-impl Looks {
+impl Steps {
     // One more search.
     fn add(&mut self, lines: &Lines, probe: u64) {
         let (found, number) = lines.find_location_watched(probe);
@@ -156,8 +156,8 @@ impl Looks {
 }
 
 // The looks of searches for all addresses up to 0x2000; none are bounded where there are no lines.
-fn looks_in(alloc: Global, line: &[u8]) -> Looks {
-    let mut looks = Looks {
+fn steps_in(alloc: Global, line: &[u8]) -> Steps {
+    let mut steps = Steps {
         least: u64::MAX,
         most: 0,
         other_least: u64::MAX,
@@ -166,12 +166,12 @@ fn looks_in(alloc: Global, line: &[u8]) -> Looks {
     match lines_of(alloc, &INFO_WIDE, line) {
         Ok(lines) => {
             for probe in 0..0x2000 {
-                looks.add(&lines, probe);
+                steps.add(&lines, probe);
             }
         }
-        Err(_) => looks.most = u64::MAX,
+        Err(_) => steps.most = u64::MAX,
     }
-    looks
+    steps
 }
 
 #[test]
@@ -179,8 +179,8 @@ fn a_search_looks_at_few_blocks_and_rows(rt: HostRuntime) {
     // The digits of the number of sequences and of that of the four blocks, and the rows of one.
     let cases: [(&[u8], u64); 2] = [(&TWO_HUNDRED_ROWS, 1 + 3 + 64), (&SHARED_BLOCK, 2 + 3 + 64)];
     for (line, most) in cases {
-        let looks = looks_in(rt.alloc(), line);
-        assert!(rt; looks.are_bounded(most), "{looks:?}");
+        let steps = steps_in(rt.alloc(), line);
+        assert!(rt; steps.are_bounded(most), "{steps:?}");
     }
 }
 

@@ -33,7 +33,7 @@ loop-size-preserved g c =
     let z = sequence_rows_of _ c.args.sequence c.requires.among in
     let m : ℕ = c.loop-size.best / 64 + c.loop-size.size / 2 in
     let cost = digits_half (c.loop-size.size - c.loop-size.size / 2 - 1) (c.loop-size.size - 1) (omega arith) (omega arith) in
-    let count = c.block.ensures.looks in
+    let count = c.block.ensures.steps in
     let here : row_address_at rows (64 * m) ≡ c.block.result = ap (λ (xs : List Row). row_address_at xs (64 * m)) (sym i.rows) ∙ sym c.block.ensures.gives in
     let some = z.some in
     let upto = i.upto in let was = i.cost in let from = i.from in

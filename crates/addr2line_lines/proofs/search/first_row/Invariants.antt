@@ -11,8 +11,8 @@ invariant-loop-size g l =
       upto : l.best / 64 + l.size ≤ (l.fn.sequence.first + (l.fn.sequence.len - 1)) / 64 + 1;
       sequences : g.T.Table.sequences l.table ≡ g.T.Table.sequences l.fn.table;
       rows : g.T.Table.rows l.table ≡ listed;
-      cost : g.T.Table.looks l.table + digits (l.size - 1) ≤ g.T.Table.looks l.fn.table + digits (blocks (length listed));
-      raised : g.T.Table.looks l.fn.table ≤ g.T.Table.looks l.table;
+      cost : g.T.Table.steps l.table + digits (l.size - 1) ≤ g.T.Table.steps l.fn.table + digits (blocks (length listed));
+      raised : g.T.Table.steps l.fn.table ≤ g.T.Table.steps l.table;
       from : l.fn.sequence.first ≤ l.best;
       inside : l.best < l.fn.sequence.first + l.fn.sequence.len;
       below : row_address_at listed l.best ≤ l.probe;

@@ -21,7 +21,7 @@ returns-then-row-probe-clause-found g c =
 pub loop-next-preserved : goal.loop-next-preserved
 loop-next-preserved g c =
     let i = c.loop-next.invariant in let all = g.T.Table.rows c.args.table.now in
-    let count = c.row.ensures.looks in let was = i.cost in
+    let count = c.row.ensures.steps in let was = i.cost in
     let here : row_address_at all (c.loop-next.next + 1 - 1) ≡ c.row.result.address = ap (λ (r : Row). r.address) (read_at all _ _ (c.loop-next.next + 1 - 1) _ _ c.row.ensures.gives i.rows (omega arith)) in
     let low = c.if-row-probe.false in
     record {

@@ -7,6 +7,6 @@ invariant-loop-next g l =
     record {
       sequences : g.T.Table.sequences l.table ≡ g.T.Table.sequences l.fn.table;
       rows : g.T.Table.rows l.table ≡ listed;
-      cost : g.T.Table.looks l.table + l.from + 1 ≡ g.T.Table.looks l.fn.table + l.next;
+      cost : g.T.Table.steps l.table + l.from + 1 ≡ g.T.Table.steps l.fn.table + l.next;
       below : row_address_at listed (l.next - 1) ≤ l.probe;
     }

@@ -9,7 +9,7 @@ loop-low-preserved-then-sequence-probe g c =
     let all = g.T.Table.sequences c.args.table.now in
     let test = c.loop-low-test.true in
     let cost = digits_half (c.loop-low.high - (c.loop-low.low + (c.loop-low.high - c.loop-low.low) / 2 + 1)) (c.loop-low.high - c.loop-low.low) (omega arith) (omega arith) in
-    let count = c.sequence-sequence.ensures.looks in
+    let count = c.sequence-sequence.ensures.steps in
     let was = i.cost in
     record {
       within = omega arith;
@@ -28,7 +28,7 @@ loop-low-preserved g c =
     let all = g.T.Table.sequences c.args.table.now in
     let test = c.loop-low-test.true in
     let cost = digits_half (c.loop-low.low + (c.loop-low.high - c.loop-low.low) / 2 - c.loop-low.low) (c.loop-low.high - c.loop-low.low) (omega arith) (omega arith) in
-    let count = c.sequence-sequence.ensures.looks in
+    let count = c.sequence-sequence.ensures.steps in
     let was = i.cost in
     record {
       within = omega arith;

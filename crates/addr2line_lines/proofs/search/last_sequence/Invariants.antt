@@ -11,8 +11,8 @@ invariant-loop-low g l =
       upto : l.high ≤ length all;
       sequences : g.T.Table.sequences l.table ≡ all;
       rows : g.T.Table.rows l.table ≡ g.T.Table.rows l.fn.table;
-      cost : g.T.Table.looks l.table + digits (l.high - l.low) ≤ g.T.Table.looks l.fn.table + digits (length all);
-      raised : g.T.Table.looks l.fn.table ≤ g.T.Table.looks l.table;
+      cost : g.T.Table.steps l.table + digits (l.high - l.low) ≤ g.T.Table.steps l.fn.table + digits (length all);
+      raised : g.T.Table.steps l.fn.table ≤ g.T.Table.steps l.table;
       below : IsLastBefore l.probe all l.low l.best;
       past : SequencesPast l.probe all l.high;
     }

@@ -1,6 +1,6 @@
 use Rattle.addr2line_units.proofs.Common.{◌≡◌, ◌∙◌, Err, Ok, Some, ap, false, option_map, subst, sym, true, err_from_is_err_and, exceeds_inline_room, location_of_row, seen_scope, cached_files, indexed_unit, found_frames, AsksNoMemoryIn, first_answer_of, function_of_place, cached_functions, location_in, function_in, inlined_of_unit, is_open}
-use Rattle.addr2line_units.proofs.EntryLemmas.{looked_decides, not_open}
-use Rattle.addr2line_units.proofs.UnitFrameLemmas.{closed_asks, fault_frames, function_alone, lines_alone, lines_fault_frames, lines_frames, look_only, only_after, open_asks, open_frames, stay_after, waiting_entries, waiting_stays_open}
+use Rattle.addr2line_units.proofs.EntryLemmas.{checked_decides, not_open}
+use Rattle.addr2line_units.proofs.UnitFrameLemmas.{closed_asks, fault_frames, function_alone, lines_alone, lines_fault_frames, lines_frames, check_only, only_after, open_asks, open_frames, stay_after, waiting_entries, waiting_stays_open}
 use Rattle.addr2line_units.proofs.entries.find_frames_in.Goals as goal
 
 pub returns-then-is_open-clause-gives : goal.returns-then-is_open-clause-gives
@@ -30,7 +30,7 @@ returns-then-is_open-clause-within g c =
     let mid = c.check_split.new.self in
     let x = indexed_unit u c.args.unit.now in
     let answer = first_answer_of old in
-    look_only probe old mid c.check_split.ensures.functions c.check_split.ensures.kept
+    check_only probe old mid c.check_split.ensures.functions c.check_split.ensures.kept
 
 pub returns-then-is_open-clause-known : goal.returns-then-is_open-clause-known
 returns-then-is_open-clause-known g c =
@@ -54,7 +54,7 @@ returns-in_err-function-clause-gives g c =
     let mid = c.check_split.new.self in
     let x = indexed_unit u c.args.unit.now in
     let answer = first_answer_of old in
-    let decided = looked_decides mid.view.state c.check_split.ensures.known (sym c.is_open.ensures.gives ∙ c.if-is_open.false) in
+    let decided = checked_decides mid.view.state c.check_split.ensures.known (sym c.is_open.ensures.gives ∙ c.if-is_open.false) in
     let closed : is_open scope.file.sections u answer ≡ false = ap (is_open scope.file.sections u) (sym c.check_split.ensures.after.answer) ∙ not_open scope u probe mid c.check_split.ensures.right decided in
     let p = err_from_is_err_and c.from_residual.result c.from_residual.ensures.1 in
     rw (p.1, p.2) (λ ne. fault_frames scope x answer probe closed c.in_err-function.field-0.0 (ap (λ a. function_in scope u a probe) (sym c.check_split.ensures.after.answer) ∙ c.in_err-function.ensures.gives ne))
@@ -90,7 +90,7 @@ returns-in_err-function-clause-known g c =
     let mid = c.check_split.new.self in
     let x = indexed_unit u c.args.unit.now in
     let answer = first_answer_of old in
-    let decided = looked_decides mid.view.state c.check_split.ensures.known (sym c.is_open.ensures.gives ∙ c.if-is_open.false) in
+    let decided = checked_decides mid.view.state c.check_split.ensures.known (sym c.is_open.ensures.gives ∙ c.if-is_open.false) in
     let closed : is_open scope.file.sections u answer ≡ false = ap (is_open scope.file.sections u) (sym c.check_split.ensures.after.answer) ∙ not_open scope u probe mid c.check_split.ensures.right decided in
     let p = err_from_is_err_and c.from_residual.result c.from_residual.ensures.1 in
     rw (p.1, p.2) (λ ne. λ asks. (let no : false ≡ true = sym (closed_asks scope x answer probe closed (Err c.in_err-function.field-0.0) (ap (λ a. function_in scope u a probe) (sym c.check_split.ensures.after.answer) ∙ c.in_err-function.ensures.gives ne)) ∙ asks in absurd cc))
@@ -104,7 +104,7 @@ returns-in_err-row-clause-gives g c =
     let mid = c.check_split.new.self in
     let x = indexed_unit u c.args.unit.now in
     let answer = first_answer_of old in
-    let decided = looked_decides mid.view.state c.check_split.ensures.known (sym c.is_open.ensures.gives ∙ c.if-is_open.false) in
+    let decided = checked_decides mid.view.state c.check_split.ensures.known (sym c.is_open.ensures.gives ∙ c.if-is_open.false) in
     let closed : is_open scope.file.sections u answer ≡ false = ap (is_open scope.file.sections u) (sym c.check_split.ensures.after.answer) ∙ not_open scope u probe mid c.check_split.ensures.right decided in
     let f = option_map (function_of_place (cached_functions c.find_function.new.self.functions)) c.in_ok-function.function in
     let found : function_in scope u answer probe ≡ Ok f = ap (λ a. function_in scope u a probe) (sym c.check_split.ensures.after.answer) ∙ c.in_ok-function.ensures.gives in
@@ -142,7 +142,7 @@ returns-in_err-row-clause-kept g c =
     let mid = c.check_split.new.self in
     let x = indexed_unit u c.args.unit.now in
     let answer = first_answer_of old in
-    let decided = looked_decides mid.view.state c.check_split.ensures.known (sym c.is_open.ensures.gives ∙ c.if-is_open.false) in
+    let decided = checked_decides mid.view.state c.check_split.ensures.known (sym c.is_open.ensures.gives ∙ c.if-is_open.false) in
     let closed : is_open scope.file.sections u answer ≡ false = ap (is_open scope.file.sections u) (sym c.check_split.ensures.after.answer) ∙ not_open scope u probe mid c.check_split.ensures.right decided in
     let f = option_map (function_of_place (cached_functions c.find_function.new.self.functions)) c.in_ok-function.function in
     let found : function_in scope u answer probe ≡ Ok f = ap (λ a. function_in scope u a probe) (sym c.check_split.ensures.after.answer) ∙ c.in_ok-function.ensures.gives in
@@ -157,7 +157,7 @@ returns-in_err-row-clause-memory g c =
     let mid = c.check_split.new.self in
     let x = indexed_unit u c.args.unit.now in
     let answer = first_answer_of old in
-    let decided = looked_decides mid.view.state c.check_split.ensures.known (sym c.is_open.ensures.gives ∙ c.if-is_open.false) in
+    let decided = checked_decides mid.view.state c.check_split.ensures.known (sym c.is_open.ensures.gives ∙ c.if-is_open.false) in
     let closed : is_open scope.file.sections u answer ≡ false = ap (is_open scope.file.sections u) (sym c.check_split.ensures.after.answer) ∙ not_open scope u probe mid c.check_split.ensures.right decided in
     let f = option_map (function_of_place (cached_functions c.find_function.new.self.functions)) c.in_ok-function.function in
     let found : function_in scope u answer probe ≡ Ok f = ap (λ a. function_in scope u a probe) (sym c.check_split.ensures.after.answer) ∙ c.in_ok-function.ensures.gives in
@@ -173,7 +173,7 @@ returns-clause-gives g c =
     let mid = c.check_split.new.self in
     let x = indexed_unit u c.args.unit.now in
     let answer = first_answer_of old in
-    let decided = looked_decides mid.view.state c.check_split.ensures.known (sym c.is_open.ensures.gives ∙ c.if-is_open.false) in
+    let decided = checked_decides mid.view.state c.check_split.ensures.known (sym c.is_open.ensures.gives ∙ c.if-is_open.false) in
     let closed : is_open scope.file.sections u answer ≡ false = ap (is_open scope.file.sections u) (sym c.check_split.ensures.after.answer) ∙ not_open scope u probe mid c.check_split.ensures.right decided in
     let f = option_map (function_of_place (cached_functions c.find_function.new.self.functions)) c.in_ok-function.function in
     let found : function_in scope u answer probe ≡ Ok f = ap (λ a. function_in scope u a probe) (sym c.check_split.ensures.after.answer) ∙ c.in_ok-function.ensures.gives in
@@ -190,7 +190,7 @@ returns-clause-there g c =
     let mid = c.check_split.new.self in
     let x = indexed_unit u c.args.unit.now in
     let answer = first_answer_of old in
-    let decided = looked_decides mid.view.state c.check_split.ensures.known (sym c.is_open.ensures.gives ∙ c.if-is_open.false) in
+    let decided = checked_decides mid.view.state c.check_split.ensures.known (sym c.is_open.ensures.gives ∙ c.if-is_open.false) in
     let closed : is_open scope.file.sections u answer ≡ false = ap (is_open scope.file.sections u) (sym c.check_split.ensures.after.answer) ∙ not_open scope u probe mid c.check_split.ensures.right decided in
     let f = option_map (function_of_place (cached_functions c.find_function.new.self.functions)) c.in_ok-function.function in
     let found : function_in scope u answer probe ≡ Ok f = ap (λ a. function_in scope u a probe) (sym c.check_split.ensures.after.answer) ∙ c.in_ok-function.ensures.gives in
@@ -228,7 +228,7 @@ returns-clause-kept g c =
     let mid = c.check_split.new.self in
     let x = indexed_unit u c.args.unit.now in
     let answer = first_answer_of old in
-    let decided = looked_decides mid.view.state c.check_split.ensures.known (sym c.is_open.ensures.gives ∙ c.if-is_open.false) in
+    let decided = checked_decides mid.view.state c.check_split.ensures.known (sym c.is_open.ensures.gives ∙ c.if-is_open.false) in
     let closed : is_open scope.file.sections u answer ≡ false = ap (is_open scope.file.sections u) (sym c.check_split.ensures.after.answer) ∙ not_open scope u probe mid c.check_split.ensures.right decided in
     let f = option_map (function_of_place (cached_functions c.find_function.new.self.functions)) c.in_ok-function.function in
     let found : function_in scope u answer probe ≡ Ok f = ap (λ a. function_in scope u a probe) (sym c.check_split.ensures.after.answer) ∙ c.in_ok-function.ensures.gives in
@@ -278,7 +278,7 @@ returns-in_err-function-clause-no_memory g c =
     let mid = c.check_split.new.self in
     let x = indexed_unit u c.args.unit.now in
     let answer = first_answer_of old in
-    let decided = looked_decides mid.view.state c.check_split.ensures.known (sym c.is_open.ensures.gives ∙ c.if-is_open.false) in
+    let decided = checked_decides mid.view.state c.check_split.ensures.known (sym c.is_open.ensures.gives ∙ c.if-is_open.false) in
     let closed : is_open scope.file.sections u answer ≡ false = ap (is_open scope.file.sections u) (sym c.check_split.ensures.after.answer) ∙ not_open scope u probe mid c.check_split.ensures.right decided in
     let p = err_from_is_err_and c.from_residual.result c.from_residual.ensures.1 in
     let e = c.in_err-function.field-0.0 in
@@ -296,7 +296,7 @@ returns-in_err-row-clause-no_memory g c =
     let mid = c.check_split.new.self in
     let x = indexed_unit u c.args.unit.now in
     let answer = first_answer_of old in
-    let decided = looked_decides mid.view.state c.check_split.ensures.known (sym c.is_open.ensures.gives ∙ c.if-is_open.false) in
+    let decided = checked_decides mid.view.state c.check_split.ensures.known (sym c.is_open.ensures.gives ∙ c.if-is_open.false) in
     let closed : is_open scope.file.sections u answer ≡ false = ap (is_open scope.file.sections u) (sym c.check_split.ensures.after.answer) ∙ not_open scope u probe mid c.check_split.ensures.right decided in
     let f = option_map (function_of_place (cached_functions c.find_function.new.self.functions)) c.in_ok-function.function in
     let found : function_in scope u answer probe ≡ Ok f = ap (λ a. function_in scope u a probe) (sym c.check_split.ensures.after.answer) ∙ c.in_ok-function.ensures.gives in

@@ -19,8 +19,8 @@ returns-clause-after g c =
     let s = c.self.inside in
     rw (sym c.self.view_is) (lines_stay s.ranges s.units c.self.invariant _ c.parse_lines.new.self c.parse_lines.ensures.after.lines)
 
-pub returns-clause-looks : goal.returns-clause-looks
-returns-clause-looks g c = rw (sym c.self.view_is) c.parse_lines.ensures.after.looks
+pub returns-clause-steps : goal.returns-clause-steps
+returns-clause-steps g c = rw (sym c.self.view_is) c.parse_lines.ensures.after.steps
 
 pub returns-clause-ready : goal.returns-clause-ready
 returns-clause-ready g c = ready_if_ok _ (seen_context c.parse_lines.new.self) c.parse_lines.ensures.after.parsed

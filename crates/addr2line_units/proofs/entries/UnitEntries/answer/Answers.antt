@@ -1,7 +1,7 @@
 use Rattle.addr2line_units.proofs.Common.{◌≡◌, ◌∙◌, Result, ap, option_map, refl, subst, sym, true, false, rules, err_from_is_err_and, StayEntries, first_answer_of, fault_of, Error, view_fault, View, is_open, verdict}
 use Rattle.addr2line_units.proofs.ViewLemmas.{verdict_of_open, waiting_is_open}
-use Rattle.addr2line_units.proofs.AnswerLemmas.{decided_if_not, decided_if_open, decided_was_checked, never_waits, open_by_look}
-use Rattle.addr2line_units.proofs.EntryLemmas.{looked_decides}
+use Rattle.addr2line_units.proofs.AnswerLemmas.{decided_if_not, decided_if_open, decided_was_checked, never_waits, open_by_check}
+use Rattle.addr2line_units.proofs.EntryLemmas.{checked_decides}
 use Rattle.addr2line_units.proofs.OpenLemmas.{waits_only_open}
 use Rattle.addr2line_units.proofs.entries.UnitEntries.answer.Goals as goal
 
@@ -20,7 +20,7 @@ returns-in_ok-decide-clause-answer g c =
     let u = c.args.dw_unit.now in
     let s = c.args.self.now in
     let n = c.check_split.new.self in
-    let was : is_open d u (first_answer_of s) ≡ true = open_by_look d u s.view n.view true c.check_split.ensures.right.view c.check_split.ensures.known c.check_split.ensures.after.answer (search rules) in
+    let was : is_open d u (first_answer_of s) ≡ true = open_by_check d u s.view n.view true c.check_split.ensures.right.view c.check_split.ensures.known c.check_split.ensures.after.answer (search rules) in
     c.in_ok-decide.ensures.answer ∙ sym (decided_if_open d u (first_answer_of s) (option_map (λ x. x.value) c.args.sections) was)
 
 pub returns-in_ok-decide-clause-functions : goal.returns-in_ok-decide-clause-functions
@@ -36,12 +36,12 @@ returns-else-is_open-clause-answer g c =
     let u = c.args.dw_unit.now in
     let s = c.args.self.now in
     let n = c.check_split.new.self in
-    let was : is_open d u (first_answer_of s) ≡ false = open_by_look d u s.view n.view false c.check_split.ensures.right.view c.check_split.ensures.known c.check_split.ensures.after.answer (search rules) in
+    let was : is_open d u (first_answer_of s) ≡ false = open_by_check d u s.view n.view false c.check_split.ensures.right.view c.check_split.ensures.known c.check_split.ensures.after.answer (search rules) in
     c.check_split.ensures.after.answer ∙ sym (decided_if_not d u (first_answer_of s) (option_map (λ x. x.value) c.args.sections) was)
 
 pub returns-else-is_open-clause-known : goal.returns-else-is_open-clause-known
 returns-else-is_open-clause-known g c =
-    looked_decides c.check_split.new.self.view.state c.check_split.ensures.known (search rules)
+    checked_decides c.check_split.new.self.view.state c.check_split.ensures.known (search rules)
 
 pub returns-else-is_open-clause-kept : goal.returns-else-is_open-clause-kept
 returns-else-is_open-clause-kept g c h =
@@ -59,7 +59,7 @@ returns-in_err-decide-clause-exact g c =
     let s = c.args.self.now in
     let n = c.check_split.new.self in
     let given = option_map (λ x. x.value) c.args.sections in
-    let was : is_open d u (first_answer_of s) ≡ true = open_by_look d u s.view n.view true c.check_split.ensures.right.view c.check_split.ensures.known c.check_split.ensures.after.answer (search rules) in
+    let was : is_open d u (first_answer_of s) ≡ true = open_by_check d u s.view n.view true c.check_split.ensures.right.view c.check_split.ensures.known c.check_split.ensures.after.answer (search rules) in
     let waiting = waiting_is_open d u n.view.state (search rules) c.check_split.ensures.right.view in
     rw (p.1, p.2) (λ takes. ap (λ a. view_fault (verdict d u a)) (decided_if_open d u (first_answer_of s) given was) ∙ ap view_fault (verdict_of_open d u given waiting)
     ∙ ap (λ (r : Result View Error). fault_of r) (c.in_err-decide.ensures.exact takes))

@@ -1,10 +1,10 @@
 use Rattle.addr2line_units.proofs.Common.{ap}
-use Rattle.addr2line_units.proofs.EntryLemmas.{looked_decides}
+use Rattle.addr2line_units.proofs.EntryLemmas.{checked_decides}
 use Rattle.addr2line_units.proofs.entries.UnitEntries.find_function.Goals as goal
 
 pub find_in_view-requires-clause-decided : goal.find_in_view-requires-clause-decided
 find_in_view-requires-clause-decided g c =
-    looked_decides c.args.self.now.view.state c.requires.looked c.requires.decided
+    checked_decides c.args.self.now.view.state c.requires.checked c.requires.decided
 
 pub returns-clause-within : goal.returns-clause-within
 returns-clause-within g c =

@@ -1,4 +1,4 @@
-use Rattle.addr2line_units.proofs.Common.{◌+◌, ◌≤◌, Err, None, Ok, Some, arith, false, option_map, slice_get, subst, sym, ◌≡◌, IfErr, ExactlyUnlessOom, location_of_row, lines_of_take_memory, lines_take_memory, seen_stop, AreLinesOf, cached_files, indexed_unit, unit_row, location_in, looks_in, UnitsState, row_location}
+use Rattle.addr2line_units.proofs.Common.{◌+◌, ◌≤◌, Err, None, Ok, Some, arith, false, option_map, slice_get, subst, sym, ◌≡◌, IfErr, ExactlyUnlessOom, location_of_row, lines_of_take_memory, lines_take_memory, seen_stop, AreLinesOf, cached_files, indexed_unit, unit_row, location_in, steps_in, UnitsState, row_location}
 use Rattle.addr2line_units.proofs.LinesAtLemmas.{none_after_row, none_row, row_after, row_alone, row_there}
 use Rattle.addr2line_units.proofs.UnitAtLemmas.{cache_within, its_lines, none_got, sections_seen, unit_got, units_with_lines}
 use Rattle.addr2line_units.proofs.units.Units.find_row_in.Goals as goal
@@ -10,8 +10,8 @@ returns-in_default g c =
     let was = seen_stop s.caches.items s.stop in
     let none = none_got c.scope-scope.ensures.gives c.args.number c.in_default.ensures.lookup.0 in
     record {
-      gives = subst (λ (y : UnitsState). location_in y.scope.file.sections c.args.probe (slice_get y.units c.args.number) ≡ Ok None) c.self.view_is (none_row i c.args.number s.looks was none c.args.probe);
-      after = rw (sym c.self.view_is) (none_after_row i c.args.number s.looks was none);
+      gives = subst (λ (y : UnitsState). location_in y.scope.file.sections c.args.probe (slice_get y.units c.args.number) ≡ Ok None) c.self.view_is (none_row i c.args.number s.steps was none c.args.probe);
+      after = rw (sym c.self.view_is) (none_after_row i c.args.number s.steps was none);
       no_memory = λ none. tt;
     }
 
@@ -43,15 +43,15 @@ returns g c =
     let v = c.index_mut-cache.result.now in
     let r = c.find_row.result in
     let l = c.find_row.new.self in
-    let later = c.find_row.new.looks in
+    let later = c.find_row.new.steps in
     let e = c.find_row.ensures in
     let is = sections_seen c.scope-scope.ensures.gives in
     let read = subst (λ d. AreLinesOf d u l.lines) is e.read in
     let found = subst (λ d. ExactlyUnlessOom (option_map (location_of_row (cached_files l.lines))) r (location_in d c.args.probe (Some (indexed_unit u v.lines)))) is e.gives in
-    let cost = subst (λ d. later ≤ s.looks + looks_in d (Some (indexed_unit u v.lines))) is e.bound in
+    let cost = subst (λ d. later ≤ s.steps + steps_in d (Some (indexed_unit u v.lines))) is e.bound in
     let alone = subst (λ d. lines_take_memory g.R.Reader.shares u ≡ false → IfErr r (λ x. location_in d c.args.probe (Some (indexed_unit u v.lines)) ≡ Err x)) is e.no_memory in
     record {
-      gives = subst (λ (y : UnitsState). ExactlyUnlessOom (option_map (λ row. row_location y (unit_row n row))) r (location_in y.scope.file.sections c.args.probe (slice_get y.units n))) c.self.view_is (row_there i c.args.number s.looks was there at l e.after c.args.probe r read e.known found);
-      after = rw (sym c.self.view_is) (row_after i c.args.number s.looks was there at l e.after r later e.known e.memory e.looks e.some cost);
-      no_memory = subst (λ (y : UnitsState). lines_of_take_memory g.R.Reader.shares y.units n ≡ false → IfErr r (λ e. location_in y.scope.file.sections c.args.probe (slice_get y.units n) ≡ Err e)) c.self.view_is (row_alone i c.args.number s.looks was there at l e.after g.R.Reader.shares c.args.probe r alone);
+      gives = subst (λ (y : UnitsState). ExactlyUnlessOom (option_map (λ row. row_location y (unit_row n row))) r (location_in y.scope.file.sections c.args.probe (slice_get y.units n))) c.self.view_is (row_there i c.args.number s.steps was there at l e.after c.args.probe r read e.known found);
+      after = rw (sym c.self.view_is) (row_after i c.args.number s.steps was there at l e.after r later e.known e.memory e.steps e.some cost);
+      no_memory = subst (λ (y : UnitsState). lines_of_take_memory g.R.Reader.shares y.units n ≡ false → IfErr r (λ e. location_in y.scope.file.sections c.args.probe (slice_get y.units n) ≡ Err e)) c.self.view_is (row_alone i c.args.number s.steps was there at l e.after g.R.Reader.shares c.args.probe r alone);
     }

@@ -6,4 +6,4 @@ pub returns : goal.returns
 returns g c =
     let s = c.self.inside in
     let many : c.len.result ≡ length s.caches.items = search rules in
-    record { gives = subst (CountsUnits c.len.result) c.self.view_is (counts c.self.invariant s.looks (seen_stop s.caches.items s.stop) many) }
+    record { gives = subst (CountsUnits c.len.result) c.self.view_is (counts c.self.invariant s.steps (seen_stop s.caches.items s.stop) many) }

@@ -10,8 +10,8 @@ returns-in_default g c =
     let none = none_got c.scope-scope.ensures.gives c.args.number c.in_default.ensures.lookup.0 in
     let was = seen_stop s.caches.items s.stop in
     record {
-      gives = subst (λ (y : UnitsState). ExactlyUnlessOom (λ x. x) (Ok tt) (read_of_number c.args.depth y.scope y.scope.file.units y.answers c.args.number)) c.self.view_is (none_gives c.self.invariant c.args.number g.R.Reader.shares c.args.depth s.looks was none);
-      after = rw (sym c.self.view_is) (none_after c.self.invariant c.args.number g.R.Reader.shares c.args.depth s.looks was none);
+      gives = subst (λ (y : UnitsState). ExactlyUnlessOom (λ x. x) (Ok tt) (read_of_number c.args.depth y.scope y.scope.file.units y.answers c.args.number)) c.self.view_is (none_gives c.self.invariant c.args.number g.R.Reader.shares c.args.depth s.steps was none);
+      after = rw (sym c.self.view_is) (none_after c.self.invariant c.args.number g.R.Reader.shares c.args.depth s.steps was none);
     }
 
 pub index_mut-cache-requires : goal.index_mut-cache-requires
@@ -49,7 +49,7 @@ returns g c =
     let after = subst (λ S. AfterReadingUnit shares depth S u c.read.result v c.read.new.self) gives c.read.ensures.after in
     record {
       gives = subst (λ (y : UnitsState). ExactlyUnlessOom (λ x. x) c.read.result (read_of_number depth y.scope y.scope.file.units y.answers c.args.number)) c.self.view_is
-          (subst (λ r. ExactlyUnlessOom (λ x. x) c.read.result r) (sym (reading_was i c.args.number shares depth s.looks was there at after))
+          (subst (λ r. ExactlyUnlessOom (λ x. x) c.read.result r) (sym (reading_was i c.args.number shares depth s.steps was there at after))
           (subst (λ S. ExactlyUnlessOom (λ x. x) c.read.result (read_of_unit depth S u (first_answer_of v))) gives c.read.ensures.gives));
-      after = rw (sym c.self.view_is) (after_there i c.args.number shares depth s.looks was there at after);
+      after = rw (sym c.self.view_is) (after_there i c.args.number shares depth s.steps was there at after);
     }

@@ -11,8 +11,8 @@ returns-in_default g c =
     let was = seen_stop s.caches.items s.stop in
     let none = none_got c.scope-scope.ensures.gives c.args.number c.in_default.ensures.lookup.0 in
     record {
-      gives = subst (λ (y : UnitsState). lines_result_at y.scope.file.sections (slice_get y.units c.args.number) ≡ Ok tt) c.self.view_is (none_read i c.args.number s.looks was none);
-      after = rw (sym c.self.view_is) (none_after_caching i c.args.number s.looks was none g.R.Reader.shares);
+      gives = subst (λ (y : UnitsState). lines_result_at y.scope.file.sections (slice_get y.units c.args.number) ≡ Ok tt) c.self.view_is (none_read i c.args.number s.steps was none);
+      after = rw (sym c.self.view_is) (none_after_caching i c.args.number s.steps was none g.R.Reader.shares);
     }
 
 pub index_mut-cache-requires : goal.index_mut-cache-requires
@@ -47,6 +47,6 @@ returns g c =
     let told = subst (λ d. ExactlyUnlessOom (λ _. cached_lines l.lines) r (lines_result d u)) is e.gives in
     let alone = subst (λ d. lines_take_memory g.R.Reader.shares u ≡ false → IfErr r (λ x. lines_result d u ≡ Err x)) is e.no_memory in
     record {
-      gives = subst (λ (y : UnitsState). ExactlyUnlessOom (λ x. x) r (lines_result_at y.scope.file.sections (slice_get y.units c.args.number))) c.self.view_is (read_there i c.args.number s.looks was there at l (record { language = e.kept; lines = e.after }) (cached_lines l.lines) r told);
-      after = rw (sym c.self.view_is) (caching_after i c.args.number s.looks was there at l (record { language = e.kept; lines = e.after }) g.R.Reader.shares r (answer_cached v.lines.lines r l.lines e.known) e.memory alone);
+      gives = subst (λ (y : UnitsState). ExactlyUnlessOom (λ x. x) r (lines_result_at y.scope.file.sections (slice_get y.units c.args.number))) c.self.view_is (read_there i c.args.number s.steps was there at l (record { language = e.kept; lines = e.after }) (cached_lines l.lines) r told);
+      after = rw (sym c.self.view_is) (caching_after i c.args.number s.steps was there at l (record { language = e.kept; lines = e.after }) g.R.Reader.shares r (answer_cached v.lines.lines r l.lines e.known) e.memory alone);
     }

@@ -1,4 +1,4 @@
-//! How many looks the search for an address takes, counted as it runs.
+//! How many steps the search for an address takes, counted as it runs.
 
 ghost use Rattle.std.specs.Prelude.{◌≡◌, option_map};
 ghost use Rattle.addr2line_lines.specs.Location.{location_at};
@@ -21,7 +21,7 @@ struct WatchedRows<'a> {
 }
 
 impl<'a> Table for WatchedRows<'a> {
-    ghost looks = { λ w. w.rows.looks };
+    ghost steps = { λ w. w.rows.steps };
 
     ghost sequences = { λ w. w.rows.packed.now.sequences };
 
@@ -48,7 +48,7 @@ impl<'a> Table for WatchedRows<'a> {
 }
 
 impl Lines {
-    // The row of an address, and how many looks its search took.
+    // The row of an address, and how many steps its search took.
     fn find_row_watched(&self, probe: u64) -> (Option<Row>, u64)
         ensures found { result.0 ≡ row_at probe self.now.sequences }
     {
@@ -56,7 +56,7 @@ impl Lines {
         let mut rows = WatchedRows {
             rows: CountedRows {
                 packed: &self.packed,
-                looks: Count::new(),
+                steps: Count::new(),
             },
             number: 0,
         };
@@ -64,7 +64,7 @@ impl Lines {
         (row, rows.number)
     }
 
-    /// The location of an address, `None` where no sequence has it, and how many looks its search
+    /// The location of an address, `None` where no sequence has it, and how many steps its search
     /// took. Takes no memory.
     ///
     /// It is the search of `find_location`, over a table that counts each look at a sequence, at
@@ -74,8 +74,8 @@ impl Lines {
         ensures found { option_map seen_location result.0 ≡ location_at probe self.now }
     {
         match self.find_row_watched(probe) {
-            (Some(row), looks) => (Some(self.location(row)), looks),
-            (None, looks) => (None, looks),
+            (Some(row), steps) => (Some(self.location(row)), steps),
+            (None, steps) => (None, steps),
         }
     }
 }

@@ -97,8 +97,6 @@ offset_seen d [] n x l = absurd (omega arith)
 offset_seen d (f ∷ fs) zero x l = refl
 offset_seen d (f ∷ fs) (suc n) x l = offset_seen d fs n x (omega arith)
 
--- a length under map
-
 -- entries begin one after another, so that each is the first one that begins there
 first_there : (d : CachedDetails) (fs : List LazyFunction) (addresses : List FunctionAddress) → AreFunctions (function_offsets fs) addresses → (n : ℕ) → n < length fs
     → position (λ (f : CachedFunction). f.offset == (slice_index_or (function_offsets fs) n (record { 0 = 0 })).0) (map (seen_function d) fs) ≡ Some n

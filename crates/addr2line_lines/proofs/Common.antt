@@ -64,7 +64,8 @@ pub use Rattle.addr2line_lines.specs.Names.{NameOrOrigin, entry_specifications, 
 unfoldable pub use Rattle.addr2line_lines.specs.Names.{name_within, named_at, visited, with_name}
 pub use Rattle.addr2line_lines.specs.Packed.{ArePastFrom, IsAmong, IsTable, Packed, RowsEndBy, packed_end, packed_rows_in, packed_sooner, packed_start, row_address_at, unpacked}
 pub use Rattle.addr2line_lines.specs.Pick.{IsDisjoint, LoneIsPicked, at_or_below, candidate, if_past, pick}
-pub use Rattle.addr2line_lines.specs.RangeAttributes.{all_ranges, attr_address, attribute_ranges, begins_well, gives_a_range, no_range_attributes, range_attributes_after, range_attributes_of, range_list_of, ranges_of, with_range_attribute}
+pub use Rattle.addr2line_lines.specs.RangeAttributes.{all_ranges, attr_address, attribute_ranges, begins_well, gives_a_range, no_range_attributes, range_attributes_after, range_attributes_of, range_list_of, ranges_of}
+unfoldable pub use Rattle.addr2line_lines.specs.RangeAttributes.{with_range_attribute}
 pub use Rattle.addr2line_lines.specs.References.{AreInOrder, EntryPlace, FileRecord, IsBefore, IsFileInOrder, IsScope, Scope, entry_in, entry_in_sup, referred, sup_scope, unit_at}
 pub use Rattle.addr2line_lines.specs.Rows.{read_all}
 pub use Rattle.addr2line_lines.specs.SeenScope.{seen_scope}

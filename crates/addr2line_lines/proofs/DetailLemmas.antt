@@ -11,8 +11,6 @@ use Rattle.addr2line_lines.specs.FoundRanges.{is_range_name}
 use Rattle.addr2line_lines.specs.OpenEntries.{is_inlined_kind, is_listed, kind_of}
 use Rattle.addr2line_lines.proofs.FoundRanges.{rangeless}
 
--- none of two tests
-
 -- where no test holds, what stands last counts
 second : {A : Type 0} (b : Bool) (x y : A) → b ≡ false → cond b x y ≡ y
 second b x y h = ap (λ c. cond c x y) h

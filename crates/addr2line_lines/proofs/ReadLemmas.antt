@@ -6,8 +6,6 @@ use Rattle.addr2line_lines.proofs.PlaceLemmas.{all_at, all_set, all_weaker, drop
 use Rattle.gimli_read.proofs.FaultLemmas.{memory_or_not}
 use Rattle.addr2line_lines.proofs.NestingLemmas.{grown_not, grown_on}
 
--- whether an error is that of memory
-
 function_same : (f : CachedFunction) → IsFunctionMore f f
 function_same f = record { offset = refl; detail = λ d e. e }
 

@@ -7,8 +7,6 @@ use Rattle.addr2line_units.specs.declared.entries.LazyFunctions.TheVariants as l
 use Rattle.addr2line_units.specs.declared.unit.ViewState.TheVariants as states
 use Rattle.addr2line_units.proofs.CachedFunctionLemmas.{place_stays}
 
-}
-
 -- a detail that is cached is cached where more is
 more_detail : (a b : Option (Result Detail Error)) → ((d : Result Detail Error) → a ≡ Some d → b ≡ Some d) → has_detail a ≡ true → has_detail b ≡ true
 more_detail None b h e = cc

@@ -37,6 +37,11 @@ abbrev pub found_name : {R : Type 0} → (R → Section) → FoundName R → Opt
 found_name see (Own name) = option_map see name
 found_name see (Shared name) = option_map see name.value
 
+-- whether the name is that of one entry alone
+abbrev pub is_own : {R : Type 0} → FoundName R → Bool
+is_own (Own name) = true
+is_own (Shared name) = false
+
 -- whether an attribute may give its entry a name
 abbrev pub is_name_attribute : DwAt → Bool
 is_name_attribute name = is_linkage_name name || name.0 == DW_AT_name.0 || is_origin name

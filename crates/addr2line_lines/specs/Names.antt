@@ -1,8 +1,9 @@
 -- The names of functions and inlined entries (DWARF 5, sections 2.13.2, 2.15, 2.22 and 3.3.8).
 -- Own: a string that can't be read gives no name. The last linkage name of an entry's own counts,
 -- else the first attribute that gives a name, by itself or by the entry that it refers to.
--- Own: of an entry that is referred to, the first linkage name counts and ends its reading, else
--- the last name, else the entry that its last reference names; at most 16 such entries are visited.
+-- Own: of an entry that is referred to, the first linkage name that can be read counts and ends its
+-- reading, else the last name, else the entry that its last reference names; at most 16 such entries
+-- are visited.
 use Rattle.std.specs.Prelude.{ℕ, zero, suc, ◌==◌, ◌||◌, Bool, List, [], ◌∷◌, Option, Some, None, Result, Ok, Err, if◌then◌else◌}
 use Rattle.std.specs.Option.{option_or}
 use Rattle.std.specs.Result.{result_ok}
@@ -43,7 +44,8 @@ with_name_or_origin scope u found a =
 abbrev pub linkage_name_of : Scope → UnitRecord → NamedValue → Option Section
 linkage_name_of scope u a = if is_linkage_name a.name then readable scope u a.value else None
 
--- the attributes of specifications, up to the first linkage name, after what was found
+-- the attributes of specifications, up to the first linkage name that can be read, after what was
+-- found
 unfoldable pub named_at : Scope → UnitRecord → List Specification → Section → NameOrOrigin
     → Result NameOrOrigin Error
 named_at scope u [] s found = Ok found

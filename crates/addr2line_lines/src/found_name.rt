@@ -1,9 +1,9 @@
 //! The name of an entry, as it is found.
 
-ghost use Rattle.std.specs.Prelude.{◌≡◌, None, Ok, is_some, option_map};
+ghost use Rattle.std.specs.Prelude.{◌≡◌, false, true, None, Ok, IsOk, is_some, option_map};
 ghost use Rattle.std.specs.Option.{option_or};
 ghost use Rattle.addr2line_lines.specs.Common.{ExactlyUnlessOom, ExactlyUnlessOomIf};
-ghost use Rattle.addr2line_lines.specs.FoundNames.{found_name};
+ghost use Rattle.addr2line_lines.specs.FoundNames.{found_name, is_own};
 
 use gimli::read::{Error, Reader};
 use std::alloc::Global;
@@ -76,10 +76,11 @@ impl<R: Reader> FoundName<R> {
         }
     }
 
-    /// The name for more than one entry. Refused `OutOfMemory` alone.
+    /// The name for more than one entry. Refused `OutOfMemory` alone, where it is its entry's own.
     pub(crate) fn share(self, alloc: Global) -> Result<Rc<Option<R>>, Error>
         ensures gives { ExactlyUnlessOom (λ name. option_map R.section name.value) result
             (Ok (found_name R.section self)) }
+        ensures exact { is_own self ≡ false → IsOk result }
     {
         match self {
             FoundName::Own(name) => Ok(Rc::new(alloc, note_text(name))?),
@@ -87,10 +88,12 @@ impl<R: Reader> FoundName<R> {
         }
     }
 
-    /// The name for one entry alone. Refused `OutOfMemory` alone, where readers share their bytes.
+    /// The name for one entry alone. Refused `OutOfMemory` alone, where readers share their bytes and
+    /// it isn't its entry's own.
     pub(crate) fn own(self) -> Result<Option<R>, Error>
         ensures gives { ExactlyUnlessOomIf R.shares (option_map R.section) result
             (Ok (found_name R.section self)) }
+        ensures exact { is_own self ≡ true → IsOk result }
     {
         match self {
             FoundName::Own(name) => Ok(note_text(name)),

@@ -15,7 +15,7 @@ const FEWEST_SLOTS: usize = 64;
 // How many slots are looked at for one entry.
 const MOST_STEPS: usize = 8;
 
-// A slot of no name: a name at so great a place has none.
+// A slot of no name: no list is so long that a name has this place.
 const NO_PLACE: u32 = u32::MAX;
 
 // The name that an entry gives, or its fault, beside where the entry begins, in bytes from the start
@@ -95,7 +95,8 @@ fn set_slot(slots: &mut Vec<u32>, offset: UnitOffset, place: usize) {
 }
 
 // Makes room for more slots, if there are at most two for each name, and sets them anew. Where memory
-// is refused there are none up to the next name: each name is looked up again until then.
+// is refused there are few until some more names are added, and most names are looked up again until
+// then.
 fn make_slots<R: Reader>(names: &[CachedName<R>], slots: &mut Vec<u32>) {
     if slots.len() / 2 > names.len() {
         return;

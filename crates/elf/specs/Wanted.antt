@@ -73,7 +73,7 @@ abbrev pub shows_sections : Image → ObjectFile → Bool
 shows_sections image file = list_all (λ s.
     not (is_wanted_section (section_names_of file) s) || shows_section image s) file.sections
 
--- whether pieces have the section headers, and what is wanted of the sections
+-- whether pieces have the section headers, one at least, and what is wanted of the sections
 abbrev pub shows_all : Image → Ident → FileHeader → Bool
 shows_all image ident header =
     let size = (layout_of ident.class).section_size in

@@ -70,8 +70,8 @@ fn read_pieces<S: PartSource>(
     Ok(Some(pieces))
 }
 
-/// A file of which these ranges are read, which have to stand in order; none where they don't, or
-/// where the file can't be read.
+/// A file of which these ranges are read, which have to stand in order; none where they don't, where
+/// there is none of them, or where the file can't be read.
 #[tactic(auto, using(crate::proofs::ImageLemmas::pieces_at_are))]
 pub(crate) fn read_ranges<S: PartSource>(
     alloc: Global,

@@ -1,6 +1,6 @@
 //! Abbreviation tables that units share.
 
-ghost use Rattle.std.specs.Prelude.{◌≡◌, ◌≢◌, Ok, Err, true, false, is_ok, is_some, IfOk, IfErr, IfSome, OnOk};
+ghost use Rattle.std.specs.Prelude.{◌≡◌, ◌≢◌, Ok, Err, true, false, is_ok, is_some, IfOk, IfErr, IfSome, OnOk, OnErr};
 ghost use Rattle.std.specs.Result.{result_map_both};
 ghost use Rattle.gimli_read.specs.Costed.{ExactlyAtCost};
 ghost use Rattle.gimli.specs.Common.{ExactlyUnlessOomIf, OutOfMemory};
@@ -123,6 +123,7 @@ impl<'a, R: Reader> AbbreviationsCache<'a, R> {
         ensures known { OnOk result (CachesTable offset self.old self.new) }
         ensures after { StaysCached self.old self.new }
         ensures dwarf { self.new.dwarf ≡ self.old.dwarf }
+        ensures memory { OnErr result (self.new ≡ self.old) }
         ensures refused { IfErr result (λ e. e ≡ OutOfMemory) }
     {
         if self.room == 0 {
@@ -150,6 +151,8 @@ impl<'a, R: Reader> AbbreviationsCache<'a, R> {
             → is_cached header.debug_abbrev_offset self.old ≡ false
             → CachesTable header.debug_abbrev_offset self.old self.new }
         ensures kept { is_cached header.debug_abbrev_offset self.old ≡ true → self.new ≡ self.old }
+        ensures none { is_cached header.debug_abbrev_offset self.new ≡ false
+            → self.new ≡ self.old }
         ensures after { StaysCached self.old self.new }
         ensures dwarf { self.new.dwarf ≡ self.old.dwarf }
     {

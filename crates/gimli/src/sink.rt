@@ -75,7 +75,7 @@ pub trait AttributeSink<R: Reader, A> {
             (with_attribute self.now (said found.old) (seen attribute)) }
         ensures after { Grows self.now cache.old cache.new };
 
-    /// Takes an attribute in whose value is a number, as `take` does.
+    /// Takes an attribute in whose value is a number, as `take` does, if its name is one of those.
     fn take_number(
         &self,
         found: &mut Self::Found,
@@ -84,9 +84,8 @@ pub trait AttributeSink<R: Reader, A> {
         cache: &mut Self::Cache,
     ) -> Result<(), Error>
         requires cache { Grows self.now cache.old cache.old }
-        requires named { Self.Numbers.wanted name ≡ true }
-        ensures gives { IsNumberTaken R.shares (λ _. said found.new)
-            (with_attribute self.now (said found.old)) name number result }
+        ensures gives { Self.Numbers.wanted name ≡ true → IsNumberTaken R.shares
+            (λ _. said found.new) (with_attribute self.now (said found.old)) name number result }
         ensures after { Grows self.now cache.old cache.new };
 }
 

@@ -17,7 +17,7 @@ returns-in-None-clause-gives g c =
     let r = number_read _ _ _ _ _ read.0 in
     let name = c.name-name.ensures.gives ∙ sym (named _ _ _ _ r.attribute r.is) in
     let more = g.S.AttributeSink.with_attribute c.args.sink.now (g.S.AttributeSink.said c.args.found.now) in
-    let given = or_its_fault g.R.Reader.shares g.S.AttributeSink.said c.take_number.new.found c.take_number.result _ (c.take_number.ensures.gives r.attribute.value r.number) in
+    let given = or_its_fault g.R.Reader.shares g.S.AttributeSink.said c.take_number.new.found c.take_number.result _ (c.take_number.ensures.gives (sym c.is_wanted_name-wanted.ensures.gives ∙ read.1) r.attribute.value r.number) in
     record {
       attribute = r.attribute;
       is = r.is;

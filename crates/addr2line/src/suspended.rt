@@ -152,6 +152,7 @@ impl<'ctx, R: Reader, K: Lent<'ctx, Context<R>>, B: Drop> Suspended<'ctx, R, K, 
 }
 
 // What a lookup gives that the context has stored.
+#[inline(always)]
 fn lend<'ctx, R: Reader, K: Lent<'ctx, Context<R>>>(
     ctx: &'ctx mut Context<R>,
     probe: u64,
@@ -188,6 +189,7 @@ fn lend<'ctx, R: Reader, K: Lent<'ctx, Context<R>>>(
 }
 
 // A lookup from its beginning, by what is cached.
+#[inline(always)]
 pub(crate) fn begin<'ctx, R: Reader, K: Lent<'ctx, Context<R>>>(
     ctx: &'ctx mut Context<R>,
     probe: u64,

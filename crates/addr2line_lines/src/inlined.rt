@@ -197,6 +197,7 @@ impl<R: Reader> AttributeSink<R, Attribute<R>> for InlinedSink<'_, R> {
     ghost Grows = { λ s old new. GrowNames (seen_scope s.scope) s.unit.now
         (seen_names R.section old) (seen_names R.section new) };
 
+    #[inline(always)]
     fn take(
         &self,
         found: &mut InlinedAttributes<R>,

@@ -1,6 +1,6 @@
 -- What an answer to the load of a unit makes of a context, and of a lookup that waits for it (on
 -- specs/Answers.antt and specs/Lookups.antt).
-use Rattle.addr2line.proofs.Common.{◌≡◌, ℕ, ◌<◌, [], length, List, Option, Result, Ok, Err, sym, ap, subst, ◌∙◌, true, IfErr, OnOk, Error, ◌>>=◌, Sections, Scope, OnFault, UnitRange, cover, LookupStop, Waits, Finds, FindsNothing, main_scope, with_answer, load_result, UnitIndex, UnitsState, FirstAnswers, fewer_left, waits_listed, AfterAnswering, answered, load_reply, IsContext, seen_context, loads_at, lookup_stop, stop_in, waits_for}
+use Rattle.addr2line.proofs.Common.{◌≡◌, ℕ, ◌<◌, [], length, List, Option, Result, Ok, Err, sym, ap, subst, ◌∙◌, true, IfErr, OnOk, Error, ◌>>=◌, Sections, Scope, OnFault, UnitRange, cover, LookupStop, Waits, Finds, FindsNothing, main_scope, with_answer, load_result, UnitIndex, UnitsState, FirstAnswers, fewer_left, waits_listed, AfterAnswering, answered, load_reply, IsContext, as_context, loads_at, lookup_stop, stop_in, waits_for}
 use Rattle.std.proofs.lemmas.Bool.{eqb-true}
 use Rattle.addr2line_units.specs.AfterUnits as left
 use Rattle.addr2line_units.specs.LoadLaws.{IsListed}
@@ -58,7 +58,7 @@ module _ (ranges : List UnitRange) (u : UnitsState) (i : IsContext ranges u) whe
             (fewer_left d u.scope.file.units u.answers n given (cover probe ranges) a.beside listed))
         of_ok (Err e) h = tt
 
-    pub after_answer : AfterAnswering n given r (seen_context u) (seen_context now)
+    pub after_answer : AfterAnswering n given r (as_context u) (as_context now)
     after_answer = record {
       sections = ap (λ (x : UnitsState). x.scope.file.sections) a.stays;
       parsed = ap (λ (x : UnitsState). x.parsed) a.stays;

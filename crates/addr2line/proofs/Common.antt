@@ -42,14 +42,14 @@ pub use Rattle.addr2line_units.specs.declared.frames.OnFault.TheVariants.{Skip, 
 pub use Rattle.addr2line_units.specs.declared.index.UnitRange.{UnitRange}
 pub use Rattle.addr2line.specs.AfterLookups.{AfterFrames, AfterFramesOver, IsKnown, IsKnownFew, IsLent, IsStored, NeedsNoMemory, ReadsAsked, Suspends, TakesMemory, has_few_of}
 pub use Rattle.addr2line.specs.Answers.{AfterAnswering, AfterResume, SuspendsAgain, answered, load_reply}
-pub use Rattle.addr2line.specs.Context.{AfterLookup, AfterRangeLookup, ContextState, IsContext, IsReady, IsReadyForRange, IsUncovered, LocatesNoMemory, Stays, lines_of_all, new_context, seen_context}
-pub use Rattle.addr2line.specs.Files.{Files, ReadFiles, as_read, as_read_if_known, listed_files, seen_entry}
+pub use Rattle.addr2line.specs.Context.{AfterLookup, AfterRangeLookup, ContextState, IsContext, IsReady, IsReadyForRange, IsUncovered, LocatesNoMemory, Stays, lines_of_all, new_context, as_context}
+pub use Rattle.addr2line.specs.Files.{Files, ReadFiles, as_read, as_read_if_known, listed_files, as_named_file}
 pub use Rattle.addr2line.specs.History.{Abandoned, AfterCall, AfterCalls, Answered, AnswersLoad, AsksFrames, AsksLoads, AsksLocation, AsksRange, AsksUnit, Forgets, Given, HasBegun, HistoryCall, IsCutShort, Leaves, ParsesFunctions, ParsesLines, answers_after, answers_given, answers_left, frames_replied, replies_to, reply_to, unit_replied, where_waiting}
 pub use Rattle.addr2line.specs.Loads.{AfterForgetting, AfterLoading, AfterParse, AfterPreload, IsAllKnown, IsNotOpen, NoneOpenAt, ReachesAllOf, ReadsFunctionsNoMemory, StaysRead, forget_reply, parse_reply, parsed_answers}
 pub use Rattle.addr2line.specs.Lookups.{IsFaultOfAsked, IsLoadOf, UnitResult, asked_of, ended_with, found_at, frames_of, frames_value, loads_at, lookup_stop, stop_in, unit_of, unit_value, view_found, waits_for, with_none}
 pub use Rattle.addr2line.specs.Replies.{CopiedReply, SuspendedAt, copied_frame, copied_load, reply_of_frames, reply_of_range, reply_of_unit}
-pub use Rattle.addr2line.specs.SeenCalls.{given_by, seen_call, seen_given}
-pub use Rattle.addr2line.specs.SeenReplies.{seen_owned_frame, seen_owned_load, seen_owned_span, seen_reply}
+pub use Rattle.addr2line.specs.SeenCalls.{given_by, as_call, as_given}
+pub use Rattle.addr2line.specs.SeenReplies.{as_owned_frame, as_owned_load, as_owned_span, as_reply}
 pub use Rattle.addr2line.specs.SplitFiles.{LeavesOpen, has_wanted_id, of_file, or_none, split_at_path}
 unfoldable pub use Rattle.addr2line.specs.SplitFiles.{given_by_files, split_by, split_of}
 pub use Rattle.addr2line.specs.WaitingLookups.{count_loads, found_of_context, frames_of_context, unit_of_context}

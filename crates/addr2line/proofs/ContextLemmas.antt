@@ -1,5 +1,5 @@
 -- What a context has and what its sections give (on specs/Context.antt).
-use Rattle.addr2line.proofs.Common.{◌≡◌, ℕ, zero, suc, ◌≤◌, ◌&&◌, ◌||◌, inl, inr, Bool, true, false, List, [], ◌∷◌, length, map, slice_get, Option, Some, None, option_map, Result, Ok, Err, refl, sym, ap, subst, ◌∙◌, arith, ◌+◌, IfErr, OnOk, Error, ◌>>=◌, Exactly, ExactlyUnlessOom, fault_of, result_map, WasNotRefused, Sections, UnitRecord, Scope, UnitRange, cover, cover_range, FindsNothing, main_scope, LocationResult, first_location, all_lines, is_found, lines_of_unit, location_in, location_of, steps_along, or_first_location, spans_along, spans_of, AreAllParsed, AreParsed, AsksFor, LeadTo, ParsesOnly, StaysParsed, decides, has_parsed, ready_along, takes_none_along, NothingKnown, IndexedUnit, RangedUnit, has_lines, indexed_of, ranged_units, unit_ranges_from, UnitIndex, index_units, sup_units, UnitsState, first_state, new_units, AfterLookup, AfterRangeLookup, ContextState, IsContext, IsReady, IsUncovered, IsReadyForRange, LocatesNoMemory, Stays, lines_of_all, new_context, seen_context}
+use Rattle.addr2line.proofs.Common.{◌≡◌, ℕ, zero, suc, ◌≤◌, ◌&&◌, ◌||◌, inl, inr, Bool, true, false, List, [], ◌∷◌, length, map, slice_get, Option, Some, None, option_map, Result, Ok, Err, refl, sym, ap, subst, ◌∙◌, arith, ◌+◌, IfErr, OnOk, Error, ◌>>=◌, Exactly, ExactlyUnlessOom, fault_of, result_map, WasNotRefused, Sections, UnitRecord, Scope, UnitRange, cover, cover_range, FindsNothing, main_scope, LocationResult, first_location, all_lines, is_found, lines_of_unit, location_in, location_of, steps_along, or_first_location, spans_along, spans_of, AreAllParsed, AreParsed, AsksFor, LeadTo, ParsesOnly, StaysParsed, decides, has_parsed, ready_along, takes_none_along, NothingKnown, IndexedUnit, RangedUnit, has_lines, indexed_of, ranged_units, unit_ranges_from, UnitIndex, index_units, sup_units, UnitsState, first_state, new_units, AfterLookup, AfterRangeLookup, ContextState, IsContext, IsReady, IsUncovered, IsReadyForRange, LocatesNoMemory, Stays, lines_of_all, new_context, as_context}
 use Rattle.std.specs.Prelude.{is_ok}
 use Rattle.addr2line_lines.specs.Location.{LineTable, Location, location_at}
 use Rattle.addr2line_lines.specs.Rows.{read_all}
@@ -115,7 +115,7 @@ module _ (ranges : List UnitRange) (u : UnitsState) (i : IsContext ranges u) whe
     pub lines_context : IsContext ranges now
     lines_context = still_context now scope_same units_same
 
-    pub lines_stay : Stays (seen_context u) (seen_context now)
+    pub lines_stay : Stays (as_context u) (as_context now)
     lines_stay = record {
       sections = ap (λ (x : UnitsState). x.scope.file.sections) l.same;
       answers = ap (λ (x : UnitsState). x.answers) l.same;
@@ -137,7 +137,7 @@ module _ (ranges : List UnitRange) (u : UnitsState) (i : IsContext ranges u) whe
     abbrev ready_by : List Bool → Scope → List IndexedUnit → List UnitRange → Type 0
     ready_by p s xs rs = ready_along s.file.sections xs p probe (cover probe rs) ≡ true
 
-    pub ready_told : IsReady (seen_context u) probe → WasNotRefused r
+    pub ready_told : IsReady (as_context u) probe → WasNotRefused r
     ready_told ready = a.memory (more (cover probe ranges) (at_made (ready_by u.parsed) ready))
       where
         more : (rs : List UnitRange) → ready_along d u.units u.parsed probe rs ≡ true → ready_along d u.units now.parsed probe rs ≡ true
@@ -150,7 +150,7 @@ module _ (ranges : List UnitRange) (u : UnitsState) (i : IsContext ranges u) whe
             step true false e f g k l h = k refl
             step false q e f g k l h = cc
 
-    pub after_lookup : {X : Type 0} (result : Result (Option X) Error) → (WasNotRefused result → WasNotRefused r) → (WasNotRefused r → WasNotRefused result) → (is_found result ≡ true → is_found r ≡ true) → AfterLookup probe result (seen_context u) (seen_context now)
+    pub after_lookup : {X : Type 0} (result : Result (Option X) Error) → (WasNotRefused result → WasNotRefused r) → (WasNotRefused r → WasNotRefused result) → (is_found result ≡ true → is_found r ≡ true) → AfterLookup probe result (as_context u) (as_context now)
     after_lookup result f h k = record {
       stays = lines_stay asked now a.lines;
       ready = λ told. of_lines asked now a.lines (ready_by now.parsed) (a.ready (f told));
@@ -164,7 +164,7 @@ module _ (ranges : List UnitRange) (u : UnitsState) (i : IsContext ranges u) whe
 
     -- where the lookup takes no memory, a refusal is the fault of lines
     pub located_alone : (shares : Bool) → (takes_none_along shares d u.units now.parsed probe (cover probe ranges) ≡ true → IfErr r (λ e. first_location d u.units probe (cover probe ranges) ≡ Err e))
-        → LocatesNoMemory shares (seen_context now) probe → IfErr r (λ e. location_of d probe ≡ Err e)
+        → LocatesNoMemory shares (as_context now) probe → IfErr r (λ e. location_of d probe ≡ Err e)
     located_alone shares alone none = of_units r (alone (at_lines asked now a.lines (λ s xs rs. takes_none_along shares s.file.sections xs now.parsed probe (cover probe rs) ≡ true) none))
       where
         of_units : (q : Result (Option Y) Error) → IfErr q (λ e. first_location d u.units probe (cover probe ranges) ≡ Err e) → IfErr q (λ e. location_of d probe ≡ Err e)
@@ -172,7 +172,7 @@ module _ (ranges : List UnitRange) (u : UnitsState) (i : IsContext ranges u) whe
         of_units (Err e) h = location_is probe ∙ h
 
   -- where the sections tell that no unit covers the probe, none does
-  pub covers_none : (probe : ℕ) → IsUncovered (seen_context u) probe → cover probe ranges ≡ []
+  pub covers_none : (probe : ℕ) → IsUncovered (as_context u) probe → cover probe ranges ≡ []
   covers_none probe h = ap (cover probe) i.ranges ∙ ap (λ (m : UnitIndex). cover probe m.ranges) (ok_is i.made h.0 (sym i.indexed ∙ h.1)) ∙ h.2
 
   -- where no unit covers the probe nothing is found, and no memory is taken
@@ -190,7 +190,7 @@ module _ (ranges : List UnitRange) (u : UnitsState) (i : IsContext ranges u) whe
 
   -- after a lookup of a range
   pub after_range_lookup : {X Y : Type 0} (shares : Bool) (low high : ℕ) (r : Result Y Error) (now : UnitsState) → left.AfterCaching shares (cover_range low high ranges) r u now → (result : Result X Error) → (WasNotRefused result → OnOk r (AreParsed now.parsed (cover_range low high ranges)) → AreParsed now.parsed (cover_range low high ranges))
-      → (WasNotRefused r → WasNotRefused result) → AfterRangeLookup low high result (seen_context u) (seen_context now)
+      → (WasNotRefused r → WasNotRefused result) → AfterRangeLookup low high result (as_context u) (as_context now)
   after_range_lookup shares low high r now a result f h = record {
     stays = lines_stay (LeadTo (cover_range low high ranges)) now a.lines;
     ready = λ told. of_lines (LeadTo (cover_range low high ranges)) now a.lines (λ s xs rs. AreParsed now.parsed (cover_range low high rs)) (f told a.parsed);
@@ -267,13 +267,13 @@ module _ (d : Sections) where
   abbrev pair_of : List RangedUnit → List UnitRecord → UnitsState × List UnitRange
   pair_of units sup = (first_state d units sup, unit_ranges_from d 0 units)
 
-  pub context_made : (u : UnitsState) (ranges : List UnitRange) → new_units d ≡ Ok (u, ranges) → IsContext ranges u × (new_context d ≡ Ok (seen_context u))
+  pub context_made : (u : UnitsState) (ranges : List UnitRange) → new_units d ≡ Ok (u, ranges) → IsContext ranges u × (new_context d ≡ Ok (as_context u))
   context_made u ranges e = of_units (ranged_units d) refl e
     where
       pair_is : (x y : UnitsState × List UnitRange) → ◌≡◌ {A = Result (UnitsState × List UnitRange) Error} (Ok x) (Ok y) → x ≡ y
       pair_is x y k = cc
 
-      of_sup : (units : List RangedUnit) (r : Result (List UnitRecord) Error) → ranged_units d ≡ Ok units → sup_units d.sup ≡ r → (r >>= λ sup. Ok (pair_of units sup)) ≡ Ok (u, ranges) → IsContext ranges u × ((r >>= λ sup. Ok (state units)) ≡ Ok (seen_context u))
+      of_sup : (units : List RangedUnit) (r : Result (List UnitRecord) Error) → ranged_units d ≡ Ok units → sup_units d.sup ≡ r → (r >>= λ sup. Ok (pair_of units sup)) ≡ Ok (u, ranges) → IsContext ranges u × ((r >>= λ sup. Ok (state units)) ≡ Ok (as_context u))
       of_sup units (Err f) q l k = absurd cc
       of_sup units (Ok sup) q l k =
           let p = pair_is (pair_of units sup) (u, ranges) k in (
@@ -284,10 +284,10 @@ module _ (d : Sections) where
               units = refl;
               ranges = refl;
             }),
-            ap (λ (x : UnitsState × List UnitRange). Ok (seen_context x.0)) p,
+            ap (λ (x : UnitsState × List UnitRange). Ok (as_context x.0)) p,
           )
 
-      of_units : (r : Result (List RangedUnit) Error) → ranged_units d ≡ r → (r >>= λ units. sup_units d.sup >>= λ sup. Ok (pair_of units sup)) ≡ Ok (u, ranges) → IsContext ranges u × ((r >>= λ units. sup_units d.sup >>= λ sup. Ok (state units)) ≡ Ok (seen_context u))
+      of_units : (r : Result (List RangedUnit) Error) → ranged_units d ≡ r → (r >>= λ units. sup_units d.sup >>= λ sup. Ok (pair_of units sup)) ≡ Ok (u, ranges) → IsContext ranges u × ((r >>= λ units. sup_units d.sup >>= λ sup. Ok (state units)) ≡ Ok (as_context u))
       of_units (Err f) q k = absurd cc
       of_units (Ok units) q k = of_sup units (sup_units d.sup) q refl k
 

@@ -1,5 +1,5 @@
 -- Answers to loads outside a lookup, in a context (on specs/Loads.antt).
-use Rattle.addr2line.proofs.Common.{◌≡◌, ◌⊎◌, inl, inr, ℕ, Bool, false, true, List, [], length, slice_get, Option, Result, Ok, Err, sym, ap, subst, ◌∙◌, length-map, IfErr, IfOk, IsOk, IsOkAnd, OnOk, Error, ◌>>=◌, ExactlyUnlessOom, fault_of, Sections, UnitRecord, Scope, OnFault, UnitRange, cover, asked_frames, main_scope, stop_along, knows_at, NoneOpen, forget_result, is_open_at, load_result, loads_along, all_lines, LeadTo, IndexedUnit, IsReadyAt, StaysKnown, UnitIndex, index_units, UnitsState, SplitLoad, IsContext, lines_of_all, seen_context, AfterForgetting, AfterLoading, AfterParse, AfterPreload, IsAllKnown, IsNotOpen, NoneOpenAt, ReachesAllOf, ReadsFunctionsNoMemory, StaysRead, forget_reply, parse_reply, parsed_answers, lookup_stop}
+use Rattle.addr2line.proofs.Common.{◌≡◌, ◌⊎◌, inl, inr, ℕ, Bool, false, true, List, [], length, slice_get, Option, Result, Ok, Err, sym, ap, subst, ◌∙◌, length-map, IfErr, IfOk, IsOk, IsOkAnd, OnOk, Error, ◌>>=◌, ExactlyUnlessOom, fault_of, Sections, UnitRecord, Scope, OnFault, UnitRange, cover, asked_frames, main_scope, stop_along, knows_at, NoneOpen, forget_result, is_open_at, load_result, loads_along, all_lines, LeadTo, IndexedUnit, IsReadyAt, StaysKnown, UnitIndex, index_units, UnitsState, SplitLoad, IsContext, lines_of_all, as_context, AfterForgetting, AfterLoading, AfterParse, AfterPreload, IsAllKnown, IsNotOpen, NoneOpenAt, ReachesAllOf, ReadsFunctionsNoMemory, StaysRead, forget_reply, parse_reply, parsed_answers, lookup_stop}
 use Rattle.addr2line_units.specs.declared.parses.ReadingDepth.{ReadingDepth}
 use Rattle.addr2line_units.specs.declared.parses.ReadingDepth.TheVariants as depths
 use Rattle.addr2line_units.specs.AfterUnits as left
@@ -34,20 +34,20 @@ module _ (ranges : List UnitRange) (u : UnitsState) (i : IsContext ranges u) whe
   parsed_is : (depth : ReadingDepth) → parsed_answers depth d u.answers ≡ answers_after_parse depth u.scope us u.answers
   parsed_is depth = or_made ranges u i u.answers (λ s xs rs. answers_after_parse depth s s.file.units u.answers)
 
-  pub not_open_is : (n : ℕ) → IsNotOpen (seen_context u) n → is_open_at d us u.answers n ≡ false
+  pub not_open_is : (n : ℕ) → IsNotOpen (as_context u) n → is_open_at d us u.answers n ≡ false
   not_open_is n h = at_made ranges u i (λ s xs rs. is_open_at s.file.sections s.file.units u.answers n ≡ false) h
 
-  pub none_open_are : (probe : ℕ) → NoneOpenAt (seen_context u) probe → NoneOpen d us u.answers (cover probe ranges)
+  pub none_open_are : (probe : ℕ) → NoneOpenAt (as_context u) probe → NoneOpen d us u.answers (cover probe ranges)
   none_open_are probe h = at_made ranges u i (λ s xs rs. NoneOpen s.file.sections s.file.units u.answers (cover probe rs)) h
 
-  stays_read : (now : UnitsState) → left.StayRead u now → StaysRead (seen_context u) (seen_context now)
+  stays_read : (now : UnitsState) → left.StayRead u now → StaysRead (as_context u) (as_context now)
   stays_read now stays = record {
     sections = ap (λ (x : UnitsState). x.scope.file.sections) stays;
     parsed = ap (λ (x : UnitsState). x.parsed) stays;
     steps = ap (λ (x : UnitsState). x.steps) stays;
   }
 
-  pub after_load : (n : ℕ) (given : Option Sections) (r : Result (Unit {0}) Error) (now : UnitsState) → left.AfterLoad n given r u now → AfterLoading n given r (seen_context u) (seen_context now)
+  pub after_load : (n : ℕ) (given : Option Sections) (r : Result (Unit {0}) Error) (now : UnitsState) → left.AfterLoad n given r u now → AfterLoading n given r (as_context u) (as_context now)
   after_load n given r now a = record {
     stays = stays_read now a.stays;
     answers = λ told. a.answers told ∙ sym (answers_are ranges u i n given);
@@ -59,10 +59,10 @@ module _ (ranges : List UnitRange) (u : UnitsState) (i : IsContext ranges u) whe
     functions = a.functions;
   }
 
-  pub after_forget : (n : ℕ) (now : UnitsState) → left.AfterForget n u now → AfterForgetting n (seen_context u) (seen_context now)
+  pub after_forget : (n : ℕ) (now : UnitsState) → left.AfterForget n u now → AfterForgetting n (as_context u) (as_context now)
   after_forget n now a = record { stays = stays_read now a.stays; answers = a.answers; same = a.same; others = a.others; functions = a.functions }
 
-  pub after_preload : (probe : ℕ) (now : UnitsState) → left.AfterListing (LeadTo (cover probe ranges)) u now → AfterPreload probe (seen_context u) (seen_context now)
+  pub after_preload : (probe : ℕ) (now : UnitsState) → left.AfterListing (LeadTo (cover probe ranges)) u now → AfterPreload probe (as_context u) (as_context now)
   after_preload probe now a = record {
     stays = stays_read now a.stays;
     answers = a.answers;
@@ -72,7 +72,7 @@ module _ (ranges : List UnitRange) (u : UnitsState) (i : IsContext ranges u) whe
   }
 
   module _ (depth : ReadingDepth) (r : Result (Unit {0}) Error) (now : UnitsState) (a : left.AfterReading depth r u now) where
-    pub after_parse : AfterParse depth r (seen_context u) (seen_context now)
+    pub after_parse : AfterParse depth r (as_context u) (as_context now)
     after_parse = record {
       stays = stays_read now a.stays;
       answers = λ told. a.answers told ∙ sym (parsed_is depth);
@@ -91,7 +91,7 @@ module _ (ranges : List UnitRange) (u : UnitsState) (i : IsContext ranges u) whe
 
     -- where the parse takes no memory, a refusal is the fault of functions
     pub parsed_alone : (shares : Bool) → (ReadsNoMemory shares depth u.scope us now.answers now.known → IfErr r (λ e. read_of_units depth u.scope us u.answers ≡ Err e))
-        → ReadsFunctionsNoMemory shares depth (seen_context now) → IfErr r (λ e. parse_reply depth d u.answers ≡ Err e)
+        → ReadsFunctionsNoMemory shares depth (as_context now) → IfErr r (λ e. parse_reply depth d u.answers ≡ Err e)
     parsed_alone shares alone none = subst (λ given. IfErr r (λ e. given ≡ Err e)) (sym (parse_is depth))
         (alone (at_now ranges u i now (scope_same ranges u i now a.stays) (units_same ranges u i now a.stays) (λ s xs rs. ReadsNoMemory shares depth s s.file.units now.answers now.known) none))
 
@@ -121,10 +121,10 @@ module _ (ranges : List UnitRange) (u : UnitsState) (i : IsContext ranges u) whe
           (subst IsReached (sym (by_made ranges u i (λ s xs rs. stop_along (asked_frames faults s xs now.answers probe) (cover probe rs))))
           (subst (λ xs. IsReached (stop_along (asked_frames faults u.scope u.units xs probe) (cover probe ranges))) (sym answers_now) reached_first))
 
-    pub all_known : depth ≡ depths.Details → OnOk r (IsAllKnown (seen_context now))
+    pub all_known : depth ≡ depths.Details → OnOk r (IsAllKnown (as_context now))
     all_known = a.all
 
-  pub all_reached : (depth : ReadingDepth) (r : Result (Unit {0}) Error) (now : UnitsState) → left.AfterReading depth r u now → ExactlyUnlessOom (λ x. x) r (read_of_units depth u.scope us u.answers) → depth ≡ depths.Details → OnOk r (ReachesAllOf (seen_context now))
+  pub all_reached : (depth : ReadingDepth) (r : Result (Unit {0}) Error) (now : UnitsState) → left.AfterReading depth r u now → ExactlyUnlessOom (λ x. x) r (read_of_units depth u.scope us u.answers) → depth ≡ depths.Details → OnOk r (ReachesAllOf (as_context now))
   all_reached depth (Err f) now a gives e = tt
   all_reached depth (Ok x) now a gives e = λ lines faults probe.
       reached_now depth (Ok x) now a e gives (a.answers tt) (subst (λ (s : Scope). lines_of_all s.file.sections ≡ Ok tt) (scope_same ranges u i now a.stays) lines) faults probe

@@ -1,5 +1,5 @@
 -- What a lookup of frames comes to in a context (on specs/Lookups.antt and specs/AfterLookups.antt).
-use Rattle.addr2line.proofs.Common.{◌≡◌, ◌≢◌, ◌⊎◌, ℕ, ◌&&◌, ◌||◌, Bool, true, not, List, [], ◌∷◌, slice_get, Some, None, option_map, Result, Ok, Err, refl, sym, ap, subst, ◌∙◌, IfErr, IfOk, Error, ◌>>=◌, ExactlyUnlessOom, WasNotRefused, Scope, OnFault, Skip, UnitRange, cover, LookupAsks, LookupStop, after_fault, asked_frames, asks_lines_of, frames_of_number, function_offset_of, inlined_at_number, holds_along, or_stop, stop_along, LearnsDetailsAt, knows_at, ParsesOnly, has_parsed, IndexedUnit, FramesResult, UnitsState, asked_by, asks_no_memory_at, has_all_at, has_few_at, stop_of, FirstAnswers, SplitLoad, load_of_unit, IsContext, seen_context, AfterFrames, IsKnownFew, NeedsNoMemory, IsFaultOfAsked, IsLoadOf, lookup_stop}
+use Rattle.addr2line.proofs.Common.{◌≡◌, ◌≢◌, ◌⊎◌, ℕ, ◌&&◌, ◌||◌, Bool, true, not, List, [], ◌∷◌, slice_get, Some, None, option_map, Result, Ok, Err, refl, sym, ap, subst, ◌∙◌, IfErr, IfOk, Error, ◌>>=◌, ExactlyUnlessOom, WasNotRefused, Scope, OnFault, Skip, UnitRange, cover, LookupAsks, LookupStop, after_fault, asked_frames, asks_lines_of, frames_of_number, function_offset_of, inlined_at_number, holds_along, or_stop, stop_along, LearnsDetailsAt, knows_at, ParsesOnly, has_parsed, IndexedUnit, FramesResult, UnitsState, asked_by, asks_no_memory_at, has_all_at, has_few_at, stop_of, FirstAnswers, SplitLoad, load_of_unit, IsContext, as_context, AfterFrames, IsKnownFew, NeedsNoMemory, IsFaultOfAsked, IsLoadOf, lookup_stop}
 use Rattle.gimli_read.specs.declared.error.Error.TheVariants.{OutOfMemory}
 use Rattle.addr2line_lines.specs.InlineRoom.{exceeds_inline_room}
 use Rattle.addr2line_units.specs.AfterUnits as left
@@ -58,7 +58,7 @@ module _ (ranges : List UnitRange) (u : UnitsState) (i : IsContext ranges u) (fa
     few_by s xs n = all_by s xs n && not (exceeds_inline_room (inlined_at_number s xs now.answers probe n))
 
     -- where all is known that a lookup asks for it is refused no memory
-    pub walk_memory : IsKnownFew faults (seen_context now) probe → WasNotRefused r
+    pub walk_memory : IsKnownFew faults (as_context now) probe → WasNotRefused r
     walk_memory few = w.memory (as_before (λ s xs a. holds_along (has_few_at probe now) (asked_frames faults s xs a probe) (cover probe ranges) ≡ true)
         (at_made ranges now walked_context (λ s xs rs. holds_along (few_by s xs) (asked_frames faults s xs now.answers probe) (cover probe rs) ≡ true) few))
 
@@ -71,11 +71,11 @@ module _ (ranges : List UnitRange) (u : UnitsState) (i : IsContext ranges u) (fa
 
     -- where the lookup takes no memory, a refusal is the fault of a unit that it asks
     pub walk_alone : (shares : Bool) → (holds_along (asks_no_memory_at shares probe now) (asked_by faults probe u) (cover probe ranges) ≡ true → IfErr r (left.IsFaultAlong faults probe u (cover probe ranges)))
-        → NeedsNoMemory shares faults (seen_context now) probe → IfErr r (IsFaultOfAsked faults u.scope.file.sections u.answers probe)
+        → NeedsNoMemory shares faults (as_context now) probe → IfErr r (IsFaultOfAsked faults u.scope.file.sections u.answers probe)
     walk_alone shares alone none = of_units r (alone (as_before (λ s xs a. holds_along (asks_no_memory_at shares probe now) (asked_frames faults s xs a probe) (cover probe ranges) ≡ true)
         (at_made ranges now walked_context (λ s xs rs. holds_along (none_by shares s xs) (asked_frames faults s xs now.answers probe) (cover probe rs) ≡ true) none)))
 
-    pub after_frames : AfterFrames faults probe r (seen_context u) (seen_context now)
+    pub after_frames : AfterFrames faults probe r (as_context u) (as_context now)
     after_frames = record {
       sections = ap (λ (s : Scope). s.file.sections) w.asked.scope;
       answers = w.asked.answers;

@@ -1,6 +1,6 @@
 -- What recorded lookups are given, answer by answer, and the replies that they come to (on
 -- specs/History.antt).
-use Rattle.addr2line.proofs.Common.{◌≡◌, inl, inr, ℕ, ◌+◌, ◌<◌, ◌≤◌, Bool, true, false, List, ◌∷◌, ◌++◌, drop, get_or, length, map, slice_get, take, Option, Some, None, option_map, Result, Ok, Err, refl, sym, ap, subst, ◌∙◌, take_all, IfErr, IfOk, OnOk, Error, ◌>>=◌, WasNotRefused, Section, Sections, UnitRecord, LookupResult, Output, OnFault, LookupStop, Waits, Finds, FindsNothing, is_waiting, StaysParsed, has_parsed, IfOutput, UnitIndex, index_units, unit_records, FirstAnswers, SplitLoad, View, load_by, load_of_unit, split_name_of, AfterResume, SuspendsAgain, answered, ContextState, Given, Answered, Abandoned, Leaves, answers_given, AfterFramesOver, Suspends, IsLoadOf, ended_with, found_at, lookup_stop, stop_in, view_found, CopiedReply, SuspendedAt, seen_reply}
+use Rattle.addr2line.proofs.Common.{◌≡◌, inl, inr, ℕ, ◌+◌, ◌<◌, ◌≤◌, Bool, true, false, List, ◌∷◌, ◌++◌, drop, get_or, length, map, slice_get, take, Option, Some, None, option_map, Result, Ok, Err, refl, sym, ap, subst, ◌∙◌, take_all, IfErr, IfOk, OnOk, Error, ◌>>=◌, WasNotRefused, Section, Sections, UnitRecord, LookupResult, Output, OnFault, LookupStop, Waits, Finds, FindsNothing, is_waiting, StaysParsed, has_parsed, IfOutput, UnitIndex, index_units, unit_records, FirstAnswers, SplitLoad, View, load_by, load_of_unit, split_name_of, AfterResume, SuspendsAgain, answered, ContextState, Given, Answered, Abandoned, Leaves, answers_given, AfterFramesOver, Suspends, IsLoadOf, ended_with, found_at, lookup_stop, stop_in, view_found, CopiedReply, SuspendedAt, as_reply}
 use Rattle.gimli_read.specs.declared.error.Error.TheVariants.{OutOfMemory}
 use Rattle.gimli.specs.declared.unit.DwoId.{DwoId}
 use Rattle.addr2line.proofs.HistoryLemmas.{HasGiven, given_all, given_ended, given_last, given_more, given_up, resumed_answers, resumed_begun, resumed_output, resumed_parsed, resumed_sections, take_drop_one, take_then}
@@ -69,9 +69,9 @@ module _ (faults : OnFault) (probe : ℕ) (first : ContextState) (all : List Giv
 
   -- what a lookup replies by the first answers that it leaves, and what it leaves
   abbrev Replies : (FirstAnswers → CopiedReply) → Result Reply Error → ContextState → Type 0
-  Replies replied r new = IfOk r (λ y. seen_reply y ≡ replied all_given) × Leaves all_given SomeGiven r first new
+  Replies replied r new = IfOk r (λ y. as_reply y ≡ replied all_given) × Leaves all_given SomeGiven r first new
 
-  replies_by : {ended told : Type 0} (replied : FirstAnswers → CopiedReply) (left : FirstAnswers) (r : Result Reply Error) (new : ContextState) → IfOk r (λ y. (seen_reply y ≡ replied left) × ended) → (ended → all_given ≡ left)
+  replies_by : {ended told : Type 0} (replied : FirstAnswers → CopiedReply) (left : FirstAnswers) (r : Result Reply Error) (new : ContextState) → IfOk r (λ y. (as_reply y ≡ replied left) × ended) → (ended → all_given ≡ left)
       → OnOk r told → (told → new.answers ≡ left) → IfErr r (λ e. e ≡ OutOfMemory) → SomeGiven new.answers → new.sections ≡ first.sections → StaysParsed first.parsed new.parsed → Replies replied r new
   replies_by replied left (Ok y) new h all_left t answers oom some d p =
       (h.0 ∙ ap replied (sym (all_left h.1)), record { sections = d; answers = answers t ∙ sym (all_left h.1); refused = tt; parsed = p })
@@ -79,7 +79,7 @@ module _ (faults : OnFault) (probe : ℕ) (first : ContextState) (all : List Giv
 
   -- it has ended at once
   pub ends_at_once : {X : Type 0} (shares : Bool) (replied : FirstAnswers → CopiedReply) (o : Result X Error) (new : ContextState) → AfterFramesOver shares faults probe o first new → (r : Result Reply Error)
-      → IfOk r (λ y. (seen_reply y ≡ replied first.answers) × (is_waiting (lookup_stop faults first.sections first.answers probe) ≡ false)) → OnOk r (WasNotRefused o) → IfErr r (λ e. e ≡ OutOfMemory) → Replies replied r new
+      → IfOk r (λ y. (as_reply y ≡ replied first.answers) × (is_waiting (lookup_stop faults first.sections first.answers probe) ≡ false)) → OnOk r (WasNotRefused o) → IfErr r (λ e. e ≡ OutOfMemory) → Replies replied r new
   ends_at_once shares replied o new a r h told oom =
       replies_by replied first.answers r new h (λ w. given_ended faults first.sections probe first.answers all w) told (λ t. a.after.answers) oom (0, a.after.answers) a.after.sections a.after.parsed
 
@@ -112,7 +112,7 @@ module _ (faults : OnFault) (probe : ℕ) (first : ContextState) (all : List Giv
     left_at_end h = ap (answers_given faults first.sections probe first.answers) (sym (take_all i all h)) ∙ given_all faults first.sections probe first.answers now.answers (take i all) so.given
 
     pub is_left : (replied : FirstAnswers → CopiedReply) → (lookup_stop faults first.sections now.answers probe ≡ Ok (Waits number) → replied now.answers ≡ SuspendedAt number)
-        → (token : ℕ) → token ≡ number → (y : Reply) → seen_reply y ≡ SuspendedAt token → (new : ContextState) → new ≡ now → all_given ≡ now.answers → Replies replied (Ok y) new
+        → (token : ℕ) → token ≡ number → (y : Reply) → as_reply y ≡ SuspendedAt token → (new : ContextState) → new ≡ now → all_given ≡ now.answers → Replies replied (Ok y) new
     is_left replied told token own y is new e left = (
       is ∙ ap (λ n. SuspendedAt n) own ∙ sym (told own_waits) ∙ ap replied (sym left),
       record {
@@ -157,7 +157,7 @@ module _ (faults : OnFault) (probe : ℕ) (first : ContextState) (all : List Giv
       ]
 
       pub ends_resumed : {L D S X : Type 0} (shares : Bool) (replied : FirstAnswers → CopiedReply) (result : LookupResult L (Result X Error) D S) (o : Result X Error) → result ≡ Output o → (asked : ℕ) → asked ≡ probe → (new lender : ContextState) → new ≡ lender
-          → IfOutput result (λ q. AfterResume shares faults asked number x q now lender) → (r : Result Reply Error) → IfOk r (λ y. (seen_reply y ≡ replied (answered now.sections now.answers number x)) × (is_waiting (lookup_stop faults first.sections (answered now.sections now.answers number x) probe) ≡ false))
+          → IfOutput result (λ q. AfterResume shares faults asked number x q now lender) → (r : Result Reply Error) → IfOk r (λ y. (as_reply y ≡ replied (answered now.sections now.answers number x)) × (is_waiting (lookup_stop faults first.sections (answered now.sections now.answers number x) probe) ≡ false))
           → OnOk r (WasNotRefused o) → IfErr r (λ e. e ≡ OutOfMemory) → Replies replied r new
       ends_resumed shares replied result o is asked same new lender ends rests r h told oom =
           replies_by replied left r new h ended_by told (resumed_answers shares faults probe number x o now new after) oom (begun_more shares o new after)

@@ -8,13 +8,13 @@ use types.Logic.{Logic}
 use Rattle.addr2line.specs.contracts.loader.LoaderOver.{the_row}
 use Rattle.addr2line.specs.declared.loader.LoaderOver.{LoaderOver}
 use Rattle.addr2line.specs.Files.{Files}
-use Rattle.addr2line.specs.Loader.{LoaderState, seen_loader}
+use Rattle.addr2line.specs.Loader.{LoaderState, as_loader}
 
 -- the loader that the caller gets back is such
 abbrev pub LoaderEndsAs : {M : Type 1} {𝓤 : Ura M} → Logic 𝓤 → (F : RattleType)
     → (F.Denot → Option Files) → MutBor (LoaderOver F.Denot) → (LoaderState → Type 0) → SProp 𝓤
 LoaderEndsAs 𝓛 F files loader holds =
-    sem 𝓛 (Rests (the_row F) loader (λ new. holds (seen_loader files new)))
+    sem 𝓛 (Rests (the_row F) loader (λ new. holds (as_loader files new)))
 
 -- the loader has the files that the caller leaves
 abbrev pub LendsFiles : {M : Type 1} {𝓤 : Ura M} → Logic 𝓤 → (F : RattleType)

@@ -150,8 +150,8 @@ abbrev pub lines_of_all : Sections → Result (Unit {0}) Error
 lines_of_all d = index_units d >>= λ m. fault_of (all_lines d m.units)
 
 -- a context by its units
-abbrev pub seen_context : UnitsState → ContextState
-seen_context u = record {
+abbrev pub as_context : UnitsState → ContextState
+as_context u = record {
   sections = u.scope.file.sections;
   answers = u.answers;
   parsed = u.parsed;

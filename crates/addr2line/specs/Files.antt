@@ -40,5 +40,5 @@ abbrev pub listed_files : List (List ℕ × List ℕ) → Files
 listed_files entries = λ path. option_map (λ (e : _). e.1) (find (λ e. bytes_eq path e.0) entries)
 
 -- a path and its bytes, as files in memory hold them
-abbrev pub seen_entry : String Global × Vec ℕ Global → List ℕ × List ℕ
-seen_entry e = (string_bytes e.0, e.1.items)
+abbrev pub as_named_file : String Global × Vec ℕ Global → List ℕ × List ℕ
+as_named_file e = (string_bytes e.0, e.1.items)

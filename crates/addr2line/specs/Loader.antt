@@ -17,8 +17,8 @@ pub record LoaderState : Type 0 where
   pub context : ContextState
 
 -- a loader, by what its files are
-abbrev pub seen_loader : {F : Type 0} → (F → Option Files) → LoaderOver F → LoaderState
-seen_loader files l = record {
+abbrev pub as_loader : {F : Type 0} → (F → Option Files) → LoaderOver F → LoaderState
+as_loader files l = record {
   files = as_read_if_known l.compressed (files l.files);
   object = l.object;
   context = l.context;

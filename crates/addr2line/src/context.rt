@@ -2,7 +2,7 @@
 
 ghost use Rattle.std.specs.Prelude.{◌≡◌, ℕ, None, IfErr, IfOk, IsOk, Ok, OnOk, is_ok, option_map, true};
 ghost use Rattle.addr2line.specs.Common.{OutOfMemory, Exactly, ExactlyUnlessOom, IsUnlessOom, ExactlyUnlessOomIf, WasNotRefused, last_address, location_of, spans_of, AreAllParsed};
-ghost use Rattle.addr2line_lines.specs.SeenLocation.{seen_location};
+ghost use Rattle.addr2line_lines.specs.SeenLocation.{as_location};
 ghost use Rattle.addr2line_units.specs.Indexed.{context_takes_memory};
 ghost use Rattle.addr2line_units.specs.LocationsLeft.{locations_left};
 ghost use Rattle.addr2line.specs.Context.{main_sections, new_context, lines_of_all, AfterLookupOver, AfterRangeLookup, IsReady, IsUncovered, IsReadyForAll, IsReadyForRange, LocatesRangeNoMemory, ParsesNoMemory, ParsesToFault, Stays};
@@ -30,11 +30,11 @@ pub struct Context<R: Reader> {
 }
 
 impl<R: Reader> Model for Context<R> {
-    ghost use Rattle.addr2line.specs.Context.{ContextState, IsContext, seen_context};
+    ghost use Rattle.addr2line.specs.Context.{ContextState, IsContext, as_context};
 
     ghost Value = { ContextState };
 
-    ghost view = { λ c. seen_context c.units };
+    ghost view = { λ c. as_context c.units };
 
     ghost invariant = { λ c. IsContext c.ranges c.units };
 }
@@ -136,9 +136,9 @@ impl<R: Reader> Context<R> {
     ///
     /// Source: DWARF 5, section 6.2. Own: which of several sequences counts, and which unit.
     pub fn find_location(&mut self, probe: u64) -> Result<Option<Location<'_>>, Error>
-        ensures gives { ExactlyUnlessOom (option_map seen_location) result
+        ensures gives { ExactlyUnlessOom (option_map as_location) result
             (location_of self.old.sections probe) }
-        ensures exact { IsReady self.old probe → Exactly (option_map seen_location) result
+        ensures exact { IsReady self.old probe → Exactly (option_map as_location) result
             (location_of self.old.sections probe) }
         ensures last { probe ≡ last_address → result ≡ Ok None }
         ensures none { IsUncovered self.old probe → result ≡ Ok None }

@@ -2,14 +2,14 @@
 
 ghost use Rattle.std.specs.Prelude.{◌≡◌, ◌≢◌, Option, None, Some, Result, Ok, Err, IfErr, IfOk, IsOk, OnOk, map, option_map, true};
 ghost use Rattle.addr2line.specs.Common.{Error, OutOfMemory, ExactlyUnlessOom, result_map, WasNotRefused, frames_left, LookupStop, is_waiting, LocationResult};
-ghost use Rattle.addr2line_lines.specs.SeenLocation.{seen_location};
+ghost use Rattle.addr2line_lines.specs.SeenLocation.{as_location};
 ghost use Rattle.addr2line_units.specs.LocationsLeft.{locations_left};
-ghost use Rattle.addr2line_lines.specs.RangesLeft.{seen_located};
-ghost use Rattle.addr2line_units.specs.SeenFrame.{seen_frame, seen_name};
-ghost use Rattle.addr2line_units.specs.SeenUnit.{seen_found, seen_unit};
+ghost use Rattle.addr2line_lines.specs.RangesLeft.{as_located};
+ghost use Rattle.addr2line_units.specs.SeenFrame.{as_frame, as_name};
+ghost use Rattle.addr2line_units.specs.SeenUnit.{as_found_unit, as_unit};
 ghost use Rattle.addr2line.specs.Lookups.{UnitResult, frames_of_stop};
 ghost use Rattle.addr2line.specs.Replies.{Located, Ranged, Listed, Ended, section_bytes, copied_frame, copied_load, copied_name, copied_unit, reply_of_frames, reply_of_unit};
-ghost use Rattle.addr2line.specs.SeenReplies.{HasEndedWith, seen_owned_frame, seen_owned_load, seen_owned_location, seen_owned_name, seen_owned_span, seen_owned_unit, seen_reply};
+ghost use Rattle.addr2line.specs.SeenReplies.{HasEndedWith, as_owned_frame, as_owned_load, as_owned_location, as_owned_name, as_owned_span, as_owned_unit, as_reply};
 
 use crate::reply::{FoundUnit, OwnedFrame, OwnedLoad, OwnedLocation, OwnedName, OwnedSpan, Reply};
 use addr2line_lines::Location;
@@ -32,7 +32,7 @@ fn copy_bytes<R: Reader>(alloc: Global, reader: Option<&R>) -> Result<Option<Vec
 }
 
 fn copy_location(alloc: Global, location: Location<'_>) -> Result<OwnedLocation, AllocError>
-    ensures gives { IfOk result (λ copy. seen_owned_location copy ≡ seen_location location.entry) }
+    ensures gives { IfOk result (λ copy. as_owned_location copy ≡ as_location location.entry) }
 {
     let file = match location.file {
         Some(file) => Some(String::from_str(alloc, file)?),
@@ -49,8 +49,8 @@ fn copy_location_if(
     alloc: Global,
     location: Option<Location<'_>>,
 ) -> Result<Option<OwnedLocation>, AllocError>
-    ensures gives { IfOk result (λ copy. option_map seen_owned_location copy
-        ≡ option_map seen_location location.entry) }
+    ensures gives { IfOk result (λ copy. option_map as_owned_location copy
+        ≡ option_map as_location location.entry) }
 {
     match location {
         Some(location) => Ok(Some(copy_location(alloc, location)?)),
@@ -59,8 +59,8 @@ fn copy_location_if(
 }
 
 fn copy_name<R: Reader>(alloc: Global, name: &FunctionName<'_, R>) -> Result<OwnedName, AllocError>
-    ensures gives { IfOk result (λ copy. seen_owned_name copy
-        ≡ copied_name (seen_name R.section name.now)) }
+    ensures gives { IfOk result (λ copy. as_owned_name copy
+        ≡ copied_name (as_name R.section name.now)) }
 {
     Ok(OwnedName {
         name: Vec::from_slice(alloc, name.name.to_slice())?,
@@ -69,8 +69,8 @@ fn copy_name<R: Reader>(alloc: Global, name: &FunctionName<'_, R>) -> Result<Own
 }
 
 fn copy_frame<R: Reader>(alloc: Global, frame: &Frame<'_, R>) -> Result<OwnedFrame, AllocError>
-    ensures gives { IfOk result (λ copy. seen_owned_frame copy
-        ≡ copied_frame (seen_frame R.section frame.now)) }
+    ensures gives { IfOk result (λ copy. as_owned_frame copy
+        ≡ copied_frame (as_frame R.section frame.now)) }
 {
     let function = match &frame.function {
         Some(name) => Some(copy_name(alloc, name)?),
@@ -84,7 +84,7 @@ fn copy_frame<R: Reader>(alloc: Global, frame: &Frame<'_, R>) -> Result<OwnedFra
 }
 
 fn copy_frames<R: Reader>(alloc: Global, frames: FrameIter<'_, R>) -> Result<Vec<OwnedFrame>, Error>
-    ensures gives { IfOk result (λ copy. map seen_owned_frame copy.items
+    ensures gives { IfOk result (λ copy. map as_owned_frame copy.items
         ≡ map copied_frame (frames_left frames.entry)) }
     ensures refused { IfErr result (λ e. e ≡ OutOfMemory) }
 {
@@ -97,7 +97,7 @@ fn copy_frames<R: Reader>(alloc: Global, frames: FrameIter<'_, R>) -> Result<Vec
 }
 
 fn copy_span(alloc: Global, span: (u64, u64, Location<'_>)) -> Result<OwnedSpan, AllocError>
-    ensures gives { IfOk result (λ copy. seen_owned_span copy ≡ seen_located span.entry) }
+    ensures gives { IfOk result (λ copy. as_owned_span copy ≡ as_located span.entry) }
 {
     let (address, length, location) = span;
     Ok(OwnedSpan {
@@ -108,7 +108,7 @@ fn copy_span(alloc: Global, span: (u64, u64, Location<'_>)) -> Result<OwnedSpan,
 }
 
 fn copy_load<R: Reader>(alloc: Global, load: &SplitDwarfLoad<R>) -> Result<OwnedLoad, AllocError>
-    ensures gives { IfOk result (λ copy. seen_owned_load copy ≡ copied_load load.now) }
+    ensures gives { IfOk result (λ copy. as_owned_load copy ≡ copied_load load.now) }
 {
     Ok(OwnedLoad {
         unit: load.unit,
@@ -124,8 +124,8 @@ pub(crate) fn location_reply(
     location: Result<Option<Location<'_>>, Error>,
 ) -> Result<Reply, Error>
     ensures gives { (given : LocationResult)
-        → ExactlyUnlessOom (option_map seen_location) location.entry given
-        → IfOk result (λ r. seen_reply r ≡ Located given) }
+        → ExactlyUnlessOom (option_map as_location) location.entry given
+        → IfOk result (λ r. as_reply r ≡ Located given) }
     ensures memory { OnOk result (WasNotRefused location.entry) }
     ensures fault { IfErr location.entry (λ e. e ≢ OutOfMemory → IsOk result) }
     ensures refused { IfErr result (λ e. e ≡ OutOfMemory) }
@@ -142,7 +142,7 @@ fn copy_rows<R: Reader>(
     alloc: Global,
     mut rows: LocationRangeIter<'_, R>,
 ) -> Result<Vec<Result<OwnedSpan, Error>>, Error>
-    ensures gives { IfOk result (λ copies. map (result_map seen_owned_span) copies.items
+    ensures gives { IfOk result (λ copies. map (result_map as_owned_span) copies.items
         ≡ locations_left rows.entry) }
     ensures refused { IfErr result (λ e. e ≡ OutOfMemory) }
 {
@@ -161,7 +161,7 @@ pub(crate) fn rows_reply<R: Reader>(
     alloc: Global,
     rows: Result<LocationRangeIter<'_, R>, Error>,
 ) -> Result<Reply, Error>
-    ensures gives { IfOk result (λ r. IfOk rows.entry (λ i. seen_reply r
+    ensures gives { IfOk result (λ r. IfOk rows.entry (λ i. as_reply r
         ≡ Ranged (locations_left i))) }
     ensures memory { OnOk result (IsOk rows.entry) }
     ensures refused { IfErr result (λ e. e ≡ OutOfMemory) }
@@ -193,7 +193,7 @@ pub(crate) fn frames_reply<R: Reader>(
 }
 
 fn found_unit<R: Reader>(found: UnitRef<'_, R>) -> FoundUnit
-    ensures gives { seen_owned_unit result ≡ copied_unit (seen_unit found.entry) }
+    ensures gives { as_owned_unit result ≡ copied_unit (as_unit found.entry) }
 {
     let dwarf = found.dwarf;
     let unit = found.unit;
@@ -209,7 +209,7 @@ pub(crate) fn unit_reply<R: Reader>(
     unit: Result<Option<UnitRef<'_, R>>, Error>,
 ) -> Result<Reply, Error>
     ensures gives { (stop : Result LookupStop Error) (given : UnitResult)
-        → ExactlyUnlessOom seen_found unit.entry given
+        → ExactlyUnlessOom as_found_unit unit.entry given
         → (is_waiting stop ≡ true → given ≡ Ok None)
         → IfOk result (λ r. HasEndedWith stop (reply_of_unit stop given) r) }
     ensures memory { OnOk result (WasNotRefused unit.entry) }
@@ -227,7 +227,7 @@ pub(crate) fn loads_reply<R: Reader>(
     alloc: Global,
     loads: &[SplitDwarfLoad<R>],
 ) -> Result<Reply, Error>
-    ensures gives { IfOk result (λ r. seen_reply r ≡ Listed (map copied_load loads.now)) }
+    ensures gives { IfOk result (λ r. as_reply r ≡ Listed (map copied_load loads.now)) }
     ensures refused { IfErr result (λ e. e ≡ OutOfMemory) }
 {
     let mut copies = Vec::new(alloc);
@@ -240,7 +240,7 @@ pub(crate) fn loads_reply<R: Reader>(
 // The reply of a call that gives nothing. Refused `OutOfMemory` alone.
 pub(crate) fn done_reply(done: Result<(), Error>) -> Result<Reply, Error>
     ensures gives { (given : Result (Unit {0}) Error) → ExactlyUnlessOom (λ x. x) done given
-        → IfOk result (λ r. seen_reply r ≡ Ended given) }
+        → IfOk result (λ r. as_reply r ≡ Ended given) }
     ensures memory { OnOk result (WasNotRefused done) }
     ensures refused { IfErr result (λ e. (e ≡ OutOfMemory) × (done ≡ Err OutOfMemory)) }
 {

@@ -112,11 +112,11 @@ pub struct MemoryFiles {
 
 impl Model for MemoryFiles {
     ghost use Rattle.std.specs.Prelude.{List, map, ℕ};
-    ghost use Rattle.addr2line.specs.Files.{seen_entry};
+    ghost use Rattle.addr2line.specs.Files.{as_named_file};
 
     ghost Value = { List (List ℕ × List ℕ) };
 
-    ghost view = { λ s. map seen_entry s.entries.items };
+    ghost view = { λ s. map as_named_file s.entries.items };
 }
 
 impl MemoryFiles {

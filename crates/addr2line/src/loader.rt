@@ -5,14 +5,14 @@ ghost use Rattle.addr2line.specs.Common.{Io, NotElf, Exactly, Loading, LoadsUnle
 ghost use Rattle.elf.specs.declared.error.LoaderError.TheVariants.{OutOfMemory};
 ghost use Rattle.elf.specs.Sections.{section_range_at};
 ghost use Rattle.elf.specs.Symbols.{NamedAddress, named_address, symbol_at};
-ghost use Rattle.addr2line_lines.specs.SeenLocation.{seen_location};
+ghost use Rattle.addr2line_lines.specs.SeenLocation.{as_location};
 ghost use Rattle.addr2line_units.specs.LocationsLeft.{locations_left};
 ghost use Rattle.addr2line.specs.declared.compressed.CompressedSections.TheVariants.{Decompressed, Refused};
 ghost use Rattle.addr2line.specs.Context.{IsReady, LocatesRangeNoMemory};
 ghost use Rattle.addr2line.specs.Files.{HasEmptyFile, HasNoFile, as_read, as_read_if_known};
 ghost use Rattle.addr2line.specs.FramesByFiles.{ended_frames_of, frames_by_files};
 ghost use Rattle.addr2line.specs.Loaded.{AreSectionsOf, AreSupOfBytes, IsFileOfBytes, IsLoaded, as_sup, context_at, dwarf_at, loaded, main_with_sup, object_at, sup_at};
-ghost use Rattle.addr2line.specs.Loader.{AfterLoads, AfterLocation, AfterLocationRange, seen_loader};
+ghost use Rattle.addr2line.specs.Loader.{AfterLoads, AfterLocation, AfterLocationRange, as_loader};
 ghost use Rattle.addr2line.specs.LoadsByFiles.{WaitsForNone};
 ghost use Rattle.addr2line.specs.AfterLookups.{IsKnownFew};
 ghost use Rattle.addr2line.specs.SplitFiles.{of_file};
@@ -270,13 +270,13 @@ impl<F: FileSource> LoaderOver<F> {
     /// Refused `Dwarf` as that is; may fail with `OutOfMemory` instead. Takes no memory where the
     /// lines that it asks for are parsed, nor where no unit covers `probe`.
     pub fn find_location(&mut self, probe: u64) -> Result<Option<Location<'_>>, LoaderError>
-        ensures gives { LoadsUnlessOom (option_map seen_location) result
+        ensures gives { LoadsUnlessOom (option_map as_location) result
             (of_file (location_of self.old.context.sections probe)) }
-        ensures exact { IsReady self.old.context probe → Exactly (option_map seen_location) result
+        ensures exact { IsReady self.old.context probe → Exactly (option_map as_location) result
             (of_file (location_of self.old.context.sections probe)) }
         ensures last { probe ≡ last_address → result ≡ Ok None }
         ensures* ends { LoaderEndsAs 𝓛 F.row F.files self.entry
-            (AfterLocation probe result (seen_loader F.files self.old)) }
+            (AfterLocation probe result (as_loader F.files self.old)) }
     {
         match self.context.find_location(probe) {
             Ok(location) => Ok(location),
@@ -298,7 +298,7 @@ impl<F: FileSource> LoaderOver<F> {
         ensures refused { IfErr result (λ e. e ≡ OutOfMemory) }
         ensures exact { LocatesRangeNoMemory true self.old.context low high → IsOk result }
         ensures* ends { LoaderEndsAs 𝓛 F.row F.files self.entry
-            (AfterLocationRange low high result (seen_loader F.files self.old)) }
+            (AfterLocationRange low high result (as_loader F.files self.old)) }
     {
         match self.context.find_location_range(low, high) {
             Ok(rows) => Ok(rows),
@@ -336,7 +336,7 @@ impl<F: FileSource> LoaderOver<F> {
             → Exactly frames_left result (ended_frames_of self.old.context probe) }
         ensures last { probe ≡ last_address → Exactly frames_left result (Ok []) }
         ensures* ends { LoaderEndsAs 𝓛 F.row F.files self.entry
-            (AfterLoads frames_left probe result (seen_loader F.files self.old)) }
+            (AfterLoads frames_left probe result (as_loader F.files self.old)) }
     {
         answer_loads(
             self.alloc,

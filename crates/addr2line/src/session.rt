@@ -8,8 +8,8 @@ ghost use Rattle.addr2line.specs.History.{AfterCall, AfterCalls, AnswersLoad, As
 ghost use Rattle.addr2line.specs.Loads.{forget_reply, load_reply, parse_reply};
 ghost use Rattle.addr2line.specs.Lookups.{loads_at};
 ghost use Rattle.addr2line.specs.Replies.{Ended, Listed, Located, SuspendedAt, copied_load, reply_of_range};
-ghost use Rattle.addr2line.specs.SeenCalls.{Makes, given_by, seen_call, seen_given};
-ghost use Rattle.addr2line.specs.SeenReplies.{seen_reply};
+ghost use Rattle.addr2line.specs.SeenCalls.{Makes, given_by, as_call, as_given};
+ghost use Rattle.addr2line.specs.SeenReplies.{as_reply};
 
 use crate::context::Context;
 use crate::copies::{
@@ -77,7 +77,7 @@ fn share<R: Reader>(sections: &Option<Rc<Dwarf<R>>>) -> Result<Option<Rc<Dwarf<R
 // What an answer gives: sections or none; nothing where the lookup is given up.
 fn share_given<R: Reader>(answer: &Answer<R>) -> Result<Option<Option<Rc<Dwarf<R>>>>, Error>
     ensures gives { IfOk result (λ given. given_by (option_map (option_map (λ d. d.value)) given)
-        ≡ seen_given answer.now) }
+        ≡ as_given answer.now) }
     ensures refused { IfErr result (λ e. e ≡ OutOfMemory) }
 {
     match answer {
@@ -88,7 +88,7 @@ fn share_given<R: Reader>(answer: &Answer<R>) -> Result<Option<Option<Rc<Dwarf<R
 
 // The reply of a lookup that is given up at its load.
 fn suspended_reply<R: Reader, K: LookupKind>(next: Suspended<'_, R, K, SplitDwarfLoad<R>>) -> Reply
-    ensures gives { seen_reply result ≡ SuspendedAt next.entry.load.unit }
+    ensures gives { as_reply result ≡ SuspendedAt next.entry.load.unit }
     ensures kept { next.exit.0.now ≡ next.entry.ctx.now }
 {
     let load = next.into_load();
@@ -101,7 +101,7 @@ fn replay_frames<R: Reader>(
     probe: u64,
     answers: &[Answer<R>],
 ) -> Result<Reply, Error>
-    ensures after { Makes (AsksFrames probe (map seen_given answers.now)) result context.old
+    ensures after { Makes (AsksFrames probe (map as_given answers.now)) result context.old
         context.new }
 {
     let alloc = context.alloc;
@@ -133,7 +133,7 @@ fn replay_unit<R: Reader>(
     probe: u64,
     answers: &[Answer<R>],
 ) -> Result<Reply, Error>
-    ensures after { Makes (AsksUnit probe (map seen_given answers.now)) result context.old
+    ensures after { Makes (AsksUnit probe (map as_given answers.now)) result context.old
         context.new }
 {
     let mut next = match context.find_dwarf_and_unit(probe) {
@@ -160,7 +160,7 @@ fn replay_unit<R: Reader>(
 
 // `find_location` of an address.
 fn replay_location<R: Reader>(context: &mut Context<R>, probe: u64) -> Result<Reply, Error>
-    ensures gives { IfOk result (λ r. seen_reply r
+    ensures gives { IfOk result (λ r. as_reply r
         ≡ Located (location_of context.old.sections probe)) }
     ensures after { AfterCall (AsksLocation probe) result context.old context.new }
 {
@@ -170,7 +170,7 @@ fn replay_location<R: Reader>(context: &mut Context<R>, probe: u64) -> Result<Re
 
 // `find_location_range` of addresses.
 fn replay_range<R: Reader>(context: &mut Context<R>, low: u64, high: u64) -> Result<Reply, Error>
-    ensures gives { IfOk result (λ r. seen_reply r
+    ensures gives { IfOk result (λ r. as_reply r
         ≡ reply_of_range (spans_of context.old.sections low high)) }
     ensures after { AfterCall (AsksRange low high) result context.old context.new }
 {
@@ -180,7 +180,7 @@ fn replay_range<R: Reader>(context: &mut Context<R>, low: u64, high: u64) -> Res
 
 // `preload_units` of an address.
 fn replay_preload<R: Reader>(context: &mut Context<R>, probe: u64) -> Result<Reply, Error>
-    ensures gives { IfOk result (λ r. seen_reply r ≡ Listed (map copied_load
+    ensures gives { IfOk result (λ r. as_reply r ≡ Listed (map copied_load
         (loads_at context.old.sections context.old.answers probe))) }
     ensures after { AfterCall (AsksLoads probe) result context.old context.new }
 {
@@ -195,7 +195,7 @@ fn replay_load<R: Reader>(
     unit: UnitToken,
     sections: &Option<Rc<Dwarf<R>>>,
 ) -> Result<Reply, Error>
-    ensures gives { IfOk result (λ r. seen_reply r ≡ Ended (load_reply context.old.sections
+    ensures gives { IfOk result (λ r. as_reply r ≡ Ended (load_reply context.old.sections
         context.old.answers (token_number unit) (option_map (λ d. d.value) sections.now))) }
     ensures after { AfterCall (AnswersLoad (token_number unit)
         (option_map (λ d. d.value) sections.now)) result context.old context.new }
@@ -206,7 +206,7 @@ fn replay_load<R: Reader>(
 
 // `forget` of a unit.
 fn replay_forget<R: Reader>(context: &mut Context<R>, unit: UnitToken) -> Result<Reply, Error>
-    ensures gives { IfOk result (λ r. seen_reply r
+    ensures gives { IfOk result (λ r. as_reply r
         ≡ Ended (forget_reply context.old.sections (token_number unit))) }
     ensures after { AfterCall (Forgets (token_number unit)) result context.old context.new }
 {
@@ -215,7 +215,7 @@ fn replay_forget<R: Reader>(context: &mut Context<R>, unit: UnitToken) -> Result
 
 // `parse_lines`.
 fn replay_lines<R: Reader>(context: &mut Context<R>) -> Result<Reply, Error>
-    ensures gives { IfOk result (λ r. seen_reply r
+    ensures gives { IfOk result (λ r. as_reply r
         ≡ Ended (lines_of_all context.old.sections)) }
     ensures after { AfterCall ParsesLines result context.old context.new }
 {
@@ -224,7 +224,7 @@ fn replay_lines<R: Reader>(context: &mut Context<R>) -> Result<Reply, Error>
 
 // `parse_functions`.
 fn replay_functions<R: Reader>(context: &mut Context<R>) -> Result<Reply, Error>
-    ensures gives { IfOk result (λ r. seen_reply r ≡ Ended (parse_reply depths.Functions
+    ensures gives { IfOk result (λ r. as_reply r ≡ Ended (parse_reply depths.Functions
         context.old.sections context.old.answers)) }
     ensures after { AfterCall (ParsesFunctions depths.Functions) result context.old context.new }
 {
@@ -233,7 +233,7 @@ fn replay_functions<R: Reader>(context: &mut Context<R>) -> Result<Reply, Error>
 
 // `parse_inlined_functions`.
 fn replay_details<R: Reader>(context: &mut Context<R>) -> Result<Reply, Error>
-    ensures gives { IfOk result (λ r. seen_reply r ≡ Ended (parse_reply depths.Details
+    ensures gives { IfOk result (λ r. as_reply r ≡ Ended (parse_reply depths.Details
         context.old.sections context.old.answers)) }
     ensures after { AfterCall (ParsesFunctions depths.Details) result context.old context.new }
 {
@@ -242,9 +242,9 @@ fn replay_details<R: Reader>(context: &mut Context<R>) -> Result<Reply, Error>
 
 // Makes one call.
 fn make_call<R: Reader>(context: &mut Context<R>, call: &Call<R>) -> Result<Reply, Error>
-    ensures gives { IfOk result (λ r. seen_reply r
-        ≡ reply_to context.old.sections context.old.answers (seen_call call.now)) }
-    ensures after { AfterCall (seen_call call.now) result context.old context.new }
+    ensures gives { IfOk result (λ r. as_reply r
+        ≡ reply_to context.old.sections context.old.answers (as_call call.now)) }
+    ensures after { AfterCall (as_call call.now) result context.old context.new }
 {
     match call {
         Call::Location(probe) => replay_location(context, *probe),
@@ -271,9 +271,9 @@ fn make_call<R: Reader>(context: &mut Context<R>, call: &Call<R>) -> Result<Repl
 ///
 /// Source: own.
 pub fn replay<R: Reader>(context: &mut Context<R>, calls: &[Call<R>]) -> Result<Vec<Reply>, Error>
-    ensures gives { IfOk result (λ replies. map seen_reply replies.items
-        ≡ replies_to context.old.sections context.old.answers (map seen_call calls.now)) }
-    ensures after { AfterCalls (map seen_call calls.now) result context.old context.new }
+    ensures gives { IfOk result (λ replies. map as_reply replies.items
+        ≡ replies_to context.old.sections context.old.answers (map as_call calls.now)) }
+    ensures after { AfterCalls (map as_call calls.now) result context.old context.new }
 {
     let mut replies = Vec::with_capacity(context.alloc, calls.len())?;
     for call in calls {

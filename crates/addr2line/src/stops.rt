@@ -2,7 +2,7 @@
 
 ghost use Rattle.std.specs.Prelude.{◌≡◌, IfErr, IfOk};
 ghost use Rattle.addr2line.specs.Common.{OutOfMemory, WasNotRefused, last_address, Skip, frames_left, Waits, frames_found, waiting_unit};
-ghost use Rattle.addr2line_units.specs.SeenUnit.{seen_unit};
+ghost use Rattle.addr2line_units.specs.SeenUnit.{as_unit};
 ghost use Rattle.addr2line.specs.Context.{IsUncovered};
 ghost use Rattle.addr2line.specs.AfterLookups.{AfterFrames, IsKnownFew, IsStored, NeedsNoMemory};
 ghost use Rattle.addr2line.specs.Lookups.{IsFaultOfAsked, IsLoadOf, unit_value, view_found};
@@ -55,7 +55,7 @@ impl<R: Reader> Context<R> {
     // The sections and the unit of the view of the unit in which the last lookup has found
     // something, none where it waits or has found nothing.
     pub(crate) fn found_unit(&self) -> Option<UnitRef<'_, R>>
-        ensures gives { option_map seen_unit result ≡ unit_value self.now.stop
+        ensures gives { option_map as_unit result ≡ unit_value self.now.stop
             (view_found self.now.sections self.now.answers self.now.stop) }
     {
         self.units.unit()

@@ -2,7 +2,7 @@
 
 ghost use Rattle.std.specs.Prelude.{◌≡◌, IfErr, option_map};
 ghost use Rattle.addr2line.specs.Common.{OutOfMemory, ExactlyUnlessOom, Skip, last_address, IfLoad, IfOutput, IsOkOutput};
-ghost use Rattle.addr2line_units.specs.SeenUnit.{seen_found, seen_unit};
+ghost use Rattle.addr2line_units.specs.SeenUnit.{as_found_unit, as_unit};
 ghost use Rattle.addr2line.specs.Borrowed.{RestsAs};
 ghost use Rattle.addr2line.specs.Context.{IsUncovered};
 ghost use Rattle.addr2line.specs.AfterLookups.{AfterFramesOver};
@@ -39,7 +39,7 @@ impl<'ctx, R: Reader + 'ctx> Lent<'ctx, Context<R>> for DwarfAndUnit {
 
     ghost Value = { Option (Sections × UnitRecord) };
 
-    ghost see = { λ u. option_map seen_unit u };
+    ghost see = { λ u. option_map as_unit u };
 
     ghost value_of = { unit_value };
 
@@ -76,7 +76,7 @@ impl<R: Reader> Context<R> {
             SuspendsIn Skip self.entry probe c.ctx c.probe c.number
             c.load) }
         ensures gives { IfOutput result
-            (λ o. ExactlyUnlessOom seen_found o (unit_of_context self.old probe)) }
+            (λ o. ExactlyUnlessOom as_found_unit o (unit_of_context self.old probe)) }
         ensures refused { IfOutput result (λ o. IfErr o (λ e. e ≡ OutOfMemory)) }
         ensures last { probe ≡ last_address → IsUncovered self.old probe }
         ensures none { IsUncovered self.old probe → IsOkOutput result }

@@ -6,7 +6,7 @@ pub use Rattle.std.specs.Io.KnownBytes.{Appends, IsAtEnd, Keeps}
 pub use Rattle.std.specs.Option.{option_copied}
 pub use Rattle.std.specs.Str.{IsUtf8, byte}
 pub use Rattle.addr2line_units.specs.FramesLeft.{frames_left}
-pub use Rattle.addr2line.specs.Loader.{AfterLoads, AfterLocation, AfterLocationRange, LoaderState, seen_loader}
+pub use Rattle.addr2line.specs.Loader.{AfterLoads, AfterLocation, AfterLocationRange, LoaderState, as_loader}
 pub use Rattle.addr2line_bin.specs.Address.{is_hex, probes_in, without_hex_prefix}
 unfoldable pub use Rattle.addr2line_bin.specs.Address.{address_in}
 pub use Rattle.addr2line_bin.specs.Command.{address_words, long_option, long_switch, option, switch, whole_command, with_lookup_options, with_style_options}

@@ -107,18 +107,18 @@ same_after_loads see probe result old new a = record {
 }
 
 -- a location, as it is seen
-seen_unless : {X Y : Type 0} (view : X → Y) (r : Loading X) (given : Loading Y) → LoadsUnlessOom view r given → LoadsUnlessOom (λ x. x) (result_map view r) given
-seen_unless view (Ok x) given h = h
-seen_unless view (Err e) given h = h
+as_unless : {X Y : Type 0} (view : X → Y) (r : Loading X) (given : Loading Y) → LoadsUnlessOom view r given → LoadsUnlessOom (λ x. x) (result_map view r) given
+as_unless view (Ok x) given h = h
+as_unless view (Err e) given h = h
 
-seen_exactly : {X Y : Type 0} (view : X → Y) (r : Loading X) (given : Loading Y) → Exactly view r given → Exactly (λ x. x) (result_map view r) given
-seen_exactly view (Ok x) given h = h
-seen_exactly view (Err e) given h = h
+as_exactly : {X Y : Type 0} (view : X → Y) (r : Loading X) (given : Loading Y) → Exactly view r given → Exactly (λ x. x) (result_map view r) given
+as_exactly view (Ok x) given h = h
+as_exactly view (Err e) given h = h
 
 by_files : {X : Type 0} (view : X → List FrameRecord) (files : Option ReadFiles) (c : ContextState) (address : ℕ) (r : Loading X) → IfSome files (λ held. LoadsUnlessOom view r (frames_by_files held c.sections c.answers address))
     → IfSome files (λ held. LoadsUnlessOom (λ frames. frames) (result_map view r) (frames_by_files held c.sections c.answers address))
 by_files view None c address r h = tt
-by_files view (Some held) c address r h = seen_unless view r (frames_by_files held c.sections c.answers address) h
+by_files view (Some held) c address r h = as_unless view r (frames_by_files held c.sections c.answers address) h
 
 -- a lookup gives none where no unit covers the address
 gives_none : {X : Type 0} (view : X → List FrameRecord) (c : ContextState) (address : ℕ) (r : Loading X) → IsUncovered c address → (WaitsForNone c address → IsKnownFew Stop c address → Exactly view r (ended_frames_of c address))
@@ -132,10 +132,10 @@ pub gives_frames : {X : Type 0} (view : X → List FrameRecord) (l : LoaderState
     → (WaitsForNone l.context address → IsKnownFew Stop l.context address → Exactly view r (ended_frames_of l.context address)) → MayGiveBy l address (result_map view r)
 gives_frames view l address r h ended last exact = (
   by_files view l.files l.context address r h,
-  λ w. seen_unless view r (ended_frames_of l.context address) (ended w),
+  λ w. as_unless view r (ended_frames_of l.context address) (ended w),
   λ bare. elim bare [
-    | inl e ↦ seen_exactly view r (Ok []) (last e)
-    | inr u ↦ seen_exactly view r (Ok []) (gives_none view l.context address r u exact)
+    | inl e ↦ as_exactly view r (Ok []) (last e)
+    | inr u ↦ as_exactly view r (Ok []) (gives_none view l.context address r u exact)
   ],
 )
 
@@ -148,9 +148,9 @@ exactly_none view (Err x) given e h = absurd (cc)
 pub finds : {X : Type 0} (view : X → Location) (c : ContextState) (address : ℕ) (r : Loading (Option X)) → LoadsUnlessOom (option_map view) r (of_file (location_of c.sections address))
     → (IsReady c address → Exactly (option_map view) r (of_file (location_of c.sections address))) → (address ≡ last_address → r ≡ Ok None) → MayFindBy c address (result_map (option_map view) r)
 finds view c address r gives exact last = (
-  seen_unless (option_map view) r (of_file (location_of c.sections address)) gives,
+  as_unless (option_map view) r (of_file (location_of c.sections address)) gives,
   λ ready. elim ready [
-    | inl e ↦ seen_exactly (option_map view) r (of_file (location_of c.sections address)) (exactly_none view r (of_file (location_of c.sections address)) (last e) gives)
-    | inr is ↦ seen_exactly (option_map view) r (of_file (location_of c.sections address)) (exact is)
+    | inl e ↦ as_exactly (option_map view) r (of_file (location_of c.sections address)) (exactly_none view r (of_file (location_of c.sections address)) (last e) gives)
+    | inr is ↦ as_exactly (option_map view) r (of_file (location_of c.sections address)) (exact is)
   ],
 )

@@ -11,7 +11,7 @@ use Rattle.std.specs.declared.io.ErrorKind.TheVariants as kind
 use Rattle.addr2line_bin.specs.Common.{Loading, LoadsUnlessOom}
 use Rattle.addr2line.specs.Files.{Files, as_read}
 use Rattle.addr2line.specs.Loaded.{loaded}
-use Rattle.addr2line.specs.Loader.{seen_loader}
+use Rattle.addr2line.specs.Loader.{as_loader}
 use Rattle.addr2line.specs.declared.loader.LoaderOver.{LoaderOver}
 use Rattle.addr2line_bin.specs.CommandLine.{IsRefusal, IsRequest}
 use Rattle.addr2line_bin.specs.InputLines.{InputState}
@@ -44,7 +44,7 @@ abbrev pub RunsRequest : {F : Type 0} → (F → Option Files) → F → Request
     → StreamState → StreamState → StreamState → StreamState → Exit → Type 0
 RunsRequest {F} known files request io inn oo on eo en e = (loader : Loading (LoaderOver F))
     × IsLoadedFor known files request loader
-    × IsRun (λ l. loader_answers (seen_loader known l)) loader request.options io inn oo on eo en e
+    × IsRun (λ l. loader_answers (as_loader known l)) loader request.options io inn oo on eo en e
 
 -- the same with an input, where there is memory for one; the input isn't seen afterwards
 abbrev pub RunsWith : {F I : Type 0} → (F → Option Files) → F → Request → (I → InputState)

@@ -2,7 +2,7 @@
 
 ghost use Rattle.std.specs.Prelude.{◌≡◌, ◌++◌, OnOk, option_map, string_bytes};
 ghost use Rattle.std.specs.Option.{option_copied};
-ghost use Rattle.addr2line_bin.specs.Common.{seen_location};
+ghost use Rattle.addr2line_bin.specs.Common.{as_location};
 ghost use Rattle.addr2line_bin.specs.AddressTexts.{address_ending, address_text, basename_of, digits_text};
 ghost use Rattle.addr2line_bin.specs.AddressTexts.{fault_line, fault_reason, fault_subject, fault_topic};
 ghost use Rattle.addr2line_bin.specs.AddressTexts.{shown_file, hex_digits, line_text};
@@ -118,7 +118,7 @@ pub fn push_location(
     location: Option<Location<'_>>,
 ) -> Result<(), AllocError>
     ensures gives { OnOk result (string_bytes text.new ≡ string_bytes text.old
-        ++ location_text style (option_map seen_location location.entry)) }
+        ++ location_text style (option_map as_location location.entry)) }
 {
     let Some(location) = location else {
         return push_nowhere(text, style);

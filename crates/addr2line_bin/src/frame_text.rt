@@ -5,7 +5,7 @@ ghost use Rattle.std.specs.Cow.{cow_str_bytes};
 ghost use Rattle.std.specs.Option.{option_copied};
 ghost use Rattle.addr2line_bin.specs.Common.{FrameRecord};
 ghost use Rattle.addr2line_units.specs.FramesLeft.{frames_left};
-ghost use Rattle.addr2line_units.specs.SeenFrame.{seen_frame, seen_name};
+ghost use Rattle.addr2line_units.specs.SeenFrame.{as_frame, as_name};
 ghost use Rattle.addr2line_bin.specs.FrameTexts.{caller_mark, callers_text, frame_text, frames_text};
 ghost use Rattle.addr2line_bin.specs.FrameTexts.{function_ending, function_name, function_text};
 ghost use Rattle.addr2line_bin.specs.FrameTexts.{missing_text, next_and, symbol_before};
@@ -25,7 +25,7 @@ fn function_name<'ctx, R: Reader>(
     function: &FunctionName<'ctx, R>,
 ) -> Result<CowStr<'ctx>, Error>
     ensures gives { IfOk result (λ text. cow_str_bytes text
-        ≡ function_name style (seen_name R.section function.now)) }
+        ≡ function_name style (as_name R.section function.now)) }
 {
     if style.demangle {
         function.demangle(alloc)
@@ -76,7 +76,7 @@ fn push_own_function<R: Reader>(
 ) -> Result<(), AllocError>
     ensures gives { OnOk result (string_bytes text.new ≡ string_bytes text.old
         ++ function_text style (option_map (function_name style)
-        (option_map (seen_name R.section) function.now))) }
+        (option_map (as_name R.section) function.now))) }
 {
     let Some(function) = function else {
         return push_function(text, style, None);
@@ -96,7 +96,7 @@ fn push_frame<R: Reader>(
     frame: &Frame<'_, R>,
 ) -> Result<(), AllocError>
     ensures gives { OnOk result (string_bytes text.new ≡ string_bytes text.old
-        ++ frame_text style (option_copied symbol.entry) (seen_frame R.section frame.now)) }
+        ++ frame_text style (option_copied symbol.entry) (as_frame R.section frame.now)) }
 {
     match symbol {
         Some(_) => push_function(text, style, symbol)?,
@@ -108,7 +108,7 @@ fn push_frame<R: Reader>(
 // The next frame.
 fn next_frame<'ctx, R: Reader>(frames: &mut FrameIter<'ctx, R>) -> Option<Frame<'ctx, R>>
     ensures gives { frames_left frames.old
-        ≡ next_and (option_map (seen_frame R.section) result) (frames_left frames.new) }
+        ≡ next_and (option_map (as_frame R.section) result) (frames_left frames.new) }
 {
     match frames.next() {
         Ok(frame) => frame,
@@ -123,7 +123,7 @@ fn symbol_before<'a, R: Reader>(
 ) -> Option<&'a str>
     ensures gives { (rest : List FrameRecord) → option_copied result
         ≡ symbol_before (option_copied symbol.entry)
-        (next_and (option_map (seen_frame R.section) next.now) rest) }
+        (next_and (option_map (as_frame R.section) next.now) rest) }
 {
     match next {
         Some(_) => None,
@@ -149,7 +149,7 @@ fn push_caller<R: Reader>(
 ) -> Result<(), AllocError>
     ensures gives { OnOk result (string_bytes text.new ≡ string_bytes text.old
         ++ (caller_mark style
-        ++ frame_text style (option_copied symbol.entry) (seen_frame R.section frame.now))) }
+        ++ frame_text style (option_copied symbol.entry) (as_frame R.section frame.now))) }
 {
     push_caller_mark(text, style)?;
     push_frame(text, alloc, style, symbol, frame)
@@ -166,7 +166,7 @@ fn push_callers<'ctx, R: Reader>(
 ) -> Result<(), AllocError>
     ensures gives { OnOk result (string_bytes text.new ≡ string_bytes text.old
         ++ callers_text style (option_copied symbol.entry)
-        (next_and (option_map (seen_frame R.section) first.entry) (frames_left frames.entry))) }
+        (next_and (option_map (as_frame R.section) first.entry) (frames_left frames.entry))) }
 {
     let mut frames = frames;
     let mut next = first;

@@ -1,6 +1,6 @@
 //! The lookups that the program makes.
 
-ghost use Rattle.addr2line.specs.Loader.{seen_loader};
+ghost use Rattle.addr2line.specs.Loader.{as_loader};
 ghost use Rattle.addr2line_bin.specs.LoaderAnswers.{loader_answers};
 
 use addr2line::gimli::read::EndianBytes;
@@ -13,7 +13,7 @@ pub trait Lookups {
     ghost use Rattle.std.specs.Prelude.{◌≡◌, IfErr, IfOk, Ok, option_map};
     ghost use Rattle.elf.specs.declared.error.LoaderError.TheVariants.{OutOfMemory};
     ghost use Rattle.gimli_read.specs.Reading.{result_map};
-    ghost use Rattle.addr2line_lines.specs.SeenLocation.{seen_location};
+    ghost use Rattle.addr2line_lines.specs.SeenLocation.{as_location};
     ghost use Rattle.addr2line_units.specs.FramesLeft.{frames_left};
     ghost use Rattle.addr2line_units.specs.LocationsLeft.{locations_left};
     ghost use Rattle.addr2line_bin.specs.FileAnswers.{EndsAnswered, FileAnswers};
@@ -24,7 +24,7 @@ pub trait Lookups {
     /// The location of an address.
     fn find_location(&mut self, probe: u64) -> Result<Option<Location<'_>>, LoaderError>
         ensures gives { (answers self.old).MayFind probe
-            (result_map (option_map seen_location) result) }
+            (result_map (option_map as_location) result) }
         ensures* ends { EndsAnswered 𝓛 Self.row answers self.entry };
 
     /// The frames of an address.
@@ -54,7 +54,7 @@ pub trait Lookups {
 }
 
 impl<F: FileSource> Lookups for LoaderOver<F> {
-    ghost answers = { λ l. loader_answers (seen_loader F.files l) };
+    ghost answers = { λ l. loader_answers (as_loader F.files l) };
 
     fn find_location(&mut self, probe: u64) -> Result<Option<Location<'_>>, LoaderError> {
         LoaderOver::find_location(self, probe)

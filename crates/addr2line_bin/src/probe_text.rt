@@ -2,7 +2,7 @@
 
 ghost use Rattle.std.specs.Prelude.{◌≡◌, ◌++◌, IfOk, List, ℕ, OnOk, option_map, string_bytes};
 ghost use Rattle.std.specs.Option.{option_copied};
-ghost use Rattle.addr2line_bin.specs.Common.{result_map, seen_location};
+ghost use Rattle.addr2line_bin.specs.Common.{result_map, as_location};
 ghost use Rattle.addr2line_units.specs.FramesLeft.{frames_left};
 ghost use Rattle.addr2line_bin.specs.FileAnswers.{StaysAnswered};
 ghost use Rattle.addr2line_bin.specs.ProbeTexts.{AddsAnswer, GivesFrames, GivesLocation, ProbeAnswer};
@@ -67,7 +67,7 @@ fn push_found(
     found: Result<Option<Location<'_>>, LoaderError>,
 ) -> Result<(), AllocError>
     ensures gives { OnOk result (AddsAnswer context.now address texts.old texts.new
-        (GivesLocation (result_map (option_map seen_location) found.entry))) }
+        (GivesLocation (result_map (option_map as_location) found.entry))) }
 {
     match found {
         Ok(location) => push_location(&mut texts.out, context.style, location),

@@ -2,7 +2,7 @@
 
 ghost use Rattle.std.specs.Prelude.{◌≡◌, ◌⊎◌, Some, false, length, nat_le, option_map};
 ghost use Rattle.addr2line_c.specs.Common.{ExactlyUnlessOom, OutOfMemory, LocationResult, of_file};
-ghost use Rattle.addr2line_lines.specs.SeenLocation.{seen_location};
+ghost use Rattle.addr2line_lines.specs.SeenLocation.{as_location};
 ghost use Rattle.addr2line_units.specs.FramesLeft.{frames_left};
 ghost use Rattle.addr2line_units.specs.UnitFrames.{FramesResult};
 ghost use Rattle.addr2line_c.specs.declared.status.Status.TheVariants.{Nothing, Refused, Waits};
@@ -25,7 +25,7 @@ pub(crate) fn put_found(
     needed: &mut usize,
 ) -> Status
     ensures gives { (given : LocationResult)
-        → ExactlyUnlessOom (option_map seen_location) found.entry given
+        → ExactlyUnlessOom (option_map as_location) found.entry given
         → SaysWhatIsThere (of_file given) (IsWrittenLocation out.new buffer.new needed.new)
         (nat_le needed.new (length buffer.new)) result }
     ensures none { IfNothing result (needed.new ≡ 0) }

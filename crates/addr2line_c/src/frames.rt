@@ -3,7 +3,7 @@
 ghost use Rattle.std.specs.Prelude.{◌≡◌, ◌++◌, ℕ, List, [], false, length, IfErr, IfOk, IsOk, OnOk, Some};
 ghost use Rattle.gimli_read.specs.declared.error.Error.TheVariants.{OutOfMemory};
 ghost use Rattle.addr2line_units.specs.FramesLeft.{frames_left};
-ghost use Rattle.addr2line_units.specs.SeenFrame.{seen_frame, seen_name};
+ghost use Rattle.addr2line_units.specs.SeenFrame.{as_frame, as_name};
 ghost use Rattle.addr2line_c.specs.Filled.{IsFilled};
 ghost use Rattle.addr2line_c.specs.Texts.{optional_text, zero_ended, text_after};
 ghost use Rattle.addr2line_c.specs.Written.{chosen_name, frame_name, frame_texts, frames_texts, written_frame, written_frames};
@@ -38,10 +38,10 @@ fn put_name<R: Reader>(
 ) -> Result<TextPart, Error>
     ensures gives { (before : List (List ℕ)) → IsFilled used.old buffer.old (zero_ended before)
         → OnOk result (IsFilled used.new buffer.new (zero_ended (before
-        ++ optional_text (Some (chosen_name demangles (seen_name R.section name.now)))))) }
+        ++ optional_text (Some (chosen_name demangles (as_name R.section name.now)))))) }
     ensures made { (before : List (List ℕ)) → IsFilled used.old buffer.old (zero_ended before)
         → IfOk result (λ p. p ≡ text_after before
-        (Some (chosen_name demangles (seen_name R.section name.now)))) }
+        (Some (chosen_name demangles (as_name R.section name.now)))) }
     ensures refused { IfErr result (λ e. e ≡ OutOfMemory) }
     ensures memory { demangles ≡ false → IsOk result }
     ensures kept { length buffer.new ≡ length buffer.old }
@@ -63,10 +63,10 @@ fn put_name_if<R: Reader>(
 ) -> Result<TextPart, Error>
     ensures gives { (before : List (List ℕ)) → IsFilled used.old buffer.old (zero_ended before)
         → OnOk result (IsFilled used.new buffer.new (zero_ended (before
-        ++ optional_text (frame_name demangles (seen_frame R.section frame.now))))) }
+        ++ optional_text (frame_name demangles (as_frame R.section frame.now))))) }
     ensures made { (before : List (List ℕ)) → IsFilled used.old buffer.old (zero_ended before)
         → IfOk result (λ p. p ≡ text_after before
-        (frame_name demangles (seen_frame R.section frame.now))) }
+        (frame_name demangles (as_frame R.section frame.now))) }
     ensures refused { IfErr result (λ e. e ≡ OutOfMemory) }
     ensures memory { demangles ≡ false → IsOk result }
     ensures kept { length buffer.new ≡ length buffer.old }
@@ -79,7 +79,7 @@ fn put_name_if<R: Reader>(
 
 // The offset of the entry of a frame's function.
 fn entry_of<R: Reader>(frame: &Frame<'_, R>) -> Option<u64>
-    ensures gives { result ≡ (seen_frame R.section frame.now).offset }
+    ensures gives { result ≡ (as_frame R.section frame.now).offset }
 {
     Some(frame.dw_die_offset?.0)
 }
@@ -94,9 +94,9 @@ fn put_frame<R: Reader>(
 ) -> Result<WrittenFrame, Error>
     ensures gives { (before : List (List ℕ)) → IsFilled used.old buffer.old (zero_ended before)
         → OnOk result (IsFilled used.new buffer.new (zero_ended (before
-        ++ frame_texts demangles (seen_frame R.section frame.now)))) }
+        ++ frame_texts demangles (as_frame R.section frame.now)))) }
     ensures made { (before : List (List ℕ)) → IsFilled used.old buffer.old (zero_ended before)
-        → IfOk result (λ p. p ≡ written_frame demangles before (seen_frame R.section frame.now)) }
+        → IfOk result (λ p. p ≡ written_frame demangles before (as_frame R.section frame.now)) }
     ensures refused { IfErr result (λ e. e ≡ OutOfMemory) }
     ensures memory { demangles ≡ false → IsOk result }
     ensures kept { length buffer.new ≡ length buffer.old }

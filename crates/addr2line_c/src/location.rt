@@ -1,7 +1,7 @@
 //! Locations, as C gets them.
 
 ghost use Rattle.std.specs.Prelude.{◌≡◌, ◌++◌, ℕ, List, length, option_map};
-ghost use Rattle.addr2line_lines.specs.SeenLocation.{seen_location};
+ghost use Rattle.addr2line_lines.specs.SeenLocation.{as_location};
 ghost use Rattle.addr2line_c.specs.Filled.{IsFilled};
 ghost use Rattle.addr2line_c.specs.Texts.{optional_text, zero_ended};
 ghost use Rattle.addr2line_c.specs.Written.{location_column, location_file, location_line, written_location};
@@ -24,7 +24,7 @@ pub struct WrittenLocation {
 // The bytes of the file of a location.
 fn location_file<'a>(location: Option<Location<'a>>) -> Option<&'a [u8]>
     ensures gives { option_map (λ t. t.now) result
-        ≡ location_file (option_map seen_location location.entry) }
+        ≡ location_file (option_map as_location location.entry) }
 {
     let file = location?.file?;
     Some(file.as_bytes())
@@ -32,14 +32,14 @@ fn location_file<'a>(location: Option<Location<'a>>) -> Option<&'a [u8]>
 
 // The line of a location.
 fn location_line(location: Option<Location<'_>>) -> Option<u32>
-    ensures gives { result ≡ location_line (option_map seen_location location.entry) }
+    ensures gives { result ≡ location_line (option_map as_location location.entry) }
 {
     location?.line
 }
 
 // The column of a location.
 fn location_column(location: Option<Location<'_>>) -> Option<u32>
-    ensures gives { result ≡ location_column (option_map seen_location location.entry) }
+    ensures gives { result ≡ location_column (option_map as_location location.entry) }
 {
     location?.column
 }
@@ -52,9 +52,9 @@ pub(crate) fn put_location(
 ) -> WrittenLocation
     ensures gives { (before : List (List ℕ)) → IsFilled used.old buffer.old (zero_ended before)
         → IsFilled used.new buffer.new (zero_ended (before
-        ++ optional_text (location_file (option_map seen_location location.entry)))) }
+        ++ optional_text (location_file (option_map as_location location.entry)))) }
     ensures made { (before : List (List ℕ)) → IsFilled used.old buffer.old (zero_ended before)
-        → result ≡ written_location before (option_map seen_location location.entry) }
+        → result ≡ written_location before (option_map as_location location.entry) }
     ensures kept { length buffer.new ≡ length buffer.old }
 {
     let file = put_text(buffer, used, location_file(location));

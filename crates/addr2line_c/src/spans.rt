@@ -3,7 +3,7 @@
 ghost use Rattle.std.specs.Prelude.{◌≡◌, ◌≢◌, ◌++◌, ℕ, List, IfErr, IfOk, Ok, drop, length, nat_le, take};
 ghost use Rattle.gimli_read.specs.declared.error.Error.TheVariants.{OutOfMemory as RefusedMemory};
 ghost use Rattle.addr2line_c.specs.Common.{result_map, Sections, OutOfMemory, spans_of, IsReadyForRange};
-ghost use Rattle.addr2line_lines.specs.RangesLeft.{seen_located};
+ghost use Rattle.addr2line_lines.specs.RangesLeft.{as_located};
 ghost use Rattle.addr2line_units.specs.LocationsLeft.{locations_left};
 ghost use Rattle.addr2line_c.specs.declared.status.Status.TheVariants.{Refused};
 ghost use Rattle.addr2line_c.specs.Answered.{IfNothing, done_if};
@@ -41,9 +41,9 @@ fn put_span(
 ) -> WrittenSpan
     ensures gives { (before : List (List ℕ)) → IsFilled used.old buffer.old (zero_ended before)
         → IsFilled used.new buffer.new (zero_ended (before
-        ++ texts_of_span (result_map seen_located span.entry))) }
+        ++ texts_of_span (result_map as_located span.entry))) }
     ensures made { (before : List (List ℕ)) → IsFilled used.old buffer.old (zero_ended before)
-        → result ≡ written_span before (result_map seen_located span.entry) }
+        → result ≡ written_span before (result_map as_located span.entry) }
     ensures kept { length buffer.new ≡ length buffer.old }
 {
     match span {

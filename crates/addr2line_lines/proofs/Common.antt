@@ -18,7 +18,7 @@ pub use Rattle.std.specs.Prelude.{int_lt, position, unwrap_or, ◌+ℤ◌}
 pub use Rattle.gimli_read.proofs.TopmostLemmas.{All-passing, In, In-filter, In-last, In-passes, filter-filter, greatest_is, last-cond}
 pub use Rattle.gimli_read.specs.Abbreviations.{Abbrev, Specification, with_code}
 pub use Rattle.gimli_read.specs.Costed.{Costed, ExactlyAtCost, free, takes_memory_after}
-pub use Rattle.gimli_read.specs.Form.{NamedValue, constant_of, rest_of, seen_value}
+pub use Rattle.gimli_read.specs.Form.{NamedValue, constant_of, rest_of, as_value}
 unfoldable pub use Rattle.gimli_read.specs.Form.{attribute_at}
 pub use Rattle.gimli_read.specs.Reading.{Exactly, ExactlyUnlessOomIf, Reading, fault_of, result_map, ◌>>=◌}
 pub use Rattle.gimli_read.specs.Run.{Run, cons, fold_of}
@@ -46,14 +46,14 @@ pub use Rattle.gimli.specs.Ranges.{ranges_at}
 pub use Rattle.gimli.specs.Sections.{Sections}
 pub use Rattle.gimli.specs.Unit.{UnitRecord, attr_string_of, program_and_low_pc_of, table_from}
 unfoldable pub use Rattle.gimli.specs.Unit.{completed_record, unit_by, unit_record_of}
-pub use Rattle.addr2line_lines.specs.CachedDetails.{AreDetailsMore, CachedDetails, IsDetailPlace, IsNextPlace, IsOfEntryBetween, IsRefusedThen, between, detail_of, listed_ranges, seen_details}
-pub use Rattle.addr2line_lines.specs.CachedNames.{AreNamesMore, AreNamesOf, CachedName, GrowNames, IsKnownAs, IsNameOf, IsOneMoreAtMost, seen_cached_name, seen_names, seen_shared}
+pub use Rattle.addr2line_lines.specs.CachedDetails.{AreDetailsMore, CachedDetails, IsDetailPlace, IsNextPlace, IsOfEntryBetween, IsRefusedThen, between, detail_of, listed_ranges, as_details}
+pub use Rattle.addr2line_lines.specs.CachedNames.{AreNamesMore, AreNamesOf, CachedName, GrowNames, IsKnownAs, IsNameOf, IsOneMoreAtMost, as_cached_name, as_names, as_shared}
 pub use Rattle.addr2line_lines.specs.Details.{Detail, PlacedItem, WholeEntry, detail_at, detail_takes_memory, first_whole, inlined_in, is_in_function, open_after, placed_items, whole_entry_at, with_inlined, with_inlined_entry}
 unfoldable pub use Rattle.addr2line_lines.specs.Details.{stored_detail_at}
-pub use Rattle.addr2line_lines.specs.FoundFunctions.{AreFoundUnread, AreFunctions, FoundFunctions, IsPlaceIn, IsUnread, found_from, found_in, found_more, function_address, function_offsets, function_range_of, item_has_function, item_takes_memory, next_found_at, none_found, seen_functions, with_attributes, with_found, with_ranges}
-pub use Rattle.addr2line_lines.specs.FoundInlined.{FoundInlined, IsFoundMore, IsPlaceAmong, entry_among, first_found, found_ranges_from, inlined_address, inlined_more, named_lists, no_inlined, none_inlined, range_among, seen_lists, with_inlined_found, with_inlined_ranges}
-pub use Rattle.addr2line_lines.specs.FoundNames.{BeginsAbove, BeginsBy, found_name, is_name_attribute, name_after, seen_name_or_origin, seen_place, unit_begins_by, with_linkage}
-pub use Rattle.addr2line_lines.specs.FunctionCache.{AreCachedFunctions, AreDetailsApart, AreRuns, HasPlace, inlined_size, name_size, place_read, ranges_size, read_at, seen_function, seen_lazy, size_of}
+pub use Rattle.addr2line_lines.specs.FoundFunctions.{AreFoundUnread, AreFunctions, FoundFunctions, IsPlaceIn, IsUnread, found_from, found_in, found_more, function_address, function_offsets, function_range_of, item_has_function, item_takes_memory, next_found_at, none_found, as_functions, with_attributes, with_found, with_ranges}
+pub use Rattle.addr2line_lines.specs.FoundInlined.{FoundInlined, IsFoundMore, IsPlaceAmong, entry_among, first_found, found_ranges_from, inlined_address, inlined_more, named_lists, no_inlined, none_inlined, range_among, as_lists, with_inlined_found, with_inlined_ranges}
+pub use Rattle.addr2line_lines.specs.FoundNames.{BeginsAbove, BeginsBy, found_name, is_name_attribute, name_after, as_name_or_origin, as_place, unit_begins_by, with_linkage}
+pub use Rattle.addr2line_lines.specs.FunctionCache.{AreCachedFunctions, AreDetailsApart, AreRuns, HasPlace, inlined_size, name_size, place_read, ranges_size, read_at, as_function, as_lazy, size_of}
 pub use Rattle.addr2line_lines.specs.FunctionTable.{AreListed, CachedFunction, FunctionTable, cached_inlined, cached_name, cached_offset_at, function_place_at, inlined_of_detail, name_of_detail}
 pub use Rattle.addr2line_lines.specs.Functions.{FunctionRange, entries_of, entry_gives_a_range, entry_ranges, function_begin, function_end, function_offset, function_offset_at, functions_of, has_function, have_function, is_subprogram, once_before, with_function}
 pub use Rattle.addr2line_lines.specs.InOrder.{IsInOrder, OrderIsFree, begins_sooner, in_order, put}
@@ -68,7 +68,7 @@ pub use Rattle.addr2line_lines.specs.RangeAttributes.{all_ranges, attr_address, 
 unfoldable pub use Rattle.addr2line_lines.specs.RangeAttributes.{with_range_attribute}
 pub use Rattle.addr2line_lines.specs.References.{AreInOrder, EntryPlace, FileRecord, IsBefore, IsFileInOrder, IsScope, Scope, entry_in, entry_in_sup, referred, sup_scope, unit_at}
 pub use Rattle.addr2line_lines.specs.Rows.{read_all}
-pub use Rattle.addr2line_lines.specs.SeenScope.{seen_scope}
+pub use Rattle.addr2line_lines.specs.SeenScope.{as_scope}
 pub use Rattle.addr2line_lines.specs.Segments.{AreApart, AreDisjoint, AreSegments, AreSegmentsBelow, IsSegment, RunningRange, address_begin, address_end, address_function, address_holds, as_running, first_end, running_end, segment_to, shortest_function_at}
 pub use Rattle.addr2line_lines.specs.Sequences.{RowGroup, Sequence, end_of, latest, put_first, row_groups, sequence_in, sequence_of, sequences_of, start_of, stored_row}
 pub use Rattle.addr2line_lines.specs.declared.details.FunctionDetail.{FunctionDetail}

@@ -1,5 +1,5 @@
 -- What is cached of functions, as more is read (on specs/FunctionCache.antt).
-use Rattle.addr2line_lines.proofs.Common.{◌≡◌, ℕ, ◌+◌, ◌≤◌, ◌≢◌, List, [], ◌∷◌, ◌++◌, get_or, length, map, slice_get, slice_set, sum_by, Option, Some, None, Result, Ok, Err, refl, ap, sym, subst, ◌∙◌, arith, inl, inr, length-append, append-nil, AllByRecursion, map-set, sum_by-cons, sum_by-set, get_or_from_slice_get, slice_get-map, slice_get_within, map-set_same, Section, Error, OutOfMemory, UnitOffset, UnitRecord, FunctionDetail, LazyFunction, FunctionAddress, CachedName, Detail, detail_at, FoundInlined, none_inlined, AreFunctions, IsUnread, function_offsets, function_range_of, AreCachedFunctions, AreDetailsApart, AreRuns, HasPlace, inlined_size, name_size, ranges_size, seen_function, seen_lazy, size_of, CachedFunction, FunctionTable, AreDetailsMore, IsDetailPlace, IsNextPlace, IsRefusedThen, CachedDetails, detail_of, Scope}
+use Rattle.addr2line_lines.proofs.Common.{◌≡◌, ℕ, ◌+◌, ◌≤◌, ◌≢◌, List, [], ◌∷◌, ◌++◌, get_or, length, map, slice_get, slice_set, sum_by, Option, Some, None, Result, Ok, Err, refl, ap, sym, subst, ◌∙◌, arith, inl, inr, length-append, append-nil, AllByRecursion, map-set, sum_by-cons, sum_by-set, get_or_from_slice_get, slice_get-map, slice_get_within, map-set_same, Section, Error, OutOfMemory, UnitOffset, UnitRecord, FunctionDetail, LazyFunction, FunctionAddress, CachedName, Detail, detail_at, FoundInlined, none_inlined, AreFunctions, IsUnread, function_offsets, function_range_of, AreCachedFunctions, AreDetailsApart, AreRuns, HasPlace, inlined_size, name_size, ranges_size, as_function, as_lazy, size_of, CachedFunction, FunctionTable, AreDetailsMore, IsDetailPlace, IsNextPlace, IsRefusedThen, CachedDetails, detail_of, Scope}
 use Rattle.std.specs.Option.{option_map}
 use Rattle.addr2line_lines.specs.declared.functions.LazyDetail.{LazyDetail}
 use Rattle.addr2line_lines.specs.declared.functions.LazyDetail.TheVariants.{Unread, Read, Faulty}
@@ -22,22 +22,22 @@ pub details_stay : (cached : CachedDetails) → AreDetailsMore cached cached
 details_stay cached = record { names = grown_not cached.names; found = record { entries = grown_not cached.found.entries; ranges = grown_not cached.found.ranges }; known = grown_not cached.known }
 
 -- a detail that is read is as before where more is read
-lazy_stays : (cached more : CachedDetails) → AreDetailsMore cached more → (x : LazyDetail) → ((p : FunctionDetail) → x ≡ Read p → IsDetailPlace cached p) → seen_lazy more x ≡ seen_lazy cached x
+lazy_stays : (cached more : CachedDetails) → AreDetailsMore cached more → (x : LazyDetail) → ((p : FunctionDetail) → x ≡ Read p → IsDetailPlace cached p) → as_lazy more x ≡ as_lazy cached x
 lazy_stays cached more grown Unread h = refl
 lazy_stays cached more grown (Read p) h = ap (λ (d : Detail). Some (Ok d)) (detail_stays cached more p grown (h p refl)).0
 lazy_stays cached more grown (Faulty e) h = refl
 
-seen_stays : (cached more : CachedDetails) → AreDetailsMore cached more → (f : LazyFunction) → HasPlace cached f → seen_function more f ≡ seen_function cached f
-seen_stays cached more grown f h = ap made (lazy_stays cached more grown f.detail h)
+as_function_stays : (cached more : CachedDetails) → AreDetailsMore cached more → (f : LazyFunction) → HasPlace cached f → as_function more f ≡ as_function cached f
+as_function_stays cached more grown f h = ap made (lazy_stays cached more grown f.detail h)
   where
     made : Option (Result Detail Error) → CachedFunction
     made x = record { offset = f.dw_die_offset.0; detail = x }
 
-all_seen_stay : (cached more : CachedDetails) → AreDetailsMore cached more → (fs : List LazyFunction) → AllByRecursion (HasPlace cached) fs → map (seen_function more) fs ≡ map (seen_function cached) fs
+all_seen_stay : (cached more : CachedDetails) → AreDetailsMore cached more → (fs : List LazyFunction) → AllByRecursion (HasPlace cached) fs → map (as_function more) fs ≡ map (as_function cached) fs
 all_seen_stay cached more grown [] all = refl
 all_seen_stay cached more grown (f ∷ fs) all =
-    ap (λ (x : CachedFunction). x ∷ map (seen_function more) fs) (seen_stays cached more grown f all.0)
-    ∙ ap (λ xs. seen_function cached f ∷ xs) (all_seen_stay cached more grown fs all.1)
+    ap (λ (x : CachedFunction). x ∷ map (as_function more) fs) (as_function_stays cached more grown f all.0)
+    ∙ ap (λ xs. as_function cached f ∷ xs) (all_seen_stay cached more grown fs all.1)
 
 place_stays : (cached more : CachedDetails) → AreDetailsMore cached more → (f : LazyFunction) → HasPlace cached f → HasPlace more f
 place_stays cached more grown f h = λ p e. (detail_stays cached more p grown (h p e)).1
@@ -67,30 +67,30 @@ runs_unread fs d all e =
       ranges = sum_unread ranges_size fs all;
     })
 
-pub seen_unread : (d : CachedDetails) (fs : List LazyFunction) → AllByRecursion IsUnread fs → AllByRecursion (λ (f : CachedFunction). f.detail ≡ None) (map (seen_function d) fs)
-seen_unread d [] all = tt
-seen_unread d (f ∷ fs) all = (ap (seen_lazy d) all.0, seen_unread d fs all.1)
+pub functions_unread : (d : CachedDetails) (fs : List LazyFunction) → AllByRecursion IsUnread fs → AllByRecursion (λ (f : CachedFunction). f.detail ≡ None) (map (as_function d) fs)
+functions_unread d [] all = tt
+functions_unread d (f ∷ fs) all = (ap (as_lazy d) all.0, functions_unread d fs all.1)
 
 -- a function of which nothing is cached isn't read
-unread_lazy : (d : CachedDetails) (x : LazyDetail) → seen_lazy d x ≡ None → x ≡ Unread
+unread_lazy : (d : CachedDetails) (x : LazyDetail) → as_lazy d x ≡ None → x ≡ Unread
 unread_lazy d Unread e = refl
 unread_lazy d (Read p) e = absurd cc
 unread_lazy d (Faulty f) e = absurd cc
 
-pub unread_at : (d : CachedDetails) (fs : List LazyFunction) (n offset : ℕ) → slice_get (map (seen_function d) fs) n ≡ Some (record { offset = offset; detail = None }) → (f : LazyFunction) × (slice_get fs n ≡ Some f) × (f.dw_die_offset.0 ≡ offset) × (f.detail ≡ Unread)
-unread_at d fs n offset e = by_cases (slice_get fs n) refl (sym (slice_get-map (seen_function d) fs n) ∙ e)
+pub unread_at : (d : CachedDetails) (fs : List LazyFunction) (n offset : ℕ) → slice_get (map (as_function d) fs) n ≡ Some (record { offset = offset; detail = None }) → (f : LazyFunction) × (slice_get fs n ≡ Some f) × (f.dw_die_offset.0 ≡ offset) × (f.detail ≡ Unread)
+unread_at d fs n offset e = by_cases (slice_get fs n) refl (sym (slice_get-map (as_function d) fs n) ∙ e)
   where
-    by_cases : (o : Option LazyFunction) → slice_get fs n ≡ o → option_map (seen_function d) o ≡ Some (record { offset = offset; detail = None }) → (f : LazyFunction) × (slice_get fs n ≡ Some f) × (f.dw_die_offset.0 ≡ offset) × (f.detail ≡ Unread)
+    by_cases : (o : Option LazyFunction) → slice_get fs n ≡ o → option_map (as_function d) o ≡ Some (record { offset = offset; detail = None }) → (f : LazyFunction) × (slice_get fs n ≡ Some f) × (f.dw_die_offset.0 ≡ offset) × (f.detail ≡ Unread)
     by_cases None q h = absurd cc
     by_cases (Some f) q h =
-        let same : seen_function d f ≡ record { offset = offset; detail = None } = cc in
+        let same : as_function d f ≡ record { offset = offset; detail = None } = cc in
         (f, q, ap (λ (x : CachedFunction). x.offset) same, unread_lazy d f.detail (ap (λ (x : CachedFunction). x.detail) same))
 
 -- the functions as callers see them
 abbrev pub table_of : List LazyFunction → List FunctionAddress → CachedDetails → FunctionTable
 table_of fs addresses d = record {
   ranges = map (function_range_of (function_offsets fs)) addresses;
-  functions = map (seen_function d) fs;
+  functions = map (as_function d) fs;
   inlined = d.found.entries;
   names = d.known;
 }
@@ -113,8 +113,8 @@ module _ (fs : List LazyFunction) (n : ℕ) (f y : LazyFunction) (at : slice_get
 
   -- one more detail, or a fault, is cached
   module _ (addresses : List FunctionAddress) (cached more : CachedDetails) (h : AreCachedFunctions fs addresses cached) (unread : f.detail ≡ Unread) (grown : AreDetailsMore cached more) where
-    pub seen_set : map (seen_function more) (slice_set fs n y) ≡ slice_set (map (seen_function cached) fs) n (seen_function more y)
-    seen_set = map-set (seen_function more) fs n y ∙ ap (λ xs. slice_set xs n (seen_function more y)) (all_seen_stay cached more grown fs h.runs.places)
+    pub as_set : map (as_function more) (slice_set fs n y) ≡ slice_set (map (as_function cached) fs) n (as_function more y)
+    as_set = map-set (as_function more) fs n y ∙ ap (λ xs. slice_set xs n (as_function more y)) (all_seen_stay cached more grown fs h.runs.places)
 
     added : (size : FunctionDetail → ℕ) → sum_by (size_of size) (slice_set fs n y) ≡ sum_by (size_of size) fs + size_of size y
     added size =
@@ -126,8 +126,8 @@ module _ (fs : List LazyFunction) (n : ℕ) (f y : LazyFunction) (at : slice_get
     old_place : (i : ℕ) (g : LazyFunction) (q : FunctionDetail) → slice_get fs i ≡ Some g → g.detail ≡ Read q → IsDetailPlace cached q
     old_place i g q e r = all_at (HasPlace cached) fs i g h.runs.places e q r
 
-    seen_as : (offset : ℕ) (detail : Option (Result Detail Error)) → y.dw_die_offset.0 ≡ offset → seen_lazy more y.detail ≡ detail → seen_function more y ≡ record { offset = offset; detail = detail }
-    seen_as offset detail o d = ap (λ m. made m (seen_lazy more y.detail)) o ∙ ap (made offset) d
+    as_as : (offset : ℕ) (detail : Option (Result Detail Error)) → y.dw_die_offset.0 ≡ offset → as_lazy more y.detail ≡ detail → as_function more y ≡ record { offset = offset; detail = detail }
+    as_as offset detail o d = ap (λ m. made m (as_lazy more y.detail)) o ∙ ap (made offset) d
       where
         made : ℕ → Option (Result Detail Error) → CachedFunction
         made m x = record { offset = m; detail = x }
@@ -184,7 +184,7 @@ module _ (fs : List LazyFunction) (n : ℕ) (f y : LazyFunction) (at : slice_get
       pub table_read : (offset : ℕ) (detail : Result Detail Error) → f.dw_die_offset.0 ≡ offset → detail ≡ Ok (detail_of more p) → IsWithDetail n (unread_function offset) detail (table_of fs addresses cached) (table_of (slice_set fs n y) addresses more)
       table_read offset detail o d = record {
         ranges = ranges_stay addresses;
-        functions = seen_set ∙ ap (λ x. slice_set (map (seen_function cached) fs) n x) (seen_as offset (Some detail) (ap (λ (v : UnitOffset). v.0) entry ∙ o) (ap (seen_lazy more) is ∙ ap Some (sym d)));
+        functions = as_set ∙ ap (λ x. slice_set (map (as_function cached) fs) n x) (as_as offset (Some detail) (ap (λ (v : UnitOffset). v.0) entry ∙ o) (ap (as_lazy more) is ∙ ap Some (sym d)));
         inlined = grown.found.entries;
         names = grown.known;
       }
@@ -227,7 +227,7 @@ module _ (fs : List LazyFunction) (n : ℕ) (f y : LazyFunction) (at : slice_get
       pub table_fault : (offset : ℕ) (detail : Result Detail Error) → f.dw_die_offset.0 ≡ offset → detail ≡ Err e → IsWithDetail n (unread_function offset) detail (table_of fs addresses cached) (table_of (slice_set fs n y) addresses more)
       table_fault offset detail o d = record {
         ranges = ranges_stay addresses;
-        functions = seen_set ∙ ap (λ x. slice_set (map (seen_function cached) fs) n x) (seen_as offset (Some detail) (ap (λ (v : UnitOffset). v.0) entry ∙ o) (ap (seen_lazy more) is ∙ ap Some (sym d)));
+        functions = as_set ∙ ap (λ x. slice_set (map (as_function cached) fs) n x) (as_as offset (Some detail) (ap (λ (v : UnitOffset). v.0) entry ∙ o) (ap (as_lazy more) is ∙ ap Some (sym d)));
         inlined = grown.found.entries;
         names = grown.known;
       }

@@ -1,5 +1,5 @@
 -- What attributes say of names (on specs/Names.antt).
-use Rattle.addr2line_lines.proofs.Common.{ℕ, ◌+◌, ◌≡◌, ◌≢◌, ◌==◌, ◌||◌, Bool, true, false, cond, List, Option, Some, None, is_some, option_map, Result, Ok, Err, add-one, arith, refl, ap, ◌∙◌, ℤ, pos, option_or, nat_tests, DW_AT_name, Error, OutOfMemory, AttributeValue, Abbrev, Specification, NamedValue, seen_value, Reading, ExactlyUnlessOomIf, ◌>>=◌, Section, entry_bytes_from, entry_code_at, EntriesLeft, EntryCursor, depth_after_code, entries_at, entries_from, entry_abbreviation_at, UnitRecord, attr_string_of, is_name_attribute, seen_name_or_origin, with_linkage, NameOrOrigin, entry_specifications, is_linkage_name, is_origin, linkage_name_of, name_within, named_at, no_name, or_referred_name, readable, referred_name, visited, with_name, with_name_or_origin, EntryPlace, Scope, referred}
+use Rattle.addr2line_lines.proofs.Common.{ℕ, ◌+◌, ◌≡◌, ◌≢◌, ◌==◌, ◌||◌, Bool, true, false, cond, List, Option, Some, None, is_some, option_map, Result, Ok, Err, add-one, arith, refl, ap, ◌∙◌, ℤ, pos, option_or, nat_tests, DW_AT_name, Error, OutOfMemory, AttributeValue, Abbrev, Specification, NamedValue, as_value, Reading, ExactlyUnlessOomIf, ◌>>=◌, Section, entry_bytes_from, entry_code_at, EntriesLeft, EntryCursor, depth_after_code, entries_at, entries_from, entry_abbreviation_at, UnitRecord, attr_string_of, is_name_attribute, as_name_or_origin, with_linkage, NameOrOrigin, entry_specifications, is_linkage_name, is_origin, linkage_name_of, name_within, named_at, no_name, or_referred_name, readable, referred_name, visited, with_name, with_name_or_origin, EntryPlace, Scope, referred}
 use Rattle.std.specs.Result.{result_ok}
 use Rattle.gimli.proofs.WantedLemmas.{PassesOver}
 use Rattle.addr2line_lines.specs.declared.name.NameOrOrigin.{NameOrOrigin as NameOrOriginOf}
@@ -156,29 +156,29 @@ unfolding name_within
 within_zero s u v m h = ap (λ k. name_within k s u v) h
 
 -- after an entry with a name
-pub visit_named : {R : Type 0} (see : R → Section) (n : ℕ) (place : EntryPlace) (x : NameOrOriginOf R) → true ≡ is_some x.name → after_visit n place (seen_name_or_origin see x) ≡ Ok (option_map see x.name)
+pub visit_named : {R : Type 0} (see : R → Section) (n : ℕ) (place : EntryPlace) (x : NameOrOriginOf R) → true ≡ is_some x.name → after_visit n place (as_name_or_origin see x) ≡ Ok (option_map see x.name)
 visit_named see n place x h = at x.name h
   where
-    at : (o : Option _) → true ≡ is_some o → ◌≡◌ {A = Result (Option Section) Error} (elim (option_map see o) [ Some name ↦ Ok (Some name) | None ↦ elim (option_map (seen_value see) x.origin) [ None ↦ Ok None | Some next ↦ name_within n place.scope place.unit next ] ]) (Ok (option_map see o))
+    at : (o : Option _) → true ≡ is_some o → ◌≡◌ {A = Result (Option Section) Error} (elim (option_map see o) [ Some name ↦ Ok (Some name) | None ↦ elim (option_map (as_value see) x.origin) [ None ↦ Ok None | Some next ↦ name_within n place.scope place.unit next ] ]) (Ok (option_map see o))
     at None h = absurd cc
     at (Some name) h = refl
 
 -- after an entry without one
 visit_unnamed : {R : Type 0} (see : R → Section) (n : ℕ) (place : EntryPlace) (x : NameOrOriginOf R) → false ≡ is_some x.name
-    → after_visit n place (seen_name_or_origin see x) ≡ elim (option_map (seen_value see) x.origin) [ None ↦ Ok None | Some next ↦ name_within n place.scope place.unit next ]
+    → after_visit n place (as_name_or_origin see x) ≡ elim (option_map (as_value see) x.origin) [ None ↦ Ok None | Some next ↦ name_within n place.scope place.unit next ]
 visit_unnamed see n place x h = at x.name h
   where
-    at : (o : Option _) → false ≡ is_some o → ◌≡◌ {A = Result (Option Section) Error} (elim (option_map see o) [ Some name ↦ Ok (Some name) | None ↦ elim (option_map (seen_value see) x.origin) [ None ↦ Ok None | Some next ↦ name_within n place.scope place.unit next ] ]) (elim (option_map (seen_value see) x.origin) [ None ↦ Ok None | Some next ↦ name_within n place.scope place.unit next ])
+    at : (o : Option _) → false ≡ is_some o → ◌≡◌ {A = Result (Option Section) Error} (elim (option_map see o) [ Some name ↦ Ok (Some name) | None ↦ elim (option_map (as_value see) x.origin) [ None ↦ Ok None | Some next ↦ name_within n place.scope place.unit next ] ]) (elim (option_map (as_value see) x.origin) [ None ↦ Ok None | Some next ↦ name_within n place.scope place.unit next ])
     at None h = refl
     at (Some name) h = absurd cc
 
 -- after an entry that says nothing
-pub visit_ends : {R : Type 0} (see : R → Section) (n : ℕ) (place : EntryPlace) (x : NameOrOriginOf R) → false ≡ is_some x.name → x.origin ≡ None → after_visit n place (seen_name_or_origin see x) ≡ Ok None
-visit_ends see n place x h k = visit_unnamed see n place x h ∙ ap (λ o. elim (option_map (seen_value see) o) [ None ↦ Ok None | Some next ↦ name_within n place.scope place.unit next ]) k
+pub visit_ends : {R : Type 0} (see : R → Section) (n : ℕ) (place : EntryPlace) (x : NameOrOriginOf R) → false ≡ is_some x.name → x.origin ≡ None → after_visit n place (as_name_or_origin see x) ≡ Ok None
+visit_ends see n place x h k = visit_unnamed see n place x h ∙ ap (λ o. elim (option_map (as_value see) o) [ None ↦ Ok None | Some next ↦ name_within n place.scope place.unit next ]) k
 
 -- after an entry that refers to another one
-pub visit_goes_on : {R : Type 0} (see : R → Section) (n : ℕ) (place : EntryPlace) (x : NameOrOriginOf R) (v : AttributeValue R) → false ≡ is_some x.name → x.origin ≡ Some v → after_visit n place (seen_name_or_origin see x) ≡ name_within n place.scope place.unit (seen_value see v)
-visit_goes_on see n place x v h k = visit_unnamed see n place x h ∙ ap (λ o. elim (option_map (seen_value see) o) [ None ↦ Ok None | Some next ↦ name_within n place.scope place.unit next ]) k
+pub visit_goes_on : {R : Type 0} (see : R → Section) (n : ℕ) (place : EntryPlace) (x : NameOrOriginOf R) (v : AttributeValue R) → false ≡ is_some x.name → x.origin ≡ Some v → after_visit n place (as_name_or_origin see x) ≡ name_within n place.scope place.unit (as_value see v)
+visit_goes_on see n place x v h k = visit_unnamed see n place x h ∙ ap (λ o. elim (option_map (as_value see) o) [ None ↦ Ok None | Some next ↦ name_within n place.scope place.unit next ]) k
 
 -- by the attribute's name
 abbrev pub by_name : Scope → UnitRecord → Option Section → NamedValue → Bool → Bool → Bool → Result (Option Section) Error

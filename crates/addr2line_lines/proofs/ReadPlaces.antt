@@ -1,16 +1,16 @@
 -- What is cached of a function is what a call that reads it again gives (on
 -- specs/FunctionDetails.antt).
-use Rattle.addr2line_lines.proofs.Common.{◌≡◌, ℕ, ◌≤◌, List, length, map, slice_get, Option, Some, None, Result, Ok, refl, ap, sym, subst, ◌∙◌, slice_get-map, slice_get_past, Error, UnitRecord, LazyFunction, Detail, seen_function, fault_of, CachedFunction, FunctionTable, CachedDetails, Scope}
+use Rattle.addr2line_lines.proofs.Common.{◌≡◌, ℕ, ◌≤◌, List, length, map, slice_get, Option, Some, None, Result, Ok, refl, ap, sym, subst, ◌∙◌, slice_get-map, slice_get_past, Error, UnitRecord, LazyFunction, Detail, as_function, fault_of, CachedFunction, FunctionTable, CachedDetails, Scope}
 use Rattle.std.specs.Option.{option_map}
 use Rattle.addr2line_lines.specs.FunctionDetails.{IsReadAt, IsReadOf, IsReadOnce, read_fault}
 
 -- past the last function there is none
-pub none_at : (d : CachedDetails) (fs : List LazyFunction) (n : ℕ) → length fs ≤ n → slice_get (map (seen_function d) fs) n ≡ None
-none_at d fs n l = slice_get-map (seen_function d) fs n ∙ ap (option_map (seen_function d)) (slice_get_past fs n l)
+pub none_at : (d : CachedDetails) (fs : List LazyFunction) (n : ℕ) → length fs ≤ n → slice_get (map (as_function d) fs) n ≡ None
+none_at d fs n l = slice_get-map (as_function d) fs n ∙ ap (option_map (as_function d)) (slice_get_past fs n l)
 
 -- a function of a place
-pub some_at : (d : CachedDetails) (fs : List LazyFunction) (n : ℕ) (f : LazyFunction) → slice_get fs n ≡ Some f → slice_get (map (seen_function d) fs) n ≡ Some (seen_function d f)
-some_at d fs n f e = slice_get-map (seen_function d) fs n ∙ ap (option_map (seen_function d)) e
+pub some_at : (d : CachedDetails) (fs : List LazyFunction) (n : ℕ) (f : LazyFunction) → slice_get fs n ≡ Some f → slice_get (map (as_function d) fs) n ≡ Some (as_function d f)
+some_at d fs n f e = slice_get-map (as_function d) fs n ∙ ap (option_map (as_function d)) e
 
 module _ (scope : Scope) (u : UnitRecord) (n : ℕ) (t : FunctionTable) where
   -- where there is no function nothing is read

@@ -1,5 +1,5 @@
 -- The unit of an offset among units in order (on specs/References.antt).
-use Rattle.addr2line_lines.proofs.Common.{ℕ, zero, suc, ◌≡◌, ◌+◌, ◌-◌, ◌<◌, ◌≤◌, ◌||◌, Bool, true, false, cond, nat_le, nat_lt, leb, List, [], ◌∷◌, length, slice_index_or, option_map, Option, Some, None, Result, Ok, Err, arith, refl, ap, subst, sym, ◌∙◌, All, IsNonDecreasingBy, IsPartitionPoint, nat_tests, Error, NoEntryAtGivenOffset, AttributeValue, UnitOffset, seen_value, Section, unit_length, UnitRecord, BeginsAbove, BeginsBy, AreInOrder, EntryPlace, FileRecord, IsBefore, IsFileInOrder, IsScope, Scope, entry_in, entry_in_sup, referred, sup_scope, unit_at}
+use Rattle.addr2line_lines.proofs.Common.{ℕ, zero, suc, ◌≡◌, ◌+◌, ◌-◌, ◌<◌, ◌≤◌, ◌||◌, Bool, true, false, cond, nat_le, nat_lt, leb, List, [], ◌∷◌, length, slice_index_or, option_map, Option, Some, None, Result, Ok, Err, arith, refl, ap, subst, sym, ◌∙◌, All, IsNonDecreasingBy, IsPartitionPoint, nat_tests, Error, NoEntryAtGivenOffset, AttributeValue, UnitOffset, as_value, Section, unit_length, UnitRecord, BeginsAbove, BeginsBy, AreInOrder, EntryPlace, FileRecord, IsBefore, IsFileInOrder, IsScope, Scope, entry_in, entry_in_sup, referred, sup_scope, unit_at}
 use Rattle.gimli_read.specs.declared.value.AttributeValue.TheVariants as values
 use Rattle.gimli_read.specs.declared.value.DebugInfoOffset.{DebugInfoOffset}
 use Rattle.gimli.specs.Header.{UnitHeaderFields}
@@ -101,7 +101,7 @@ last_begun offset begun units u h bound some point is = one_at offset units (beg
 
 -- a value of another class refers to nothing
 pub no_reference : {R : Type 0} (see : R → Section) (s : Scope) (u : UnitRecord) (v : AttributeValue R) → ((x : UnitOffset) → v ≡ values.UnitRef x → ⊥) → ((x : DebugInfoOffset) → v ≡ values.DebugInfoRef x → ⊥) → ((x : DebugInfoOffset) → v ≡ values.DebugInfoRefSup x → ⊥)
-    → referred s u (seen_value see v) ≡ Ok None
+    → referred s u (as_value see v) ≡ Ok None
 no_reference see s u (values.UnitRef x) a b c = absurd (a x refl)
 no_reference see s u (values.DebugInfoRef x) a b c = absurd (b x refl)
 no_reference see s u (values.DebugInfoRefSup x) a b c = absurd (c x refl)

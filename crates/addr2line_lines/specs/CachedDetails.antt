@@ -9,9 +9,9 @@ use Rattle.addr2line_lines.specs.Common.{Error, OutOfMemory, Section}
 use Rattle.addr2line_lines.specs.declared.details.Details.{Details}
 use Rattle.addr2line_lines.specs.declared.details.FunctionDetail.{FunctionDetail}
 use Rattle.addr2line_lines.specs.declared.picks.InlinedFunctionAddress.{InlinedFunctionAddress}
-use Rattle.addr2line_lines.specs.CachedNames.{CachedName, seen_names}
+use Rattle.addr2line_lines.specs.CachedNames.{CachedName, as_names}
 use Rattle.addr2line_lines.specs.Details.{Detail}
-use Rattle.addr2line_lines.specs.FoundInlined.{FoundInlined, IsFoundMore, range_among, seen_lists}
+use Rattle.addr2line_lines.specs.FoundInlined.{FoundInlined, IsFoundMore, range_among, as_lists}
 use Rattle.addr2line_lines.specs.Grown.{IsGrown}
 use Rattle.addr2line_lines.specs.InOrder.{in_order}
 use Rattle.addr2line_lines.specs.InlinedChain.{inlined_chain}
@@ -26,11 +26,11 @@ pub record CachedDetails : Type 0 where
   pub known : List CachedName
 
 -- what is cached
-abbrev pub seen_details : {R : Type 0} → (R → Section) → Details R → CachedDetails
-seen_details see d = record {
+abbrev pub as_details : {R : Type 0} → (R → Section) → Details R → CachedDetails
+as_details see d = record {
   names = map (option_map see) d.names.items;
-  found = seen_lists d.inlined;
-  known = seen_names see d.known;
+  found = as_lists d.inlined;
+  known = as_names see d.known;
 }
 
 -- the ranges of a place, in the order of their entries

@@ -27,20 +27,20 @@ abbrev pub name_at_offset : UnitOffset → Result (Option Section) Error → Cac
 name_at_offset offset name = record { offset = offset; name = name }
 
 -- the name of an entry, or its fault, as others share it
-abbrev pub seen_shared : {R : Type 0} → (R → Section) → Result (Rc (Option R) Global) Error
+abbrev pub as_shared : {R : Type 0} → (R → Section) → Result (Rc (Option R) Global) Error
     → Result (Option Section) Error
-seen_shared see name = result_map (λ shared. option_map see shared.value) name
+as_shared see name = result_map (λ shared. option_map see shared.value) name
 
 -- a name that is cached, or a fault
-abbrev pub seen_cached_name : {R : Type 0} → (R → Section) → declared_name.CachedName R → CachedName
-seen_cached_name see (cached.Named offset name) =
+abbrev pub as_cached_name : {R : Type 0} → (R → Section) → declared_name.CachedName R → CachedName
+as_cached_name see (cached.Named offset name) =
     name_at_offset (record { 0 = offset }) (Ok (option_map see name.value))
-seen_cached_name see (cached.Faulty offset error) =
+as_cached_name see (cached.Faulty offset error) =
     name_at_offset (record { 0 = offset }) (Err error.value)
 
 -- the names and faults that are cached
-abbrev pub seen_names : {R : Type 0} → (R → Section) → NameCache R → List CachedName
-seen_names see c = map (seen_cached_name see) c.names.items
+abbrev pub as_names : {R : Type 0} → (R → Section) → NameCache R → List CachedName
+as_names see c = map (as_cached_name see) c.names.items
 
 -- the name, or the fault, is that which a reference to the entry gives
 abbrev pub IsNameOf : Scope → UnitRecord → CachedName → Type 0

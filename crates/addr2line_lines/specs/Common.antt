@@ -1,7 +1,7 @@
 -- What specs and contracts of this crate cite of the crates below, handed on. Declares nothing.
 pub use Rattle.gimli_read.specs.Abbreviations.{Abbrev, Specification}
 pub use Rattle.gimli_read.specs.Costed.{Costed, ExactlyAtCost, free, takes_memory_after}
-pub use Rattle.gimli_read.specs.Form.{NamedValue, constant_of, rest_of, seen_value}
+pub use Rattle.gimli_read.specs.Form.{NamedValue, constant_of, rest_of, as_value}
 unfoldable pub use Rattle.gimli_read.specs.Form.{attribute_at}
 pub use Rattle.gimli_read.specs.Reading.{Exactly, ExactlyUnlessOom, ExactlyUnlessOomIf, IsUnlessOom, Reading, WasNotRefused, fault_of, result_map, ◌>>=◌}
 pub use Rattle.gimli_read.specs.Run.{Run, fold_of}

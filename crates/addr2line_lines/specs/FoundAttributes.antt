@@ -8,9 +8,9 @@ use Rattle.addr2line_lines.specs.FoundRanges.{is_range_name}
 use Rattle.addr2line_lines.specs.References.{Scope}
 
 -- what attributes of an inlined entry say
-abbrev pub seen_attributes : {R : Type 0} → (R → Section) → declared_attributes.InlinedAttributes R
+abbrev pub as_attributes : {R : Type 0} → (R → Section) → declared_attributes.InlinedAttributes R
     → InlinedAttributes
-seen_attributes see x =
+as_attributes see x =
     record { ranges = x.ranges; name = found_name see x.name; call = x.call }
 
 -- whether an attribute says of a call

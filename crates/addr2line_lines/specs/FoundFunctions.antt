@@ -96,8 +96,8 @@ abbrev pub function_offsets : List LazyFunction → List UnitOffset
 function_offsets functions = map (λ (f : LazyFunction). f.dw_die_offset) functions
 
 -- what was found
-abbrev pub seen_functions : FunctionLists → FoundFunctions
-seen_functions f =
+abbrev pub as_functions : FunctionLists → FoundFunctions
+as_functions f =
     record { offsets = function_offsets f.functions.items; addresses = f.addresses.items }
 
 -- the detail of a function isn't read

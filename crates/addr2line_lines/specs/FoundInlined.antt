@@ -25,13 +25,13 @@ first_found functions ranges found =
     record { entries = take functions found.entries; ranges = take ranges found.ranges }
 
 -- what was found
-abbrev pub seen_lists : {R : Type 0} → InlinedLists R → FoundInlined
-seen_lists l = record { entries = l.functions.entries; ranges = l.ranges.elements }
+abbrev pub as_lists : {R : Type 0} → InlinedLists R → FoundInlined
+as_lists l = record { entries = l.functions.entries; ranges = l.ranges.elements }
 
 -- a name with what was found after it
 abbrev pub named_lists : {R : Type 0} → (R → Section) → InlinedLists R → Option R
     → Option Section × FoundInlined
-named_lists see lists = λ name. (option_map see name, seen_lists lists)
+named_lists see lists = λ name. (option_map see name, as_lists lists)
 
 -- no inlined entry
 abbrev pub no_inlined : InlinedEntry

@@ -10,7 +10,7 @@ use Rattle.addr2line_lines.specs.InlinedEntries.{inlined_attributes_of}
 use Rattle.addr2line_lines.specs.RangeAttributes.{gives_a_range}
 use Rattle.addr2line_lines.specs.References.{Scope}
 use Rattle.addr2line_lines.specs.OpenEntries.{kind_of, closed_once, is_inlined_kind, is_listed, opened}
-use Rattle.addr2line_lines.specs.FoundInlined.{FoundInlined, seen_lists, with_inlined_found}
+use Rattle.addr2line_lines.specs.FoundInlined.{FoundInlined, as_lists, with_inlined_found}
 
 -- what was found, and the kinds of the open entries
 pub record FoundAround : Type 0 where
@@ -18,8 +18,8 @@ pub record FoundAround : Type 0 where
   pub around : List Kind
 
 -- the same, of the lists and the kinds
-abbrev pub seen_around : {R : Type 0} → InlinedLists R → List Kind → FoundAround
-seen_around lists around = record { found = seen_lists lists; around = around }
+abbrev pub as_around : {R : Type 0} → InlinedLists R → List Kind → FoundAround
+as_around lists around = record { found = as_lists lists; around = around }
 
 -- after one more entry around which others are open; its first range that can be read is stored
 abbrev pub with_entry_found : Scope → UnitRecord → List Kind → ℕ → FoundInlined → Entry

@@ -2,14 +2,14 @@
 -- functions see them.
 use Rattle.std.specs.Prelude.{ℕ, ◌≡◌, ◌==◌, ◌||◌, leb, Bool, true, false, List, Option, Some, option_map, Result}
 use Rattle.std.specs.Option.{option_or}
-use Rattle.addr2line_lines.specs.Common.{DwAt, DW_AT_name, Error, AttributeValue, NamedValue, seen_value, Reading, Section, taken_after, UnitRecord}
+use Rattle.addr2line_lines.specs.Common.{DwAt, DW_AT_name, Error, AttributeValue, NamedValue, as_value, Reading, Section, taken_after, UnitRecord}
 use Rattle.addr2line_lines.specs.declared.references.EntryPlace.{EntryPlace as EntryPlaceOf}
 use Rattle.addr2line_lines.specs.declared.found_name.FoundName.{FoundName}
 use Rattle.addr2line_lines.specs.declared.found_name.FoundName.TheVariants.{Own, Shared}
 use Rattle.addr2line_lines.specs.declared.name.NameOrOrigin.{NameOrOrigin as NameOrOriginOf}
 use Rattle.addr2line_lines.specs.Names.{NameOrOrigin, is_linkage_name, is_origin, linkage_name_of, with_name, with_name_or_origin}
 use Rattle.addr2line_lines.specs.References.{EntryPlace, Scope}
-use Rattle.addr2line_lines.specs.SeenScope.{seen_scope}
+use Rattle.addr2line_lines.specs.SeenScope.{as_scope}
 
 -- whether a unit begins at or below an offset
 abbrev pub unit_begins_by : ℕ → UnitRecord → Bool
@@ -24,13 +24,13 @@ abbrev pub BeginsAbove : ℕ → UnitRecord → Type 0
 BeginsAbove offset u = unit_begins_by offset u ≡ false
 
 -- an entry by its place
-abbrev pub seen_place : {R : Type 0} → EntryPlaceOf R → EntryPlace
-seen_place p = record { scope = seen_scope p.scope; unit = p.unit.now; offset = p.offset.0 }
+abbrev pub as_place : {R : Type 0} → EntryPlaceOf R → EntryPlace
+as_place p = record { scope = as_scope p.scope; unit = p.unit.now; offset = p.offset.0 }
 
 -- what an entry that is referred to says of its name
-abbrev pub seen_name_or_origin : {R : Type 0} → (R → Section) → NameOrOriginOf R → NameOrOrigin
-seen_name_or_origin see n =
-    record { name = option_map see n.name; origin = option_map (seen_value see) n.origin }
+abbrev pub as_name_or_origin : {R : Type 0} → (R → Section) → NameOrOriginOf R → NameOrOrigin
+as_name_or_origin see n =
+    record { name = option_map see n.name; origin = option_map (as_value see) n.origin }
 
 -- the name of an entry as it is found
 abbrev pub found_name : {R : Type 0} → (R → Section) → FoundName R → Option Section

@@ -15,15 +15,15 @@ use Rattle.addr2line_lines.specs.FunctionTable.{CachedFunction}
 use Rattle.addr2line_lines.specs.CachedDetails.{IsDetailPlace, CachedDetails, detail_of}
 
 -- what is cached of a function
-abbrev pub seen_lazy : CachedDetails → LazyDetail → Option (Result Detail Error)
-seen_lazy d Unread = None
-seen_lazy d (Read p) = Some (Ok (detail_of d p))
-seen_lazy d (Faulty e) = Some (Err e)
+abbrev pub as_lazy : CachedDetails → LazyDetail → Option (Result Detail Error)
+as_lazy d Unread = None
+as_lazy d (Read p) = Some (Ok (detail_of d p))
+as_lazy d (Faulty e) = Some (Err e)
 
 -- a function
-abbrev pub seen_function : CachedDetails → LazyFunction → CachedFunction
-seen_function d f =
-    record { offset = f.dw_die_offset.0; detail = seen_lazy d f.detail }
+abbrev pub as_function : CachedDetails → LazyFunction → CachedFunction
+as_function d f =
+    record { offset = f.dw_die_offset.0; detail = as_lazy d f.detail }
 
 -- the place of a detail, if it was read
 abbrev pub place_read : LazyDetail → Option FunctionDetail

@@ -10,7 +10,7 @@ use Rattle.addr2line_lines.specs.Common.{Range}
 use Rattle.addr2line_lines.specs.declared.sequence.LineSequence.{LineSequence}
 use Rattle.addr2line_lines.specs.Packed.{Packed, unpacked}
 use Rattle.addr2line_lines.specs.RangeLocations.{LocatedSpan, located, located_in, meets}
-use Rattle.addr2line_lines.specs.SeenLocation.{seen_location}
+use Rattle.addr2line_lines.specs.SeenLocation.{as_location}
 use Rattle.addr2line_lines.specs.Spans.{Span}
 
 -- each row's span up to the next listed row, the last one's up to the end
@@ -24,12 +24,12 @@ abbrev pub spans_left : ℕ → List Row → ℕ → ℕ → List Span
 spans_left end rows place until = next_spans end (take (until - place) (drop place rows))
 
 -- a span of the code
-abbrev pub seen_span : LineSpan → Span
-seen_span s = record { row = s.row; end = s.end }
+abbrev pub as_span : LineSpan → Span
+as_span s = record { row = s.row; end = s.end }
 
 -- an item of the iterator
-abbrev pub seen_located : ℕ × ℕ × SourceLocation → LocatedSpan
-seen_located x = record { address = x.0; length = x.1; location = seen_location x.2 }
+abbrev pub as_located : ℕ × ℕ × SourceLocation → LocatedSpan
+as_located x = record { address = x.0; length = x.1; location = as_location x.2 }
 
 -- the rows of a sequence that is walked, and those of the sequences from a place on
 abbrev pub located_left : List (List ℕ) → ℕ → ℕ → List Span → Packed → ℕ → List LocatedSpan

@@ -4,5 +4,5 @@ use Rattle.addr2line_lines.specs.declared.location.Location.{Location as SourceL
 use Rattle.addr2line_lines.specs.Location.{Location}
 
 -- the file, line and column of a location
-abbrev pub seen_location : SourceLocation → Location
-seen_location l = record { file = option_copied l.file; line = l.line; column = l.column }
+abbrev pub as_location : SourceLocation → Location
+as_location l = record { file = option_copied l.file; line = l.line; column = l.column }

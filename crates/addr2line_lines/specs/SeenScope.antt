@@ -5,9 +5,9 @@ use Rattle.addr2line_lines.specs.declared.references.Scope.{Scope as ScopeOf}
 use Rattle.addr2line_lines.specs.References.{FileRecord, Scope}
 
 -- a file, by its sections and its units
-abbrev pub seen_file : {R : Type 0} → FileUnits R → FileRecord
-seen_file f = record { sections = f.dwarf.now; units = f.units.now }
+abbrev pub as_file_record : {R : Type 0} → FileUnits R → FileRecord
+as_file_record f = record { sections = f.dwarf.now; units = f.units.now }
 
 -- the file of an entry, and the supplementary file
-abbrev pub seen_scope : {R : Type 0} → ScopeOf R → Scope
-seen_scope s = record { file = seen_file s.file; sup = option_map seen_file s.sup }
+abbrev pub as_scope : {R : Type 0} → ScopeOf R → Scope
+as_scope s = record { file = as_file_record s.file; sup = option_map as_file_record s.sup }

@@ -4,13 +4,13 @@ ghost use Rattle.std.specs.Prelude.{◌≡◌, ◌<◌, [], None, Ok, OnOk, int_
 ghost use Rattle.addr2line_lines.specs.Common.{rest_of, ExactlyUnlessOomIf, attributes_at, ExactlyAtCost};
 ghost use Rattle.addr2line_lines.specs.CostedSteps.{on_parts};
 ghost use Rattle.addr2line_lines.specs.Finding.{FindsAtCost};
-ghost use Rattle.addr2line_lines.specs.CachedNames.{AreNamesMore, AreNamesOf, seen_names};
-ghost use Rattle.addr2line_lines.specs.FoundInlined.{IsFoundMore, named_lists, seen_lists};
+ghost use Rattle.addr2line_lines.specs.CachedNames.{AreNamesMore, AreNamesOf, as_names};
+ghost use Rattle.addr2line_lines.specs.FoundInlined.{IsFoundMore, named_lists, as_lists};
 ghost use Rattle.addr2line_lines.specs.FoundNames.{name_after};
 ghost use Rattle.addr2line_lines.specs.FoundDetails.{detail_found_at, function_found_at};
-ghost use Rattle.addr2line_lines.specs.FoundItems.{entry_found_at, inside_found, item_found_at, seen_around};
+ghost use Rattle.addr2line_lines.specs.FoundItems.{entry_found_at, inside_found, item_found_at, as_around};
 ghost use Rattle.addr2line_lines.specs.References.{IsScope};
-ghost use Rattle.addr2line_lines.specs.SeenScope.{seen_scope};
+ghost use Rattle.addr2line_lines.specs.SeenScope.{as_scope};
 
 use crate::found_name::FoundName;
 use crate::inlined::read_inlined_attributes;
@@ -31,18 +31,18 @@ fn read_name<R: Reader>(
     specifications: &[AttributeSpecification],
     names: &mut NameCache<R>,
 ) -> Result<Option<R>, Error>
-    requires in_order { IsScope (seen_scope scope) }
-    requires names { AreNamesOf (seen_scope scope) unit.now (seen_names R.section names.old) }
+    requires in_order { IsScope (as_scope scope) }
+    requires names { AreNamesOf (as_scope scope) unit.now (as_names R.section names.old) }
     requires encoding { entries.old.unit.encoding ≡ unit.now.header.encoding }
     ensures gives { ExactlyUnlessOomIf R.shares (option_map R.section) result
-        (name_after (seen_scope scope.entry) unit.now (Ok None)
+        (name_after (as_scope scope.entry) unit.now (Ok None)
         (attributes_at unit.now.header.encoding specifications.now entries.old.cursor.left)) }
     ensures left { OnOk result (rest_of (attributes_at unit.now.header.encoding
         specifications.now entries.old.cursor.left) ≡ Ok entries.new.cursor.left) }
     ensures unit { entries.new.unit ≡ entries.old.unit }
     ensures depth { entries.new.cursor.depth ≡ entries.old.cursor.depth }
-    ensures names { AreNamesMore (seen_scope scope.entry) unit.now
-        (seen_names R.section names.old) (seen_names R.section names.new) }
+    ensures names { AreNamesMore (as_scope scope.entry) unit.now
+        (as_names R.section names.old) (as_names R.section names.new) }
 {
     let sink = NameSink { scope, unit };
     let mut name = FoundName::none();
@@ -62,17 +62,17 @@ fn read_entry<R: Reader>(
     found: &mut InlinedLists<R>,
     names: &mut NameCache<R>,
 ) -> Result<(), Error>
-    requires in_order { IsScope (seen_scope scope) }
-    requires names { AreNamesOf (seen_scope scope) unit.now (seen_names R.section names.old) }
+    requires in_order { IsScope (as_scope scope) }
+    requires names { AreNamesOf (as_scope scope) unit.now (as_names R.section names.old) }
     requires encoding { entries.old.unit.encoding ≡ unit.now.header.encoding }
     ensures gives { FindsAtCost R.shares entries.old.cursor.left entries.new.cursor.left
-        (seen_lists found.old) (seen_lists found.new) result
-        (entry_found_at (seen_scope scope.entry) unit.now nesting.now offset.0 abbreviation.now) }
-    ensures kept { IsFoundMore (seen_lists found.old) (seen_lists found.new) }
+        (as_lists found.old) (as_lists found.new) result
+        (entry_found_at (as_scope scope.entry) unit.now nesting.now offset.0 abbreviation.now) }
+    ensures kept { IsFoundMore (as_lists found.old) (as_lists found.new) }
     ensures unit { entries.new.unit ≡ entries.old.unit }
     ensures depth { entries.new.cursor.depth ≡ entries.old.cursor.depth }
-    ensures names { AreNamesMore (seen_scope scope.entry) unit.now
-        (seen_names R.section names.old) (seen_names R.section names.new) }
+    ensures names { AreNamesMore (as_scope scope.entry) unit.now
+        (as_names R.section names.old) (as_names R.section names.new) }
 {
     if nesting.lists(kind_of(abbreviation)) {
         let specifications = abbreviation.attributes();
@@ -93,18 +93,18 @@ fn read_item<R: Reader>(
     found: &mut InlinedLists<R>,
     names: &mut NameCache<R>,
 ) -> Result<(), Error>
-    requires in_order { IsScope (seen_scope scope) }
-    requires names { AreNamesOf (seen_scope scope) unit.now (seen_names R.section names.old) }
+    requires in_order { IsScope (as_scope scope) }
+    requires names { AreNamesOf (as_scope scope) unit.now (as_names R.section names.old) }
     requires encoding { entries.old.unit.encoding ≡ unit.now.header.encoding }
     ensures gives { FindsAtCost R.shares entries.old.cursor entries.new.cursor
-        (seen_around found.old nesting.old) (seen_around found.new nesting.new) result
-        (item_found_at (seen_scope scope.entry) unit.now entries.old.unit) }
-    ensures kept { IsFoundMore (seen_lists found.old) (seen_lists found.new) }
+        (as_around found.old nesting.old) (as_around found.new nesting.new) result
+        (item_found_at (as_scope scope.entry) unit.now entries.old.unit) }
+    ensures kept { IsFoundMore (as_lists found.old) (as_lists found.new) }
     ensures unit { entries.new.unit ≡ entries.old.unit }
     ensures shorter { OnOk result
         (length entries.new.cursor.left.bytes < length entries.old.cursor.left.bytes) }
-    ensures names { AreNamesMore (seen_scope scope.entry) unit.now
-        (seen_names R.section names.old) (seen_names R.section names.new) }
+    ensures names { AreNamesMore (as_scope scope.entry) unit.now
+        (as_names R.section names.old) (as_names R.section names.new) }
 {
     let offset = entries.next_offset();
     match entries.read_abbreviation()? {
@@ -144,15 +144,15 @@ fn read_inside<R: Reader>(
     found: &mut InlinedLists<R>,
     names: &mut NameCache<R>,
 ) -> Result<(), Error>
-    requires in_order { IsScope (seen_scope scope) }
-    requires names { AreNamesOf (seen_scope scope) unit.now (seen_names R.section names.old) }
+    requires in_order { IsScope (as_scope scope) }
+    requires names { AreNamesOf (as_scope scope) unit.now (as_names R.section names.old) }
     requires encoding { entries.old.unit.encoding ≡ unit.now.header.encoding }
-    ensures gives { ExactlyAtCost R.shares (λ _. seen_lists found.new) result
-        (on_parts (inside_found (seen_scope scope.entry) unit.now entries.old.unit
-        entries.old.cursor (seen_around found.old []))) }
-    ensures kept { IsFoundMore (seen_lists found.old) (seen_lists found.new) }
-    ensures names { AreNamesMore (seen_scope scope.entry) unit.now
-        (seen_names R.section names.old) (seen_names R.section names.new) }
+    ensures gives { ExactlyAtCost R.shares (λ _. as_lists found.new) result
+        (on_parts (inside_found (as_scope scope.entry) unit.now entries.old.unit
+        entries.old.cursor (as_around found.old []))) }
+    ensures kept { IsFoundMore (as_lists found.old) (as_lists found.new) }
+    ensures names { AreNamesMore (as_scope scope.entry) unit.now
+        (as_names R.section names.old) (as_names R.section names.new) }
 {
     nesting.clear();
     while is_inside(entries) {
@@ -172,15 +172,15 @@ fn read_function<R: Reader>(
     found: &mut InlinedLists<R>,
     names: &mut NameCache<R>,
 ) -> Result<Option<R>, Error>
-    requires in_order { IsScope (seen_scope scope) }
-    requires names { AreNamesOf (seen_scope scope) unit.now (seen_names R.section names.old) }
+    requires in_order { IsScope (as_scope scope) }
+    requires names { AreNamesOf (as_scope scope) unit.now (as_names R.section names.old) }
     requires encoding { entries.old.unit.encoding ≡ unit.now.header.encoding }
     ensures gives { ExactlyAtCost R.shares (named_lists R.section found.new) result
-        (on_parts (function_found_at (seen_scope scope.entry) unit.now entries.old.unit
-        entries.old.cursor (seen_lists found.old) abbreviation.now)) }
-    ensures kept { IsFoundMore (seen_lists found.old) (seen_lists found.new) }
-    ensures names { AreNamesMore (seen_scope scope.entry) unit.now
-        (seen_names R.section names.old) (seen_names R.section names.new) }
+        (on_parts (function_found_at (as_scope scope.entry) unit.now entries.old.unit
+        entries.old.cursor (as_lists found.old) abbreviation.now)) }
+    ensures kept { IsFoundMore (as_lists found.old) (as_lists found.new) }
+    ensures names { AreNamesMore (as_scope scope.entry) unit.now
+        (as_names R.section names.old) (as_names R.section names.new) }
 {
     let name = read_name(scope, unit, entries, abbreviation.attributes(), names)?;
     read_inside(scope, unit, entries, nesting, found, names)?;
@@ -196,13 +196,13 @@ pub(crate) fn read_detail<R: Reader>(
     found: &mut InlinedLists<R>,
     names: &mut NameCache<R>,
 ) -> Result<Option<R>, Error>
-    requires in_order { IsScope (seen_scope scope) }
-    requires names { AreNamesOf (seen_scope scope) unit.now (seen_names R.section names.old) }
+    requires in_order { IsScope (as_scope scope) }
+    requires names { AreNamesOf (as_scope scope) unit.now (as_names R.section names.old) }
     ensures gives { ExactlyAtCost R.shares (named_lists R.section found.new) result (on_parts
-        (detail_found_at (seen_scope scope.entry) unit.now offset.0 (seen_lists found.old))) }
-    ensures kept { IsFoundMore (seen_lists found.old) (seen_lists found.new) }
-    ensures names { AreNamesMore (seen_scope scope.entry) unit.now
-        (seen_names R.section names.old) (seen_names R.section names.new) }
+        (detail_found_at (as_scope scope.entry) unit.now offset.0 (as_lists found.old))) }
+    ensures kept { IsFoundMore (as_lists found.old) (as_lists found.new) }
+    ensures names { AreNamesMore (as_scope scope.entry) unit.now
+        (as_names R.section names.old) (as_names R.section names.new) }
 {
     let mut entries = UnitRef::new(scope.file.dwarf, unit).entries_raw(Some(offset))?;
     match entries.read_abbreviation()? {

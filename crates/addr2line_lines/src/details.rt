@@ -7,11 +7,11 @@ ghost use Rattle.addr2line_lines.specs.CostedSteps.{on_parts};
 ghost use Rattle.addr2line_lines.specs.Details.{stored_detail_at};
 ghost use Rattle.addr2line_lines.specs.FoundInlined.{entry_among, none_inlined};
 ghost use Rattle.addr2line_lines.specs.CachedNames.{AreNamesMore, AreNamesOf};
-ghost use Rattle.addr2line_lines.specs.CachedDetails.{AreDetailsMore, IsDetailPlace, IsNextPlace, IsRefusedThen, cached_chain, detail_of, seen_details};
+ghost use Rattle.addr2line_lines.specs.CachedDetails.{AreDetailsMore, IsDetailPlace, IsNextPlace, IsRefusedThen, cached_chain, detail_of, as_details};
 ghost use Rattle.addr2line_lines.specs.InlineRoom.{exceeds_inline_room};
 ghost use Rattle.addr2line_lines.specs.References.{IsScope};
-ghost use Rattle.addr2line_lines.specs.SeenInlined.{seen_inlined};
-ghost use Rattle.addr2line_lines.specs.SeenScope.{seen_scope};
+ghost use Rattle.addr2line_lines.specs.SeenInlined.{as_inlined};
+ghost use Rattle.addr2line_lines.specs.SeenScope.{as_scope};
 
 use crate::detail::read_detail;
 use crate::inlined_functions::InlinedFunction;
@@ -59,7 +59,7 @@ pub(crate) struct Details<R: Reader> {
 impl<R: Reader> Details<R> {
     /// Those of no function. Takes no memory.
     pub(crate) fn new(alloc: Global) -> Details<R>
-        ensures gives { seen_details R.section result
+        ensures gives { as_details R.section result
             ≡ record { names = []; found = none_inlined; known = [] } }
     {
         Details {
@@ -78,20 +78,20 @@ impl<R: Reader> Details<R> {
         unit: &Unit<R>,
         offset: UnitOffset,
     ) -> Result<FunctionDetail, Error>
-        requires in_order { IsScope (seen_scope scope) }
-        requires known { AreNamesOf (seen_scope scope) unit.now
-            (seen_details R.section self.old).known }
-        ensures gives { ExactlyAtCost R.shares (detail_of (seen_details R.section self.new)) result
-            (on_parts (stored_detail_at (seen_scope scope.entry) unit.now offset.0)) }
-        ensures kept { AreDetailsMore (seen_details R.section self.old)
-            (seen_details R.section self.new) }
-        ensures there { IfOk result (IsDetailPlace (seen_details R.section self.new)) }
-        ensures after { IfOk result (IsNextPlace (seen_details R.section self.old)
-            (seen_details R.section self.new)) }
+        requires in_order { IsScope (as_scope scope) }
+        requires known { AreNamesOf (as_scope scope) unit.now
+            (as_details R.section self.old).known }
+        ensures gives { ExactlyAtCost R.shares (detail_of (as_details R.section self.new)) result
+            (on_parts (stored_detail_at (as_scope scope.entry) unit.now offset.0)) }
+        ensures kept { AreDetailsMore (as_details R.section self.old)
+            (as_details R.section self.new) }
+        ensures there { IfOk result (IsDetailPlace (as_details R.section self.new)) }
+        ensures after { IfOk result (IsNextPlace (as_details R.section self.old)
+            (as_details R.section self.new)) }
         ensures names { OnErr result (map (option_map R.section) self.new.names.items ≡
             map (option_map R.section) self.old.names.items) }
-        ensures known { AreNamesMore (seen_scope scope.entry) unit.now
-            (seen_details R.section self.old).known (seen_details R.section self.new).known }
+        ensures known { AreNamesMore (as_scope scope.entry) unit.now
+            (as_details R.section self.old).known (as_details R.section self.new).known }
     {
         let name = self.names.len();
         let inlined_begin = self.inlined.functions.len();
@@ -136,20 +136,20 @@ impl<R: Reader> Details<R> {
         unit: &Unit<R>,
         offset: UnitOffset,
     ) -> Result<FunctionDetail, Error>
-        requires in_order { IsScope (seen_scope scope) }
-        requires known { AreNamesOf (seen_scope scope) unit.now
-            (seen_details R.section self.old).known }
-        ensures gives { ExactlyAtCost R.shares (detail_of (seen_details R.section self.new)) result
-            (on_parts (stored_detail_at (seen_scope scope.entry) unit.now offset.0)) }
-        ensures kept { AreDetailsMore (seen_details R.section self.old)
-            (seen_details R.section self.new) }
-        ensures there { IfOk result (IsDetailPlace (seen_details R.section self.new)) }
-        ensures after { IfOk result (IsNextPlace (seen_details R.section self.old)
-            (seen_details R.section self.new)) }
-        ensures refused { IfErr result (IsRefusedThen (seen_details R.section self.old)
-            (seen_details R.section self.new)) }
-        ensures known { AreNamesMore (seen_scope scope.entry) unit.now
-            (seen_details R.section self.old).known (seen_details R.section self.new).known }
+        requires in_order { IsScope (as_scope scope) }
+        requires known { AreNamesOf (as_scope scope) unit.now
+            (as_details R.section self.old).known }
+        ensures gives { ExactlyAtCost R.shares (detail_of (as_details R.section self.new)) result
+            (on_parts (stored_detail_at (as_scope scope.entry) unit.now offset.0)) }
+        ensures kept { AreDetailsMore (as_details R.section self.old)
+            (as_details R.section self.new) }
+        ensures there { IfOk result (IsDetailPlace (as_details R.section self.new)) }
+        ensures after { IfOk result (IsNextPlace (as_details R.section self.old)
+            (as_details R.section self.new)) }
+        ensures refused { IfErr result (IsRefusedThen (as_details R.section self.old)
+            (as_details R.section self.new)) }
+        ensures known { AreNamesMore (as_scope scope.entry) unit.now
+            (as_details R.section self.old).known (as_details R.section self.new).known }
     {
         let functions = self.inlined.functions.len();
         let ranges = self.inlined.ranges.len();
@@ -171,9 +171,9 @@ impl<R: Reader> Details<R> {
 
     /// The name of a function, where there is one that can be read. Takes no memory.
     pub(crate) fn name(&self, detail: &FunctionDetail) -> Option<&R>
-        requires place { IsDetailPlace (seen_details R.section self.now) detail.now }
+        requires place { IsDetailPlace (as_details R.section self.now) detail.now }
         ensures gives { option_map (λ r. R.section r.now) result ≡
-            (detail_of (seen_details R.section self.now) detail.now).name }
+            (detail_of (as_details R.section self.now) detail.now).name }
     {
         self.names[detail.name].as_ref()
     }
@@ -188,13 +188,13 @@ impl<R: Reader> Details<R> {
         detail: &FunctionDetail,
         probe: u64,
     ) -> Result<InlinedPlaces, Error>
-        requires place { IsDetailPlace (seen_details R.section self.now) detail.now }
+        requires place { IsDetailPlace (as_details R.section self.now) detail.now }
         ensures gives { ExactlyUnlessOomIf
-            (exceeds_inline_room (cached_chain (seen_details R.section self.now) detail.now probe))
-            (λ chain. map (entry_among (seen_details R.section self.now).found.entries) chain.items)
-            result (Ok (cached_chain (seen_details R.section self.now) detail.now probe)) }
+            (exceeds_inline_room (cached_chain (as_details R.section self.now) detail.now probe))
+            (λ chain. map (entry_among (as_details R.section self.now).found.entries) chain.items)
+            result (Ok (cached_chain (as_details R.section self.now) detail.now probe)) }
         ensures there { IfOk result (λ chain. AllByRecursion
-            (λ n. n < length (seen_details R.section self.now).found.entries) chain.items) }
+            (λ n. n < length (as_details R.section self.now).found.entries) chain.items) }
     {
         let ranges = &self.inlined.ranges;
         ranges.find_chain(alloc, detail.ranges_begin, detail.ranges_end, probe)
@@ -202,8 +202,8 @@ impl<R: Reader> Details<R> {
 
     /// The inlined function of a place; none past the last one. Takes no memory.
     pub(crate) fn inlined(&self, function: usize) -> Option<InlinedFunction<'_, R>>
-        ensures gives { option_map (seen_inlined R.section) result ≡
-            slice_get (seen_details R.section self.now).found.entries function }
+        ensures gives { option_map (as_inlined R.section) result ≡
+            slice_get (as_details R.section self.now).found.entries function }
     {
         self.inlined.functions.get(function)
     }

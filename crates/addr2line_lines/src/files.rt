@@ -1,7 +1,7 @@
 //! The texts of a unit's files.
 
 ghost use Rattle.std.specs.Prelude.{◌≡◌, Ok, map, option_map, option_copied, string_bytes};
-ghost use Rattle.addr2line_lines.specs.Common.{ExactlyUnlessOom, seen_value};
+ghost use Rattle.addr2line_lines.specs.Common.{ExactlyUnlessOom, as_value};
 ghost use Rattle.addr2line_lines.specs.FileTexts.{bytes_if_some, optional_string, file_directory, text_of_file, texts_of, at_least_one, texts_after, own_name_first, file_texts};
 
 use crate::path::{make_file_text, make_own_text};
@@ -15,7 +15,7 @@ fn directory_of<R: Reader>(
     header: &LineProgramHeader<R>,
     file: &FileEntry<R>,
 ) -> Result<Option<AttributeValue<R>>, Error>
-    ensures gives { ExactlyUnlessOom (option_map (seen_value R.section)) result
+    ensures gives { ExactlyUnlessOom (option_map (as_value R.section)) result
         (Ok (file_directory header.now file.now)) }
 {
     if file.directory_index() == 0 {
@@ -32,7 +32,7 @@ fn optional_string<R: Reader>(
 ) -> Result<Option<R>, Error>
     ensures gives { ExactlyUnlessOom (option_map R.section) result
         (optional_string dwarf.now unit.now
-        (option_map (seen_value R.section) value)) }
+        (option_map (as_value R.section) value)) }
 {
     match value {
         None => Ok(None),

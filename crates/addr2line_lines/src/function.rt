@@ -3,7 +3,7 @@
 ghost use Rattle.std.specs.Prelude.{◌≡◌, Ok, OnOk};
 ghost use Rattle.std.specs.List.{list_any};
 ghost use Rattle.std.specs.Option.{option_to_list};
-ghost use Rattle.addr2line_lines.specs.Common.{Exactly, ExactlyUnlessOomIf, rest_of, seen_value, attributes_at, ranges_at};
+ghost use Rattle.addr2line_lines.specs.Common.{Exactly, ExactlyUnlessOomIf, rest_of, as_value, attributes_at, ranges_at};
 ghost use Rattle.addr2line_lines.specs.FoundRanges.{is_address_name, is_range_specification, is_range_name};
 ghost use Rattle.addr2line_lines.specs.FoundNumbers.{with_range_number};
 ghost use Rattle.addr2line_lines.specs.RangeAttributes.{attr_address, no_range_attributes, with_range_attribute, range_attributes_after, range_between, ranges_of, all_ranges, attribute_ranges, begins_well, gives_a_range};
@@ -34,7 +34,7 @@ fn attr_address<R: Reader>(
     value: &AttributeValue<R>,
 ) -> Result<Option<u64>, Error>
     ensures gives { Exactly (λ a. a) result (attr_address unit.entry.dwarf.now
-        unit.entry.unit.now (seen_value R.section value.now)) }
+        unit.entry.unit.now (as_value R.section value.now)) }
 {
     match value {
         AttributeValue::Addr(address) => Ok(Some(*address)),

@@ -15,9 +15,9 @@ ghost use Rattle.addr2line_lines.specs.Functions.{function_offset_at, functions_
 ghost use Rattle.addr2line_lines.specs.InlineRoom.{exceeds_inline_room};
 ghost use Rattle.addr2line_lines.specs.RangeAttributes.{begins_well, gives_a_range};
 ghost use Rattle.addr2line_lines.specs.References.{IsScope};
-ghost use Rattle.addr2line_lines.specs.SeenInlined.{seen_inlined};
-ghost use Rattle.addr2line_lines.specs.SeenScope.{seen_scope};
-ghost use Rattle.addr2line_lines.specs.FoundFunctions.{AreFoundUnread, next_found_at, found_in, item_takes_memory, none_found, seen_functions, with_attributes, with_range_list, with_ranges};
+ghost use Rattle.addr2line_lines.specs.SeenInlined.{as_inlined};
+ghost use Rattle.addr2line_lines.specs.SeenScope.{as_scope};
+ghost use Rattle.addr2line_lines.specs.FoundFunctions.{AreFoundUnread, next_found_at, found_in, item_takes_memory, none_found, as_functions, with_attributes, with_range_list, with_ranges};
 
 use crate::details::{Details, FunctionDetail};
 use crate::function::{RangeAttributes, has_range_attribute, read_range_attributes};
@@ -99,7 +99,7 @@ fn push_ranges<R: Reader>(
 
 impl FunctionLists {
     fn new(alloc: Global) -> FunctionLists
-        ensures gives { seen_functions result ≡ none_found }
+        ensures gives { as_functions result ≡ none_found }
         ensures empty { AreFoundUnread result }
     {
         FunctionLists {
@@ -117,8 +117,8 @@ impl FunctionLists {
     ) -> Result<(), Error>
         ensures gives { ExactlyUnlessOomIf
             (gives_a_range unit.entry.dwarf.now unit.entry.unit.now attributes.now)
-            (λ _. seen_functions self.new) result (with_attributes unit.entry.dwarf.now
-            unit.entry.unit.now attributes.now offset.0 (seen_functions self.old)) }
+            (λ _. as_functions self.new) result (with_attributes unit.entry.dwarf.now
+            unit.entry.unit.now attributes.now offset.0 (as_functions self.old)) }
         ensures empty { AreFoundUnread self.old → AreFoundUnread self.new }
     {
         let before = self.addresses.len();
@@ -158,7 +158,7 @@ fn read_item<R: Reader>(
     requires some { (length entries.old.cursor.left.bytes == 0) ≡ false }
     ensures gives { FindsUnlessOomIf (item_takes_memory R.shares unit.entry.dwarf.now
         unit.entry.unit.now entries.old.unit entries.old.cursor) entries.old.cursor
-        entries.new.cursor (seen_functions found.old) (seen_functions found.new) result
+        entries.new.cursor (as_functions found.old) (as_functions found.new) result
         (next_found_at unit.entry.dwarf.now unit.entry.unit.now entries.old.unit) }
     ensures empty { AreFoundUnread found.old → AreFoundUnread found.new }
     ensures unit { entries.new.unit ≡ entries.old.unit }
@@ -182,7 +182,7 @@ fn read_item<R: Reader>(
 // What is found of the functions of a unit, up to its end.
 fn read_functions<R: Reader>(alloc: Global, unit: UnitRef<'_, R>) -> Result<FunctionLists, Error>
     ensures gives { ExactlyUnlessOomIf (functions_take_memory R.shares unit.entry.dwarf.now
-        unit.entry.unit.now) seen_functions result
+        unit.entry.unit.now) as_functions result
         (found_in unit.entry.dwarf.now unit.entry.unit.now) }
     ensures empty { IfOk result AreFoundUnread }
 {
@@ -217,22 +217,22 @@ pub struct Functions<R: Reader> {
 impl<R: Reader> Model for Functions<R> {
     ghost use Rattle.std.specs.Prelude.{map};
     ghost use Rattle.addr2line_lines.specs.FoundFunctions.{function_offsets, function_range_of};
-    ghost use Rattle.addr2line_lines.specs.FunctionCache.{AreCachedFunctions, seen_function};
+    ghost use Rattle.addr2line_lines.specs.FunctionCache.{AreCachedFunctions, as_function};
     ghost use Rattle.addr2line_lines.specs.FunctionCache.{read_at};
     ghost use Rattle.addr2line_lines.specs.FunctionTable.{FunctionTable};
-    ghost use Rattle.addr2line_lines.specs.CachedDetails.{seen_details};
+    ghost use Rattle.addr2line_lines.specs.CachedDetails.{as_details};
 
     ghost Value = { FunctionTable };
 
     ghost view = { λ f. record {
       ranges = map (function_range_of (function_offsets f.functions.items)) f.addresses;
-      functions = map (seen_function (seen_details R.section f.details)) f.functions.items;
-      inlined = (seen_details R.section f.details).found.entries;
-      names = (seen_details R.section f.details).known;
+      functions = map (as_function (as_details R.section f.details)) f.functions.items;
+      inlined = (as_details R.section f.details).found.entries;
+      names = (as_details R.section f.details).known;
     } };
 
     ghost invariant = { λ f. AreCachedFunctions f.functions.items f.addresses
-        (seen_details R.section f.details) };
+        (as_details R.section f.details) };
 }
 
 impl<R: Reader> Functions<R> {
@@ -296,12 +296,12 @@ impl<R: Reader> Functions<R> {
     /// nothing is read. Takes no memory where the detail or its fault is cached. Source: DWARF 5,
     /// section 3.3.8.
     pub fn read(&mut self, scope: Scope<'_, R>, unit: &Unit<R>, place: usize) -> Result<(), Error>
-        requires in_order { IsScope (seen_scope scope) }
-        requires names { AreNamesOf (seen_scope scope) unit.now self.old.names }
-        ensures gives { IsReadAt (seen_scope scope.entry) unit.now place self.old result self.new }
-        ensures exact { ExactlyAtCost R.shares (λ x. x) result (read_once (seen_scope scope.entry)
+        requires in_order { IsScope (as_scope scope) }
+        requires names { AreNamesOf (as_scope scope) unit.now self.old.names }
+        ensures gives { IsReadAt (as_scope scope.entry) unit.now place self.old result self.new }
+        ensures exact { ExactlyAtCost R.shares (λ x. x) result (read_once (as_scope scope.entry)
             unit.now (slice_get self.old.functions place)) }
-        ensures names { AreNamesOf (seen_scope scope.entry) unit.now self.new.names }
+        ensures names { AreNamesOf (as_scope scope.entry) unit.now self.new.names }
     {
         let Some(function) = self.functions.get(place) else {
             return Ok(());
@@ -326,23 +326,23 @@ impl<R: Reader> Functions<R> {
     /// memory, and changes nothing, where the details up to the first fault are cached, and that
     /// fault. Source: DWARF 5, section 3.3.8.
     pub fn read_all(&mut self, scope: Scope<'_, R>, unit: &Unit<R>) -> Result<(), Error>
-        requires in_order { IsScope (seen_scope scope) }
-        requires names { AreNamesOf (seen_scope scope) unit.now self.old.names }
-        ensures gives { AreDetailsOf (seen_scope scope.entry) unit.now self.old
-            → ExactlyUnlessOomIf (details_take_memory R.shares (seen_scope scope.entry) unit.now
+        requires in_order { IsScope (as_scope scope) }
+        requires names { AreNamesOf (as_scope scope) unit.now self.old.names }
+        ensures gives { AreDetailsOf (as_scope scope.entry) unit.now self.old
+            → ExactlyUnlessOomIf (details_take_memory R.shares (as_scope scope.entry) unit.now
             self.old.functions) (λ x. x) result
-            (details_fault (seen_scope scope.entry) unit.now self.old.functions) }
+            (details_fault (as_scope scope.entry) unit.now self.old.functions) }
         ensures after { IsTableMore self.old self.new }
-        ensures right { AreDetailsOf (seen_scope scope.entry) unit.now self.old
-            → AreDetailsOf (seen_scope scope.entry) unit.now self.new }
+        ensures right { AreDetailsOf (as_scope scope.entry) unit.now self.old
+            → AreDetailsOf (as_scope scope.entry) unit.now self.new }
         ensures known { OnOk result (AllByRecursion HasDetail self.new.functions) }
         ensures whole { result ≢ Err OutOfMemory → AreCachedToFault self.new.functions }
         ensures memory { AreCachedToFault self.new.functions → result ≢ Err OutOfMemory }
-        ensures exact { AreDetailsOf (seen_scope scope.entry) unit.now self.old
+        ensures exact { AreDetailsOf (as_scope scope.entry) unit.now self.old
             → AreCachedToFault self.old.functions
-            → result ≡ details_fault (seen_scope scope.entry) unit.now self.old.functions }
+            → result ≡ details_fault (as_scope scope.entry) unit.now self.old.functions }
         ensures kept { AreCachedToFault self.old.functions → self.new ≡ self.old }
-        ensures names { AreNamesOf (seen_scope scope.entry) unit.now self.new.names }
+        ensures names { AreNamesOf (as_scope scope.entry) unit.now self.new.names }
     {
         let count = self.functions.len();
         for place in 0..count {
@@ -359,14 +359,14 @@ impl<R: Reader> Functions<R> {
         offset: UnitOffset,
         place: usize,
     ) -> Result<(), Error>
-        requires in_order { IsScope (seen_scope scope) }
-        requires names { AreNamesOf (seen_scope scope) unit.now self.old.names }
+        requires in_order { IsScope (as_scope scope) }
+        requires names { AreNamesOf (as_scope scope) unit.now self.old.names }
         requires unread { slice_get self.old.functions place
             ≡ Some (record { offset = offset.0; detail = None }) }
-        ensures gives { IsReadAt (seen_scope scope.entry) unit.now place self.old result self.new }
-        ensures exact { ExactlyAtCost R.shares (λ x. x) result (read_once (seen_scope scope.entry)
+        ensures gives { IsReadAt (as_scope scope.entry) unit.now place self.old result self.new }
+        ensures exact { ExactlyAtCost R.shares (λ x. x) result (read_once (as_scope scope.entry)
             unit.now (slice_get self.old.functions place)) }
-        ensures names { AreNamesOf (seen_scope scope.entry) unit.now self.new.names }
+        ensures names { AreNamesOf (as_scope scope.entry) unit.now self.new.names }
     {
         match self.details.read(scope, unit, offset) {
             Ok(detail) => {
@@ -418,7 +418,7 @@ impl<R: Reader> Functions<R> {
     /// The inlined function of a place, as `find_inlined_functions` gives it; none past the last
     /// one. Takes no memory.
     pub fn inlined(&self, function: usize) -> Option<InlinedFunction<'_, R>>
-        ensures gives { option_map (seen_inlined R.section) result
+        ensures gives { option_map (as_inlined R.section) result
             ≡ slice_get self.now.inlined function }
     {
         self.details.inlined(function)

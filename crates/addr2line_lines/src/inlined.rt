@@ -3,12 +3,12 @@
 ghost use Rattle.std.specs.Prelude.{◌≡◌, Ok, OnOk, option_and_then};
 ghost use Rattle.std.specs.Option.{option_or};
 ghost use Rattle.addr2line_lines.specs.Common.{rest_of, ExactlyUnlessOomIf, attributes_at};
-ghost use Rattle.addr2line_lines.specs.CachedNames.{AreNamesMore, AreNamesOf, seen_names};
+ghost use Rattle.addr2line_lines.specs.CachedNames.{AreNamesMore, AreNamesOf, as_names};
 ghost use Rattle.addr2line_lines.specs.InlinedEntries.{constant_bits, counted_file, no_call, no_inlined_attributes, with_call_constant};
-ghost use Rattle.addr2line_lines.specs.FoundAttributes.{inlined_attributes_after, is_call, seen_attributes};
+ghost use Rattle.addr2line_lines.specs.FoundAttributes.{inlined_attributes_after, is_call, as_attributes};
 ghost use Rattle.addr2line_lines.specs.FoundNumbers.{is_number_name};
 ghost use Rattle.addr2line_lines.specs.References.{IsScope};
-ghost use Rattle.addr2line_lines.specs.SeenScope.{seen_scope};
+ghost use Rattle.addr2line_lines.specs.SeenScope.{as_scope};
 
 use crate::found_name::FoundName;
 use crate::function::{RangeAttributes, is_address_name, is_range_name};
@@ -125,7 +125,7 @@ fn is_number_name(name: DwAt) -> bool
 impl<R: Reader> InlinedAttributes<R> {
     // Before the first attribute.
     fn new() -> InlinedAttributes<R>
-        ensures gives { seen_attributes R.section result ≡ no_inlined_attributes }
+        ensures gives { as_attributes R.section result ≡ no_inlined_attributes }
     {
         InlinedAttributes {
             ranges: RangeAttributes::new(),
@@ -170,10 +170,10 @@ struct InlinedSink<'a, R: Reader> {
 }
 
 impl<R: Reader> AttributeSink<R, Attribute<R>> for InlinedSink<'_, R> {
-    ghost use Rattle.addr2line_lines.specs.CachedNames.{GrowNames, seen_names};
-    ghost use Rattle.addr2line_lines.specs.FoundAttributes.{seen_attributes};
+    ghost use Rattle.addr2line_lines.specs.CachedNames.{GrowNames, as_names};
+    ghost use Rattle.addr2line_lines.specs.FoundAttributes.{as_attributes};
     ghost use Rattle.addr2line_lines.specs.InlinedEntries.{InlinedAttributes, with_inlined_attribute};
-    ghost use Rattle.addr2line_lines.specs.SeenScope.{seen_scope};
+    ghost use Rattle.addr2line_lines.specs.SeenScope.{as_scope};
 
     type Names = InlinedWanted;
 
@@ -189,13 +189,13 @@ impl<R: Reader> AttributeSink<R, Attribute<R>> for InlinedSink<'_, R> {
 
     ghost Said = { InlinedAttributes };
 
-    ghost said = { seen_attributes R.section };
+    ghost said = { as_attributes R.section };
 
     ghost with_attribute = { λ s x a.
-        with_inlined_attribute (seen_scope s.scope) s.unit.now x a };
+        with_inlined_attribute (as_scope s.scope) s.unit.now x a };
 
-    ghost Grows = { λ s old new. GrowNames (seen_scope s.scope) s.unit.now
-        (seen_names R.section old) (seen_names R.section new) };
+    ghost Grows = { λ s old new. GrowNames (as_scope s.scope) s.unit.now
+        (as_names R.section old) (as_names R.section new) };
 
     #[inline(always)]
     fn take(
@@ -250,18 +250,18 @@ pub(crate) fn read_inlined_attributes<R: Reader>(
     specifications: &[AttributeSpecification],
     names: &mut NameCache<R>,
 ) -> Result<InlinedAttributes<R>, Error>
-    requires in_order { IsScope (seen_scope scope) }
-    requires names { AreNamesOf (seen_scope scope) unit.now (seen_names R.section names.old) }
+    requires in_order { IsScope (as_scope scope) }
+    requires names { AreNamesOf (as_scope scope) unit.now (as_names R.section names.old) }
     requires encoding { entries.old.unit.encoding ≡ unit.now.header.encoding }
-    ensures gives { ExactlyUnlessOomIf R.shares (seen_attributes R.section) result
-        (inlined_attributes_after (seen_scope scope.entry) unit.now (Ok no_inlined_attributes)
+    ensures gives { ExactlyUnlessOomIf R.shares (as_attributes R.section) result
+        (inlined_attributes_after (as_scope scope.entry) unit.now (Ok no_inlined_attributes)
         (attributes_at unit.now.header.encoding specifications.now entries.old.cursor.left)) }
     ensures left { OnOk result (rest_of (attributes_at unit.now.header.encoding
         specifications.now entries.old.cursor.left) ≡ Ok entries.new.cursor.left) }
     ensures unit { entries.new.unit ≡ entries.old.unit }
     ensures depth { entries.new.cursor.depth ≡ entries.old.cursor.depth }
-    ensures names { AreNamesMore (seen_scope scope.entry) unit.now
-        (seen_names R.section names.old) (seen_names R.section names.new) }
+    ensures names { AreNamesMore (as_scope scope.entry) unit.now
+        (as_names R.section names.old) (as_names R.section names.new) }
 {
     let sink = InlinedSink { scope, unit };
     let mut found = InlinedAttributes::new();

@@ -1,7 +1,7 @@
 //! Inlined functions, as they are stored and lent.
 
 ghost use Rattle.std.specs.Prelude.{◌≡◌, ◌∷◌, ◌++◌, [], true, length, option_map, slice_get, take, OnErr, OnOk};
-ghost use Rattle.addr2line_lines.specs.SeenInlined.{seen_inlined};
+ghost use Rattle.addr2line_lines.specs.SeenInlined.{as_inlined};
 ghost use Rattle.addr2line_lines.specs.ShortLists.{IsWidthWith, width_with};
 ghost use Rattle.addr2line_lines.specs.StoredInlined.{call_fits, call_of_short, entry_of_call, file_fits, file_of_short, no_base, no_inlined_stored, short_file, stored_name};
 
@@ -43,7 +43,7 @@ impl<'a, R: Reader> InlinedFunction<'a, R> {
     /// The name, where there is one that can be read. Takes no memory.
     pub fn name(self) -> Option<&'a R>
         ensures gives { option_map (λ r. R.section r.now) result
-            ≡ (seen_inlined R.section self.entry).name }
+            ≡ (as_inlined R.section self.entry).name }
     {
         self.name
     }
@@ -192,7 +192,7 @@ impl<R: Reader> InlinedFunctions<R> {
     /// The inlined function of a place; none past the last one. Takes no memory.
     #[inline(always)]
     pub(crate) fn get(&self, place: usize) -> Option<InlinedFunction<'_, R>>
-        ensures gives { option_map (seen_inlined R.section) result
+        ensures gives { option_map (as_inlined R.section) result
             ≡ slice_get self.now.entries place }
     {
         let name = self.names.get(place)?;

@@ -2,9 +2,9 @@
 
 ghost use Rattle.std.specs.Prelude.{◌≡◌};
 ghost use Rattle.addr2line_lines.specs.Common.{ExactlyUnlessOomIf, ranges_at};
-ghost use Rattle.addr2line_lines.specs.FoundInlined.{IsFoundMore, first_found, none_inlined, seen_lists, with_inlined_found, with_inlined_list, with_inlined_ranges};
+ghost use Rattle.addr2line_lines.specs.FoundInlined.{IsFoundMore, first_found, none_inlined, as_lists, with_inlined_found, with_inlined_list, with_inlined_ranges};
 ghost use Rattle.addr2line_lines.specs.Grown.{IsGrown};
-ghost use Rattle.addr2line_lines.specs.FoundAttributes.{seen_attributes};
+ghost use Rattle.addr2line_lines.specs.FoundAttributes.{as_attributes};
 ghost use Rattle.addr2line_lines.specs.RangeAttributes.{begins_well, gives_a_range};
 
 use crate::function::RangeAttributes;
@@ -82,7 +82,7 @@ fn push_ranges<R: Reader>(
 impl<R: Reader> InlinedLists<R> {
     // None of either.
     pub(crate) fn new(alloc: Global) -> InlinedLists<R>
-        ensures gives { seen_lists result ≡ none_inlined }
+        ensures gives { as_lists result ≡ none_inlined }
     {
         InlinedLists {
             alloc,
@@ -93,8 +93,8 @@ impl<R: Reader> InlinedLists<R> {
 
     // Keeps the first inlined entries, and the first ranges.
     pub(crate) fn truncate(&mut self, functions: usize, ranges: usize)
-        ensures gives { seen_lists self.new ≡
-            first_found functions ranges (seen_lists self.old) }
+        ensures gives { as_lists self.new ≡
+            first_found functions ranges (as_lists self.old) }
     {
         self.functions.truncate(functions);
         self.ranges.truncate(ranges);
@@ -109,10 +109,10 @@ impl<R: Reader> InlinedLists<R> {
         attributes: InlinedAttributes<R>,
     ) -> Result<(), Error>
         ensures gives { ExactlyUnlessOomIf (gives_a_range unit.entry.dwarf.now unit.entry.unit.now
-            attributes.ranges) (λ _. seen_lists self.new) result (with_inlined_found
-            unit.entry.dwarf.now unit.entry.unit.now offset.0 depth (seen_lists self.old)
-            (seen_attributes R.section attributes)) }
-        ensures kept { IsFoundMore (seen_lists self.old) (seen_lists self.new) }
+            attributes.ranges) (λ _. as_lists self.new) result (with_inlined_found
+            unit.entry.dwarf.now unit.entry.unit.now offset.0 depth (as_lists self.old)
+            (as_attributes R.section attributes)) }
+        ensures kept { IsFoundMore (as_lists self.old) (as_lists self.new) }
     {
         let InlinedAttributes { ranges, name, call } = attributes;
         let before = self.ranges.len();

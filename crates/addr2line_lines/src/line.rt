@@ -12,7 +12,7 @@ ghost use Rattle.addr2line_lines.specs.Common.{ExactlyUnlessOomIf, IsUnlessOom, 
 ghost use Rattle.gimli_line.specs.Lines.{lines_of};
 ghost use Rattle.addr2line_lines.specs.UnitLines.{IsFaultAtOnce, program_lines, unit_lines};
 ghost use Rattle.addr2line_lines.specs.Location.{location_at, location_of_row};
-ghost use Rattle.addr2line_lines.specs.SeenLocation.{seen_location};
+ghost use Rattle.addr2line_lines.specs.SeenLocation.{as_location};
 ghost use Rattle.addr2line_lines.specs.Spans.{row_at};
 
 mod steps;
@@ -151,7 +151,7 @@ impl Lines {
 
     /// The location of a row. Takes no memory.
     pub fn location(&self, row: Row) -> Location<'_>
-        ensures gives { seen_location result ≡ location_of_row self.now.files row }
+        ensures gives { as_location result ≡ location_of_row self.now.files row }
     {
         row_location(&self.files, row)
     }
@@ -165,7 +165,7 @@ impl Lines {
     ///
     /// Source: DWARF 5, section 6.2.2. Own: which of several sequences counts.
     pub fn find_location(&self, probe: u64) -> Option<Location<'_>>
-        ensures found { option_map seen_location result ≡ location_at probe self.now }
+        ensures found { option_map as_location result ≡ location_at probe self.now }
     {
         self.find_location_counted(&mut Count::new(), probe)
     }
@@ -177,7 +177,7 @@ impl Lines {
     /// sequences, that of the number of blocks, and 64, and by one at least where there is a
     /// location.
     pub fn find_location_counted(&self, steps: &mut Count, probe: u64) -> Option<Location<'_>>
-        ensures found { option_map seen_location result ≡ location_at probe self.now }
+        ensures found { option_map as_location result ≡ location_at probe self.now }
         ensures bound { steps.new ≤ steps.old + most_steps_in self.now }
         ensures steps { steps.old ≤ steps.new }
         ensures some { IfSome result (λ location. steps.old < steps.new) }

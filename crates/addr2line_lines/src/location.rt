@@ -2,7 +2,7 @@
 
 ghost use Rattle.std.specs.Prelude.{◌≡◌, [], map, slice_get, option_copied, string_bytes};
 ghost use Rattle.addr2line_lines.specs.Location.{location_of_row};
-ghost use Rattle.addr2line_lines.specs.SeenLocation.{seen_location};
+ghost use Rattle.addr2line_lines.specs.SeenLocation.{as_location};
 
 use crate::row::Row;
 
@@ -26,7 +26,7 @@ pub(crate) fn file_text(files: &[String], index: u64) -> Option<&str>
 
 /// The location that a row gives.
 pub(crate) fn row_location(files: &[String], row: Row) -> Location<'_>
-    ensures gives { seen_location result ≡ location_of_row (map string_bytes files.now) row }
+    ensures gives { as_location result ≡ location_of_row (map string_bytes files.now) row }
 {
     let file = file_text(files, row.file_index);
     if row.line == 0 {
@@ -46,7 +46,7 @@ pub(crate) fn row_location(files: &[String], row: Row) -> Location<'_>
 impl<'a> Location<'a> {
     /// The location that a row gives where there are no files. Takes no memory.
     pub fn without_file(row: Row) -> Location<'a>
-        ensures gives { seen_location result ≡ location_of_row [] row }
+        ensures gives { as_location result ≡ location_of_row [] row }
     {
         row_location(&[], row)
     }

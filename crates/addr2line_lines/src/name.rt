@@ -2,12 +2,12 @@
 
 ghost use Rattle.std.specs.Prelude.{◌≡◌, Ok, option_map};
 ghost use Rattle.gimli_read.specs.declared.value.AttributeValue.TheVariants as values;
-ghost use Rattle.addr2line_lines.specs.Common.{seen_value, ExactlyUnlessOomIf};
-ghost use Rattle.addr2line_lines.specs.CachedNames.{AreNamesMore, AreNamesOf, seen_names};
-ghost use Rattle.addr2line_lines.specs.FoundNames.{found_name, is_name_attribute, linkage_and_found, seen_name_or_origin, seen_place, with_linkage, with_origin, with_string};
+ghost use Rattle.addr2line_lines.specs.Common.{as_value, ExactlyUnlessOomIf};
+ghost use Rattle.addr2line_lines.specs.CachedNames.{AreNamesMore, AreNamesOf, as_names};
+ghost use Rattle.addr2line_lines.specs.FoundNames.{found_name, is_name_attribute, linkage_and_found, as_name_or_origin, as_place, with_linkage, with_origin, with_string};
 ghost use Rattle.addr2line_lines.specs.Names.{is_linkage_name, is_origin, named_at, no_name, or_referred_name, readable, referred_name, visited, with_name};
 ghost use Rattle.addr2line_lines.specs.References.{IsScope};
-ghost use Rattle.addr2line_lines.specs.SeenScope.{seen_scope};
+ghost use Rattle.addr2line_lines.specs.SeenScope.{as_scope};
 
 use crate::found_name::FoundName;
 use crate::names::NameCache;
@@ -64,7 +64,7 @@ fn readable<R: Reader>(
     value: AttributeValue<R>,
 ) -> Result<Option<R>, Error>
     ensures gives { ExactlyUnlessOomIf R.shares (option_map R.section) result
-        (Ok (readable (seen_scope scope.entry) unit.now (seen_value R.section value))) }
+        (Ok (readable (as_scope scope.entry) unit.now (as_value R.section value))) }
 {
     let file = scope.file;
     match UnitRef::new(file.dwarf, unit).attr_string(value) {
@@ -86,7 +86,7 @@ struct NameOrOrigin<R: Reader> {
 impl<R: Reader> NameOrOrigin<R> {
     // Before the first attribute.
     fn new() -> NameOrOrigin<R>
-        ensures gives { seen_name_or_origin R.section result ≡ no_name }
+        ensures gives { as_name_or_origin R.section result ≡ no_name }
     {
         NameOrOrigin {
             name: None,
@@ -96,8 +96,8 @@ impl<R: Reader> NameOrOrigin<R> {
 
     // Sets the name to a string, if it is one.
     fn set_name(&mut self, string: Option<R>)
-        ensures gives { seen_name_or_origin R.section self.new
-            ≡ with_string (option_map R.section string) (seen_name_or_origin R.section self.old) }
+        ensures gives { as_name_or_origin R.section self.new
+            ≡ with_string (option_map R.section string) (as_name_or_origin R.section self.old) }
     {
         if string.is_some() {
             self.name = string;
@@ -106,8 +106,8 @@ impl<R: Reader> NameOrOrigin<R> {
 
     // Sets where else to look.
     fn set_origin(&mut self, value: AttributeValue<R>)
-        ensures gives { seen_name_or_origin R.section self.new
-            ≡ with_origin (seen_value R.section value) (seen_name_or_origin R.section self.old) }
+        ensures gives { as_name_or_origin R.section self.new
+            ≡ with_origin (as_value R.section value) (as_name_or_origin R.section self.old) }
     {
         self.origin = Some(value);
     }
@@ -120,9 +120,9 @@ impl<R: Reader> NameOrOrigin<R> {
         attribute: Attribute<R>,
     ) -> Result<Option<R>, Error>
         ensures gives { ExactlyUnlessOomIf R.shares (λ linkage. with_linkage
-            (option_map R.section linkage) (seen_name_or_origin R.section self.new)) result
-            (Ok (linkage_and_found (seen_scope scope.entry) unit.now
-            (seen_name_or_origin R.section self.old) attribute)) }
+            (option_map R.section linkage) (as_name_or_origin R.section self.new)) result
+            (Ok (linkage_and_found (as_scope scope.entry) unit.now
+            (as_name_or_origin R.section self.old) attribute)) }
     {
         let name = attribute.name();
         let value = attribute.value();
@@ -149,8 +149,8 @@ fn read_names<R: Reader>(
     specifications: &[AttributeSpecification],
 ) -> Result<NameOrOrigin<R>, Error>
     requires encoding { entries.old.unit.encoding ≡ place.unit.now.header.encoding }
-    ensures gives { ExactlyUnlessOomIf R.shares (seen_name_or_origin R.section) result
-        (named_at (seen_scope place.entry.scope) place.entry.unit.now specifications.now
+    ensures gives { ExactlyUnlessOomIf R.shares (as_name_or_origin R.section) result
+        (named_at (as_scope place.entry.scope) place.entry.unit.now specifications.now
         entries.old.cursor.left no_name) }
 {
     let mut found = NameOrOrigin::new();
@@ -172,8 +172,8 @@ fn read_names<R: Reader>(
 
 // What the entry at a place says of its name.
 fn visit<R: Reader>(place: EntryPlace<'_, R>) -> Result<NameOrOrigin<R>, Error>
-    ensures gives { ExactlyUnlessOomIf R.shares (seen_name_or_origin R.section) result
-        (visited (seen_place place.entry)) }
+    ensures gives { ExactlyUnlessOomIf R.shares (as_name_or_origin R.section) result
+        (visited (as_place place.entry)) }
 {
     let file = place.scope.file;
     let unit = UnitRef::new(file.dwarf, place.unit);
@@ -190,9 +190,9 @@ fn referred_name<'a, R: Reader>(
     mut unit: &'a Unit<R>,
     mut value: AttributeValue<R>,
 ) -> Result<Option<R>, Error>
-    requires in_order { IsScope (seen_scope scope) }
+    requires in_order { IsScope (as_scope scope) }
     ensures gives { ExactlyUnlessOomIf R.shares (option_map R.section) result
-        (referred_name (seen_scope scope.entry) unit.now (seen_value R.section value)) }
+        (referred_name (as_scope scope.entry) unit.now (as_value R.section value)) }
 {
     for _ in 0..MOST_VISITED {
         let Some(place) = referred(scope, unit, &value)? else {
@@ -220,7 +220,7 @@ fn readable_name<R: Reader>(
     value: AttributeValue<R>,
 ) -> Result<FoundName<R>, Error>
     ensures gives { ExactlyUnlessOomIf R.shares (found_name R.section) result
-        (Ok (readable (seen_scope scope.entry) unit.now (seen_value R.section value))) }
+        (Ok (readable (as_scope scope.entry) unit.now (as_value R.section value))) }
 {
     let name = readable(scope, unit, value)?;
     Ok(FoundName::Own(name))
@@ -232,9 +232,9 @@ fn referred_name_anew<R: Reader>(
     unit: &Unit<R>,
     value: AttributeValue<R>,
 ) -> Result<FoundName<R>, Error>
-    requires in_order { IsScope (seen_scope scope) }
+    requires in_order { IsScope (as_scope scope) }
     ensures gives { ExactlyUnlessOomIf R.shares (found_name R.section) result
-        (referred_name (seen_scope scope.entry) unit.now (seen_value R.section value)) }
+        (referred_name (as_scope scope.entry) unit.now (as_value R.section value)) }
 {
     let name = referred_name(scope, unit, value)?;
     Ok(FoundName::Own(name))
@@ -248,12 +248,12 @@ fn name_in_unit<R: Reader>(
     offset: UnitOffset,
     names: &mut NameCache<R>,
 ) -> Result<FoundName<R>, Error>
-    requires in_order { IsScope (seen_scope scope) }
-    requires names { AreNamesOf (seen_scope scope) unit.now (seen_names R.section names.old) }
+    requires in_order { IsScope (as_scope scope) }
+    requires names { AreNamesOf (as_scope scope) unit.now (as_names R.section names.old) }
     ensures gives { ExactlyUnlessOomIf R.shares (found_name R.section) result
-        (referred_name (seen_scope scope.entry) unit.now (values.UnitRef offset)) }
-    ensures names { AreNamesMore (seen_scope scope.entry) unit.now
-        (seen_names R.section names.old) (seen_names R.section names.new) }
+        (referred_name (as_scope scope.entry) unit.now (values.UnitRef offset)) }
+    ensures names { AreNamesMore (as_scope scope.entry) unit.now
+        (as_names R.section names.old) (as_names R.section names.new) }
 {
     match names.find(offset) {
         Some(Ok(name)) => return Ok(FoundName::Shared(name)),
@@ -279,12 +279,12 @@ fn referred_name_once<R: Reader>(
     value: AttributeValue<R>,
     names: &mut NameCache<R>,
 ) -> Result<FoundName<R>, Error>
-    requires in_order { IsScope (seen_scope scope) }
-    requires names { AreNamesOf (seen_scope scope) unit.now (seen_names R.section names.old) }
+    requires in_order { IsScope (as_scope scope) }
+    requires names { AreNamesOf (as_scope scope) unit.now (as_names R.section names.old) }
     ensures gives { ExactlyUnlessOomIf R.shares (found_name R.section) result
-        (referred_name (seen_scope scope.entry) unit.now (seen_value R.section value)) }
-    ensures names { AreNamesMore (seen_scope scope.entry) unit.now
-        (seen_names R.section names.old) (seen_names R.section names.new) }
+        (referred_name (as_scope scope.entry) unit.now (as_value R.section value)) }
+    ensures names { AreNamesMore (as_scope scope.entry) unit.now
+        (as_names R.section names.old) (as_names R.section names.new) }
 {
     match value {
         AttributeValue::UnitRef(offset) => name_in_unit(scope, unit, offset, names),
@@ -301,13 +301,13 @@ pub(crate) fn name_by_origin<R: Reader>(
     offset: UnitOffset,
     names: &mut NameCache<R>,
 ) -> Result<FoundName<R>, Error>
-    requires in_order { IsScope (seen_scope scope) }
-    requires names { AreNamesOf (seen_scope scope) unit.now (seen_names R.section names.old) }
+    requires in_order { IsScope (as_scope scope) }
+    requires names { AreNamesOf (as_scope scope) unit.now (as_names R.section names.old) }
     ensures gives { ExactlyUnlessOomIf R.shares (found_name R.section) result
-        (or_referred_name (seen_scope scope.entry) unit.now (found_name R.section name)
+        (or_referred_name (as_scope scope.entry) unit.now (found_name R.section name)
         (values.UnitRef offset)) }
-    ensures names { AreNamesMore (seen_scope scope.entry) unit.now
-        (seen_names R.section names.old) (seen_names R.section names.new) }
+    ensures names { AreNamesMore (as_scope scope.entry) unit.now
+        (as_names R.section names.old) (as_names R.section names.new) }
 {
     if name.is_some() {
         return Ok(name);
@@ -324,12 +324,12 @@ pub(crate) fn take_name<R: Reader>(
     attribute: Attribute<R>,
     names: &mut NameCache<R>,
 ) -> Result<FoundName<R>, Error>
-    requires in_order { IsScope (seen_scope scope) }
-    requires names { AreNamesOf (seen_scope scope) unit.now (seen_names R.section names.old) }
+    requires in_order { IsScope (as_scope scope) }
+    requires names { AreNamesOf (as_scope scope) unit.now (as_names R.section names.old) }
     ensures gives { ExactlyUnlessOomIf R.shares (found_name R.section) result
-        (with_name (seen_scope scope.entry) unit.now (found_name R.section name) attribute) }
-    ensures names { AreNamesMore (seen_scope scope.entry) unit.now
-        (seen_names R.section names.old) (seen_names R.section names.new) }
+        (with_name (as_scope scope.entry) unit.now (found_name R.section name) attribute) }
+    ensures names { AreNamesMore (as_scope scope.entry) unit.now
+        (as_names R.section names.old) (as_names R.section names.new) }
 {
     let attribute_name = attribute.name();
     let value = attribute.value();
@@ -361,10 +361,10 @@ pub(crate) struct NameSink<'a, R: Reader> {
 impl<R: Reader> AttributeSink<R, Attribute<R>> for NameSink<'_, R> {
     ghost use Rattle.std.specs.Prelude.{Option};
     ghost use Rattle.gimli_read.specs.Section.{Section};
-    ghost use Rattle.addr2line_lines.specs.CachedNames.{GrowNames, seen_names};
+    ghost use Rattle.addr2line_lines.specs.CachedNames.{GrowNames, as_names};
     ghost use Rattle.addr2line_lines.specs.FoundNames.{found_name};
     ghost use Rattle.addr2line_lines.specs.Names.{with_name};
-    ghost use Rattle.addr2line_lines.specs.SeenScope.{seen_scope};
+    ghost use Rattle.addr2line_lines.specs.SeenScope.{as_scope};
 
     type Names = NameWanted;
 
@@ -382,10 +382,10 @@ impl<R: Reader> AttributeSink<R, Attribute<R>> for NameSink<'_, R> {
 
     ghost said = { found_name R.section };
 
-    ghost with_attribute = { λ s name a. with_name (seen_scope s.scope) s.unit.now name a };
+    ghost with_attribute = { λ s name a. with_name (as_scope s.scope) s.unit.now name a };
 
-    ghost Grows = { λ s old new. GrowNames (seen_scope s.scope) s.unit.now
-        (seen_names R.section old) (seen_names R.section new) };
+    ghost Grows = { λ s old new. GrowNames (as_scope s.scope) s.unit.now
+        (as_names R.section old) (as_names R.section new) };
 
     fn take(
         &self,

@@ -1,7 +1,7 @@
 //! The cached names of entries that are referred to.
 
 ghost use Rattle.std.specs.Prelude.{◌≡◌, Err, IfSome, [], length, Ok, option_map, take};
-ghost use Rattle.addr2line_lines.specs.CachedNames.{IsKnownAs, IsOneMoreAtMost, name_at_offset, seen_cached_name, seen_names, seen_shared};
+ghost use Rattle.addr2line_lines.specs.CachedNames.{IsKnownAs, IsOneMoreAtMost, name_at_offset, as_cached_name, as_names, as_shared};
 ghost use Rattle.addr2line_lines.specs.FoundNames.{found_name};
 
 use crate::found_name::{FoundName, note_text};
@@ -50,7 +50,7 @@ fn share_name<R: Reader>(name: &Rc<Option<R>>) -> Option<Rc<Option<R>>>
 impl<R: Reader> CachedName<R> {
     // Where the entry begins.
     fn offset(&self) -> UnitOffset
-        ensures gives { result ≡ (seen_cached_name R.section self.now).offset }
+        ensures gives { result ≡ (as_cached_name R.section self.now).offset }
     {
         match self {
             CachedName::Named { offset, name: _ } => UnitOffset(u64::from(*offset)),
@@ -60,8 +60,8 @@ impl<R: Reader> CachedName<R> {
 
     // The name once more, none where it is shared as often as can be counted, or the fault again.
     fn share(&self) -> Option<Result<Rc<Option<R>>, Error>>
-        ensures gives { IfSome result (λ shared. seen_shared R.section shared
-            ≡ (seen_cached_name R.section self.now).name) }
+        ensures gives { IfSome result (λ shared. as_shared R.section shared
+            ≡ (as_cached_name R.section self.now).name) }
     {
         match self {
             CachedName::Named { offset: _, name } => Some(Ok(share_name(name)?)),
@@ -114,7 +114,7 @@ fn make_slots<R: Reader>(names: &[CachedName<R>], slots: &mut Vec<u32>) {
 impl<R: Reader> NameCache<R> {
     /// That of no name. Takes no memory.
     pub(crate) fn new(alloc: Global) -> NameCache<R>
-        ensures gives { seen_names R.section result ≡ [] }
+        ensures gives { as_names R.section result ≡ [] }
     {
         NameCache {
             alloc,
@@ -125,15 +125,15 @@ impl<R: Reader> NameCache<R> {
 
     /// The number of names and faults. Takes no memory.
     pub(crate) fn len(&self) -> usize
-        ensures gives { result ≡ length (seen_names R.section self.now) }
+        ensures gives { result ≡ length (as_names R.section self.now) }
     {
         self.names.len()
     }
 
     /// Keeps so many of them, the first ones. Takes no memory.
     pub(crate) fn truncate(&mut self, names: usize)
-        ensures gives { seen_names R.section self.new
-            ≡ take names (seen_names R.section self.old) }
+        ensures gives { as_names R.section self.new
+            ≡ take names (as_names R.section self.old) }
     {
         self.names.truncate(names);
     }
@@ -141,8 +141,8 @@ impl<R: Reader> NameCache<R> {
     /// The name of an entry, or its fault, if it is found in the cache; `None` says nothing of the
     /// entry. Takes no memory.
     pub(crate) fn find(&self, offset: UnitOffset) -> Option<Result<Rc<Option<R>>, Error>>
-        ensures found { IfSome result (λ name. IsKnownAs offset (seen_shared R.section name)
-            (seen_names R.section self.now)) }
+        ensures found { IfSome result (λ name. IsKnownAs offset (as_shared R.section name)
+            (as_names R.section self.now)) }
     {
         let last = self.slots.len().wrapping_sub(1);
         let first = first_slot(offset);
@@ -158,8 +158,8 @@ impl<R: Reader> NameCache<R> {
 
     // Adds the name of an entry, or its fault, or nothing where memory is refused.
     fn push(&mut self, cached: CachedName<R>)
-        ensures after { IsOneMoreAtMost (seen_cached_name R.section cached)
-            (seen_names R.section self.old) (seen_names R.section self.new) }
+        ensures after { IsOneMoreAtMost (as_cached_name R.section cached)
+            (as_names R.section self.old) (as_names R.section self.new) }
     {
         let place = self.names.len();
         let offset = cached.offset();
@@ -177,7 +177,7 @@ impl<R: Reader> NameCache<R> {
     fn push_shared(&mut self, offset: UnitOffset, name: &Rc<Option<R>>)
         ensures after { IsOneMoreAtMost
             (name_at_offset offset (Ok (option_map R.section name.now.value)))
-            (seen_names R.section self.old) (seen_names R.section self.new) }
+            (as_names R.section self.old) (as_names R.section self.new) }
     {
         let Ok(offset) = u32::try_from(offset.0) else {
             return;
@@ -193,7 +193,7 @@ impl<R: Reader> NameCache<R> {
     pub(crate) fn add(&mut self, offset: UnitOffset, name: Option<R>) -> FoundName<R>
         ensures gives { found_name R.section result ≡ option_map R.section name }
         ensures after { IsOneMoreAtMost (name_at_offset offset (Ok (option_map R.section name)))
-            (seen_names R.section self.old) (seen_names R.section self.new) }
+            (as_names R.section self.old) (as_names R.section self.new) }
     {
         match Rc::new(self.alloc, note_text(name)) {
             Ok(name) => {
@@ -208,7 +208,7 @@ impl<R: Reader> NameCache<R> {
     /// far on.
     pub(crate) fn add_fault(&mut self, offset: UnitOffset, error: Error)
         ensures after { IsOneMoreAtMost (name_at_offset offset (Err error))
-            (seen_names R.section self.old) (seen_names R.section self.new) }
+            (as_names R.section self.old) (as_names R.section self.new) }
     {
         let Ok(offset) = u32::try_from(offset.0) else {
             return;

@@ -5,7 +5,7 @@ ghost use Rattle.std.specs.Iterator.{YieldsFirst, YieldsFirstBy, item_count};
 ghost use Rattle.std.specs.String.{string_bytes};
 ghost use Rattle.addr2line_lines.specs.Packed.{IsAmong, unpacked};
 ghost use Rattle.addr2line_lines.specs.RangeLocations.{located, located_in, meets};
-ghost use Rattle.addr2line_lines.specs.RangesLeft.{packed_range, located_rows_left, seen_located, seen_span, spans_left, spans_of_sequence};
+ghost use Rattle.addr2line_lines.specs.RangesLeft.{packed_range, located_rows_left, as_located, as_span, spans_left, spans_of_sequence};
 ghost use Rattle.addr2line_lines.specs.Spans.{spans};
 
 use crate::location::{Location, row_location};
@@ -26,7 +26,7 @@ struct LineSpan {
 impl LineSpan {
     // Whether the span begins below `high` and ends past `low`.
     fn meets(&self, low: u64, high: u64) -> bool
-        ensures gives { result ≡ meets low high (seen_span self.now) }
+        ensures gives { result ≡ meets low high (as_span self.now) }
     {
         self.row.address < high && low < self.end
     }
@@ -38,7 +38,7 @@ fn span_at(packed: &PackedRows, place: usize, until: usize, end: u64) -> LineSpa
     requires there { place < until }
     requires inside { until ≤ length packed.now.rows }
     ensures gives { spans_left end packed.now.rows place until ≡
-        seen_span result ∷ spans_left end packed.now.rows (place + 1) until }
+        as_span result ∷ spans_left end packed.now.rows (place + 1) until }
 {
     let row = packed.row(place);
     let next = place + 1;
@@ -52,7 +52,7 @@ fn span_at(packed: &PackedRows, place: usize, until: usize, end: u64) -> LineSpa
 
 // A span as the iterator gives it.
 fn located(files: &[String], span: LineSpan) -> (u64, u64, Location<'_>)
-    ensures gives { seen_located result ≡ located (map string_bytes files.now) (seen_span span) }
+    ensures gives { as_located result ≡ located (map string_bytes files.now) (as_span span) }
 {
     let length = span.end.saturating_sub(span.row.address);
     (span.row.address, length, row_location(files, span.row))
@@ -92,7 +92,7 @@ impl<'a> SequenceSpans<'a> {
 
     // The next of them.
     fn next_span(&mut self) -> Option<LineSpan>
-        ensures gives { YieldsFirstBy seen_span spans_of_sequence self.old result self.new }
+        ensures gives { YieldsFirstBy as_span spans_of_sequence self.old result self.new }
     {
         while self.place < self.until {
             let span = span_at(self.packed, self.place, self.until, self.end);
@@ -144,7 +144,7 @@ impl<'a> LineLocationRangeIter<'a> {
 impl<'a> Iterator for LineLocationRangeIter<'a> {
     type Item = (u64, u64, Location<'a>);
 
-    ghost next_gives = { YieldsFirstBy seen_located located_rows_left };
+    ghost next_gives = { YieldsFirstBy as_located located_rows_left };
 
     ghost remaining = { item_count located_rows_left };
 

@@ -2,10 +2,10 @@
 
 ghost use Rattle.std.specs.Prelude.{◌≡◌, ◌≤◌, length, option_map};
 ghost use Rattle.std.specs.List.Sorted.{IsPartitionPoint};
-ghost use Rattle.addr2line_lines.specs.Common.{seen_value, Exactly};
+ghost use Rattle.addr2line_lines.specs.Common.{as_value, Exactly};
 ghost use Rattle.addr2line_lines.specs.References.{AreInOrder, IsFileInOrder, IsScope, entry_in, entry_in_sup, referred, unit_at};
-ghost use Rattle.addr2line_lines.specs.SeenScope.{seen_scope, seen_file};
-ghost use Rattle.addr2line_lines.specs.FoundNames.{BeginsAbove, BeginsBy, seen_place};
+ghost use Rattle.addr2line_lines.specs.SeenScope.{as_scope, as_file_record};
+ghost use Rattle.addr2line_lines.specs.FoundNames.{BeginsAbove, BeginsBy, as_place};
 
 use gimli::read::{AttributeValue, DebugInfoOffset, Error, Reader, UnitOffset};
 use gimli::{Dwarf, ToUnitOffset, Unit};
@@ -93,8 +93,8 @@ fn find_entry<R: Reader>(
     offset: DebugInfoOffset,
 ) -> Result<Option<EntryPlace<'_, R>>, Error>
     requires in_order { AreInOrder scope.file.units.now }
-    ensures gives { Exactly (option_map seen_place) result
-        (entry_in (seen_scope scope.entry) offset.0) }
+    ensures gives { Exactly (option_map as_place) result
+        (entry_in (as_scope scope.entry) offset.0) }
 {
     match find_unit(scope.file.units, offset) {
         Some((unit, offset)) => Ok(Some(EntryPlace {
@@ -111,9 +111,9 @@ fn find_entry_in_sup<R: Reader>(
     sup: Option<FileUnits<'_, R>>,
     offset: DebugInfoOffset,
 ) -> Result<Option<EntryPlace<'_, R>>, Error>
-    requires in_order { IsFileInOrder (option_map seen_file sup) }
-    ensures gives { Exactly (option_map seen_place) result
-        (entry_in_sup (option_map seen_file sup.entry) offset.0) }
+    requires in_order { IsFileInOrder (option_map as_file_record sup) }
+    ensures gives { Exactly (option_map as_place) result
+        (entry_in_sup (option_map as_file_record sup.entry) offset.0) }
 {
     match sup {
         Some(file) => find_entry(Scope { file, sup: None }, offset),
@@ -130,9 +130,9 @@ pub(crate) fn referred<'a, R: Reader>(
     unit: &'a Unit<R>,
     value: &AttributeValue<R>,
 ) -> Result<Option<EntryPlace<'a, R>>, Error>
-    requires in_order { IsScope (seen_scope scope) }
-    ensures gives { Exactly (option_map seen_place) result
-        (referred (seen_scope scope.entry) unit.now (seen_value R.section value.now)) }
+    requires in_order { IsScope (as_scope scope) }
+    ensures gives { Exactly (option_map as_place) result
+        (referred (as_scope scope.entry) unit.now (as_value R.section value.now)) }
 {
     match value {
         AttributeValue::UnitRef(offset) => Ok(Some(EntryPlace {

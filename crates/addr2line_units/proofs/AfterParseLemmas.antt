@@ -1,6 +1,6 @@
 -- What a parse of functions leaves of the functions of a view, and of a unit (on
 -- specs/AfterParses.antt).
-use Rattle.addr2line_units.proofs.Common.{◌≡◌, ◌∙◌, Bool, true, false, [], Option, Some, Result, Ok, Err, None, refl, sym, ap, subst, inr, IfErr, OnOk, AllByRecursion, Error, OutOfMemory, ExactlyUnlessOomIf, WasNotRefused, Sections, UnitRecord, HasDetail, cached_detail, functions_of, functions_take_memory, AreUnread, Scope, LazyFunctions, ReadingDepth, UnitEntries, UnitView, functions_in_take_memory, AreEntriesOf, first_answer_of, AreFunctionsOf, StayFunctions, cached_fault, cached_functions, functions_fault, is_cached_fault, reading_takes_memory, were_read, known_by, known_fault, known_functions, is_decided, seen_first_answer, IsReadyFor, read_of_functions, read_of_view, View, decided_answer, is_open, verdict}
+use Rattle.addr2line_units.proofs.Common.{◌≡◌, ◌∙◌, Bool, true, false, [], Option, Some, Result, Ok, Err, None, refl, sym, ap, subst, inr, IfErr, OnOk, AllByRecursion, Error, OutOfMemory, ExactlyUnlessOomIf, WasNotRefused, Sections, UnitRecord, HasDetail, cached_detail, functions_of, functions_take_memory, AreUnread, Scope, LazyFunctions, ReadingDepth, UnitEntries, UnitView, functions_in_take_memory, AreEntriesOf, first_answer_of, AreFunctionsOf, StayFunctions, cached_fault, cached_functions, functions_fault, is_cached_fault, reading_takes_memory, were_read, known_by, known_fault, known_functions, is_decided, answer_of_view, IsReadyFor, read_of_functions, read_of_view, View, decided_answer, is_open, verdict}
 use Rattle.addr2line_units.specs.declared.entries.LazyFunctions.TheVariants as lazy
 use Rattle.addr2line_units.specs.declared.parses.ReadingDepth.TheVariants as depths
 use Rattle.addr2line_units.specs.AfterParses.{AfterReadingFunctions, AfterReadingOf, AfterReadingUnit, AfterReadingView, IsDecidedAndReady}
@@ -125,7 +125,7 @@ module _ {R : Type 0} (shares : Bool) (depth : ReadingDepth) (scope : Scope) (u 
   entries = record { view = view; functions = old }
 
   abbrev answered : Option (Result View Error)
-  answered = verdict scope.file.sections u (seen_first_answer view)
+  answered = verdict scope.file.sections u (answer_of_view view)
 
   abbrev reading : Result (Unit {0}) Error
   reading = read_of_view depth scope answered

@@ -1,5 +1,5 @@
 -- Answers to the loads of units, and what is cached of their entries (on specs/CachedEntries.antt).
-use Rattle.addr2line_units.proofs.Common.{◌≡◌, ◌≢◌, ℕ, zero, suc, ◌<◌, Bool, true, false, List, [], ◌∷◌, length, get_or, slice_get, arith, Option, Some, None, Result, Ok, Err, ap, refl, sym, ◌∙◌, set, set-get_or, IfErr, OnOk, Error, OutOfMemory, Sections, UnitRecord, Scope, LazyFunctions, UnitCache, UnitEntries, UnitView, ViewState, answer_of, with_answer, AreEntriesOf, StayEntries, first_answer_of, AreFunctionsOf, were_read, StayAllEntries, answers_in, decided_at, IsViewOf, is_decided, seen_first_answer, verdict_in, waits, was_checked, FirstAnswers, View, decided_answer, is_open, verdict, view_scope}
+use Rattle.addr2line_units.proofs.Common.{◌≡◌, ◌≢◌, ℕ, zero, suc, ◌<◌, Bool, true, false, List, [], ◌∷◌, length, get_or, slice_get, arith, Option, Some, None, Result, Ok, Err, ap, refl, sym, ◌∙◌, set, set-get_or, IfErr, OnOk, Error, OutOfMemory, Sections, UnitRecord, Scope, LazyFunctions, UnitCache, UnitEntries, UnitView, ViewState, answer_of, with_answer, AreEntriesOf, StayEntries, first_answer_of, AreFunctionsOf, were_read, StayAllEntries, answers_in, decided_at, IsViewOf, is_decided, answer_of_view, verdict_in, waits, was_checked, FirstAnswers, View, decided_answer, is_open, verdict, view_scope}
 use Rattle.std.specs.Prelude.{IfOk, IfSome, is_none, is_some, if◌then◌else◌}
 use Rattle.addr2line_units.specs.declared.entries.LazyFunctions.TheVariants as lazy
 use Rattle.addr2line_units.specs.declared.unit.ViewState.TheVariants as states
@@ -22,7 +22,7 @@ unread_are scope u (lazy.Faulty x) e = absurd cc
 -- where no functions were read the view is all that is cached
 pub unread_entries : {R : Type 0} (scope : Scope) (u : UnitRecord) (v : UnitView R) (f : LazyFunctions R) → IsViewOf scope.file.sections u v → were_read f ≡ false
     → AreEntriesOf scope u (record { view = v; functions = f })
-unread_entries {R} scope u v f h e = record { view = h; functions = by (verdict scope.file.sections u (seen_first_answer v)); unread = λ k. e }
+unread_entries {R} scope u v f h e = record { view = h; functions = by (verdict scope.file.sections u (answer_of_view v)); unread = λ k. e }
   where
     by : (w : Option (Result View Error)) → IfSome w (λ view. IfOk view (λ x. AreFunctionsOf (view_scope scope x) x.unit f))
     by None = tt
@@ -40,8 +40,8 @@ no_answer None e = refl
 no_answer (Some x) e = absurd cc
 
 -- what was looked at waits where the unit is open
-pub checked_waits : {R : Type 0} (d : Sections) (u : UnitRecord) (v : UnitView R) → IsViewOf d u v → was_checked v.state ≡ true → waits v.state ≡ is_open d u (seen_first_answer v)
-checked_waits {R} d u v h k = by v.state (verdict d u (seen_first_answer v)) h.right k
+pub checked_waits : {R : Type 0} (d : Sections) (u : UnitRecord) (v : UnitView R) → IsViewOf d u v → was_checked v.state ≡ true → waits v.state ≡ is_open d u (answer_of_view v)
+checked_waits {R} d u v h k = by v.state (verdict d u (answer_of_view v)) h.right k
   where
     by : (s : ViewState R) (w : Option (Result View Error)) → IfSome (verdict_in d u s) (λ cached. cached ≡ w) → was_checked s ≡ true → waits s ≡ is_none w
     by states.Undecided w e l = absurd cc
@@ -72,8 +72,8 @@ decided_waits_not (states.Unnamed x) e = refl
 decided_waits_not (states.Answered a) e = refl
 
 -- whether the unit is open, by what waits after it was looked at
-pub open_by_check : {R : Type 0} (d : Sections) (u : UnitRecord) (v w : UnitView R) (b : Bool) → IsViewOf d u w → was_checked w.state ≡ true → seen_first_answer w ≡ seen_first_answer v → b ≡ waits w.state
-    → is_open d u (seen_first_answer v) ≡ b
+pub open_by_check : {R : Type 0} (d : Sections) (u : UnitRecord) (v w : UnitView R) (b : Bool) → IsViewOf d u w → was_checked w.state ≡ true → answer_of_view w ≡ answer_of_view v → b ≡ waits w.state
+    → is_open d u (answer_of_view v) ≡ b
 open_by_check d u v w b h l same e = ap (λ a. is_open d u a) (sym same) ∙ sym (checked_waits d u w h l) ∙ sym e
 
 -- what was decided before a check of the split file doesn't wait after it

@@ -1,6 +1,6 @@
 -- What the units of a context are after one of them was asked (on specs/AfterUnits.antt and
 -- specs/StoredUnits.antt).
-use Rattle.addr2line_units.proofs.Common.{◌≡◌, ◌≢◌, ◌⊎◌, inl, inr, ℕ, ◌<◌, ◌≤◌, ◌&&◌, ◌||◌, Bool, true, false, not, List, [], ◌∷◌, length, get_or, slice_get, Option, Some, None, Result, Ok, Err, refl, sym, ap, subst, ◌∙◌, arith, set, IfErr, Error, OutOfMemory, ◌>>=◌, ExactlyUnlessOom, WasNotRefused, Sections, UnitRecord, exceeds_inline_room, Scope, OnFault, FramesStop, UnitRange, UnitCache, AfterAsk, found_stop, stop_at, functions_in_take_memory, lines_of_take_memory, lines_take_memory, AreEntriesOf, AreFramesIn, AsksNoMemoryIn, ReadsEntriesOf, StayEntries, first_answer_of, frames_of_place, has_entries, AreFoundAt, IsLendable, IsStopIn, found_after_fault, frames_found_at, has_frames_at, seen_stop, stop_of_found, StaysUnit, StayUnits, indexed_unit, indexed_units, is_uncached, parsed_units, HaveEntriesOf, StayAllEntries, answers_in, has_entries_at, FindsNothing, LookupStop, after_fault, asks_lines_of, ends_lookup, function_offset_of, functions_of_take_memory, inlined_at_number, or_stop, known_in, knows_detail_at, has_parsed, AreUnits, seen_units, FramesResult, asks_lines_in, frames_in, inlined_of_unit, IsFaultAt, UnitsState, asked_by, asks_no_memory_at, has_all_at, reads_no_memory_at}
+use Rattle.addr2line_units.proofs.Common.{◌≡◌, ◌≢◌, ◌⊎◌, inl, inr, ℕ, ◌<◌, ◌≤◌, ◌&&◌, ◌||◌, Bool, true, false, not, List, [], ◌∷◌, length, get_or, slice_get, Option, Some, None, Result, Ok, Err, refl, sym, ap, subst, ◌∙◌, arith, set, IfErr, Error, OutOfMemory, ◌>>=◌, ExactlyUnlessOom, WasNotRefused, Sections, UnitRecord, exceeds_inline_room, Scope, OnFault, FramesStop, UnitRange, UnitCache, AfterAsk, found_stop, stop_at, functions_in_take_memory, lines_of_take_memory, lines_take_memory, AreEntriesOf, AreFramesIn, AsksNoMemoryIn, ReadsEntriesOf, StayEntries, first_answer_of, frames_of_place, has_entries, AreFoundAt, IsLendable, IsStopIn, found_after_fault, frames_found_at, has_frames_at, as_stop, stop_of_found, StaysUnit, StayUnits, indexed_unit, indexed_units, is_uncached, parsed_units, HaveEntriesOf, StayAllEntries, answers_in, has_entries_at, FindsNothing, LookupStop, after_fault, asks_lines_of, ends_lookup, function_offset_of, functions_of_take_memory, inlined_at_number, or_stop, known_in, knows_detail_at, has_parsed, AreUnits, as_units_state, FramesResult, asks_lines_in, frames_in, inlined_of_unit, IsFaultAt, UnitsState, asked_by, asks_no_memory_at, has_all_at, reads_no_memory_at}
 use Rattle.std.specs.Prelude.{IfOk, unwrap_or}
 use Rattle.addr2line_units.specs.declared.frames.FramesStop.TheVariants as stops
 use Rattle.addr2line_units.specs.declared.entries.UnitFrames.{UnitFrames}
@@ -36,7 +36,7 @@ module _ {R : Type 0} {scope : Scope} {cs : List (UnitCache R)} {last : FramesSt
   d = scope.file.sections
 
   abbrev old : UnitsState
-  old = seen_units scope cs steps was
+  old = as_units_state scope cs steps was
 
   -- there is no unit of that number
   module _ (none : slice_get us n ≡ None) where
@@ -49,7 +49,7 @@ module _ {R : Type 0} {scope : Scope} {cs : List (UnitCache R)} {last : FramesSt
     pub none_gives : (faults : OnFault) → stop_at faults probe old n ≡ Ok FindsNothing
     none_gives faults = of_faults faults _ (nothing_at scope probe us cs n past)
 
-    pub none_after : AfterAsk {X = Unit {0}} n probe (Ok tt) old (seen_units scope cs steps FindsNothing)
+    pub none_after : AfterAsk {X = Unit {0}} n probe (Ok tt) old (as_units_state scope cs steps FindsNothing)
     none_after = record {
       asked = record { scope = refl; units = refl; answers = refl; parsed = λ m e. e; known = λ m. record { at = λ p e. e; whole = λ k h. h }; only = λ m e. inl e; learns = λ m. inl refl; details = λ m o e. inl e; raised = omega arith };
       ready = λ h. ap (λ b. b && (not (asks_lines_of scope (indexed_units us cs) (answers_in cs) probe n) || has_parsed (parsed_units cs) n)) (known_is probe cs n) ∙ none_known scope probe us cs n past;
@@ -77,14 +77,14 @@ module _ {R : Type 0} {scope : Scope} {cs : List (UnitCache R)} {last : FramesSt
           given = gives_after faults (frames_found_at now_cs n) result _ refl
               (frames_given scope probe us cs n own within u c w unit at result gives)
 
-          of_found : (f : UnitFrames) → or_stop n (Ok FindsNothing) (frames_found_at now_cs n f) ≡ Ok (seen_stop now_cs (found_stop n f))
+          of_found : (f : UnitFrames) → or_stop n (Ok FindsNothing) (frames_found_at now_cs n f) ≡ Ok (as_stop now_cs (found_stop n f))
           of_found f = by (stop_of_found n f) refl
             where
-              by : (o : Option FramesStop) → stop_of_found n f ≡ o → or_stop n (Ok FindsNothing) (frames_found_at now_cs n f) ≡ Ok (seen_stop now_cs (unwrap_or o stops.FindsNothing))
+              by : (o : Option FramesStop) → stop_of_found n f ≡ o → or_stop n (Ok FindsNothing) (frames_found_at now_cs n f) ≡ Ok (as_stop now_cs (unwrap_or o stops.FindsNothing))
               by None e = ap (or_stop n (Ok FindsNothing)) (no_stop now_cs n f e)
               by (Some stop) e = stop_is now_cs n f stop (Ok FindsNothing) e
 
-          pub asked_ok : (f : UnitFrames) → found_after_fault faults result ≡ Ok f → stop_at faults probe old n ≡ Ok (seen_stop now_cs (found_stop n f))
+          pub asked_ok : (f : UnitFrames) → found_after_fault faults result ≡ Ok f → stop_at faults probe old n ≡ Ok (as_stop now_cs (found_stop n f))
           asked_ok f e =
               ap (λ x. x >>= or_stop n (Ok FindsNothing)) (subst (λ q. ExactlyUnlessOom (frames_found_at now_cs n) q (asked_by faults probe old n)) e given) ∙ of_found f
 
@@ -137,7 +137,7 @@ module _ {R : Type 0} {scope : Scope} {cs : List (UnitCache R)} {last : FramesSt
 
             module _ (now : ℕ) (raised : steps ≤ now) (stop : LookupStop) where
               abbrev new : UnitsState
-              new = seen_units scope now_cs now stop
+              new = as_units_state scope now_cs now stop
 
               all_is : has_all_at probe new n ≡ has_frames_at asks probe now_cs n
               all_is =

@@ -1,5 +1,5 @@
 -- The view of a unit that is known (on specs/CachedUnits.antt and specs/FramesLookup.antt).
-use Rattle.addr2line_units.proofs.Common.{◌≡◌, ℕ, zero, suc, ◌<◌, arith, get_or, true, List, [], ◌∷◌, length, Option, Some, None, option_and_then, option_map, unwrap_or, is_some, Result, Ok, Err, ap, refl, sym, subst, ◌∙◌, Error, Exactly, Sections, UnitRecord, UnitCache, UnitEntries, ViewState, answer_of, readable_view, view_of_number, first_answer_of, HaveViewsOf, answers_in, decided_at, IsViewOf, is_decided, cached_verdict, parts_or_fault, seen_first_answer, View, parts_of, verdict}
+use Rattle.addr2line_units.proofs.Common.{◌≡◌, ℕ, zero, suc, ◌<◌, arith, get_or, true, List, [], ◌∷◌, length, Option, Some, None, option_and_then, option_map, unwrap_or, is_some, Result, Ok, Err, ap, refl, sym, subst, ◌∙◌, Error, Exactly, Sections, UnitRecord, UnitCache, UnitEntries, ViewState, answer_of, readable_view, view_of_number, first_answer_of, HaveViewsOf, answers_in, decided_at, IsViewOf, is_decided, cached_verdict, parts_or_fault, answer_of_view, View, parts_of, verdict}
 use Rattle.std.specs.Prelude.{IfSome}
 use Rattle.std.specs.Result.{result_ok}
 use Rattle.addr2line_units.specs.declared.unit.ViewState.TheVariants as states
@@ -42,7 +42,7 @@ told_parts see (Some (Err g)) (Ok x) e h = absurd cc
 told_parts see (Some (Err g)) (Err f) e h = refl
 
 pub parts_at : {R T : Type 0} → (see : T → Sections × UnitRecord) (d : Sections) (us : List UnitRecord) (vs : List (UnitCache R)) (n : ℕ) (u : UnitRecord) (v : UnitCache R) (r : Result T Error)
-    → HaveViewsOf d us vs → decided_at vs n ≡ true → n < length us → n < length vs → u ≡ get_or us n u → v ≡ get_or vs n v → IfSome (verdict d u (seen_first_answer v.entries.view)) (λ view. Exactly see r (parts_or_fault view))
+    → HaveViewsOf d us vs → decided_at vs n ≡ true → n < length us → n < length vs → u ≡ get_or us n u → v ≡ get_or vs n v → IfSome (verdict d u (answer_of_view v.entries.view)) (λ view. Exactly see r (parts_or_fault view))
     → option_map see (result_ok r) ≡ option_map parts_of (readable_view (view_of_number d us (answers_in vs) n))
 parts_at see d us vs n u v r own decided within there e f h =
     told_parts see (verdict d u (first_answer_of v.entries)) r (decided_has_verdict d u v.entries is.0 is.1) h ∙ ap (λ w. option_map parts_of (readable_view w)) (sym same)

@@ -1,6 +1,6 @@
 -- A unit of which it is known that it has nothing at any address is passed by a lookup, and nothing
 -- is left to read there (on specs/EmptyUnits.antt).
-use Rattle.addr2line_units.proofs.Common.{◌≡◌, ◌∙◌, ℕ, ◌<◌, ◌&&◌, ◌||◌, Bool, true, false, not, is_none, is_ok, List, [], length, get_or, slice_get, Option, Some, None, IfSome, IfOk, Result, Ok, Err, refl, sym, ap, subst, arith, set, set-get_or, Error, ◌>>=◌, Sections, UnitRecord, functions_of, location_at, Scope, unit_lines, LazyFunctions, UnitCache, FramesStop, LazyLines, ViewState, AreEntriesOf, first_answer_of, has_answered, has_entries, has_entries_by, has_frames_at, AreFunctionsOf, AreLinesOf, indexed_unit, indexed_units, is_uncached, no_lines, parsed_units, answers_in, seen_sections, unboxed, verdict_in, view_by, FindsNothing, LookupStop, after_fault, asks_lines_of, or_stop, has_parsed, AreUnits, seen_units, FramesResult, frames_in, function_by, function_in, View, is_open, verdict, view_scope}
+use Rattle.addr2line_units.proofs.Common.{◌≡◌, ◌∙◌, ℕ, ◌<◌, ◌&&◌, ◌||◌, Bool, true, false, not, is_none, is_ok, List, [], length, get_or, slice_get, Option, Some, None, IfSome, IfOk, Result, Ok, Err, refl, sym, ap, subst, arith, set, set-get_or, Error, ◌>>=◌, Sections, UnitRecord, functions_of, location_at, Scope, unit_lines, LazyFunctions, UnitCache, FramesStop, LazyLines, ViewState, AreEntriesOf, first_answer_of, has_answered, has_entries, has_entries_by, has_frames_at, AreFunctionsOf, AreLinesOf, indexed_unit, indexed_units, is_uncached, no_lines, parsed_units, answers_in, as_sections, unboxed, verdict_in, view_by, FindsNothing, LookupStop, after_fault, asks_lines_of, or_stop, has_parsed, AreUnits, as_units_state, FramesResult, frames_in, function_by, function_in, View, is_open, verdict, view_scope}
 use Rattle.std.specs.Prelude.{Box}
 use Rattle.std.specs.declared.alloc.Global.{Global}
 use Rattle.addr2line_units.specs.declared.entries.LazyFunctions.TheVariants as functions
@@ -36,7 +36,7 @@ view_there d u here states.Main e k = (_, sym k)
 view_there d u here (states.Unnamed x) e k = cc
 view_there d u here (states.Answered a) e k = by_unit a.unit e k
   where
-    by_unit : (r : Result (Option (Box UnitRecord Global)) Error) → is_ok r ≡ true → Some (unboxed r >>= λ y. Ok (view_by d u (seen_sections a) y)) ≡ here → (v : View) × (here ≡ Some (Ok v))
+    by_unit : (r : Result (Option (Box UnitRecord Global)) Error) → is_ok r ≡ true → Some (unboxed r >>= λ y. Ok (view_by d u (as_sections a) y)) ≡ here → (v : View) × (here ≡ Some (Ok v))
     by_unit (Ok y) e k = (_, sym k)
     by_unit (Err y) e k = cc
 
@@ -98,13 +98,13 @@ module _ {R : Type 0} {scope : Scope} {cs : List (UnitCache R)} {last : FramesSt
   us = scope.file.units
 
   -- the unit of the number has nothing
-  pub nothing_there : HasNothingAt (seen_units scope cs steps was) n
+  pub nothing_there : HasNothingAt (as_units_state scope cs steps was) n
   nothing_there = by_unit (slice_get us n) refl
     where
       same : set cs n c ≡ cs
       same = ap (set cs n) at ∙ set-get_or cs n c
 
-      by_unit : (o : Option UnitRecord) → slice_get us n ≡ o → HasNothingAt (seen_units scope cs steps was) n
+      by_unit : (o : Option UnitRecord) → slice_get us n ≡ o → HasNothingAt (as_units_state scope cs steps was) n
       by_unit None e = let past = slice_get_none us n e in let many = as_many i in absurd (omega (arith, past, many, within))
       by_unit (Some u) there = record {
         stop = λ faults probe. ap (λ (r : FramesResult). after_fault faults r >>= or_stop n (Ok FindsNothing))

@@ -1,5 +1,5 @@
 -- What is cached of the entries of a unit (on specs/CachedEntries.antt and specs/UnitFrames.antt).
-use Rattle.addr2line_units.proofs.Common.{◌≡◌, ◌∙◌, ℕ, ap, sym, refl, subst, Bool, true, false, Option, Some, IfOk, IfSome, is_none, Result, Ok, Err, Error, ◌>>=◌, ExactlyUnlessOom, ExactlyUnlessOomIf, Sections, UnitRecord, functions_take_memory, exceeds_inline_room, Scope, table_same, LazyFunctions, UnitEntries, UnitView, ViewState, functions_in_take_memory, view_takes_memory, function_at, AreEntriesOf, StayEntries, has_answered, has_entries_by, first_answer_of, AreFunctionsOf, StayFunctions, cached_has_function, is_cached_fault, were_read, IsViewOf, is_decided, parts_or_fault, seen_first_answer, seen_sections, unboxed, verdict_in, view_by, waits, was_checked, function_by, function_in, inlined_of_unit, inlined_of_found, View, is_open, parts_of, verdict, view_scope}
+use Rattle.addr2line_units.proofs.Common.{◌≡◌, ◌∙◌, ℕ, ap, sym, refl, subst, Bool, true, false, Option, Some, IfOk, IfSome, is_none, Result, Ok, Err, Error, ◌>>=◌, ExactlyUnlessOom, ExactlyUnlessOomIf, Sections, UnitRecord, functions_take_memory, exceeds_inline_room, Scope, table_same, LazyFunctions, UnitEntries, UnitView, ViewState, functions_in_take_memory, view_takes_memory, function_at, AreEntriesOf, StayEntries, has_answered, has_entries_by, first_answer_of, AreFunctionsOf, StayFunctions, cached_has_function, is_cached_fault, were_read, IsViewOf, is_decided, parts_or_fault, answer_of_view, as_sections, unboxed, verdict_in, view_by, waits, was_checked, function_by, function_in, inlined_of_unit, inlined_of_found, View, is_open, parts_of, verdict, view_scope}
 use Rattle.std.specs.Prelude.{Box}
 use Rattle.std.specs.declared.alloc.Global.{Global}
 use Rattle.addr2line_units.specs.declared.entries.LazyFunctions.TheVariants as lazy
@@ -32,7 +32,7 @@ module _ {R : Type 0} (scope : Scope) (u : UnitRecord) (old : UnitEntries R) (vi
   with_view v = record { view = v; functions = old.functions }
 
   -- what is cached stays right where the view is looked at
-  pub check_keeps : seen_first_answer view ≡ seen_first_answer old.view → AreEntriesOf scope u old → IsViewOf scope.file.sections u view → AreEntriesOf scope u (record { view = view; functions = old.functions })
+  pub check_keeps : answer_of_view view ≡ answer_of_view old.view → AreEntriesOf scope u old → IsViewOf scope.file.sections u view → AreEntriesOf scope u (record { view = view; functions = old.functions })
   check_keeps answer h right = record {
     view = right;
     functions = subst (λ a. IfSome (verdict scope.file.sections u a) (λ r. IfOk r (λ x. AreFunctionsOf (view_scope scope x) x.unit old.functions))) (sym answer) h.functions;
@@ -43,7 +43,7 @@ module _ {R : Type 0} (scope : Scope) (u : UnitRecord) (old : UnitEntries R) (vi
       by_check true e waiting = h.unread (ap (λ (v : UnitView R). is_decided v.state) (sym (kept e)) ∙ waiting)
       by_check false e waiting = h.unread (undecided old.view.state e)
 
-  pub check_stays : seen_first_answer view ≡ seen_first_answer old.view → StayEntries old (record { view = view; functions = old.functions })
+  pub check_stays : answer_of_view view ≡ answer_of_view old.view → StayEntries old (record { view = view; functions = old.functions })
   check_stays answer = record { answer = answer; view = kept; functions = functions_stay scope u old.functions }
 
 -- memory may be taken at any time
@@ -107,7 +107,7 @@ module _ {R : Type 0} (scope : Scope) (u : UnitRecord) (probe : ℕ) (old : Unit
       by_cached (states.Unnamed y) d k = let both = k ∙ e in let same : y ≡ x = cc in ap is_cached_fault same
       by_cached (states.Answered a) d k = by_unit a.unit (k ∙ e)
         where
-          by_unit : (r : Result (Option (Box UnitRecord Global)) Error) → Some (unboxed r >>= λ y. Ok (view_by scope.file.sections u (seen_sections a) y)) ≡ Some (Err x) → has_answered probe r fs ≡ is_cached_fault x
+          by_unit : (r : Result (Option (Box UnitRecord Global)) Error) → Some (unboxed r >>= λ y. Ok (view_by scope.file.sections u (as_sections a) y)) ≡ Some (Err x) → has_answered probe r fs ≡ is_cached_fault x
           by_unit (Ok y) k = absurd cc
           by_unit (Err y) k = let same : y ≡ x = cc in ap is_cached_fault same
 
@@ -152,6 +152,6 @@ module _ {R : Type 0} (scope : Scope) (u : UnitRecord) (probe : ℕ) (old : Unit
         by_cached (states.Unnamed y) d k = let no = k ∙ v.is in absurd cc
         by_cached (states.Answered a) d k = by_unit a.unit (k ∙ v.is)
           where
-            by_unit : (r : Result (Option (Box UnitRecord Global)) Error) → Some (unboxed r >>= λ y. Ok (view_by scope.file.sections u (seen_sections a) y)) ≡ Some (Ok v.view) → has_answered probe r fs ≡ cached_has_function probe fs
+            by_unit : (r : Result (Option (Box UnitRecord Global)) Error) → Some (unboxed r >>= λ y. Ok (view_by scope.file.sections u (as_sections a) y)) ≡ Some (Ok v.view) → has_answered probe r fs ≡ cached_has_function probe fs
             by_unit (Ok y) k = refl
             by_unit (Err y) k = absurd cc

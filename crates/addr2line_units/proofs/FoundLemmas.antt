@@ -1,6 +1,6 @@
 -- The unit in which a lookup of frames has found something (on specs/FramesLookup.antt and
 -- specs/CachedUnits.antt).
-use Rattle.addr2line_units.proofs.Common.{◌≡◌, ℕ, zero, suc, Bool, true, false, ◌&&◌, ◌||◌, List, [], ◌∷◌, Option, Some, None, Result, Ok, Err, ap, refl, subst, ◌∙◌, Error, ◌>>=◌, ExactlyUnlessOom, WasNotRefused, Sections, UnitRecord, Scope, OnFault, Stop, Skip, FramesStop, UnitRange, UnitCache, ViewState, indexed_units, FrameRecord, LookupStop, Waits, Finds, FindsNothing, after_fault, asked_frames, ends_lookup, frames_of_number, holds_along, or_stop, stop_along, first_answer_of, HaveEntriesOf, answers_in, decided_at, has_entries_at, IsLendable, IsStopIn, frames_at_place, has_frames_at, seen_stop, is_decided, waits, was_checked, FramesResult, frames_by, frames_in, function_in, IndexedUnit, FirstAnswers, is_open}
+use Rattle.addr2line_units.proofs.Common.{◌≡◌, ℕ, zero, suc, Bool, true, false, ◌&&◌, ◌||◌, List, [], ◌∷◌, Option, Some, None, Result, Ok, Err, ap, refl, subst, ◌∙◌, Error, ◌>>=◌, ExactlyUnlessOom, WasNotRefused, Sections, UnitRecord, Scope, OnFault, Stop, Skip, FramesStop, UnitRange, UnitCache, ViewState, indexed_units, FrameRecord, LookupStop, Waits, Finds, FindsNothing, after_fault, asked_frames, ends_lookup, frames_of_number, holds_along, or_stop, stop_along, first_answer_of, HaveEntriesOf, answers_in, decided_at, has_entries_at, IsLendable, IsStopIn, frames_at_place, has_frames_at, as_stop, is_decided, waits, was_checked, FramesResult, frames_by, frames_in, function_in, IndexedUnit, FirstAnswers, is_open}
 use Rattle.std.specs.Prelude.{IfOk, if◌then◌else◌}
 use Rattle.addr2line_units.specs.declared.frames.FramesStop.TheVariants as stops
 use Rattle.addr2line_units.specs.declared.unit.ViewState.TheVariants as states
@@ -91,7 +91,7 @@ module _ {R : Type 0} (scope : Scope) (probe : ℕ) where
   -- so what a lookup has come to can be lent
   pub lendable_if_told : (faults : OnFault) (us : List UnitRecord) (vs : List (UnitCache R)) (units : List IndexedUnit) (answers : FirstAnswers) (asks_lines : ℕ → Bool)
       (ranges : List UnitRange) (r : Result FramesStop Error) → HaveEntriesOf scope us vs → units ≡ indexed_units us vs → answers ≡ answers_in vs → IfOk r (IsStopIn vs)
-      → ExactlyUnlessOom (seen_stop vs) r (stop_along (asked_frames faults scope units answers probe) ranges)
+      → ExactlyUnlessOom (as_stop vs) r (stop_along (asked_frames faults scope units answers probe) ranges)
       → (WasNotRefused r → holds_along (has_frames_at asks_lines probe vs) (asked_frames faults scope units answers probe) ranges ≡ true) → IfOk r (IsLendable vs)
   lendable_if_told faults us vs units answers asks_lines ranges (Err x) own e f there gives ready = tt
   lendable_if_told faults us vs units answers asks_lines ranges (Ok stops.FindsNothing) own e f there gives ready = tt

@@ -1,5 +1,5 @@
 -- Lookups of frames along ranges (on specs/FramesLookup.antt and specs/CachedFrames.antt).
-use Rattle.addr2line_units.proofs.Common.{◌≡◌, ◌≢◌, ℕ, inl, inr, Bool, true, false, ◌&&◌, ◌||◌, List, [], ◌∷◌, Option, Some, None, Result, Ok, Err, refl, ap, sym, subst, ◌∙◌, DwLang, Error, OutOfMemory, ◌>>=◌, ExactlyUnlessOom, WasNotRefused, Section, InlinedEntry, Location, OnFault, Stop, Skip, FramesStop, UnitRange, UnitCache, FrameRecord, frames_from, LookupStop, Finds, after_fault, ends_lookup, holds_along, or_stop, stop_along, AreFoundAt, IsStopIn, found_after_fault, frames_found_at, seen_stop, stop_of_found, ParsesOnly, FramesResult}
+use Rattle.addr2line_units.proofs.Common.{◌≡◌, ◌≢◌, ℕ, inl, inr, Bool, true, false, ◌&&◌, ◌||◌, List, [], ◌∷◌, Option, Some, None, Result, Ok, Err, refl, ap, sym, subst, ◌∙◌, DwLang, Error, OutOfMemory, ◌>>=◌, ExactlyUnlessOom, WasNotRefused, Section, InlinedEntry, Location, OnFault, Stop, Skip, FramesStop, UnitRange, UnitCache, FrameRecord, frames_from, LookupStop, Finds, after_fault, ends_lookup, holds_along, or_stop, stop_along, AreFoundAt, IsStopIn, found_after_fault, frames_found_at, as_stop, stop_of_found, ParsesOnly, FramesResult}
 use Rattle.std.specs.Prelude.{IfOk}
 use Rattle.addr2line_units.specs.declared.frames.FramesStop.TheVariants as stops
 use Rattle.addr2line_units.specs.declared.entries.UnitFrames.{UnitFrames}
@@ -134,14 +134,14 @@ module _ {R : Type 0} (cs : List (UnitCache R)) (n : ℕ) where
   stop_there (found.Here (Some p) row) stop e h =
       let same : stops.Finds (record { unit = n; function = Some p; row = row }) ≡ stop = cc in subst (IsStopIn cs) same h
 
-  pub stop_is : (f : UnitFrames) (stop : FramesStop) (rest : Result LookupStop Error) → stop_of_found n f ≡ Some stop → or_stop n rest (frames_found_at cs n f) ≡ Ok (seen_stop cs stop)
-  stop_is found.Open stop rest e = let same : stops.Waits n ≡ stop = cc in ap (λ s. Ok (seen_stop cs s)) same
+  pub stop_is : (f : UnitFrames) (stop : FramesStop) (rest : Result LookupStop Error) → stop_of_found n f ≡ Some stop → or_stop n rest (frames_found_at cs n f) ≡ Ok (as_stop cs stop)
+  stop_is found.Open stop rest e = let same : stops.Waits n ≡ stop = cc in ap (λ s. Ok (as_stop cs s)) same
   stop_is (found.Here None None) stop rest e = cc
   stop_is (found.Here None (Some row)) stop rest e =
-      let same : stops.Finds (record { unit = n; function = None; row = Some row }) ≡ stop = cc in ap (λ s. Ok (seen_stop cs s)) same
+      let same : stops.Finds (record { unit = n; function = None; row = Some row }) ≡ stop = cc in ap (λ s. Ok (as_stop cs s)) same
   stop_is (found.Here (Some p) row) stop rest e =
       let same : stops.Finds (record { unit = n; function = Some p; row = row }) ≡ stop = cc in
-      has_frame _ _ _ _ _ _ n rest ∙ ap (λ s. Ok (seen_stop cs s)) same
+      has_frame _ _ _ _ _ _ n rest ∙ ap (λ s. Ok (as_stop cs s)) same
 
   pub stop_ends : (f : UnitFrames) (stop : FramesStop) → stop_of_found n f ≡ Some stop → ends_lookup (Ok (frames_found_at cs n f)) ≡ true
   stop_ends found.Open stop e = refl

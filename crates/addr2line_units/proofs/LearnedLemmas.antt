@@ -1,6 +1,6 @@
 -- Of which functions details become known where a unit is asked (on specs/KnownEntries.antt and
 -- specs/CachedKnown.antt).
-use Rattle.addr2line_units.proofs.Common.{Box, Global, ◌≡◌, ◌≢◌, ◌⊎◌, inl, inr, ◌∙◌, ap, sym, refl, subst, ℕ, ◌<◌, ◌==◌, nat_lt, cond, lt-ltb, eqb-true, Bool, true, false, List, get_or, length, position, Option, Some, None, option_and_then, option_map, slice_get, Result, Ok, Err, if◌then◌else◌, cases_eq, slice_get-map, slice_get_read, slice_get_within, set, position_or_len, Error, ◌>>=◌, Sections, UnitRecord, AreUnread, CachedFunction, FunctionTable, cached_detail, function_place_at, function_offset_at, Scope, some_at, LazyFunctions, UnitCache, UnitEntries, ViewState, AreEntriesOf, StayEntries, first_answer_of, AreFunctionsOf, ReadsNoDetail, ReadsNoOther, StayFunctions, cached_functions, has_detail, is_cached_fault, no_functions, were_read, known_answer, known_by, known_fault, known_function, known_functions, known_in, known_table, is_decided, seen_sections, unboxed, verdict_in, view_by, was_checked, AllKnown, FunctionsKnown, HasNoFunctions, KnownEntries, KnownFunction, LearnsNoDetails, LearnsNoFunctions, NothingKnown, is_detail_known, knows_detail, knows_detail_at, function_offset_among, function_offset_by, function_offset_in, View, verdict, view_scope}
+use Rattle.addr2line_units.proofs.Common.{Box, Global, ◌≡◌, ◌≢◌, ◌⊎◌, inl, inr, ◌∙◌, ap, sym, refl, subst, ℕ, ◌<◌, ◌==◌, nat_lt, cond, lt-ltb, eqb-true, Bool, true, false, List, get_or, length, position, Option, Some, None, option_and_then, option_map, slice_get, Result, Ok, Err, if◌then◌else◌, cases_eq, slice_get-map, slice_get_read, slice_get_within, set, position_or_len, Error, ◌>>=◌, Sections, UnitRecord, AreUnread, CachedFunction, FunctionTable, cached_detail, function_place_at, function_offset_at, Scope, some_at, LazyFunctions, UnitCache, UnitEntries, ViewState, AreEntriesOf, StayEntries, first_answer_of, AreFunctionsOf, ReadsNoDetail, ReadsNoOther, StayFunctions, cached_functions, has_detail, is_cached_fault, no_functions, were_read, known_answer, known_by, known_fault, known_function, known_functions, known_in, known_table, is_decided, as_sections, unboxed, verdict_in, view_by, was_checked, AllKnown, FunctionsKnown, HasNoFunctions, KnownEntries, KnownFunction, LearnsNoDetails, LearnsNoFunctions, NothingKnown, is_detail_known, knows_detail, knows_detail_at, function_offset_among, function_offset_by, function_offset_in, View, verdict, view_scope}
 use Rattle.std.proofs.lemmas.List.Folds.{find_at}
 use Rattle.std.proofs.lemmas.List.Quantifiers.{position-Some}
 use Rattle.std.specs.Prelude.{IfOk, IfSome, is_some, unwrap_or}
@@ -112,7 +112,7 @@ module _ {R : Type 0} (offset : ℕ) where
   view_read d u (states.Unnamed x) g e = never (sym (fault_has_none offset x) ∙ e)
   view_read d u (states.Answered a) g e =
       let x = answer_read a.unit g e in
-      (_, ap (λ r. Some (Some (unboxed r >>= λ y. Ok (view_by d u (seen_sections a) y)))) x.1)
+      (_, ap (λ r. Some (Some (unboxed r >>= λ y. Ok (view_by d u (as_sections a) y)))) x.1)
 
   -- of such a view what is known of the functions is what is known of them
   same_answered : {X : Type 0} (r : Result X Error) (f g : LazyFunctions R) → knows_detail offset (known_answer r g) ≡ true → knows_detail offset (known_answer r f) ≡ knows_detail offset (known_functions f)

@@ -1,5 +1,5 @@
 -- The lines of the unit of a number (on specs/AskedUnits.antt and specs/StoredUnits.antt).
-use Rattle.addr2line_units.proofs.Common.{◌≡◌, inl, ℕ, ◌+◌, ◌<◌, ◌≤◌, Bool, true, false, List, length, get_or, slice_get, Option, Some, None, option_map, Result, Ok, Err, refl, sym, ap, subst, ◌∙◌, arith, set, false≢true, IfErr, Error, ExactlyUnlessOom, WasNotRefused, Sections, UnitRecord, LineTable, location_of_row, Scope, FramesStop, UnitLines, UnitCache, AfterCachingAt, AfterRowAt, lines_of_take_memory, lines_take_memory, AreLinesOf, CachesResult, StaysUnit, StayUnits, cached_files, indexed_unit, is_uncached, lines_result, lines_result_at, parsed_units, unit_row, FindsNothing, LookupStop, is_found, location_in, steps_in, has_parsed, AreUnits, seen_units, UnitsState, files_of, row_location}
+use Rattle.addr2line_units.proofs.Common.{◌≡◌, inl, ℕ, ◌+◌, ◌<◌, ◌≤◌, Bool, true, false, List, length, get_or, slice_get, Option, Some, None, option_map, Result, Ok, Err, refl, sym, ap, subst, ◌∙◌, arith, set, false≢true, IfErr, Error, ExactlyUnlessOom, WasNotRefused, Sections, UnitRecord, LineTable, location_of_row, Scope, FramesStop, UnitLines, UnitCache, AfterCachingAt, AfterRowAt, lines_of_take_memory, lines_take_memory, AreLinesOf, CachesResult, StaysUnit, StayUnits, cached_files, indexed_unit, is_uncached, lines_result, lines_result_at, parsed_units, unit_row, FindsNothing, LookupStop, is_found, location_in, steps_in, has_parsed, AreUnits, as_units_state, UnitsState, files_of, row_location}
 use Rattle.addr2line_lines.specs.declared.row.Row.{Row}
 use Rattle.addr2line_units.specs.AfterUnits.{AfterLines}
 use Rattle.addr2line_units.proofs.AskMemoryLemmas.{either_none, none_refused}
@@ -17,7 +17,7 @@ module _ {R : Type 0} {scope : Scope} {cs : List (UnitCache R)} {last : FramesSt
   us = scope.file.units
 
   abbrev old : UnitsState
-  old = seen_units scope cs steps was
+  old = as_units_state scope cs steps was
 
   -- there is no unit of that number
   module _ (none : slice_get us n ≡ None) where
@@ -30,10 +30,10 @@ module _ {R : Type 0} {scope : Scope} {cs : List (UnitCache R)} {last : FramesSt
     pub none_read : lines_result_at d (slice_get old.units n) ≡ Ok tt
     none_read = ap (lines_result_at d) (no_unit us cs n past)
 
-    none_lines : AfterLines (λ k. k ≡ n) old (seen_units scope cs steps FindsNothing)
+    none_lines : AfterLines (λ k. k ≡ n) old (as_units_state scope cs steps FindsNothing)
     none_lines = record { same = refl; many = refl; parsed = λ k e. e; only = λ k e. inl e }
 
-    pub none_after_row : {X : Type 0} → AfterRowAt {X = X} n (Ok None) old (seen_units scope cs steps FindsNothing)
+    pub none_after_row : {X : Type 0} → AfterRowAt {X = X} n (Ok None) old (as_units_state scope cs steps FindsNothing)
     none_after_row = record {
       lines = none_lines;
       ready = λ told. no_parsed cs n past;
@@ -43,7 +43,7 @@ module _ {R : Type 0} {scope : Scope} {cs : List (UnitCache R)} {last : FramesSt
       cost = omega arith;
     }
 
-    pub none_after_caching : (shares : Bool) → AfterCachingAt {X = Unit {0}} shares n (Ok tt) old (seen_units scope cs steps FindsNothing)
+    pub none_after_caching : (shares : Bool) → AfterCachingAt {X = Unit {0}} shares n (Ok tt) old (as_units_state scope cs steps FindsNothing)
     none_after_caching shares = record { lines = none_lines; steps = refl; ready = λ told. no_parsed cs n past; memory = λ none. tt }
 
   module _ {u : UnitRecord} (there : slice_get us n ≡ Some u) where
@@ -68,7 +68,7 @@ module _ {R : Type 0} {scope : Scope} {cs : List (UnitCache R)} {last : FramesSt
           stay : StayUnits cs now
           stay = stay_set cs n c with_lines within at stays
 
-          lines_after : (later : ℕ) → AfterLines (λ k. k ≡ n) old (seen_units scope now later FindsNothing)
+          lines_after : (later : ℕ) → AfterLines (λ k. k ≡ n) old (as_units_state scope now later FindsNothing)
           lines_after later = after_lines scope cs now stay (same_entries_set cs n c with_lines at refl) steps later was (λ k. k ≡ n) (only_set cs n with_lines)
 
           -- the row of an address
@@ -87,7 +87,7 @@ module _ {R : Type 0} {scope : Scope} {cs : List (UnitCache R)} {last : FramesSt
                   ∙ ap cached_files (lines_set cs n with_lines within)
 
           pub row_after : (result : Result (Option Row) Error) (later : ℕ) → CachesResult c.lines.lines result l.lines → (is_uncached l.lines ≡ false → WasNotRefused result) → steps ≤ later → (is_found result ≡ true → steps < later)
-              → later ≤ steps + steps_in d (Some (indexed_unit u c.lines)) → AfterRowAt n result old (seen_units scope now later FindsNothing)
+              → later ≤ steps + steps_in d (Some (indexed_unit u c.lines)) → AfterRowAt n result old (as_units_state scope now later FindsNothing)
           row_after result later caches memory raised counted cost = record {
             lines = lines_after later;
             ready = λ told. parsed_set cs n with_lines within (answer_cached c.lines.lines result l.lines caches told);
@@ -107,7 +107,7 @@ module _ {R : Type 0} {scope : Scope} {cs : List (UnitCache R)} {last : FramesSt
           read_there lines result gives = lines_read d us cs n u c lines result (all_lines i) within (unit_is i n there) at gives
 
           pub caching_after : (shares : Bool) (result : Result (Unit {0}) Error) → (WasNotRefused result → is_uncached l.lines ≡ false) → (is_uncached l.lines ≡ false → WasNotRefused result)
-              → (lines_take_memory shares u ≡ false → IfErr result (λ e. lines_result d u ≡ Err e)) → AfterCachingAt shares n result old (seen_units scope now steps FindsNothing)
+              → (lines_take_memory shares u ≡ false → IfErr result (λ e. lines_result d u ≡ Err e)) → AfterCachingAt shares n result old (as_units_state scope now steps FindsNothing)
           caching_after shares result ready memory alone = record {
             lines = lines_after steps;
             steps = refl;

@@ -1,5 +1,5 @@
 -- The units of a context as they are read (on specs/UnitsState.antt and specs/StoredUnits.antt).
-use Rattle.addr2line_units.proofs.Common.{◌≡◌, List, [], ◌∷◌, map, Option, Some, None, option_map, Result, Ok, Err, refl, sym, ap, subst, ◌∙◌, Error, ◌>>=◌, Sections, SupSections, UnitRecord, all_headers, FileRecord, IsScope, Scope, UnitArange, UnitRange, UnitCache, HaveLinesOf, indexed_units, parsed_units, AreFreshOf, answers_in, FindsNothing, main_scope, units_of, known_in, KnownEntries, NothingKnown, IndexedUnit, RangedUnit, indexed_of, ranged_units, unit_of_header, unit_ranges_from, unit_records, AreUnits, seen_units, aranges_in, UnitsState, first_state, new_units, FirstAnswers}
+use Rattle.addr2line_units.proofs.Common.{◌≡◌, List, [], ◌∷◌, map, Option, Some, None, option_map, Result, Ok, Err, refl, sym, ap, subst, ◌∙◌, Error, ◌>>=◌, Sections, SupSections, UnitRecord, all_headers, FileRecord, IsScope, Scope, UnitArange, UnitRange, UnitCache, HaveLinesOf, indexed_units, parsed_units, AreFreshOf, answers_in, FindsNothing, main_scope, units_of, known_in, KnownEntries, NothingKnown, IndexedUnit, RangedUnit, indexed_of, ranged_units, unit_of_header, unit_ranges_from, unit_records, AreUnits, as_units_state, aranges_in, UnitsState, first_state, new_units, FirstAnswers}
 use Rattle.addr2line_units.specs.declared.frames.FramesStop.TheVariants as stops
 use Rattle.addr2line_units.specs.declared.sup.SupUnits.{SupUnits}
 use Rattle.addr2line_units.specs.Indexed.{IndexState, index_of, index_read}
@@ -86,7 +86,7 @@ module _ {R : Type 0} (d : Sections) (us : List UnitRecord) (cs : List (UnitCach
   abbrev of_index : IndexState → Result State Error
   of_index x = state (main_scope d (record { units = x.units; ranges = x.ranges; sup_units = sup.units.items })) x (no_answers_of (unit_records x.units)) (nothing_known_of (unit_records x.units))
 
-  pub units_made : new_units d ≡ Ok (seen_units (scope_in d us sup) cs 0 FindsNothing, ranges)
+  pub units_made : new_units d ≡ Ok (as_units_state (scope_in d us sup) cs 0 FindsNothing, ranges)
   units_made =
       of_units (ranged_units d) e
       ∙ ap (λ xs. state (main_scope d made) index xs (nothing_known_of (unit_records (indexed_units us cs)))) (sym none)

@@ -1,6 +1,6 @@
 -- What is answered, loaded, listed and forgotten of the unit of a number (on
 -- specs/AfterUnits.antt and specs/StoredUnits.antt).
-use Rattle.addr2line_units.proofs.Common.{◌≡◌, inl, inr, ℕ, ◌<◌, ◌≤◌, Bool, true, false, List, length, get_or, slice_get, Option, Some, None, Result, Ok, Err, refl, sym, ap, ◌∙◌, arith, set, cases_eq, IfErr, OnOk, Error, OutOfMemory, UnknownToken, ◌>>=◌, Sections, UnitRecord, Scope, FramesStop, UnitCache, UnitEntries, AreEntriesOf, StayEntries, first_answer_of, were_read, known_in, HaveSameLines, answers_in, decided_at, is_decided, FindsNothing, LookupStop, answer_of, LearnsNoFunctions, is_open_at, load_of_number, load_result, view_fault, AreUnits, seen_units, UnitsState, awaited_load, decided_answer, is_open, verdict}
+use Rattle.addr2line_units.proofs.Common.{◌≡◌, inl, inr, ℕ, ◌<◌, ◌≤◌, Bool, true, false, List, length, get_or, slice_get, Option, Some, None, Result, Ok, Err, refl, sym, ap, ◌∙◌, arith, set, cases_eq, IfErr, OnOk, Error, OutOfMemory, UnknownToken, ◌>>=◌, Sections, UnitRecord, Scope, FramesStop, UnitCache, UnitEntries, AreEntriesOf, StayEntries, first_answer_of, were_read, known_in, HaveSameLines, answers_in, decided_at, is_decided, FindsNothing, LookupStop, answer_of, LearnsNoFunctions, is_open_at, load_of_number, load_result, view_fault, AreUnits, as_units_state, UnitsState, awaited_load, decided_answer, is_open, verdict}
 use Rattle.std.specs.Prelude.{is_some}
 use Rattle.addr2line_units.specs.AfterUnits.{AfterAnswer, AfterForget, AfterListing, AfterLoad}
 use Rattle.addr2line_units.proofs.AnswerLemmas.{answer_at, answered_if_ok, answers_if_refused, answers_set, decided_there, others_stay, same_set}
@@ -21,7 +21,7 @@ module _ {R : Type 0} {scope : Scope} {held : List (UnitCache R)} {last : Frames
 
   -- there is none
   module _ (none : slice_get us n ≡ None) (given : Option Sections) (steps : ℕ) (was : LookupStop) where
-    pub none_answered : AfterAnswer n given (Ok tt) (seen_units scope held steps was) (seen_units scope held steps FindsNothing)
+    pub none_answered : AfterAnswer n given (Ok tt) (as_units_state scope held steps was) (as_units_state scope held steps FindsNothing)
     none_answered = record {
       stays = refl;
       answers = sym (unknown_answer d us (answers_in held) n given none);
@@ -34,7 +34,7 @@ module _ {R : Type 0} {scope : Scope} {held : List (UnitCache R)} {last : Frames
       beside = as_many i ∙ sym (as_many_answers held);
     }
 
-    pub none_loaded : AfterLoad n given (Err UnknownToken) (seen_units scope held steps was) (seen_units scope held steps FindsNothing)
+    pub none_loaded : AfterLoad n given (Err UnknownToken) (as_units_state scope held steps was) (as_units_state scope held steps FindsNothing)
     none_loaded = record {
       stays = refl;
       answers = λ told. sym (unknown_answer d us (answers_in held) n given none);
@@ -48,7 +48,7 @@ module _ {R : Type 0} {scope : Scope} {held : List (UnitCache R)} {last : Frames
       none = λ e. sym (unknown_load d us (answers_in held) n None none);
     }
 
-    pub none_forgotten : AfterForget n (seen_units scope held steps was) (seen_units scope held steps FindsNothing)
+    pub none_forgotten : AfterForget n (as_units_state scope held steps was) (as_units_state scope held steps FindsNothing)
     none_forgotten = record {
       stays = refl;
       answers = sym (past_set (answers_in held) n None past);
@@ -108,17 +108,17 @@ module _ {R : Type 0} {scope : Scope} {held : List (UnitCache R)} {last : Frames
         fault_told given r e = e ∙ sym (load_is given)
 
         -- its load was listed
-        pub listed_there : (steps : ℕ) (was : LookupStop) → StayEntries v w → UnitLearnsNone v w → AfterListing (λ k. k ≡ n) (seen_units scope held steps was) (seen_units scope now steps FindsNothing)
+        pub listed_there : (steps : ℕ) (was : LookupStop) → StayEntries v w → UnitLearnsNone v w → AfterListing (λ k. k ≡ n) (as_units_state scope held steps was) (as_units_state scope now steps FindsNothing)
         listed_there steps was stay none = after_listing scope held (all_entries i) now same_lines_now steps was (λ k. k ≡ n) (stay_entries_set held n c with_entries within at stay)
             (λ k. elim (cases_eq k n) [ inl is ↦ inr is | inr ne ↦ inl (others_stay held n k with_entries ne) ])
             (set_learns held n c with_entries within at none)
 
         module _ (given : Option Sections) (b : Bool) (some : is_some given ≡ b) (steps : ℕ) (was : LookupStop) where
           abbrev old : UnitsState
-          old = seen_units scope held steps was
+          old = as_units_state scope held steps was
 
           abbrev new : UnitsState
-          new = seen_units scope now steps FindsNothing
+          new = as_units_state scope now steps FindsNothing
 
           module _ (own : AreEntriesOf scope u w) (functions : w.functions ≡ v.functions) (same : is_decided v.view.state ≡ true → w ≡ v) where
             same_decided : decided_at held n ≡ true → now ≡ held
@@ -152,7 +152,7 @@ module _ {R : Type 0} {scope : Scope} {held : List (UnitCache R)} {last : Frames
                 (λ h. absurd (let no = shut (shut_there h) in cc))
                 (λ none. absurd (let f : false ≡ true = ap is_some (sym none) ∙ some ∙ refused.2 in cc)) learns
 
-        pub forgotten_there : (steps : ℕ) (was : LookupStop) → first_answer_of w ≡ None → (first_answer_of v ≡ None → w ≡ v) → (is_some (first_answer_of v) ≡ true → were_read w.functions ≡ false) → AfterForget n (seen_units scope held steps was) (seen_units scope now steps FindsNothing)
+        pub forgotten_there : (steps : ℕ) (was : LookupStop) → first_answer_of w ≡ None → (first_answer_of v ≡ None → w ≡ v) → (is_some (first_answer_of v) ≡ true → were_read w.functions ≡ false) → AfterForget n (as_units_state scope held steps was) (as_units_state scope now steps FindsNothing)
         forgotten_there steps was none same unread = after_forget scope held (all_entries i) now same_lines_now steps was n
             (answers_set held n with_entries ∙ ap (λ a. set (answers_in held) n a) none)
             (λ h. same_set held n c with_entries at (ap (λ e. record c { entries = e }) (same (sym answer_is ∙ h)))) (λ k ne. others_stay held n k with_entries ne)

@@ -1,6 +1,6 @@
 -- What a parse of functions leaves of the unit of a number (on specs/AfterParses.antt and
 -- specs/StoredUnits.antt).
-use Rattle.addr2line_units.proofs.Common.{◌≡◌, ◌∙◌, inl, inr, ℕ, zero, suc, ◌<◌, arith, Bool, true, false, List, [], ◌∷◌, length, get_or, slice_get, Option, Some, None, option_map, Result, Ok, Err, refl, sym, ap, subst, set, slice_get-map, slice_get_past, slice_get_read, IfErr, OnOk, Error, Sections, UnitRecord, Scope, FramesStop, ReadingDepth, UnitCache, UnitEntries, first_answer_of, has_entries, known_by, known_in, HaveSameLines, answers_in, is_decided, was_checked, FindsNothing, LookupStop, answer_of, IsReadyFor, parse_of_takes_memory, parse_takes_memory, read_of_number, read_of_unit, is_open_at, AreUnits, seen_units, UnitsState, FirstAnswers, is_open}
+use Rattle.addr2line_units.proofs.Common.{◌≡◌, ◌∙◌, inl, inr, ℕ, zero, suc, ◌<◌, arith, Bool, true, false, List, [], ◌∷◌, length, get_or, slice_get, Option, Some, None, option_map, Result, Ok, Err, refl, sym, ap, subst, set, slice_get-map, slice_get_past, slice_get_read, IfErr, OnOk, Error, Sections, UnitRecord, Scope, FramesStop, ReadingDepth, UnitCache, UnitEntries, first_answer_of, has_entries, known_by, known_in, HaveSameLines, answers_in, is_decided, was_checked, FindsNothing, LookupStop, answer_of, IsReadyFor, parse_of_takes_memory, parse_takes_memory, read_of_number, read_of_unit, is_open_at, AreUnits, as_units_state, UnitsState, FirstAnswers, is_open}
 use Rattle.std.specs.Prelude.{IfSome, unwrap_or}
 use Rattle.addr2line_units.specs.AfterParses.{AfterReadingAt, AfterReadingUnit}
 use Rattle.addr2line_units.specs.StaysKnown.{IsReadBy, StaysKnownOf}
@@ -73,7 +73,7 @@ module _ {R : Type 0} {scope : Scope} {held : List (UnitCache R)} {last : Frames
   us = scope.file.units
 
   abbrev old : UnitsState
-  old = seen_units scope held steps was
+  old = as_units_state scope held steps was
 
   -- there is no such unit
   module _ (none : slice_get us n ≡ None) where
@@ -87,7 +87,7 @@ module _ {R : Type 0} {scope : Scope} {held : List (UnitCache R)} {last : Frames
         slice_get-map (λ (x : UnitCache R). known_by x.entries.view.state x.entries.functions) held n
         ∙ ap (option_map (λ (x : UnitCache R). known_by x.entries.view.state x.entries.functions)) (slice_get_past held n (omega (arith, past, many)))
 
-    pub none_after : AfterReadingAt shares depth n (Ok tt) old (seen_units scope held steps FindsNothing)
+    pub none_after : AfterReadingAt shares depth n (Ok tt) old (as_units_state scope held steps FindsNothing)
     none_after = record {
       stays = refl;
       answers = λ ne. sym (unknown_answer d us (answers_in held) n None none);
@@ -169,7 +169,7 @@ module _ {R : Type 0} {scope : Scope} {held : List (UnitCache R)} {last : Frames
     same_lines_now : HaveSameLines held now
     same_lines_now = same_lines_set held n c with_entries at refl
 
-    pub after_there : AfterReadingAt shares depth n result old (seen_units scope now steps FindsNothing)
+    pub after_there : AfterReadingAt shares depth n result old (as_units_state scope now steps FindsNothing)
     after_there = record {
       stays = only_entries scope held (all_entries i) now same_lines_now steps was;
       answers = λ ne. answered_all d us held n u c with_entries None (unit_within i n there) within (unit_is i n there) at (a.answer ne);

@@ -1,6 +1,6 @@
 -- Functions and views of which all is known that a parse reads, up to the first fault (on
 -- specs/FunctionParses.antt).
-use Rattle.addr2line_units.proofs.Common.{◌≡◌, ◌≢◌, ◌∙◌, ℕ, zero, suc, Bool, true, List, [], ◌∷◌, Option, Some, Result, Ok, Err, refl, ap, sym, subst, Error, OutOfMemory, ◌>>=◌, WasNotRefused, Sections, UnitRecord, FunctionRange, entries_of, functions_of, Scope, LazyFunctions, ReadingDepth, ViewState, AreReadBefore, IsReadyFor, first_decided, read_of_number, details_at, functions_fault, were_read, is_decided, seen_sections, unboxed, verdict_in, view_by, known_answer, known_by, known_fault, known_functions, AllKnown, NothingKnown, FirstAnswers, View}
+use Rattle.addr2line_units.proofs.Common.{◌≡◌, ◌≢◌, ◌∙◌, ℕ, zero, suc, Bool, true, List, [], ◌∷◌, Option, Some, Result, Ok, Err, refl, ap, sym, subst, Error, OutOfMemory, ◌>>=◌, WasNotRefused, Sections, UnitRecord, FunctionRange, entries_of, functions_of, Scope, LazyFunctions, ReadingDepth, ViewState, AreReadBefore, IsReadyFor, first_decided, read_of_number, details_at, functions_fault, were_read, is_decided, as_sections, unboxed, verdict_in, view_by, known_answer, known_by, known_fault, known_functions, AllKnown, NothingKnown, FirstAnswers, View}
 use Rattle.std.specs.Prelude.{IfSome, if◌then◌else◌, Box}
 use Rattle.std.specs.declared.alloc.Global.{Global}
 use Rattle.addr2line_units.specs.declared.entries.LazyFunctions.TheVariants as lazy
@@ -55,7 +55,7 @@ module _ {R : Type 0} (d : Sections) (u : UnitRecord) (here : Option (Result Vie
   fault_by_view x (states.Unnamed y) f k right e = let both = right ∙ e in let same : y ≡ x = cc in ap known_fault same
   fault_by_view x (states.Answered a) f k right e = by_unit a.unit (right ∙ e)
     where
-      by_unit : (r : Result (Option (Box UnitRecord Global)) Error) → Some (unboxed r >>= λ y. Ok (view_by d u (seen_sections a) y)) ≡ Some (Err x) → known_answer r f ≡ known_fault x
+      by_unit : (r : Result (Option (Box UnitRecord Global)) Error) → Some (unboxed r >>= λ y. Ok (view_by d u (as_sections a) y)) ≡ Some (Err x) → known_answer r f ≡ known_fault x
       by_unit (Ok y) q = absurd cc
       by_unit (Err y) q = let same : y ≡ x = cc in ap known_fault same
 
@@ -66,7 +66,7 @@ module _ {R : Type 0} (d : Sections) (u : UnitRecord) (here : Option (Result Vie
   functions_by_view v (states.Unnamed y) f k right e = let no = right ∙ e in absurd cc
   functions_by_view v (states.Answered a) f k right e = by_unit a.unit (right ∙ e)
     where
-      by_unit : (r : Result (Option (Box UnitRecord Global)) Error) → Some (unboxed r >>= λ y. Ok (view_by d u (seen_sections a) y)) ≡ Some (Ok v) → known_answer r f ≡ known_functions f
+      by_unit : (r : Result (Option (Box UnitRecord Global)) Error) → Some (unboxed r >>= λ y. Ok (view_by d u (as_sections a) y)) ≡ Some (Ok v) → known_answer r f ≡ known_functions f
       by_unit (Ok y) q = refl
       by_unit (Err y) q = absurd cc
 

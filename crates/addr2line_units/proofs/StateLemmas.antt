@@ -1,6 +1,6 @@
 -- What calls leave of the units of a context, by what is cached of them (on specs/AfterUnits.antt
 -- and specs/StoredUnits.antt).
-use Rattle.addr2line_units.proofs.Common.{◌≡◌, ◌≢◌, ◌⊎◌, inl, inr, ℕ, zero, suc, ◌<◌, ◌≤◌, ◌&&◌, ◌||◌, ◌++◌, Bool, true, false, not, List, [], ◌∷◌, length, get_or, slice_get, Option, Some, None, option_map, unwrap_or, Result, Ok, Err, refl, sym, ap, subst, ◌∙◌, eqb_tells, length-map, IfErr, OnOk, Error, OutOfMemory, WasNotRefused, Range, Sections, UnitRecord, Scope, unit_lines, FramesStop, UnitRange, ReadingDepth, LazyLines, UnitCache, has_entries, IsLendable, seen_stop, AreLinesOf, HaveLinesOf, HaveSameEntries, StayUnits, cached_files, cached_spans, indexed_units, is_parsed, is_uncached, lines_at, parsed_units, HaveEntriesOf, HaveSameLines, StayAllEntries, answers_in, decided_at, has_entries_at, waits_at, FindsNothing, LookupStop, Waits, answer_of, ends_lookup, holds_along, with_answer, IsReadyFor, known_in, KnownEntries, LearnsNoFunctions, forgotten, is_open_at, load_result, spans_along, spans_in, spans_or_fault, AreParsed, ParsesOnly, has_parsed, IndexedUnit, seen_units, FramesResult, UnitsState, table_files, files_of, FirstAnswers, SplitLoad, load_of_unit}
+use Rattle.addr2line_units.proofs.Common.{◌≡◌, ◌≢◌, ◌⊎◌, inl, inr, ℕ, zero, suc, ◌<◌, ◌≤◌, ◌&&◌, ◌||◌, ◌++◌, Bool, true, false, not, List, [], ◌∷◌, length, get_or, slice_get, Option, Some, None, option_map, unwrap_or, Result, Ok, Err, refl, sym, ap, subst, ◌∙◌, eqb_tells, length-map, IfErr, OnOk, Error, OutOfMemory, WasNotRefused, Range, Sections, UnitRecord, Scope, unit_lines, FramesStop, UnitRange, ReadingDepth, LazyLines, UnitCache, has_entries, IsLendable, as_stop, AreLinesOf, HaveLinesOf, HaveSameEntries, StayUnits, cached_files, cached_spans, indexed_units, is_parsed, is_uncached, lines_at, parsed_units, HaveEntriesOf, HaveSameLines, StayAllEntries, answers_in, decided_at, has_entries_at, waits_at, FindsNothing, LookupStop, Waits, answer_of, ends_lookup, holds_along, with_answer, IsReadyFor, known_in, KnownEntries, LearnsNoFunctions, forgotten, is_open_at, load_result, spans_along, spans_in, spans_or_fault, AreParsed, ParsesOnly, has_parsed, IndexedUnit, as_units_state, FramesResult, UnitsState, table_files, files_of, FirstAnswers, SplitLoad, load_of_unit}
 use Rattle.std.specs.Prelude.{IfOk, IfSome, is_some}
 use Rattle.addr2line_units.specs.declared.frames.FramePlace.{FramePlace}
 use Rattle.addr2line_units.specs.declared.frames.FramesStop.TheVariants as stops
@@ -21,7 +21,7 @@ some_given f None = refl
 some_given f (Some x) = refl
 
 -- what is stored that waits for a unit waits for one that waits
-pub waits_if_stored : {R : Type 0} (views : List (UnitCache R)) (last : FramesStop) (n : ℕ) → seen_stop views last ≡ Waits n → IsLendable views last → waits_at views n ≡ true
+pub waits_if_stored : {R : Type 0} (views : List (UnitCache R)) (last : FramesStop) (n : ℕ) → as_stop views last ≡ Waits n → IsLendable views last → waits_at views n ≡ true
 waits_if_stored views (stops.Waits k) n e h = subst (λ j. waits_at views j ≡ true) (same_wait e) h
   where
     same_wait : ◌≡◌ {A = LookupStop} (Waits k) (Waits n) → k ≡ n
@@ -90,10 +90,10 @@ module _ {R : Type 0} (scope : Scope) (held : List (UnitCache R)) where
   -- after lines were parsed
   module _ (now : List (UnitCache R)) (stay : StayUnits held now) (same : HaveSameEntries held now) (steps later : ℕ) (was : LookupStop) where
     abbrev before : UnitsState
-    before = seen_units scope held steps was
+    before = as_units_state scope held steps was
 
     abbrev after : UnitsState
-    after = seen_units scope now later FindsNothing
+    after = as_units_state scope now later FindsNothing
 
     abbrev with_units : List IndexedUnit → FirstAnswers → List KnownEntries → UnitsState
     with_units xs answers known = record { scope = scope; units = xs; answers = answers; parsed = parsed_units now; known = known; steps = later; stop = FindsNothing }
@@ -111,10 +111,10 @@ module _ {R : Type 0} (scope : Scope) (held : List (UnitCache R)) where
   -- after answers to loads, and what is known of entries
   module _ (own : HaveEntriesOf scope us held) (entries : List (UnitCache R)) (lines : HaveSameLines held entries) (steps : ℕ) (was : LookupStop) where
     abbrev old : UnitsState
-    old = seen_units scope held steps was
+    old = as_units_state scope held steps was
 
     abbrev new : UnitsState
-    new = seen_units scope entries steps FindsNothing
+    new = as_units_state scope entries steps FindsNothing
 
     abbrev with_lines : List IndexedUnit → List Bool → UnitsState
     with_lines xs bs = record { scope = scope; units = xs; answers = answers_in entries; parsed = bs; known = known_in entries; steps = steps; stop = FindsNothing }

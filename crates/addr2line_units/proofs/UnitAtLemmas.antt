@@ -1,6 +1,6 @@
 -- The unit of a number, what is cached of it, and the units when that is put back (on
 -- specs/StoredUnits.antt).
-use Rattle.addr2line_units.proofs.Common.{◌≡◌, ℕ, ◌<◌, nat_lt, ltb-false, ltb-true, true, false, List, length, get_or, slice_get, Some, None, refl, sym, ap, subst, ◌∙◌, set, length-map, get_or_from_slice_get, slice_get_past, slice_get_read, slice_get_within, UnitRecord, Scope, FramesStop, UnitLines, UnitCache, UnitEntries, CountsUnits, AreEntriesOf, first_answer_of, IsLendable, known_by, AreLinesOf, HaveLinesOf, is_parsed, HaveEntriesOf, LookupStop, AreUnits, seen_units}
+use Rattle.addr2line_units.proofs.Common.{◌≡◌, ℕ, ◌<◌, nat_lt, ltb-false, ltb-true, true, false, List, length, get_or, slice_get, Some, None, refl, sym, ap, subst, ◌∙◌, set, length-map, get_or_from_slice_get, slice_get_past, slice_get_read, slice_get_within, UnitRecord, Scope, FramesStop, UnitLines, UnitCache, UnitEntries, CountsUnits, AreEntriesOf, first_answer_of, IsLendable, known_by, AreLinesOf, HaveLinesOf, is_parsed, HaveEntriesOf, LookupStop, AreUnits, as_units_state}
 use Rattle.addr2line_units.specs.declared.frames.FramesStop.TheVariants as stops
 use Rattle.addr2line_units.proofs.CachedUnitLemmas.{as_many_entries, cache_set, entries_at, entries_right, lines_right}
 use Rattle.addr2line_units.proofs.UnitsLemmas.{as_many_indexed, own_at}
@@ -32,7 +32,7 @@ module _ {R : Type 0} {scope : Scope} {held : List (UnitCache R)} {last : Frames
   pub as_many : length scope.file.units ≡ length held
   as_many = as_many_entries scope scope.file.units held all_entries
 
-  pub counts : {n : ℕ} (steps : ℕ) (was : LookupStop) → n ≡ length held → CountsUnits n (seen_units scope held steps was)
+  pub counts : {n : ℕ} (steps : ℕ) (was : LookupStop) → n ≡ length held → CountsUnits n (as_units_state scope held steps was)
   counts steps was many = record {
     records = many ∙ sym as_many;
     units = many ∙ sym (as_many_indexed scope.file.sections scope.file.units held all_lines);

@@ -1,5 +1,5 @@
 -- The frames in a unit by its functions and its lines (on specs/UnitFrames.antt).
-use Rattle.addr2line_units.proofs.Common.{◌≡◌, ◌≢◌, ◌∙◌, ℕ, ap, sym, refl, subst, not, ◌&&◌, is_ok, is_none, box_value, Bool, true, false, Option, Some, None, option_map, Result, Ok, Err, if◌then◌else◌, Error, OutOfMemory, ◌>>=◌, Sections, UnitRecord, cached_detail, exceeds_inline_room, Location, location_at, location_of_row, Scope, unit_lines, LazyFunctions, LazyLines, UnitLines, UnitEntries, UnitView, ViewState, functions_in_take_memory, lines_take_memory, AreLinesOf, cached_files, is_uncached, no_lines, FoundFunction, found_frames, AreRead, AsksNoMemoryIn, ReadsEntriesOf, StayEntries, has_entries, has_entries_by, StayFunctions, cached_functions, IsViewOf, answer_in, seen_first_answer, waits, was_checked, LocationResult, location_in, asks_lines_in, frames_by, frames_in, function_in, inlined_of_unit, IndexedUnit, is_open}
+use Rattle.addr2line_units.proofs.Common.{◌≡◌, ◌≢◌, ◌∙◌, ℕ, ap, sym, refl, subst, not, ◌&&◌, is_ok, is_none, box_value, Bool, true, false, Option, Some, None, option_map, Result, Ok, Err, if◌then◌else◌, Error, OutOfMemory, ◌>>=◌, Sections, UnitRecord, cached_detail, exceeds_inline_room, Location, location_at, location_of_row, Scope, unit_lines, LazyFunctions, LazyLines, UnitLines, UnitEntries, UnitView, ViewState, functions_in_take_memory, lines_take_memory, AreLinesOf, cached_files, is_uncached, no_lines, FoundFunction, found_frames, AreRead, AsksNoMemoryIn, ReadsEntriesOf, StayEntries, has_entries, has_entries_by, StayFunctions, cached_functions, IsViewOf, answer_in, answer_of_view, waits, was_checked, LocationResult, location_in, asks_lines_in, frames_by, frames_in, function_in, inlined_of_unit, IndexedUnit, is_open}
 use Rattle.addr2line_lines.specs.declared.row.Row.{Row}
 use Rattle.addr2line_lines.specs.Location.{LineTable as Lines}
 use Rattle.addr2line_units.specs.declared.unit.LazyLines.TheVariants as lines
@@ -14,7 +14,7 @@ open_by d u (states.Unnamed e) w h = cc
 open_by d u (states.Answered a) w h = cc
 
 -- a unit whose view waits is open
-pub waiting_stays_open : {R : Type 0} (d : Sections) (u : UnitRecord) (v : UnitView R) → waits v.state ≡ true → IsViewOf d u v → is_open d u (seen_first_answer v) ≡ true
+pub waiting_stays_open : {R : Type 0} (d : Sections) (u : UnitRecord) (v : UnitView R) → waits v.state ≡ true → IsViewOf d u v → is_open d u (answer_of_view v) ≡ true
 waiting_stays_open d u v w h = open_by d u v.state w h
 
 -- of a unit that waits all is known that a lookup asks

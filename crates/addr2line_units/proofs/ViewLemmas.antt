@@ -1,5 +1,5 @@
 -- The views of units (on specs/Views.antt and specs/CachedViews.antt).
-use Rattle.addr2line_units.proofs.Common.{◌≡◌, ◌≢◌, ◌∙◌, ℕ, ap, sym, refl, subst, not, ◌⊎◌, inl, inr, ⊎_elim, ◌||◌, Bool, true, false, List, [], ◌∷◌, Option, Some, None, is_some, is_none, option_map, IfSome, IfOk, Result, Ok, Err, if◌then◌else◌, Error, OutOfMemory, ◌>>=◌, fault_of, Section, Sections, UnitHeaderFields, UnitRecord, attr_string_of, unit_record_of, all_headers, IsScope, Scope, UnitView, ViewState, IsViewOf, answer_in, scope_by, seen_first_answer, seen_sections, split_file_by, split_file_in, split_unit, unboxed, verdict_in, view_by, waits, SplitLoad, View, answered_view, first_of, first_takes_memory, first_unit, first_unit_takes_memory, first_view, load_by, load_of_unit, main_view, split_name_of, verdict, verdict_by, view_scope, memory_or_not}
+use Rattle.addr2line_units.proofs.Common.{◌≡◌, ◌≢◌, ◌∙◌, ℕ, ap, sym, refl, subst, not, ◌⊎◌, inl, inr, ⊎_elim, ◌||◌, Bool, true, false, List, [], ◌∷◌, Option, Some, None, is_some, is_none, option_map, IfSome, IfOk, Result, Ok, Err, if◌then◌else◌, Error, OutOfMemory, ◌>>=◌, fault_of, Section, Sections, UnitHeaderFields, UnitRecord, attr_string_of, unit_record_of, all_headers, IsScope, Scope, UnitView, ViewState, IsViewOf, answer_in, scope_by, answer_of_view, as_sections, split_file_by, split_file_in, split_unit, unboxed, verdict_in, view_by, waits, SplitLoad, View, answered_view, first_of, first_takes_memory, first_unit, first_unit_takes_memory, first_view, load_by, load_of_unit, main_view, split_name_of, verdict, verdict_by, view_scope, memory_or_not}
 use Rattle.gimli_read.specs.declared.value.AttributeValue.{AttributeValue}
 use Rattle.gimli.specs.declared.unit.DwoId.{DwoId}
 use Rattle.gimli.specs.Split.{dwo_name_fault, dwo_name_of, relocated, string_fault_if}
@@ -137,9 +137,9 @@ module _ (shares : Bool) (d : Sections) where
   first_faulty header rest f e h = ap (first_of d) e ∙ ap (λ r. r >>= λ (u : UnitRecord). Ok (Some u)) h
 
 -- an answer with its split unit is the view of a unit that was open
-pub answered_is_right : {R : Type 0} (d : Sections) (u : UnitRecord) (a : AnsweredLoad R) → verdict d u None ≡ None → unboxed a.unit ≡ split_unit u (seen_sections a) → IsViewOf {R = R} d u (record { state = states.Answered a })
+pub answered_is_right : {R : Type 0} (d : Sections) (u : UnitRecord) (a : AnsweredLoad R) → verdict d u None ≡ None → unboxed a.unit ≡ split_unit u (as_sections a) → IsViewOf {R = R} d u (record { state = states.Answered a })
 answered_is_right d u a waiting h = record {
-  right = ap Some (ap (λ r. r >>= λ x. Ok (view_by d u (seen_sections a) x)) h ∙ view_by_split_unit d u (seen_sections a)) ∙ sym (verdict_of_open d u (seen_sections a) waiting);
+  right = ap Some (ap (λ r. r >>= λ x. Ok (view_by d u (as_sections a) x)) h ∙ view_by_split_unit d u (as_sections a)) ∙ sym (verdict_of_open d u (as_sections a) waiting);
   waited = λ _. ap is_none waiting;
 }
 
@@ -190,11 +190,11 @@ scope_in scope d u states.Undecided h = unanswered_scope scope d u (load_of_unit
 scope_in scope d u states.Open h = unanswered_scope scope d u (load_of_unit d 0 u)
 scope_in scope d u states.Main h = unanswered_scope scope d u (load_of_unit d 0 u)
 scope_in scope d u (states.Unnamed e) h = unanswered_scope scope d u (load_of_unit d 0 u)
-scope_in scope d u (states.Answered a) h = subst (λ w. IfSome w (λ view. IfOk view (λ v. scope_by scope (split_file_by (seen_sections a) (unboxed a.unit)) ≡ view_scope scope v))) h (answered_scope scope d u (seen_sections a) (unboxed a.unit))
+scope_in scope d u (states.Answered a) h = subst (λ w. IfSome w (λ view. IfOk view (λ v. scope_by scope (split_file_by (as_sections a) (unboxed a.unit)) ≡ view_scope scope v))) h (answered_scope scope d u (as_sections a) (unboxed a.unit))
 
 -- references lead from a view as its split file says, if it is in one
-pub scope_of_split : {R : Type 0} (scope : Scope) (split : Option Sections) (v : UnitView R) → split ≡ split_file_in v.state → (d : Sections) (u : UnitRecord) → IsViewOf d u v → IfSome (verdict d u (seen_first_answer v)) (λ view. IfOk view (λ x. scope_by scope split ≡ view_scope scope x))
-scope_of_split scope split v e d u h = subst (λ p. IfSome (verdict d u (seen_first_answer v)) (λ view. IfOk view (λ x. scope_by scope p ≡ view_scope scope x))) (sym e) (scope_in scope d u v.state h.right)
+pub scope_of_split : {R : Type 0} (scope : Scope) (split : Option Sections) (v : UnitView R) → split ≡ split_file_in v.state → (d : Sections) (u : UnitRecord) → IsViewOf d u v → IfSome (verdict d u (answer_of_view v)) (λ view. IfOk view (λ x. scope_by scope split ≡ view_scope scope x))
+scope_of_split scope split v e d u h = subst (λ p. IfSome (verdict d u (answer_of_view v)) (λ view. IfOk view (λ x. scope_by scope p ≡ view_scope scope x))) (sym e) (scope_in scope d u v.state h.right)
 
 -- the load of a unit that waits is refused OutOfMemory alone
 pub refused_load : (d : Sections) (n : ℕ) (u : UnitRecord) (may : Bool) (e : Error) → verdict d u None ≡ None → ((may ≡ true → e ≢ OutOfMemory) → load_of_unit d n u ≡ Err e) → e ≡ OutOfMemory

@@ -12,7 +12,7 @@ use Rattle.addr2line_units.specs.AskMemory.{functions_in_take_memory}
 use Rattle.addr2line_units.specs.CachedEntries.{AreEntriesOf, StayEntries, first_answer_of}
 use Rattle.addr2line_units.specs.CachedFunctions.{AreFunctionsOf, ReadsNoDetail, StayFunctions, cached_functions}
 use Rattle.addr2line_units.specs.CachedKnown.{known_by, known_functions}
-use Rattle.addr2line_units.specs.CachedViews.{is_decided, seen_first_answer}
+use Rattle.addr2line_units.specs.CachedViews.{is_decided, answer_of_view}
 use Rattle.addr2line_units.specs.FramesLookup.{with_answer}
 use Rattle.addr2line_units.specs.FunctionParses.{IsReadyFor, IsReadyOf, parse_of_takes_memory, parse_takes_memory, read_of_functions, read_of_number, read_of_unit, read_of_view}
 use Rattle.addr2line_units.specs.KnownEntries.{KnownEntries, LearnsNoDetails, knows_detail}
@@ -60,13 +60,13 @@ pub record AfterReadingView {R : Type 0} (shares : Bool) (depth : ReadingDepth)
   pub right : AreEntriesOf scope u (record { view = view; functions = new })
   pub stay : StayFunctions old new
   pub known : AfterReadingOf depth
-      (read_of_view depth scope (verdict scope.file.sections u (seen_first_answer view))) result
+      (read_of_view depth scope (verdict scope.file.sections u (answer_of_view view))) result
       false (known_by view.state old) false (known_by view.state new)
   pub details : depth ≡ depths.Functions
       → ReadsNoDetail (cached_functions old) (cached_functions new)
-  pub no_memory : functions_in_take_memory shares scope u (seen_first_answer view) ≡ false
+  pub no_memory : functions_in_take_memory shares scope u (answer_of_view view) ≡ false
       → IfErr result (λ e. read_of_view depth scope
-      (verdict scope.file.sections u (seen_first_answer view)) ≡ Err e)
+      (verdict scope.file.sections u (answer_of_view view)) ≡ Err e)
 
 -- the same of a unit, which is decided by none first where it is open; where memory was refused, it
 -- may be

@@ -18,13 +18,13 @@ use Rattle.addr2line_units.specs.AskMemory.{functions_in_take_memory, lines_take
 use Rattle.addr2line_units.specs.CachedLines.{cached_files, is_uncached}
 use Rattle.addr2line_units.specs.Frames.{FrameRecord, found_frames}
 use Rattle.addr2line_units.specs.CachedFunctions.{AreFunctionsOf, ArePlacesIn, ReadsNoOther, StayFunctions, function_of_place, cached_has_function, is_cached_fault, cached_functions, were_read}
-use Rattle.addr2line_units.specs.CachedViews.{IsViewOf, is_decided, seen_first_answer, was_checked}
+use Rattle.addr2line_units.specs.CachedViews.{IsViewOf, is_decided, answer_of_view, was_checked}
 use Rattle.addr2line_units.specs.UnitFrames.{HasFewInlined, asks_lines_in}
 use Rattle.addr2line_units.specs.Views.{verdict, view_scope}
 
 -- the first answer of a unit
 abbrev pub first_answer_of : {R : Type 0} → UnitEntries R → Option (Option Sections)
-first_answer_of v = seen_first_answer v.view
+first_answer_of v = answer_of_view v.view
 
 -- what is cached is the view of the unit and the functions of that view, which are read only where
 -- the view is known

@@ -34,10 +34,10 @@ frames_at_place caches p =
     (option_map (location_of_row (cached_files (lines_at caches p.unit))) p.row)
 
 -- what a lookup comes to, by what is cached
-abbrev pub seen_stop : {R : Type 0} → List (UnitCache R) → FramesStop → LookupStop
-seen_stop caches (stops.Waits n) = Waits n
-seen_stop caches (stops.Finds p) = Finds p.unit (frames_at_place caches p)
-seen_stop caches stops.FindsNothing = FindsNothing
+abbrev pub as_stop : {R : Type 0} → List (UnitCache R) → FramesStop → LookupStop
+as_stop caches (stops.Waits n) = Waits n
+as_stop caches (stops.Finds p) = Finds p.unit (frames_at_place caches p)
+as_stop caches stops.FindsNothing = FindsNothing
 
 -- the places of a function and its inlined ones are among those that are cached of the unit, whose
 -- lines are read

@@ -12,8 +12,8 @@ use Rattle.addr2line_units.specs.declared.unit.ViewState.TheVariants as states
 use Rattle.addr2line_units.specs.Views.{View, first_unit, is_open, main_view, parts_of, split_view, verdict}
 
 -- an answer
-abbrev pub seen_sections : {R : Type 0} → AnsweredLoad R → Option Sections
-seen_sections a = option_map (λ d. d.value) a.sections
+abbrev pub as_sections : {R : Type 0} → AnsweredLoad R → Option Sections
+as_sections a = option_map (λ d. d.value) a.sections
 
 -- the unit that stands in a box, if there is one, or the fault
 abbrev pub unboxed : Result (Option (Box UnitRecord Global)) Error
@@ -22,12 +22,12 @@ unboxed given = result_map (option_map box_value) given
 
 -- the first answer that a state has
 abbrev pub answer_in : {R : Type 0} → ViewState R → Option (Option Sections)
-answer_in (states.Answered a) = Some (seen_sections a)
+answer_in (states.Answered a) = Some (as_sections a)
 answer_in _ = None
 
 -- the first answer of a unit
-abbrev pub seen_first_answer : {R : Type 0} → UnitView R → Option (Option Sections)
-seen_first_answer v = answer_in v.state
+abbrev pub answer_of_view : {R : Type 0} → UnitView R → Option (Option Sections)
+answer_of_view v = answer_in v.state
 
 -- the split unit of an answer: the first unit, with what its main unit relocates
 abbrev pub split_unit : UnitRecord → Option Sections → Result (Option UnitRecord) Error
@@ -41,7 +41,7 @@ view_by d main _ _ = main_view d main
 
 -- the view that is cached of an answer, or the fault
 abbrev pub view_in : {R : Type 0} → Sections → UnitRecord → AnsweredLoad R → Result View Error
-view_in d main a = unboxed a.unit >>= λ x. Ok (view_by d main (seen_sections a) x)
+view_in d main a = unboxed a.unit >>= λ x. Ok (view_by d main (as_sections a) x)
 
 -- what is cached of the verdict: whether the unit is open, and else its view or the fault; none
 -- before the unit was looked at
@@ -77,8 +77,8 @@ is_decided _ = true
 -- what is cached is what the bytes and the first answer give, and only a unit that waited for it
 -- has a first answer
 pub record IsViewOf {R : Type 0} (d : Sections) (u : UnitRecord) (v : UnitView R) : Type 0 where
-  pub right : IfSome (cached_verdict d u v) (λ cached. cached ≡ verdict d u (seen_first_answer v))
-  pub waited : is_some (seen_first_answer v) ≡ true → is_open d u None ≡ true
+  pub right : IfSome (cached_verdict d u v) (λ cached. cached ≡ verdict d u (answer_of_view v))
+  pub waited : is_some (answer_of_view v) ≡ true → is_open d u None ≡ true
 
 -- the sections of the split file that an answer's view is in, if it is in one
 abbrev pub split_file_by : Option Sections → Result (Option UnitRecord) Error → Option Sections
@@ -87,7 +87,7 @@ split_file_by _ _ = None
 
 -- the same of what is cached
 abbrev pub split_file_in : {R : Type 0} → ViewState R → Option Sections
-split_file_in (states.Answered a) = split_file_by (seen_sections a) (unboxed a.unit)
+split_file_in (states.Answered a) = split_file_by (as_sections a) (unboxed a.unit)
 split_file_in _ = None
 
 -- where references lead from a view in a split file, if it is in one

@@ -1,7 +1,7 @@
 -- The frames that an iterator has left, as the private functions see them.
 use Rattle.std.specs.Borrow.{Bor}
 use Rattle.std.specs.Prelude.{ℕ, List, [], ◌∷◌, reverse, slice_get, Option, Some, None, option_map}
-use Rattle.addr2line_units.specs.Common.{DwLang, InlinedEntry, FunctionTable, cached_name, cached_offset_at, LineTable, Location, seen_location}
+use Rattle.addr2line_units.specs.Common.{DwLang, InlinedEntry, FunctionTable, cached_name, cached_offset_at, LineTable, Location, as_location}
 use Rattle.addr2line_units.specs.declared.frames.FrameIter.{FrameIter}
 use Rattle.addr2line_units.specs.declared.frames.FrameState.{FrameState}
 use Rattle.addr2line_units.specs.declared.frames.FrameState.TheVariants.{Empty, Located, Function}
@@ -38,10 +38,10 @@ files_if (Some lines) = lines.now.files
 -- the frames that a state has left
 abbrev pub state_frames : {R : Type 0} → FrameState R → List FrameRecord
 state_frames Empty = []
-state_frames (Located l) = location_frames (option_map seen_location l)
+state_frames (Located l) = location_frames (option_map as_location l)
 state_frames (Function f) =
     frames_inside (files_if f.lines) f.language f.functions.now f.place (reverse f.inlined.now)
-    (option_map seen_location f.location)
+    (option_map as_location f.location)
 
 -- the frames that are left
 abbrev pub frames_left : {R : Type 0} → FrameIter R → List FrameRecord

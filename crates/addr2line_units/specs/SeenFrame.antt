@@ -1,7 +1,7 @@
 -- Frames as contracts see them, and the texts of their names.
 -- Own: a name that is no UTF-8 has U+FFFD for each piece that isn't.
 use Rattle.std.specs.Prelude.{◌≡◌, ℕ, List, [], ◌∷◌, Option, Some, None, option_map, unwrap_or, Result, Ok, Err}
-use Rattle.addr2line_units.specs.Common.{Error, Section, seen_location}
+use Rattle.addr2line_units.specs.Common.{Error, Section, as_location}
 use Rattle.gimli_read.specs.Text.{lossy_text}
 use Rattle.addr2line_units.specs.declared.frames.Frame.{Frame}
 use Rattle.addr2line_units.specs.declared.frames.FunctionName.{FunctionName}
@@ -9,15 +9,15 @@ use Rattle.addr2line_units.specs.Frames.{FrameRecord, NameRecord}
 use Rattle.addr2line_units.specs.LegacyText.{demangled_auto}
 
 -- a name
-abbrev pub seen_name : {R : Type 0} → (R → Section) → FunctionName R → NameRecord
-seen_name see n = record { name = see n.name.now; language = n.language }
+abbrev pub as_name : {R : Type 0} → (R → Section) → FunctionName R → NameRecord
+as_name see n = record { name = see n.name.now; language = n.language }
 
 -- a frame
-abbrev pub seen_frame : {R : Type 0} → (R → Section) → Frame R → FrameRecord
-seen_frame see f = record {
+abbrev pub as_frame : {R : Type 0} → (R → Section) → Frame R → FrameRecord
+as_frame see f = record {
   offset = option_map (λ o. o.0) f.dw_die_offset;
-  function = option_map (seen_name see) f.function;
-  location = option_map seen_location f.location;
+  function = option_map (as_name see) f.function;
+  location = option_map as_location f.location;
 }
 
 -- the text of a name as the file has it

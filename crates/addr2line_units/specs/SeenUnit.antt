@@ -5,13 +5,13 @@ use Rattle.addr2line_units.specs.Common.{Sections, UnitRecord, FileRecord, Scope
 use Rattle.addr2line_units.specs.declared.sup.SupUnits.{SupUnits}
 
 -- the sections and the unit of a reference
-abbrev pub seen_unit : {R : Type 0} → UnitRef R → Sections × UnitRecord
-seen_unit r = (r.dwarf.now, r.unit.now)
+abbrev pub as_unit : {R : Type 0} → UnitRef R → Sections × UnitRecord
+as_unit r = (r.dwarf.now, r.unit.now)
 
 -- what a lookup of a unit that has ended has found
-abbrev pub seen_found : {R : Type 0} → Option (UnitRef R)
+abbrev pub as_found_unit : {R : Type 0} → Option (UnitRef R)
     → Option (Option (Sections × UnitRecord))
-seen_found found = Some (option_map seen_unit found)
+as_found_unit found = Some (option_map as_unit found)
 
 -- where references to the supplementary file lead, if there is one
 abbrev pub sup_file : {R : Type 0} → SupUnits R → Option FileRecord

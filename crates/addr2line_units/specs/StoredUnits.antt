@@ -17,8 +17,8 @@ abbrev pub scope_of : {R : Type 0} → Sources R → Scope
 scope_of s = scope_in s.dwarf.value s.units.items s.sup
 
 -- units by what is cached of them
-abbrev pub seen_units : {R : Type 0} → Scope → List (UnitCache R) → ℕ → LookupStop → UnitsState
-seen_units scope caches steps stop = record {
+abbrev pub as_units_state : {R : Type 0} → Scope → List (UnitCache R) → ℕ → LookupStop → UnitsState
+as_units_state scope caches steps stop = record {
   scope = scope;
   units = indexed_units scope.file.units caches;
   answers = answers_in caches;

@@ -2,7 +2,7 @@
 
 ghost use Rattle.std.specs.Prelude.{◌≡◌, ◌≢◌, ◌&&◌, ℕ, Err, IfErr, IfOk, IfSome, Ok, OnOk, false, option_map, true, ◌≤◌, None};
 ghost use Rattle.std.specs.List.{AllByRecursion};
-ghost use Rattle.addr2line_units.specs.Common.{OutOfMemory, ExactlyUnlessOomIf, ExactlyUnlessOom, WasNotRefused, functions_of, functions_take_memory, exceeds_inline_room, IsScope, seen_scope};
+ghost use Rattle.addr2line_units.specs.Common.{OutOfMemory, ExactlyUnlessOomIf, ExactlyUnlessOom, WasNotRefused, functions_of, functions_take_memory, exceeds_inline_room, IsScope, as_scope};
 ghost use Rattle.addr2line_lines.specs.FunctionDetails.{AreUnread, HasDetail, IsTableMore};
 ghost use Rattle.addr2line_units.specs.Frames.{function_at};
 ghost use Rattle.addr2line_units.specs.FunctionParses.{IsReadyFor};
@@ -13,7 +13,7 @@ ghost use Rattle.addr2line_units.specs.CachedLines.{AreLinesOf, StaysUnit, index
 ghost use Rattle.addr2line_units.specs.AskMemory.{functions_in_take_memory};
 ghost use Rattle.addr2line_units.specs.CachedEntries.{AreEntriesOf, AreFramesIn, AsksNoMemoryIn, AreFresh, HasAskedLines, ReadsEntriesOf, StayEntries, frames_of_place, has_entries, has_entries_by, first_answer_of};
 ghost use Rattle.addr2line_units.specs.EmptyUnits.{has_nothing};
-ghost use Rattle.addr2line_units.specs.CachedViews.{is_decided, seen_first_answer, waits, was_checked};
+ghost use Rattle.addr2line_units.specs.CachedViews.{is_decided, answer_of_view, waits, was_checked};
 ghost use Rattle.addr2line_units.specs.Views.{is_open};
 ghost use Rattle.addr2line_units.specs.declared.parses.ReadingDepth.TheVariants as depths;
 
@@ -52,7 +52,7 @@ fn read_functions<R: Reader>(
     scope: Scope<'_, R>,
     view: &Unit<R>,
 ) -> Result<LazyFunctions<R>, Error>
-    ensures right { IfOk result (AreFunctionsOf (seen_scope scope.entry) view.now) }
+    ensures right { IfOk result (AreFunctionsOf (as_scope scope.entry) view.now) }
     ensures read { IfOk result (λ f. were_read f ≡ true) }
     ensures empty { IfOk result (λ f. AreUnread (cached_functions f)) }
     ensures refused { IfErr result (λ e. e ≡ OutOfMemory) }
@@ -80,14 +80,14 @@ fn find_place<R: Reader>(
     view: &Unit<R>,
     probe: u64,
 ) -> Result<Option<FunctionPlace>, Error>
-    requires in_order { IsScope (seen_scope scope) }
-    requires right { IsTableOf (seen_scope scope) view.now functions.old }
+    requires in_order { IsScope (as_scope scope) }
+    requires right { IsTableOf (as_scope scope) view.now functions.old }
     ensures gives { ExactlyUnlessOomIf
         (table_takes_memory probe functions.old && table_takes_memory probe functions.new)
         (option_map (function_of_place functions.new)) result
-        (function_at (seen_scope scope.entry) view.now probe) }
+        (function_at (as_scope scope.entry) view.now probe) }
     ensures there { IfOk result (λ found. IfSome found (ArePlacesIn functions.new)) }
-    ensures right { IsTableOf (seen_scope scope.entry) view.now functions.new }
+    ensures right { IsTableOf (as_scope scope.entry) view.now functions.new }
     ensures after { IsTableMore functions.old functions.new }
     ensures within { ReadsNoOther probe functions.old functions.new }
     ensures ready { result ≢ Err OutOfMemory
@@ -97,7 +97,7 @@ fn find_place<R: Reader>(
     ensures known { WasNotRefused result → has_table probe functions.new ≡ true }
     ensures memory { has_table probe functions.new ≡ true
         → exceeds_inline_room
-        (inlined_of_found (function_at (seen_scope scope.entry) view.now probe)) ≡ false
+        (inlined_of_found (function_at (as_scope scope.entry) view.now probe)) ≡ false
         → WasNotRefused result }
 {
     let Some(place) = functions.find(probe) else {
@@ -124,8 +124,8 @@ impl<R: Reader> LazyFunctions<R> {
         scope: Scope<'_, R>,
         view: &Unit<R>,
     ) -> Result<(), Error>
-        requires right { AreFunctionsOf (seen_scope scope) view.now self.old }
-        ensures right { AreFunctionsOf (seen_scope scope.entry) view.now self.new }
+        requires right { AreFunctionsOf (as_scope scope) view.now self.old }
+        ensures right { AreFunctionsOf (as_scope scope.entry) view.now self.new }
         ensures read { OnOk result (were_read self.new ≡ true) }
         ensures empty { were_read self.old ≡ false → AreUnread (cached_functions self.new) }
         ensures kept { were_read self.old ≡ true → (self.new ≡ self.old) × (result ≡ Ok tt) }
@@ -153,26 +153,26 @@ impl<R: Reader> LazyFunctions<R> {
         view: &Unit<R>,
         probe: u64,
     ) -> Result<Option<FunctionPlace>, Error>
-        requires in_order { IsScope (seen_scope scope) }
-        requires right { AreFunctionsOf (seen_scope scope) view.now self.old }
+        requires in_order { IsScope (as_scope scope) }
+        requires right { AreFunctionsOf (as_scope scope) view.now self.old }
         ensures gives { ExactlyUnlessOomIf
-            (find_takes_memory R.shares (seen_scope scope.entry) view.now probe self.old
-            && find_takes_memory R.shares (seen_scope scope.entry) view.now probe self.new)
-            (found_in_cache self.new) result (function_at (seen_scope scope.entry) view.now probe) }
+            (find_takes_memory R.shares (as_scope scope.entry) view.now probe self.old
+            && find_takes_memory R.shares (as_scope scope.entry) view.now probe self.new)
+            (found_in_cache self.new) result (function_at (as_scope scope.entry) view.now probe) }
         ensures there { IfOk result (λ found.
             IfSome found (ArePlacesIn (cached_functions self.new))) }
-        ensures right { AreFunctionsOf (seen_scope scope.entry) view.now self.new }
+        ensures right { AreFunctionsOf (as_scope scope.entry) view.now self.new }
         ensures after { StayFunctions self.old self.new }
         ensures within { ReadsNoOther probe (cached_functions self.old)
             (cached_functions self.new) }
         ensures ready { result ≢ Err OutOfMemory
-            → find_takes_memory R.shares (seen_scope scope.entry) view.now probe self.new
+            → find_takes_memory R.shares (as_scope scope.entry) view.now probe self.new
             ≡ exceeds_inline_room (cached_inlined_at probe (cached_functions self.new)) }
         ensures kept { cached_has_function probe self.old ≡ true → self.new ≡ self.old }
         ensures known { WasNotRefused result → cached_has_function probe self.new ≡ true }
         ensures memory { cached_has_function probe self.new ≡ true
             → exceeds_inline_room
-            (inlined_of_found (function_at (seen_scope scope.entry) view.now probe)) ≡ false
+            (inlined_of_found (function_at (as_scope scope.entry) view.now probe)) ≡ false
             → WasNotRefused result }
     {
         self.cache(alloc, scope, view)?;
@@ -196,25 +196,25 @@ impl<R: Reader> LazyFunctions<R> {
         scope: Scope<'_, R>,
         view: &Unit<R>,
     ) -> Result<(), Error>
-        requires in_order { IsScope (seen_scope scope) }
-        requires right { AreFunctionsOf (seen_scope scope) view.now self.old }
+        requires in_order { IsScope (as_scope scope) }
+        requires right { AreFunctionsOf (as_scope scope) view.now self.old }
         ensures gives { ExactlyUnlessOomIf
-            (reading_takes_memory R.shares (seen_scope scope.entry) view.now self.old) (λ x. x)
-            result (functions_fault (seen_scope scope.entry) view.now) }
-        ensures right { AreFunctionsOf (seen_scope scope.entry) view.now self.new }
+            (reading_takes_memory R.shares (as_scope scope.entry) view.now self.old) (λ x. x)
+            result (functions_fault (as_scope scope.entry) view.now) }
+        ensures right { AreFunctionsOf (as_scope scope.entry) view.now self.new }
         ensures after { StayFunctions self.old self.new }
         ensures read { OnOk result (were_read self.new ≡ true) }
         ensures known { OnOk result
             (AllByRecursion HasDetail (cached_functions self.new).functions) }
         ensures ready { OnOk result ((probe : ℕ)
-            → find_takes_memory R.shares (seen_scope scope.entry) view.now probe self.new
+            → find_takes_memory R.shares (as_scope scope.entry) view.now probe self.new
             ≡ exceeds_inline_room (cached_inlined_at probe (cached_functions self.new))) }
         ensures whole { WasNotRefused result
             → IsReadyFor depths.Details (known_functions self.new) }
         ensures memory { IsReadyFor depths.Details (known_functions self.new)
             → WasNotRefused result }
         ensures exact { IsReadyFor depths.Details (known_functions self.old)
-            → result ≡ functions_fault (seen_scope scope.entry) view.now }
+            → result ≡ functions_fault (as_scope scope.entry) view.now }
         ensures kept { IsReadyFor depths.Details (known_functions self.old)
             → self.new ≡ self.old }
     {
@@ -276,15 +276,15 @@ fn find_in_view<'x, R: Reader>(
     dw_unit: &'x Unit<R>,
     probe: u64,
 ) -> Result<Option<FunctionPlace>, Error>
-    requires in_order { IsScope (seen_scope scope) }
-    requires right { AreEntriesOf (seen_scope scope) dw_unit.now
+    requires in_order { IsScope (as_scope scope) }
+    requires right { AreEntriesOf (as_scope scope) dw_unit.now
         (record { view = view.now; functions = functions.old }) }
     requires decided { is_decided view.now.state ≡ true }
     ensures gives { ExactlyUnlessOom (found_in_cache functions.new) result
-        (function_in (seen_scope scope.entry) dw_unit.now (seen_first_answer view.now) probe) }
+        (function_in (as_scope scope.entry) dw_unit.now (answer_of_view view.now) probe) }
     ensures there { IfOk result (λ found. IfSome found
         (ArePlacesIn (cached_functions functions.new))) }
-    ensures right { AreEntriesOf (seen_scope scope.entry) dw_unit.now
+    ensures right { AreEntriesOf (as_scope scope.entry) dw_unit.now
         (record { view = view.now; functions = functions.new }) }
     ensures after { StayFunctions functions.old functions.new }
     ensures within { ReadsNoOther probe (cached_functions functions.old)
@@ -294,11 +294,11 @@ fn find_in_view<'x, R: Reader>(
     ensures ready { WasNotRefused result
         → has_entries_by probe view.now.state functions.new ≡ true }
     ensures memory { has_entries_by probe view.now.state functions.new ≡ true
-        → HasFewInlined (seen_scope scope.entry) dw_unit.now (seen_first_answer view.now) probe
+        → HasFewInlined (as_scope scope.entry) dw_unit.now (answer_of_view view.now) probe
         → WasNotRefused result }
-    ensures no_memory { functions_in_take_memory R.shares (seen_scope scope.entry) dw_unit.now
-        (seen_first_answer view.now) ≡ false → IfErr result (λ e. function_in
-        (seen_scope scope.entry) dw_unit.now (seen_first_answer view.now) probe ≡ Err e) }
+    ensures no_memory { functions_in_take_memory R.shares (as_scope scope.entry) dw_unit.now
+        (answer_of_view view.now) ≡ false → IfErr result (λ e. function_in
+        (as_scope scope.entry) dw_unit.now (answer_of_view view.now) probe ≡ Err e) }
 {
     let unit = view.unit_ref(scope.file.dwarf, dw_unit)?;
     functions.find(alloc, view.scope_of(scope), unit.unit, probe)
@@ -318,8 +318,8 @@ impl<R: Reader> UnitEntries<R> {
 
     // Looks whether the unit waits for an answer, unless that was done. Takes no memory.
     pub(crate) fn check_split(&mut self, scope: Scope<'_, R>, dw_unit: &Unit<R>)
-        requires right { AreEntriesOf (seen_scope scope) dw_unit.now self.old }
-        ensures right { AreEntriesOf (seen_scope scope.entry) dw_unit.now self.new }
+        requires right { AreEntriesOf (as_scope scope) dw_unit.now self.old }
+        ensures right { AreEntriesOf (as_scope scope.entry) dw_unit.now self.new }
         ensures known { was_checked self.new.view.state ≡ true }
         ensures after { StayEntries self.old self.new }
         ensures functions { self.new.functions ≡ self.old.functions }
@@ -341,24 +341,24 @@ impl<R: Reader> UnitEntries<R> {
         dw_unit: &'x Unit<R>,
         probe: u64,
     ) -> Result<Option<FunctionPlace>, Error>
-        requires in_order { IsScope (seen_scope scope) }
-        requires right { AreEntriesOf (seen_scope scope) dw_unit.now self.old }
+        requires in_order { IsScope (as_scope scope) }
+        requires right { AreEntriesOf (as_scope scope) dw_unit.now self.old }
         requires checked { was_checked self.old.view.state ≡ true }
         requires decided { waits self.old.view.state ≡ false }
         ensures gives { ExactlyUnlessOom (found_in_cache self.new.functions) result
-            (function_in (seen_scope scope.entry) dw_unit.now (first_answer_of self.old) probe) }
+            (function_in (as_scope scope.entry) dw_unit.now (first_answer_of self.old) probe) }
         ensures there { IfOk result (λ found. IfSome found
             (ArePlacesIn (cached_functions self.new.functions))) }
-        ensures right { AreEntriesOf (seen_scope scope.entry) dw_unit.now self.new }
+        ensures right { AreEntriesOf (as_scope scope.entry) dw_unit.now self.new }
         ensures after { StayEntries self.old self.new }
         ensures within { ReadsEntriesOf probe self.old self.new }
         ensures ready { WasNotRefused result → has_entries probe self.new ≡ true }
         ensures memory { has_entries probe self.new ≡ true
-            → HasFewInlined (seen_scope scope.entry) dw_unit.now (first_answer_of self.old) probe
+            → HasFewInlined (as_scope scope.entry) dw_unit.now (first_answer_of self.old) probe
             → WasNotRefused result }
-        ensures no_memory { functions_in_take_memory R.shares (seen_scope scope.entry) dw_unit.now
+        ensures no_memory { functions_in_take_memory R.shares (as_scope scope.entry) dw_unit.now
             (first_answer_of self.old) ≡ false → IfErr result (λ e. function_in
-            (seen_scope scope.entry) dw_unit.now (first_answer_of self.old) probe ≡ Err e) }
+            (as_scope scope.entry) dw_unit.now (first_answer_of self.old) probe ≡ Err e) }
     {
         let UnitEntries { view, functions } = self;
         find_in_view(alloc, view, functions, scope, dw_unit, probe)
@@ -381,30 +381,30 @@ pub(crate) fn find_frames_in<'x, R: Reader>(
     steps: &mut Count,
     probe: u64,
 ) -> Result<UnitFrames, Error>
-    requires in_order { IsScope (seen_scope scope) }
+    requires in_order { IsScope (as_scope scope) }
     requires read { AreLinesOf scope.file.dwarf.now dw_unit.now unit.old.lines }
-    requires right { AreEntriesOf (seen_scope scope) dw_unit.now entries.old }
+    requires right { AreEntriesOf (as_scope scope) dw_unit.now entries.old }
     ensures gives { ExactlyUnlessOom (frames_of_place unit.new entries.new) result
-        (frames_in (seen_scope scope.entry) (indexed_unit dw_unit.now unit.old)
+        (frames_in (as_scope scope.entry) (indexed_unit dw_unit.now unit.old)
         (first_answer_of entries.old) probe) }
     ensures there { IfOk result (AreFramesIn unit.new entries.new) }
     ensures read { AreLinesOf scope.entry.file.dwarf.now dw_unit.now unit.new.lines }
-    ensures right { AreEntriesOf (seen_scope scope.entry) dw_unit.now entries.new }
+    ensures right { AreEntriesOf (as_scope scope.entry) dw_unit.now entries.new }
     ensures unit { StaysUnit unit.old unit.new }
     ensures after { StayEntries entries.old entries.new }
     ensures within { ReadsEntriesOf probe entries.old entries.new }
-    ensures kept { asks_lines_in (seen_scope scope.entry) dw_unit.now (first_answer_of entries.old)
+    ensures kept { asks_lines_in (as_scope scope.entry) dw_unit.now (first_answer_of entries.old)
         probe ≡ false → unit.new ≡ unit.old }
     ensures ready { WasNotRefused result → has_entries probe entries.new ≡ true }
-    ensures known { WasNotRefused result → HasAskedLines (seen_scope scope.entry) dw_unit.now
+    ensures known { WasNotRefused result → HasAskedLines (as_scope scope.entry) dw_unit.now
         (first_answer_of entries.old) probe unit.new.lines }
     ensures memory { has_entries probe entries.new ≡ true
-        → HasAskedLines (seen_scope scope.entry) dw_unit.now (first_answer_of entries.old) probe
-        unit.new.lines → HasFewInlined (seen_scope scope.entry) dw_unit.now
+        → HasAskedLines (as_scope scope.entry) dw_unit.now (first_answer_of entries.old) probe
+        unit.new.lines → HasFewInlined (as_scope scope.entry) dw_unit.now
         (first_answer_of entries.old) probe → WasNotRefused result }
-    ensures no_memory { AsksNoMemoryIn R.shares (seen_scope scope.entry) dw_unit.now
+    ensures no_memory { AsksNoMemoryIn R.shares (as_scope scope.entry) dw_unit.now
         (first_answer_of entries.old) probe unit.new entries.new → IfErr result (λ e. frames_in
-        (seen_scope scope.entry) (indexed_unit dw_unit.now unit.old) (first_answer_of entries.old)
+        (as_scope scope.entry) (indexed_unit dw_unit.now unit.old) (first_answer_of entries.old)
         probe ≡ Err e) }
     ensures steps { steps.old ≤ steps.new }
 {

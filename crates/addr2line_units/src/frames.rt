@@ -7,13 +7,13 @@ ghost use Rattle.std.specs.Iterator.{YieldsFirst};
 ghost use Rattle.std.specs.List.{AllByRecursion};
 ghost use Rattle.std.specs.Option.{option_copied};
 ghost use Rattle.std.specs.Str.{IsUtf8};
-ghost use Rattle.addr2line_units.specs.Common.{OutOfMemory, result_map, ExactlyUnlessOom, cached_name, cached_offset_at, seen_location, location_of_row, seen_file};
+ghost use Rattle.addr2line_units.specs.Common.{OutOfMemory, result_map, ExactlyUnlessOom, cached_name, cached_offset_at, as_location, location_of_row, as_file_record};
 ghost use Rattle.addr2line_lines.specs.FoundInlined.{entry_among};
-ghost use Rattle.addr2line_lines.specs.SeenInlined.{seen_inlined};
+ghost use Rattle.addr2line_lines.specs.SeenInlined.{as_inlined};
 ghost use Rattle.addr2line_units.specs.Frames.{call_location, found_frames, frames_from, if_counted, location_frames};
 ghost use Rattle.addr2line_units.specs.FramesLeft.{entry_frame, files_if, frames_left, place_frame};
 ghost use Rattle.addr2line_units.specs.CachedFunctions.{ArePlacesIn, function_of_place, cached_functions};
-ghost use Rattle.addr2line_units.specs.SeenFrame.{YieldsFrame, language_text, name_text, raw_text, seen_frame, seen_name};
+ghost use Rattle.addr2line_units.specs.SeenFrame.{YieldsFrame, language_text, name_text, raw_text, as_frame, as_name};
 ghost use Rattle.addr2line_units.specs.AfterUnits.{AfterWalk, IsFaultAlong, AfterAnswer};
 ghost use Rattle.addr2line_units.specs.AskedUnits.{AfterAsk, found_stop, has_stopped, stop_at};
 ghost use Rattle.addr2line_units.specs.EmptyUnits.{HasNothingAt};
@@ -25,7 +25,7 @@ ghost use Rattle.addr2line_units.specs.AnswerMemory.{answer_takes_memory};
 ghost use Rattle.addr2line_units.specs.CachedEntries.{AreRead};
 ghost use Rattle.addr2line_units.specs.CachedLines.{cached_files};
 ghost use Rattle.addr2line_units.specs.Loads.{load_result};
-ghost use Rattle.addr2line_units.specs.SeenUnit.{seen_unit, sup_file};
+ghost use Rattle.addr2line_units.specs.SeenUnit.{as_unit, sup_file};
 ghost use Rattle.addr2line_units.specs.Views.{load_of_unit};
 
 use crate::entries::{FunctionPlace, LazyFunctions, UnitCache, UnitFrames, find_frames_in};
@@ -60,7 +60,7 @@ impl<'ctx, R: Reader> FunctionName<'ctx, R> {
     /// Refused `OutOfMemory` alone, and never where the name is UTF-8. Source: own.
     pub fn raw_name(&self, alloc: Global) -> Result<CowStr<'ctx>, Error>
         ensures gives { IfOk result (λ text. cow_str_bytes text
-            ≡ raw_text (seen_name R.section self.now)) }
+            ≡ raw_text (as_name R.section self.now)) }
         ensures exact { IsUtf8 (R.section self.now.name.now).bytes → IsOk result }
         ensures refused { IsOkUnless result OutOfMemory }
     {
@@ -74,10 +74,10 @@ impl<'ctx, R: Reader> FunctionName<'ctx, R> {
     /// language. Source: own.
     pub fn demangle(&self, alloc: Global) -> Result<CowStr<'ctx>, Error>
         ensures gives { IfOk result (λ text. cow_str_bytes text
-            ≡ name_text (seen_name R.section self.now)) }
+            ≡ name_text (as_name R.section self.now)) }
         ensures refused { IsOkUnless result OutOfMemory }
         ensures none { IsUtf8 (R.section self.now.name.now).bytes
-            → language_text (seen_name R.section self.now) ≡ None → IsOk result }
+            → language_text (as_name R.section self.now) ≡ None → IsOk result }
     {
         let name = self.raw_name(alloc)?;
         demangle_auto(alloc, name, self.language)
@@ -116,8 +116,8 @@ fn call_location<'ctx, R: Reader>(
     lines: Option<&'ctx Lines>,
     entry: InlinedFunction<'_, R>,
 ) -> Location<'ctx>
-    ensures gives { seen_location result
-        ≡ call_location (files_if lines.entry) (seen_inlined R.section entry.entry).call }
+    ensures gives { as_location result
+        ≡ call_location (files_if lines.entry) (as_inlined R.section entry.entry).call }
 {
     Location {
         file: call_file(lines, entry.call_file),
@@ -153,7 +153,7 @@ struct FunctionFrames<'ctx, R: Reader> {
 impl<'ctx, R: Reader> FunctionFrames<'ctx, R> {
     // The name of a function.
     fn function_name(&self, name: Option<&'ctx R>) -> Option<FunctionName<'ctx, R>>
-        ensures gives { option_map (seen_name R.section) result ≡ option_map
+        ensures gives { option_map (as_name R.section) result ≡ option_map
             (λ n. record { name = R.section n.now; language = self.now.language }) name.entry }
     {
         Some(FunctionName {
@@ -164,9 +164,9 @@ impl<'ctx, R: Reader> FunctionFrames<'ctx, R> {
 
     // The frame of an inlined function; without one a frame with neither offset nor function.
     fn inlined_frame(&self, entry: Option<InlinedFunction<'ctx, R>>) -> Frame<'ctx, R>
-        ensures gives { seen_frame R.section result ≡ entry_frame self.now.language
-            (option_map (seen_inlined R.section) entry.entry)
-            (option_map seen_location self.now.location) }
+        ensures gives { as_frame R.section result ≡ entry_frame self.now.language
+            (option_map (as_inlined R.section) entry.entry)
+            (option_map as_location self.now.location) }
     {
         match entry {
             Some(entry) => Frame {
@@ -184,8 +184,8 @@ impl<'ctx, R: Reader> FunctionFrames<'ctx, R> {
 
     // Where an inlined function was called.
     fn call_of(&self, entry: Option<InlinedFunction<'ctx, R>>) -> Option<Location<'ctx>>
-        ensures gives { option_map seen_location result ≡ option_map
-            (λ e. call_location (files_if self.now.lines) (seen_inlined R.section e).call)
+        ensures gives { option_map as_location result ≡ option_map
+            (λ e. call_location (files_if self.now.lines) (as_inlined R.section e).call)
             entry.entry }
     {
         Some(call_location(self.lines, entry?))
@@ -193,8 +193,8 @@ impl<'ctx, R: Reader> FunctionFrames<'ctx, R> {
 
     // The frame of the function itself.
     fn own_frame(&self) -> Frame<'ctx, R>
-        ensures gives { seen_frame R.section result ≡ place_frame self.now.language
-            self.now.functions.now self.now.place (option_map seen_location self.now.location) }
+        ensures gives { as_frame R.section result ≡ place_frame self.now.language
+            self.now.functions.now self.now.place (option_map as_location self.now.location) }
     {
         let functions = self.functions;
         Frame {
@@ -234,7 +234,7 @@ impl<'ctx, R: Reader> FrameIter<'ctx, R> {
     /// The frame of a location without a function; none without a location. Takes no memory.
     pub fn new_location(location: Option<Location<'ctx>>) -> FrameIter<'ctx, R>
         ensures gives { frames_left result
-            ≡ location_frames (option_map seen_location location.entry) }
+            ≡ location_frames (option_map as_location location.entry) }
     {
         FrameIter {
             state: FrameState::Located(location),
@@ -261,7 +261,7 @@ impl<'ctx, R: Reader> FrameIter<'ctx, R> {
         ensures gives { IfSome (cached_offset_at functions.now place) (λ offset. frames_left result
             ≡ frames_from (files_if lines.entry) language offset (cached_name functions.now place)
             (reverse (map (entry_among functions.now.inlined) inlined.now))
-            (option_map seen_location location.entry)) }
+            (option_map as_location location.entry)) }
         ensures whole { length (frames_left result) ≡ length inlined.now + 1 }
     {
         FrameIter {
@@ -284,7 +284,7 @@ impl<'ctx, R: Reader> FrameIter<'ctx, R> {
     /// is no line and column 0 no column, and that a file past the files of the main unit is none.
     pub fn next(&mut self) -> Result<Option<Frame<'ctx, R>>, Error>
         ensures gives { YieldsFrame (frames_left self.old)
-            (result_map (option_map (seen_frame R.section)) result) (frames_left self.new) }
+            (result_map (option_map (as_frame R.section)) result) (frames_left self.new) }
     {
         match mem::replace(&mut self.state, FrameState::Empty) {
             FrameState::Empty | FrameState::Located(None) => Ok(None),
@@ -321,7 +321,7 @@ fn frames_of<'ctx, R: Reader>(
     requires there { IfSome place.now (ArePlacesIn (cached_functions functions.now)) }
     ensures gives { frames_left result ≡ found_frames (files_if lines.entry) language
         (option_map (function_of_place (cached_functions functions.now)) place.now)
-        (option_map seen_location location.entry) }
+        (option_map as_location location.entry) }
 {
     let Some(found) = place else {
         return FrameIter::new_location(location);
@@ -503,7 +503,7 @@ impl<R: Reader> Units<R> {
 impl<R: Reader> SupUnits<R> {
     // Where references to the supplementary file lead, if there is one. Takes no memory.
     pub(crate) fn file(&self) -> Option<FileUnits<'_, R>>
-        ensures gives { option_map seen_file result ≡ sup_file self.now }
+        ensures gives { option_map as_file_record result ≡ sup_file self.now }
     {
         match &self.dwarf {
             Some(dwarf) => Some(FileUnits {
@@ -587,7 +587,7 @@ impl<R: Reader> Units<R> {
     /// something, none where it waits or has found nothing, or where the view has a fault. Takes no
     /// memory.
     pub fn unit(&self) -> Option<UnitRef<'_, R>>
-        ensures gives { option_map seen_unit result ≡ unit_found self.now.scope.file.sections
+        ensures gives { option_map as_unit result ≡ unit_found self.now.scope.file.sections
             self.now.scope.file.units self.now.answers self.now.stop }
     {
         let FramesStop::Finds(place) = &self.stop else {

@@ -2,7 +2,7 @@
 
 ghost use Rattle.std.specs.Prelude.{◌≡◌, Err, IfErr, IfOk, None, OnOk, Ok, Some, false, is_some, option_map, true, ◌⊎◌, ◌++◌, ◌<◌, IsOk, length, not};
 ghost use Rattle.std.specs.Option.{option_to_list};
-ghost use Rattle.addr2line_units.specs.Common.{OutOfMemory, IsUnlessOom, seen_scope};
+ghost use Rattle.addr2line_units.specs.Common.{OutOfMemory, IsUnlessOom, as_scope};
 ghost use Rattle.addr2line_units.specs.CachedEntries.{AreEntriesOf, StayEntries, first_answer_of};
 ghost use Rattle.addr2line_units.specs.CachedFunctions.{were_read};
 ghost use Rattle.addr2line_units.specs.CachedViews.{IsViewOf, is_decided, waits};
@@ -44,9 +44,9 @@ impl<R: Reader> UnitEntries<R> {
         dw_unit: &Unit<R>,
         sections: Option<Rc<Dwarf<R>>>,
     ) -> Result<(), Error>
-        requires right { AreEntriesOf (seen_scope scope) dw_unit.now self.old }
+        requires right { AreEntriesOf (as_scope scope) dw_unit.now self.old }
         requires waits { waits self.old.view.state ≡ true }
-        ensures right { AreEntriesOf (seen_scope scope.entry) dw_unit.now self.new }
+        ensures right { AreEntriesOf (as_scope scope.entry) dw_unit.now self.new }
         ensures answer { OnOk result (first_answer_of self.new
             ≡ Some (option_map (λ d. d.value) sections)) }
         ensures known { OnOk result (is_decided self.new.view.state ≡ true) }
@@ -63,8 +63,8 @@ impl<R: Reader> UnitEntries<R> {
     // Forgets the answer, if there is one, and what was read of its view: the unit waits for one
     // again. Takes no memory.
     pub(crate) fn forget(&mut self, scope: Scope<'_, R>, dw_unit: &Unit<R>)
-        requires right { AreEntriesOf (seen_scope scope) dw_unit.now self.old }
-        ensures right { AreEntriesOf (seen_scope scope.entry) dw_unit.now self.new }
+        requires right { AreEntriesOf (as_scope scope) dw_unit.now self.old }
+        ensures right { AreEntriesOf (as_scope scope.entry) dw_unit.now self.new }
         ensures answer { first_answer_of self.new ≡ None }
         ensures kept { first_answer_of self.old ≡ None → self.new ≡ self.old }
         ensures empty { is_some (first_answer_of self.old) ≡ true
@@ -102,8 +102,8 @@ impl<R: Reader> UnitEntries<R> {
         dw_unit: &Unit<R>,
         sections: Option<Rc<Dwarf<R>>>,
     ) -> Result<(), Error>
-        requires right { AreEntriesOf (seen_scope scope) dw_unit.now self.old }
-        ensures right { AreEntriesOf (seen_scope scope.entry) dw_unit.now self.new }
+        requires right { AreEntriesOf (as_scope scope) dw_unit.now self.old }
+        ensures right { AreEntriesOf (as_scope scope.entry) dw_unit.now self.new }
         ensures answer { OnOk result (first_answer_of self.new
             ≡ decided_answer scope.entry.file.dwarf.now dw_unit.now (first_answer_of self.old)
             (option_map (λ d. d.value) sections)) }
@@ -131,7 +131,7 @@ impl<R: Reader> UnitEntries<R> {
 impl<R: Reader> UnitEntries<R> {
     // The fault of the unit's view, which is decided, if it has one. Takes no memory.
     fn check_view(&self, scope: Scope<'_, R>, dw_unit: &Unit<R>) -> Result<(), Error>
-        requires right { AreEntriesOf (seen_scope scope) dw_unit.now self.now }
+        requires right { AreEntriesOf (as_scope scope) dw_unit.now self.now }
         requires decided { is_decided self.now.view.state ≡ true }
         ensures gives { result ≡ view_fault
             (verdict scope.entry.file.dwarf.now dw_unit.now (first_answer_of self.now)) }
@@ -222,7 +222,7 @@ impl<R: Reader> UnitEntries<R> {
     ) -> Result<Option<SplitDwarfLoad<R>>, Error>
         requires same { scope.file.dwarf.now ≡ dwarf.now.value }
         requires there { number < length scope.file.units.now }
-        requires right { AreEntriesOf (seen_scope scope) dw_unit.now self.old }
+        requires right { AreEntriesOf (as_scope scope) dw_unit.now self.old }
         ensures gives { IfOk result (λ load. load ≡ if_new marks.old.items
             (awaited_load dwarf.now.value number dw_unit.now (first_answer_of self.old))) }
         ensures left { OnOk result (MarksLoad
@@ -231,7 +231,7 @@ impl<R: Reader> UnitEntries<R> {
         ensures none { is_open dwarf.now.value dw_unit.now (first_answer_of self.old) ≡ false
             → result ≡ Ok None }
         ensures refused { IfErr result (λ e. e ≡ OutOfMemory) }
-        ensures right { AreEntriesOf (seen_scope scope.entry) dw_unit.now self.new }
+        ensures right { AreEntriesOf (as_scope scope.entry) dw_unit.now self.new }
         ensures after { StayEntries self.old self.new }
         ensures functions { (known_by self.new.view.state self.new.functions
             ≡ known_by self.old.view.state self.old.functions)

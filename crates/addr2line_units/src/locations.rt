@@ -2,8 +2,8 @@
 //! that a range of addresses meets.
 
 ghost use Rattle.std.specs.Prelude.{◌≡◌, false, true, Err, IfErr, IfOk, IfSome, Ok, option_map, slice_get};
-ghost use Rattle.addr2line_units.specs.Common.{OutOfMemory, ExactlyUnlessOom, IsUnlessOom, fault_of, result_map, location_of_row, seen_location};
-ghost use Rattle.addr2line_lines.specs.RangesLeft.{located_rows_left, seen_located};
+ghost use Rattle.addr2line_units.specs.Common.{OutOfMemory, ExactlyUnlessOom, IsUnlessOom, fault_of, result_map, location_of_row, as_location};
+ghost use Rattle.addr2line_lines.specs.RangesLeft.{located_rows_left, as_located};
 ghost use Rattle.addr2line_units.specs.AskMemory.{lines_of_take_memory};
 ghost use Rattle.addr2line_units.specs.AskedUnits.{AfterCachingAt, AfterRowAt, CountsUnits};
 ghost use Rattle.addr2line_units.specs.AfterUnits.{AfterCaching, AfterLineParse, AfterRow};
@@ -97,7 +97,7 @@ impl<'ctx, R: Reader> LocationRangeIter<'ctx, R> {
     /// the next unit range. Source: DWARF 5, section 6.2.2.
     pub fn next_loc(&mut self) -> Result<Option<(u64, u64, Location<'ctx>)>, Error>
         ensures gives { YieldsOn (locations_left self.old)
-            (result_map (option_map seen_located) result) (locations_left self.new) }
+            (result_map (option_map as_located) result) (locations_left self.new) }
     {
         loop {
             if let Some(rows) = &mut self.rows {
@@ -119,7 +119,7 @@ impl<'ctx, R: Reader> Iterator for LocationRangeIter<'ctx, R> {
     ghost use Rattle.std.specs.Iterator.{item_count};
 
     ghost next_gives = { λ old result new. YieldsRow (locations_left old)
-        (option_map seen_located result) (locations_left new) };
+        (option_map as_located result) (locations_left new) };
 
     ghost remaining = { item_count locations_left };
 
@@ -134,7 +134,7 @@ impl<'ctx, R: Reader> Iterator for LocationRangeIter<'ctx, R> {
 
 // The location of a row in cached lines.
 pub(crate) fn location_of(lines: &LazyLines, row: Row) -> Location<'_>
-    ensures gives { seen_location result ≡ location_of_row (cached_files lines.now) row }
+    ensures gives { as_location result ≡ location_of_row (cached_files lines.now) row }
 {
     match lines {
         LazyLines::Read(lines) => lines.location(row),
@@ -244,7 +244,7 @@ impl<R: Reader> Units<R> {
     /// The location of a row of a unit whose lines are parsed. Takes no memory.
     pub fn location(&self, place: UnitRow) -> Location<'_>
         requires parsed { has_parsed self.now.parsed place.unit ≡ true }
-        ensures gives { seen_location result ≡ row_location self.now place }
+        ensures gives { as_location result ≡ row_location self.now place }
     {
         match self.caches.get(place.unit) {
             Some(cache) => location_of(&cache.lines.lines, place.row),

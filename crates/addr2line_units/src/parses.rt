@@ -1,13 +1,13 @@
 //! Parses of the functions of all units.
 
 ghost use Rattle.std.specs.Prelude.{◌≡◌, Err, IfErr, Ok, true};
-ghost use Rattle.addr2line_units.specs.Common.{IsUnlessOom, IsScope, seen_scope};
+ghost use Rattle.addr2line_units.specs.Common.{IsUnlessOom, IsScope, as_scope};
 ghost use Rattle.addr2line_units.specs.declared.parses.ReadingDepth.TheVariants.{Functions};
 ghost use Rattle.addr2line_units.specs.AfterParses.{AfterReadingAt, AfterReadingFunctions, AfterReadingUnit, AfterReadingView};
 ghost use Rattle.addr2line_units.specs.AfterUnits.{AfterReading};
 ghost use Rattle.addr2line_units.specs.CachedEntries.{AreEntriesOf, first_answer_of};
 ghost use Rattle.addr2line_units.specs.CachedFunctions.{AreFunctionsOf, cached_fault};
-ghost use Rattle.addr2line_units.specs.CachedViews.{is_decided, seen_first_answer};
+ghost use Rattle.addr2line_units.specs.CachedViews.{is_decided, answer_of_view};
 ghost use Rattle.addr2line_units.specs.FunctionParses.{ReadsNoMemory, read_of_functions, read_of_number, read_of_unit, read_of_units, read_of_view};
 ghost use Rattle.addr2line_units.specs.Views.{verdict};
 
@@ -49,10 +49,10 @@ impl<R: Reader> LazyFunctions<R> {
         scope: Scope<'_, R>,
         view: &Unit<R>,
     ) -> Result<(), Error>
-        requires right { AreFunctionsOf (seen_scope scope) view.now self.old }
+        requires right { AreFunctionsOf (as_scope scope) view.now self.old }
         ensures gives { IsUnlessOom result
-            (read_of_functions Functions (seen_scope scope.entry) view.now) }
-        ensures after { AfterReadingFunctions R.shares Functions (seen_scope scope.entry) view.now
+            (read_of_functions Functions (as_scope scope.entry) view.now) }
+        ensures after { AfterReadingFunctions R.shares Functions (as_scope scope.entry) view.now
             result self.old self.new }
     {
         self.cache(alloc, scope, view)?;
@@ -68,11 +68,11 @@ impl<R: Reader> LazyFunctions<R> {
         view: &Unit<R>,
         depth: ReadingDepth,
     ) -> Result<(), Error>
-        requires in_order { IsScope (seen_scope scope) }
-        requires right { AreFunctionsOf (seen_scope scope) view.now self.old }
+        requires in_order { IsScope (as_scope scope) }
+        requires right { AreFunctionsOf (as_scope scope) view.now self.old }
         ensures gives { IsUnlessOom result
-            (read_of_functions depth (seen_scope scope.entry) view.now) }
-        ensures after { AfterReadingFunctions R.shares depth (seen_scope scope.entry) view.now
+            (read_of_functions depth (as_scope scope.entry) view.now) }
+        ensures after { AfterReadingFunctions R.shares depth (as_scope scope.entry) view.now
             result self.old self.new }
     {
         match depth {
@@ -91,13 +91,13 @@ fn read_in_view<'x, R: Reader>(
     dw_unit: &'x Unit<R>,
     depth: ReadingDepth,
 ) -> Result<(), Error>
-    requires in_order { IsScope (seen_scope scope) }
-    requires right { AreEntriesOf (seen_scope scope) dw_unit.now
+    requires in_order { IsScope (as_scope scope) }
+    requires right { AreEntriesOf (as_scope scope) dw_unit.now
         (record { view = view.now; functions = functions.old }) }
     requires decided { is_decided view.now.state ≡ true }
-    ensures gives { IsUnlessOom result (read_of_view depth (seen_scope scope.entry)
-        (verdict scope.entry.file.dwarf.now dw_unit.now (seen_first_answer view.now))) }
-    ensures after { AfterReadingView R.shares depth (seen_scope scope.entry) dw_unit.now view.now
+    ensures gives { IsUnlessOom result (read_of_view depth (as_scope scope.entry)
+        (verdict scope.entry.file.dwarf.now dw_unit.now (answer_of_view view.now))) }
+    ensures after { AfterReadingView R.shares depth (as_scope scope.entry) dw_unit.now view.now
         result functions.old functions.new }
 {
     let unit = view.unit_ref(scope.file.dwarf, dw_unit)?;
@@ -120,11 +120,11 @@ impl<R: Reader> UnitEntries<R> {
         dw_unit: &'x Unit<R>,
         depth: ReadingDepth,
     ) -> Result<(), Error>
-        requires in_order { IsScope (seen_scope scope) }
-        requires right { AreEntriesOf (seen_scope scope) dw_unit.now self.old }
+        requires in_order { IsScope (as_scope scope) }
+        requires right { AreEntriesOf (as_scope scope) dw_unit.now self.old }
         ensures gives { IsUnlessOom result (read_of_unit depth
-            (seen_scope scope.entry) dw_unit.now (first_answer_of self.old)) }
-        ensures after { AfterReadingUnit R.shares depth (seen_scope scope.entry) dw_unit.now result
+            (as_scope scope.entry) dw_unit.now (first_answer_of self.old)) }
+        ensures after { AfterReadingUnit R.shares depth (as_scope scope.entry) dw_unit.now result
             self.old self.new }
     {
         self.answer(alloc, scope, dw_unit, None)?;

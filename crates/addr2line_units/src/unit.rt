@@ -2,7 +2,7 @@
 //! entries are read that say what stands at an address.
 
 ghost use Rattle.std.specs.Prelude.{◌≡◌, ◌≢◌, ◌+◌, ◌<◌, ◌≤◌, true, false, not, map, Ok, Err, OnOk, OnErr, IfOk, IfErr, IfSome, IsOk, is_some, length, nat_lt, option_map, None, Some};
-ghost use Rattle.addr2line_units.specs.Common.{Exactly, ExactlyUnlessOom, ExactlyUnlessOomIf, WasNotRefused, OutOfMemory, Sections, UnitRecord, location_of_row, IsScope, seen_scope};
+ghost use Rattle.addr2line_units.specs.Common.{Exactly, ExactlyUnlessOom, ExactlyUnlessOomIf, WasNotRefused, OutOfMemory, Sections, UnitRecord, location_of_row, IsScope, as_scope};
 ghost use Rattle.addr2line_units.specs.RangedUnits.{is_partial, is_type_unit, listed_in_unit, listed_unit_ranges, has_lines, asks_lines, ranged_unit, unit_ranges};
 ghost use Rattle.addr2line_units.specs.AskMemory.{lines_take_memory};
 ghost use Rattle.addr2line_units.specs.Located.{is_found, location_in, steps_in};
@@ -10,7 +10,7 @@ ghost use Rattle.addr2line_units.specs.UnitAranges.{range_in};
 ghost use Rattle.addr2line_units.specs.CachedLines.{AreLinesOf, IsUnparsed, LinesStayCached, CachesResult, StaysUnit, cached_lines_result, cached_files, cached_steps, cached_ranges, cached_row, indexed_unit, lines_result, cached_lines, is_parsed, is_uncached};
 ghost use Rattle.addr2line_units.specs.Indexed.{ranged_seen};
 ghost use Rattle.addr2line_units.specs.AnswerMemory.{answer_takes_memory};
-ghost use Rattle.addr2line_units.specs.CachedViews.{IsViewOf, answer_in, is_decided, parts_or_fault, seen_first_answer, seen_sections, split_file_by, split_file_in, split_unit, unboxed, verdict_in, view_in, waits, was_checked};
+ghost use Rattle.addr2line_units.specs.CachedViews.{IsViewOf, answer_in, is_decided, parts_or_fault, answer_of_view, as_sections, split_file_by, split_file_in, split_unit, unboxed, verdict_in, view_in, waits, was_checked};
 ghost use Rattle.addr2line_units.specs.EmptyUnits.{has_view};
 ghost use Rattle.addr2line_units.specs.Views.{answered_view, first_unit, first_unit_takes_memory, load_of_unit, split_name_of, verdict, view_scope};
 
@@ -500,7 +500,7 @@ impl<R: Reader> AnsweredLoad<R> {
     // The sections that the answer has, where they have a unit.
     fn split_file(&self) -> Option<&Dwarf<R>>
         ensures gives { option_map (λ d. d.now) result
-            ≡ split_file_by (seen_sections self.now) (unboxed self.now.unit) }
+            ≡ split_file_by (as_sections self.now) (unboxed self.now.unit) }
     {
         match (&self.sections, &self.unit) {
             (Some(split), Ok(Some(_))) => Some(split),
@@ -528,7 +528,7 @@ impl<R: Reader> AnsweredLoad<R> {
 impl<R: Reader> UnitView<R> {
     // A view of a unit that wasn't looked at yet. Takes no memory.
     pub(crate) fn new() -> UnitView<R>
-        ensures answer { seen_first_answer result ≡ None }
+        ensures answer { answer_of_view result ≡ None }
         ensures empty { was_checked result.state ≡ false }
     {
         UnitView {
@@ -542,7 +542,7 @@ impl<R: Reader> UnitView<R> {
         ensures right { IsViewOf dwarf.now dw_unit.now self.new }
         ensures known { was_checked self.new.state ≡ true }
         ensures kept { was_checked self.old.state ≡ true → self.new ≡ self.old }
-        ensures answer { seen_first_answer self.new ≡ seen_first_answer self.old }
+        ensures answer { answer_of_view self.new ≡ answer_of_view self.old }
     {
         if matches!(self.state, ViewState::Undecided) {
             self.state = first_state(dwarf, dw_unit);
@@ -569,7 +569,7 @@ impl<R: Reader> UnitView<R> {
 
     // Whether the unit has an answer.
     pub(crate) fn is_answered(&self) -> bool
-        ensures gives { result ≡ is_some (seen_first_answer self.now) }
+        ensures gives { result ≡ is_some (answer_of_view self.now) }
     {
         matches!(self.state, ViewState::Answered(_))
     }
@@ -605,12 +605,12 @@ impl<R: Reader> UnitView<R> {
         requires view { IsViewOf dwarf.now dw_unit.now self.old }
         requires waits { waits self.old.state ≡ true }
         ensures right { IsViewOf dwarf.now dw_unit.now self.new }
-        ensures answer { OnOk result (seen_first_answer self.new
+        ensures answer { OnOk result (answer_of_view self.new
             ≡ Some (option_map (λ d. d.value) sections)) }
         ensures known { OnOk result (is_decided self.new.state ≡ true) }
         ensures refused { IfErr result (λ e. (e ≡ OutOfMemory) × (self.new ≡ self.old)
             × (is_some sections ≡ true)) }
-        ensures gives { OnOk result (verdict dwarf.now dw_unit.now (seen_first_answer self.new)
+        ensures gives { OnOk result (verdict dwarf.now dw_unit.now (answer_of_view self.new)
             ≡ Some (answered_view dwarf.now dw_unit.now
             (option_map (λ d. d.value) sections))) }
         ensures exact { answer_takes_memory R.shares (option_map (λ d. d.value) sections) ≡ false
@@ -630,8 +630,8 @@ impl<R: Reader> UnitView<R> {
     pub(crate) fn forget(&mut self, dwarf: &Dwarf<R>, dw_unit: &Unit<R>)
         requires view { IsViewOf dwarf.now dw_unit.now self.old }
         ensures right { IsViewOf dwarf.now dw_unit.now self.new }
-        ensures answer { seen_first_answer self.new ≡ None }
-        ensures kept { seen_first_answer self.old ≡ None → self.new ≡ self.old }
+        ensures answer { answer_of_view self.new ≡ None }
+        ensures kept { answer_of_view self.old ≡ None → self.new ≡ self.old }
     {
         if matches!(self.state, ViewState::Answered(_)) {
             self.state = ViewState::Open;
@@ -647,7 +647,7 @@ impl<R: Reader> UnitView<R> {
     ) -> Result<UnitRef<'x, R>, Error>
         requires view { IsViewOf dwarf.now dw_unit.now self.now }
         requires decided { is_decided self.now.state ≡ true }
-        ensures gives { IfSome (verdict dwarf.now dw_unit.now (seen_first_answer self.now)) (λ view.
+        ensures gives { IfSome (verdict dwarf.now dw_unit.now (answer_of_view self.now)) (λ view.
             Exactly (λ r. (r.dwarf.now, r.unit.now)) result
             (parts_or_fault view)) }
     {
@@ -675,9 +675,9 @@ impl<R: Reader> UnitView<R> {
     // Where references lead from the view, from the main unit where `scope` says. Takes no memory.
     pub(crate) fn scope_of<'x>(&'x self, scope: Scope<'x, R>) -> Scope<'x, R>
         ensures gives { (d : Sections) (u : UnitRecord) → IsViewOf d u self.now
-            → IfSome (verdict d u (seen_first_answer self.now)) (λ view. IfOk view (λ v.
-            seen_scope result ≡ view_scope (seen_scope scope.entry) v)) }
-        ensures right { IsScope (seen_scope scope.entry) → IsScope (seen_scope result) }
+            → IfSome (verdict d u (answer_of_view self.now)) (λ view. IfOk view (λ v.
+            as_scope result ≡ view_scope (as_scope scope.entry) v)) }
+        ensures right { IsScope (as_scope scope.entry) → IsScope (as_scope result) }
     {
         match self.split_file() {
             Some(dwarf) => Scope {

@@ -1,7 +1,7 @@
 //! The units of a context, and the ranges that lead to them.
 
 ghost use Rattle.std.specs.Prelude.{◌≡◌, ◌++◌, [], ◌∷◌, IfErr, IfOk, IfSome, IsOk, OnOk, map, option_map};
-ghost use Rattle.addr2line_units.specs.Common.{OutOfMemory, ExactlyAtCost, ExactlyUnlessOomIf, seen_scope};
+ghost use Rattle.addr2line_units.specs.Common.{OutOfMemory, ExactlyAtCost, ExactlyUnlessOomIf, as_scope};
 ghost use Rattle.addr2line_units.specs.CachedLines.{HaveLinesOf, IsUnparsed};
 ghost use Rattle.addr2line_units.specs.CachedUnits.{AreFreshOf};
 ghost use Rattle.addr2line_units.specs.Indexed.{appended, context_takes_memory, index_seen, index_read, indexed_with, no_index, ranged_seen, units_seen, with_header};
@@ -44,14 +44,14 @@ pub struct Units<R: Reader> {
 }
 
 impl<R: Reader> Model for Units<R> {
-    ghost use Rattle.addr2line_units.specs.CachedFrames.{seen_stop};
-    ghost use Rattle.addr2line_units.specs.StoredUnits.{AreUnits, scope_of, seen_units};
+    ghost use Rattle.addr2line_units.specs.CachedFrames.{as_stop};
+    ghost use Rattle.addr2line_units.specs.StoredUnits.{AreUnits, scope_of, as_units_state};
     ghost use Rattle.addr2line_units.specs.UnitsState.{UnitsState};
 
     ghost Value = { UnitsState };
 
-    ghost view = { λ u. seen_units (scope_of u.sources) u.caches.items u.steps
-        (seen_stop u.caches.items u.stop) };
+    ghost view = { λ u. as_units_state (scope_of u.sources) u.caches.items u.steps
+        (as_stop u.caches.items u.stop) };
 
     ghost invariant = { λ u. AreUnits (scope_of u.sources) u.caches.items u.stop };
 }
@@ -235,7 +235,7 @@ impl<R: Reader> IndexedUnits<R> {
 impl<R: Reader> Sources<R> {
     // Where references lead from the units of the file. Takes no memory.
     pub(crate) fn scope(&self) -> Scope<'_, R>
-        ensures gives { seen_scope result ≡ scope_of self.now }
+        ensures gives { as_scope result ≡ scope_of self.now }
     {
         Scope {
             file: FileUnits {

@@ -1,9 +1,9 @@
 //! Calls that were recorded, made again.
 
 ghost use Rattle.std.specs.Prelude.{◌≡◌, ◌∷◌, [], IfOk, map};
-ghost use Rattle.addr2line.specs.SeenCalls.{seen_call};
+ghost use Rattle.addr2line.specs.SeenCalls.{as_call};
 ghost use Rattle.addr2line.specs.History.{AsksFrames, AsksLocation, ParsesLines, replies_to};
-ghost use Rattle.addr2line.specs.SeenReplies.{seen_reply};
+ghost use Rattle.addr2line.specs.SeenReplies.{as_reply};
 
 use addr2line::gimli::read::{Error, Reader};
 use addr2line::{Call, Context, Reply, replay};
@@ -15,7 +15,7 @@ pub fn replies_at<R: Reader>(
     context: &mut Context<R>,
     address: u64,
 ) -> Result<Vec<Reply>, Error>
-    ensures gives { IfOk result (λ replies. map seen_reply replies.items
+    ensures gives { IfOk result (λ replies. map as_reply replies.items
         ≡ replies_to context.old.sections context.old.answers
         (AsksLocation address ∷ AsksFrames address [] ∷ ParsesLines ∷ [])) }
 {
@@ -36,9 +36,9 @@ pub fn replies_of_both<R: Reader, S: Reader>(
 ) -> Result<(Vec<Reply>, Vec<Reply>), Error>
     requires sections { other.old.sections ≡ one.old.sections }
     requires answers { other.old.answers ≡ one.old.answers }
-    requires calls { map seen_call calls_of_other.now ≡ map seen_call calls_of_one.now }
+    requires calls { map as_call calls_of_other.now ≡ map as_call calls_of_one.now }
     ensures gives { IfOk result (λ both.
-        map seen_reply both.1.items ≡ map seen_reply both.0.items) }
+        map as_reply both.1.items ≡ map as_reply both.0.items) }
 {
     let replies_of_one = replay(one, calls_of_one)?;
     let replies_of_other = replay(other, calls_of_other)?;

@@ -14,8 +14,8 @@ use Rattle.elf.specs.Wanted.{HasWanted, is_wanted_text}
 abbrev pub SameButBytes : List ℕ → ObjectFile → ObjectFile → Type 0
 SameButBytes bytes f g = g ≡ record f { bytes = bytes }
 
--- two files answer alike for the section of a name: as it stands, and decompressed, with whether that
--- takes memory
+-- two files answer alike for the section of a name: as it stands, and decompressed, with whether
+-- that takes memory
 pub record SectionAlike (name : List ℕ) (f g : ObjectFile) : Type 0 where
   pub contents : section_at name f ≡ section_at name g
   pub decompressed : decompression_of name f ≡ decompression_of name g

@@ -26,8 +26,8 @@ abbrev pub LoadsUnlessOomFor : {X : Type 0} → (Loading X → Bool) → Loading
 LoadsUnlessOomFor takes result given =
     ExactlyUnlessFor OutOfMemory true takes (λ x. x) result given
 
--- the answer, seen by view, is what is given, or OutOfMemory where memory may be taken for it; parts
--- of a file share its bytes
+-- the answer, seen by view, is what is given, or OutOfMemory where memory may be taken for it;
+-- parts of a file share its bytes
 abbrev pub LoadsAtCost : {X Y : Type 0} → (X → Y) → Loading X → CostedLoading Y → Type 0
 LoadsAtCost view result costed = ExactlyWhere
     (λ _ e. costed.takes_memory true ≡ true → e ≢ OutOfMemory) view result costed.given

@@ -2,7 +2,7 @@
 
 ghost use Rattle.addr2line_lines.specs.CachedNames.{AreNamesOf};
 ghost use Rattle.addr2line_lines.specs.References.{AreInOrder, IsScope};
-ghost use Rattle.addr2line_lines.specs.SeenScope.{seen_scope};
+ghost use Rattle.addr2line_lines.specs.SeenScope.{as_scope};
 
 use crate::mixed;
 use addr2line_lines::{FileUnits, Functions, InlinedFunction, Scope};
@@ -145,8 +145,8 @@ fn with_details<R: Reader + Drop>(
     functions: &mut Functions<R>,
     limit: u64,
 ) -> Result<u64, Error>
-    requires in_order { IsScope (seen_scope scope) }
-    requires names { AreNamesOf (seen_scope scope) unit.now functions.old.names }
+    requires in_order { IsScope (as_scope scope) }
+    requires names { AreNamesOf (as_scope scope) unit.now functions.old.names }
 {
     functions.read_all(scope, unit)?;
     let sum = with_inlined(with_names(sum, functions), functions);

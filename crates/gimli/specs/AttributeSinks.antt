@@ -1,4 +1,4 @@
--- What takes attributes in, and how they are read for it, as the private functions see it.
+-- What takes attributes in, and how they are read for it.
 use Rattle.std.specs.Prelude.{◌≡◌, Bool, true, false, Option, Some, None, Result, Ok, Err}
 use Rattle.gimli.specs.Common.{DwAt, Error, AttributeValue, NamedValue, Reading, ExactlyUnlessOomIf, Section}
 use Rattle.gimli_read.specs.declared.number_value.NumberValue.{NumberValue}
@@ -14,12 +14,13 @@ SaysNothingElse {Y = Y} wanted more =
 abbrev pub IsSeenSame : (NamedValue → NamedValue) → Type 0
 IsSeenSame seen = (a : NamedValue) → seen a ≡ a
 
--- what becomes of a cache: `Grows` holds between any two of its states, and from the last on
+-- a relation of an old and a new state of a cache that holds on from the new one, and over two
+-- changes
 pub record IsGrowth {C : Type 0} (Grows : C → C → Type 0) : Type 0 where
   pub again : (old new : C) → Grows old new → Grows new new
   pub on : (old between new : C) → Grows old between → Grows between new → Grows old new
 
--- with an attribute of a name, whose value is a number, what is given is the answer
+-- the answer is what is given for each attribute of the name whose value is the number
 abbrev pub IsNumberTaken : {X Y : Type 0} → Bool → (X → Y) → (NamedValue → Result Y Error) → DwAt
     → NumberValue → Result X Error → Type 0
 IsNumberTaken may view more name number result =
@@ -37,8 +38,8 @@ abbrev pub IsTakenIn : {X Y : Type 0} → Bool → (X → Y) → (Y → Result Y
 IsTakenIn may view more (Ok x) result = ExactlyUnlessOomIf may view result (more (view x))
 IsTakenIn may view more (Err e) result = result ≡ Err e
 
--- a number was read, which was wanted; or none, which was wanted of no value that is one, and nothing
--- was read; or what is given is the fault
+-- a number was read, which was wanted; or none, which was wanted of no value that is one, and
+-- nothing was read; or what is given is the fault
 abbrev pub IsNumberRead : Bool → Section → Section → Result (Option NumberValue) Error
     → Reading (Option NumberValue) → Type 0
 IsNumberRead wanted old left (Ok (Some n)) given =

@@ -34,9 +34,9 @@ abbrev pub StaysCached : CachedTables → CachedTables → Type 0
 StaysCached old new = (offset : ℕ) → is_cached offset old ≡ true → is_cached offset new ≡ true
 
 -- a table without where it lies in memory, or its fault
-abbrev pub seen_table : {T : Type 0} → (T → List Abbrev) → Result T Error
+abbrev pub as_table : {T : Type 0} → (T → List Abbrev) → Result T Error
     → Result (List Abbrev) Error
-seen_table see table = result_map_both see (λ e. e) table
+as_table see table = result_map_both see (λ e. e) table
 
 -- the room after a table, which takes one for each abbreviation and each attribute
 abbrev pub room_after : ℕ → Result (List Abbrev) Error → ℕ
@@ -54,7 +54,7 @@ CachesTable offset old new =
 abbrev pub AreTablesOf : {T : Type 0} → (T → List Abbrev) → Section → BTreeMap ℕ (Result T Error)
     → Type 0
 AreTablesOf see s tables =
-    (offset : ℕ) → IfSome (get nat_cmp tables offset) (λ t. table_from offset s ≡ seen_table see t)
+    (offset : ℕ) → IfSome (get nat_cmp tables offset) (λ t. table_from offset s ≡ as_table see t)
 
 -- whether memory may be taken for the unit of a header: for all of it, where its table isn't cached
 -- and begins in the section; with a cached table for what its root entry says

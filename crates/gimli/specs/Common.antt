@@ -1,6 +1,6 @@
 -- What specs and contracts of this crate cite of the crates below, handed on. Declares nothing.
 pub use Rattle.gimli_read.specs.Abbreviations.{Abbrev, Specification, with_code}
-pub use Rattle.gimli_read.specs.Form.{NamedValue, constant_of, rest_of, seen_value}
+pub use Rattle.gimli_read.specs.Form.{NamedValue, constant_of, rest_of, as_value}
 unfoldable pub use Rattle.gimli_read.specs.Form.{attribute_at, attributes_at}
 pub use Rattle.gimli_read.specs.Number.{address_at, fits_u64, fixed_at, is_address_size, null_terminated_at, offset_at, offset_size, skipped_at, split_at}
 unfoldable pub use Rattle.gimli_read.specs.Number.{address_size_at, initial_length_at}

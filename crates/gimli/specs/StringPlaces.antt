@@ -13,10 +13,10 @@ sup_strings None = Err NoSupplementary
 sup_strings (Some sup) = Ok sup.debug_str
 
 -- a place whose readers are seen as sections
-abbrev pub seen_string_place : {T S : Type 0} → (T → Section) → (S → Section) → StringPlace T S
+abbrev pub as_string_place : {T S : Type 0} → (T → Section) → (S → Section) → StringPlace T S
     → StringPlace Section Section
-seen_string_place section_of see (InValue string) = InValue (see string)
-seen_string_place section_of see (InSection section offset) = InSection (section_of section) offset
+as_string_place section_of see (InValue string) = InValue (see string)
+as_string_place section_of see (InSection section offset) = InSection (section_of section) offset
 
 -- where the string of a value stands
 unfoldable pub string_place_of : Sections → Format → ℕ → AttributeValue Section

@@ -7,7 +7,7 @@ ghost use Rattle.gimli.specs.Common.{ExactlyUnlessOomIf, OutOfMemory};
 ghost use Rattle.gimli_read.specs.Abbrev.{table_at};
 ghost use Rattle.gimli.specs.Text.{from_offset};
 ghost use Rattle.gimli.specs.Unit.{table_from, unit_by, unit_record_of};
-ghost use Rattle.gimli.specs.CachedTables.{empty_cache, is_cached, StaysCached, CachesTable, seen_table, room_after, cached_unit_takes_memory};
+ghost use Rattle.gimli.specs.CachedTables.{empty_cache, is_cached, StaysCached, CachesTable, as_table, room_after, cached_unit_takes_memory};
 
 use crate::dwarf::Dwarf;
 use crate::record::read_root;
@@ -52,7 +52,7 @@ fn parse_table<R: Reader>(
     alloc: Global,
     input: R,
 ) -> Result<Result<Rc<Abbreviations>, Error>, Error>
-    ensures gives { IfOk result (λ t. table_at (R.section input) ≡ seen_table (λ a. a.value) t) }
+    ensures gives { IfOk result (λ t. table_at (R.section input) ≡ as_table (λ a. a.value) t) }
     ensures refused { IfErr result (λ e. e ≡ OutOfMemory) }
 {
     match Abbreviations::parse(alloc, input) {
@@ -71,7 +71,7 @@ fn read_unit<R: Reader>(
     table: &Result<Rc<Abbreviations>, Error>,
 ) -> Result<Unit<R>, Error>
     ensures gives { ExactlyAtCost R.shares (λ u. u) result
-        (unit_by dwarf.now header (seen_table (λ a. a.value) table.now)) }
+        (unit_by dwarf.now header (as_table (λ a. a.value) table.now)) }
 {
     let abbreviations = match table {
         Ok(abbreviations) => abbreviations,
@@ -83,7 +83,7 @@ fn read_unit<R: Reader>(
 
 // The room after a table.
 fn room_after(room: u64, table: &Result<Rc<Abbreviations>, Error>) -> u64
-    ensures gives { result ≡ room_after room (seen_table (λ a. a.value) table.now) }
+    ensures gives { result ≡ room_after room (as_table (λ a. a.value) table.now) }
 {
     let mut left = room;
     if let Ok(abbreviations) = table {
@@ -110,7 +110,7 @@ impl<'a, R: Reader> AbbreviationsCache<'a, R> {
     fn get(&self, offset: u64) -> Option<&Result<Rc<Abbreviations>, Error>>
         ensures found { is_some result ≡ is_cached offset self.now }
         ensures gives { IfSome result (λ t. table_from offset self.now.dwarf.debug_abbrev
-            ≡ seen_table (λ a. a.value) t.now) }
+            ≡ as_table (λ a. a.value) t.now) }
     {
         self.tables.get(&offset)
     }
@@ -119,7 +119,7 @@ impl<'a, R: Reader> AbbreviationsCache<'a, R> {
     // alone.
     fn insert(&mut self, offset: u64, table: Result<Rc<Abbreviations>, Error>) -> Result<(), Error>
         requires read { table_from offset self.old.dwarf.debug_abbrev
-            ≡ seen_table (λ a. a.value) table }
+            ≡ as_table (λ a. a.value) table }
         ensures known { OnOk result (CachesTable offset self.old self.new) }
         ensures after { StaysCached self.old self.new }
         ensures dwarf { self.new.dwarf ≡ self.old.dwarf }

@@ -1,7 +1,7 @@
 //! Where the range lists of attributes begin.
 
 ghost use Rattle.std.specs.Prelude.{◌≡◌};
-ghost use Rattle.gimli.specs.Common.{seen_value, Exactly};
+ghost use Rattle.gimli.specs.Common.{as_value, Exactly};
 ghost use Rattle.gimli.specs.RangesOffset.{offset_from_base, ranges_base, rnglists_offset, offset_with_base, ranges_offset_of};
 
 use crate::dwarf::{Dwarf, DwarfFileType};
@@ -73,7 +73,7 @@ pub(crate) fn read_ranges_offset<R: Reader>(
     value: &AttributeValue<R>,
 ) -> Result<Option<u64>, Error>
     ensures gives { Exactly (λ n. n) result
-        (ranges_offset_of dwarf.now unit.now (seen_value R.section value.now)) }
+        (ranges_offset_of dwarf.now unit.now (as_value R.section value.now)) }
 {
     match value {
         AttributeValue::DebugRngListsIndex(index) => rnglists_offset(dwarf, unit, *index),

@@ -1,7 +1,7 @@
 //! The record of a unit: what its root entry's attributes give.
 
 ghost use Rattle.std.specs.Prelude.{◌≡◌};
-ghost use Rattle.gimli.specs.Common.{ExactlyUnlessOomIf, seen_value};
+ghost use Rattle.gimli.specs.Common.{ExactlyUnlessOomIf, as_value};
 ghost use Rattle.gimli.specs.Record.{address_value, section_offset, line_offset, dwo_name_attribute, with_root_attribute, no_root_values, root_values_of};
 
 use crate::entries::EntriesRaw;
@@ -39,27 +39,27 @@ pub(crate) struct RootAttributes<R: Reader> {
 
 impl<R: Reader> Model for RootAttributes<R> {
     ghost use Rattle.std.specs.Prelude.{option_map};
-    ghost use Rattle.gimli_read.specs.Form.{seen_value};
+    ghost use Rattle.gimli_read.specs.Form.{as_value};
     ghost use Rattle.gimli.specs.Record.{RootValues};
 
     ghost Value = { RootValues };
 
     ghost view = { λ r. record {
-      name = option_map (seen_value R.section) r.name;
-      comp_dir = option_map (seen_value R.section) r.comp_dir;
+      name = option_map (as_value R.section) r.name;
+      comp_dir = option_map (as_value R.section) r.comp_dir;
       low_pc = r.low_pc;
       stmt_list = r.stmt_list;
       str_offsets_base = r.str_offsets_base;
       addr_base = r.addr_base;
       rnglists_base = r.rnglists_base;
       dwo_id = r.dwo_id;
-      dwo_name = option_map (seen_value R.section) r.dwo_name;
+      dwo_name = option_map (as_value R.section) r.dwo_name;
     } };
 }
 
 // A value of the class address.
 fn address_value<R: Reader>(value: &AttributeValue<R>) -> Option<AddressValue>
-    ensures gives { result ≡ address_value (seen_value R.section value.now) }
+    ensures gives { result ≡ address_value (as_value R.section value.now) }
 {
     match value {
         AttributeValue::Addr(address) => Some(AddressValue::Address(*address)),
@@ -70,7 +70,7 @@ fn address_value<R: Reader>(value: &AttributeValue<R>) -> Option<AddressValue>
 
 // A value of the class section offset.
 fn section_offset<R: Reader>(value: &AttributeValue<R>) -> Option<u64>
-    ensures gives { result ≡ section_offset (seen_value R.section value.now) }
+    ensures gives { result ≡ section_offset (as_value R.section value.now) }
 {
     match value {
         AttributeValue::SecOffset(offset) => Some(*offset),
@@ -81,7 +81,7 @@ fn section_offset<R: Reader>(value: &AttributeValue<R>) -> Option<u64>
 /// A value of the class section offset under DW_AT_stmt_list or DW_AT_ranges, which up to version 3
 /// may be a constant as wide as an offset.
 pub(crate) fn line_offset<R: Reader>(encoding: Encoding, value: &AttributeValue<R>) -> Option<u64>
-    ensures gives { result ≡ line_offset encoding (seen_value R.section value.now) }
+    ensures gives { result ≡ line_offset encoding (as_value R.section value.now) }
 {
     match value {
         AttributeValue::SecOffset(offset) => Some(*offset),

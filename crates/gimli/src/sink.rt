@@ -89,7 +89,7 @@ pub trait AttributeSink<R: Reader, A> {
         ensures after { Grows self.now cache.old cache.new };
 }
 
-/// Passes over attributes, one at a time: mostly there are none, or two. Refused as
+/// Passes over attributes, one at a time, each by a test of its own. Refused as
 /// `EntriesRaw::skip_attributes` is. Takes no memory.
 #[inline(always)]
 pub fn pass_over<R: Reader>(

@@ -1,9 +1,9 @@
 //! Strings and addresses by offset and by index (DWARF 5, sections 7.26 and 7.27).
 
 ghost use Rattle.std.specs.Prelude.{◌≡◌, is_ok, option_map};
-ghost use Rattle.gimli.specs.Common.{Exactly, ExactlyUnlessOomFor, fault_of, seen_value};
+ghost use Rattle.gimli.specs.Common.{Exactly, ExactlyUnlessOomFor, fault_of, as_value};
 ghost use Rattle.gimli.specs.Unit.{attr_string_of};
-ghost use Rattle.gimli.specs.StringPlaces.{seen_string_place, string_place_of, sup_strings};
+ghost use Rattle.gimli.specs.StringPlaces.{as_string_place, string_place_of, sup_strings};
 ghost use Rattle.gimli.specs.Text.{from_offset, string_at, string_length_at, indexed_number, string_of, string_takes_memory};
 
 use crate::dwarf::Dwarf;
@@ -108,8 +108,8 @@ fn string_place<'a, R: Reader, S: Reader>(
     base: u64,
     value: AttributeValue<S>,
 ) -> Result<StringPlace<&'a R, S>, Error>
-    ensures gives { Exactly (seen_string_place (λ s. R.section s.now) S.section) result
-        (string_place_of dwarf.now format base (seen_value S.section value)) }
+    ensures gives { Exactly (as_string_place (λ s. R.section s.now) S.section) result
+        (string_place_of dwarf.now format base (as_value S.section value)) }
 {
     let (section, offset) = match value {
         AttributeValue::String(string) => return Ok(StringPlace::InValue(string)),
@@ -141,8 +141,8 @@ pub(crate) fn read_string<R: Reader>(
     value: AttributeValue<R>,
 ) -> Result<R, Error>
     ensures gives { ExactlyUnlessOomFor
-        (string_takes_memory R.shares (seen_value R.section value)) is_ok R.section result
-        (string_of dwarf.now format base (seen_value R.section value)) }
+        (string_takes_memory R.shares (as_value R.section value)) is_ok R.section result
+        (string_of dwarf.now format base (as_value R.section value)) }
 {
     match string_place(dwarf, format, base, value)? {
         StringPlace::InValue(string) => Ok(string),
@@ -168,7 +168,7 @@ pub(crate) fn check_string<R: Reader, S: Reader>(
     value: AttributeValue<S>,
 ) -> Result<(), Error>
     ensures gives { Exactly (λ x. x) result (fault_of (string_of dwarf.now format base
-        (seen_value S.section value))) }
+        (as_value S.section value))) }
 {
     match string_place(dwarf, format, base, value)? {
         StringPlace::InValue(_) => Ok(()),
@@ -186,8 +186,8 @@ impl<R: Reader> Dwarf<R> {
     /// itself. Source: DWARF 5, sections 7.5.5 and 7.26.
     pub fn attr_string(&self, unit: &Unit<R>, value: AttributeValue<R>) -> Result<R, Error>
         ensures gives { ExactlyUnlessOomFor
-            (string_takes_memory R.shares (seen_value R.section value)) is_ok R.section result
-            (attr_string_of self.now unit.now (seen_value R.section value)) }
+            (string_takes_memory R.shares (as_value R.section value)) is_ok R.section result
+            (attr_string_of self.now unit.now (as_value R.section value)) }
     {
         read_string(
             self,

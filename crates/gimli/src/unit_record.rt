@@ -2,7 +2,7 @@
 
 ghost use Rattle.std.specs.Prelude.{◌≡◌, Ok, Some, box_value, option_map};
 ghost use Rattle.gimli_read.specs.Costed.{ExactlyAtCost};
-ghost use Rattle.gimli.specs.Common.{Exactly, ExactlyUnlessOomFor, ExactlyUnlessOomIf, seen_value};
+ghost use Rattle.gimli.specs.Common.{Exactly, ExactlyUnlessOomFor, ExactlyUnlessOomIf, as_value};
 ghost use Rattle.gimli.specs.Split.{dwo_name_fault, dwo_name_of, relocated};
 ghost use Rattle.gimli.specs.Unit.{first_base, low_pc_of, line_program_of, name_and_directory_of, program_and_low_pc_of, readable_string, dwo_id_of, completed_record, unit_record_of};
 ghost use Rattle.gimli.specs.UnitMemory.{gives_bytes_if, gives_some, if_without_bytes, unit_takes_memory};
@@ -150,7 +150,7 @@ fn read_readable_string<R: Reader>(
     value: Option<AttributeValue<R>>,
 ) -> Result<Option<R>, Error>
     ensures gives { ExactlyUnlessOomFor R.shares gives_some (option_map R.section) result
-        (Ok (readable_string dwarf.now format base (option_map (seen_value R.section) value))) }
+        (Ok (readable_string dwarf.now format base (option_map (as_value R.section) value))) }
 {
     let Some(value) = value else {
         return Ok(None);
@@ -283,8 +283,8 @@ impl<R: Reader> Dwarf<R> {
 
 // The same value for another reader, none where it holds bytes. Takes no memory.
 fn without_bytes<R: Reader, S: Reader>(value: AttributeValue<S>) -> Option<AttributeValue<R>>
-    ensures gives { option_map (seen_value R.section) result
-        ≡ if_without_bytes (seen_value S.section value) }
+    ensures gives { option_map (as_value R.section) result
+        ≡ if_without_bytes (as_value S.section value) }
 {
     match value {
         AttributeValue::Block(_) | AttributeValue::Exprloc(_) | AttributeValue::String(_) => None,
@@ -322,7 +322,7 @@ impl<R: Reader> Unit<R> {
     /// sections 3.1.2 and 7.5.5.
     pub fn dwo_name(&self) -> Result<Option<AttributeValue<R>>, Error>
         ensures gives { ExactlyUnlessOomFor R.shares gives_bytes_if
-            (option_map (seen_value R.section)) result (dwo_name_of self.now) }
+            (option_map (as_value R.section)) result (dwo_name_of self.now) }
     {
         // Over borrowed bytes first, which takes no memory: no growth for another string then hides
         // a fault, or a name that is a number.

@@ -1,7 +1,7 @@
 //! A unit with the sections that it is read from.
 
 ghost use Rattle.std.specs.Prelude.{◌≡◌, is_ok, option_map};
-ghost use Rattle.gimli.specs.Common.{Exactly, ExactlyUnlessOomFor, seen_value};
+ghost use Rattle.gimli.specs.Common.{Exactly, ExactlyUnlessOomFor, as_value};
 ghost use Rattle.gimli.specs.Text.{indexed_number, string_takes_memory};
 ghost use Rattle.gimli.specs.Unit.{attr_string_of};
 ghost use Rattle.gimli.specs.Entries.{entry_bytes_from};
@@ -94,8 +94,8 @@ impl<'a, R: Reader> UnitRef<'a, R> {
     /// `Dwarf::attr_string` is.
     pub fn attr_string(&self, value: AttributeValue<R>) -> Result<R, Error>
         ensures gives { ExactlyUnlessOomFor
-            (string_takes_memory R.shares (seen_value R.section value)) is_ok R.section result
-            (attr_string_of self.now.dwarf.now self.now.unit.now (seen_value R.section value)) }
+            (string_takes_memory R.shares (as_value R.section value)) is_ok R.section result
+            (attr_string_of self.now.dwarf.now self.now.unit.now (as_value R.section value)) }
     {
         self.dwarf.attr_string(self.unit, value)
     }
@@ -126,7 +126,7 @@ impl<'a, R: Reader> UnitRef<'a, R> {
     /// 2^64 or more. Source: DWARF 5, sections 2.17.3, 7.5.5 and 7.28.
     pub fn attr_ranges_offset(&self, value: AttributeValue<R>) -> Result<Option<u64>, Error>
         ensures gives { Exactly (λ n. n) result
-            (ranges_offset_of self.now.dwarf.now self.now.unit.now (seen_value R.section value)) }
+            (ranges_offset_of self.now.dwarf.now self.now.unit.now (as_value R.section value)) }
     {
         read_ranges_offset(self.dwarf, self.unit, &value)
     }

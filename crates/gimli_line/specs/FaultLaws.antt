@@ -17,7 +17,8 @@ use Rattle.gimli_line.specs.Taking.{fault_after}
 pub record HeadersAreNotRefused : Type 0 where
   pub directory : (s : Section) → WasNotRefused (directory_at s)
   pub file : (s : Section) → WasNotRefused (file_at s)
-  pub entries : (encoding : Encoding) (s : Section) → WasNotRefused (entry_table_at encoding s).given
+  pub entries : (encoding : Encoding) (s : Section)
+      → WasNotRefused (entry_table_at encoding s).given
   pub tables : (encoding : Encoding) (s : Section) → WasNotRefused (tables_at encoding s).given
   pub fields : (unit_size : ℕ) (s : Section) → WasNotRefused (line_header_fields_at unit_size s)
   pub program : (unit_size : ℕ) (s : Section) → WasNotRefused (line_program_at unit_size s).given

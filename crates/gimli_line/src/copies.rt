@@ -1,7 +1,7 @@
 //! Values, files and headers twice: their readers are duplicated.
 
 ghost use Rattle.std.specs.Prelude.{◌&&◌, ◌==◌, ◌≡◌, length, map, not, Ok};
-ghost use Rattle.gimli_line.specs.Common.{ExactlyUnlessOomIf, seen_value};
+ghost use Rattle.gimli_line.specs.Common.{ExactlyUnlessOomIf, as_value};
 ghost use Rattle.gimli_read.specs.HeldBytes.{holds_bytes};
 ghost use Rattle.gimli_line.specs.Header.{header_copy_takes_memory};
 
@@ -14,7 +14,7 @@ pub(crate) fn duplicate_value<R: Reader>(
     value: &AttributeValue<R>,
 ) -> Result<AttributeValue<R>, Error>
     ensures gives { ExactlyUnlessOomIf (R.shares && holds_bytes value.now)
-        (seen_value R.section) result (Ok (seen_value R.section value.now)) }
+        (as_value R.section) result (Ok (as_value R.section value.now)) }
 {
     match value {
         AttributeValue::Addr(x) => Ok(AttributeValue::Addr(*x)),
@@ -60,8 +60,8 @@ fn duplicate_values<R: Reader>(
     values: &[AttributeValue<R>],
 ) -> Result<Vec<AttributeValue<R>>, Error>
     ensures gives { ExactlyUnlessOomIf (not (length values.now == 0))
-        (λ v. map (seen_value R.section) v.items) result
-        (Ok (map (seen_value R.section) values.now)) }
+        (λ v. map (as_value R.section) v.items) result
+        (Ok (map (as_value R.section) values.now)) }
 {
     let mut copies = Vec::new(alloc);
     for value in values {

@@ -1,7 +1,7 @@
 //! The tables of version 5: entries whose values a format lists.
 
 ghost use Rattle.std.specs.Prelude.{◌≡◌, ◌==◌, not, false, true, count_by, length, map, Ok};
-ghost use Rattle.gimli_line.specs.Common.{ExactlyUnlessOomIf, ReadsUnlessOomIf, Reads, ExactlyAtCost, seen_value};
+ghost use Rattle.gimli_line.specs.Common.{ExactlyUnlessOomIf, ReadsUnlessOomIf, Reads, ExactlyAtCost, as_value};
 ghost use Rattle.gimli_line.specs.EntryTables.{format_at, is_path, is_bad_path, is_sound_format, no_entry, with_value, values_at, formatted_entry_at};
 ghost use Rattle.gimli_line.specs.Stored.{stored_times, formats_at, entry_front_at, entry_table_at};
 
@@ -31,13 +31,13 @@ pub struct EntryValues<R: Reader> {
 
 impl<R: Reader> Model for EntryValues<R> {
     ghost use Rattle.std.specs.Option.{option_map};
-    ghost use Rattle.gimli_read.specs.Form.{seen_value};
+    ghost use Rattle.gimli_read.specs.Form.{as_value};
     ghost use Rattle.gimli_line.specs.EntryTables.{EntryValues};
 
     ghost Value = { EntryValues };
 
     ghost view = { λ e. record {
-      path_name = option_map (seen_value R.section) e.path_name;
+      path_name = option_map (as_value R.section) e.path_name;
       directory_index = e.directory_index;
     } };
 }
@@ -112,7 +112,7 @@ fn is_sound(formats: &[EntryFormat]) -> bool
 
 // Takes a value into an entry.
 fn take_value<R: Reader>(entry: &mut EntryValues<R>, content_type: u64, value: AttributeValue<R>)
-    ensures gives { entry.new ≡ with_value content_type (seen_value R.section value) entry.old }
+    ensures gives { entry.new ≡ with_value content_type (as_value R.section value) entry.old }
 {
     match content_type {
         DW_LNCT_path => entry.path_name = Some(value),
@@ -219,7 +219,7 @@ pub(crate) fn paths_of<R: Reader>(
     entries: Vec<FileEntry<R>>,
 ) -> Result<Vec<AttributeValue<R>>, Error>
     ensures gives { ExactlyUnlessOomIf (not (length entries.items == 0))
-        (λ v. map (seen_value R.section) v.items) result
+        (λ v. map (as_value R.section) v.items) result
         (Ok (map (λ f. f.path_name) entries.items)) }
 {
     let mut paths = Vec::new(alloc);

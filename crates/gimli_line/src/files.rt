@@ -2,7 +2,7 @@
 
 ghost use Rattle.std.specs.Option.{option_map};
 ghost use Rattle.std.specs.Prelude.{◌&&◌, ◌≡◌, Ok, map};
-ghost use Rattle.gimli_line.specs.Common.{ExactlyUnlessOomIf, seen_value};
+ghost use Rattle.gimli_line.specs.Common.{ExactlyUnlessOomIf, as_value};
 ghost use Rattle.gimli_read.specs.HeldBytes.{holds_bytes};
 ghost use Rattle.gimli_line.specs.Header.{entry_of, file_of, directory_of, is_in_bytes};
 
@@ -54,7 +54,7 @@ impl<R: Reader> FileEntry<R> {
     /// its own that are shared. Source: DWARF 5, section 6.2.4.
     pub fn path_name(&self) -> Result<AttributeValue<R>, Error>
         ensures gives { ExactlyUnlessOomIf (R.shares && holds_bytes self.now.path_name)
-            (seen_value R.section) result (Ok self.now.path_name) }
+            (as_value R.section) result (Ok self.now.path_name) }
     {
         duplicate_value(&self.path_name)
     }
@@ -77,7 +77,7 @@ impl<R: Reader> FileEntry<R> {
     ) -> Result<Option<AttributeValue<R>>, Error>
         ensures gives { ExactlyUnlessOomIf
             (R.shares && is_in_bytes (directory_of header.now self.now))
-            (option_map (seen_value R.section)) result (Ok (directory_of header.now self.now)) }
+            (option_map (as_value R.section)) result (Ok (directory_of header.now self.now)) }
     {
         let index = self.directory_index;
         match entry(header.encoding.version, index, &header.include_directories) {

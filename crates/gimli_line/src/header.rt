@@ -13,13 +13,13 @@ pub struct FileEntry<R: Reader> {
 }
 
 impl<R: Reader> Model for FileEntry<R> {
-    ghost use Rattle.gimli_read.specs.Form.{seen_value};
+    ghost use Rattle.gimli_read.specs.Form.{as_value};
     ghost use Rattle.gimli_line.specs.Header.{File};
 
     ghost Value = { File };
 
     ghost view = { λ f. record {
-      path_name = seen_value R.section f.path_name;
+      path_name = as_value R.section f.path_name;
       directory_index = f.directory_index;
     } };
 }
@@ -37,7 +37,7 @@ pub struct LineProgramHeader<R: Reader> {
 
 impl<R: Reader> Model for LineProgramHeader<R> {
     ghost use Rattle.std.specs.Prelude.{map};
-    ghost use Rattle.gimli_read.specs.Form.{seen_value};
+    ghost use Rattle.gimli_read.specs.Form.{as_value};
     ghost use Rattle.gimli_line.specs.Header.{Header};
 
     ghost Value = { Header };
@@ -46,7 +46,7 @@ impl<R: Reader> Model for LineProgramHeader<R> {
       encoding = h.encoding;
       line_encoding = h.parameters.encoding;
       standard_opcode_lengths = R.section h.standard_opcode_lengths;
-      include_directories = map (seen_value R.section) h.include_directories.items;
+      include_directories = map (as_value R.section) h.include_directories.items;
       file_names = h.file_names.items;
     } };
 }

@@ -2,7 +2,7 @@
 
 ghost use Rattle.std.specs.Option.{option_map};
 ghost use Rattle.std.specs.Prelude.{◌≡◌, is_ok, map};
-ghost use Rattle.gimli_line.specs.Common.{ExactlyUnlessOomFor, ReadsUnlessOomIf, seen_value, ExactlyAtCost, ReadsAtCost};
+ghost use Rattle.gimli_line.specs.Common.{ExactlyUnlessOomFor, ReadsUnlessOomIf, as_value, ExactlyAtCost, ReadsAtCost};
 ghost use Rattle.gimli_line.specs.Stored.{stored_run, old_tables_at, new_tables_at, tables_at};
 ghost use Rattle.gimli_line.specs.Tables.{directory_at, file_at};
 
@@ -24,13 +24,13 @@ pub struct HeaderTables<R: Reader> {
 
 impl<R: Reader> Model for HeaderTables<R> {
     ghost use Rattle.std.specs.Prelude.{is_ok, map};
-    ghost use Rattle.gimli_read.specs.Form.{seen_value};
+    ghost use Rattle.gimli_read.specs.Form.{as_value};
     ghost use Rattle.gimli_line.specs.Tables.{Tables};
 
     ghost Value = { Tables };
 
     ghost view = { λ t. record {
-      include_directories = map (seen_value R.section) t.include_directories.items;
+      include_directories = map (as_value R.section) t.include_directories.items;
       file_names = t.file_names.items;
     } };
 }
@@ -39,7 +39,7 @@ impl<R: Reader> Model for HeaderTables<R> {
 #[tactic(auto, unfolding(crate::specs::Tables::directory_at))]
 fn read_directory<R: Reader>(input: &mut R) -> Result<Option<AttributeValue<R>>, Error>
     ensures gives { ExactlyUnlessOomFor R.shares is_ok
-        (λ d. (option_map (seen_value R.section) d, R.section input.new)) result
+        (λ d. (option_map (as_value R.section) d, R.section input.new)) result
         (directory_at (R.section input.old)) }
 {
     let path = input.read_null_terminated()?;
@@ -67,7 +67,7 @@ fn read_directories<R: Reader>(
     input: &mut R,
 ) -> Result<Vec<AttributeValue<R>>, Error>
     ensures gives { ExactlyAtCost R.shares
-        (λ v. (map (seen_value R.section) v.items, R.section input.new)) result
+        (λ v. (map (as_value R.section) v.items, R.section input.new)) result
         (stored_run directory_at (R.section input.old)) }
 {
     let mut directories = Vec::new(alloc);

@@ -7,7 +7,8 @@ use Rattle.gimli_read.specs.Section.{Section}
 use Rattle.gimli_read.specs.Reading.{ExactlyUnlessOomIf}
 use Rattle.gimli_read.specs.Reading as reading
 
--- a value or a fault, and whether memory may be taken for it, where readers share their bytes or not
+-- a value or a fault, and whether memory may be taken for it, where readers share their bytes or
+-- don't
 pub record CostedOr (E A : Type 0) : Type 0 where
   pub given : Result A E
   pub takes_memory : Bool → Bool

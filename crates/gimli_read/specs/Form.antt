@@ -17,31 +17,31 @@ use Rattle.gimli_read.specs.FormEncoding.{form_encoding_of}
 use Rattle.gimli_read.specs.EncodedValue.{encoded_at}
 
 -- a value whose readers are seen as sections
-abbrev pub seen_value : {R : Type 0} → (R → Section) → AttributeValue R → AttributeValue Section
-seen_value see (values.Addr x) = values.Addr x
-seen_value see (values.Block x) = values.Block (see x)
-seen_value see (values.Data1 x) = values.Data1 x
-seen_value see (values.Data2 x) = values.Data2 x
-seen_value see (values.Data4 x) = values.Data4 x
-seen_value see (values.Data8 x) = values.Data8 x
-seen_value see (values.Data16 x) = values.Data16 x
-seen_value see (values.Sdata x) = values.Sdata x
-seen_value see (values.Udata x) = values.Udata x
-seen_value see (values.Exprloc x) = values.Exprloc (see x)
-seen_value see (values.Flag x) = values.Flag x
-seen_value see (values.SecOffset x) = values.SecOffset x
-seen_value see (values.DebugAddrIndex x) = values.DebugAddrIndex x
-seen_value see (values.UnitRef x) = values.UnitRef x
-seen_value see (values.DebugInfoRef x) = values.DebugInfoRef x
-seen_value see (values.DebugInfoRefSup x) = values.DebugInfoRefSup x
-seen_value see (values.DebugTypesRef x) = values.DebugTypesRef x
-seen_value see (values.DebugLocListsIndex x) = values.DebugLocListsIndex x
-seen_value see (values.DebugRngListsIndex x) = values.DebugRngListsIndex x
-seen_value see (values.DebugStrRef x) = values.DebugStrRef x
-seen_value see (values.DebugStrRefSup x) = values.DebugStrRefSup x
-seen_value see (values.DebugStrOffsetsIndex x) = values.DebugStrOffsetsIndex x
-seen_value see (values.DebugLineStrRef x) = values.DebugLineStrRef x
-seen_value see (values.String x) = values.String (see x)
+abbrev pub as_value : {R : Type 0} → (R → Section) → AttributeValue R → AttributeValue Section
+as_value see (values.Addr x) = values.Addr x
+as_value see (values.Block x) = values.Block (see x)
+as_value see (values.Data1 x) = values.Data1 x
+as_value see (values.Data2 x) = values.Data2 x
+as_value see (values.Data4 x) = values.Data4 x
+as_value see (values.Data8 x) = values.Data8 x
+as_value see (values.Data16 x) = values.Data16 x
+as_value see (values.Sdata x) = values.Sdata x
+as_value see (values.Udata x) = values.Udata x
+as_value see (values.Exprloc x) = values.Exprloc (see x)
+as_value see (values.Flag x) = values.Flag x
+as_value see (values.SecOffset x) = values.SecOffset x
+as_value see (values.DebugAddrIndex x) = values.DebugAddrIndex x
+as_value see (values.UnitRef x) = values.UnitRef x
+as_value see (values.DebugInfoRef x) = values.DebugInfoRef x
+as_value see (values.DebugInfoRefSup x) = values.DebugInfoRefSup x
+as_value see (values.DebugTypesRef x) = values.DebugTypesRef x
+as_value see (values.DebugLocListsIndex x) = values.DebugLocListsIndex x
+as_value see (values.DebugRngListsIndex x) = values.DebugRngListsIndex x
+as_value see (values.DebugStrRef x) = values.DebugStrRef x
+as_value see (values.DebugStrRefSup x) = values.DebugStrRefSup x
+as_value see (values.DebugStrOffsetsIndex x) = values.DebugStrOffsetsIndex x
+as_value see (values.DebugLineStrRef x) = values.DebugLineStrRef x
+as_value see (values.String x) = values.String (see x)
 
 -- what a reading leaves, where nobody looks at its value
 abbrev pub rest_of : {A : Type 0} → Reading A → Result Section Error

@@ -5,7 +5,7 @@ use Rattle.gimli_read.specs.declared.error.Error.{Error}
 use Rattle.gimli_read.specs.declared.value.AttributeValue.{AttributeValue}
 use Rattle.gimli_read.specs.declared.value.AttributeValue.TheVariants as values
 use Rattle.gimli_read.specs.Section.{Section}
-use Rattle.gimli_read.specs.Form.{NamedValue, seen_value}
+use Rattle.gimli_read.specs.Form.{NamedValue, as_value}
 use Rattle.gimli_read.specs.Reading.{Reading, ExactlyUnlessOomFor}
 
 -- whether the value holds bytes
@@ -29,5 +29,5 @@ gives_attribute_bytes (Err e) = false
 abbrev pub ReadsValueUnlessOom : {R : Type 0} → Bool → (R → Section) → R → R
     → Result (AttributeValue R) Error → (Section → Reading (AttributeValue Section)) → Type 0
 ReadsValueUnlessOom shares see old new result reading =
-    ExactlyUnlessOomFor shares gives_bytes (λ v. (seen_value see v, see new)) result
+    ExactlyUnlessOomFor shares gives_bytes (λ v. (as_value see v, see new)) result
     (reading (see old))

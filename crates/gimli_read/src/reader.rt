@@ -65,8 +65,8 @@ pub trait Reader: Clone {
     fn duplicate(&self) -> Result<Self, Error>
         ensures gives { ExactlyUnlessOomFor shares is_ok section result (Ok (section self.now)) };
 
-    /// May note that the bytes are UTF-8, if they are. As long as none is taken, `to_string_lossy`
-    /// needs no test then. Takes no memory.
+    /// May note that the bytes are UTF-8, if they are: up to the next reading `to_string_lossy`
+    /// needs no test. Takes no memory.
     fn note_text(&mut self)
         ensures kept { section self.new ≡ section self.old }
     {}

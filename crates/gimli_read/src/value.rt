@@ -6,7 +6,7 @@ ghost use Rattle.gimli_read.specs.HeldBytes.{gives_attribute_bytes, ReadsValueUn
 ghost use Rattle.gimli_read.specs.Number.{fixed_at};
 ghost use Rattle.gimli_read.specs.FormEncoding.{forms_from_blocks, forms_from_constants, forms_from_flags, forms_from_strings, reference_forms, form_in};
 ghost use Rattle.gimli_read.specs.EncodedValue.{address_or_offset_at, encoded_at};
-ghost use Rattle.gimli_read.specs.Form.{seen_value, direct_at, form_at, value_at, attribute_at, constant_of};
+ghost use Rattle.gimli_read.specs.Form.{as_value, direct_at, form_at, value_at, attribute_at, constant_of};
 
 use crate::abbrev::AttributeSpecification;
 use crate::constants::{DWARF_2, DwAt, DwForm};
@@ -366,11 +366,11 @@ pub struct Attribute<R: Reader> {
 }
 
 impl<R: Reader> Model for Attribute<R> {
-    ghost use Rattle.gimli_read.specs.Form.{NamedValue, seen_value};
+    ghost use Rattle.gimli_read.specs.Form.{NamedValue, as_value};
 
     ghost Value = { NamedValue };
 
-    ghost view = { λ a. record { name = a.name; value = seen_value R.section a.value } };
+    ghost view = { λ a. record { name = a.name; value = as_value R.section a.value } };
 }
 
 impl<R: Reader> Attribute<R> {
@@ -383,7 +383,7 @@ impl<R: Reader> Attribute<R> {
 
     /// The value, by its form alone. Takes no memory.
     pub fn value(self) -> AttributeValue<R>
-        ensures gives { seen_value R.section result ≡ self.value }
+        ensures gives { as_value R.section result ≡ self.value }
     {
         self.value
     }

@@ -4,7 +4,7 @@ ghost use Rattle.std.specs.Prelude.{◌≡◌, ◌≤◌, length};
 ghost use Rattle.gimli_read.specs.Section.{first};
 ghost use Rattle.gimli_read.specs.Reading.{Exactly, mapped};
 ghost use Rattle.gimli_read.specs.Number.{fixed_at, split_at, null_terminated_at};
-ghost use Rattle.gimli_read.specs.Form.{seen_value, value_at, attribute_at};
+ghost use Rattle.gimli_read.specs.Form.{as_value, value_at, attribute_at};
 ghost use Rattle.gimli_read.specs.declared.constants.TheConstants.DwForm.{DW_FORM_data1};
 ghost use Rattle.gimli_read.specs.declared.value.AttributeValue.TheVariants.{Data1};
 
@@ -54,7 +54,7 @@ pub fn value_of<'a>(
     encoding: Encoding,
     form: DwForm,
 ) -> Result<AttributeValue<EndianSlice<'a>>, Error>
-    ensures gives { Exactly (λ v. (seen_value (λ r. r) v, input.new)) result
+    ensures gives { Exactly (λ v. (as_value (λ r. r) v, input.new)) result
         (value_at encoding form.0 input.old) }
 {
     read_value(input, encoding, form)
@@ -78,7 +78,7 @@ pub fn constant_of(
     input: &mut EndianBytes,
     encoding: Encoding,
 ) -> Result<AttributeValue<EndianBytes>, Error>
-    ensures gives { Exactly (λ v. (seen_value (λ r. r) v, input.new)) result
+    ensures gives { Exactly (λ v. (as_value (λ r. r) v, input.new)) result
         (mapped Data1 (fixed_at 1 input.old)) }
 {
     read_value(input, encoding, DwForm::DW_FORM_data1)

@@ -1,7 +1,7 @@
 //! Runs over files and lookups that tests know.
 
 ghost use Rattle.std.specs.Prelude.{◌≡◌, [], None, Ok, option_map};
-ghost use Rattle.addr2line_bin.specs.Common.{result_map, seen_location};
+ghost use Rattle.addr2line_bin.specs.Common.{result_map, as_location};
 
 use crate::command_line::{Request, command_line};
 use crate::exit::Exit;
@@ -30,7 +30,7 @@ pub struct Fixed {
 
 impl Lookups for Fixed {
     ghost answers = { λ file. record {
-      MayFind = λ probe found. found ≡ result_map (option_map seen_location) file.found;
+      MayFind = λ probe found. found ≡ result_map (option_map as_location) file.found;
       MayGive = λ probe given. Unit {0};
       symbol_at = λ probe. option_map (λ name. name.now) file.symbol;
       section_at = λ name. None;

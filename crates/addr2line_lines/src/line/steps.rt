@@ -2,7 +2,7 @@
 
 ghost use Rattle.std.specs.Prelude.{◌≡◌, option_map};
 ghost use Rattle.addr2line_lines.specs.Location.{location_at};
-ghost use Rattle.addr2line_lines.specs.SeenLocation.{seen_location};
+ghost use Rattle.addr2line_lines.specs.SeenLocation.{as_location};
 ghost use Rattle.addr2line_lines.specs.Spans.{row_at};
 
 use crate::count::Count;
@@ -71,7 +71,7 @@ impl Lines {
     /// the first address of a block and at a row as it runs, so that a test can compare the number
     /// with the bound.
     pub fn find_location_watched(&self, probe: u64) -> (Option<Location<'_>>, u64)
-        ensures found { option_map seen_location result.0 ≡ location_at probe self.now }
+        ensures found { option_map as_location result.0 ≡ location_at probe self.now }
     {
         match self.find_row_watched(probe) {
             (Some(row), steps) => (Some(self.location(row)), steps),

@@ -1,4 +1,4 @@
-use Rattle.addr2line.proofs.Common.{◌≡◌, map, Stop, seen_given}
+use Rattle.addr2line.proofs.Common.{◌≡◌, map, Stop, as_given}
 use Rattle.addr2line.proofs.ReplayLemmas.{HasAnswered}
 use Rattle.addr2line.proofs.session.replay_frames.Given as goal
 
@@ -8,5 +8,5 @@ invariant-loop-answer g l = record {
   name : l.next.ctx.ghost_name ≡ l.initial.next.ctx.ghost_name;
   probe : l.next.probe ≡ l.fn.probe;
   token : l.next.load.unit ≡ l.next.number;
-  so : HasAnswered Stop l.fn.probe l.fn.context (map seen_given l.answers) l.answer-index l.next.number l.next.ctx.now;
+  so : HasAnswered Stop l.fn.probe l.fn.context (map as_given l.answers) l.answer-index l.next.number l.next.ctx.now;
 }

@@ -1,5 +1,5 @@
-use Rattle.addr2line.proofs.Common.{◌≤◌, ap, length, map, option_map, refl, rules, subst, sym, ◌∙◌, length-map, ExactlyUnlessOom, Skip, SuspendsAgain, answered, unit_replied, lookup_stop, unit_of, unit_value, reply_of_unit, given_by, seen_given}
-use Rattle.addr2line_units.specs.SeenUnit.{seen_found}
+use Rattle.addr2line.proofs.Common.{◌≤◌, ap, length, map, option_map, refl, rules, subst, sym, ◌∙◌, length-map, ExactlyUnlessOom, Skip, SuspendsAgain, answered, unit_replied, lookup_stop, unit_of, unit_value, reply_of_unit, given_by, as_given}
+use Rattle.addr2line_units.specs.SeenUnit.{as_found_unit}
 use Rattle.addr2line.proofs.ReplayLemmas.{begun_at, ends_at_once, ends_resumed, goes_on, is_left, is_refused, left_at_end, left_by, load_token, next_of, found_waiting}
 use Rattle.addr2line.proofs.session.replay_unit.Goals as goal
 
@@ -8,7 +8,7 @@ returns-in-Output g c =
     let first = c.args.context.now in
     let p = c.args.probe in
     let e = c.unit_reply.ensures in
-    let all = map seen_given c.args.answers.now in
+    let all = map as_given c.args.answers.now in
     record { after = ends_at_once Skip p first all g.R.Reader.shares (unit_replied first.sections p) c.in-Output.unit _ (search rules) c.unit_reply.result (e.gives (lookup_stop Skip first.sections first.answers p) (unit_of first.sections first.answers p) c.in-Output.ensures.gives (found_waiting Skip unit_value first.sections first.answers p)) e.memory e.refused }
 
 pub loop-answer-init : goal.loop-answer-init
@@ -20,7 +20,7 @@ loop-answer-init g c =
       name = refl;
       probe = load.1;
       token = load_token Skip first.sections first.answers c.args.probe next.number next.load load.2.waits load.2.load;
-      so = begun_at Skip c.args.probe first (map seen_given c.args.answers.now) next.number _ next.ctx.now load.2;
+      so = begun_at Skip c.args.probe first (map as_given c.args.answers.now) next.number _ next.ctx.now load.2;
     }
 
 pub returns-in-Output-resume : goal.returns-in-Output-resume
@@ -33,12 +33,12 @@ returns-in-Output-resume g c =
     let e = c.unit_reply-in-Output-resume.ensures in
     let x = option_map (λ r. r.value) c.in-Ok-Some.input in
     let given = sym (ap (λ o. given_by (option_map (option_map (λ r. r.value)) o)) c.in-Ok-Some.field-0-is) ∙ c.in-Ok-Some.ensures.gives in
-    let one = next_of seen_given c.args.answers.now i c.answer-item.result (search rules) c.answer-item.is _ given in
+    let one = next_of as_given c.args.answers.now i c.answer-item.result (search rules) c.answer-item.is _ given in
     let left = answered l.ctx.now.sections l.ctx.now.answers l.number x in
     let o = c.in-Output-resume.unit in
-    let out = subst (λ s. ExactlyUnlessOom seen_found o (unit_of s left p)) inv.so.sections (subst (λ q. ExactlyUnlessOom seen_found o (unit_of l.ctx.now.sections left q)) inv.probe c.in-Output-resume.ensures.gives) in
+    let out = subst (λ s. ExactlyUnlessOom as_found_unit o (unit_of s left p)) inv.so.sections (subst (λ q. ExactlyUnlessOom as_found_unit o (unit_of l.ctx.now.sections left q)) inv.probe c.in-Output-resume.ensures.gives) in
     record {
-      after = ends_resumed Skip p first (map seen_given c.args.answers.now) i l.number l.ctx.now inv.so x one g.R.Reader.shares (unit_replied first.sections p) c.resume.result o c.in-Output-resume.is l.probe inv.probe _ c.resume.follows.lender-at-none (search rules) c.resume.follows.holds-at-none
+      after = ends_resumed Skip p first (map as_given c.args.answers.now) i l.number l.ctx.now inv.so x one g.R.Reader.shares (unit_replied first.sections p) c.resume.result o c.in-Output-resume.is l.probe inv.probe _ c.resume.follows.lender-at-none (search rules) c.resume.follows.holds-at-none
           c.unit_reply-in-Output-resume.result (e.gives (lookup_stop Skip first.sections left p) (unit_of first.sections left p) out (found_waiting Skip unit_value first.sections left p)) e.memory e.refused;
     }
 
@@ -48,16 +48,16 @@ returns-in-Ok-None g c =
     let i = c.loop-answer.answer-index in
     let l = c.loop-answer.next in
     let inv = c.loop-answer.invariant in
-    let all = map seen_given c.args.answers.now in
+    let all = map as_given c.args.answers.now in
     let given = sym (ap (λ o. given_by (option_map (option_map (λ r. r.value)) o)) c.in-Ok-None.field-0-is) ∙ c.in-Ok-None.ensures.gives in
-    let one = next_of seen_given c.args.answers.now i c.answer-item.result (search rules) c.answer-item.is _ given in
+    let one = next_of as_given c.args.answers.now i c.answer-item.result (search rules) c.answer-item.is _ given in
     record { after = is_left Skip c.args.probe first all i l.number l.ctx.now inv.so (unit_replied first.sections c.args.probe) (λ w. ap (λ r. reply_of_unit r (unit_of first.sections l.ctx.now.answers c.args.probe)) w) l.load.unit inv.token c.suspended_reply.result c.suspended_reply.ensures.gives _ (search rules) (left_by Skip c.args.probe first all i l.number l.ctx.now inv.so one) }
 
 pub returns-in-Err : goal.returns-in-Err
 returns-in-Err g c =
     let first = c.args.context.now in
     let l = c.loop-answer.next in
-    record { after = is_refused Skip c.args.probe first (map seen_given c.args.answers.now) c.loop-answer.answer-index l.number l.ctx.now c.loop-answer.invariant.so (unit_replied first.sections c.args.probe) _ _ (search rules) c.in-Err.ensures.refused }
+    record { after = is_refused Skip c.args.probe first (map as_given c.args.answers.now) c.loop-answer.answer-index l.number l.ctx.now c.loop-answer.invariant.so (unit_replied first.sections c.args.probe) _ _ (search rules) c.in-Err.ensures.refused }
 
 pub loop-answer-preserved : goal.loop-answer-preserved
 loop-answer-preserved g c =
@@ -70,13 +70,13 @@ loop-answer-preserved g c =
     let load = c.in-Load-resume.ensures.left in
     let x = option_map (λ r. r.value) c.in-Ok-Some.input in
     let given = sym (ap (λ o. given_by (option_map (option_map (λ r. r.value)) o)) c.in-Ok-Some.field-0-is) ∙ c.in-Ok-Some.ensures.gives in
-    let one = next_of seen_given c.args.answers.now i c.answer-item.result (search rules) c.answer-item.is _ given in
+    let one = next_of as_given c.args.answers.now i c.answer-item.result (search rules) c.answer-item.is _ given in
     let again = subst (λ q. SuspendsAgain Skip q l.number x next.number next.load l.ctx.now next.ctx.now) inv.probe load.2 in
     record {
       name = load.0 ∙ inv.name;
       probe = load.1 ∙ inv.probe;
       token = load_token Skip again.0.sections again.0.answers p next.number next.load again.2.waits again.2.load;
-      so = goes_on Skip p first (map seen_given c.args.answers.now) i l.number l.ctx.now inv.so x one next.number next.load next.ctx.now again;
+      so = goes_on Skip p first (map as_given c.args.answers.now) i l.number l.ctx.now inv.so x one next.number next.load next.ctx.now again;
     }
 
 pub returns : goal.returns
@@ -85,9 +85,9 @@ returns g c =
     let i = c.loop-answer.answer-index in
     let l = c.loop-answer.next in
     let inv = c.loop-answer.invariant in
-    let all = map seen_given c.args.answers.now in
+    let all = map as_given c.args.answers.now in
     let past : length c.args.answers.now ≤ i = (search rules) in
     record {
       after = is_left Skip c.args.probe first all i l.number l.ctx.now inv.so (unit_replied first.sections c.args.probe) (λ w. ap (λ r. reply_of_unit r (unit_of first.sections l.ctx.now.answers c.args.probe)) w) l.load.unit inv.token c.suspended_reply-2.result c.suspended_reply-2.ensures.gives _ (search rules)
-          (left_at_end Skip c.args.probe first all i l.number l.ctx.now inv.so (subst (λ n. n ≤ i) (sym (length-map c.args.answers.now seen_given)) past));
+          (left_at_end Skip c.args.probe first all i l.number l.ctx.now inv.so (subst (λ n. n ≤ i) (sym (length-map c.args.answers.now as_given)) past));
     }

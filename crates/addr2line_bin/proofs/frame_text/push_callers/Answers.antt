@@ -1,5 +1,5 @@
 use Rattle.addr2line_bin.proofs.Common.{◌∙◌, option_map, string_bytes, refl, sym, append-nil, arith, option_copied, frames_left}
-use Rattle.addr2line_units.specs.SeenFrame.{seen_frame}
+use Rattle.addr2line_units.specs.SeenFrame.{as_frame}
 use Rattle.addr2line_bin.specs.FrameTexts.{next_and}
 use Rattle.addr2line_bin.proofs.FrameLemmas.{caller_more}
 use Rattle.addr2line_bin.proofs.frame_text.push_callers.Goals as goal
@@ -12,7 +12,7 @@ loop-next-smaller g c = rw (c.in-Some.is, c.next_frame-next.ensures.gives) (omeg
 
 pub loop-next-preserved : goal.loop-next-preserved
 loop-next-preserved g c =
-    let see = seen_frame g.R.Reader.section in
+    let see = as_frame g.R.Reader.section in
     let inv = rw (c.in-Some.is, c.next_frame-next.ensures.gives) at c.loop-next.invariant in
     caller_more c.args.style (option_copied c.args.symbol) (option_copied c.symbol_before.result) (see c.in-Some.frame) (next_and (option_map see c.next_frame-next.result) (frames_left c.next_frame-next.new.frames))
     (string_bytes c.loop-next.text) (string_bytes c.push_caller.new.text) _ inv (c.symbol_before.ensures.gives (frames_left c.next_frame-next.new.frames)) c.in_ok-push_caller.ensures.gives

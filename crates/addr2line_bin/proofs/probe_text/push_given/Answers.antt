@@ -1,12 +1,12 @@
 use Rattle.addr2line_bin.proofs.Common.{◌∙◌, option_map, string_bytes, sym, on_ok_weaker, option_copied, frames_left, GivesFrames, GivesLocation}
 use Rattle.gimli_read.specs.Reading.{result_map}
-use Rattle.addr2line_lines.specs.SeenLocation.{seen_location}
+use Rattle.addr2line_lines.specs.SeenLocation.{as_location}
 use Rattle.addr2line_bin.proofs.CommandLemmas.{deref_text}
 use Rattle.addr2line_bin.proofs.probe_text.push_given.Goals as goal
 
 pub returns-then-not-asks_frames-clause-gives : goal.returns-then-not-asks_frames-clause-gives
 returns-then-not-asks_frames-clause-gives g c =
-    let found = result_map (option_map seen_location) c.find_location.result in
+    let found = result_map (option_map as_location) c.find_location.result in
     on_ok_weaker c.push_found.result (λ p. (GivesLocation found, (sym c.asks_frames.ensures.gives ∙ c.if-not-asks_frames.true, c.find_location.ensures.gives), p)) c.push_found.ensures.gives
 
 pub returns-clause-gives : goal.returns-clause-gives

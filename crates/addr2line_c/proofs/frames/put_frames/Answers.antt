@@ -1,12 +1,12 @@
 use Rattle.addr2line_c.proofs.Common.{rules, ◌≡◌, ◌∷◌, ◌∙◌, [], subst, frames_left, texts_of_items, written_items, frame_texts, written_frame}
-use Rattle.addr2line_units.specs.SeenFrame.{seen_frame}
+use Rattle.addr2line_units.specs.SeenFrame.{as_frame}
 use Rattle.addr2line_c.proofs.SequenceLemmas.{WroteSome, wrote_one}
 use Rattle.addr2line_c.proofs.frames.put_frames.Goals as goal
 
 pub loop-frame-preserved : goal.loop-frame-preserved
 loop-frame-preserved g c =
     let d = c.args.demangles in
-    let f = seen_frame g.R.Reader.section c.in-Some.frame in
+    let f = as_frame g.R.Reader.section c.in-Some.frame in
     let all = frames_left c.args.frames in
     let left = frames_left c.next.new.self in
     let old = c.loop-frame in

@@ -1,6 +1,6 @@
-use Rattle.addr2line_lines.proofs.Common.{ℕ, false, ap, subst, sym, ◌∙◌, err_from_is_err_and, ExactlyUnlessOomIf, Sections, UnitRecord, gives_a_range, seen_lists, with_inlined_found, seen_scope, or_left, or_right}
+use Rattle.addr2line_lines.proofs.Common.{ℕ, false, ap, subst, sym, ◌∙◌, err_from_is_err_and, ExactlyUnlessOomIf, Sections, UnitRecord, gives_a_range, as_lists, with_inlined_found, as_scope, or_left, or_right}
 use Rattle.addr2line_lines.specs.OpenEntries.{is_listed}
-use Rattle.addr2line_lines.specs.FoundAttributes.{seen_attributes}
+use Rattle.addr2line_lines.specs.FoundAttributes.{as_attributes}
 use Rattle.addr2line_lines.proofs.FunctionLemmas.{beside_if}
 use Rattle.addr2line_lines.proofs.NestingLemmas.{found_same}
 use Rattle.addr2line_lines.proofs.CachedNameLemmas.{names_same}
@@ -10,29 +10,29 @@ use Rattle.addr2line_lines.proofs.detail.read_entry.Goals as goal
 pub returns-in_err-attributes-clause-gives : goal.returns-in_err-attributes-clause-gives
 returns-in_err-attributes-clause-gives g c =
     let p = err_from_is_err_and c.from_residual.result c.from_residual.ensures.1 in
-    let scope = seen_scope c.args.scope in
+    let scope = as_scope c.args.scope in
     let u = c.args.unit.now in
     let around = c.args.nesting.now in
     let a = c.args.abbreviation.now in
     let left = c.args.entries.now.cursor.left in
-    let found = seen_lists c.args.found.now in
+    let found = as_lists c.args.found.now in
     let listed = ap (λ k. is_listed k c.args.nesting.now) (sym c.kind_of.ensures.gives) ∙ sym c.if-lists.ensures.gives in
     let fault = rw c.attributes-specifications.ensures.gives at c.in_err-attributes.ensures.gives in
     rw (p.1, p.2) (λ ne. entry-fault scope u around c.args.offset.0 a left found _ listed (fault (λ shares. ne (or_left g.R.Reader.shares _ shares))))
 
 pub returns-in_ok-attributes-clause-gives : goal.returns-in_ok-attributes-clause-gives
 returns-in_ok-attributes-clause-gives g c =
-    let scope = seen_scope c.args.scope in
+    let scope = as_scope c.args.scope in
     let u = c.args.unit.now in
     let around = c.args.nesting.now in
     let a = c.args.abbreviation.now in
     let left = c.args.entries.now.cursor.left in
-    let found = seen_lists c.args.found.now in
+    let found = as_lists c.args.found.now in
     let listed = ap (λ k. is_listed k c.args.nesting.now) (sym c.kind_of.ensures.gives) ∙ sym c.if-lists.ensures.gives in
     let gives = rw c.attributes-specifications.ensures.gives at c.in_ok-attributes.ensures.gives in
     let rest = rw c.attributes-specifications.ensures.gives at c.in_ok-attributes.ensures.left in
-    let x = seen_attributes g.R.Reader.section c.in_ok-attributes.attributes in
-    let Added : Sections → UnitRecord → ℕ → Type 0 = λ d v n. ExactlyUnlessOomIf (gives_a_range d v x.ranges) (λ _. seen_lists c.add.new.self) c.add.result (with_inlined_found d v c.args.offset.0 n found x) in
+    let x = as_attributes g.R.Reader.section c.in_ok-attributes.attributes in
+    let Added : Sections → UnitRecord → ℕ → Type 0 = λ d v n. ExactlyUnlessOomIf (gives_a_range d v x.ranges) (λ _. as_lists c.add.new.self) c.add.result (with_inlined_found d v c.args.offset.0 n found x) in
     let added = subst (λ n. Added scope.file.sections u n) c.depth.ensures.gives
     (subst (λ v. Added scope.file.sections v c.depth.result) c.new-unit.ensures.unit (subst (λ d. Added d c.new-unit.result.unit.now c.depth.result) c.new-unit.ensures.dwarf c.add.ensures.gives)) in
     let is = entry-listed scope u around c.args.offset.0 a left found _ _ listed gives rest in
@@ -42,12 +42,12 @@ returns-in_ok-attributes-clause-gives g c =
 
 pub returns-else-lists-clause-gives : goal.returns-else-lists-clause-gives
 returns-else-lists-clause-gives g c =
-    let scope = seen_scope c.args.scope in
+    let scope = as_scope c.args.scope in
     let u = c.args.unit.now in
     let around = c.args.nesting.now in
     let a = c.args.abbreviation.now in
     let left = c.args.entries.now.cursor.left in
-    let found = seen_lists c.args.found.now in
+    let found = as_lists c.args.found.now in
     let listed = ap (λ k. is_listed k c.args.nesting.now) (sym c.kind_of.ensures.gives) ∙ sym c.if-lists.ensures.gives in
     let rest = rw c.requires.encoding at c.skip_attributes_of.ensures.gives in
     entry-other scope u around c.args.offset.0 a left found _ _ c.skip_attributes_of.result listed rest
@@ -86,4 +86,4 @@ pub returns-in_ok-attributes-clause-names : goal.returns-in_ok-attributes-clause
 returns-in_ok-attributes-clause-names g c = c.in_ok-attributes.ensures.names
 
 pub returns-else-lists-clause-names : goal.returns-else-lists-clause-names
-returns-else-lists-clause-names g c = names_same (seen_scope c.args.scope) c.args.unit.now _ c.requires.names
+returns-else-lists-clause-names g c = names_same (as_scope c.args.scope) c.args.unit.now _ c.requires.names

@@ -1,7 +1,7 @@
-use Rattle.addr2line_lines.proofs.Common.{◌&&◌, ℤ, List, Ok, Result, false, is_ok, subst, sym, ap, ◌∙◌, err_from_is_err_and, ◌>>=◌, Section, EntryCursor, next_offset_of, Kind, seen_scope, FoundInlined, seen_lists, or_right}
+use Rattle.addr2line_lines.proofs.Common.{◌&&◌, ℤ, List, Ok, Result, false, is_ok, subst, sym, ap, ◌∙◌, err_from_is_err_and, ◌>>=◌, Section, EntryCursor, next_offset_of, Kind, as_scope, FoundInlined, as_lists, or_right}
 use Rattle.gimli_read.specs.declared.error.Error.{Error as Fault}
 use Rattle.addr2line_lines.specs.CostedSteps.{then_room_if}
-use Rattle.addr2line_lines.specs.FoundItems.{FoundAround, entry_found_at, item_found_at, seen_around}
+use Rattle.addr2line_lines.specs.FoundItems.{FoundAround, entry_found_at, item_found_at, as_around}
 use Rattle.addr2line_lines.specs.OpenEntries.{kind_of, opened}
 use Rattle.addr2line_lines.proofs.CachedNameLemmas.{names_same}
 use Rattle.addr2line_lines.proofs.CostLemmas.{IsPartOf, map_part, part_on, refused_part, rest_part, room_part}
@@ -12,20 +12,20 @@ use Rattle.addr2line_lines.proofs.detail.read_item.Goals as goal
 pub returns-in_err-read_abbreviation-clause-gives : goal.returns-in_err-read_abbreviation-clause-gives
 returns-in_err-read_abbreviation-clause-gives g c =
     let p = err_from_is_err_and c.from_residual.result c.from_residual.ensures.1 in
-    let scope = seen_scope c.args.scope in
-    let state = seen_around c.args.found.now c.args.nesting.now in
+    let scope = as_scope c.args.scope in
+    let state = as_around c.args.found.now c.args.nesting.now in
     rw (p.1, p.2) (λ _. code-fault scope c.args.unit.now c.args.entries.now.unit c.args.entries.now.cursor state _ c.in_err-read_abbreviation.ensures.gives)
 
 pub returns-in_err-read_entry-in-Some-clause-gives : goal.returns-in_err-read_entry-in-Some-clause-gives
 returns-in_err-read_entry-in-Some-clause-gives g c =
     let p = err_from_is_err_and c.from_residual-in_err-read_entry-in-Some.result c.from_residual-in_err-read_entry-in-Some.ensures.1 in
-    let scope = seen_scope c.args.scope in
+    let scope = as_scope c.args.scope in
     let u = c.args.unit.now in
     let unit = c.args.entries.now.unit in
     let start = c.args.entries.now.cursor in
-    let lists = seen_lists c.args.found.now in
+    let lists = as_lists c.args.found.now in
     let around = c.args.nesting.now in
-    let state = seen_around c.args.found.now around in
+    let state = as_around c.args.found.now around in
     let a = c.in-Some.abbreviation.now in
     let t = c.read_abbreviation.new.self.cursor in
     let code = rw c.in-Some.is at c.in_ok-read_abbreviation.ensures.gives in
@@ -36,34 +36,34 @@ returns-in_err-read_entry-in-Some-clause-gives g c =
 
 pub returns-in-None-clause-gives : goal.returns-in-None-clause-gives
 returns-in-None-clause-gives g c =
-    let scope = seen_scope c.args.scope in
+    let scope = as_scope c.args.scope in
     let u = c.args.unit.now in
     let unit = c.args.entries.now.unit in
     let start = c.args.entries.now.cursor in
-    let lists = seen_lists c.args.found.now in
+    let lists = as_lists c.args.found.now in
     let around = c.args.nesting.now in
-    let state = seen_around c.args.found.now around in
+    let state = as_around c.args.found.now around in
     let t = c.read_abbreviation.new.self.cursor in
     let made : List Kind → FoundAround × EntryCursor = λ k. (record { found = lists; around = k }, t) in
     item-closing scope u unit start t state (rw c.in-None.is at c.in_ok-read_abbreviation.ensures.gives) ∙ ap (λ k. Ok (made k)) (sym c.close.ensures.gives)
 
 pub returns-in-None-clause-shorter : goal.returns-in-None-clause-shorter
-returns-in-None-clause-shorter g c = item-shorter (seen_scope c.args.scope) c.args.unit.now c.args.entries.now.unit _ _ (rw c.in-None.is at c.in_ok-read_abbreviation.ensures.gives)
+returns-in-None-clause-shorter g c = item-shorter (as_scope c.args.scope) c.args.unit.now c.args.entries.now.unit _ _ (rw c.in-None.is at c.in_ok-read_abbreviation.ensures.gives)
 
 pub returns-in_ok-read_entry-in-Some-clause-gives : goal.returns-in_ok-read_entry-in-Some-clause-gives
 returns-in_ok-read_entry-in-Some-clause-gives g c =
-    let scope = seen_scope c.args.scope in
+    let scope = as_scope c.args.scope in
     let u = c.args.unit.now in
     let unit = c.args.entries.now.unit in
     let start = c.args.entries.now.cursor in
-    let lists = seen_lists c.args.found.now in
+    let lists = as_lists c.args.found.now in
     let around = c.args.nesting.now in
-    let state = seen_around c.args.found.now around in
+    let state = as_around c.args.found.now around in
     let a = c.in-Some.abbreviation.now in
     let t = c.read_abbreviation.new.self.cursor in
     let code = rw c.in-Some.is at c.in_ok-read_abbreviation.ensures.gives in
     let rest = item-entry scope u unit start t state a (sym c.requires.encoding) code in
-    let more = seen_lists c.read_entry.new.found in
+    let more = as_lists c.read_entry.new.found in
     let end = c.read_entry.new.entries.cursor in
     let at : List Kind → ℤ → FoundAround × EntryCursor = λ k z. (record { found = more; around = k }, record { left = end.left; depth = z }) in
     let made : List Kind → FoundAround × EntryCursor = λ k. (record { found = more; around = k }, end) in
@@ -79,13 +79,13 @@ returns-in_ok-read_entry-in-Some-clause-gives g c =
 
 pub returns-in_ok-read_entry-in-Some-clause-shorter : goal.returns-in_ok-read_entry-in-Some-clause-shorter
 returns-in_ok-read_entry-in-Some-clause-shorter g c =
-    let scope = seen_scope c.args.scope in
+    let scope = as_scope c.args.scope in
     let u = c.args.unit.now in
     let unit = c.args.entries.now.unit in
     let start = c.args.entries.now.cursor in
-    let lists = seen_lists c.args.found.now in
+    let lists = as_lists c.args.found.now in
     let around = c.args.nesting.now in
-    let state = seen_around c.args.found.now around in
+    let state = as_around c.args.found.now around in
     let a = c.in-Some.abbreviation.now in
     let t = c.read_abbreviation.new.self.cursor in
     let code = rw c.in-Some.is at c.in_ok-read_abbreviation.ensures.gives in
@@ -122,13 +122,13 @@ pub returns-in_ok-read_entry-in-Some-clause-unit : goal.returns-in_ok-read_entry
 returns-in_ok-read_entry-in-Some-clause-unit g c = c.in_ok-read_entry-in-Some.ensures.unit ∙ c.in_ok-read_abbreviation.ensures.unit
 
 pub returns-in_err-read_abbreviation-clause-names : goal.returns-in_err-read_abbreviation-clause-names
-returns-in_err-read_abbreviation-clause-names g c = names_same (seen_scope c.args.scope) c.args.unit.now _ c.requires.names
+returns-in_err-read_abbreviation-clause-names g c = names_same (as_scope c.args.scope) c.args.unit.now _ c.requires.names
 
 pub returns-in_err-read_entry-in-Some-clause-names : goal.returns-in_err-read_entry-in-Some-clause-names
 returns-in_err-read_entry-in-Some-clause-names g c = c.in_err-read_entry-in-Some.ensures.names
 
 pub returns-in-None-clause-names : goal.returns-in-None-clause-names
-returns-in-None-clause-names g c = names_same (seen_scope c.args.scope) c.args.unit.now _ c.requires.names
+returns-in-None-clause-names g c = names_same (as_scope c.args.scope) c.args.unit.now _ c.requires.names
 
 pub returns-in_ok-read_entry-in-Some-clause-names : goal.returns-in_ok-read_entry-in-Some-clause-names
 returns-in_ok-read_entry-in-Some-clause-names g c = c.in_ok-read_entry-in-Some.ensures.names

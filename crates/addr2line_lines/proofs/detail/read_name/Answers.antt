@@ -1,4 +1,4 @@
-use Rattle.addr2line_lines.proofs.Common.{option_map, subst, sym, err_from_is_err_and, ExactlyUnlessOomIf, seen_scope}
+use Rattle.addr2line_lines.proofs.Common.{option_map, subst, sym, err_from_is_err_and, ExactlyUnlessOomIf, as_scope}
 use Rattle.addr2line_lines.proofs.CachedNameLemmas.{names_growth, names_same}
 use Rattle.addr2line_lines.proofs.DetailLemmas.{nameless}
 use Rattle.addr2line_lines.proofs.RangeLemmas.{on_ok}
@@ -18,10 +18,10 @@ pub returns-clause-left : goal.returns-clause-left
 returns-clause-left g c = on_ok _ c.own.result (rw c.requires.encoding at c.in_ok-take_attributes.ensures.left)
 
 pub take_attributes-requires-clause-others : goal.take_attributes-requires-clause-others
-take_attributes-requires-clause-others g c = nameless (seen_scope c.args.scope) c.args.unit.now
+take_attributes-requires-clause-others g c = nameless (as_scope c.args.scope) c.args.unit.now
 
 pub take_attributes-requires-clause-growth : goal.take_attributes-requires-clause-growth
-take_attributes-requires-clause-growth g c = names_growth (seen_scope c.args.scope) c.args.unit.now g.R.Reader.section
+take_attributes-requires-clause-growth g c = names_growth (as_scope c.args.scope) c.args.unit.now g.R.Reader.section
 
 pub take_attributes-requires-clause-cache : goal.take_attributes-requires-clause-cache
-take_attributes-requires-clause-cache g c = (c.requires.in_order, names_same (seen_scope c.args.scope) c.args.unit.now _ c.requires.names)
+take_attributes-requires-clause-cache g c = (c.requires.in_order, names_same (as_scope c.args.scope) c.args.unit.now _ c.requires.names)

@@ -1,4 +1,4 @@
-use Rattle.addr2line_lines.proofs.Common.{sym, ap, ◌∙◌, err_from_is_err_and, items_left, have_function, found_from, seen_functions}
+use Rattle.addr2line_lines.proofs.Common.{sym, ap, ◌∙◌, err_from_is_err_and, items_left, have_function, found_from, as_functions}
 use Rattle.addr2line_lines.proofs.FunctionLemmas.{found_end, found_fault, found_step, or_more}
 use Rattle.addr2line_lines.proofs.FunctionMemory.{have_next, have_step}
 use Rattle.addr2line_lines.proofs.functions.read_functions.Goals as goal
@@ -10,7 +10,7 @@ loop-unit-preserved g c =
     let i = c.loop-unit.invariant in
     let now = c.read_item.new in
     record {
-      gives = ap (λ v. found_from d u v now.entries.cursor (seen_functions now.found)) c.in_ok-read_item.ensures.unit
+      gives = ap (λ v. found_from d u v now.entries.cursor (as_functions now.found)) c.in_ok-read_item.ensures.unit
           ∙ sym (found_step d u _ _ _ _ _ (sym c.loop-unit-test.ensures.gives) c.in_ok-read_item.ensures.gives) ∙ i.gives;
       unit = ap (λ v. v.encoding) c.in_ok-read_item.ensures.unit ∙ i.unit;
       has = λ e. i.has (have_step d u _ _ _ _ _ (sym c.loop-unit-test.ensures.gives) c.in_ok-read_item.ensures.gives (ap (λ v. have_function d u (items_left v now.entries.cursor).items) (sym c.in_ok-read_item.ensures.unit) ∙ e));

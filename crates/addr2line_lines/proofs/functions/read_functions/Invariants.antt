@@ -1,4 +1,4 @@
-use Rattle.addr2line_lines.proofs.Common.{◌≡◌, true, length, items_of, items_left, have_function, AreFoundUnread, found_from, found_in, seen_functions}
+use Rattle.addr2line_lines.proofs.Common.{◌≡◌, true, length, items_of, items_left, have_function, AreFoundUnread, found_from, found_in, as_functions}
 use Rattle.addr2line_lines.proofs.functions.read_functions.Given as goal
 
 abbrev pub invariant-loop-unit : goal.invariant-loop-unit
@@ -6,7 +6,7 @@ invariant-loop-unit g l =
     let d = l.fn.unit.dwarf.now in
     let u = l.fn.unit.unit.now in
     record {
-      gives : found_from d u l.entries.unit l.entries.cursor (seen_functions l.found) ≡ found_in d u;
+      gives : found_from d u l.entries.unit l.entries.cursor (as_functions l.found) ≡ found_in d u;
       unit : l.entries.unit.encoding ≡ u.header.encoding;
       has : have_function d u (items_left l.entries.unit l.entries.cursor).items ≡ true → have_function d u (items_of u).items ≡ true;
       unread : AreFoundUnread l.found;

@@ -1,4 +1,4 @@
-use Rattle.addr2line_lines.proofs.Common.{err_from_is_err_and, seen_scope}
+use Rattle.addr2line_lines.proofs.Common.{err_from_is_err_and, as_scope}
 use Rattle.addr2line_lines.proofs.CachedNameLemmas.{names_growth, names_same}
 use Rattle.addr2line_lines.proofs.DetailLemmas.{unwanted}
 use Rattle.addr2line_lines.proofs.inlined.read_inlined_attributes.Goals as goal
@@ -12,10 +12,10 @@ pub returns-clause-gives : goal.returns-clause-gives
 returns-clause-gives g c = rw (c.requires.encoding, c.new-found.ensures.gives) at c.in_ok-take_attributes.ensures.gives
 
 pub take_attributes-requires-clause-others : goal.take_attributes-requires-clause-others
-take_attributes-requires-clause-others g c = unwanted (seen_scope c.args.scope) c.args.unit.now
+take_attributes-requires-clause-others g c = unwanted (as_scope c.args.scope) c.args.unit.now
 
 pub take_attributes-requires-clause-growth : goal.take_attributes-requires-clause-growth
-take_attributes-requires-clause-growth g c = names_growth (seen_scope c.args.scope) c.args.unit.now g.R.Reader.section
+take_attributes-requires-clause-growth g c = names_growth (as_scope c.args.scope) c.args.unit.now g.R.Reader.section
 
 pub take_attributes-requires-clause-cache : goal.take_attributes-requires-clause-cache
-take_attributes-requires-clause-cache g c = (c.requires.in_order, names_same (seen_scope c.args.scope) c.args.unit.now _ c.requires.names)
+take_attributes-requires-clause-cache g c = (c.requires.in_order, names_same (as_scope c.args.scope) c.args.unit.now _ c.requires.names)

@@ -1,4 +1,4 @@
-use Rattle.addr2line_lines.proofs.Common.{Ok, ap, seen_scope}
+use Rattle.addr2line_lines.proofs.Common.{Ok, ap, as_scope}
 use Rattle.gimli.proofs.StringLemmas.{string_refused}
 use Rattle.addr2line_lines.proofs.NameLemmas.{unreadable}
 use Rattle.addr2line_lines.proofs.name.readable.Goals as goal
@@ -11,4 +11,4 @@ returns-in-OutOfMemory g c =
 pub returns-in_default : goal.returns-in_default
 returns-in_default g c =
     let given = rw (c.new.ensures.dwarf, c.new.ensures.unit) at c.in-Err.ensures.gives in
-    record { gives = ap Ok (unreadable (seen_scope c.args.scope) c.args.unit.now _ _ _ _ c.in_default.not-OutOfMemory given) }
+    record { gives = ap Ok (unreadable (as_scope c.args.scope) c.args.unit.now _ _ _ _ c.in_default.not-OutOfMemory given) }

@@ -1,4 +1,4 @@
-use Rattle.addr2line_lines.proofs.Common.{◌+◌, ◌-◌, arith, sym, ◌∙◌, err_from_is_err_and, seen_place}
+use Rattle.addr2line_lines.proofs.Common.{◌+◌, ◌-◌, arith, sym, ◌∙◌, err_from_is_err_and, as_place}
 use Rattle.addr2line_lines.proofs.NameLemmas.{visit_ends, visit_goes_on, visit_named, within_fault, within_none, within_place, within_zero}
 use Rattle.addr2line_lines.proofs.ReferenceLemmas.{referred_in_order}
 use Rattle.addr2line_lines.proofs.name.referred_name.Goals as goal
@@ -26,14 +26,14 @@ returns-in_err-name g c =
     let l = c.loop-test.true in
     let n = c.loop.counter in
     let some = rw c.in-Some.is at c.in_ok-place.ensures.gives in
-    record { gives = rw (p.1, p.2) (λ ne. sym i.gives ∙ within_place (16 - n) (16 - (n + 1)) _ _ _ (seen_place c.in-Some.place) _ (omega arith) some (c.in_err-name.ensures.gives ne)) }
+    record { gives = rw (p.1, p.2) (λ ne. sym i.gives ∙ within_place (16 - n) (16 - (n + 1)) _ _ _ (as_place c.in-Some.place) _ (omega arith) some (c.in_err-name.ensures.gives ne)) }
 
 pub returns-then-is_some : goal.returns-then-is_some
 returns-then-is_some g c =
     let i = c.loop.invariant in
     let l = c.loop-test.true in
     let n = c.loop.counter in
-    let place = seen_place c.in-Some.place in
+    let place = as_place c.in-Some.place in
     let some = rw c.in-Some.is at c.in_ok-place.ensures.gives in
     let chain = within_place (16 - n) (16 - (n + 1)) _ _ _ place _ (omega arith) some c.in_ok-name.ensures.gives in
     record { gives = sym i.gives ∙ chain ∙ visit_named g.R.Reader.section _ place c.in_ok-name.field-0 c.if-is_some.ensures }
@@ -43,7 +43,7 @@ returns-in_default-origin g c =
     let i = c.loop.invariant in
     let l = c.loop-test.true in
     let n = c.loop.counter in
-    let place = seen_place c.in-Some.place in
+    let place = as_place c.in-Some.place in
     let some = rw c.in-Some.is at c.in_ok-place.ensures.gives in
     let chain = within_place (16 - n) (16 - (n + 1)) _ _ _ place _ (omega arith) some c.in_ok-name.ensures.gives in
     record { gives = sym i.gives ∙ chain ∙ visit_ends g.R.Reader.section _ place c.in_ok-name.field-0 c.if-is_some.ensures c.in_default-origin.is }
@@ -53,7 +53,7 @@ loop-preserved g c =
     let i = c.loop.invariant in
     let l = c.loop-test.true in
     let n = c.loop.counter in
-    let place = seen_place c.in-Some.place in
+    let place = as_place c.in-Some.place in
     let some = rw c.in-Some.is at c.in_ok-place.ensures.gives in
     let chain = within_place (16 - n) (16 - (n + 1)) _ _ _ place _ (omega arith) some c.in_ok-name.ensures.gives in
     record {

@@ -1,11 +1,11 @@
-use Rattle.addr2line_units.proofs.Common.{◌≡◌, ◌∙◌, Err, Ok, Some, ap, false, option_map, subst, sym, true, err_from_is_err_and, exceeds_inline_room, location_of_row, seen_scope, cached_files, indexed_unit, found_frames, AsksNoMemoryIn, first_answer_of, function_of_place, cached_functions, location_in, function_in, inlined_of_unit, is_open}
+use Rattle.addr2line_units.proofs.Common.{◌≡◌, ◌∙◌, Err, Ok, Some, ap, false, option_map, subst, sym, true, err_from_is_err_and, exceeds_inline_room, location_of_row, as_scope, cached_files, indexed_unit, found_frames, AsksNoMemoryIn, first_answer_of, function_of_place, cached_functions, location_in, function_in, inlined_of_unit, is_open}
 use Rattle.addr2line_units.proofs.EntryLemmas.{checked_decides, not_open}
 use Rattle.addr2line_units.proofs.UnitFrameLemmas.{closed_asks, fault_frames, function_alone, lines_alone, lines_fault_frames, lines_frames, check_only, only_after, open_asks, open_frames, stay_after, waiting_entries, waiting_stays_open}
 use Rattle.addr2line_units.proofs.entries.find_frames_in.Goals as goal
 
 pub returns-then-is_open-clause-gives : goal.returns-then-is_open-clause-gives
 returns-then-is_open-clause-gives g c =
-    let scope = seen_scope c.args.scope in
+    let scope = as_scope c.args.scope in
     let u = c.args.dw_unit.now in
     let probe = c.args.probe in
     let old = c.args.entries.now in
@@ -23,7 +23,7 @@ returns-then-is_open-clause-ready g c =
 
 pub returns-then-is_open-clause-within : goal.returns-then-is_open-clause-within
 returns-then-is_open-clause-within g c =
-    let scope = seen_scope c.args.scope in
+    let scope = as_scope c.args.scope in
     let u = c.args.dw_unit.now in
     let probe = c.args.probe in
     let old = c.args.entries.now in
@@ -34,7 +34,7 @@ returns-then-is_open-clause-within g c =
 
 pub returns-then-is_open-clause-known : goal.returns-then-is_open-clause-known
 returns-then-is_open-clause-known g c =
-    let scope = seen_scope c.args.scope in
+    let scope = as_scope c.args.scope in
     let u = c.args.dw_unit.now in
     let probe = c.args.probe in
     let old = c.args.entries.now in
@@ -47,7 +47,7 @@ returns-then-is_open-clause-known g c =
 
 pub returns-in_err-function-clause-gives : goal.returns-in_err-function-clause-gives
 returns-in_err-function-clause-gives g c =
-    let scope = seen_scope c.args.scope in
+    let scope = as_scope c.args.scope in
     let u = c.args.dw_unit.now in
     let probe = c.args.probe in
     let old = c.args.entries.now in
@@ -61,7 +61,7 @@ returns-in_err-function-clause-gives g c =
 
 pub returns-in_err-function-clause-after : goal.returns-in_err-function-clause-after
 returns-in_err-function-clause-after g c =
-    let scope = seen_scope c.args.scope in
+    let scope = as_scope c.args.scope in
     let u = c.args.dw_unit.now in
     let probe = c.args.probe in
     let old = c.args.entries.now in
@@ -72,7 +72,7 @@ returns-in_err-function-clause-after g c =
 
 pub returns-in_err-function-clause-within : goal.returns-in_err-function-clause-within
 returns-in_err-function-clause-within g c =
-    let scope = seen_scope c.args.scope in
+    let scope = as_scope c.args.scope in
     let u = c.args.dw_unit.now in
     let probe = c.args.probe in
     let old = c.args.entries.now in
@@ -83,7 +83,7 @@ returns-in_err-function-clause-within g c =
 
 pub returns-in_err-function-clause-known : goal.returns-in_err-function-clause-known
 returns-in_err-function-clause-known g c =
-    let scope = seen_scope c.args.scope in
+    let scope = as_scope c.args.scope in
     let u = c.args.dw_unit.now in
     let probe = c.args.probe in
     let old = c.args.entries.now in
@@ -97,7 +97,7 @@ returns-in_err-function-clause-known g c =
 
 pub returns-in_err-row-clause-gives : goal.returns-in_err-row-clause-gives
 returns-in_err-row-clause-gives g c =
-    let scope = seen_scope c.args.scope in
+    let scope = as_scope c.args.scope in
     let u = c.args.dw_unit.now in
     let probe = c.args.probe in
     let old = c.args.entries.now in
@@ -113,7 +113,7 @@ returns-in_err-row-clause-gives g c =
 
 pub returns-in_err-row-clause-after : goal.returns-in_err-row-clause-after
 returns-in_err-row-clause-after g c =
-    let scope = seen_scope c.args.scope in
+    let scope = as_scope c.args.scope in
     let u = c.args.dw_unit.now in
     let probe = c.args.probe in
     let old = c.args.entries.now in
@@ -124,7 +124,7 @@ returns-in_err-row-clause-after g c =
 
 pub returns-in_err-row-clause-within : goal.returns-in_err-row-clause-within
 returns-in_err-row-clause-within g c =
-    let scope = seen_scope c.args.scope in
+    let scope = as_scope c.args.scope in
     let u = c.args.dw_unit.now in
     let probe = c.args.probe in
     let old = c.args.entries.now in
@@ -135,7 +135,7 @@ returns-in_err-row-clause-within g c =
 
 pub returns-in_err-row-clause-kept : goal.returns-in_err-row-clause-kept
 returns-in_err-row-clause-kept g c =
-    let scope = seen_scope c.args.scope in
+    let scope = as_scope c.args.scope in
     let u = c.args.dw_unit.now in
     let probe = c.args.probe in
     let old = c.args.entries.now in
@@ -150,7 +150,7 @@ returns-in_err-row-clause-kept g c =
 
 pub returns-in_err-row-clause-memory : goal.returns-in_err-row-clause-memory
 returns-in_err-row-clause-memory g c =
-    let scope = seen_scope c.args.scope in
+    let scope = as_scope c.args.scope in
     let u = c.args.dw_unit.now in
     let probe = c.args.probe in
     let old = c.args.entries.now in
@@ -166,7 +166,7 @@ returns-in_err-row-clause-memory g c =
 
 pub returns-clause-gives : goal.returns-clause-gives
 returns-clause-gives g c =
-    let scope = seen_scope c.args.scope in
+    let scope = as_scope c.args.scope in
     let u = c.args.dw_unit.now in
     let probe = c.args.probe in
     let old = c.args.entries.now in
@@ -183,7 +183,7 @@ returns-clause-gives g c =
 
 pub returns-clause-there : goal.returns-clause-there
 returns-clause-there g c =
-    let scope = seen_scope c.args.scope in
+    let scope = as_scope c.args.scope in
     let u = c.args.dw_unit.now in
     let probe = c.args.probe in
     let old = c.args.entries.now in
@@ -199,7 +199,7 @@ returns-clause-there g c =
 
 pub returns-clause-after : goal.returns-clause-after
 returns-clause-after g c =
-    let scope = seen_scope c.args.scope in
+    let scope = as_scope c.args.scope in
     let u = c.args.dw_unit.now in
     let probe = c.args.probe in
     let old = c.args.entries.now in
@@ -210,7 +210,7 @@ returns-clause-after g c =
 
 pub returns-clause-within : goal.returns-clause-within
 returns-clause-within g c =
-    let scope = seen_scope c.args.scope in
+    let scope = as_scope c.args.scope in
     let u = c.args.dw_unit.now in
     let probe = c.args.probe in
     let old = c.args.entries.now in
@@ -221,7 +221,7 @@ returns-clause-within g c =
 
 pub returns-clause-kept : goal.returns-clause-kept
 returns-clause-kept g c =
-    let scope = seen_scope c.args.scope in
+    let scope = as_scope c.args.scope in
     let u = c.args.dw_unit.now in
     let probe = c.args.probe in
     let old = c.args.entries.now in
@@ -245,7 +245,7 @@ returns-in_err-function-clause-ready g c =
 pub returns-in_err-function-clause-memory : goal.returns-in_err-function-clause-memory
 returns-in_err-function-clause-memory g c =
     let p = err_from_is_err_and c.from_residual.result c.from_residual.ensures.1 in
-    rw (p.1, p.2) (λ has. λ parsed. λ few. c.in_err-function.ensures.memory has (ap (λ a. exceeds_inline_room (inlined_of_unit (seen_scope c.args.scope) c.args.dw_unit.now a c.args.probe)) c.check_split.ensures.after.answer ∙ few))
+    rw (p.1, p.2) (λ has. λ parsed. λ few. c.in_err-function.ensures.memory has (ap (λ a. exceeds_inline_room (inlined_of_unit (as_scope c.args.scope) c.args.dw_unit.now a c.args.probe)) c.check_split.ensures.after.answer ∙ few))
 
 pub returns-in_err-row-clause-ready : goal.returns-in_err-row-clause-ready
 returns-in_err-row-clause-ready g c =
@@ -271,7 +271,7 @@ returns-then-is_open-clause-no_memory g c = λ none. tt
 
 pub returns-in_err-function-clause-no_memory : goal.returns-in_err-function-clause-no_memory
 returns-in_err-function-clause-no_memory g c =
-    let scope = seen_scope c.args.scope in
+    let scope = as_scope c.args.scope in
     let u = c.args.dw_unit.now in
     let probe = c.args.probe in
     let old = c.args.entries.now in
@@ -289,7 +289,7 @@ returns-in_err-function-clause-no_memory g c =
 
 pub returns-in_err-row-clause-no_memory : goal.returns-in_err-row-clause-no_memory
 returns-in_err-row-clause-no_memory g c =
-    let scope = seen_scope c.args.scope in
+    let scope = as_scope c.args.scope in
     let u = c.args.dw_unit.now in
     let probe = c.args.probe in
     let old = c.args.entries.now in

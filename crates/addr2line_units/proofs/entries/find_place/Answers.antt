@@ -1,11 +1,11 @@
-use Rattle.addr2line_units.proofs.Common.{Err, ap, arith, refl, sym, err_from_is_err_and, seen_scope, some_at, read_more, table_same}
+use Rattle.addr2line_units.proofs.Common.{Err, ap, arith, refl, sym, err_from_is_err_and, as_scope, some_at, read_more, table_same}
 use Rattle.addr2line_units.proofs.CachedFunctionLemmas.{chain_found, chain_ready, none_found, number_stays, reads_one, refused_chain, refused_detail, refused_ready, table_stays}
 use Rattle.addr2line_units.proofs.CachedPlaceLemmas.{chain_fits, chain_known, known_stays, refused_fault, refused_known}
 use Rattle.addr2line_units.proofs.entries.find_place.Goals as goal
 
 pub returns-in_default-clause-gives : goal.returns-in_default-clause-gives
 returns-in_default-clause-gives g c =
-    none_found (seen_scope c.args.scope) c.args.view.now c.args.probe c.args.functions.now c.requires.right c.in_default.ensures.found
+    none_found (as_scope c.args.scope) c.args.view.now c.args.probe c.args.functions.now c.requires.right c.in_default.ensures.found
 
 pub returns-in_default-clause-after : goal.returns-in_default-clause-after
 returns-in_default-clause-after g c =
@@ -13,7 +13,7 @@ returns-in_default-clause-after g c =
 
 pub returns-in_err-read-clause-gives : goal.returns-in_err-read-clause-gives
 returns-in_err-read-clause-gives g c =
-    let scope = seen_scope c.args.scope in
+    let scope = as_scope c.args.scope in
     let view = c.args.view.now in
     let probe = c.args.probe in
     let n = c.in-Some.place in
@@ -25,7 +25,7 @@ returns-in_err-read-clause-gives g c =
 
 pub returns-in_err-read-clause-ready : goal.returns-in_err-read-clause-ready
 returns-in_err-read-clause-ready g c =
-    let scope = seen_scope c.args.scope in
+    let scope = as_scope c.args.scope in
     let view = c.args.view.now in
     let probe = c.args.probe in
     let n = c.in-Some.place in
@@ -37,7 +37,7 @@ returns-in_err-read-clause-ready g c =
 
 pub returns-in_err-inlined-clause-gives : goal.returns-in_err-inlined-clause-gives
 returns-in_err-inlined-clause-gives g c =
-    let scope = seen_scope c.args.scope in
+    let scope = as_scope c.args.scope in
     let view = c.args.view.now in
     let probe = c.args.probe in
     let n = c.in-Some.place in
@@ -49,7 +49,7 @@ returns-in_err-inlined-clause-gives g c =
 
 pub returns-in_err-inlined-clause-ready : goal.returns-in_err-inlined-clause-ready
 returns-in_err-inlined-clause-ready g c =
-    let scope = seen_scope c.args.scope in
+    let scope = as_scope c.args.scope in
     let view = c.args.view.now in
     let probe = c.args.probe in
     let n = c.in-Some.place in
@@ -60,7 +60,7 @@ returns-in_err-inlined-clause-ready g c =
 
 pub returns-clause-gives : goal.returns-clause-gives
 returns-clause-gives g c =
-    let scope = seen_scope c.args.scope in
+    let scope = as_scope c.args.scope in
     let view = c.args.view.now in
     let probe = c.args.probe in
     let n = c.in-Some.place in
@@ -71,7 +71,7 @@ returns-clause-gives g c =
 
 pub returns-clause-ready : goal.returns-clause-ready
 returns-clause-ready g c =
-    let scope = seen_scope c.args.scope in
+    let scope = as_scope c.args.scope in
     let view = c.args.view.now in
     let probe = c.args.probe in
     let n = c.in-Some.place in
@@ -82,7 +82,7 @@ returns-clause-ready g c =
 
 pub returns-clause-there : goal.returns-clause-there
 returns-clause-there g c =
-    let scope = seen_scope c.args.scope in
+    let scope = as_scope c.args.scope in
     let view = c.args.view.now in
     let n = c.in-Some.place in
     let old = c.args.functions.now in
@@ -94,7 +94,7 @@ returns-clause-there g c =
 
 pub returns-in_err-read-clause-right : goal.returns-in_err-read-clause-right
 returns-in_err-read-clause-right g c =
-    let scope = seen_scope c.args.scope in
+    let scope = as_scope c.args.scope in
     let view = c.args.view.now in
     let n = c.in-Some.place in
     let old = c.args.functions.now in
@@ -103,7 +103,7 @@ returns-in_err-read-clause-right g c =
 
 pub returns-in_err-read-clause-after : goal.returns-in_err-read-clause-after
 returns-in_err-read-clause-after g c =
-    let scope = seen_scope c.args.scope in
+    let scope = as_scope c.args.scope in
     let view = c.args.view.now in
     let n = c.in-Some.place in
     let old = c.args.functions.now in
@@ -112,7 +112,7 @@ returns-in_err-read-clause-after g c =
 
 pub returns-in_err-read-clause-within : goal.returns-in_err-read-clause-within
 returns-in_err-read-clause-within g c =
-    let scope = seen_scope c.args.scope in
+    let scope = as_scope c.args.scope in
     let view = c.args.view.now in
     let probe = c.args.probe in
     let n = c.in-Some.place in
@@ -122,7 +122,7 @@ returns-in_err-read-clause-within g c =
 
 pub returns-in_err-inlined-clause-right : goal.returns-in_err-inlined-clause-right
 returns-in_err-inlined-clause-right g c =
-    let scope = seen_scope c.args.scope in
+    let scope = as_scope c.args.scope in
     let view = c.args.view.now in
     let n = c.in-Some.place in
     let old = c.args.functions.now in
@@ -131,7 +131,7 @@ returns-in_err-inlined-clause-right g c =
 
 pub returns-in_err-inlined-clause-after : goal.returns-in_err-inlined-clause-after
 returns-in_err-inlined-clause-after g c =
-    let scope = seen_scope c.args.scope in
+    let scope = as_scope c.args.scope in
     let view = c.args.view.now in
     let n = c.in-Some.place in
     let old = c.args.functions.now in
@@ -140,7 +140,7 @@ returns-in_err-inlined-clause-after g c =
 
 pub returns-in_err-inlined-clause-within : goal.returns-in_err-inlined-clause-within
 returns-in_err-inlined-clause-within g c =
-    let scope = seen_scope c.args.scope in
+    let scope = as_scope c.args.scope in
     let view = c.args.view.now in
     let probe = c.args.probe in
     let n = c.in-Some.place in
@@ -150,7 +150,7 @@ returns-in_err-inlined-clause-within g c =
 
 pub returns-clause-right : goal.returns-clause-right
 returns-clause-right g c =
-    let scope = seen_scope c.args.scope in
+    let scope = as_scope c.args.scope in
     let view = c.args.view.now in
     let n = c.in-Some.place in
     let old = c.args.functions.now in
@@ -159,7 +159,7 @@ returns-clause-right g c =
 
 pub returns-clause-after : goal.returns-clause-after
 returns-clause-after g c =
-    let scope = seen_scope c.args.scope in
+    let scope = as_scope c.args.scope in
     let view = c.args.view.now in
     let n = c.in-Some.place in
     let old = c.args.functions.now in
@@ -168,7 +168,7 @@ returns-clause-after g c =
 
 pub returns-clause-within : goal.returns-clause-within
 returns-clause-within g c =
-    let scope = seen_scope c.args.scope in
+    let scope = as_scope c.args.scope in
     let view = c.args.view.now in
     let probe = c.args.probe in
     let n = c.in-Some.place in
@@ -178,7 +178,7 @@ returns-clause-within g c =
 
 pub returns-in_err-read-clause-known : goal.returns-in_err-read-clause-known
 returns-in_err-read-clause-known g c =
-    let scope = seen_scope c.args.scope in
+    let scope = as_scope c.args.scope in
     let view = c.args.view.now in
     let probe = c.args.probe in
     let n = c.in-Some.place in
@@ -190,7 +190,7 @@ returns-in_err-read-clause-known g c =
 
 pub returns-in_err-read-clause-memory : goal.returns-in_err-read-clause-memory
 returns-in_err-read-clause-memory g c =
-    let scope = seen_scope c.args.scope in
+    let scope = as_scope c.args.scope in
     let view = c.args.view.now in
     let probe = c.args.probe in
     let n = c.in-Some.place in
@@ -202,7 +202,7 @@ returns-in_err-read-clause-memory g c =
 
 pub returns-in_err-inlined-clause-kept : goal.returns-in_err-inlined-clause-kept
 returns-in_err-inlined-clause-kept g c =
-    let scope = seen_scope c.args.scope in
+    let scope = as_scope c.args.scope in
     let view = c.args.view.now in
     let probe = c.args.probe in
     let n = c.in-Some.place in
@@ -212,7 +212,7 @@ returns-in_err-inlined-clause-kept g c =
 
 pub returns-in_err-inlined-clause-known : goal.returns-in_err-inlined-clause-known
 returns-in_err-inlined-clause-known g c =
-    let scope = seen_scope c.args.scope in
+    let scope = as_scope c.args.scope in
     let view = c.args.view.now in
     let probe = c.args.probe in
     let n = c.in-Some.place in
@@ -223,7 +223,7 @@ returns-in_err-inlined-clause-known g c =
 
 pub returns-in_err-inlined-clause-memory : goal.returns-in_err-inlined-clause-memory
 returns-in_err-inlined-clause-memory g c =
-    let scope = seen_scope c.args.scope in
+    let scope = as_scope c.args.scope in
     let view = c.args.view.now in
     let probe = c.args.probe in
     let n = c.in-Some.place in
@@ -235,7 +235,7 @@ returns-in_err-inlined-clause-memory g c =
 
 pub returns-clause-kept : goal.returns-clause-kept
 returns-clause-kept g c =
-    let scope = seen_scope c.args.scope in
+    let scope = as_scope c.args.scope in
     let view = c.args.view.now in
     let probe = c.args.probe in
     let n = c.in-Some.place in
@@ -245,7 +245,7 @@ returns-clause-kept g c =
 
 pub returns-clause-known : goal.returns-clause-known
 returns-clause-known g c =
-    let scope = seen_scope c.args.scope in
+    let scope = as_scope c.args.scope in
     let view = c.args.view.now in
     let probe = c.args.probe in
     let n = c.in-Some.place in

@@ -1,27 +1,27 @@
-use Rattle.addr2line_units.proofs.Common.{◌≡◌, ◌∙◌, Bool, Ok, ap, false, refl, subst, sym, true, false≢true, err_from_is_err_and, Sections, UnitRecord, functions_take_memory, seen_scope, IsTableOf}
+use Rattle.addr2line_units.proofs.Common.{◌≡◌, ◌∙◌, Bool, Ok, ap, false, refl, subst, sym, true, false≢true, err_from_is_err_and, Sections, UnitRecord, functions_take_memory, as_scope, IsTableOf}
 use Rattle.addr2line_units.proofs.CachedFunctionLemmas.{read_fault_of, read_table}
 use Rattle.addr2line_units.proofs.FunctionMemoryLemmas.{functions_took, no_ranges}
 use Rattle.addr2line_units.proofs.entries.read_functions.Goals as goal
 
 pub returns-in_ok-new-in-Some-clause-right : goal.returns-in_ok-new-in-Some-clause-right
 returns-in_ok-new-in-Some-clause-right g c =
-    subst (IsTableOf (seen_scope c.args.scope) c.args.view.now) (sym c.in_ok-new-in-Some.ensures.ok)
-    (read_table (seen_scope c.args.scope) c.args.view.now c.new.result.dwarf.now c.new.result.unit.now c.in-Ok.functions c.new.ensures.dwarf c.new.ensures.unit c.in-Ok.ensures.gives c.in-Ok.ensures.right c.in-Ok.ensures.empty c.in-Ok.ensures.names)
+    subst (IsTableOf (as_scope c.args.scope) c.args.view.now) (sym c.in_ok-new-in-Some.ensures.ok)
+    (read_table (as_scope c.args.scope) c.args.view.now c.new.result.dwarf.now c.new.result.unit.now c.in-Ok.functions c.new.ensures.dwarf c.new.ensures.unit c.in-Ok.ensures.gives c.in-Ok.ensures.right c.in-Ok.ensures.empty c.in-Ok.ensures.names)
 
 pub returns-in-None-clause-right : goal.returns-in-None-clause-right
 returns-in-None-clause-right g c =
-    let table = read_table (seen_scope c.args.scope) c.args.view.now c.new.result.dwarf.now c.new.result.unit.now c.in-Ok.functions c.new.ensures.dwarf c.new.ensures.unit c.in-Ok.ensures.gives c.in-Ok.ensures.right c.in-Ok.ensures.empty c.in-Ok.ensures.names in
+    let table = read_table (as_scope c.args.scope) c.args.view.now c.new.result.dwarf.now c.new.result.unit.now c.in-Ok.functions c.new.ensures.dwarf c.new.ensures.unit c.in-Ok.ensures.gives c.in-Ok.ensures.right c.in-Ok.ensures.empty c.in-Ok.ensures.names in
     table.ranges ∙ ap Ok (no_ranges c.in-Ok.functions c.in-Ok.ensures.right (sym c.in-None.ensures.gives))
 
 pub returns-in_err-new-in-Some-clause-memory : goal.returns-in_err-new-in-Some-clause-memory
 returns-in_err-new-in-Some-clause-memory g c =
     let p = err_from_is_err_and c.from_residual.result c.from_residual.ensures.1 in
-    let table = read_table (seen_scope c.args.scope) c.args.view.now c.new.result.dwarf.now c.new.result.unit.now c.in-Ok.functions c.new.ensures.dwarf c.new.ensures.unit c.in-Ok.ensures.gives c.in-Ok.ensures.right c.in-Ok.ensures.empty c.in-Ok.ensures.names in
-    rw (p.1, p.2) (λ none. absurd (false≢true (sym none ∙ functions_took g.R.Reader.shares (seen_scope c.args.scope) c.args.view.now c.in-Ok.functions table _ c.in-Some.ensures.gives)))
+    let table = read_table (as_scope c.args.scope) c.args.view.now c.new.result.dwarf.now c.new.result.unit.now c.in-Ok.functions c.new.ensures.dwarf c.new.ensures.unit c.in-Ok.ensures.gives c.in-Ok.ensures.right c.in-Ok.ensures.empty c.in-Ok.ensures.names in
+    rw (p.1, p.2) (λ none. absurd (false≢true (sym none ∙ functions_took g.R.Reader.shares (as_scope c.args.scope) c.args.view.now c.in-Ok.functions table _ c.in-Some.ensures.gives)))
 
 pub returns-in_default : goal.returns-in_default
 returns-in_default g c = record {
-  right = read_fault_of (seen_scope c.args.scope) c.args.view.now c.new.result.dwarf.now c.new.result.unit.now c.in-Err.error c.new.ensures.dwarf c.new.ensures.unit (c.in-Err.ensures.gives (λ _. c.in_default.not-OutOfMemory));
+  right = read_fault_of (as_scope c.args.scope) c.args.view.now c.new.result.dwarf.now c.new.result.unit.now c.in-Err.error c.new.ensures.dwarf c.new.ensures.unit (c.in-Err.ensures.gives (λ _. c.in_default.not-OutOfMemory));
   read = refl;
   empty = tt;
   refused = tt;
@@ -33,5 +33,5 @@ none_taken shares d e u v p q none takes = false≢true (sym none ∙ ap (λ x. 
 
 pub returns-in-OutOfMemory-clause-memory : goal.returns-in-OutOfMemory-clause-memory
 returns-in-OutOfMemory-clause-memory g c none =
-    read_fault_of (seen_scope c.args.scope) c.args.view.now c.new.result.dwarf.now c.new.result.unit.now c.in-Err.error c.new.ensures.dwarf c.new.ensures.unit
+    read_fault_of (as_scope c.args.scope) c.args.view.now c.new.result.dwarf.now c.new.result.unit.now c.in-Err.error c.new.ensures.dwarf c.new.ensures.unit
     (c.in-Err.ensures.gives (λ takes. absurd (none_taken g.R.Reader.shares c.args.scope.file.dwarf.now c.new.result.dwarf.now c.args.view.now c.new.result.unit.now c.new.ensures.dwarf c.new.ensures.unit none takes)))

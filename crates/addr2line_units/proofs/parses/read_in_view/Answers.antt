@@ -1,4 +1,4 @@
-use Rattle.addr2line_units.proofs.Common.{subst, sym, err_from_is_err_and, ExactlyUnlessOom, seen_scope, UnitEntries}
+use Rattle.addr2line_units.proofs.Common.{subst, sym, err_from_is_err_and, ExactlyUnlessOom, as_scope, UnitEntries}
 use Rattle.addr2line_units.proofs.AfterParseLemmas.{refused_view_after, view_after, view_reads, view_refused}
 use Rattle.addr2line_units.proofs.EntryLemmas.{fault_known, functions_right, view_known}
 use Rattle.addr2line_units.proofs.parses.read_in_view.Goals as goal
@@ -6,7 +6,7 @@ use Rattle.addr2line_units.proofs.parses.read_in_view.Goals as goal
 pub returns-in_err-unit : goal.returns-in_err-unit
 returns-in_err-unit g c =
     let p = err_from_is_err_and c.from_residual.result c.from_residual.ensures.1 in
-    let scope = seen_scope c.args.scope in
+    let scope = as_scope c.args.scope in
     let u = c.args.dw_unit.now in
     let old : UnitEntries g.row.R.Denot = record { view = c.args.view.now; functions = c.args.functions.now } in
     let x = c.in_err-unit.field-0.0 in
@@ -18,20 +18,20 @@ returns-in_err-unit g c =
 
 pub read-requires : goal.read-requires
 read-requires g c =
-    let scope = seen_scope c.args.scope in
+    let scope = as_scope c.args.scope in
     let u = c.args.dw_unit.now in
     let old : UnitEntries g.row.R.Denot = record { view = c.args.view.now; functions = c.args.functions.now } in
-    let inner = seen_scope c.scope_of.result in
+    let inner = as_scope c.scope_of.result in
     let x = c.in_ok-unit.unit.unit.now in
     let v = view_known scope u 0 old c.requires.right c.requires.decided c.in_ok-unit.unit.dwarf.now x inner c.in_ok-unit.ensures.gives (c.scope_of.ensures.gives scope.file.sections u c.requires.right.view) in
     record { in_order = c.scope_of.ensures.right c.requires.in_order; right = functions_right scope u 0 old c.requires.right c.requires.decided inner x v }
 
 pub returns : goal.returns
 returns g c =
-    let scope = seen_scope c.args.scope in
+    let scope = as_scope c.args.scope in
     let u = c.args.dw_unit.now in
     let old : UnitEntries g.row.R.Denot = record { view = c.args.view.now; functions = c.args.functions.now } in
-    let inner = seen_scope c.scope_of.result in
+    let inner = as_scope c.scope_of.result in
     let x = c.in_ok-unit.unit.unit.now in
     let v = view_known scope u 0 old c.requires.right c.requires.decided c.in_ok-unit.unit.dwarf.now x inner c.in_ok-unit.ensures.gives (c.scope_of.ensures.gives scope.file.sections u c.requires.right.view) in
     record {

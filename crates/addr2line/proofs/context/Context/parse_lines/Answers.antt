@@ -1,4 +1,4 @@
-use Rattle.addr2line.proofs.Common.{ap, subst, sym, ◌∙◌, ExactlyUnlessOom, cover, AllAskFor, AreReadyForAll, ParsesOnly, TakeNoneForAll, UnitsState, seen_context}
+use Rattle.addr2line.proofs.Common.{ap, subst, sym, ◌∙◌, ExactlyUnlessOom, cover, AllAskFor, AreReadyForAll, ParsesOnly, TakeNoneForAll, UnitsState, as_context}
 use Rattle.std.specs.Prelude.{is_ok}
 use Rattle.addr2line_units.proofs.UnitsLemmas.{none_more_for_all}
 use Rattle.addr2line.proofs.ContextLemmas.{along_ok, at_lines, at_made, exactly_told, lines_are, lines_context, lines_stay, location_is, of_lines, of_made, ready_if_ok, same_if_asked, when_ok}
@@ -23,7 +23,7 @@ pub returns-clause-steps : goal.returns-clause-steps
 returns-clause-steps g c = rw (sym c.self.view_is) c.parse_lines.ensures.after.steps
 
 pub returns-clause-ready : goal.returns-clause-ready
-returns-clause-ready g c = ready_if_ok _ (seen_context c.parse_lines.new.self) c.parse_lines.ensures.after.parsed
+returns-clause-ready g c = ready_if_ok _ (as_context c.parse_lines.new.self) c.parse_lines.ensures.after.parsed
 
 pub returns-clause-found : goal.returns-clause-found
 returns-clause-found g c =

@@ -1,4 +1,4 @@
-use Rattle.addr2line_bin.proofs.Common.{refl, seen_loader, frames_left}
+use Rattle.addr2line_bin.proofs.Common.{refl, as_loader, frames_left}
 use Rattle.addr2line_bin.proofs.LoaderLemmas.{gives_frames, same_after_loads}
 use Rattle.addr2line_bin.proofs.lookups.LoaderOverLookups.find_frames.Goals as goal
 
@@ -9,7 +9,7 @@ returns g c =
       (
         refl,
         (λ _. tt),
-        same_after_loads frames_left c.args.probe c.find_frames.result (seen_loader files loader) (seen_loader files c.find_frames.follows.lender-at-none) c.find_frames.follows.holds-at-none,
+        same_after_loads frames_left c.args.probe c.find_frames.result (as_loader files loader) (as_loader files c.find_frames.follows.lender-at-none) c.find_frames.follows.holds-at-none,
       ),
-      record { gives = gives_frames frames_left (seen_loader files loader) c.args.probe c.find_frames.result c.find_frames.ensures.gives c.find_frames.ensures.none c.find_frames.ensures.last c.find_frames.ensures.exact; ends = tt },
+      record { gives = gives_frames frames_left (as_loader files loader) c.args.probe c.find_frames.result c.find_frames.ensures.gives c.find_frames.ensures.none c.find_frames.ensures.last c.find_frames.ensures.exact; ends = tt },
     )

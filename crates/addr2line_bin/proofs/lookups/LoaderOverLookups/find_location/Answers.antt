@@ -1,5 +1,5 @@
-use Rattle.addr2line_bin.proofs.Common.{refl, seen_loader}
-use Rattle.addr2line_lines.specs.SeenLocation.{seen_location}
+use Rattle.addr2line_bin.proofs.Common.{refl, as_loader}
+use Rattle.addr2line_lines.specs.SeenLocation.{as_location}
 use Rattle.addr2line_bin.proofs.LoaderLemmas.{finds, same_after_location}
 use Rattle.addr2line_bin.proofs.lookups.LoaderOverLookups.find_location.Goals as goal
 
@@ -7,6 +7,6 @@ pub returns : goal.returns
 returns g c =
     let files = g.F.FileSource.files in
     let found = c.find_location.ensures in (
-      (refl, (λ _. tt), same_after_location c.args.probe c.find_location.result (seen_loader files c.args.self.now) (seen_loader files c.find_location.follows.lender-at-none) c.find_location.follows.holds-at-none),
-      record { gives = finds seen_location c.args.self.now.context c.args.probe c.find_location.result found.gives found.exact found.last; ends = tt },
+      (refl, (λ _. tt), same_after_location c.args.probe c.find_location.result (as_loader files c.args.self.now) (as_loader files c.find_location.follows.lender-at-none) c.find_location.follows.holds-at-none),
+      record { gives = finds as_location c.args.self.now.context c.args.probe c.find_location.result found.gives found.exact found.last; ends = tt },
     )

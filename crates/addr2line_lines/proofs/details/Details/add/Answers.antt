@@ -1,4 +1,4 @@
-use Rattle.addr2line_lines.proofs.Common.{◌≡◌, refl, ◌++◌, ◌∷◌, [], ◌+◌, None, length, map, option_map, slice_index_or, ap, arith, length-append, ◌∙◌, subst, sym, append-nil, length-map, map-append, err_from_is_err_and, FunctionDetail, seen_names, FoundInlined, seen_lists, CachedDetails, seen_details, seen_scope, or_right}
+use Rattle.addr2line_lines.proofs.Common.{◌≡◌, refl, ◌++◌, ◌∷◌, [], ◌+◌, None, length, map, option_map, slice_index_or, ap, arith, length-append, ◌∙◌, subst, sym, append-nil, length-map, map-append, err_from_is_err_and, FunctionDetail, as_names, FoundInlined, as_lists, CachedDetails, as_details, as_scope, or_right}
 use Rattle.addr2line_lines.specs.Grown.{IsGrown}
 use Rattle.addr2line_lines.proofs.CostLemmas.{refused_part}
 use Rattle.addr2line_lines.proofs.DetailMemory.{found_takes}
@@ -11,27 +11,27 @@ use Rattle.addr2line_lines.proofs.details.Details.add.Goals as goal
 pub returns-in_err-read-clause-gives : goal.returns-in_err-read-clause-gives
 returns-in_err-read-clause-gives g c =
     let p = err_from_is_err_and c.from_residual.result c.from_residual.ensures.1 in
-    rw (p.1, p.2) (refused_part g.R.Reader.shares _ (detail_part (seen_scope c.args.scope) c.args.unit.now c.args.offset.0 (seen_lists c.args.self.now.inlined)) c.in_err-read.ensures.gives)
+    rw (p.1, p.2) (refused_part g.R.Reader.shares _ (detail_part (as_scope c.args.scope) c.args.unit.now c.args.offset.0 (as_lists c.args.self.now.inlined)) c.in_err-read.ensures.gives)
 
 -- memory may be taken, as the detail was read
 pub returns-in_err-push-clause-gives : goal.returns-in_err-push-clause-gives
 returns-in_err-push-clause-gives g c =
     let p = err_from_is_err_and c.from_residual-in_err-push.result c.from_residual-in_err-push.ensures.1 in
-    let whole = found_takes (seen_scope c.args.scope) c.args.unit.now c.args.offset.0 (seen_lists c.args.self.now.inlined) _ c.in_ok-read.ensures.gives in
+    let whole = found_takes (as_scope c.args.scope) c.args.unit.now c.args.offset.0 (as_lists c.args.self.now.inlined) _ c.in_ok-read.ensures.gives in
     rw (p.1, p.2) (λ ne. absurd (ne (or_right g.R.Reader.shares _ whole) refl))
 
 module _ (g : Over) (c : goal.After-len-2 g) where
   abbrev old : CachedDetails
-  old = seen_details g.R.Reader.section c.args.self.now
+  old = as_details g.R.Reader.section c.args.self.now
 
   abbrev listed : FoundInlined
-  listed = seen_lists c.read_detail.new.found
+  listed = as_lists c.read_detail.new.found
 
   abbrev more : CachedDetails
   more = record {
     names = map (option_map g.R.Reader.section) c.push.new.self.items;
     found = record { entries = listed.entries; ranges = c.sort_from.new.self.elements };
-    known = seen_names g.R.Reader.section c.read_detail.new.names;
+    known = as_names g.R.Reader.section c.read_detail.new.names;
   }
 
   abbrev made : FunctionDetail
@@ -78,7 +78,7 @@ module _ (g : Over) (c : goal.After-len-2 g) where
       }
 
 pub returns-clause-gives : goal.returns-clause-gives
-returns-clause-gives g c = detail_cached (seen_scope c.args.scope) c.args.unit.now c.args.offset.0 _ (old g c).found (listed g c) c.in_ok-read.ensures.gives (more g c) (made g c) (at g c)
+returns-clause-gives g c = detail_cached (as_scope c.args.scope) c.args.unit.now c.args.offset.0 _ (old g c).found (listed g c) c.in_ok-read.ensures.gives (more g c) (made g c) (at g c)
 
 pub returns-clause-kept : goal.returns-clause-kept
 returns-clause-kept g c =
@@ -94,7 +94,7 @@ returns-clause-kept g c =
     }
 
 pub returns-clause-there : goal.returns-clause-there
-returns-clause-there g c = place_cached (seen_scope c.args.scope) c.args.unit.now c.args.offset.0 _ (old g c).found (listed g c) c.in_ok-read.ensures.gives (more g c) (made g c) (at g c)
+returns-clause-there g c = place_cached (as_scope c.args.scope) c.args.unit.now c.args.offset.0 _ (old g c).found (listed g c) c.in_ok-read.ensures.gives (more g c) (made g c) (at g c)
 
 pub returns-clause-after : goal.returns-clause-after
 returns-clause-after g c =

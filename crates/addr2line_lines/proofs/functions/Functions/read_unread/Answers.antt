@@ -1,4 +1,4 @@
-use Rattle.addr2line_lines.proofs.Common.{Ok, Err, slice_get, slice_set, ap, subst, refl, ◌∙◌, arith, sym, get_or_from_slice_get, slice_get_within, LazyFunction, detail_at, fault_of, FunctionTable, AreNamesOf, IsRefusedThen, seen_details, seen_scope, AreCachedFunctions}
+use Rattle.addr2line_lines.proofs.Common.{Ok, Err, slice_get, slice_set, ap, subst, refl, ◌∙◌, arith, sym, get_or_from_slice_get, slice_get_within, LazyFunction, detail_at, fault_of, FunctionTable, AreNamesOf, IsRefusedThen, as_details, as_scope, AreCachedFunctions}
 use Rattle.addr2line_lines.specs.declared.functions.LazyDetail.TheVariants.{Read, Faulty}
 use Rattle.addr2line_lines.specs.FunctionDetails.{IsReadAt, read_fault, read_once}
 use Rattle.addr2line_lines.proofs.FunctionCacheLemmas.{fault_cached, nothing_cached, read_cached, reads, table_fault, table_of, table_read, unread_at}
@@ -7,8 +7,8 @@ use Rattle.addr2line_lines.proofs.functions.Functions.read_unread.Goals as goal
 pub invariant_of-self : goal.invariant_of-self
 invariant_of-self g c =
     let fs = c.self.inside.functions.items in
-    let cached = seen_details g.R.Reader.section c.self.inside.details in
-    let more = seen_details g.R.Reader.section c.read.new.self in
+    let cached = as_details g.R.Reader.section c.self.inside.details in
+    let more = as_details g.R.Reader.section c.read.new.self in
     let n = c.args.place in
     let at = unread_at cached fs n c.args.offset.0 (ap (λ (t : FunctionTable). slice_get t.functions n) c.self.view_is ∙ c.requires.unread) in
     let y : LazyFunction = record { dw_die_offset = c.index_mut.result.now.dw_die_offset; detail = Read c.in-Ok.detail } in
@@ -18,7 +18,7 @@ invariant_of-self g c =
 pub index_mut-requires-in_default : goal.index_mut-requires-in_default
 index_mut-requires-in_default g c =
     let fs = c.self.inside.functions.items in
-    let cached = seen_details g.R.Reader.section c.self.inside.details in
+    let cached = as_details g.R.Reader.section c.self.inside.details in
     let n = c.args.place in
     let at = unread_at cached fs n c.args.offset.0 (ap (λ (t : FunctionTable). slice_get t.functions n) c.self.view_is ∙ c.requires.unread) in
     let l = slice_get_within fs n at.0 at.1 in
@@ -28,8 +28,8 @@ index_mut-requires-in_default g c =
 pub invariant_of-self-in_default : goal.invariant_of-self-in_default
 invariant_of-self-in_default g c =
     let fs = c.self.inside.functions.items in
-    let cached = seen_details g.R.Reader.section c.self.inside.details in
-    let more = seen_details g.R.Reader.section c.read.new.self in
+    let cached = as_details g.R.Reader.section c.self.inside.details in
+    let more = as_details g.R.Reader.section c.read.new.self in
     let n = c.args.place in
     let at = unread_at cached fs n c.args.offset.0 (ap (λ (t : FunctionTable). slice_get t.functions n) c.self.view_is ∙ c.requires.unread) in
     let y : LazyFunction = record { dw_die_offset = c.index_mut-in_default.result.now.dw_die_offset; detail = Faulty c.in-Err.error } in
@@ -40,10 +40,10 @@ pub returns-in-Ok : goal.returns-in-Ok
 returns-in-Ok g c =
     let fs = c.self.inside.functions.items in
     let addresses = c.self.inside.addresses in
-    let cached = seen_details g.R.Reader.section c.self.inside.details in
-    let more = seen_details g.R.Reader.section c.read.new.self in
+    let cached = as_details g.R.Reader.section c.self.inside.details in
+    let more = as_details g.R.Reader.section c.read.new.self in
     let n = c.args.place in
-    let scope = seen_scope c.args.scope in
+    let scope = as_scope c.args.scope in
     let u = c.args.unit.now in
     let unread = ap (λ (t : FunctionTable). slice_get t.functions n) c.self.view_is ∙ c.requires.unread in
     let at = unread_at cached fs n c.args.offset.0 unread in
@@ -62,10 +62,10 @@ pub returns-in_default : goal.returns-in_default
 returns-in_default g c =
     let fs = c.self.inside.functions.items in
     let addresses = c.self.inside.addresses in
-    let cached = seen_details g.R.Reader.section c.self.inside.details in
-    let more = seen_details g.R.Reader.section c.read.new.self in
+    let cached = as_details g.R.Reader.section c.self.inside.details in
+    let more = as_details g.R.Reader.section c.read.new.self in
     let n = c.args.place in
-    let scope = seen_scope c.args.scope in
+    let scope = as_scope c.args.scope in
     let u = c.args.unit.now in
     let e = c.in-Err.error in
     let unread = ap (λ (t : FunctionTable). slice_get t.functions n) c.self.view_is ∙ c.requires.unread in
@@ -84,7 +84,7 @@ returns-in_default g c =
 
 pub returns-in-OutOfMemory-clause-exact : goal.returns-in-OutOfMemory-clause-exact
 returns-in-OutOfMemory-clause-exact g c =
-    let scope = seen_scope c.args.scope in
+    let scope = as_scope c.args.scope in
     let u = c.args.unit.now in
     λ h. ap (read_fault scope u) c.requires.unread ∙ ap fault_of (c.in-Err.ensures.gives (λ t. h (ap (λ o. (read_once scope u o).takes_memory g.R.Reader.shares) c.requires.unread ∙ t)))
 
@@ -92,10 +92,10 @@ pub returns-in-OutOfMemory-clause-gives : goal.returns-in-OutOfMemory-clause-giv
 returns-in-OutOfMemory-clause-gives g c =
     let addresses = c.self.inside.addresses in
     let fs = c.self.inside.functions.items in
-    let cached = seen_details g.R.Reader.section c.self.inside.details in
-    let more = seen_details g.R.Reader.section c.read.new.self in
+    let cached = as_details g.R.Reader.section c.self.inside.details in
+    let more = as_details g.R.Reader.section c.read.new.self in
     let n = c.args.place in
-    let scope = seen_scope c.args.scope in
+    let scope = as_scope c.args.scope in
     let unread = ap (λ (t : FunctionTable). slice_get t.functions n) c.self.view_is ∙ c.requires.unread in
     subst (λ (t : FunctionTable). IsReadAt scope c.args.unit.now n t (Err c.in-Err.error) (table_of fs addresses more)) c.self.view_is
     (reads scope c.args.unit.now n c.args.offset.0 (table_of fs addresses cached) (table_of fs addresses more) (Err c.in-Err.error) unread
@@ -103,15 +103,15 @@ returns-in-OutOfMemory-clause-gives g c =
 
 pub invariant_of-self-in-OutOfMemory : goal.invariant_of-self-in-OutOfMemory
 invariant_of-self-in-OutOfMemory g c =
-    let cached = seen_details g.R.Reader.section c.self.inside.details in
-    let more = seen_details g.R.Reader.section c.read.new.self in
+    let cached = as_details g.R.Reader.section c.self.inside.details in
+    let more = as_details g.R.Reader.section c.read.new.self in
     subst (AreCachedFunctions c.self.inside.functions.items c.self.inside.addresses)
     (sym (nothing_cached cached more (subst (IsRefusedThen cached more) c.in-OutOfMemory.is c.in-Err.ensures.refused))) c.self.invariant
 
 pub index_mut-requires : goal.index_mut-requires
 index_mut-requires g c =
     let fs = c.self.inside.functions.items in
-    let cached = seen_details g.R.Reader.section c.self.inside.details in
+    let cached = as_details g.R.Reader.section c.self.inside.details in
     let n = c.args.place in
     let at = unread_at cached fs n c.args.offset.0 (ap (λ (t : FunctionTable). slice_get t.functions n) c.self.view_is ∙ c.requires.unread) in
     let l = slice_get_within fs n at.0 at.1 in
@@ -122,4 +122,4 @@ pub returns-in-OutOfMemory-clause-names : goal.returns-in-OutOfMemory-clause-nam
 returns-in-OutOfMemory-clause-names g c = c.in-Err.ensures.known.right
 
 pub read-requires-clause-known : goal.read-requires-clause-known
-read-requires-clause-known g c = subst (λ (t : FunctionTable). AreNamesOf (seen_scope c.args.scope) c.args.unit.now t.names) (sym c.self.view_is) c.requires.names
+read-requires-clause-known g c = subst (λ (t : FunctionTable). AreNamesOf (as_scope c.args.scope) c.args.unit.now t.names) (sym c.self.view_is) c.requires.names

@@ -1,6 +1,6 @@
 use Rattle.addr2line_lines.proofs.Common.{◌≡◌, Option, Some, None, map, option_map, slice_get, subst, ap, sym, ◌∙◌, Section, InlinedEntry}
 use Rattle.std.specs.Slice.{IsItemAt}
-use Rattle.addr2line_lines.specs.SeenInlined.{seen_inlined}
+use Rattle.addr2line_lines.specs.SeenInlined.{as_inlined}
 use Rattle.addr2line_lines.specs.StoredInlined.{StoredInlined, stored_name}
 use Rattle.addr2line_lines.proofs.LentLemmas.{lent_copied, lent_is}
 use Rattle.addr2line_lines.proofs.StoredInlinedLemmas.{entry_at, no_call_at, no_name_at}
@@ -13,7 +13,7 @@ returns-in_err-name g c =
     let lent = lent_is see items c.args.place c.get.result (subst (λ xs. IsItemAt xs c.args.place c.get.result) c.deref.ensures.value c.get.ensures.lookup) in
     let none : slice_get (map see items) c.args.place ≡ None = sym lent ∙ ap (option_map (λ x. see x.now)) (c.in_err-name.was) in
     record {
-      gives = ap (option_map (seen_inlined g.R.Reader.section)) c.from_residual.ensures
+      gives = ap (option_map (as_inlined g.R.Reader.section)) c.from_residual.ensures
           ∙ sym (no_name_at (map see items) c.self.inside.calls.elements c.args.place none)
           ∙ ap (λ (v : StoredInlined). slice_get v.entries c.args.place) c.self.view_is;
     }
@@ -22,7 +22,7 @@ pub returns-in_err-offset : goal.returns-in_err-offset
 returns-in_err-offset g c =
     let names = map (stored_name g.R.Reader.section) c.self.inside.names.items in
     record {
-      gives = ap (option_map (seen_inlined g.R.Reader.section)) c.from_residual-in_err-offset.ensures
+      gives = ap (option_map (as_inlined g.R.Reader.section)) c.from_residual-in_err-offset.ensures
           ∙ sym (no_call_at names c.self.inside.calls.elements c.args.place (sym c.get-2.ensures.gives ∙ c.in_err-offset.was))
           ∙ ap (λ (v : StoredInlined). slice_get v.entries c.args.place) c.self.view_is;
     }

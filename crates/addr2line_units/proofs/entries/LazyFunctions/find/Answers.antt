@@ -1,4 +1,4 @@
-use Rattle.addr2line_units.proofs.Common.{[], Bool, Err, Ok, Result, ap, false, refl, true, ℕ, ◌&&◌, ◌≡◌, ◌≢◌, ◌∙◌, option_map, subst, sym, false≢true, err_from_is_err_and, Error, OutOfMemory, UnitRecord, functions_of, functions_take_memory, cached_detail, exceeds_inline_room, Scope, seen_scope, LazyFunctions, function_at, AreFunctionsOf, IsTableOf, StayFunctions, cached_functions, cached_has_function, find_takes_memory, function_of_place, cached_inlined_at, table_takes_memory, were_read}
+use Rattle.addr2line_units.proofs.Common.{[], Bool, Err, Ok, Result, ap, false, refl, true, ℕ, ◌&&◌, ◌≡◌, ◌≢◌, ◌∙◌, option_map, subst, sym, false≢true, err_from_is_err_and, Error, OutOfMemory, UnitRecord, functions_of, functions_take_memory, cached_detail, exceeds_inline_room, Scope, as_scope, LazyFunctions, function_at, AreFunctionsOf, IsTableOf, StayFunctions, cached_functions, cached_has_function, find_takes_memory, function_of_place, cached_inlined_at, table_takes_memory, were_read}
 use Rattle.std.specs.Box.{with_value}
 use Rattle.addr2line_units.specs.declared.entries.LazyFunctions.TheVariants as lazy
 use Rattle.addr2line_units.proofs.CachedFunctionLemmas.{and_weaker, details_before, exactly_weaker, function_is, memory_before, none_before, stay_faulty, stay_read}
@@ -41,7 +41,7 @@ returns-in-Read-clause-gives g c =
     let probe = c.args.probe in
     let t = c.in-Read.functions in
     let new = c.find_place.new.functions in
-    let scope = seen_scope c.args.scope in
+    let scope = as_scope c.args.scope in
     let view = c.args.view.now in
     let before = find_takes_memory g.R.Reader.shares scope view probe c.args.self.now in
     let table = subst (AreFunctionsOf scope view) c.in-Read.is c.cache.ensures.right in
@@ -56,7 +56,7 @@ returns-in-Read-clause-within g c =
 
 pub returns-in-Faulty-clause-gives : goal.returns-in-Faulty-clause-gives
 returns-in-Faulty-clause-gives g c =
-    let scope = seen_scope c.args.scope in
+    let scope = as_scope c.args.scope in
     λ _. function_is scope c.args.view.now c.args.probe (Err c.in-Faulty.error) (subst (λ x. AreFunctionsOf scope c.args.view.now x) c.in-Faulty.is c.cache.ensures.right)
 
 pub returns-in-Faulty-clause-after : goal.returns-in-Faulty-clause-after
@@ -79,7 +79,7 @@ returns-in-Faulty-clause-kept g c =
 pub returns-in_err-cache-clause-gives : goal.returns-in_err-cache-clause-gives
 returns-in_err-cache-clause-gives g c =
     let p = err_from_is_err_and c.from_residual.result c.from_residual.ensures.1 in
-    let scope = seen_scope c.args.scope in
+    let scope = as_scope c.args.scope in
     let view = c.args.view.now in
     rw (p.1, p.2) (λ may. function_is scope view c.args.probe (Err _)
     (not_read_takes g.R.Reader.shares scope view c.args.self.now c.cache.new.self c.args.probe _ (λ read. read_not_refused _ (c.in_err-cache.ensures.kept read).1) c.in_err-cache.ensures.refused.1 c.in_err-cache.ensures.refused.0 c.in_err-cache.ensures.memory may))
@@ -132,15 +132,15 @@ returns-in-Read-clause-after g c =
 pub find_place-requires : goal.find_place-requires
 find_place-requires g c = record {
   in_order = c.requires.in_order;
-  right = subst (IsTableOf (seen_scope c.args.scope) c.args.view.now) (sym c.deref_mut.ensures.value)
-      (subst (AreFunctionsOf (seen_scope c.args.scope) c.args.view.now) c.in-Read.is c.cache.ensures.right);
+  right = subst (IsTableOf (as_scope c.args.scope) c.args.view.now) (sym c.deref_mut.ensures.value)
+      (subst (AreFunctionsOf (as_scope c.args.scope) c.args.view.now) c.in-Read.is c.cache.ensures.right);
 }
 
 pub returns-in-Faulty-clause-there : goal.returns-in-Faulty-clause-there
 returns-in-Faulty-clause-there g c = tt
 
 pub returns-in-Faulty-clause-right : goal.returns-in-Faulty-clause-right
-returns-in-Faulty-clause-right g c = subst (AreFunctionsOf (seen_scope c.args.scope) c.args.view.now) c.in-Faulty.is c.cache.ensures.right
+returns-in-Faulty-clause-right g c = subst (AreFunctionsOf (as_scope c.args.scope) c.args.view.now) c.in-Faulty.is c.cache.ensures.right
 
 pub returns-in-Faulty-clause-ready : goal.returns-in-Faulty-clause-ready
 returns-in-Faulty-clause-ready g c = λ ne. refl
@@ -153,7 +153,7 @@ returns-in-Faulty-clause-memory g c = λ has. λ few. cached_is_not_oom c.in-Fau
 
 pub returns-in-Absent-clause-gives : goal.returns-in-Absent-clause-gives
 returns-in-Absent-clause-gives g c =
-    let scope = seen_scope c.args.scope in
+    let scope = as_scope c.args.scope in
     let view = c.args.view.now in
     function_is scope view c.args.probe (Ok []) (subst (AreFunctionsOf scope view) c.in-Absent.is c.cache.ensures.right)
 
@@ -162,7 +162,7 @@ returns-in-Absent-clause-right g c = c.cache.ensures.right
 
 pub returns-in-Absent-clause-after : goal.returns-in-Absent-clause-after
 returns-in-Absent-clause-after g c =
-    cached_stay (seen_scope c.args.scope) c.args.view.now c.args.self.now c.cache.new.self (λ read. (c.cache.ensures.kept read).0)
+    cached_stay (as_scope c.args.scope) c.args.view.now c.args.self.now c.cache.new.self (λ read. (c.cache.ensures.kept read).0)
 
 pub returns-in-Absent-clause-within : goal.returns-in-Absent-clause-within
 returns-in-Absent-clause-within g c =
@@ -170,7 +170,7 @@ returns-in-Absent-clause-within g c =
 
 pub returns-in-Absent-clause-ready : goal.returns-in-Absent-clause-ready
 returns-in-Absent-clause-ready g c = λ ne.
-    subst (λ f. find_takes_memory g.R.Reader.shares (seen_scope c.args.scope) c.args.view.now c.args.probe f ≡ exceeds_inline_room (cached_inlined_at c.args.probe (cached_functions f))) (sym c.in-Absent.is) refl
+    subst (λ f. find_takes_memory g.R.Reader.shares (as_scope c.args.scope) c.args.view.now c.args.probe f ≡ exceeds_inline_room (cached_inlined_at c.args.probe (cached_functions f))) (sym c.in-Absent.is) refl
 
 pub returns-in-Absent-clause-kept : goal.returns-in-Absent-clause-kept
 returns-in-Absent-clause-kept g c =

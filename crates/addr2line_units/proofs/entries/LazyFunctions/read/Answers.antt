@@ -1,4 +1,4 @@
-use Rattle.addr2line_units.proofs.Common.{subst, sym, ExactlyUnlessOom, seen_scope, functions_fault, reading_takes_memory, read_of_functions}
+use Rattle.addr2line_units.proofs.Common.{subst, sym, ExactlyUnlessOom, as_scope, functions_fault, reading_takes_memory, read_of_functions}
 use Rattle.addr2line_units.specs.AfterParses.{AfterReadingFunctions}
 use Rattle.addr2line_units.proofs.AfterParseLemmas.{details_after}
 use Rattle.addr2line_units.proofs.EntryLemmas.{exactly_unless_oom}
@@ -6,7 +6,7 @@ use Rattle.addr2line_units.proofs.entries.LazyFunctions.read.Goals as goal
 
 pub returns-in-Functions : goal.returns-in-Functions
 returns-in-Functions g c =
-    let scope = seen_scope c.args.scope in
+    let scope = as_scope c.args.scope in
     let view = c.args.view.now in
     record {
       gives = subst (λ r. ExactlyUnlessOom (λ y. y) c.read_alone.result (read_of_functions r scope view)) (sym c.in-Functions.is) c.read_alone.ensures.gives;
@@ -16,7 +16,7 @@ returns-in-Functions g c =
 pub returns-in-Details : goal.returns-in-Details
 returns-in-Details g c =
     let shares = g.R.Reader.shares in
-    let scope = seen_scope c.args.scope in
+    let scope = as_scope c.args.scope in
     let view = c.args.view.now in
     let old = c.args.self.now in
     let e = c.read_all.ensures in

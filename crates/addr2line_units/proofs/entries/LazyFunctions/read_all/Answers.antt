@@ -1,4 +1,4 @@
-use Rattle.addr2line_units.proofs.Common.{◌≡◌, ◌≢◌, Bool, Err, Result, false, refl, true, ◌∙◌, ap, subst, sym, AllByRecursion, err_from_is_err_and, Error, ExactlyUnlessOomIf, OutOfMemory, UnitRecord, HasDetail, details_take_memory, FunctionTable, functions_of, functions_take_memory, exceeds_inline_room, Scope, seen_scope, LazyFunctions, AreFunctionsOf, cached_functions, find_takes_memory, functions_fault, reading_takes_memory, cached_inlined_at, were_read, known_functions, IsReadyFor}
+use Rattle.addr2line_units.proofs.Common.{◌≡◌, ◌≢◌, Bool, Err, Result, false, refl, true, ◌∙◌, ap, subst, sym, AllByRecursion, err_from_is_err_and, Error, ExactlyUnlessOomIf, OutOfMemory, UnitRecord, HasDetail, details_take_memory, FunctionTable, functions_of, functions_take_memory, exceeds_inline_room, Scope, as_scope, LazyFunctions, AreFunctionsOf, cached_functions, find_takes_memory, functions_fault, reading_takes_memory, cached_inlined_at, were_read, known_functions, IsReadyFor}
 use Rattle.std.specs.Box.{with_value}
 use Rattle.addr2line_lines.specs.CachedNames.{AreNamesOf}
 use Rattle.addr2line_units.specs.declared.entries.LazyFunctions.TheVariants as lazy
@@ -11,7 +11,7 @@ use Rattle.addr2line_units.proofs.entries.LazyFunctions.read_all.Goals as goal
 
 pub returns-in-Read-clause-gives : goal.returns-in-Read-clause-gives
 returns-in-Read-clause-gives g c =
-    let scope = seen_scope c.args.scope in
+    let scope = as_scope c.args.scope in
     let view = c.args.view.now in
     let t = c.in-Read.functions in
     let may = details_take_memory g.R.Reader.shares scope view t.value.functions in
@@ -22,7 +22,7 @@ returns-in-Read-clause-gives g c =
 
 pub returns-in-Read-clause-right : goal.returns-in-Read-clause-right
 returns-in-Read-clause-right g c =
-    let scope = seen_scope c.args.scope in
+    let scope = as_scope c.args.scope in
     let view = c.args.view.now in
     let table = subst (λ x. AreFunctionsOf scope view x) c.in-Read.is c.cache.ensures.right in
     let kept = rw c.deref_mut.ensures.value at c.read_all.ensures.after in
@@ -43,20 +43,20 @@ returns-in-Faulty-clause-after g c =
 
 pub returns-in-Absent-clause-gives : goal.returns-in-Absent-clause-gives
 returns-in-Absent-clause-gives g c =
-    let scope = seen_scope c.args.scope in
+    let scope = as_scope c.args.scope in
     let view = c.args.view.now in
     no_fault_of scope view (subst (AreFunctionsOf scope view) c.in-Absent.is c.cache.ensures.right)
 
 pub returns-in-Absent-clause-after : goal.returns-in-Absent-clause-after
 returns-in-Absent-clause-after g c =
-    cached_stay (seen_scope c.args.scope) c.args.view.now c.args.self.now c.cache.new.self (λ read. (c.cache.ensures.kept read).0)
+    cached_stay (as_scope c.args.scope) c.args.view.now c.args.self.now c.cache.new.self (λ read. (c.cache.ensures.kept read).0)
 
 pub returns-in-Absent-clause-known : goal.returns-in-Absent-clause-known
 returns-in-Absent-clause-known g c = subst (λ f. AllByRecursion HasDetail (cached_functions f).functions) (sym c.in-Absent.is) tt
 
 pub returns-in-Absent-clause-ready : goal.returns-in-Absent-clause-ready
 returns-in-Absent-clause-ready g c = λ probe.
-    subst (λ f. find_takes_memory g.R.Reader.shares (seen_scope c.args.scope) c.args.view.now probe f ≡ exceeds_inline_room (cached_inlined_at probe (cached_functions f))) (sym c.in-Absent.is) refl
+    subst (λ f. find_takes_memory g.R.Reader.shares (as_scope c.args.scope) c.args.view.now probe f ≡ exceeds_inline_room (cached_inlined_at probe (cached_functions f))) (sym c.in-Absent.is) refl
 
 pub returns-in-Absent-clause-whole : goal.returns-in-Absent-clause-whole
 returns-in-Absent-clause-whole g c = λ ne. subst (λ f. IsReadyFor depths.Details (known_functions f)) (sym c.in-Absent.is) tt
@@ -77,7 +77,7 @@ returns-in-Read-clause-whole g c = λ ne. to_fault_known c.read_all.new.self.fun
 
 pub returns-in-Read-clause-exact : goal.returns-in-Read-clause-exact
 returns-in-Read-clause-exact g c = λ ready.
-    let scope = seen_scope c.args.scope in
+    let scope = as_scope c.args.scope in
     let view = c.args.view.now in
     let t = c.in-Read.functions in
     let table = subst (λ x. AreFunctionsOf scope view x) c.in-Read.is c.cache.ensures.right in
@@ -96,7 +96,7 @@ returns-in-Faulty-clause-whole g c = λ ne. ready_fault depths.Details c.in-Faul
 
 pub returns-in-Faulty-clause-exact : goal.returns-in-Faulty-clause-exact
 returns-in-Faulty-clause-exact g c = λ _.
-    let scope = seen_scope c.args.scope in
+    let scope = as_scope c.args.scope in
     let view = c.args.view.now in
     sym (fault_of_functions scope view c.in-Faulty.error (subst (λ x. AreFunctionsOf scope view x) c.in-Faulty.is c.cache.ensures.right))
 
@@ -120,7 +120,7 @@ unread_takes shares scope view (lazy.Faulty y) x unread oom fault may = absurd (
 pub returns-in_err-cache-clause-gives : goal.returns-in_err-cache-clause-gives
 returns-in_err-cache-clause-gives g c =
     let p = err_from_is_err_and c.from_residual.result c.from_residual.ensures.1 in
-    let scope = seen_scope c.args.scope in
+    let scope = as_scope c.args.scope in
     let view = c.args.view.now in
     rw (p.1, p.2) (λ may. fault_of_functions scope view _
     (unread_takes g.R.Reader.shares scope view c.args.self.now _ (λ read. let no = (c.in_err-cache.ensures.kept read).1 in cc) c.in_err-cache.ensures.refused.0 c.in_err-cache.ensures.memory may))
@@ -138,5 +138,5 @@ returns-in-Faulty-clause-memory g c = λ ready. known_not_oom depths.Details c.i
 
 pub read_all-requires-clause-names : goal.read_all-requires-clause-names
 read_all-requires-clause-names g c =
-    subst (λ (t : FunctionTable). AreNamesOf (seen_scope c.args.scope) c.args.view.now t.names) (sym c.deref_mut.ensures.value)
-    (subst (λ x. AreFunctionsOf (seen_scope c.args.scope) c.args.view.now x) c.in-Read.is c.cache.ensures.right).names
+    subst (λ (t : FunctionTable). AreNamesOf (as_scope c.args.scope) c.args.view.now t.names) (sym c.deref_mut.ensures.value)
+    (subst (λ x. AreFunctionsOf (as_scope c.args.scope) c.args.view.now x) c.in-Read.is c.cache.ensures.right).names

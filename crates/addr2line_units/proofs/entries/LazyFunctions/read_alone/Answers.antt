@@ -1,4 +1,4 @@
-use Rattle.addr2line_units.proofs.Common.{err_from_is_err_and, seen_scope}
+use Rattle.addr2line_units.proofs.Common.{err_from_is_err_and, as_scope}
 use Rattle.addr2line_units.proofs.AfterParseLemmas.{alone_after, alone_gives, refused_after}
 use Rattle.addr2line_units.proofs.LoadLemmas.{exactly_this}
 use Rattle.addr2line_units.proofs.entries.LazyFunctions.read_alone.Goals as goal
@@ -12,11 +12,11 @@ pub returns-in_err-cache-clause-after : goal.returns-in_err-cache-clause-after
 returns-in_err-cache-clause-after g c =
     let p = err_from_is_err_and c.from_residual.result c.from_residual.ensures.1 in
     let e = c.in_err-cache.ensures in
-    rw (p.1, p.2) (refused_after g.R.Reader.shares (seen_scope c.args.scope) c.args.view.now c.args.self.now c.cache.new.self e.right c.in_err-cache.field-0.0 e.refused.0 e.refused.1 (λ read. let no = (e.kept read).1 in cc) e.memory)
+    rw (p.1, p.2) (refused_after g.R.Reader.shares (as_scope c.args.scope) c.args.view.now c.args.self.now c.cache.new.self e.right c.in_err-cache.field-0.0 e.refused.0 e.refused.1 (λ read. let no = (e.kept read).1 in cc) e.memory)
 
 pub returns : goal.returns
 returns g c =
-    let scope = seen_scope c.args.scope in
+    let scope = as_scope c.args.scope in
     let view = c.args.view.now in
     let e = c.in_ok-cache.ensures in
     rw c.fault.ensures.gives (record {

@@ -1,11 +1,11 @@
-use Rattle.addr2line_units.proofs.Common.{◌≡◌, is_some, refl, true, seen_scope}
+use Rattle.addr2line_units.proofs.Common.{◌≡◌, is_some, refl, true, as_scope}
 use Rattle.addr2line_units.proofs.AnswerLemmas.{same_entries, unread_entries, waiting_is_undecided}
 use Rattle.addr2line_units.proofs.entries.UnitEntries.decide.Goals as goal
 
 pub returns-clause-right : goal.returns-clause-right
 returns-clause-right g c =
     let s = c.args.self.now in
-    unread_entries (seen_scope c.args.scope) c.args.dw_unit.now c.decide.new.self s.functions c.decide.ensures.right
+    unread_entries (as_scope c.args.scope) c.args.dw_unit.now c.decide.new.self s.functions c.decide.ensures.right
     (c.requires.right.unread (waiting_is_undecided s.view.state c.requires.waits))
 
 pub returns-clause-refused : goal.returns-clause-refused

@@ -1,4 +1,4 @@
-use Rattle.addr2line_units.proofs.Common.{◌≡◌, ◌∙◌, None, Some, ap, false, is_some, not, rules, subst, sym, true, first_answer_of, awaited_load, is_open, seen_scope}
+use Rattle.addr2line_units.proofs.Common.{◌≡◌, ◌∙◌, None, Some, ap, false, is_some, not, rules, subst, sym, true, first_answer_of, awaited_load, is_open, as_scope}
 use Rattle.addr2line_units.specs.ListedLoads.{if_new, is_marked}
 use Rattle.addr2line_units.proofs.AnswerLemmas.{no_answer, open_by_check}
 use Rattle.addr2line_units.proofs.LoadLemmas.{awaited_unit, awaits_this, is_new_load, marks_load, marks_none, not_new, open_awaits}
@@ -88,20 +88,20 @@ returns-clause-none g c h =
 
 pub returns-then-not-is_open-clause-functions : goal.returns-then-not-is_open-clause-functions
 returns-then-not-is_open-clause-functions g c =
-    checked_learns (seen_scope c.args.scope) c.args.dw_unit.now c.args.self.now c.check_split.new.self c.requires.right c.check_split.ensures.after c.check_split.ensures.functions
+    checked_learns (as_scope c.args.scope) c.args.dw_unit.now c.args.self.now c.check_split.new.self c.requires.right c.check_split.ensures.after c.check_split.ensures.functions
 
 pub returns-in_err-mark_unit-clause-functions : goal.returns-in_err-mark_unit-clause-functions
 returns-in_err-mark_unit-clause-functions g c =
-    checked_learns (seen_scope c.args.scope) c.args.dw_unit.now c.args.self.now c.check_split.new.self c.requires.right c.check_split.ensures.after c.check_split.ensures.functions
+    checked_learns (as_scope c.args.scope) c.args.dw_unit.now c.args.self.now c.check_split.new.self c.requires.right c.check_split.ensures.after c.check_split.ensures.functions
 
 pub returns-then-not-branch-clause-functions : goal.returns-then-not-branch-clause-functions
 returns-then-not-branch-clause-functions g c =
-    checked_learns (seen_scope c.args.scope) c.args.dw_unit.now c.args.self.now c.check_split.new.self c.requires.right c.check_split.ensures.after c.check_split.ensures.functions
+    checked_learns (as_scope c.args.scope) c.args.dw_unit.now c.args.self.now c.check_split.new.self c.requires.right c.check_split.ensures.after c.check_split.ensures.functions
 
 pub returns-in_err-load-clause-functions : goal.returns-in_err-load-clause-functions
 returns-in_err-load-clause-functions g c =
-    checked_learns (seen_scope c.args.scope) c.args.dw_unit.now c.args.self.now c.check_split.new.self c.requires.right c.check_split.ensures.after c.check_split.ensures.functions
+    checked_learns (as_scope c.args.scope) c.args.dw_unit.now c.args.self.now c.check_split.new.self c.requires.right c.check_split.ensures.after c.check_split.ensures.functions
 
 pub returns-clause-functions : goal.returns-clause-functions
 returns-clause-functions g c =
-    checked_learns (seen_scope c.args.scope) c.args.dw_unit.now c.args.self.now c.check_split.new.self c.requires.right c.check_split.ensures.after c.check_split.ensures.functions
+    checked_learns (as_scope c.args.scope) c.args.dw_unit.now c.args.self.now c.check_split.new.self c.requires.right c.check_split.ensures.after c.check_split.ensures.functions

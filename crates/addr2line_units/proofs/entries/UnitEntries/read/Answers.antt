@@ -1,4 +1,4 @@
-use Rattle.addr2line_units.proofs.Common.{subst, ExactlyUnlessOom, seen_scope, read_of_view, verdict}
+use Rattle.addr2line_units.proofs.Common.{subst, ExactlyUnlessOom, as_scope, read_of_view, verdict}
 use Rattle.addr2line_units.proofs.AfterParseLemmas.{unit_after}
 use Rattle.addr2line_units.proofs.entries.UnitEntries.read.Goals as goal
 
@@ -7,7 +7,7 @@ returns-in_err-answer g c = absurd (let no = c.in_err-answer.ensures.refused.2 i
 
 pub returns : goal.returns
 returns g c =
-    let scope = seen_scope c.args.scope in
+    let scope = as_scope c.args.scope in
     let u = c.args.dw_unit.now in
     let e = c.in_ok-answer.ensures in
     let r = c.read_in_view in

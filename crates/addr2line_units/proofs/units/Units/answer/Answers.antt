@@ -1,4 +1,4 @@
-use Rattle.addr2line_units.proofs.Common.{arith, option_map, subst, sym, AreEntriesOf, seen_stop}
+use Rattle.addr2line_units.proofs.Common.{arith, option_map, subst, sym, AreEntriesOf, as_stop}
 use Rattle.addr2line_units.proofs.NumberLemmas.{answered_there, none_answered, refused_told}
 use Rattle.addr2line_units.proofs.StateLemmas.{some_given}
 use Rattle.addr2line_units.proofs.UnitAtLemmas.{cache_within, its_entries, none_got, sections_seen, unit_got, units_with_entries}
@@ -8,7 +8,7 @@ pub returns-in_default : goal.returns-in_default
 returns-in_default g c =
     let s = c.self.inside in
     let none = none_got c.scope-scope.ensures.gives c.args.number c.in_default.ensures.lookup.0 in
-    rw (sym c.self.view_is) (record { after = none_answered c.self.invariant c.args.number none (option_map (λ x. x.value) c.args.sections) s.steps (seen_stop s.caches.items s.stop); no_memory = λ none. tt })
+    rw (sym c.self.view_is) (record { after = none_answered c.self.invariant c.args.number none (option_map (λ x. x.value) c.args.sections) s.steps (as_stop s.caches.items s.stop); no_memory = λ none. tt })
 
 pub index_mut-cache-requires : goal.index_mut-cache-requires
 index_mut-cache-requires g c =
@@ -35,6 +35,6 @@ returns g c =
     let given = option_map (λ x. x.value) c.args.sections in
     let e = rw (c.scope-scope.ensures.gives, sections_seen c.scope-scope.ensures.gives) at c.answer.ensures in
     rw (sym c.self.view_is) (record {
-      after = answered_there i c.args.number there at c.answer.new.self given _ (some_given _ c.args.sections) s.steps (seen_stop s.caches.items s.stop) e.right e.functions (λ h. (e.kept h).0) c.answer.result e.answer e.refused e.none;
+      after = answered_there i c.args.number there at c.answer.new.self given _ (some_given _ c.args.sections) s.steps (as_stop s.caches.items s.stop) e.right e.functions (λ h. (e.kept h).0) c.answer.result e.answer e.refused e.none;
       no_memory = λ none. refused_told i c.args.number there at given c.answer.result (e.exact none);
     })

@@ -1,4 +1,4 @@
-use Rattle.addr2line_units.proofs.Common.{◌+◌, ◌≤◌, Err, None, Ok, Some, arith, false, option_map, slice_get, subst, sym, ◌≡◌, IfErr, ExactlyUnlessOom, location_of_row, lines_of_take_memory, lines_take_memory, seen_stop, AreLinesOf, cached_files, indexed_unit, unit_row, location_in, steps_in, UnitsState, row_location}
+use Rattle.addr2line_units.proofs.Common.{◌+◌, ◌≤◌, Err, None, Ok, Some, arith, false, option_map, slice_get, subst, sym, ◌≡◌, IfErr, ExactlyUnlessOom, location_of_row, lines_of_take_memory, lines_take_memory, as_stop, AreLinesOf, cached_files, indexed_unit, unit_row, location_in, steps_in, UnitsState, row_location}
 use Rattle.addr2line_units.proofs.LinesAtLemmas.{none_after_row, none_row, row_after, row_alone, row_there}
 use Rattle.addr2line_units.proofs.UnitAtLemmas.{cache_within, its_lines, none_got, sections_seen, unit_got, units_with_lines}
 use Rattle.addr2line_units.proofs.units.Units.find_row_in.Goals as goal
@@ -7,7 +7,7 @@ pub returns-in_default : goal.returns-in_default
 returns-in_default g c =
     let s = c.self.inside in
     let i = c.self.invariant in
-    let was = seen_stop s.caches.items s.stop in
+    let was = as_stop s.caches.items s.stop in
     let none = none_got c.scope-scope.ensures.gives c.args.number c.in_default.ensures.lookup.0 in
     record {
       gives = subst (λ (y : UnitsState). location_in y.scope.file.sections c.args.probe (slice_get y.units c.args.number) ≡ Ok None) c.self.view_is (none_row i c.args.number s.steps was none c.args.probe);
@@ -36,7 +36,7 @@ returns g c =
     let s = c.self.inside in
     let n = c.args.number in
     let i = c.self.invariant in
-    let was = seen_stop s.caches.items s.stop in
+    let was = as_stop s.caches.items s.stop in
     let there = unit_got c.scope-scope.ensures.gives c.args.number c.in-Some.ensures.lookup.0 c.in-Some.ensures.lookup.1 in
     let at = c.index_mut-cache.ensures.value in
     let u = c.in-Some.dw_unit.now in

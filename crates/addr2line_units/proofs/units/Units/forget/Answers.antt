@@ -1,4 +1,4 @@
-use Rattle.addr2line_units.proofs.Common.{None, arith, subst, sym, AreEntriesOf, seen_stop}
+use Rattle.addr2line_units.proofs.Common.{None, arith, subst, sym, AreEntriesOf, as_stop}
 use Rattle.addr2line_units.proofs.LoadLemmas.{known_forget, unknown_forget}
 use Rattle.addr2line_units.proofs.NumberLemmas.{forgotten_there, none_forgotten}
 use Rattle.addr2line_units.proofs.UnitAtLemmas.{cache_within, its_entries, none_got, unit_got, units_with_entries}
@@ -10,7 +10,7 @@ returns-in_default g c =
     let none = none_got c.scope-scope.ensures.gives c.args.token.number c.in_default.ensures.lookup.0 in
     rw (sym c.self.view_is) (record {
       gives = sym (unknown_forget s.sources.units.items c.args.token.number none);
-      after = none_forgotten c.self.invariant c.args.token.number none None s.steps (seen_stop s.caches.items s.stop);
+      after = none_forgotten c.self.invariant c.args.token.number none None s.steps (as_stop s.caches.items s.stop);
     })
 
 pub index_mut-cache-requires : goal.index_mut-cache-requires
@@ -36,5 +36,5 @@ returns g c =
     let e = c.forget.ensures in
     rw (sym c.self.view_is) (record {
       gives = sym (known_forget s.sources.units.items c.args.token.number c.in-Some.dw_unit.now there);
-      after = forgotten_there c.self.invariant c.args.token.number there c.index_mut-cache.ensures.value c.forget.new.self s.steps (seen_stop s.caches.items s.stop) e.answer e.kept e.empty;
+      after = forgotten_there c.self.invariant c.args.token.number there c.index_mut-cache.ensures.value c.forget.new.self s.steps (as_stop s.caches.items s.stop) e.answer e.kept e.empty;
     })

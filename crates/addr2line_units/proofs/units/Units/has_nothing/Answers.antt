@@ -1,4 +1,4 @@
-use Rattle.addr2line_units.proofs.Common.{ltb-true, subst, sym, ◌∙◌, seen_stop}
+use Rattle.addr2line_units.proofs.Common.{ltb-true, subst, sym, ◌∙◌, as_stop}
 use Rattle.addr2line_units.specs.EmptyUnits.{HasNothingAt}
 use Rattle.addr2line_units.proofs.EmptyUnitLemmas.{nothing_there}
 use Rattle.addr2line_units.proofs.units.Units.has_nothing.Goals as goal
@@ -10,5 +10,5 @@ returns-in-Some g c =
     let within = ltb-true _ _ (sym lookup.0) in
     record {
       empty = λ known. subst (λ y. HasNothingAt y c.args.number) c.self.view_is
-          (nothing_there c.self.invariant c.args.number s.steps (seen_stop s.caches.items s.stop) within lookup.1 (sym c.has_nothing.ensures.gives ∙ known));
+          (nothing_there c.self.invariant c.args.number s.steps (as_stop s.caches.items s.stop) within lookup.1 (sym c.has_nothing.ensures.gives ∙ known));
     }

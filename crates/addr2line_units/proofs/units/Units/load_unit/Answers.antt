@@ -1,4 +1,4 @@
-use Rattle.addr2line_units.proofs.Common.{arith, option_map, subst, sym, err_from_is_err_and, AreEntriesOf, seen_stop, answers_in}
+use Rattle.addr2line_units.proofs.Common.{arith, option_map, subst, sym, err_from_is_err_and, AreEntriesOf, as_stop, answers_in}
 use Rattle.addr2line_units.proofs.LoadLemmas.{exactly_this, unknown_load}
 use Rattle.addr2line_units.proofs.NumberLemmas.{fault_told, load_told, loaded_there, none_loaded, refused_there}
 use Rattle.addr2line_units.proofs.StateLemmas.{some_given}
@@ -14,7 +14,7 @@ returns-in_default g c =
     rw (sym c.self.view_is) (record {
       gives = λ ne. unknown;
       exact = λ takes. sym unknown;
-      after = none_loaded c.self.invariant c.args.token.number none given s.steps (seen_stop s.caches.items s.stop);
+      after = none_loaded c.self.invariant c.args.token.number none given s.steps (as_stop s.caches.items s.stop);
     })
 
 pub index_mut-cache-requires : goal.index_mut-cache-requires
@@ -55,7 +55,7 @@ returns-in_err-answer g c =
     rw (p.1, p.2, sym c.self.view_is) (record {
       gives = λ ne. absurd (ne e.refused.0);
       exact = λ takes. fault_told i c.args.token.number there at w given _ (sym (e.exact takes));
-      after = refused_there i c.args.token.number there at w given _ (some_given _ c.args.sections) s.steps (seen_stop s.caches.items s.stop) e.right e.functions (λ h. (e.kept h).0) c.in_err-answer.field-0.0 e.refused e.none;
+      after = refused_there i c.args.token.number there at w given _ (some_given _ c.args.sections) s.steps (as_stop s.caches.items s.stop) e.right e.functions (λ h. (e.kept h).0) c.in_err-answer.field-0.0 e.refused e.none;
     })
 
 pub returns : goal.returns
@@ -72,5 +72,5 @@ returns g c =
     rw (sym c.self.view_is) (record {
       gives = exactly_this c.check_view.result _ told;
       exact = λ takes. told;
-      after = loaded_there i c.args.token.number there at w given _ (some_given _ c.args.sections) s.steps (seen_stop s.caches.items s.stop) e.right e.functions (λ h. (e.kept h).0) c.check_view.result e.answer fault;
+      after = loaded_there i c.args.token.number there at w given _ (some_given _ c.args.sections) s.steps (as_stop s.caches.items s.stop) e.right e.functions (λ h. (e.kept h).0) c.check_view.result e.answer fault;
     })

@@ -1,4 +1,4 @@
-use Rattle.addr2line_units.proofs.Common.{None, Ok, ap, arith, false, refl, subst, sym, ◌≡◌, OnOk, AreEntriesOf, seen_stop, answers_in, is_open_at, load_of_number, scope_of, seen_units, UnitsState}
+use Rattle.addr2line_units.proofs.Common.{None, Ok, ap, arith, false, refl, subst, sym, ◌≡◌, OnOk, AreEntriesOf, as_stop, answers_in, is_open_at, load_of_number, scope_of, as_units_state, UnitsState}
 use Rattle.std.specs.Prelude.{IfOk}
 use Rattle.addr2line_units.specs.ListedLoads.{MarksLoad, if_new}
 use Rattle.addr2line_units.proofs.ListingLemmas.{listing_first, load_in}
@@ -21,7 +21,7 @@ returns-in_default g c =
       left = subst (λ (y : UnitsState). MarksLoad (load_in y n) marks marks) c.self.view_is (marks_none marks (load_of_number S.file.sections S.file.units (answers_in cs) n) no);
       none = λ shut. refl;
       refused = tt;
-      after = rw (sym c.self.view_is) (listing_first (λ k. k ≡ n) (seen_units S cs s.steps (seen_stop cs s.stop)));
+      after = rw (sym c.self.view_is) (listing_first (λ k. k ≡ n) (as_units_state S cs s.steps (as_stop cs s.stop)));
     }
 
 pub index_mut-cache-requires : goal.index_mut-cache-requires
@@ -55,5 +55,5 @@ returns g c =
       left = subst (λ (y : UnitsState). OnOk c.new_load.result (MarksLoad (load_in y n) marks c.new_load.new.marks.items)) c.self.view_is (subst (λ o. OnOk c.new_load.result (MarksLoad o marks c.new_load.new.marks.items)) (sym load_is) e.left);
       none = subst (λ (y : UnitsState). is_open_at y.scope.file.sections y.scope.file.units y.answers n ≡ false → c.new_load.result ≡ Ok None) c.self.view_is (λ shut. e.none (shut_there i c.args.number there at shut));
       refused = e.refused;
-      after = rw (sym c.self.view_is) (listed_there i c.args.number there at c.new_load.new.self s.steps (seen_stop s.caches.items s.stop) e.after e.functions);
+      after = rw (sym c.self.view_is) (listed_there i c.args.number there at c.new_load.new.self s.steps (as_stop s.caches.items s.stop) e.after e.functions);
     }

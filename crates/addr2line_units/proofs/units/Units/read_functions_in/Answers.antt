@@ -1,4 +1,4 @@
-use Rattle.addr2line_units.proofs.Common.{Ok, arith, subst, sym, ExactlyUnlessOom, IsScope, AreEntriesOf, first_answer_of, seen_stop, read_of_number, read_of_unit, UnitsState}
+use Rattle.addr2line_units.proofs.Common.{Ok, arith, subst, sym, ExactlyUnlessOom, IsScope, AreEntriesOf, first_answer_of, as_stop, read_of_number, read_of_unit, UnitsState}
 use Rattle.addr2line_units.specs.AfterParses.{AfterReadingUnit}
 use Rattle.addr2line_units.proofs.ParseAtLemmas.{after_there, none_after, none_gives, reading_was}
 use Rattle.addr2line_units.proofs.UnitAtLemmas.{cache_within, its_entries, none_got, unit_got, units_with_entries}
@@ -8,7 +8,7 @@ pub returns-in_default : goal.returns-in_default
 returns-in_default g c =
     let s = c.self.inside in
     let none = none_got c.scope-scope.ensures.gives c.args.number c.in_default.ensures.lookup.0 in
-    let was = seen_stop s.caches.items s.stop in
+    let was = as_stop s.caches.items s.stop in
     record {
       gives = subst (λ (y : UnitsState). ExactlyUnlessOom (λ x. x) (Ok tt) (read_of_number c.args.depth y.scope y.scope.file.units y.answers c.args.number)) c.self.view_is (none_gives c.self.invariant c.args.number g.R.Reader.shares c.args.depth s.steps was none);
       after = rw (sym c.self.view_is) (none_after c.self.invariant c.args.number g.R.Reader.shares c.args.depth s.steps was none);
@@ -45,7 +45,7 @@ returns g c =
     let at = c.index_mut-cache.ensures.value in
     let shares = g.R.Reader.shares in
     let depth = c.args.depth in
-    let was = seen_stop s.caches.items s.stop in
+    let was = as_stop s.caches.items s.stop in
     let after = subst (λ S. AfterReadingUnit shares depth S u c.read.result v c.read.new.self) gives c.read.ensures.after in
     record {
       gives = subst (λ (y : UnitsState). ExactlyUnlessOom (λ x. x) c.read.result (read_of_number depth y.scope y.scope.file.units y.answers c.args.number)) c.self.view_is

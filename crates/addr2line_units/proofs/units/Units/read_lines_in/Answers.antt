@@ -1,4 +1,4 @@
-use Rattle.addr2line_units.proofs.Common.{Err, Ok, arith, false, slice_get, subst, sym, ◌≡◌, IfErr, ExactlyUnlessOom, lines_take_memory, seen_stop, AreLinesOf, cached_lines, lines_result, lines_result_at, UnitsState}
+use Rattle.addr2line_units.proofs.Common.{Err, Ok, arith, false, slice_get, subst, sym, ◌≡◌, IfErr, ExactlyUnlessOom, lines_take_memory, as_stop, AreLinesOf, cached_lines, lines_result, lines_result_at, UnitsState}
 use Rattle.addr2line_units.proofs.LinesAtLemmas.{caching_after, none_after_caching, none_read, read_there}
 use Rattle.addr2line_units.proofs.UnitAtLemmas.{cache_within, its_lines, none_got, sections_seen, unit_got, units_with_lines}
 use Rattle.addr2line_units.proofs.UnitsLemmas.{answer_cached}
@@ -8,7 +8,7 @@ pub returns-in_default : goal.returns-in_default
 returns-in_default g c =
     let s = c.self.inside in
     let i = c.self.invariant in
-    let was = seen_stop s.caches.items s.stop in
+    let was = as_stop s.caches.items s.stop in
     let none = none_got c.scope-scope.ensures.gives c.args.number c.in_default.ensures.lookup.0 in
     record {
       gives = subst (λ (y : UnitsState). lines_result_at y.scope.file.sections (slice_get y.units c.args.number) ≡ Ok tt) c.self.view_is (none_read i c.args.number s.steps was none);
@@ -35,7 +35,7 @@ pub returns : goal.returns
 returns g c =
     let s = c.self.inside in
     let i = c.self.invariant in
-    let was = seen_stop s.caches.items s.stop in
+    let was = as_stop s.caches.items s.stop in
     let there = unit_got c.scope-scope.ensures.gives c.args.number c.in-Some.ensures.lookup.0 c.in-Some.ensures.lookup.1 in
     let at = c.index_mut-cache.ensures.value in
     let u = c.in-Some.dw_unit.now in

@@ -1,4 +1,4 @@
-use Rattle.addr2line_units.proofs.Common.{ap, arith, option_map, rules, sym, ◌∙◌, ◌≡◌, seen_stop, answers_in, unit_found, scope_of}
+use Rattle.addr2line_units.proofs.Common.{ap, arith, option_map, rules, sym, ◌∙◌, ◌≡◌, as_stop, answers_in, unit_found, scope_of}
 use Rattle.addr2line_units.specs.declared.frames.FramesStop.TheVariants as stops
 use Rattle.addr2line_units.proofs.CachedUnitLemmas.{entries_right}
 use Rattle.addr2line_units.proofs.DecidedLemmas.{decided_view, decided_within, parts_at}
@@ -59,5 +59,5 @@ returns g c =
     rw (sym c.self.view_is) (record {
       gives =
           ap (λ o. option_map (λ r. (r.dwarf.now, r.unit.now)) o) c.ok.ensures.value ∙ found
-          ∙ ap (λ l. unit_found s.sources.dwarf.value s.sources.units.items (answers_in s.caches.items) (seen_stop s.caches.items l)) (sym last);
+          ∙ ap (λ l. unit_found s.sources.dwarf.value s.sources.units.items (answers_in s.caches.items) (as_stop s.caches.items l)) (sym last);
     })

@@ -3,10 +3,10 @@ use Rattle.addr2line.proofs.Common.{◌≡◌, ◌≢◌, ◌⊎◌, inl, inr, �
 use Rattle.std.specs.List.{AllByRecursion}
 use Rattle.std.specs.Prelude.{is_some, unwrap_or, if◌then◌else◌}
 use Rattle.addr2line_units.specs.declared.parses.ReadingDepth.{ReadingDepth}
-use Rattle.addr2line_units.specs.FunctionParses.{answers_after_parse, read_of_unit, unless_fault}
-use Rattle.addr2line_units.specs.LoadLaws.{IsListed}
-use Rattle.addr2line_units.specs.LoadLaws as laws
-use Rattle.addr2line_units.proofs.AnswerLemmas.{others_stay}
+use Rattle.addr2line_units.specs.Parses.{answers_after_parse, read_of_unit, unless_fault}
+use Rattle.addr2line_units.specs.LoadsLaws.{IsListed}
+use Rattle.addr2line_units.specs.LoadsLaws as laws
+use Rattle.addr2line_units.proofs.LoadsAnswerLemmas.{others_stay}
 use Rattle.addr2line.specs.AnswerLaws.{FirstAnswersStay, ForgetsNone, IsAnsweredBy, WaitsForNoneAnswered, answering}
 use Rattle.addr2line.proofs.HistoryLawLemmas.{answers_are, as_many, loads_are}
 

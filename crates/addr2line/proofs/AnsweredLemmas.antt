@@ -2,9 +2,9 @@
 -- specs/Answers.antt and specs/Lookups.antt).
 use Rattle.addr2line.proofs.Common.{◌≡◌, ℕ, ◌<◌, [], length, List, Option, Result, Ok, Err, sym, ap, subst, ◌∙◌, true, IfErr, OnOk, Error, ◌>>=◌, Sections, Scope, OnFault, UnitRange, cover, LookupStop, Waits, Finds, FindsNothing, main_scope, with_answer, load_result, UnitIndex, UnitsState, FirstAnswers, fewer_left, waits_listed, AfterAnswering, answered, load_reply, IsContext, as_context, loads_at, lookup_stop, stop_in, waits_for}
 use Rattle.std.proofs.lemmas.Bool.{eqb-true}
-use Rattle.addr2line_units.specs.AfterUnits as left
-use Rattle.addr2line_units.specs.LoadLaws.{IsListed}
-use Rattle.addr2line_units.specs.LoadLaws as laws
+use Rattle.addr2line_units.specs.UnitsAfter as left
+use Rattle.addr2line_units.specs.LoadsLaws.{IsListed}
+use Rattle.addr2line_units.specs.LoadsLaws as laws
 use Rattle.addr2line.proofs.ContextLemmas.{at_made, by_made, or_made, still_context}
 
 -- a lookup that waits for the unit of a number

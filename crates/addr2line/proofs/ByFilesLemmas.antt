@@ -13,7 +13,7 @@ use Rattle.addr2line.proofs.HistoryLemmas.{HasGiven, given_all, given_more, resu
 use Rattle.addr2line.proofs.LoadingLemmas.{if_some_both, no_oom, no_path, not_told}
 use Rattle.addr2line.proofs.NoLoadLemmas.{lacks_memory}
 use Rattle.addr2line.proofs.SkippedLemmas.{waits_true}
-use Rattle.addr2line_units.proofs.StayLemmas.{known_of_twice, same_stays_known}
+use Rattle.addr2line_units.proofs.EntriesStayLemmas.{known_of_twice, same_stays_known}
 
 -- what is so of files as they are read is so of those that are known
 pub if_read : (P : ReadFiles → Type 0) (choice : CompressedSections) (files : Option Files) → IfSome files (λ held. P (as_read choice held)) → IfSome (as_read_if_known choice files) P

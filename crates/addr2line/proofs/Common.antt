@@ -17,24 +17,24 @@ unfoldable pub use Rattle.elf.specs.ObjectFile.{object_file_of}
 pub use Rattle.elf.specs.declared.error.LoaderError.{LoaderError}
 pub use Rattle.elf.specs.declared.error.LoaderError.TheVariants.{NotElf, OutOfMemory, PathNotUtf8}
 pub use Rattle.addr2line_lines.specs.References.{Scope}
-pub use Rattle.addr2line_units.proofs.LoadLawLemmas.{answered_load, fewer_left, listed_there, load_gone, load_others, load_own, never_waits_alone, others_left, waits_listed}
-pub use Rattle.addr2line_units.specs.Cover.{cover, cover_range, holds_until}
+pub use Rattle.addr2line_units.proofs.LoadsLawLemmas.{answered_load, fewer_left, listed_there, load_gone, load_others, load_own, never_waits_alone, others_left, waits_listed}
+pub use Rattle.addr2line_units.specs.IndexCover.{cover, cover_range, holds_until}
 pub use Rattle.addr2line_units.specs.Frames.{FoundFunction, FrameRecord, found_frames, frames_from}
 pub use Rattle.addr2line_units.specs.FramesLeft.{frames_left}
 pub use Rattle.addr2line_units.specs.FramesLookup.{Finds, FindsNothing, LookupAsks, LookupStop, Waits, after_fault, answer_of, asked_frames, asks_lines_of, ends_lookup, frames_of_number, function_offset_of, holds_along, inlined_at_number, is_waiting, main_scope, or_stop, readable_view, stop_along, unit_found, view_of_number, with_answer}
-pub use Rattle.addr2line_units.specs.KnownEntries.{KnownEntries, LearnsDetailsAt, LearnsNoDetails, NothingKnown, knows_at}
+pub use Rattle.addr2line_units.specs.EntriesKnown.{KnownEntries, LearnsDetailsAt, LearnsNoDetails, NothingKnown, knows_at}
 pub use Rattle.addr2line_units.specs.Loads.{NoneOpen, before_others, forget_result, forgotten, is_of_other, is_open_at, load_of_number, load_result, loads_along}
-pub use Rattle.addr2line_units.specs.Located.{LocationResult, all_lines, first_location, is_found, lines_of_unit, location_in, location_of, steps_along, or_first_location, spans_along, spans_of}
-pub use Rattle.addr2line_units.specs.Parsed.{AllAskFor, AreAllParsed, AreParsed, AreReadyForAll, AsksFor, LeadTo, ParsesOnly, StaysParsed, TakeNone, TakeNoneForAll, decides, has_parsed, ready_along, takes_none_along, unit_decides}
-pub use Rattle.addr2line_units.specs.RangedUnits.{IndexedUnit, RangedUnit, has_lines, indexed_of, ranged_units, unit_ranges_from, unit_records}
-pub use Rattle.addr2line_units.specs.StaysKnown.{IsReadyAt, StaysKnown, StaysKnownOf}
-pub use Rattle.addr2line_units.specs.Suspended.{IfLoad, IfOutput, IsOkOutput, SkipsTo}
-pub use Rattle.addr2line_units.specs.UnitFrames.{FramesResult, frames_by, function_by, function_in, function_offset_by}
-unfoldable pub use Rattle.addr2line_units.specs.UnitFrames.{asks_lines_in, frames_in, function_offset_in}
-pub use Rattle.addr2line_units.specs.UnitIndex.{UnitIndex, index_units, sup_units}
+pub use Rattle.addr2line_units.specs.Locations.{LocationResult, all_lines, first_location, is_found, lines_of_unit, location_in, location_of, steps_along, or_first_location, spans_along, spans_of}
+pub use Rattle.addr2line_units.specs.LocationsParsed.{AllAskFor, AreAllParsed, AreParsed, AreReadyForAll, AsksFor, LeadTo, ParsesOnly, StaysParsed, TakeNone, TakeNoneForAll, decides, has_parsed, ready_along, takes_none_along, unit_decides}
+pub use Rattle.addr2line_units.specs.UnitsRanged.{IndexedUnit, RangedUnit, has_lines, indexed_of, ranged_units, unit_ranges_from, unit_records}
+pub use Rattle.addr2line_units.specs.EntriesStayKnown.{IsReadyAt, StaysKnown, StaysKnownOf}
+pub use Rattle.addr2line_units.specs.Continuation.{IfLoad, IfOutput, IsOkOutput, SkipsTo}
+pub use Rattle.addr2line_units.specs.EntriesFrames.{FramesResult, frames_by, function_by, function_in, function_offset_by}
+unfoldable pub use Rattle.addr2line_units.specs.EntriesFrames.{asks_lines_in, frames_in, function_offset_in}
+pub use Rattle.addr2line_units.specs.UnitsIndex.{UnitIndex, index_units, sup_units}
 pub use Rattle.addr2line_units.specs.UnitsState.{UnitsState, asked_by, asks_no_memory_at, first_state, has_all_at, has_few_at, new_units, row_location, stop_of, waiting_unit}
-pub use Rattle.addr2line_units.specs.Views.{FirstAnswers, SplitLoad, View, awaited_by, awaited_load, decided_answer, first_unit, is_open, load_by, parts_of, verdict, verdict_by}
-unfoldable pub use Rattle.addr2line_units.specs.Views.{load_of_unit, split_name_of}
+pub use Rattle.addr2line_units.specs.UnitView.{FirstAnswers, SplitLoad, View, awaited_by, awaited_load, decided_answer, first_unit, is_open, load_by, parts_of, verdict, verdict_by}
+unfoldable pub use Rattle.addr2line_units.specs.UnitView.{load_of_unit, split_name_of}
 pub use Rattle.addr2line_units.specs.declared.continuation.LookupResult.{LookupResult}
 pub use Rattle.addr2line_units.specs.declared.continuation.LookupResult.TheVariants.{Load, Output}
 pub use Rattle.addr2line_units.specs.declared.frames.OnFault.{OnFault}
@@ -48,8 +48,8 @@ pub use Rattle.addr2line.specs.History.{Abandoned, AfterCall, AfterCalls, Answer
 pub use Rattle.addr2line.specs.Loads.{AfterForgetting, AfterLoading, AfterParse, AfterPreload, IsAllKnown, IsNotOpen, NoneOpenAt, ReachesAllOf, ReadsFunctionsNoMemory, StaysRead, forget_reply, parse_reply, parsed_answers}
 pub use Rattle.addr2line.specs.Lookups.{IsFaultOfAsked, IsLoadOf, UnitResult, asked_of, ended_with, found_at, frames_of, frames_value, loads_at, lookup_stop, stop_in, unit_of, unit_value, view_found, waits_for, with_none}
 pub use Rattle.addr2line.specs.Replies.{CopiedReply, SuspendedAt, copied_frame, copied_load, reply_of_frames, reply_of_range, reply_of_unit}
-pub use Rattle.addr2line.specs.SeenCalls.{given_by, as_call, as_given}
-pub use Rattle.addr2line.specs.SeenReplies.{as_owned_frame, as_owned_load, as_owned_span, as_reply}
+pub use Rattle.addr2line.specs.RecordedCalls.{given_by, as_call, as_given}
+pub use Rattle.addr2line.specs.OwnedReplies.{as_owned_frame, as_owned_load, as_owned_span, as_reply}
 pub use Rattle.addr2line.specs.SplitFiles.{LeavesOpen, has_wanted_id, of_file, or_none, split_at_path}
 unfoldable pub use Rattle.addr2line.specs.SplitFiles.{given_by_files, split_by, split_of}
 pub use Rattle.addr2line.specs.WaitingLookups.{count_loads, found_of_context, frames_of_context, unit_of_context}

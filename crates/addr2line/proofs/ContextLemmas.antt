@@ -3,9 +3,9 @@ use Rattle.addr2line.proofs.Common.{◌≡◌, ℕ, zero, suc, ◌≤◌, ◌&&�
 use Rattle.std.specs.Prelude.{is_ok}
 use Rattle.addr2line_lines.specs.Location.{LineTable, Location, location_at}
 use Rattle.addr2line_lines.specs.Rows.{read_all}
-use Rattle.addr2line_units.specs.AfterUnits as left
-use Rattle.addr2line_units.proofs.NewUnitsLemmas.{ok_is}
-use Rattle.addr2line_units.proofs.UnitsLemmas.{parsed_none_along, ready_both, ready_first}
+use Rattle.addr2line_units.specs.UnitsAfter as left
+use Rattle.addr2line_units.proofs.UnitsNewLemmas.{ok_is}
+use Rattle.addr2line_units.proofs.UnitsLinesLemmas.{parsed_none_along, ready_both, ready_first}
 
 -- an answer that isn't OutOfMemory is exactly what is given
 pub exactly_told : {X Y : Type 0} (see : X → Y) (r : Result X Error) (given : Result Y Error) → ExactlyUnlessOom see r given → WasNotRefused r → Exactly see r given

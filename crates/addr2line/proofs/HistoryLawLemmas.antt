@@ -2,8 +2,8 @@
 use Rattle.addr2line.proofs.Common.{◌≡◌, ◌≢◌, inl, inr, ℕ, ◌==◌, Bool, true, false, not, List, [], ◌∷◌, filter, length, slice_get, Option, Some, None, Result, Ok, Err, refl, sym, ap, subst, ◌∙◌, if◌then◌else◌, set, length-map, length-set, Error, ◌>>=◌, Sections, UnitRecord, OnFault, cover, LookupStop, Waits, Finds, FindsNothing, answer_of, main_scope, with_answer, is_of_other, load_of_number, loads_along, UnitIndex, index_units, IndexedUnit, unit_records, FirstAnswers, SplitLoad, decided_answer, others_left, waits_listed, answered, Given, Answered, Abandoned, where_waiting, loads_at, lookup_stop, stop_in}
 use Rattle.std.proofs.lemmas.Bool.{eq-eqb}
 use Rattle.std.specs.List.{AllByRecursion}
-use Rattle.addr2line_units.specs.LoadLaws.{IsListed}
-use Rattle.addr2line_units.specs.LoadLaws as laws
+use Rattle.addr2line_units.specs.LoadsLaws.{IsListed}
+use Rattle.addr2line_units.specs.LoadsLaws as laws
 use Rattle.addr2line.specs.HistoryLaws.{AreDistinct, WaitsForEachOnce, waited_for}
 
 -- what is listed among the loads of other units

@@ -2,10 +2,10 @@
 use Rattle.addr2line.proofs.Common.{◌≡◌, ◌⊎◌, inl, inr, ℕ, Bool, false, true, List, [], length, slice_get, Option, Result, Ok, Err, sym, ap, subst, ◌∙◌, length-map, IfErr, IfOk, IsOk, IsOkAnd, OnOk, Error, ◌>>=◌, ExactlyUnlessOom, fault_of, Sections, UnitRecord, Scope, OnFault, UnitRange, cover, asked_frames, main_scope, stop_along, knows_at, NoneOpen, forget_result, is_open_at, load_result, loads_along, all_lines, LeadTo, IndexedUnit, IsReadyAt, StaysKnown, UnitIndex, index_units, UnitsState, SplitLoad, IsContext, lines_of_all, as_context, AfterForgetting, AfterLoading, AfterParse, AfterPreload, IsAllKnown, IsNotOpen, NoneOpenAt, ReachesAllOf, ReadsFunctionsNoMemory, StaysRead, forget_reply, parse_reply, parsed_answers, lookup_stop}
 use Rattle.addr2line_units.specs.declared.parses.ReadingDepth.{ReadingDepth}
 use Rattle.addr2line_units.specs.declared.parses.ReadingDepth.TheVariants as depths
-use Rattle.addr2line_units.specs.AfterUnits as left
-use Rattle.addr2line_units.specs.FunctionParseLaws.{IsReached}
-use Rattle.addr2line_units.specs.FunctionParses.{AreFirstDecided, AreReadBefore, AreReadyFor, ReadsNoMemory, answers_after_parse, read_of_units}
-use Rattle.addr2line_units.proofs.ReachedLemmas.{reached_all}
+use Rattle.addr2line_units.specs.UnitsAfter as left
+use Rattle.addr2line_units.specs.ParsesLaws.{IsReached}
+use Rattle.addr2line_units.specs.Parses.{AreFirstDecided, AreReadBefore, AreReadyFor, ReadsNoMemory, answers_after_parse, read_of_units}
+use Rattle.addr2line_units.proofs.ParsesReachedLemmas.{reached_all}
 use Rattle.addr2line.specs.Loads.{load_reply}
 use Rattle.addr2line.proofs.AnsweredLemmas.{answers_are, scope_same, units_same}
 use Rattle.addr2line.proofs.ContextLemmas.{at_made, at_now, by_made, of_made, of_now, or_made}

@@ -2,7 +2,7 @@
 use Rattle.addr2line.proofs.Common.{◌≡◌, ◌≢◌, ◌⊎◌, ℕ, ◌&&◌, ◌||◌, Bool, true, not, List, [], ◌∷◌, slice_get, Some, None, option_map, Result, Ok, Err, refl, sym, ap, subst, ◌∙◌, IfErr, IfOk, Error, ◌>>=◌, ExactlyUnlessOom, WasNotRefused, Scope, OnFault, Skip, UnitRange, cover, LookupAsks, LookupStop, after_fault, asked_frames, asks_lines_of, frames_of_number, function_offset_of, inlined_at_number, holds_along, or_stop, stop_along, LearnsDetailsAt, knows_at, ParsesOnly, has_parsed, IndexedUnit, FramesResult, UnitsState, asked_by, asks_no_memory_at, has_all_at, has_few_at, stop_of, FirstAnswers, SplitLoad, load_of_unit, IsContext, as_context, AfterFrames, IsKnownFew, NeedsNoMemory, IsFaultOfAsked, IsLoadOf, lookup_stop}
 use Rattle.gimli_read.specs.declared.error.Error.TheVariants.{OutOfMemory}
 use Rattle.addr2line_lines.specs.InlineRoom.{exceeds_inline_room}
-use Rattle.addr2line_units.specs.AfterUnits as left
+use Rattle.addr2line_units.specs.UnitsAfter as left
 use Rattle.addr2line.proofs.ContextLemmas.{at_made, by_made, of_made, still_context}
 
 -- a lookup that passes over faults has none

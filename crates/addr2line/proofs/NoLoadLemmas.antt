@@ -4,7 +4,7 @@ use Rattle.addr2line_lines.specs.InlineRoom.{exceeds_inline_room}
 use Rattle.addr2line.specs.FramesByFiles.{ended_frames_of, stop_frames}
 use Rattle.addr2line.specs.LoadsByFiles.{AfterAnswers, AfterFramesByFiles, AnswersInTurn, MayLackMemory, WaitsForNone}
 use Rattle.addr2line.proofs.HistoryLemmas.{given_ended}
-use Rattle.addr2line_units.proofs.NewUnitsLemmas.{ok_is}
+use Rattle.addr2line_units.proofs.UnitsNewLemmas.{ok_is}
 use Rattle.addr2line.proofs.UncoveredLemmas.{uncovered_few, uncovered_stop}
 
 more : (a b c x y : Bool) → (a ≡ true → x ≡ true) → (c ≡ true → y ≡ true) → (a && (b || c)) ≡ true → (x && (b || y)) ≡ true

@@ -1,6 +1,6 @@
 -- Lookups of which none is answered to each load (on specs/SkipLaws.antt).
 use Rattle.addr2line.proofs.Common.{◌≡◌, ◌≢◌, ℕ, zero, suc, ◌<◌, ◌≤◌, arith, false, List, length, Option, None, Result, Ok, Err, refl, sym, ap, subst, ◌∙◌, length-map, Error, ◌>>=◌, Sections, UnitRecord, OnFault, Stop, Skip, cover, LookupStop, Waits, Finds, FindsNothing, is_waiting, with_answer, UnitIndex, index_units, IndexedUnit, unit_records, FirstAnswers, SplitLoad, View, fewer_left, answered, answers_given, where_waiting, ended_with, found_at, frames_value, loads_at, lookup_stop, unit_value, view_found, with_none}
-use Rattle.addr2line_units.specs.LoadLaws as laws
+use Rattle.addr2line_units.specs.LoadsLaws as laws
 use Rattle.addr2line.proofs.HistoryLawLemmas.{answers_are, as_many, loads_are, waits_for_listed}
 use Rattle.addr2line.proofs.SkipLemmas.{decided_found, none_after}
 use Rattle.addr2line.specs.SkipLaws.{SkippedGivesSame, SkippedWaitsForNone}

@@ -2,7 +2,7 @@
 -- specs/Lookups.antt).
 use Rattle.addr2line.proofs.Common.{◌≡◌, ◌≢◌, ℕ, zero, suc, get_or, Bool, true, false, List, [], ◌∷◌, slice_get, Option, Some, None, option_and_then, option_map, unwrap_or, Result, Ok, Err, refl, sym, ap, subst, ◌∙◌, if◌then◌else◌, set, slice_get-map, is_none, Error, ◌>>=◌, ExactlyUnlessOom, Sections, UnitRecord, Scope, LookupResult, Load, Output, OnFault, UnitRange, cover, FrameRecord, LookupStop, Waits, Finds, FindsNothing, after_fault, answer_of, asked_frames, frames_of_number, is_waiting, main_scope, or_stop, readable_view, stop_along, view_of_number, with_answer, IfLoad, IfOutput, SkipsTo, FramesResult, frames_by, frames_in, function_by, UnitIndex, index_units, IndexedUnit, unit_records, FirstAnswers, SplitLoad, View, decided_answer, is_open, load_of_unit, verdict, verdict_by, answered, ended_with, found_at, lookup_stop, stop_in, view_found, with_none}
 use Rattle.std.proofs.Math.Seq.{map-set_same}
-use Rattle.addr2line_units.proofs.FoundLemmas.{always_along, decided_by_frames, found_along, found_by_unit, has_frames}
+use Rattle.addr2line_units.proofs.FramesFoundLemmas.{always_along, decided_by_frames, found_along, found_by_unit, has_frames}
 
 -- a unit that is decided has its verdict where none is answered to the others
 decided_by : (d : Sections) (u : UnitRecord) (l : Result (Option SplitLoad) Error) (a : Option (Option Sections)) (v : Result View Error) → verdict_by d u l a ≡ Some v → verdict_by d u l (Some (unwrap_or a None)) ≡ Some v

@@ -1,7 +1,7 @@
 -- Lookups of which none is answered to each load (on specs/Skips.antt).
 use Rattle.addr2line.proofs.Common.{◌≡◌, ◌≢◌, slice_get, ℕ, zero, suc, ◌+◌, ◌-◌, ◌≤◌, arith, Bool, true, false, List, ◌∷◌, ◌++◌, length, Option, Some, None, Result, Ok, Err, refl, sym, ap, subst, ◌∙◌, IfErr, Error, ◌>>=◌, WasNotRefused, Sections, UnitRecord, cover, OnFault, LookupStop, Waits, Finds, FindsNothing, answer_of, is_waiting, main_scope, with_answer, is_open_at, StaysParsed, has_parsed, unit_records, StaysKnownOf, UnitIndex, index_units, FirstAnswers, is_open, waits_listed, AfterAnswering, answered, ContextState, Given, Answered, answers_given, AfterFrames, IsKnown, IsKnownFew, NeedsNoMemory, ReadsAsked, IsNotOpen, IsFaultOfAsked, loads_at, lookup_stop, stop_in, waits_for, waiting_unit}
 use Rattle.std.proofs.lemmas.Bool.{eq-eqb}
-use Rattle.addr2line_units.proofs.StayLemmas.{known_of_twice, same_stays_known}
+use Rattle.addr2line_units.proofs.EntriesStayLemmas.{known_of_twice, same_stays_known}
 use Rattle.addr2line.proofs.AskedLemmas.{other_answers, reads_answered, reads_more, reads_nothing}
 use Rattle.addr2line.proofs.HistoryLemmas.{HasGiven, given_all, given_ended, given_more}
 use Rattle.addr2line.specs.Skips.{AfterSkip, nones, skipped_answers}

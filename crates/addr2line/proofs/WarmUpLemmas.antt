@@ -1,7 +1,7 @@
 -- Lookups in a context that has read all (on specs/WarmUp.antt).
 use Rattle.addr2line.proofs.Common.{◌≡◌, ℕ, ◌&&◌, ◌||◌, Bool, true, false, not, List, [], ◌∷◌, Result, Ok, Err, refl, sym, ap, subst, ◌∙◌, Error, Sections, OnFault, UnitRange, cover, holds_until, LookupStop, Waits, Finds, FindsNothing, asks_lines_of, inlined_at_number, holds_along, is_waiting, main_scope, knows_at, StaysParsed, has_parsed, unit_decides, UnitIndex, index_units, FirstAnswers, IsKnownFew, has_few_of, ContextState, lines_of_all, IsAllKnown, asked_of, lookup_stop}
 use Rattle.addr2line_lines.specs.InlineRoom.{exceeds_inline_room}
-use Rattle.addr2line_units.specs.FunctionParseLaws.{IsReached}
+use Rattle.addr2line_units.specs.ParsesLaws.{IsReached}
 use Rattle.addr2line.specs.WarmUp.{FindsAllWhenWarm, IsFewInlined, IsWarm, LocatesWhenWarm}
 use Rattle.addr2line.proofs.NoLoadLemmas.{holds_more}
 

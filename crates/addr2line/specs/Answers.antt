@@ -2,7 +2,7 @@
 -- Own: the first answer to a unit's load counts until the unit is forgotten.
 use Rattle.std.specs.Prelude.{◌≡◌, ◌≢◌, ◌⊎◌, ◌<◌, ℕ, length, Bool, true, false, slice_get, Option, is_some, IfErr, OnOk, Result, Ok, Err}
 use Rattle.addr2line.specs.Common.{Error, OutOfMemory, ◌>>=◌, Sections, OnFault, with_answer, LearnsNoFunctions, load_result, index_units, unit_records, StaysKnown, FirstAnswers, SplitLoad}
-use Rattle.addr2line_units.specs.AnswerMemory.{answer_takes_memory}
+use Rattle.addr2line_units.specs.LoadsMemory.{answer_takes_memory}
 use Rattle.addr2line.specs.Context.{ContextState}
 use Rattle.addr2line.specs.AfterLookups.{AfterFramesOver, Suspends}
 use Rattle.addr2line.specs.Lookups.{loads_at, lookup_stop, waits_for}

@@ -6,7 +6,7 @@
 use Rattle.std.specs.Prelude.{◌≡◌, ◌⊎◌, ℕ, List, [], ◌∷◌, map, take, Option, IfErr, OnOk, Result, Ok, Err}
 use Rattle.addr2line.specs.Common.{Error, OutOfMemory, Sections, OnFault, Stop, Skip, LookupStop, Waits, Finds, FindsNothing, main_scope, forgotten, location_of, spans_of, StaysParsed, UnitIndex, index_units, unit_records, FirstAnswers}
 use Rattle.addr2line_units.specs.declared.parses.ReadingDepth.{ReadingDepth}
-use Rattle.addr2line_units.specs.FunctionParses.{AreFirstDecided}
+use Rattle.addr2line_units.specs.Parses.{AreFirstDecided}
 use Rattle.addr2line.specs.Answers.{answered}
 use Rattle.addr2line.specs.Context.{ContextState, lines_of_all}
 use Rattle.addr2line.specs.Loads.{forget_reply, load_reply, parse_reply, parsed_answers}

@@ -2,7 +2,7 @@
 use Rattle.std.specs.Prelude.{◌≡◌, ◌≢◌, ℕ, length, List, [], ◌∷◌, Ok}
 use Rattle.std.specs.List.{AllByRecursion}
 use Rattle.addr2line.specs.Common.{Sections, OnFault, UnitIndex, index_units, FirstAnswers}
-use Rattle.addr2line_units.specs.LoadLaws.{IsListed}
+use Rattle.addr2line_units.specs.LoadsLaws.{IsListed}
 use Rattle.addr2line.specs.Answers.{answered}
 use Rattle.addr2line.specs.History.{Given, Answered, Abandoned, where_waiting}
 use Rattle.addr2line.specs.Lookups.{loads_at, lookup_stop}

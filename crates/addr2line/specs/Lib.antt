@@ -14,8 +14,8 @@ pub mod AnswerLaws
 pub mod SkipLaws
 pub mod WarmUp
 pub mod FrameLaws
-pub mod SeenReplies
-pub mod SeenCalls
+pub mod OwnedReplies
+pub mod RecordedCalls
 pub mod Files
 pub mod FileSections
 pub mod SplitFiles

@@ -7,8 +7,8 @@ use Rattle.std.specs.List.{AllByRecursion}
 use Rattle.addr2line.specs.Common.{Error, ◌>>=◌, WasNotRefused, Sections, OnFault, cover, answer_of, main_scope, LearnsNoDetails, LearnsNoFunctions, knows_at, NoneOpen, forget_result, forgotten, is_open_at, LeadTo, UnitIndex, index_units, unit_records, IsReadBy, IsReadyAt, StaysKnown, FirstAnswers}
 use Rattle.addr2line_units.specs.declared.parses.ReadingDepth.{ReadingDepth}
 use Rattle.addr2line_units.specs.declared.parses.ReadingDepth.TheVariants as depths
-use Rattle.addr2line_units.specs.FunctionParseLaws.{IsReached}
-use Rattle.addr2line_units.specs.FunctionParses.{AreFirstDecided, AreReadBefore, AreReadyFor, ReadsNoMemory, answers_after_parse, read_of_units}
+use Rattle.addr2line_units.specs.ParsesLaws.{IsReached}
+use Rattle.addr2line_units.specs.Parses.{AreFirstDecided, AreReadBefore, AreReadyFor, ReadsNoMemory, answers_after_parse, read_of_units}
 use Rattle.addr2line.specs.Answers.{answered}
 pub use Rattle.addr2line.specs.Answers.{load_reply}
 use Rattle.addr2line.specs.Context.{ContextState, lines_of_all}

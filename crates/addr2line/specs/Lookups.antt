@@ -4,7 +4,7 @@
 -- until its load is answered.
 use Rattle.std.specs.Prelude.{◌≡◌, ℕ, ◌==◌, Bool, false, List, [], map, slice_get, Option, Some, None, option_map, unwrap_or, Result, Ok, Err}
 use Rattle.addr2line.specs.Common.{Error, ◌>>=◌, Sections, UnitRecord, OnFault, Stop, Skip, cover, FrameRecord, LookupAsks, LookupStop, Waits, Finds, asked_frames, frames_found, frames_of_number, main_scope, readable_view, stop_along, view_of_number, UnitIndex, index_units, unit_records, FirstAnswers, SplitLoad, View, load_of_unit, parts_of, FramesResult}
-use Rattle.addr2line_units.specs.LoadLaws.{loads_of}
+use Rattle.addr2line_units.specs.LoadsLaws.{loads_of}
 
 -- what a lookup asks the unit of a number for
 abbrev pub asked_of : OnFault → Sections → FirstAnswers → ℕ → UnitIndex → ℕ → FramesResult

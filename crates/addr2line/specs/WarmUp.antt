@@ -3,7 +3,7 @@
 use Rattle.std.specs.Prelude.{◌≡◌, ℕ, true, not, Option, Result, Ok}
 use Rattle.addr2line.specs.Common.{Error, WasNotRefused, OnFault, cover, inlined_at_number, holds_along, main_scope, AreAllParsed, UnitIndex, index_units}
 use Rattle.addr2line_lines.specs.InlineRoom.{exceeds_inline_room}
-use Rattle.addr2line_units.specs.FunctionParseLaws.{IsReached}
+use Rattle.addr2line_units.specs.ParsesLaws.{IsReached}
 use Rattle.addr2line.specs.AfterLookups.{AfterFrames}
 use Rattle.addr2line.specs.Context.{AfterLookup, ContextState, IsReady, lines_of_all}
 use Rattle.addr2line.specs.Loads.{IsAllKnown, ReachesAllOf}

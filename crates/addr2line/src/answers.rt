@@ -2,7 +2,7 @@
 
 ghost use Rattle.std.specs.Prelude.{◌≡◌, Err, IfErr, None, OnOk, false, option_map};
 ghost use Rattle.addr2line.specs.Common.{OutOfMemory, Skip, waiting_unit};
-ghost use Rattle.addr2line_units.specs.AnswerMemory.{answer_takes_memory};
+ghost use Rattle.addr2line_units.specs.LoadsMemory.{answer_takes_memory};
 ghost use Rattle.addr2line.specs.AfterLookups.{IsStored};
 ghost use Rattle.addr2line.specs.Answers.{AfterAnswering, load_reply};
 ghost use Rattle.addr2line.specs.Skips.{AfterSkip};

@@ -2,8 +2,8 @@
 
 ghost use Rattle.std.specs.Prelude.{◌≡◌, ℕ, None, IfErr, IfOk, IsOk, Ok, OnOk, is_ok, option_map, true};
 ghost use Rattle.addr2line.specs.Common.{OutOfMemory, Exactly, ExactlyUnlessOom, IsUnlessOom, ExactlyUnlessOomIf, WasNotRefused, last_address, location_of, spans_of, AreAllParsed};
-ghost use Rattle.addr2line_lines.specs.SeenLocation.{as_location};
-ghost use Rattle.addr2line_units.specs.Indexed.{context_takes_memory};
+ghost use Rattle.addr2line_lines.specs.LentLocation.{as_location};
+ghost use Rattle.addr2line_units.specs.UnitsIndexed.{context_takes_memory};
 ghost use Rattle.addr2line_units.specs.LocationsLeft.{locations_left};
 ghost use Rattle.addr2line.specs.Context.{main_sections, new_context, lines_of_all, AfterLookupOver, AfterRangeLookup, IsReady, IsUncovered, IsReadyForAll, IsReadyForRange, LocatesRangeNoMemory, ParsesNoMemory, ParsesToFault, Stays};
 

@@ -2,14 +2,14 @@
 
 ghost use Rattle.std.specs.Prelude.{◌≡◌, ◌≢◌, Option, None, Some, Result, Ok, Err, IfErr, IfOk, IsOk, OnOk, map, option_map, true};
 ghost use Rattle.addr2line.specs.Common.{Error, OutOfMemory, ExactlyUnlessOom, result_map, WasNotRefused, frames_left, LookupStop, is_waiting, LocationResult};
-ghost use Rattle.addr2line_lines.specs.SeenLocation.{as_location};
+ghost use Rattle.addr2line_lines.specs.LentLocation.{as_location};
 ghost use Rattle.addr2line_units.specs.LocationsLeft.{locations_left};
 ghost use Rattle.addr2line_lines.specs.RangesLeft.{as_located};
-ghost use Rattle.addr2line_units.specs.SeenFrame.{as_frame, as_name};
-ghost use Rattle.addr2line_units.specs.SeenUnit.{as_found_unit, as_unit};
+ghost use Rattle.addr2line_units.specs.FramesLent.{as_frame, as_name};
+ghost use Rattle.addr2line_units.specs.SupScope.{as_found_unit, as_unit};
 ghost use Rattle.addr2line.specs.Lookups.{UnitResult, frames_of_stop};
 ghost use Rattle.addr2line.specs.Replies.{Located, Ranged, Listed, Ended, section_bytes, copied_frame, copied_load, copied_name, copied_unit, reply_of_frames, reply_of_unit};
-ghost use Rattle.addr2line.specs.SeenReplies.{HasEndedWith, as_owned_frame, as_owned_load, as_owned_location, as_owned_name, as_owned_span, as_owned_unit, as_reply};
+ghost use Rattle.addr2line.specs.OwnedReplies.{HasEndedWith, as_owned_frame, as_owned_load, as_owned_location, as_owned_name, as_owned_span, as_owned_unit, as_reply};
 
 use crate::reply::{FoundUnit, OwnedFrame, OwnedLoad, OwnedLocation, OwnedName, OwnedSpan, Reply};
 use addr2line_lines::Location;

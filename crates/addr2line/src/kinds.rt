@@ -23,7 +23,7 @@ pub trait LookupKind: Drop {
 pub trait LastLookup {
     ghost use Rattle.std.specs.Prelude.{Option};
     ghost use Rattle.addr2line_units.specs.FramesLookup.{LookupStop};
-    ghost use Rattle.addr2line_units.specs.Views.{View};
+    ghost use Rattle.addr2line_units.specs.UnitView.{View};
 
     // What it has come to.
     ghost last_stop: { Self → LookupStop };
@@ -42,7 +42,7 @@ impl<R: Reader> LastLookup for Context<R> {
 pub trait Lent<'ctx, C: LastLookup>: LookupKind {
     ghost use Rattle.std.specs.Prelude.{Option};
     ghost use Rattle.addr2line_units.specs.FramesLookup.{LookupStop};
-    ghost use Rattle.addr2line_units.specs.Views.{View};
+    ghost use Rattle.addr2line_units.specs.UnitView.{View};
 
     /// What a lookup has found.
     type Found: Drop;

@@ -5,7 +5,7 @@ ghost use Rattle.addr2line.specs.Common.{Io, NotElf, Exactly, Loading, LoadsUnle
 ghost use Rattle.elf.specs.declared.error.LoaderError.TheVariants.{OutOfMemory};
 ghost use Rattle.elf.specs.Sections.{section_range_at};
 ghost use Rattle.elf.specs.Symbols.{NamedAddress, named_address, symbol_at};
-ghost use Rattle.addr2line_lines.specs.SeenLocation.{as_location};
+ghost use Rattle.addr2line_lines.specs.LentLocation.{as_location};
 ghost use Rattle.addr2line_units.specs.LocationsLeft.{locations_left};
 ghost use Rattle.addr2line.specs.declared.compressed.CompressedSections.TheVariants.{Decompressed, Refused};
 ghost use Rattle.addr2line.specs.Context.{IsReady, LocatesRangeNoMemory};

@@ -2,7 +2,7 @@
 
 ghost use Rattle.std.specs.Prelude.{◌≡◌, [], IfErr, IfOk, IsOk, IsOkAnd, None, false, option_map};
 ghost use Rattle.addr2line.specs.Common.{OutOfMemory, IsUnlessOom, last_address, token_number};
-ghost use Rattle.addr2line_units.specs.AnswerMemory.{answer_takes_memory};
+ghost use Rattle.addr2line_units.specs.LoadsMemory.{answer_takes_memory};
 ghost use Rattle.addr2line.specs.Context.{IsUncovered};
 ghost use Rattle.addr2line.specs.Loads.{AfterForgetting, AfterLoading, AfterPreload, IsNotOpen, NoneOpenAt, forget_reply, load_reply};
 ghost use Rattle.addr2line.specs.Lookups.{loads_at};

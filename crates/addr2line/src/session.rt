@@ -8,8 +8,8 @@ ghost use Rattle.addr2line.specs.History.{AfterCall, AfterCalls, AnswersLoad, As
 ghost use Rattle.addr2line.specs.Loads.{forget_reply, load_reply, parse_reply};
 ghost use Rattle.addr2line.specs.Lookups.{loads_at};
 ghost use Rattle.addr2line.specs.Replies.{Ended, Listed, Located, SuspendedAt, copied_load, reply_of_range};
-ghost use Rattle.addr2line.specs.SeenCalls.{Makes, given_by, as_call, as_given};
-ghost use Rattle.addr2line.specs.SeenReplies.{as_reply};
+ghost use Rattle.addr2line.specs.RecordedCalls.{Makes, given_by, as_call, as_given};
+ghost use Rattle.addr2line.specs.OwnedReplies.{as_reply};
 
 use crate::context::Context;
 use crate::copies::{

@@ -2,7 +2,7 @@
 
 ghost use Rattle.std.specs.Prelude.{◌≡◌, IfErr, IfOk};
 ghost use Rattle.addr2line.specs.Common.{OutOfMemory, WasNotRefused, last_address, Skip, frames_left, Waits, frames_found, waiting_unit};
-ghost use Rattle.addr2line_units.specs.SeenUnit.{as_unit};
+ghost use Rattle.addr2line_units.specs.SupScope.{as_unit};
 ghost use Rattle.addr2line.specs.Context.{IsUncovered};
 ghost use Rattle.addr2line.specs.AfterLookups.{AfterFrames, IsKnownFew, IsStored, NeedsNoMemory};
 ghost use Rattle.addr2line.specs.Lookups.{IsFaultOfAsked, IsLoadOf, unit_value, view_found};

@@ -2,7 +2,7 @@
 
 ghost use Rattle.std.specs.Prelude.{◌≡◌, IfErr, option_map};
 ghost use Rattle.addr2line.specs.Common.{OutOfMemory, ExactlyUnlessOom, Skip, last_address, IfLoad, IfOutput, IsOkOutput};
-ghost use Rattle.addr2line_units.specs.SeenUnit.{as_found_unit, as_unit};
+ghost use Rattle.addr2line_units.specs.SupScope.{as_found_unit, as_unit};
 ghost use Rattle.addr2line.specs.Borrowed.{RestsAs};
 ghost use Rattle.addr2line.specs.Context.{IsUncovered};
 ghost use Rattle.addr2line.specs.AfterLookups.{AfterFramesOver};

@@ -2,7 +2,7 @@
 use Rattle.addr2line_bin.proofs.Common.{◌≡◌, ◌<◌, ℕ, List, [], ◌∷◌, length, Option, Some, None, Result, Ok, Err, refl, arith}
 use Rattle.gimli_read.specs.declared.error.Error.{Error}
 use Rattle.addr2line_lines.specs.RangeLocations.{LocatedSpan}
-use Rattle.addr2line_units.specs.RangeLookup.{YieldsRow}
+use Rattle.addr2line_units.specs.LocationsRange.{YieldsRow}
 use Rattle.addr2line_bin.specs.AllAddresses.{addresses_in, keep_rising, rising_after}
 
 -- a row that was given is the first of those that were left

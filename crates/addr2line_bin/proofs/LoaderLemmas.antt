@@ -11,14 +11,14 @@ use Rattle.elf.specs.Symbols.{NamedAddress, symbol_at}
 use Rattle.addr2line_lines.specs.LastAddress.{last_address}
 use Rattle.addr2line_lines.specs.Location.{Location}
 use Rattle.addr2line_units.specs.declared.index.UnitRange.{UnitRange}
-use Rattle.addr2line_units.specs.Cover.{cover}
+use Rattle.addr2line_units.specs.IndexCover.{cover}
 use Rattle.addr2line_units.specs.declared.frames.OnFault.TheVariants.{Stop}
 use Rattle.addr2line_units.specs.Frames.{FrameRecord}
 use Rattle.addr2line_units.specs.FramesLookup.{is_waiting}
-use Rattle.addr2line_units.specs.Located.{location_in, location_of}
-use Rattle.addr2line_units.specs.Parsed.{StaysParsed, decides, has_parsed, ready_along}
-use Rattle.addr2line_units.specs.UnitIndex.{index_units}
-use Rattle.addr2line_units.specs.RangedUnits.{IndexedUnit}
+use Rattle.addr2line_units.specs.Locations.{location_in, location_of}
+use Rattle.addr2line_units.specs.LocationsParsed.{StaysParsed, decides, has_parsed, ready_along}
+use Rattle.addr2line_units.specs.UnitsIndex.{index_units}
+use Rattle.addr2line_units.specs.UnitsRanged.{IndexedUnit}
 use Rattle.addr2line.proofs.NoLoadLemmas.{last_frames}
 use Rattle.addr2line.specs.Context.{ContextState, IsReady, IsUncovered, Stays}
 use Rattle.addr2line.specs.Files.{ReadFiles}

@@ -3,5 +3,5 @@ pub use Rattle.clap.specs.Words.{App, IsAmong, Kinds, Row, Rule, Text, all_of, a
 pub use Rattle.gimli_read.specs.Reading.{Exactly, result_map}
 pub use Rattle.elf.specs.Loading.{Loading, LoadsUnlessOom}
 pub use Rattle.addr2line_lines.specs.Location.{Location}
-pub use Rattle.addr2line_lines.specs.SeenLocation.{as_location}
+pub use Rattle.addr2line_lines.specs.LentLocation.{as_location}
 pub use Rattle.addr2line_units.specs.Frames.{FrameRecord, NameRecord}

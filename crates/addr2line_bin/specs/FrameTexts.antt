@@ -6,7 +6,7 @@ use Rattle.std.specs.Prelude.{ℕ, List, [], ◌∷◌, ◌++◌, Option, Some, 
 use Rattle.std.specs.Option.{option_or}
 use Rattle.addr2line_bin.specs.Common.{FrameRecord, NameRecord}
 use Rattle.addr2line_units.specs.LegacyText.{demangled_auto}
-use Rattle.addr2line_units.specs.SeenFrame.{name_text, raw_text}
+use Rattle.addr2line_units.specs.FramesLent.{name_text, raw_text}
 use Rattle.addr2line_bin.specs.declared.options.Style.{Style}
 use Rattle.addr2line_bin.specs.AddressTexts.{location_text}
 

@@ -6,7 +6,7 @@ use Rattle.addr2line_bin.specs.Common.{Exactly, Loading, LoadsUnlessOom, Locatio
 use Rattle.elf.specs.Sections.{section_range_at}
 use Rattle.elf.specs.Symbols.{NamedAddress, symbol_at}
 use Rattle.addr2line_lines.specs.LastAddress.{last_address}
-use Rattle.addr2line_units.specs.Located.{location_of, spans_of}
+use Rattle.addr2line_units.specs.Locations.{location_of, spans_of}
 use Rattle.addr2line.specs.Context.{ContextState, IsReady, IsUncovered}
 use Rattle.addr2line.specs.FramesByFiles.{ended_frames_of, frames_by_files}
 use Rattle.addr2line.specs.Loader.{LoaderState}

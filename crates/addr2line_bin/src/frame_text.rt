@@ -5,7 +5,7 @@ ghost use Rattle.std.specs.Cow.{cow_str_bytes};
 ghost use Rattle.std.specs.Option.{option_copied};
 ghost use Rattle.addr2line_bin.specs.Common.{FrameRecord};
 ghost use Rattle.addr2line_units.specs.FramesLeft.{frames_left};
-ghost use Rattle.addr2line_units.specs.SeenFrame.{as_frame, as_name};
+ghost use Rattle.addr2line_units.specs.FramesLent.{as_frame, as_name};
 ghost use Rattle.addr2line_bin.specs.FrameTexts.{caller_mark, callers_text, frame_text, frames_text};
 ghost use Rattle.addr2line_bin.specs.FrameTexts.{function_ending, function_name, function_text};
 ghost use Rattle.addr2line_bin.specs.FrameTexts.{missing_text, next_and, symbol_before};

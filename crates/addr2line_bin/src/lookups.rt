@@ -13,7 +13,7 @@ pub trait Lookups {
     ghost use Rattle.std.specs.Prelude.{◌≡◌, IfErr, IfOk, Ok, option_map};
     ghost use Rattle.elf.specs.declared.error.LoaderError.TheVariants.{OutOfMemory};
     ghost use Rattle.gimli_read.specs.Reading.{result_map};
-    ghost use Rattle.addr2line_lines.specs.SeenLocation.{as_location};
+    ghost use Rattle.addr2line_lines.specs.LentLocation.{as_location};
     ghost use Rattle.addr2line_units.specs.FramesLeft.{frames_left};
     ghost use Rattle.addr2line_units.specs.LocationsLeft.{locations_left};
     ghost use Rattle.addr2line_bin.specs.FileAnswers.{EndsAnswered, FileAnswers};

@@ -3,7 +3,7 @@ use Rattle.addr2line_c.proofs.Common.{◌≡◌, ◌≢◌, ◌∙◌, Bool, tru
 use Rattle.gimli_read.specs.declared.error.Error.TheVariants as reading
 use Rattle.elf.specs.Text.{loader_error_of}
 use Rattle.addr2line_units.specs.declared.frames.FrameIter.{FrameIter}
-use Rattle.addr2line_units.specs.UnitFrames.{FramesResult}
+use Rattle.addr2line_units.specs.EntriesFrames.{FramesResult}
 use Rattle.elf.specs.Loading.{Loading}
 use Rattle.addr2line_c.specs.Answered.{IsThere, SaysOrWaits, SaysWhatIsThere, done_if}
 

@@ -26,7 +26,7 @@ pub use Rattle.gimli_read.specs.Reading.{ExactlyUnlessOom, IsUnlessOom, WasNotRe
 pub use Rattle.gimli_read.specs.declared.error.Error.{Error}
 pub use Rattle.addr2line_units.specs.FramesLeft.{frames_left}
 pub use Rattle.addr2line_units.specs.LocationsLeft.{locations_left}
-pub use Rattle.addr2line_units.specs.Views.{SplitLoad}
+pub use Rattle.addr2line_units.specs.UnitView.{SplitLoad}
 pub use Rattle.addr2line.specs.SplitFiles.{of_file, or_none}
 pub use Rattle.addr2line_c.specs.Calls.{AnswersToken, CallsFile, ForgetsAnswer, FramesAt, IsOpened, LocatesAt, OpensFile, ParsesAll, PreloadsAt, SectionNamed, SpansFrom, SymbolAt, TellsLoad, given_sup}
 pub use Rattle.addr2line_c.specs.Filled.{IsFilled, saturated}

@@ -3,7 +3,7 @@ use Rattle.addr2line_c.proofs.Common.{◌≡◌, ◌≢◌, ◌⊎◌, ◌∙◌
 use Rattle.elf.specs.declared.error.LoaderError.TheVariants.{OutOfMemory}
 use Rattle.elf.specs.Text.{loader_error_of}
 use Rattle.addr2line_units.specs.declared.frames.OnFault.TheVariants.{Stop}
-use Rattle.addr2line_units.specs.Located.{is_found}
+use Rattle.addr2line_units.specs.Locations.{is_found}
 use Rattle.addr2line.specs.AfterLookups.{AfterFrames, AfterFramesOver, IsKnownFew}
 use Rattle.addr2line.specs.Context.{AfterLookup, AfterRangeLookup, ContextState, IsReady, IsReadyForRange}
 use Rattle.addr2line.specs.LoadsByFiles.{WaitsForNone}

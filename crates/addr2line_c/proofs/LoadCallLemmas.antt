@@ -6,10 +6,10 @@ use Rattle.gimli.specs.Sections.{Sections}
 use Rattle.elf.specs.declared.error.LoaderError.{LoaderError}
 use Rattle.elf.specs.declared.error.LoaderError.TheVariants as loading
 use Rattle.elf.specs.Loading.{Loading, LoadsUnlessOom}
-use Rattle.addr2line_units.specs.Parsed.{AreAllParsed}
+use Rattle.addr2line_units.specs.LocationsParsed.{AreAllParsed}
 use Rattle.addr2line.specs.Context.{ContextState, lines_of_all}
 use Rattle.addr2line.specs.Loads.{AfterLoading, IsAllKnown, ReachesAllOf, load_reply}
-use Rattle.addr2line_units.proofs.StayLemmas.{same_stays_known}
+use Rattle.addr2line_units.proofs.EntriesStayLemmas.{same_stays_known}
 use Rattle.addr2line_c.specs.declared.loads.AskedLoad.{AskedLoad}
 use Rattle.addr2line.specs.WarmUp.{IsWarm}
 use Rattle.addr2line_c.specs.LoadCalls.{AnswersLoadAs, AsksForAll, AsksForSome, is_out_of_memory, status_of_answer}

@@ -1,7 +1,7 @@
 -- Rows that are given one by one (on specs/RangeLookup.antt of addr2line_units).
 use Rattle.addr2line_c.proofs.Common.{◌≡◌, ◌∷◌, List, [], Option, Some, None, option_map, Result, Ok, Err, refl, Error, result_map}
 use Rattle.std.specs.Result.{result_transpose}
-use Rattle.addr2line_units.specs.RangeLookup.{YieldsOn}
+use Rattle.addr2line_units.specs.LocationsRange.{YieldsOn}
 
 -- a row or a fault that was given was the first that was left
 pub yields_first : {X Y : Type 0} (see : X → Y) (spans : List (Result Y Error)) (r : Result (Option X) Error)

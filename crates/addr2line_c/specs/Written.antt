@@ -3,8 +3,8 @@
 use Rattle.std.specs.Prelude.{◌≡◌, ◌++◌, ◌≤◌, ◌&&◌, ℕ, Bool, List, [], length, nat_le, option_and_then, option_map, Option, Some, if◌then◌else◌}
 use Rattle.addr2line_lines.specs.Location.{Location}
 use Rattle.addr2line_units.specs.Frames.{FrameRecord, NameRecord}
-use Rattle.addr2line_units.specs.SeenFrame.{name_text}
-use Rattle.addr2line_units.specs.UnitFrames.{FramesResult}
+use Rattle.addr2line_units.specs.FramesLent.{name_text}
+use Rattle.addr2line_units.specs.EntriesFrames.{FramesResult}
 use Rattle.addr2line_c.specs.Common.{of_file}
 use Rattle.addr2line_c.specs.declared.location.WrittenLocation.{WrittenLocation}
 use Rattle.addr2line_c.specs.declared.frames.WrittenFrame.{WrittenFrame}

@@ -2,9 +2,9 @@
 
 ghost use Rattle.std.specs.Prelude.{◌≡◌, ◌⊎◌, Some, false, length, nat_le, option_map};
 ghost use Rattle.addr2line_c.specs.Common.{ExactlyUnlessOom, OutOfMemory, LocationResult, of_file};
-ghost use Rattle.addr2line_lines.specs.SeenLocation.{as_location};
+ghost use Rattle.addr2line_lines.specs.LentLocation.{as_location};
 ghost use Rattle.addr2line_units.specs.FramesLeft.{frames_left};
-ghost use Rattle.addr2line_units.specs.UnitFrames.{FramesResult};
+ghost use Rattle.addr2line_units.specs.EntriesFrames.{FramesResult};
 ghost use Rattle.addr2line_c.specs.declared.status.Status.TheVariants.{Nothing, Refused, Waits};
 ghost use Rattle.addr2line_c.specs.Answered.{IfNothing, SaysWhatIsThere};
 ghost use Rattle.addr2line_c.specs.Left.{found_some, status_by};

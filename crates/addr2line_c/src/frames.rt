@@ -3,7 +3,7 @@
 ghost use Rattle.std.specs.Prelude.{◌≡◌, ◌++◌, ℕ, List, [], false, length, IfErr, IfOk, IsOk, OnOk, Some};
 ghost use Rattle.gimli_read.specs.declared.error.Error.TheVariants.{OutOfMemory};
 ghost use Rattle.addr2line_units.specs.FramesLeft.{frames_left};
-ghost use Rattle.addr2line_units.specs.SeenFrame.{as_frame, as_name};
+ghost use Rattle.addr2line_units.specs.FramesLent.{as_frame, as_name};
 ghost use Rattle.addr2line_c.specs.Filled.{IsFilled};
 ghost use Rattle.addr2line_c.specs.Texts.{optional_text, zero_ended, text_after};
 ghost use Rattle.addr2line_c.specs.Written.{chosen_name, frame_name, frame_texts, frames_texts, written_frame, written_frames};

@@ -1,7 +1,7 @@
 //! Locations, as C gets them.
 
 ghost use Rattle.std.specs.Prelude.{◌≡◌, ◌++◌, ℕ, List, length, option_map};
-ghost use Rattle.addr2line_lines.specs.SeenLocation.{as_location};
+ghost use Rattle.addr2line_lines.specs.LentLocation.{as_location};
 ghost use Rattle.addr2line_c.specs.Filled.{IsFilled};
 ghost use Rattle.addr2line_c.specs.Texts.{optional_text, zero_ended};
 ghost use Rattle.addr2line_c.specs.Written.{location_column, location_file, location_line, written_location};

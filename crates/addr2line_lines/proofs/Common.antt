@@ -68,7 +68,7 @@ pub use Rattle.addr2line_lines.specs.RangeAttributes.{all_ranges, attr_address, 
 unfoldable pub use Rattle.addr2line_lines.specs.RangeAttributes.{with_range_attribute}
 pub use Rattle.addr2line_lines.specs.References.{AreInOrder, EntryPlace, FileRecord, IsBefore, IsFileInOrder, IsScope, Scope, entry_in, entry_in_sup, referred, sup_scope, unit_at}
 pub use Rattle.addr2line_lines.specs.Rows.{read_all}
-pub use Rattle.addr2line_lines.specs.SeenScope.{as_scope}
+pub use Rattle.addr2line_lines.specs.Scopes.{as_scope}
 pub use Rattle.addr2line_lines.specs.Segments.{AreApart, AreDisjoint, AreSegments, AreSegmentsBelow, IsSegment, RunningRange, address_begin, address_end, address_function, address_holds, as_running, first_end, running_end, segment_to, shortest_function_at}
 pub use Rattle.addr2line_lines.specs.Sequences.{RowGroup, Sequence, end_of, latest, put_first, row_groups, sequence_in, sequence_of, sequences_of, start_of, stored_row}
 pub use Rattle.addr2line_lines.specs.declared.details.FunctionDetail.{FunctionDetail}

@@ -9,7 +9,7 @@ use Rattle.addr2line_lines.specs.declared.found_name.FoundName.TheVariants.{Own,
 use Rattle.addr2line_lines.specs.declared.name.NameOrOrigin.{NameOrOrigin as NameOrOriginOf}
 use Rattle.addr2line_lines.specs.Names.{NameOrOrigin, is_linkage_name, is_origin, linkage_name_of, with_name, with_name_or_origin}
 use Rattle.addr2line_lines.specs.References.{EntryPlace, Scope}
-use Rattle.addr2line_lines.specs.SeenScope.{as_scope}
+use Rattle.addr2line_lines.specs.Scopes.{as_scope}
 
 -- whether a unit begins at or below an offset
 abbrev pub unit_begins_by : ℕ → UnitRecord → Bool

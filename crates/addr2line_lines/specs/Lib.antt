@@ -20,7 +20,7 @@ pub mod Location
 pub mod Counts
 pub mod RangeLocations
 pub mod RangesLeft
-pub mod SeenLocation
+pub mod LentLocation
 pub mod FileTexts
 pub mod UnitLines
 pub mod RangeAttributes
@@ -34,7 +34,7 @@ pub mod Names
 pub mod InlinedEntries
 pub mod InlinedChain
 pub mod Details
-pub mod SeenScope
+pub mod Scopes
 pub mod InlinedOrder
 pub mod ItemsAround
 pub mod NestedInlined
@@ -48,7 +48,7 @@ pub mod OpenEntries
 pub mod ShortLists
 pub mod StoredRanges
 pub mod StoredInlined
-pub mod SeenInlined
+pub mod LentInlined
 pub mod FoundInlined
 pub mod FoundItems
 pub mod FoundDetails

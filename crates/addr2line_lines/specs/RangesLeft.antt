@@ -10,7 +10,7 @@ use Rattle.addr2line_lines.specs.Common.{Range}
 use Rattle.addr2line_lines.specs.declared.sequence.LineSequence.{LineSequence}
 use Rattle.addr2line_lines.specs.Packed.{Packed, unpacked}
 use Rattle.addr2line_lines.specs.RangeLocations.{LocatedSpan, located, located_in, meets}
-use Rattle.addr2line_lines.specs.SeenLocation.{as_location}
+use Rattle.addr2line_lines.specs.LentLocation.{as_location}
 use Rattle.addr2line_lines.specs.Spans.{Span}
 
 -- each row's span up to the next listed row, the last one's up to the end

@@ -10,7 +10,7 @@ ghost use Rattle.addr2line_lines.specs.FoundNames.{name_after};
 ghost use Rattle.addr2line_lines.specs.FoundDetails.{detail_found_at, function_found_at};
 ghost use Rattle.addr2line_lines.specs.FoundItems.{entry_found_at, inside_found, item_found_at, as_around};
 ghost use Rattle.addr2line_lines.specs.References.{IsScope};
-ghost use Rattle.addr2line_lines.specs.SeenScope.{as_scope};
+ghost use Rattle.addr2line_lines.specs.Scopes.{as_scope};
 
 use crate::found_name::FoundName;
 use crate::inlined::read_inlined_attributes;

@@ -10,8 +10,8 @@ ghost use Rattle.addr2line_lines.specs.CachedNames.{AreNamesMore, AreNamesOf};
 ghost use Rattle.addr2line_lines.specs.CachedDetails.{AreDetailsMore, IsDetailPlace, IsNextPlace, IsRefusedThen, cached_chain, detail_of, as_details};
 ghost use Rattle.addr2line_lines.specs.InlineRoom.{exceeds_inline_room};
 ghost use Rattle.addr2line_lines.specs.References.{IsScope};
-ghost use Rattle.addr2line_lines.specs.SeenInlined.{as_inlined};
-ghost use Rattle.addr2line_lines.specs.SeenScope.{as_scope};
+ghost use Rattle.addr2line_lines.specs.LentInlined.{as_inlined};
+ghost use Rattle.addr2line_lines.specs.Scopes.{as_scope};
 
 use crate::detail::read_detail;
 use crate::inlined_functions::InlinedFunction;

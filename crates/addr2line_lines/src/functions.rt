@@ -15,8 +15,8 @@ ghost use Rattle.addr2line_lines.specs.Functions.{function_offset_at, functions_
 ghost use Rattle.addr2line_lines.specs.InlineRoom.{exceeds_inline_room};
 ghost use Rattle.addr2line_lines.specs.RangeAttributes.{begins_well, gives_a_range};
 ghost use Rattle.addr2line_lines.specs.References.{IsScope};
-ghost use Rattle.addr2line_lines.specs.SeenInlined.{as_inlined};
-ghost use Rattle.addr2line_lines.specs.SeenScope.{as_scope};
+ghost use Rattle.addr2line_lines.specs.LentInlined.{as_inlined};
+ghost use Rattle.addr2line_lines.specs.Scopes.{as_scope};
 ghost use Rattle.addr2line_lines.specs.FoundFunctions.{AreFoundUnread, next_found_at, found_in, item_takes_memory, none_found, as_functions, with_attributes, with_range_list, with_ranges};
 
 use crate::details::{Details, FunctionDetail};

@@ -8,7 +8,7 @@ ghost use Rattle.addr2line_lines.specs.InlinedEntries.{constant_bits, counted_fi
 ghost use Rattle.addr2line_lines.specs.FoundAttributes.{inlined_attributes_after, is_call, as_attributes};
 ghost use Rattle.addr2line_lines.specs.FoundNumbers.{is_number_name};
 ghost use Rattle.addr2line_lines.specs.References.{IsScope};
-ghost use Rattle.addr2line_lines.specs.SeenScope.{as_scope};
+ghost use Rattle.addr2line_lines.specs.Scopes.{as_scope};
 
 use crate::found_name::FoundName;
 use crate::function::{RangeAttributes, is_address_name, is_range_name};
@@ -173,7 +173,7 @@ impl<R: Reader> AttributeSink<R, Attribute<R>> for InlinedSink<'_, R> {
     ghost use Rattle.addr2line_lines.specs.CachedNames.{GrowNames, as_names};
     ghost use Rattle.addr2line_lines.specs.FoundAttributes.{as_attributes};
     ghost use Rattle.addr2line_lines.specs.InlinedEntries.{InlinedAttributes, with_inlined_attribute};
-    ghost use Rattle.addr2line_lines.specs.SeenScope.{as_scope};
+    ghost use Rattle.addr2line_lines.specs.Scopes.{as_scope};
 
     type Names = InlinedWanted;
 

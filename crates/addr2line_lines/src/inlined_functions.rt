@@ -1,7 +1,7 @@
 //! Inlined functions, as they are stored and lent.
 
 ghost use Rattle.std.specs.Prelude.{◌≡◌, ◌∷◌, ◌++◌, [], true, length, option_map, slice_get, take, OnErr, OnOk};
-ghost use Rattle.addr2line_lines.specs.SeenInlined.{as_inlined};
+ghost use Rattle.addr2line_lines.specs.LentInlined.{as_inlined};
 ghost use Rattle.addr2line_lines.specs.ShortLists.{IsWidthWith, width_with};
 ghost use Rattle.addr2line_lines.specs.StoredInlined.{call_fits, call_of_short, entry_of_call, file_fits, file_of_short, no_base, no_inlined_stored, short_file, stored_name};
 

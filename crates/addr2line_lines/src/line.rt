@@ -12,7 +12,7 @@ ghost use Rattle.addr2line_lines.specs.Common.{ExactlyUnlessOomIf, IsUnlessOom, 
 ghost use Rattle.gimli_line.specs.Lines.{lines_of};
 ghost use Rattle.addr2line_lines.specs.UnitLines.{IsFaultAtOnce, program_lines, unit_lines};
 ghost use Rattle.addr2line_lines.specs.Location.{location_at, location_of_row};
-ghost use Rattle.addr2line_lines.specs.SeenLocation.{as_location};
+ghost use Rattle.addr2line_lines.specs.LentLocation.{as_location};
 ghost use Rattle.addr2line_lines.specs.Spans.{row_at};
 
 mod steps;

@@ -7,7 +7,7 @@ ghost use Rattle.addr2line_lines.specs.CachedNames.{AreNamesMore, AreNamesOf, as
 ghost use Rattle.addr2line_lines.specs.FoundNames.{found_name, is_name_attribute, linkage_and_found, as_name_or_origin, as_place, with_linkage, with_origin, with_string};
 ghost use Rattle.addr2line_lines.specs.Names.{is_linkage_name, is_origin, named_at, no_name, or_referred_name, readable, referred_name, visited, with_name};
 ghost use Rattle.addr2line_lines.specs.References.{IsScope};
-ghost use Rattle.addr2line_lines.specs.SeenScope.{as_scope};
+ghost use Rattle.addr2line_lines.specs.Scopes.{as_scope};
 
 use crate::found_name::FoundName;
 use crate::names::NameCache;
@@ -364,7 +364,7 @@ impl<R: Reader> AttributeSink<R, Attribute<R>> for NameSink<'_, R> {
     ghost use Rattle.addr2line_lines.specs.CachedNames.{GrowNames, as_names};
     ghost use Rattle.addr2line_lines.specs.FoundNames.{found_name};
     ghost use Rattle.addr2line_lines.specs.Names.{with_name};
-    ghost use Rattle.addr2line_lines.specs.SeenScope.{as_scope};
+    ghost use Rattle.addr2line_lines.specs.Scopes.{as_scope};
 
     type Names = NameWanted;
 

@@ -4,7 +4,7 @@ ghost use Rattle.std.specs.Prelude.{◌≡◌, ◌≤◌, length, option_map};
 ghost use Rattle.std.specs.List.Sorted.{IsPartitionPoint};
 ghost use Rattle.addr2line_lines.specs.Common.{as_value, Exactly};
 ghost use Rattle.addr2line_lines.specs.References.{AreInOrder, IsFileInOrder, IsScope, entry_in, entry_in_sup, referred, unit_at};
-ghost use Rattle.addr2line_lines.specs.SeenScope.{as_scope, as_file_record};
+ghost use Rattle.addr2line_lines.specs.Scopes.{as_scope, as_file_record};
 ghost use Rattle.addr2line_lines.specs.FoundNames.{BeginsAbove, BeginsBy, as_place};
 
 use gimli::read::{AttributeValue, DebugInfoOffset, Error, Reader, UnitOffset};

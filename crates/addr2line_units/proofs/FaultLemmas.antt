@@ -10,9 +10,9 @@ use Rattle.addr2line_lines.specs.RangeLocations.{LocatedSpan, locations_in_range
 use Rattle.addr2line_lines.proofs.FaultLemmas.{read_all_is, optional_string_is, unit_lines_are, with_range_attribute_is, attribute_ranges_are, functions_are, detail_is}
 use Rattle.addr2line_units.specs.declared.attributes.UnitAttributes.{UnitAttributes}
 use Rattle.addr2line_units.specs.declared.parses.ReadingDepth.TheVariants as depths
-use Rattle.addr2line_units.specs.Cover.{cover, cover_range}
-use Rattle.addr2line_units.specs.UnitAttributes.{no_unit_attributes, with_unit_attribute, unit_attributes}
-use Rattle.addr2line_units.specs.UnitIndex.{UnitIndex, sup_unit_of_header, sup_sections, sup_units, index_units}
+use Rattle.addr2line_units.specs.IndexCover.{cover, cover_range}
+use Rattle.addr2line_units.specs.Attributes.{no_unit_attributes, with_unit_attribute, unit_attributes}
+use Rattle.addr2line_units.specs.UnitsIndex.{UnitIndex, sup_unit_of_header, sup_sections, sup_units, index_units}
 
 -- ---- the units of a file
 pub aranges_are : (s : Section) → IsByBytes (aranges_in s)

@@ -1,12 +1,12 @@
--- Ranges of units in order (on specs/Cover.antt and specs/LeastBegins.antt).
+-- Ranges of units in order (on specs/IndexCover.antt and specs/IndexLeastBegins.antt).
 use Rattle.addr2line_units.proofs.Common.{ℕ, ◌≡◌, ◌+◌, ◌≤◌, Bool, true, false, cond, not, ◌&&◌, nat_le, nat_lt, nat_cmp, List, [], ◌∷◌, get_or, arith, ◌∙◌, ap, sym, refl, zero, suc, AllByRecursion, IsSortedBy, IsSortedByKey, ties, nat_tests, ranks_by, filter_agree, in_order, IsInOrder, in_order_ordered, in_order_ties, one_order, UnitRange}
 use Rattle.std.specs.Cmp.{IsStrictWeakOrder}
 use Rattle.std.specs.List.{filter}
 use Rattle.std.specs.Ordering.{is_lt, ordering_then}
 use Rattle.std.proofs.lemmas.Cmp.{on_total, then_total, nat_cmp_total}
 use Rattle.addr2line_lines.proofs.InlinedOrder.{ordering_then_assoc}
-use Rattle.addr2line_units.specs.Cover.{cover, cover_range, ends_sooner, range_covers, range_overlaps}
-use Rattle.addr2line_units.specs.LeastBegins.{is_between}
+use Rattle.addr2line_units.specs.IndexCover.{cover, cover_range, ends_sooner, range_covers, range_overlaps}
+use Rattle.addr2line_units.specs.IndexLeastBegins.{is_between}
 
 -- what passes a test, in order, is what of the ordered list passes it
 module _ {X : Type 0} (lt : X → X → Bool) (o : IsStrictWeakOrder lt) (p : X → Bool) where

@@ -6,7 +6,7 @@ use Rattle.std.proofs.lemmas.Bool.{eqb-true}
 use Rattle.addr2line_units.proofs.LegacySteps.{some_if, some_inj}
 use Rattle.addr2line_units.specs.LegacyName.{llvm_mark, is_llvm_byte, IsFirstMark, IsKept, cut, whole, prefixes, is_suffix}
 use Rattle.addr2line_units.specs.LegacyElements.{is_hash, AreShown, hashed, all}
-use Rattle.addr2line_units.proofs.WalkLemmas.{and_first, and_second}
+use Rattle.addr2line_units.proofs.FramesWalkLemmas.{and_first, and_second}
 
 -- a mark stands first
 mark_here : (bytes : List ℕ) → starts_with nat_eq bytes llvm_mark ≡ true → bytes ≡ llvm_mark ++ drop (length llvm_mark) bytes

@@ -10,7 +10,7 @@ use Rattle.std.proofs.lemmas.Map.Views.{Contains-from_lookup}
 use Rattle.std.proofs.lemmas.Slice.Eq.{bytes_eq-Decides, starts_is}
 use Rattle.addr2line_units.proofs.LegacySteps.{some_if, some_inj, plain_skip}
 use Rattle.addr2line_units.specs.LegacyElements.{after_code_points, after_surrogates, first_surrogate, is_scalar_value, is_lower_hex, escapes, IsEscape, NoEscape, is_first, is_dot, IsPlain, IsElementText, AreTexts, by_name, by_number, nothing, dots, escape, as_it_stands, any_other, bare, other}
-use Rattle.addr2line_units.proofs.WalkLemmas.{and_first, and_second}
+use Rattle.addr2line_units.proofs.FramesWalkLemmas.{and_first, and_second}
 
 or_cond : (a b : Bool) → (a || b) ≡ cond a true b
 or_cond true b = refl

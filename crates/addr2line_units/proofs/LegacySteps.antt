@@ -6,7 +6,7 @@ use Rattle.std.proofs.lemmas.Str.Parse.{digits_value-take-le}
 use Rattle.std.proofs.lemmas.Int.Digits.{digits_value_more}
 use Rattle.addr2line_units.specs.LegacyName.{llvm_mark, is_llvm_byte, is_suffix_byte, is_suffix, joined, after_colons}
 use Rattle.addr2line_units.specs.LegacyElements.{is_hash, is_first, is_dot}
-use Rattle.addr2line_units.proofs.WalkLemmas.{and_first, and_second}
+use Rattle.addr2line_units.proofs.FramesWalkLemmas.{and_first, and_second}
 
 pub some_inj : {A : Type 0} (x y : A) → Some x ≡ Some y → x ≡ y
 some_inj x y h = cc

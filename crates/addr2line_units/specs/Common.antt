@@ -18,6 +18,6 @@ pub use Rattle.addr2line_lines.specs.InlinedEntries.{InlinedEntry}
 pub use Rattle.addr2line_lines.specs.Location.{LineTable, Location, location_at, location_of_row}
 pub use Rattle.addr2line_lines.specs.RangeLocations.{LocatedSpan, locations_in_range, sequence_ranges}
 pub use Rattle.addr2line_lines.specs.References.{AreInOrder, FileRecord, IsScope, Scope}
-pub use Rattle.addr2line_lines.specs.SeenLocation.{as_location}
-pub use Rattle.addr2line_lines.specs.SeenScope.{as_file_record, as_scope}
+pub use Rattle.addr2line_lines.specs.LentLocation.{as_location}
+pub use Rattle.addr2line_lines.specs.Scopes.{as_file_record, as_scope}
 pub use Rattle.addr2line_lines.specs.UnitLines.{unit_lines}

@@ -9,20 +9,20 @@ use Rattle.addr2line_units.specs.declared.index.UnitArange.{UnitArange}
 use Rattle.addr2line_units.specs.declared.frames.OnFault.{OnFault}
 use Rattle.addr2line_units.specs.declared.index.UnitRange.{UnitRange}
 use Rattle.addr2line_units.specs.declared.parses.ReadingDepth.{ReadingDepth}
-use Rattle.addr2line_units.specs.AskedUnits.{stop_at}
-use Rattle.addr2line_units.specs.CachedFunctions.{functions_fault}
+use Rattle.addr2line_units.specs.UnitsAsked.{stop_at}
+use Rattle.addr2line_units.specs.EntriesFunctions.{functions_fault}
 use Rattle.addr2line_units.specs.Frames.{function_at}
 use Rattle.addr2line_units.specs.FramesLookup.{asked_frames, frames_of_number}
-use Rattle.addr2line_units.specs.FunctionParses.{read_of_unit, read_of_units}
+use Rattle.addr2line_units.specs.Parses.{read_of_unit, read_of_units}
 use Rattle.addr2line_units.specs.Loads.{forget_result, load_result, unit_of_token}
-use Rattle.addr2line_units.specs.Located.{all_lines, first_location, lines_of_unit, location_in, location_of, spans_along, spans_of}
-use Rattle.addr2line_units.specs.RangedUnits.{IndexedUnit, ranged_units, unit_of_header}
-use Rattle.addr2line_units.specs.UnitAranges.{aranges_in}
-use Rattle.addr2line_units.specs.UnitAttributes.{unit_attributes}
-use Rattle.addr2line_units.specs.UnitFrames.{frames_in, function_in}
-use Rattle.addr2line_units.specs.UnitIndex.{index_units, sup_units}
+use Rattle.addr2line_units.specs.Locations.{all_lines, first_location, lines_of_unit, location_in, location_of, spans_along, spans_of}
+use Rattle.addr2line_units.specs.UnitsRanged.{IndexedUnit, ranged_units, unit_of_header}
+use Rattle.addr2line_units.specs.IndexAranges.{aranges_in}
+use Rattle.addr2line_units.specs.Attributes.{unit_attributes}
+use Rattle.addr2line_units.specs.EntriesFrames.{frames_in, function_in}
+use Rattle.addr2line_units.specs.UnitsIndex.{index_units, sup_units}
 use Rattle.addr2line_units.specs.UnitsState.{UnitsState, new_units, stop_of}
-use Rattle.addr2line_units.specs.Views.{FirstAnswers, answered_view, first_unit, load_of_unit, split_name_of, verdict}
+use Rattle.addr2line_units.specs.UnitView.{FirstAnswers, answered_view, first_unit, load_of_unit, split_name_of, verdict}
 
 -- no unit of a file is, nor what its root entry says, nor all that a context is made of
 pub record IndexIsNotRefused : Type 0 where

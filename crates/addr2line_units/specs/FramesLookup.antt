@@ -6,13 +6,13 @@ use Rattle.addr2line_units.specs.Common.{Error, ◌>>=◌, Sections, UnitRecord,
 use Rattle.addr2line_units.specs.declared.index.UnitRange.{UnitRange}
 use Rattle.addr2line_units.specs.declared.frames.OnFault.{OnFault}
 use Rattle.addr2line_units.specs.declared.frames.OnFault.TheVariants.{Stop, Skip}
-use Rattle.addr2line_units.specs.AskMemory.{functions_in_take_memory}
-use Rattle.addr2line_units.specs.Cover.{ComesTo, holds_until}
+use Rattle.addr2line_units.specs.EntriesMemory.{functions_in_take_memory}
+use Rattle.addr2line_units.specs.IndexCover.{ComesTo, holds_until}
 use Rattle.addr2line_units.specs.Frames.{FrameRecord}
-use Rattle.addr2line_units.specs.UnitFrames.{FramesResult, asks_lines_in, frames_in, inlined_of_unit, function_offset_in}
-use Rattle.addr2line_units.specs.UnitIndex.{UnitIndex, sup_sections}
-use Rattle.addr2line_units.specs.RangedUnits.{IndexedUnit, unit_records}
-use Rattle.addr2line_units.specs.Views.{FirstAnswers, View, decided_answer, parts_of, verdict}
+use Rattle.addr2line_units.specs.EntriesFrames.{FramesResult, asks_lines_in, frames_in, inlined_of_unit, function_offset_in}
+use Rattle.addr2line_units.specs.UnitsIndex.{UnitIndex, sup_sections}
+use Rattle.addr2line_units.specs.UnitsRanged.{IndexedUnit, unit_records}
+use Rattle.addr2line_units.specs.UnitView.{FirstAnswers, View, decided_answer, parts_of, verdict}
 
 -- where references lead from a unit of a context
 abbrev pub main_scope : Sections → UnitIndex → Scope

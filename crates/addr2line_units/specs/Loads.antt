@@ -8,7 +8,7 @@ use Rattle.addr2line_units.specs.Common.{Error, UnknownToken, ◌>>=◌, fault_o
 use Rattle.addr2line_units.specs.declared.index.UnitRange.{UnitRange}
 use Rattle.addr2line_units.specs.declared.unit.UnitToken.{UnitToken}
 use Rattle.addr2line_units.specs.FramesLookup.{answer_of}
-use Rattle.addr2line_units.specs.Views.{FirstAnswers, SplitLoad, View, awaited_load, decided_answer, is_open, verdict}
+use Rattle.addr2line_units.specs.UnitView.{FirstAnswers, SplitLoad, View, awaited_load, decided_answer, is_open, verdict}
 
 -- the number of the unit that a token names
 abbrev pub token_number : UnitToken → ℕ

@@ -7,15 +7,15 @@ use Rattle.addr2line_units.specs.Common.{Error, ◌>>=◌, Sections, UnitRecord,
 use Rattle.addr2line_units.specs.declared.frames.OnFault.{OnFault}
 use Rattle.addr2line_units.specs.declared.index.UnitRange.{UnitRange}
 use Rattle.addr2line_units.specs.declared.units.UnitRow.{UnitRow}
-use Rattle.addr2line_units.specs.AskMemory.{lines_of_take_memory}
+use Rattle.addr2line_units.specs.EntriesMemory.{lines_of_take_memory}
 use Rattle.addr2line_units.specs.FramesLookup.{FindsNothing, LookupStop, Waits, asked_frames, asks_lines_of, frames_of_number, functions_of_take_memory, inlined_at_number, main_scope, stop_along}
-use Rattle.addr2line_units.specs.KnownEntries.{KnownEntries, NothingKnown, knows_at}
-use Rattle.addr2line_units.specs.Located.{LocationResult, first_location, lines_of_unit}
-use Rattle.addr2line_units.specs.Parsed.{has_parsed}
-use Rattle.addr2line_units.specs.RangedUnits.{IndexedUnit, RangedUnit, has_lines, indexed_of, ranged_units, unit_ranges_from}
-use Rattle.addr2line_units.specs.UnitFrames.{FramesResult}
-use Rattle.addr2line_units.specs.UnitIndex.{sup_units}
-use Rattle.addr2line_units.specs.Views.{FirstAnswers}
+use Rattle.addr2line_units.specs.EntriesKnown.{KnownEntries, NothingKnown, knows_at}
+use Rattle.addr2line_units.specs.Locations.{LocationResult, first_location, lines_of_unit}
+use Rattle.addr2line_units.specs.LocationsParsed.{has_parsed}
+use Rattle.addr2line_units.specs.UnitsRanged.{IndexedUnit, RangedUnit, has_lines, indexed_of, ranged_units, unit_ranges_from}
+use Rattle.addr2line_units.specs.EntriesFrames.{FramesResult}
+use Rattle.addr2line_units.specs.UnitsIndex.{sup_units}
+use Rattle.addr2line_units.specs.UnitView.{FirstAnswers}
 
 pub record UnitsState : Type 0 where
   pub scope : Scope

@@ -2,7 +2,7 @@
 
 ghost use Rattle.std.specs.Prelude.{◌≡◌};
 ghost use Rattle.addr2line_units.specs.Common.{ExactlyUnlessOomIf};
-ghost use Rattle.addr2line_units.specs.UnitAttributes.{language_after, language_of_number, no_unit_attributes, unit_attributes};
+ghost use Rattle.addr2line_units.specs.Attributes.{language_after, language_of_number, no_unit_attributes, unit_attributes};
 
 use addr2line_lines::RangeAttributes;
 use gimli::read::{Attribute, DwAt, DwLang, Error, NumberValue, Reader};
@@ -56,7 +56,7 @@ impl UnitAttributes {
 struct UnitWanted;
 
 impl WantedNames for UnitWanted {
-    ghost use Rattle.addr2line_units.specs.WantedAttributes.{is_unit_name};
+    ghost use Rattle.addr2line_units.specs.AttributesWanted.{is_unit_name};
 
     ghost wanted = { is_unit_name };
 
@@ -76,7 +76,7 @@ struct UnitSink<'a, R: Reader> {
 
 impl<R: Reader> AttributeSink<R, Attribute<R>> for UnitSink<'_, R> {
     ghost use Rattle.addr2line_units.specs.declared.attributes.UnitAttributes.{UnitAttributes};
-    ghost use Rattle.addr2line_units.specs.UnitAttributes.{with_unit_attribute};
+    ghost use Rattle.addr2line_units.specs.Attributes.{with_unit_attribute};
 
     type Names = UnitWanted;
 
@@ -99,7 +99,7 @@ impl<R: Reader> AttributeSink<R, Attribute<R>> for UnitSink<'_, R> {
 
     ghost Grows = { λ _ _ _. Unit {0} };
 
-    #[tactic(auto, unfolding(crate::specs::UnitAttributes::with_unit_attribute))]
+    #[tactic(auto, unfolding(crate::specs::Attributes::with_unit_attribute))]
     fn take(
         &self,
         found: &mut UnitAttributes,

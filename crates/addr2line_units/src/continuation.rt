@@ -1,7 +1,7 @@
 //! Lookups that wait for split files.
 
 ghost use Rattle.std.specs.Prelude.{◌≡◌, ◌<◌, ℕ, None};
-ghost use Rattle.addr2line_units.specs.Suspended.{IfLoad, SkipsTo};
+ghost use Rattle.addr2line_units.specs.Continuation.{IfLoad, SkipsTo};
 
 /// What a lookup gives: a load that it waits for, with the rest of the lookup, or its output.
 pub enum LookupResult<L: LookupContinuation> {

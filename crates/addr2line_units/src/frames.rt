@@ -9,24 +9,24 @@ ghost use Rattle.std.specs.Option.{option_copied};
 ghost use Rattle.std.specs.Str.{IsUtf8};
 ghost use Rattle.addr2line_units.specs.Common.{OutOfMemory, result_map, ExactlyUnlessOom, cached_name, cached_offset_at, as_location, location_of_row, as_file_record};
 ghost use Rattle.addr2line_lines.specs.FoundInlined.{entry_among};
-ghost use Rattle.addr2line_lines.specs.SeenInlined.{as_inlined};
+ghost use Rattle.addr2line_lines.specs.LentInlined.{as_inlined};
 ghost use Rattle.addr2line_units.specs.Frames.{call_location, found_frames, frames_from, if_counted, location_frames};
 ghost use Rattle.addr2line_units.specs.FramesLeft.{entry_frame, files_if, frames_left, place_frame};
-ghost use Rattle.addr2line_units.specs.CachedFunctions.{ArePlacesIn, function_of_place, cached_functions};
-ghost use Rattle.addr2line_units.specs.SeenFrame.{YieldsFrame, language_text, name_text, raw_text, as_frame, as_name};
-ghost use Rattle.addr2line_units.specs.AfterUnits.{AfterWalk, IsFaultAlong, AfterAnswer};
-ghost use Rattle.addr2line_units.specs.AskedUnits.{AfterAsk, found_stop, has_stopped, stop_at};
-ghost use Rattle.addr2line_units.specs.EmptyUnits.{HasNothingAt};
-ghost use Rattle.addr2line_units.specs.CachedFrames.{found_after_fault};
+ghost use Rattle.addr2line_units.specs.EntriesFunctions.{ArePlacesIn, function_of_place, cached_functions};
+ghost use Rattle.addr2line_units.specs.FramesLent.{YieldsFrame, language_text, name_text, raw_text, as_frame, as_name};
+ghost use Rattle.addr2line_units.specs.UnitsAfter.{AfterWalk, IsFaultAlong, AfterAnswer};
+ghost use Rattle.addr2line_units.specs.UnitsAsked.{AfterAsk, found_stop, has_stopped, stop_at};
+ghost use Rattle.addr2line_units.specs.EntriesEmpty.{HasNothingAt};
+ghost use Rattle.addr2line_units.specs.FramesCached.{found_after_fault};
 ghost use Rattle.addr2line_units.specs.FramesLookup.{FindsNothing, holds_along, Waits, frames_found, unit_found};
-ghost use Rattle.addr2line_units.specs.UnitRangesLeft.{ranges_left};
+ghost use Rattle.addr2line_units.specs.RangeIterLeft.{ranges_left};
 ghost use Rattle.addr2line_units.specs.UnitsState.{IsFaultAt, asked_by, asks_no_memory_at, stop_of, waiting_unit};
-ghost use Rattle.addr2line_units.specs.AnswerMemory.{answer_takes_memory};
-ghost use Rattle.addr2line_units.specs.CachedEntries.{AreRead};
-ghost use Rattle.addr2line_units.specs.CachedLines.{cached_files};
+ghost use Rattle.addr2line_units.specs.LoadsMemory.{answer_takes_memory};
+ghost use Rattle.addr2line_units.specs.EntriesCached.{AreRead};
+ghost use Rattle.addr2line_units.specs.UnitLinesCached.{cached_files};
 ghost use Rattle.addr2line_units.specs.Loads.{load_result};
-ghost use Rattle.addr2line_units.specs.SeenUnit.{as_unit, sup_file};
-ghost use Rattle.addr2line_units.specs.Views.{load_of_unit};
+ghost use Rattle.addr2line_units.specs.SupScope.{as_unit, sup_file};
+ghost use Rattle.addr2line_units.specs.UnitView.{load_of_unit};
 
 use crate::entries::{FunctionPlace, LazyFunctions, UnitCache, UnitFrames, find_frames_in};
 use crate::legacy::demangle_auto;
@@ -248,7 +248,7 @@ impl<'ctx, R: Reader> FrameIter<'ctx, R> {
     /// `Functions::find_inlined_functions` gives them; `lines` and `language` are those of the
     /// main unit, as far as it has them, and `location` is that of the address. Source: DWARF 5,
     /// section 3.3.8. Own: the order of `next`.
-    #[tactic(auto, using(crate::proofs::FrameLemmas::function_frames, crate::proofs::FrameLemmas::function_frames_count))]
+    #[tactic(auto, using(crate::proofs::FramesLeftLemmas::function_frames, crate::proofs::FramesLeftLemmas::function_frames_count))]
     pub fn new_function(
         functions: &'ctx Functions<R>,
         place: usize,

@@ -5,13 +5,13 @@ ghost use Rattle.std.specs.Prelude.{◌≡◌, ◌++◌, [], true, IfErr, IsOk, 
 ghost use Rattle.std.specs.List.{AllByRecursion};
 ghost use Rattle.std.specs.Iterator.{YieldsFirst, item_count};
 ghost use Rattle.addr2line_units.specs.Common.{OutOfMemory, ExactlyAtCost, ExactlyUnlessOomIf};
-ghost use Rattle.addr2line_units.specs.Indexed.{aranges_read};
+ghost use Rattle.addr2line_units.specs.UnitsIndexed.{aranges_read};
 ghost use Rattle.addr2line_lines.specs.InOrder.{in_order};
 ghost use Rattle.addr2line_lines.specs.LastAddress.{last_address};
-ghost use Rattle.addr2line_units.specs.UnitAranges.{aranges_in, lists_aranges, is_arange_of, offset_sooner, set_aranges};
-ghost use Rattle.addr2line_units.specs.LeastBegins.{EndFits, is_between, with_least_begins, AreLeastBegins};
-ghost use Rattle.addr2line_units.specs.Cover.{cover, cover_range, ends_sooner};
-ghost use Rattle.addr2line_units.specs.UnitRangesLeft.{ranges_left};
+ghost use Rattle.addr2line_units.specs.IndexAranges.{aranges_in, lists_aranges, is_arange_of, offset_sooner, set_aranges};
+ghost use Rattle.addr2line_units.specs.IndexLeastBegins.{EndFits, is_between, with_least_begins, AreLeastBegins};
+ghost use Rattle.addr2line_units.specs.IndexCover.{cover, cover_range, ends_sooner};
+ghost use Rattle.addr2line_units.specs.RangeIterLeft.{ranges_left};
 
 use crate::range_iter::UnitRangeIter;
 use gimli::read::{DebugInfoOffset, EndianSlice, Error, Range, Reader};
@@ -42,7 +42,7 @@ impl Model for UnitAranges {
     ghost use Rattle.std.specs.Prelude.{◌≡◌, List};
     ghost use Rattle.addr2line_lines.specs.InOrder.{in_order};
     ghost use Rattle.addr2line_units.specs.declared.index.UnitArange.{UnitArange};
-    ghost use Rattle.addr2line_units.specs.UnitAranges.{offset_sooner};
+    ghost use Rattle.addr2line_units.specs.IndexAranges.{offset_sooner};
 
     ghost Value = { List UnitArange };
 
@@ -142,7 +142,7 @@ pub struct UnitRanges {
 
 impl Model for UnitRanges {
     ghost use Rattle.std.specs.Prelude.{List};
-    ghost use Rattle.addr2line_units.specs.LeastBegins.{AreIndexed};
+    ghost use Rattle.addr2line_units.specs.IndexLeastBegins.{AreIndexed};
     ghost use Rattle.addr2line_units.specs.declared.index.UnitRange.{UnitRange};
 
     ghost Value = { List UnitRange };
@@ -257,7 +257,7 @@ impl<'a> Iterator for UnitRangeIter<'a> {
     ghost remaining = { item_count ranges_left };
 
     /// The next range. Takes no memory.
-    #[tactic(auto, using(crate::proofs::LeastBeginLemmas::all_late))]
+    #[tactic(auto, using(crate::proofs::IndexLeastBeginLemmas::all_late))]
     fn next(&mut self) -> Option<UnitRange> {
         loop {
             let (first, rest) = self.ranges.split_first()?;

@@ -2,11 +2,11 @@
 //! functions, and of faults, with no code.
 
 ghost use Rattle.addr2line_units.specs.FaultLaws.{UnitLookupsAreNotRefused};
-ghost use Rattle.addr2line_units.specs.FunctionParseLaws.{FunctionParseLaws};
+ghost use Rattle.addr2line_units.specs.ParsesLaws.{FunctionParseLaws};
 ghost use Rattle.addr2line_units.specs.LegacyLaws.{LegacyNameLaws};
-ghost use Rattle.addr2line_units.specs.LoadLaws.{LoadLaws};
-ghost use Rattle.addr2line_units.specs.UnitIndexLaws.{UnitOrderLaws};
-ghost use Rattle.addr2line_units.specs.ViewLaws.{ViewLaws};
+ghost use Rattle.addr2line_units.specs.LoadsLaws.{LoadLaws};
+ghost use Rattle.addr2line_units.specs.UnitsIndexLaws.{UnitOrderLaws};
+ghost use Rattle.addr2line_units.specs.UnitViewLaws.{ViewLaws};
 
 /// The names that `demangle` takes are the legacy names and no others, and each has one text.
 pub fn legacy_name_laws()

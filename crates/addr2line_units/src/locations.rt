@@ -4,16 +4,16 @@
 ghost use Rattle.std.specs.Prelude.{◌≡◌, false, true, Err, IfErr, IfOk, IfSome, Ok, option_map, slice_get};
 ghost use Rattle.addr2line_units.specs.Common.{OutOfMemory, ExactlyUnlessOom, IsUnlessOom, fault_of, result_map, location_of_row, as_location};
 ghost use Rattle.addr2line_lines.specs.RangesLeft.{located_rows_left, as_located};
-ghost use Rattle.addr2line_units.specs.AskMemory.{lines_of_take_memory};
-ghost use Rattle.addr2line_units.specs.AskedUnits.{AfterCachingAt, AfterRowAt, CountsUnits};
-ghost use Rattle.addr2line_units.specs.AfterUnits.{AfterCaching, AfterLineParse, AfterRow};
-ghost use Rattle.addr2line_units.specs.CachedLines.{cached_files, lines_result_at, unit_row, cached_spans, lines_at};
-ghost use Rattle.addr2line_units.specs.Located.{all_lines, location_in, spans_along};
+ghost use Rattle.addr2line_units.specs.EntriesMemory.{lines_of_take_memory};
+ghost use Rattle.addr2line_units.specs.UnitsAsked.{AfterCachingAt, AfterRowAt, CountsUnits};
+ghost use Rattle.addr2line_units.specs.UnitsAfter.{AfterCaching, AfterLineParse, AfterRow};
+ghost use Rattle.addr2line_units.specs.UnitLinesCached.{cached_files, lines_result_at, unit_row, cached_spans, lines_at};
+ghost use Rattle.addr2line_units.specs.Locations.{all_lines, location_in, spans_along};
 ghost use Rattle.addr2line_units.specs.LocationsLeft.{locations_left};
-ghost use Rattle.addr2line_units.specs.Parsed.{AreParsed, has_parsed, takes_none_along};
-ghost use Rattle.addr2line_units.specs.UnitRangesLeft.{ranges_left};
+ghost use Rattle.addr2line_units.specs.LocationsParsed.{AreParsed, has_parsed, takes_none_along};
+ghost use Rattle.addr2line_units.specs.RangeIterLeft.{ranges_left};
 ghost use Rattle.addr2line_units.specs.UnitsState.{first_location_in, row_location};
-ghost use Rattle.addr2line_units.specs.RangeLookup.{YieldsOn, YieldsRow, cached_along, rows_or_fault};
+ghost use Rattle.addr2line_units.specs.LocationsRange.{YieldsOn, YieldsRow, cached_along, rows_or_fault};
 
 use crate::entries::UnitCache;
 use crate::frames::FramesStop;

@@ -3,13 +3,13 @@
 ghost use Rattle.std.specs.Prelude.{◌≡◌, Err, IfErr, Ok, true};
 ghost use Rattle.addr2line_units.specs.Common.{IsUnlessOom, IsScope, as_scope};
 ghost use Rattle.addr2line_units.specs.declared.parses.ReadingDepth.TheVariants.{Functions};
-ghost use Rattle.addr2line_units.specs.AfterParses.{AfterReadingAt, AfterReadingFunctions, AfterReadingUnit, AfterReadingView};
-ghost use Rattle.addr2line_units.specs.AfterUnits.{AfterReading};
-ghost use Rattle.addr2line_units.specs.CachedEntries.{AreEntriesOf, first_answer_of};
-ghost use Rattle.addr2line_units.specs.CachedFunctions.{AreFunctionsOf, cached_fault};
-ghost use Rattle.addr2line_units.specs.CachedViews.{is_decided, answer_of_view};
-ghost use Rattle.addr2line_units.specs.FunctionParses.{ReadsNoMemory, read_of_functions, read_of_number, read_of_unit, read_of_units, read_of_view};
-ghost use Rattle.addr2line_units.specs.Views.{verdict};
+ghost use Rattle.addr2line_units.specs.ParsesAfter.{AfterReadingAt, AfterReadingFunctions, AfterReadingUnit, AfterReadingView};
+ghost use Rattle.addr2line_units.specs.UnitsAfter.{AfterReading};
+ghost use Rattle.addr2line_units.specs.EntriesCached.{AreEntriesOf, first_answer_of};
+ghost use Rattle.addr2line_units.specs.EntriesFunctions.{AreFunctionsOf, cached_fault};
+ghost use Rattle.addr2line_units.specs.UnitViewCached.{is_decided, answer_of_view};
+ghost use Rattle.addr2line_units.specs.Parses.{ReadsNoMemory, read_of_functions, read_of_number, read_of_unit, read_of_units, read_of_view};
+ghost use Rattle.addr2line_units.specs.UnitView.{verdict};
 
 use crate::entries::{LazyFunctions, UnitEntries};
 use crate::frames::FramesStop;

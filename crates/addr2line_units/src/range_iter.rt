@@ -1,6 +1,6 @@
 //! The ranges of units that a search finds.
 
-ghost use Rattle.addr2line_units.specs.LeastBegins.{AreLeastBegins};
+ghost use Rattle.addr2line_units.specs.IndexLeastBegins.{AreLeastBegins};
 
 use crate::index::IndexedRange;
 

@@ -3,16 +3,16 @@
 
 ghost use Rattle.std.specs.Prelude.{◌≡◌, ◌≢◌, ◌+◌, ◌<◌, ◌≤◌, true, false, not, map, Ok, Err, OnOk, OnErr, IfOk, IfErr, IfSome, IsOk, is_some, length, nat_lt, option_map, None, Some};
 ghost use Rattle.addr2line_units.specs.Common.{Exactly, ExactlyUnlessOom, ExactlyUnlessOomIf, WasNotRefused, OutOfMemory, Sections, UnitRecord, location_of_row, IsScope, as_scope};
-ghost use Rattle.addr2line_units.specs.RangedUnits.{is_partial, is_type_unit, listed_in_unit, listed_unit_ranges, has_lines, asks_lines, ranged_unit, unit_ranges};
-ghost use Rattle.addr2line_units.specs.AskMemory.{lines_take_memory};
-ghost use Rattle.addr2line_units.specs.Located.{is_found, location_in, steps_in};
-ghost use Rattle.addr2line_units.specs.UnitAranges.{range_in};
-ghost use Rattle.addr2line_units.specs.CachedLines.{AreLinesOf, IsUnparsed, LinesStayCached, CachesResult, StaysUnit, cached_lines_result, cached_files, cached_steps, cached_ranges, cached_row, indexed_unit, lines_result, cached_lines, is_parsed, is_uncached};
-ghost use Rattle.addr2line_units.specs.Indexed.{ranged_seen};
-ghost use Rattle.addr2line_units.specs.AnswerMemory.{answer_takes_memory};
-ghost use Rattle.addr2line_units.specs.CachedViews.{IsViewOf, answer_in, is_decided, parts_or_fault, answer_of_view, as_sections, split_file_by, split_file_in, split_unit, unboxed, verdict_in, view_in, waits, was_checked};
-ghost use Rattle.addr2line_units.specs.EmptyUnits.{has_view};
-ghost use Rattle.addr2line_units.specs.Views.{answered_view, first_unit, first_unit_takes_memory, load_of_unit, split_name_of, verdict, view_scope};
+ghost use Rattle.addr2line_units.specs.UnitsRanged.{is_partial, is_type_unit, listed_in_unit, listed_unit_ranges, has_lines, asks_lines, ranged_unit, unit_ranges};
+ghost use Rattle.addr2line_units.specs.EntriesMemory.{lines_take_memory};
+ghost use Rattle.addr2line_units.specs.Locations.{is_found, location_in, steps_in};
+ghost use Rattle.addr2line_units.specs.IndexAranges.{range_in};
+ghost use Rattle.addr2line_units.specs.UnitLinesCached.{AreLinesOf, IsUnparsed, LinesStayCached, CachesResult, StaysUnit, cached_lines_result, cached_files, cached_steps, cached_ranges, cached_row, indexed_unit, lines_result, cached_lines, is_parsed, is_uncached};
+ghost use Rattle.addr2line_units.specs.UnitsIndexed.{ranged_seen};
+ghost use Rattle.addr2line_units.specs.LoadsMemory.{answer_takes_memory};
+ghost use Rattle.addr2line_units.specs.UnitViewCached.{IsViewOf, answer_in, is_decided, parts_or_fault, answer_of_view, as_sections, split_file_by, split_file_in, split_unit, unboxed, verdict_in, view_in, waits, was_checked};
+ghost use Rattle.addr2line_units.specs.EntriesEmpty.{has_view};
+ghost use Rattle.addr2line_units.specs.UnitView.{answered_view, first_unit, first_unit_takes_memory, load_of_unit, split_name_of, verdict, view_scope};
 
 use crate::attributes::read_unit_attributes;
 use crate::index::{UnitArange, UnitAranges};
@@ -93,7 +93,7 @@ fn read_listed_ranges<R: Reader>(
 }
 
 // The language of a unit, and the ranges that `.debug_aranges` or its attributes give.
-#[tactic(auto, unfolding(crate::specs::RangedUnits::listed_in_unit))]
+#[tactic(auto, unfolding(crate::specs::UnitsRanged::listed_in_unit))]
 fn read_listed<R: Reader>(
     alloc: Global,
     unit: UnitRef<'_, R>,
@@ -218,7 +218,7 @@ fn find_cached_row(lines: &LazyLines, steps: &mut Count, probe: u64) -> Option<R
 impl UnitLines {
     // Caches the lines of the unit, or their fault, unless they are cached. Refused `OutOfMemory`
     // alone, and only where the lines take memory.
-    #[tactic(auto, using(crate::proofs::UnitLemmas::cached_before))]
+    #[tactic(auto, using(crate::proofs::UnitLinesLemmas::cached_before))]
     pub(crate) fn cache_lines<R: Reader>(
         &mut self,
         alloc: Global,
@@ -353,7 +353,7 @@ pub struct SplitDwarfLoad<R: Reader> {
 
 impl<R: Reader> Model for SplitDwarfLoad<R> {
     ghost use Rattle.std.specs.Prelude.{option_map};
-    ghost use Rattle.addr2line_units.specs.Views.{SplitLoad};
+    ghost use Rattle.addr2line_units.specs.UnitView.{SplitLoad};
 
     ghost Value = { SplitLoad };
 
@@ -396,7 +396,7 @@ pub(crate) struct UnitView<R: Reader> {
 }
 
 // The name of the split file of a unit.
-#[tactic(auto, unfolding(crate::specs::Views::split_name_of))]
+#[tactic(auto, unfolding(crate::specs::UnitView::split_name_of))]
 fn read_split_name<R: Reader>(dwarf: &Dwarf<R>, unit: &Unit<R>) -> Result<Option<R>, Error>
     ensures gives { ExactlyUnlessOomIf R.shares (option_map R.section) result
         (split_name_of dwarf.now unit.now) }
@@ -420,7 +420,7 @@ fn duplicate_if<R: Reader>(reader: &Option<R>) -> Result<Option<R>, Error>
 
 // The load of a unit of a number, none where it needs no answer. `OutOfMemory` only where it has
 // the identifier of a split unit.
-#[tactic(auto, unfolding(crate::specs::Views::load_of_unit))]
+#[tactic(auto, unfolding(crate::specs::UnitView::load_of_unit))]
 fn read_load<R: Reader>(
     dwarf: &Rc<Dwarf<R>>,
     number: usize,

@@ -2,11 +2,11 @@
 
 ghost use Rattle.std.specs.Prelude.{◌≡◌, ◌++◌, [], ◌∷◌, IfErr, IfOk, IfSome, IsOk, OnOk, map, option_map};
 ghost use Rattle.addr2line_units.specs.Common.{OutOfMemory, ExactlyAtCost, ExactlyUnlessOomIf, as_scope};
-ghost use Rattle.addr2line_units.specs.CachedLines.{HaveLinesOf, IsUnparsed};
-ghost use Rattle.addr2line_units.specs.CachedUnits.{AreFreshOf};
-ghost use Rattle.addr2line_units.specs.Indexed.{appended, context_takes_memory, index_seen, index_read, indexed_with, no_index, ranged_seen, units_seen, with_header};
-ghost use Rattle.addr2line_units.specs.RangedUnits.{range_of_unit, unit_of_header};
-ghost use Rattle.addr2line_units.specs.StoredUnits.{scope_of};
+ghost use Rattle.addr2line_units.specs.UnitLinesCached.{HaveLinesOf, IsUnparsed};
+ghost use Rattle.addr2line_units.specs.UnitsCached.{AreFreshOf};
+ghost use Rattle.addr2line_units.specs.UnitsIndexed.{appended, context_takes_memory, index_seen, index_read, indexed_with, no_index, ranged_seen, units_seen, with_header};
+ghost use Rattle.addr2line_units.specs.UnitsRanged.{range_of_unit, unit_of_header};
+ghost use Rattle.addr2line_units.specs.UnitsStored.{scope_of};
 ghost use Rattle.addr2line_units.specs.UnitsState.{new_units};
 
 use crate::entries::{UnitCache, UnitEntries};
@@ -44,8 +44,8 @@ pub struct Units<R: Reader> {
 }
 
 impl<R: Reader> Model for Units<R> {
-    ghost use Rattle.addr2line_units.specs.CachedFrames.{as_stop};
-    ghost use Rattle.addr2line_units.specs.StoredUnits.{AreUnits, scope_of, as_units_state};
+    ghost use Rattle.addr2line_units.specs.FramesCached.{as_stop};
+    ghost use Rattle.addr2line_units.specs.UnitsStored.{AreUnits, scope_of, as_units_state};
     ghost use Rattle.addr2line_units.specs.UnitsState.{UnitsState};
 
     ghost Value = { UnitsState };
@@ -74,7 +74,7 @@ struct Index<R: Reader> {
 
 // The unit of a header, its language and lines, and its listed ranges; none where it is passed
 // over.
-#[tactic(auto, unfolding(crate::specs::RangedUnits::unit_of_header))]
+#[tactic(auto, unfolding(crate::specs::UnitsRanged::unit_of_header))]
 fn read_unit<R: Reader>(
     alloc: Global,
     dwarf: &Dwarf<R>,

@@ -5,7 +5,7 @@ use Rattle.gimli_read.specs.declared.error.Error.{Error}
 use Rattle.std.specs.Prelude.{Result}
 use Rattle.gimli.specs.Sections.{Sections}
 use Rattle.addr2line_lines.specs.Location.{Location}
-use Rattle.addr2line_units.specs.Located.{location_of}
+use Rattle.addr2line_units.specs.Locations.{location_of}
 
 -- the line of an address, if it is known, or the first fault
 abbrev pub line_of : Sections → ℕ → Result (Option ℕ) Error

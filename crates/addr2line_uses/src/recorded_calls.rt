@@ -1,9 +1,9 @@
 //! Calls that were recorded, made again.
 
 ghost use Rattle.std.specs.Prelude.{◌≡◌, ◌∷◌, [], IfOk, map};
-ghost use Rattle.addr2line.specs.SeenCalls.{as_call};
+ghost use Rattle.addr2line.specs.RecordedCalls.{as_call};
 ghost use Rattle.addr2line.specs.History.{AsksFrames, AsksLocation, ParsesLines, replies_to};
-ghost use Rattle.addr2line.specs.SeenReplies.{as_reply};
+ghost use Rattle.addr2line.specs.OwnedReplies.{as_reply};
 
 use addr2line::gimli::read::{Error, Reader};
 use addr2line::{Call, Context, Reply, replay};

@@ -2,7 +2,7 @@
 
 ghost use Rattle.addr2line_lines.specs.CachedNames.{AreNamesOf};
 ghost use Rattle.addr2line_lines.specs.References.{AreInOrder, IsScope};
-ghost use Rattle.addr2line_lines.specs.SeenScope.{as_scope};
+ghost use Rattle.addr2line_lines.specs.Scopes.{as_scope};
 
 use crate::mixed;
 use addr2line_lines::{FileUnits, Functions, InlinedFunction, Scope};

@@ -2,7 +2,7 @@
 
 ghost use Rattle.std.specs.Prelude.{◌≡◌, option_map};
 ghost use Rattle.addr2line_lines.specs.Location.{location_at};
-ghost use Rattle.addr2line_lines.specs.SeenLocation.{as_location};
+ghost use Rattle.addr2line_lines.specs.LentLocation.{as_location};
 ghost use Rattle.addr2line_lines.specs.Spans.{row_at};
 
 use crate::count::Count;

@@ -1,5 +1,5 @@
 use Rattle.addr2line.proofs.Common.{◌≤◌, ap, length, map, option_map, refl, rules, subst, sym, ◌∙◌, length-map, ExactlyUnlessOom, Skip, SuspendsAgain, answered, unit_replied, lookup_stop, unit_of, unit_value, reply_of_unit, given_by, as_given}
-use Rattle.addr2line_units.specs.SeenUnit.{as_found_unit}
+use Rattle.addr2line_units.specs.SupScope.{as_found_unit}
 use Rattle.addr2line.proofs.ReplayLemmas.{begun_at, ends_at_once, ends_resumed, goes_on, is_left, is_refused, left_at_end, left_by, load_token, next_of, found_waiting}
 use Rattle.addr2line.proofs.session.replay_unit.Goals as goal
 

@@ -1,5 +1,5 @@
 use Rattle.addr2line_bin.proofs.Common.{◌∙◌, option_map, string_bytes, refl, sym, append-nil, arith, option_copied, frames_left}
-use Rattle.addr2line_units.specs.SeenFrame.{as_frame}
+use Rattle.addr2line_units.specs.FramesLent.{as_frame}
 use Rattle.addr2line_bin.specs.FrameTexts.{next_and}
 use Rattle.addr2line_bin.proofs.FrameLemmas.{caller_more}
 use Rattle.addr2line_bin.proofs.frame_text.push_callers.Goals as goal

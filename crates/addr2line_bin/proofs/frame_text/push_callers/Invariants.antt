@@ -1,5 +1,5 @@
 use Rattle.addr2line_bin.proofs.Common.{◌≡◌, ◌++◌, option_map, string_bytes, length, option_copied, frames_left}
-use Rattle.addr2line_units.specs.SeenFrame.{as_frame}
+use Rattle.addr2line_units.specs.FramesLent.{as_frame}
 use Rattle.addr2line_bin.specs.FrameTexts.{callers_text, next_and}
 use Rattle.addr2line_bin.proofs.frame_text.push_callers.Given as goal
 

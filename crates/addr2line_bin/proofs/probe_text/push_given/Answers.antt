@@ -1,6 +1,6 @@
 use Rattle.addr2line_bin.proofs.Common.{◌∙◌, option_map, string_bytes, sym, on_ok_weaker, option_copied, frames_left, GivesFrames, GivesLocation}
 use Rattle.gimli_read.specs.Reading.{result_map}
-use Rattle.addr2line_lines.specs.SeenLocation.{as_location}
+use Rattle.addr2line_lines.specs.LentLocation.{as_location}
 use Rattle.addr2line_bin.proofs.CommandLemmas.{deref_text}
 use Rattle.addr2line_bin.proofs.probe_text.push_given.Goals as goal
 

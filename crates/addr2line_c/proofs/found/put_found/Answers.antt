@@ -1,5 +1,5 @@
 use Rattle.addr2line_c.proofs.Common.{rules, ◌≡◌, ◌<◌, ◌^◌, [], Ok, Some, ap, refl, sym, subst, nat_le, length, option_map, arith, ExactlyUnlessOom, of_file, IsFilled, NamesText, optional_text, zero_ended, IsWrittenLocation, location_file}
-use Rattle.addr2line_lines.specs.SeenLocation.{as_location}
+use Rattle.addr2line_lines.specs.LentLocation.{as_location}
 use Rattle.addr2line_c.specs.declared.location.WrittenLocation.{WrittenLocation}
 use Rattle.addr2line_c.proofs.AnswerLemmas.{says_there}
 use Rattle.addr2line_c.proofs.TextLemmas.{text_alone}

@@ -1,5 +1,5 @@
 use Rattle.addr2line_c.proofs.Common.{◌++◌, subst, append_assoc, IsFilled, optional_text, zero_ended, location_file, frame_name}
-use Rattle.addr2line_units.specs.SeenFrame.{as_frame}
+use Rattle.addr2line_units.specs.FramesLent.{as_frame}
 use Rattle.addr2line_c.proofs.frames.put_frame.Goals as goal
 
 pub returns-clause-gives : goal.returns-clause-gives

@@ -1,5 +1,5 @@
 use Rattle.addr2line_c.proofs.Common.{rules, ◌≡◌, ◌∷◌, ◌∙◌, [], subst, frames_left, texts_of_items, written_items, frame_texts, written_frame}
-use Rattle.addr2line_units.specs.SeenFrame.{as_frame}
+use Rattle.addr2line_units.specs.FramesLent.{as_frame}
 use Rattle.addr2line_c.proofs.SequenceLemmas.{WroteSome, wrote_one}
 use Rattle.addr2line_c.proofs.frames.put_frames.Goals as goal
 

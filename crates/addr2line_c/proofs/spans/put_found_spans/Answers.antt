@@ -1,6 +1,6 @@
 use Rattle.addr2line_c.proofs.Common.{rules, ◌≡◌, ◌<◌, ◌^◌, Ok, Some, ap, subst, nat_le, length, take, drop, arith, ◌>>=◌, locations_left, of_file, IsFilled, zero_ended, IsWrittenSpans, spans_from, texts_of_spans, written_spans}
 use Rattle.std.specs.Prelude.{IfOk}
-use Rattle.addr2line_units.specs.Located.{spans_of}
+use Rattle.addr2line_units.specs.Locations.{spans_of}
 use Rattle.addr2line_c.proofs.AnswerLemmas.{says_there}
 use Rattle.addr2line_c.proofs.TextLemmas.{spans_named}
 use Rattle.addr2line_c.proofs.spans.put_found_spans.Goals as goal

@@ -1,5 +1,5 @@
 use Rattle.addr2line_units.proofs.Common.{ap, ◌∙◌, err_from_is_err_and}
-use Rattle.addr2line_units.proofs.AttributeLemmas.{attributes-by, encoding-of, unit_others}
+use Rattle.addr2line_units.proofs.AttributesLemmas.{attributes-by, encoding-of, unit_others}
 use Rattle.addr2line_units.proofs.attributes.read_unit_attributes.Goals as goal
 
 pub returns-in_err-abbreviation : goal.returns-in_err-abbreviation

@@ -1,6 +1,6 @@
 use Rattle.addr2line_units.proofs.Common.{◌≡◌, ◌∙◌, Err, Ok, Some, ap, false, option_map, subst, sym, true, err_from_is_err_and, exceeds_inline_room, location_of_row, as_scope, cached_files, indexed_unit, found_frames, AsksNoMemoryIn, first_answer_of, function_of_place, cached_functions, location_in, function_in, inlined_of_unit, is_open}
-use Rattle.addr2line_units.proofs.EntryLemmas.{checked_decides, not_open}
-use Rattle.addr2line_units.proofs.UnitFrameLemmas.{closed_asks, fault_frames, function_alone, lines_alone, lines_fault_frames, lines_frames, check_only, only_after, open_asks, open_frames, stay_after, waiting_entries, waiting_stays_open}
+use Rattle.addr2line_units.proofs.EntriesLemmas.{checked_decides, not_open}
+use Rattle.addr2line_units.proofs.EntriesFrameLemmas.{closed_asks, fault_frames, function_alone, lines_alone, lines_fault_frames, lines_frames, check_only, only_after, open_asks, open_frames, stay_after, waiting_entries, waiting_stays_open}
 use Rattle.addr2line_units.proofs.entries.find_frames_in.Goals as goal
 
 pub returns-then-is_open-clause-gives : goal.returns-then-is_open-clause-gives

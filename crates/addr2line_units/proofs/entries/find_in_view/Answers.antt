@@ -1,7 +1,7 @@
 use Rattle.addr2line_units.proofs.Common.{Err, ap, option_map, subst, sym, ◌&&◌, ◌≡◌, ◌∙◌, IfErr, err_from_is_err_and, ExactlyUnlessOom, as_scope, UnitEntries, find_takes_memory, function_of_place, cached_functions, function_at}
-use Rattle.addr2line_units.proofs.AskMemoryLemmas.{exactly_if_none, find_takes_none}
-use Rattle.addr2line_units.proofs.EntryLemmas.{exactly_unless_oom, fault_entries, fault_in, fault_known, few_in, function_entries, function_is_in, functions_keep, functions_right, functions_stay, functions_take_in, view_known}
-use Rattle.addr2line_units.proofs.CachedPlaceLemmas.{cached_is_not_oom, cached_unless_oom}
+use Rattle.addr2line_units.proofs.EntriesMemoryLemmas.{exactly_if_none, find_takes_none}
+use Rattle.addr2line_units.proofs.EntriesLemmas.{exactly_unless_oom, fault_entries, fault_in, fault_known, few_in, function_entries, function_is_in, functions_keep, functions_right, functions_stay, functions_take_in, view_known}
+use Rattle.addr2line_units.proofs.EntriesPlaceLemmas.{cached_is_not_oom, cached_unless_oom}
 use Rattle.addr2line_units.proofs.entries.find_in_view.Goals as goal
 
 pub returns-in_err-unit-clause-after : goal.returns-in_err-unit-clause-after

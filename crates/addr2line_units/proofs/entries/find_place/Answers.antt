@@ -1,6 +1,6 @@
 use Rattle.addr2line_units.proofs.Common.{Err, ap, arith, refl, sym, err_from_is_err_and, as_scope, some_at, read_more, table_same}
-use Rattle.addr2line_units.proofs.CachedFunctionLemmas.{chain_found, chain_ready, none_found, number_stays, reads_one, refused_chain, refused_detail, refused_ready, table_stays}
-use Rattle.addr2line_units.proofs.CachedPlaceLemmas.{chain_fits, chain_known, known_stays, refused_fault, refused_known}
+use Rattle.addr2line_units.proofs.EntriesFunctionLemmas.{chain_found, chain_ready, none_found, number_stays, reads_one, refused_chain, refused_detail, refused_ready, table_stays}
+use Rattle.addr2line_units.proofs.EntriesPlaceLemmas.{chain_fits, chain_known, known_stays, refused_fault, refused_known}
 use Rattle.addr2line_units.proofs.entries.find_place.Goals as goal
 
 pub returns-in_default-clause-gives : goal.returns-in_default-clause-gives

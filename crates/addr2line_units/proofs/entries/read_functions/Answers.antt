@@ -1,6 +1,6 @@
 use Rattle.addr2line_units.proofs.Common.{◌≡◌, ◌∙◌, Bool, Ok, ap, false, refl, subst, sym, true, false≢true, err_from_is_err_and, Sections, UnitRecord, functions_take_memory, as_scope, IsTableOf}
-use Rattle.addr2line_units.proofs.CachedFunctionLemmas.{read_fault_of, read_table}
-use Rattle.addr2line_units.proofs.FunctionMemoryLemmas.{functions_took, no_ranges}
+use Rattle.addr2line_units.proofs.EntriesFunctionLemmas.{read_fault_of, read_table}
+use Rattle.addr2line_units.proofs.EntriesFunctionMemoryLemmas.{functions_took, no_ranges}
 use Rattle.addr2line_units.proofs.entries.read_functions.Goals as goal
 
 pub returns-in_ok-new-in-Some-clause-right : goal.returns-in_ok-new-in-Some-clause-right

@@ -1,5 +1,5 @@
 use Rattle.addr2line_units.proofs.Common.{length}
-use Rattle.addr2line_units.proofs.LeastBeginLemmas.{IsMade}
+use Rattle.addr2line_units.proofs.IndexLeastBeginLemmas.{IsMade}
 use Rattle.addr2line_units.proofs.index.add_least_begins.Given as goal
 
 abbrev pub invariant-loop-unit_range : goal.invariant-loop-unit_range

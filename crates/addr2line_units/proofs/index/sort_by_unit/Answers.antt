@@ -1,5 +1,5 @@
 use Rattle.addr2line_units.proofs.Common.{rules, ℕ, answers_always, on_ok_weaker, UnitArange, offset_sooner, sorted_is}
-use Rattle.addr2line_units.proofs.ArangeLemmas.{offset_order}
+use Rattle.addr2line_units.proofs.IndexArangeLemmas.{offset_order}
 use Rattle.addr2line_units.proofs.index.sort_by_unit.Goals as goal
 
 pub returns-clause-gives : goal.returns-clause-gives

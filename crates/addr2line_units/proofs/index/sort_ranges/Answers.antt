@@ -1,5 +1,5 @@
 use Rattle.addr2line_units.proofs.Common.{rules, ℕ, answers_always, UnitRange}
-use Rattle.addr2line_units.specs.Cover.{ends_sooner}
+use Rattle.addr2line_units.specs.IndexCover.{ends_sooner}
 use Rattle.addr2line_lines.proofs.InlinedOrder.{permuted_is}
 use Rattle.addr2line_units.proofs.IndexLemmas.{by_tuple, ends_order, one_range}
 use Rattle.addr2line_units.proofs.index.sort_ranges.Goals as goal

@@ -1,5 +1,5 @@
-use Rattle.addr2line_units.proofs.ParseLemmas.{reads_again}
-use Rattle.addr2line_units.proofs.ReachedLemmas.{reached_all}
+use Rattle.addr2line_units.proofs.ParsesLemmas.{reads_again}
+use Rattle.addr2line_units.proofs.ParsesReachedLemmas.{reached_all}
 use Rattle.addr2line_units.proofs.laws.function_parse_laws.Goals as goal
 
 pub returns : goal.returns

@@ -1,4 +1,4 @@
-use Rattle.addr2line_units.proofs.LoadLawLemmas.{fewer_left, never_waits_alone, others_left, waits_listed}
+use Rattle.addr2line_units.proofs.LoadsLawLemmas.{fewer_left, never_waits_alone, others_left, waits_listed}
 use Rattle.addr2line_units.proofs.laws.load_laws.Goals as goal
 
 pub returns : goal.returns

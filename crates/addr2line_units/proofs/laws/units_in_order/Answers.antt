@@ -1,4 +1,4 @@
-use Rattle.addr2line_units.proofs.ScopeLemmas.{sup_units_in_order, units_in_order}
+use Rattle.addr2line_units.proofs.SupScopeLemmas.{sup_units_in_order, units_in_order}
 use Rattle.addr2line_units.proofs.laws.units_in_order.Goals as goal
 
 pub returns : goal.returns

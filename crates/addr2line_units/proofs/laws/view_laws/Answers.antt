@@ -1,4 +1,4 @@
-use Rattle.addr2line_units.proofs.ViewLemmas.{decided_alone, verdict_of_open, view_scope_in_order}
+use Rattle.addr2line_units.proofs.UnitViewLemmas.{decided_alone, verdict_of_open, view_scope_in_order}
 use Rattle.addr2line_units.proofs.laws.view_laws.Goals as goal
 
 pub returns : goal.returns

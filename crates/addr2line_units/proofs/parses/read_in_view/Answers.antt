@@ -1,6 +1,6 @@
 use Rattle.addr2line_units.proofs.Common.{subst, sym, err_from_is_err_and, ExactlyUnlessOom, as_scope, UnitEntries}
-use Rattle.addr2line_units.proofs.AfterParseLemmas.{refused_view_after, view_after, view_reads, view_refused}
-use Rattle.addr2line_units.proofs.EntryLemmas.{fault_known, functions_right, view_known}
+use Rattle.addr2line_units.proofs.ParsesAfterLemmas.{refused_view_after, view_after, view_reads, view_refused}
+use Rattle.addr2line_units.proofs.EntriesLemmas.{fault_known, functions_right, view_known}
 use Rattle.addr2line_units.proofs.parses.read_in_view.Goals as goal
 
 pub returns-in_err-unit : goal.returns-in_err-unit

@@ -1,5 +1,5 @@
 use Rattle.addr2line_units.proofs.Common.{refl}
-use Rattle.addr2line_units.proofs.UnitIndexLemmas.{where_taken}
+use Rattle.addr2line_units.proofs.UnitsIndexLemmas.{where_taken}
 use Rattle.addr2line_units.proofs.sup.read_sup_unit.Goals as goal
 
 pub returns-in-Err-OutOfMemory-clause-gives : goal.returns-in-Err-OutOfMemory-clause-gives

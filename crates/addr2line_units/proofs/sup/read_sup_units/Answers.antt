@@ -1,9 +1,9 @@
 use Rattle.addr2line_units.proofs.Common.{Ok, ap, rules, sym, ◌++◌, ◌∙◌, ◌≡◌, err_from_is_err_and, free, all_headers, units_of}
 use Rattle.std.proofs.lemmas.List.{append_assoc}
 use Rattle.gimli_read.specs.Costed.{◌>>=◌}
-use Rattle.addr2line_units.specs.UnitIndex.{sup_unit_of_header}
-use Rattle.addr2line_units.proofs.HeaderUnitLemmas.{fault_of_rest, put_to_nothing, rest_of_rest, shared_take, unit_fault, unit_step}
-use Rattle.addr2line_units.proofs.UnitIndexLemmas.{given_fault, given_some, shorter}
+use Rattle.addr2line_units.specs.UnitsIndex.{sup_unit_of_header}
+use Rattle.addr2line_units.proofs.UnitsOfHeadersLemmas.{fault_of_rest, put_to_nothing, rest_of_rest, shared_take, unit_fault, unit_step}
+use Rattle.addr2line_units.proofs.UnitsIndexLemmas.{given_fault, given_some, shorter}
 use Rattle.addr2line_units.proofs.sup.read_sup_units.Goals as goal
 
 pub returns-in_err-headers : goal.returns-in_err-headers

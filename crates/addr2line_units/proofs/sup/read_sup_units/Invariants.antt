@@ -1,7 +1,7 @@
 use Rattle.addr2line_units.proofs.Common.{◌≡◌, ◌++◌, Ok, length, free, all_headers, units_of}
 use Rattle.gimli_read.specs.Costed.{◌>>=◌}
-use Rattle.addr2line_units.specs.UnitIndex.{sup_unit_of_header}
-use Rattle.addr2line_units.proofs.HeaderUnitLemmas.{IsRestOf}
+use Rattle.addr2line_units.specs.UnitsIndex.{sup_unit_of_header}
+use Rattle.addr2line_units.proofs.UnitsOfHeadersLemmas.{IsRestOf}
 use Rattle.addr2line_units.proofs.sup.read_sup_units.Given as goal
 
 abbrev pub invariant-loop-units : goal.invariant-loop-units

@@ -1,5 +1,5 @@
 use Rattle.addr2line_units.proofs.Common.{◌≡◌, Some, ap, sym, is_some, true, false}
-use Rattle.addr2line_units.proofs.ViewLemmas.{is_there, verdict_of_fault, verdict_of_main, verdict_of_no_fault}
+use Rattle.addr2line_units.proofs.UnitViewLemmas.{is_there, verdict_of_fault, verdict_of_main, verdict_of_no_fault}
 use Rattle.addr2line_units.proofs.unit.first_state.Goals as goal
 
 pub returns-then-is_none-clause-gives : goal.returns-then-is_none-clause-gives

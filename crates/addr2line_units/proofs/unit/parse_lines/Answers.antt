@@ -1,5 +1,5 @@
 use Rattle.addr2line_units.proofs.Common.{Err, rules, subst, ◌≡◌, lines_result}
-use Rattle.addr2line_units.proofs.AskMemoryLemmas.{lines_exact, lines_took}
+use Rattle.addr2line_units.proofs.EntriesMemoryLemmas.{lines_exact, lines_took}
 use Rattle.addr2line_units.proofs.unit.parse_lines.Goals as goal
 
 pub returns-in-Err-OutOfMemory-clause-no_memory : goal.returns-in-Err-OutOfMemory-clause-no_memory

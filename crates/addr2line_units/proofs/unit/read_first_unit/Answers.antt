@@ -1,6 +1,6 @@
 use Rattle.addr2line_units.proofs.Common.{rules, sym, ◌≡◌, ◌∙◌, err_from_is_err_and, all_headers}
-use Rattle.addr2line_units.proofs.UnitIndexLemmas.{given_fault, given_some}
-use Rattle.addr2line_units.proofs.ViewLemmas.{first_faulty, first_refused, first_shared, first_taken}
+use Rattle.addr2line_units.proofs.UnitsIndexLemmas.{given_fault, given_some}
+use Rattle.addr2line_units.proofs.UnitViewLemmas.{first_faulty, first_refused, first_shared, first_taken}
 use Rattle.addr2line_units.proofs.unit.read_first_unit.Goals as goal
 
 pub returns-in_err-headers : goal.returns-in_err-headers

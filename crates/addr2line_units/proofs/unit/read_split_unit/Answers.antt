@@ -1,6 +1,6 @@
 use Rattle.addr2line_units.proofs.Common.{rules, ◌≡◌, ◌∙◌, ap, refl, option_map, err_from_is_err_and, first_unit}
-use Rattle.addr2line_units.specs.AnswerMemory.{answer_takes_memory}
-use Rattle.addr2line_units.proofs.ViewLemmas.{first_read}
+use Rattle.addr2line_units.specs.LoadsMemory.{answer_takes_memory}
+use Rattle.addr2line_units.proofs.UnitViewLemmas.{first_read}
 use Rattle.addr2line_units.proofs.unit.read_split_unit.Goals as goal
 
 pub returns-in_err-new : goal.returns-in_err-new

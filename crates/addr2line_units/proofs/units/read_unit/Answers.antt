@@ -1,5 +1,5 @@
 use Rattle.addr2line_units.proofs.Common.{◌≡◌, false, refl, rules, subst, true, err_from_is_err_and, has_abbreviations, is_type_unit}
-use Rattle.addr2line_units.proofs.UnitIndexLemmas.{kept_fault, takes_unit, where_read, where_taken}
+use Rattle.addr2line_units.proofs.UnitsIndexLemmas.{kept_fault, takes_unit, where_read, where_taken}
 use Rattle.addr2line_units.proofs.units.read_unit.Goals as goal
 
 pub returns-in_err-lines-in-Ok-clause-gives :

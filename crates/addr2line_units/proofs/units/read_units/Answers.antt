@@ -1,8 +1,8 @@
 use Rattle.addr2line_units.proofs.Common.{Ok, ap, refl, rules, subst, sym, ◌∙◌, ◌≡◌, err_from_is_err_and, free, all_headers, units_of, unit_of_header}
 use Rattle.gimli_read.specs.Costed.{◌>>=◌}
-use Rattle.addr2line_units.specs.Indexed.{IndexState, appended, index_seen, indexed_with}
-use Rattle.addr2line_units.proofs.HeaderUnitLemmas.{IsRestOf, fault_of_rest, first_takes, rest_of_rest, shared_take, unit_fault, unit_step}
-use Rattle.addr2line_units.proofs.UnitIndexLemmas.{appended_more, appended_none, given_fault, given_none, given_some, shorter}
+use Rattle.addr2line_units.specs.UnitsIndexed.{IndexState, appended, index_seen, indexed_with}
+use Rattle.addr2line_units.proofs.UnitsOfHeadersLemmas.{IsRestOf, fault_of_rest, first_takes, rest_of_rest, shared_take, unit_fault, unit_step}
+use Rattle.addr2line_units.proofs.UnitsIndexLemmas.{appended_more, appended_none, given_fault, given_none, given_some, shorter}
 use Rattle.addr2line_units.proofs.units.read_units.Goals as goal
 
 pub returns-in_err-headers-clause-gives : goal.returns-in_err-headers-clause-gives

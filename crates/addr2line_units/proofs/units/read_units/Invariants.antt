@@ -1,7 +1,7 @@
 use Rattle.addr2line_units.proofs.Common.{◌≡◌, Ok, length, free, HaveLinesOf, AreFreshOf, units_of, unit_of_header}
 use Rattle.gimli_read.specs.Costed.{◌>>=◌}
-use Rattle.addr2line_units.specs.Indexed.{appended, index_seen, indexed_with}
-use Rattle.addr2line_units.proofs.HeaderUnitLemmas.{IsRestOf}
+use Rattle.addr2line_units.specs.UnitsIndexed.{appended, index_seen, indexed_with}
+use Rattle.addr2line_units.proofs.UnitsOfHeadersLemmas.{IsRestOf}
 use Rattle.addr2line_units.proofs.units.read_units.Given as goal
 
 abbrev pub invariant-loop-index : goal.invariant-loop-index

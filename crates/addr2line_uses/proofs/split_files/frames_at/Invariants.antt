@@ -1,4 +1,4 @@
-use Rattle.addr2line_units.specs.Suspended.{loads_left}
+use Rattle.addr2line_units.specs.Continuation.{loads_left}
 use Rattle.addr2line.specs.WaitingLookups.{count_loads}
 use Rattle.addr2line_uses.proofs.split_files.frames_at.Given as goal
 

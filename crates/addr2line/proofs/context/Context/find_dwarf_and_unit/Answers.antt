@@ -1,5 +1,5 @@
 use Rattle.addr2line.proofs.Common.{refl, Skip, IsUncovered, unit_value, unit_of_context}
-use Rattle.addr2line_units.specs.SeenUnit.{as_found_unit}
+use Rattle.addr2line_units.specs.SupScope.{as_found_unit}
 use Rattle.addr2line.proofs.AfterLemmas.{if_load}
 use Rattle.addr2line.proofs.UncoveredLemmas.{uncovered_ends, uncovered_ok}
 use Rattle.addr2line.proofs.context.Context.find_dwarf_and_unit.Goals as goal

@@ -1,5 +1,5 @@
 use Rattle.addr2line.proofs.Common.{Err, Ok, ap, refl, sym, ◌∙◌, err_from_is_err_and, cover_range, spans_of, TakeNone, UnitsState}
-use Rattle.addr2line_units.proofs.UnitsLemmas.{none_more_along}
+use Rattle.addr2line_units.proofs.UnitsLinesLemmas.{none_more_along}
 use Rattle.addr2line.proofs.ContextLemmas.{after_range_lookup, at_made, lines_context}
 use Rattle.addr2line.proofs.context.Context.find_location_range.Goals as goal
 

@@ -1,5 +1,5 @@
 use Rattle.addr2line.proofs.Common.{option_map, sym, ◌≡◌, ◌∙◌, unit_found}
-use Rattle.addr2line_units.specs.SeenUnit.{as_unit}
+use Rattle.addr2line_units.specs.SupScope.{as_unit}
 use Rattle.addr2line.proofs.AfterLemmas.{unit_found_is}
 use Rattle.addr2line.proofs.ContextLemmas.{of_made}
 use Rattle.addr2line.proofs.context.Context.found_unit.Goals as goal

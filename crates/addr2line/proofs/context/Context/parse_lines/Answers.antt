@@ -1,6 +1,6 @@
 use Rattle.addr2line.proofs.Common.{ap, subst, sym, ◌∙◌, ExactlyUnlessOom, cover, AllAskFor, AreReadyForAll, ParsesOnly, TakeNoneForAll, UnitsState, as_context}
 use Rattle.std.specs.Prelude.{is_ok}
-use Rattle.addr2line_units.proofs.UnitsLemmas.{none_more_for_all}
+use Rattle.addr2line_units.proofs.UnitsLinesLemmas.{none_more_for_all}
 use Rattle.addr2line.proofs.ContextLemmas.{along_ok, at_lines, at_made, exactly_told, lines_are, lines_context, lines_stay, location_is, of_lines, of_made, ready_if_ok, same_if_asked, when_ok}
 use Rattle.addr2line.proofs.context.Context.parse_lines.Goals as goal
 

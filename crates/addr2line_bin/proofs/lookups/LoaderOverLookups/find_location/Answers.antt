@@ -1,5 +1,5 @@
 use Rattle.addr2line_bin.proofs.Common.{refl, as_loader}
-use Rattle.addr2line_lines.specs.SeenLocation.{as_location}
+use Rattle.addr2line_lines.specs.LentLocation.{as_location}
 use Rattle.addr2line_bin.proofs.LoaderLemmas.{finds, same_after_location}
 use Rattle.addr2line_bin.proofs.lookups.LoaderOverLookups.find_location.Goals as goal
 

@@ -1,6 +1,6 @@
 use Rattle.addr2line_lines.proofs.Common.{◌≡◌, Option, Some, None, map, option_map, slice_get, subst, ap, sym, ◌∙◌, Section, InlinedEntry}
 use Rattle.std.specs.Slice.{IsItemAt}
-use Rattle.addr2line_lines.specs.SeenInlined.{as_inlined}
+use Rattle.addr2line_lines.specs.LentInlined.{as_inlined}
 use Rattle.addr2line_lines.specs.StoredInlined.{StoredInlined, stored_name}
 use Rattle.addr2line_lines.proofs.LentLemmas.{lent_copied, lent_is}
 use Rattle.addr2line_lines.proofs.StoredInlinedLemmas.{entry_at, no_call_at, no_name_at}

@@ -1,4 +1,4 @@
-use Rattle.addr2line_units.specs.Suspended.{SkipsTo, loads_left}
+use Rattle.addr2line_units.specs.Continuation.{SkipsTo, loads_left}
 use Rattle.addr2line_units.proofs.continuation.LookupResult.skip_all_loads.Given as goal
 
 -- what is still given is what was to be given

@@ -1,10 +1,10 @@
 use Rattle.addr2line_units.proofs.Common.{[], Bool, Err, Ok, Result, ap, false, refl, true, ℕ, ◌&&◌, ◌≡◌, ◌≢◌, ◌∙◌, option_map, subst, sym, false≢true, err_from_is_err_and, Error, OutOfMemory, UnitRecord, functions_of, functions_take_memory, cached_detail, exceeds_inline_room, Scope, as_scope, LazyFunctions, function_at, AreFunctionsOf, IsTableOf, StayFunctions, cached_functions, cached_has_function, find_takes_memory, function_of_place, cached_inlined_at, table_takes_memory, were_read}
 use Rattle.std.specs.Box.{with_value}
 use Rattle.addr2line_units.specs.declared.entries.LazyFunctions.TheVariants as lazy
-use Rattle.addr2line_units.proofs.CachedFunctionLemmas.{and_weaker, details_before, exactly_weaker, function_is, memory_before, none_before, stay_faulty, stay_read}
-use Rattle.addr2line_units.proofs.CachedParseLemmas.{cached_stay}
-use Rattle.addr2line_units.proofs.LearnedLemmas.{cache_reads_none}
-use Rattle.addr2line_units.proofs.CachedPlaceLemmas.{cached_is_not_oom, cached_unless_oom, same_known, table_known}
+use Rattle.addr2line_units.proofs.EntriesFunctionLemmas.{and_weaker, details_before, exactly_weaker, function_is, memory_before, none_before, stay_faulty, stay_read}
+use Rattle.addr2line_units.proofs.ParsesCachedLemmas.{cached_stay}
+use Rattle.addr2line_units.proofs.EntriesLearnedLemmas.{cache_reads_none}
+use Rattle.addr2line_units.proofs.EntriesPlaceLemmas.{cached_is_not_oom, cached_unless_oom, same_known, table_known}
 use Rattle.addr2line_units.proofs.entries.LazyFunctions.find.Goals as goal
 
 -- functions that weren't read take memory, or memory is their fault

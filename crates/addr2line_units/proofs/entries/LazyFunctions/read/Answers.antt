@@ -1,7 +1,7 @@
 use Rattle.addr2line_units.proofs.Common.{subst, sym, ExactlyUnlessOom, as_scope, functions_fault, reading_takes_memory, read_of_functions}
-use Rattle.addr2line_units.specs.AfterParses.{AfterReadingFunctions}
-use Rattle.addr2line_units.proofs.AfterParseLemmas.{details_after}
-use Rattle.addr2line_units.proofs.EntryLemmas.{exactly_unless_oom}
+use Rattle.addr2line_units.specs.ParsesAfter.{AfterReadingFunctions}
+use Rattle.addr2line_units.proofs.ParsesAfterLemmas.{details_after}
+use Rattle.addr2line_units.proofs.EntriesLemmas.{exactly_unless_oom}
 use Rattle.addr2line_units.proofs.entries.LazyFunctions.read.Goals as goal
 
 pub returns-in-Functions : goal.returns-in-Functions

@@ -3,10 +3,10 @@ use Rattle.std.specs.Box.{with_value}
 use Rattle.addr2line_lines.specs.CachedNames.{AreNamesOf}
 use Rattle.addr2line_units.specs.declared.entries.LazyFunctions.TheVariants as lazy
 use Rattle.addr2line_units.specs.declared.parses.ReadingDepth.TheVariants as depths
-use Rattle.addr2line_units.proofs.CachedFunctionLemmas.{all_ready, exactly_weaker, fault_is, no_fault_of, on_ok, reading_before, stay_faulty, stay_read, table_more}
-use Rattle.addr2line_units.proofs.CachedParseLemmas.{cached_stay}
-use Rattle.addr2line_units.proofs.ReadyLemmas.{fault_of_functions, had_not_oom, known_not_oom, not_oom, ready_fault, ready_same, ready_then, ready_were_read}
-use Rattle.addr2line_units.proofs.KnownTableLemmas.{to_fault_cached, to_fault_known}
+use Rattle.addr2line_units.proofs.EntriesFunctionLemmas.{all_ready, exactly_weaker, fault_is, no_fault_of, on_ok, reading_before, stay_faulty, stay_read, table_more}
+use Rattle.addr2line_units.proofs.ParsesCachedLemmas.{cached_stay}
+use Rattle.addr2line_units.proofs.ParsesReadyLemmas.{fault_of_functions, had_not_oom, known_not_oom, not_oom, ready_fault, ready_same, ready_then, ready_were_read}
+use Rattle.addr2line_units.proofs.EntriesKnownTableLemmas.{to_fault_cached, to_fault_known}
 use Rattle.addr2line_units.proofs.entries.LazyFunctions.read_all.Goals as goal
 
 pub returns-in-Read-clause-gives : goal.returns-in-Read-clause-gives

@@ -1,6 +1,6 @@
 use Rattle.addr2line_units.proofs.Common.{err_from_is_err_and, as_scope}
-use Rattle.addr2line_units.proofs.AfterParseLemmas.{alone_after, alone_gives, refused_after}
-use Rattle.addr2line_units.proofs.LoadLemmas.{exactly_this}
+use Rattle.addr2line_units.proofs.ParsesAfterLemmas.{alone_after, alone_gives, refused_after}
+use Rattle.addr2line_units.proofs.LoadsLemmas.{exactly_this}
 use Rattle.addr2line_units.proofs.entries.LazyFunctions.read_alone.Goals as goal
 
 pub returns-in_err-cache-clause-gives : goal.returns-in_err-cache-clause-gives

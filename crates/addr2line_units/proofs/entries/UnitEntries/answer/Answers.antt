@@ -1,8 +1,8 @@
 use Rattle.addr2line_units.proofs.Common.{◌≡◌, ◌∙◌, Result, ap, option_map, refl, subst, sym, true, false, rules, err_from_is_err_and, StayEntries, first_answer_of, fault_of, Error, view_fault, View, is_open, verdict}
-use Rattle.addr2line_units.proofs.ViewLemmas.{verdict_of_open, waiting_is_open}
-use Rattle.addr2line_units.proofs.AnswerLemmas.{decided_if_not, decided_if_open, decided_was_checked, never_waits, open_by_check}
-use Rattle.addr2line_units.proofs.EntryLemmas.{checked_decides}
-use Rattle.addr2line_units.proofs.OpenLemmas.{waits_only_open}
+use Rattle.addr2line_units.proofs.UnitViewLemmas.{verdict_of_open, waiting_is_open}
+use Rattle.addr2line_units.proofs.LoadsAnswerLemmas.{decided_if_not, decided_if_open, decided_was_checked, never_waits, open_by_check}
+use Rattle.addr2line_units.proofs.EntriesLemmas.{checked_decides}
+use Rattle.addr2line_units.proofs.LoadsOpenLemmas.{waits_only_open}
 use Rattle.addr2line_units.proofs.entries.UnitEntries.answer.Goals as goal
 
 pub returns-in_err-decide-clause-refused : goal.returns-in_err-decide-clause-refused

@@ -1,5 +1,5 @@
 use Rattle.addr2line_units.proofs.Common.{ap, as_scope}
-use Rattle.addr2line_units.proofs.EntryLemmas.{check_keeps, check_stays}
+use Rattle.addr2line_units.proofs.EntriesLemmas.{check_keeps, check_stays}
 use Rattle.addr2line_units.proofs.entries.UnitEntries.check_split.Goals as goal
 
 pub returns-clause-right : goal.returns-clause-right

@@ -1,5 +1,5 @@
 use Rattle.addr2line_units.proofs.Common.{◌≡◌, is_some, refl, true, as_scope}
-use Rattle.addr2line_units.proofs.AnswerLemmas.{same_entries, unread_entries, waiting_is_undecided}
+use Rattle.addr2line_units.proofs.LoadsAnswerLemmas.{same_entries, unread_entries, waiting_is_undecided}
 use Rattle.addr2line_units.proofs.entries.UnitEntries.decide.Goals as goal
 
 pub returns-clause-right : goal.returns-clause-right

@@ -1,5 +1,5 @@
 use Rattle.addr2line_units.proofs.Common.{ap}
-use Rattle.addr2line_units.proofs.EntryLemmas.{checked_decides}
+use Rattle.addr2line_units.proofs.EntriesLemmas.{checked_decides}
 use Rattle.addr2line_units.proofs.entries.UnitEntries.find_function.Goals as goal
 
 pub find_in_view-requires-clause-decided : goal.find_in_view-requires-clause-decided

@@ -1,6 +1,6 @@
 use Rattle.addr2line_units.proofs.Common.{refl, rules, as_scope, first_answer_of}
 use Rattle.addr2line_units.specs.declared.entries.LazyFunctions.TheVariants.{Unread}
-use Rattle.addr2line_units.proofs.AnswerLemmas.{no_answer, unread_entries}
+use Rattle.addr2line_units.proofs.LoadsAnswerLemmas.{no_answer, unread_entries}
 use Rattle.addr2line_units.proofs.entries.UnitEntries.forget.Goals as goal
 
 pub returns-then-is_answered-clause-right : goal.returns-then-is_answered-clause-right

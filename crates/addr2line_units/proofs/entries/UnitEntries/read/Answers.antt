@@ -1,5 +1,5 @@
 use Rattle.addr2line_units.proofs.Common.{subst, ExactlyUnlessOom, as_scope, read_of_view, verdict}
-use Rattle.addr2line_units.proofs.AfterParseLemmas.{unit_after}
+use Rattle.addr2line_units.proofs.ParsesAfterLemmas.{unit_after}
 use Rattle.addr2line_units.proofs.entries.UnitEntries.read.Goals as goal
 
 pub returns-in_err-answer : goal.returns-in_err-answer

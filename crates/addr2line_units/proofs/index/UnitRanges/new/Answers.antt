@@ -1,4 +1,4 @@
-use Rattle.addr2line_units.proofs.LeastBeginLemmas.{indexed_is}
+use Rattle.addr2line_units.proofs.IndexLeastBeginLemmas.{indexed_is}
 use Rattle.addr2line_units.proofs.index.UnitRanges.new.Goals as goal
 
 pub invariant_of-result : goal.invariant_of-result

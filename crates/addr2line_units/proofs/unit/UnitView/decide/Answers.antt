@@ -1,5 +1,5 @@
 use Rattle.addr2line_units.proofs.Common.{rules, ◌≡◌, ◌∙◌, ap, sym, None, Err, option_map, split_unit, unboxed, verdict}
-use Rattle.addr2line_units.proofs.ViewLemmas.{answered_is_right, verdict_of_open, waiting_is_open}
+use Rattle.addr2line_units.proofs.UnitViewLemmas.{answered_is_right, verdict_of_open, waiting_is_open}
 use Rattle.addr2line_units.proofs.unit.UnitView.decide.Goals as goal
 use Rattle.addr2line_units.proofs.unit.UnitView.decide.Goals.{in-Ok, in-Err}
 

@@ -1,6 +1,6 @@
 use Rattle.addr2line_units.proofs.Common.{◌≡◌, arith, None, OutOfMemory, verdict}
 use Rattle.std.proofs.lemmas.Grind.{common_steps}
-use Rattle.addr2line_units.proofs.ViewLemmas.{open_has_load, refused_load, waiting_is_open}
+use Rattle.addr2line_units.proofs.UnitViewLemmas.{open_has_load, refused_load, waiting_is_open}
 use Rattle.addr2line_units.proofs.unit.UnitView.load.Goals as goal
 
 pub returns-in_err-load-clause-refused : goal.returns-in_err-load-clause-refused

@@ -1,4 +1,4 @@
-use Rattle.addr2line_units.proofs.ViewLemmas.{scope_of_split}
+use Rattle.addr2line_units.proofs.UnitViewLemmas.{scope_of_split}
 use Rattle.addr2line_units.proofs.unit.UnitView.scope_of.Goals as goal
 
 pub returns-in-Some-clause-gives : goal.returns-in-Some-clause-gives

@@ -1,7 +1,7 @@
 use Rattle.addr2line_units.proofs.Common.{◌≡◌, ◌++◌, ◌∙◌, List, Ok, Result, ap, length, map, rules, sym, Error, Range, range_of_unit, unit_ranges}
-use Rattle.addr2line_units.specs.Indexed.{ranged_seen}
-use Rattle.addr2line_units.proofs.ScopeLemmas.{fresh_push}
-use Rattle.addr2line_units.proofs.UnitsLemmas.{own_push, pushed}
+use Rattle.addr2line_units.specs.UnitsIndexed.{ranged_seen}
+use Rattle.addr2line_units.proofs.SupScopeLemmas.{fresh_push}
+use Rattle.addr2line_units.proofs.UnitsLinesLemmas.{own_push, pushed}
 use Rattle.addr2line_units.proofs.units.Index.push.Goals as goal
 
 ok_is : (a b : List Range) → ◌≡◌ {A = Result (List Range) Error} (Ok a) (Ok b) → a ≡ b

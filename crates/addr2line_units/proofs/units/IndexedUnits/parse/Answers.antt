@@ -1,6 +1,6 @@
 use Rattle.addr2line_units.proofs.Common.{ap, sym, ◌∙◌, err_from_is_err_and, Sections}
-use Rattle.addr2line_units.specs.Indexed.{aranges_read}
-use Rattle.addr2line_units.proofs.HeaderUnitLemmas.{first_takes, then_takes}
+use Rattle.addr2line_units.specs.UnitsIndexed.{aranges_read}
+use Rattle.addr2line_units.proofs.UnitsOfHeadersLemmas.{first_takes, then_takes}
 use Rattle.addr2line_units.proofs.units.IndexedUnits.parse.Goals as goal
 
 pub returns-in_err-ranges-clause-gives : goal.returns-in_err-ranges-clause-gives

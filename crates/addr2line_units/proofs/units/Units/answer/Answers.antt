@@ -1,7 +1,7 @@
 use Rattle.addr2line_units.proofs.Common.{arith, option_map, subst, sym, AreEntriesOf, as_stop}
-use Rattle.addr2line_units.proofs.NumberLemmas.{answered_there, none_answered, refused_told}
-use Rattle.addr2line_units.proofs.StateLemmas.{some_given}
-use Rattle.addr2line_units.proofs.UnitAtLemmas.{cache_within, its_entries, none_got, sections_seen, unit_got, units_with_entries}
+use Rattle.addr2line_units.proofs.UnitsNumberLemmas.{answered_there, none_answered, refused_told}
+use Rattle.addr2line_units.proofs.UnitsStateLemmas.{some_given}
+use Rattle.addr2line_units.proofs.UnitsAtLemmas.{cache_within, its_entries, none_got, sections_seen, unit_got, units_with_entries}
 use Rattle.addr2line_units.proofs.units.Units.answer.Goals as goal
 
 pub returns-in_default : goal.returns-in_default

@@ -1,7 +1,7 @@
 use Rattle.addr2line_units.proofs.Common.{Err, Ok, arith, refl, subst, sym, ◌≡◌, err_from_is_err_and, set, WasNotRefused, IsScope, AreEntriesOf, as_stop, AreLinesOf, FindsNothing, found_stop, stop_at, IsFaultAt}
-use Rattle.addr2line_units.proofs.AskLemmas.{after_asked, asked_err, asked_ok, none_after, none_gives, refused_alone, stop_lendable}
+use Rattle.addr2line_units.proofs.FramesAskLemmas.{after_asked, asked_err, asked_ok, none_after, none_gives, refused_alone, stop_lendable}
 use Rattle.addr2line_units.proofs.FramesLookupLemmas.{oom_after, oom_before}
-use Rattle.addr2line_units.proofs.UnitAtLemmas.{cache_within, its_entries, its_lines, none_got, sections_seen, unit_got, units_with}
+use Rattle.addr2line_units.proofs.UnitsAtLemmas.{cache_within, its_entries, its_lines, none_got, sections_seen, unit_got, units_with}
 use Rattle.addr2line_units.proofs.units.Units.ask_unit.Goals as goal
 
 pub returns-in_default-clause-gives : goal.returns-in_default-clause-gives

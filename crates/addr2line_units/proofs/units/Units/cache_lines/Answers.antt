@@ -1,6 +1,6 @@
 use Rattle.addr2line_units.proofs.Common.{err_from_is_err_and, ranges_left}
-use Rattle.addr2line_units.proofs.LineWalkLemmas.{cached_end, cached_fault, cached_first, cached_on}
-use Rattle.addr2line_units.proofs.UnitsLemmas.{rest_shorter}
+use Rattle.addr2line_units.proofs.LocationsWalkLemmas.{cached_end, cached_fault, cached_first, cached_on}
+use Rattle.addr2line_units.proofs.UnitsLinesLemmas.{rest_shorter}
 use Rattle.addr2line_units.proofs.units.Units.cache_lines.Goals as goal
 
 pub loop-range-init : goal.loop-range-init

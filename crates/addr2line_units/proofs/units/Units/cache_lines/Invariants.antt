@@ -1,5 +1,5 @@
 use Rattle.addr2line_units.proofs.Common.{length, ranges_left}
-use Rattle.addr2line_units.proofs.LineWalkLemmas.{CachedSoFar}
+use Rattle.addr2line_units.proofs.LocationsWalkLemmas.{CachedSoFar}
 use Rattle.addr2line_units.proofs.units.Units.cache_lines.Given as goal
 
 abbrev pub invariant-loop-range : goal.invariant-loop-range

@@ -1,6 +1,6 @@
 use Rattle.addr2line_units.proofs.Common.{sym, ◌∙◌, ranges_left, scope_of}
-use Rattle.addr2line_units.proofs.CachedUnitLemmas.{lines_right}
-use Rattle.addr2line_units.proofs.StateLemmas.{spans_cached}
+use Rattle.addr2line_units.proofs.UnitsCachedLemmas.{lines_right}
+use Rattle.addr2line_units.proofs.UnitsStateLemmas.{spans_cached}
 use Rattle.addr2line_units.proofs.units.Units.find_location_range.Goals as goal
 
 pub returns : goal.returns

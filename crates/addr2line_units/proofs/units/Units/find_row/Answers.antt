@@ -1,6 +1,6 @@
 use Rattle.addr2line_units.proofs.Common.{err_from_is_err_and, ranges_left}
-use Rattle.addr2line_units.proofs.LineWalkLemmas.{row_after, row_fault, row_fault_after, row_fault_alone, row_gives, rows_end, rows_end_after, rows_first, rows_on}
-use Rattle.addr2line_units.proofs.UnitsLemmas.{rest_shorter}
+use Rattle.addr2line_units.proofs.LocationsWalkLemmas.{row_after, row_fault, row_fault_after, row_fault_alone, row_gives, rows_end, rows_end_after, rows_first, rows_on}
+use Rattle.addr2line_units.proofs.UnitsLinesLemmas.{rest_shorter}
 use Rattle.addr2line_units.proofs.units.Units.find_row.Goals as goal
 
 pub loop-range-init : goal.loop-range-init

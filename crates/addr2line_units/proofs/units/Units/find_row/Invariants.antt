@@ -1,5 +1,5 @@
 use Rattle.addr2line_units.proofs.Common.{length, ranges_left}
-use Rattle.addr2line_units.proofs.LineWalkLemmas.{RowsSoFar}
+use Rattle.addr2line_units.proofs.LocationsWalkLemmas.{RowsSoFar}
 use Rattle.addr2line_units.proofs.units.Units.find_row.Given as goal
 
 abbrev pub invariant-loop-range : goal.invariant-loop-range

@@ -1,6 +1,6 @@
 use Rattle.addr2line_units.proofs.Common.{◌+◌, ◌≤◌, Err, None, Ok, Some, arith, false, option_map, slice_get, subst, sym, ◌≡◌, IfErr, ExactlyUnlessOom, location_of_row, lines_of_take_memory, lines_take_memory, as_stop, AreLinesOf, cached_files, indexed_unit, unit_row, location_in, steps_in, UnitsState, row_location}
-use Rattle.addr2line_units.proofs.LinesAtLemmas.{none_after_row, none_row, row_after, row_alone, row_there}
-use Rattle.addr2line_units.proofs.UnitAtLemmas.{cache_within, its_lines, none_got, sections_seen, unit_got, units_with_lines}
+use Rattle.addr2line_units.proofs.LocationsAtLemmas.{none_after_row, none_row, row_after, row_alone, row_there}
+use Rattle.addr2line_units.proofs.UnitsAtLemmas.{cache_within, its_lines, none_got, sections_seen, unit_got, units_with_lines}
 use Rattle.addr2line_units.proofs.units.Units.find_row_in.Goals as goal
 
 pub returns-in_default : goal.returns-in_default

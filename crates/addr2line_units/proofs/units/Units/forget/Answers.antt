@@ -1,7 +1,7 @@
 use Rattle.addr2line_units.proofs.Common.{None, arith, subst, sym, AreEntriesOf, as_stop}
-use Rattle.addr2line_units.proofs.LoadLemmas.{known_forget, unknown_forget}
-use Rattle.addr2line_units.proofs.NumberLemmas.{forgotten_there, none_forgotten}
-use Rattle.addr2line_units.proofs.UnitAtLemmas.{cache_within, its_entries, none_got, unit_got, units_with_entries}
+use Rattle.addr2line_units.proofs.LoadsLemmas.{known_forget, unknown_forget}
+use Rattle.addr2line_units.proofs.UnitsNumberLemmas.{forgotten_there, none_forgotten}
+use Rattle.addr2line_units.proofs.UnitsAtLemmas.{cache_within, its_entries, none_got, unit_got, units_with_entries}
 use Rattle.addr2line_units.proofs.units.Units.forget.Goals as goal
 
 pub returns-in_default : goal.returns-in_default

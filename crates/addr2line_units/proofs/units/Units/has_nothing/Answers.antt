@@ -1,6 +1,6 @@
 use Rattle.addr2line_units.proofs.Common.{ltb-true, subst, sym, ◌∙◌, as_stop}
-use Rattle.addr2line_units.specs.EmptyUnits.{HasNothingAt}
-use Rattle.addr2line_units.proofs.EmptyUnitLemmas.{nothing_there}
+use Rattle.addr2line_units.specs.EntriesEmpty.{HasNothingAt}
+use Rattle.addr2line_units.proofs.EntriesEmptyLemmas.{nothing_there}
 use Rattle.addr2line_units.proofs.units.Units.has_nothing.Goals as goal
 
 pub returns-in-Some : goal.returns-in-Some

@@ -1,5 +1,5 @@
 use Rattle.addr2line_units.proofs.Common.{length, rules, subst, ◌≡◌, CountsUnits, as_stop}
-use Rattle.addr2line_units.proofs.UnitAtLemmas.{counts}
+use Rattle.addr2line_units.proofs.UnitsAtLemmas.{counts}
 use Rattle.addr2line_units.proofs.units.Units.len.Goals as goal
 
 pub returns : goal.returns

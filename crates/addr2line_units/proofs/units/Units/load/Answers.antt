@@ -1,7 +1,7 @@
 use Rattle.addr2line_units.proofs.Common.{arith, rules, sym, scope_of}
-use Rattle.addr2line_units.proofs.CachedUnitLemmas.{entries_right}
-use Rattle.addr2line_units.proofs.StateLemmas.{load_there, waits_if_stored}
-use Rattle.addr2line_units.proofs.WaitLemmas.{as_many_views, views_of_entries, waiting_view, waits_within}
+use Rattle.addr2line_units.proofs.UnitsCachedLemmas.{entries_right}
+use Rattle.addr2line_units.proofs.UnitsStateLemmas.{load_there, waits_if_stored}
+use Rattle.addr2line_units.proofs.FramesWaitLemmas.{as_many_views, views_of_entries, waiting_view, waits_within}
 use Rattle.addr2line_units.proofs.units.Units.load.Goals as goal
 
 pub index-dw_unit-requires : goal.index-dw_unit-requires

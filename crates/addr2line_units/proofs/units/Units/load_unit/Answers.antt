@@ -1,8 +1,8 @@
 use Rattle.addr2line_units.proofs.Common.{arith, option_map, subst, sym, err_from_is_err_and, AreEntriesOf, as_stop, answers_in}
-use Rattle.addr2line_units.proofs.LoadLemmas.{exactly_this, unknown_load}
-use Rattle.addr2line_units.proofs.NumberLemmas.{fault_told, load_told, loaded_there, none_loaded, refused_there}
-use Rattle.addr2line_units.proofs.StateLemmas.{some_given}
-use Rattle.addr2line_units.proofs.UnitAtLemmas.{cache_within, its_entries, none_got, sections_seen, unit_got, units_with_entries}
+use Rattle.addr2line_units.proofs.LoadsLemmas.{exactly_this, unknown_load}
+use Rattle.addr2line_units.proofs.UnitsNumberLemmas.{fault_told, load_told, loaded_there, none_loaded, refused_there}
+use Rattle.addr2line_units.proofs.UnitsStateLemmas.{some_given}
+use Rattle.addr2line_units.proofs.UnitsAtLemmas.{cache_within, its_entries, none_got, sections_seen, unit_got, units_with_entries}
 use Rattle.addr2line_units.proofs.units.Units.load_unit.Goals as goal
 
 pub returns-in_default : goal.returns-in_default

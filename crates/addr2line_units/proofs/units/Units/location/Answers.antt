@@ -1,6 +1,6 @@
 use Rattle.addr2line_units.proofs.Common.{ap, ltb-false, ltb-true, refl, sym, ◌∙◌, slice_get_past, slice_get_read, location_of_row, cached_files, lines_in_cache, location_of_unit_row, scope_of}
-use Rattle.addr2line_units.proofs.CachedUnitLemmas.{lines_right}
-use Rattle.addr2line_units.proofs.StateLemmas.{files_are}
+use Rattle.addr2line_units.proofs.UnitsCachedLemmas.{lines_right}
+use Rattle.addr2line_units.proofs.UnitsStateLemmas.{files_are}
 use Rattle.addr2line_units.proofs.units.Units.location.Goals as goal
 
 pub returns-in-Some : goal.returns-in-Some

@@ -1,10 +1,10 @@
 use Rattle.addr2line_units.proofs.Common.{None, Ok, ap, arith, false, refl, subst, sym, ◌≡◌, OnOk, AreEntriesOf, as_stop, answers_in, is_open_at, load_of_number, scope_of, as_units_state, UnitsState}
 use Rattle.std.specs.Prelude.{IfOk}
-use Rattle.addr2line_units.specs.ListedLoads.{MarksLoad, if_new}
-use Rattle.addr2line_units.proofs.ListingLemmas.{listing_first, load_in}
-use Rattle.addr2line_units.proofs.LoadLemmas.{marks_none, no_load}
-use Rattle.addr2line_units.proofs.NumberLemmas.{listed_there, load_listed, shut_there}
-use Rattle.addr2line_units.proofs.UnitAtLemmas.{cache_within, its_entries, none_got, unit_got, units_with_entries}
+use Rattle.addr2line_units.specs.LoadsListed.{MarksLoad, if_new}
+use Rattle.addr2line_units.proofs.LoadsListingLemmas.{listing_first, load_in}
+use Rattle.addr2line_units.proofs.LoadsLemmas.{marks_none, no_load}
+use Rattle.addr2line_units.proofs.UnitsNumberLemmas.{listed_there, load_listed, shut_there}
+use Rattle.addr2line_units.proofs.UnitsAtLemmas.{cache_within, its_entries, none_got, unit_got, units_with_entries}
 use Rattle.addr2line_units.proofs.units.Units.new_load_at.Goals as goal
 
 pub returns-in_default : goal.returns-in_default

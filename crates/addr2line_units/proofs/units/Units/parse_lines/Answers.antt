@@ -1,5 +1,5 @@
 use Rattle.addr2line_units.proofs.Common.{subst, ◌<◌, ◌≤◌, err_from_is_err_and, CountsUnits}
-use Rattle.addr2line_units.proofs.LineWalkLemmas.{parse_fault, parse_fault_after, parsed_end, parsed_end_after, parsed_first, parsed_on}
+use Rattle.addr2line_units.proofs.LocationsWalkLemmas.{parse_fault, parse_fault_after, parsed_end, parsed_end_after, parsed_first, parsed_on}
 use Rattle.addr2line_units.proofs.units.Units.parse_lines.Goals as goal
 
 pub loop-number-init : goal.loop-number-init

@@ -1,5 +1,5 @@
 use Rattle.addr2line_units.proofs.Common.{CountsUnits, FindsNothing}
-use Rattle.addr2line_units.proofs.LineWalkLemmas.{ParsedSoFar}
+use Rattle.addr2line_units.proofs.LocationsWalkLemmas.{ParsedSoFar}
 use Rattle.addr2line_units.proofs.units.Units.parse_lines.Given as goal
 
 abbrev pub invariant-loop-number : goal.invariant-loop-number

@@ -1,5 +1,5 @@
 use Rattle.addr2line_units.proofs.Common.{rules, ranges_left}
-use Rattle.addr2line_units.proofs.ListingLemmas.{after_next, listed_first, listed_next}
+use Rattle.addr2line_units.proofs.LoadsListingLemmas.{after_next, listed_first, listed_next}
 use Rattle.addr2line_units.proofs.units.Units.preload.Goals as goal
 
 pub loop-range-init : goal.loop-range-init

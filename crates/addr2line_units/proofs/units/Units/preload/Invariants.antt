@@ -1,5 +1,5 @@
 use Rattle.addr2line_units.proofs.Common.{length, ranges_left}
-use Rattle.addr2line_units.proofs.ListingLemmas.{ListedSoFar}
+use Rattle.addr2line_units.proofs.LoadsListingLemmas.{ListedSoFar}
 use Rattle.addr2line_units.proofs.units.Units.preload.Given as goal
 
 abbrev pub invariant-loop-range : goal.invariant-loop-range

@@ -1,5 +1,5 @@
 use Rattle.addr2line_units.proofs.Common.{subst, err_from_is_err_and, CountsUnits}
-use Rattle.addr2line_units.proofs.ParseWalkLemmas.{read_fault, read_fault_after, read_fault_alone, read_first, read_last, read_last_after, read_on}
+use Rattle.addr2line_units.proofs.ParsesWalkLemmas.{read_fault, read_fault_after, read_fault_alone, read_first, read_last, read_last_after, read_on}
 use Rattle.addr2line_units.proofs.units.Units.read_functions.Goals as goal
 
 pub loop-number-init : goal.loop-number-init

@@ -1,5 +1,5 @@
 use Rattle.addr2line_units.proofs.Common.{CountsUnits, FindsNothing}
-use Rattle.addr2line_units.proofs.ParseWalkLemmas.{ReadSoFar}
+use Rattle.addr2line_units.proofs.ParsesWalkLemmas.{ReadSoFar}
 use Rattle.addr2line_units.proofs.units.Units.read_functions.Given as goal
 
 abbrev pub invariant-loop-number : goal.invariant-loop-number

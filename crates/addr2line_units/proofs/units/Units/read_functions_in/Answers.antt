@@ -1,7 +1,7 @@
 use Rattle.addr2line_units.proofs.Common.{Ok, arith, subst, sym, ExactlyUnlessOom, IsScope, AreEntriesOf, first_answer_of, as_stop, read_of_number, read_of_unit, UnitsState}
-use Rattle.addr2line_units.specs.AfterParses.{AfterReadingUnit}
-use Rattle.addr2line_units.proofs.ParseAtLemmas.{after_there, none_after, none_gives, reading_was}
-use Rattle.addr2line_units.proofs.UnitAtLemmas.{cache_within, its_entries, none_got, unit_got, units_with_entries}
+use Rattle.addr2line_units.specs.ParsesAfter.{AfterReadingUnit}
+use Rattle.addr2line_units.proofs.ParsesAtLemmas.{after_there, none_after, none_gives, reading_was}
+use Rattle.addr2line_units.proofs.UnitsAtLemmas.{cache_within, its_entries, none_got, unit_got, units_with_entries}
 use Rattle.addr2line_units.proofs.units.Units.read_functions_in.Goals as goal
 
 pub returns-in_default : goal.returns-in_default

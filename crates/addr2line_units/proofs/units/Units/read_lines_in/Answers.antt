@@ -1,7 +1,7 @@
 use Rattle.addr2line_units.proofs.Common.{Err, Ok, arith, false, slice_get, subst, sym, ◌≡◌, IfErr, ExactlyUnlessOom, lines_take_memory, as_stop, AreLinesOf, cached_lines, lines_result, lines_result_at, UnitsState}
-use Rattle.addr2line_units.proofs.LinesAtLemmas.{caching_after, none_after_caching, none_read, read_there}
-use Rattle.addr2line_units.proofs.UnitAtLemmas.{cache_within, its_lines, none_got, sections_seen, unit_got, units_with_lines}
-use Rattle.addr2line_units.proofs.UnitsLemmas.{answer_cached}
+use Rattle.addr2line_units.proofs.LocationsAtLemmas.{caching_after, none_after_caching, none_read, read_there}
+use Rattle.addr2line_units.proofs.UnitsAtLemmas.{cache_within, its_lines, none_got, sections_seen, unit_got, units_with_lines}
+use Rattle.addr2line_units.proofs.UnitsLinesLemmas.{answer_cached}
 use Rattle.addr2line_units.proofs.units.Units.read_lines_in.Goals as goal
 
 pub returns-in_default : goal.returns-in_default

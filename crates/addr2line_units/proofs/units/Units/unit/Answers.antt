@@ -1,9 +1,9 @@
 use Rattle.addr2line_units.proofs.Common.{ap, arith, option_map, rules, sym, ◌∙◌, ◌≡◌, as_stop, answers_in, unit_found, scope_of}
 use Rattle.addr2line_units.specs.declared.frames.FramesStop.TheVariants as stops
-use Rattle.addr2line_units.proofs.CachedUnitLemmas.{entries_right}
-use Rattle.addr2line_units.proofs.DecidedLemmas.{decided_view, decided_within, parts_at}
-use Rattle.addr2line_units.proofs.StateLemmas.{place_if_stored}
-use Rattle.addr2line_units.proofs.WaitLemmas.{as_many_views, views_of_entries}
+use Rattle.addr2line_units.proofs.UnitsCachedLemmas.{entries_right}
+use Rattle.addr2line_units.proofs.FramesDecidedLemmas.{decided_view, decided_within, parts_at}
+use Rattle.addr2line_units.proofs.UnitsStateLemmas.{place_if_stored}
+use Rattle.addr2line_units.proofs.FramesWaitLemmas.{as_many_views, views_of_entries}
 use Rattle.addr2line_units.proofs.units.Units.unit.Goals as goal
 
 pub index-dw_unit-requires : goal.index-dw_unit-requires

@@ -1,5 +1,5 @@
 use Rattle.addr2line_units.proofs.Common.{sym, err_from_is_err_and, ranges_left}
-use Rattle.addr2line_units.proofs.WalkedLemmas.{fault_after, fault_alone, stop_after, walked_on}
+use Rattle.addr2line_units.proofs.FramesWalkedLemmas.{fault_after, fault_alone, stop_after, walked_on}
 use Rattle.addr2line_units.proofs.units.Units.walk.Goals as goal
 
 pub returns-in_err-ask-clause-after : goal.returns-in_err-ask-clause-after

@@ -1,5 +1,5 @@
 use Rattle.addr2line_units.proofs.Common.{length, ranges_left}
-use Rattle.addr2line_units.proofs.WalkedLemmas.{Walked}
+use Rattle.addr2line_units.proofs.FramesWalkedLemmas.{Walked}
 use Rattle.addr2line_units.proofs.units.Units.walk.Given as goal
 
 abbrev pub invariant-loop-range : goal.invariant-loop-range

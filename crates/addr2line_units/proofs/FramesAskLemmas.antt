@@ -1,0 +1,202 @@
+-- What the units of a context are after one of them was asked (on specs/UnitsAfter.antt and
+-- specs/UnitsStored.antt).
+use Rattle.addr2line_units.proofs.Common.{◌≡◌, ◌≢◌, ◌⊎◌, inl, inr, ℕ, ◌<◌, ◌≤◌, ◌&&◌, ◌||◌, Bool, true, false, not, List, [], ◌∷◌, length, get_or, slice_get, Option, Some, None, Result, Ok, Err, refl, sym, ap, subst, ◌∙◌, arith, set, IfErr, Error, OutOfMemory, ◌>>=◌, ExactlyUnlessOom, WasNotRefused, Sections, UnitRecord, exceeds_inline_room, Scope, OnFault, FramesStop, UnitRange, UnitCache, AfterAsk, found_stop, stop_at, functions_in_take_memory, lines_of_take_memory, lines_take_memory, AreEntriesOf, AreFramesIn, AsksNoMemoryIn, ReadsEntriesOf, StayEntries, first_answer_of, frames_of_place, has_entries, AreFoundAt, IsLendable, IsStopIn, found_after_fault, frames_found_at, has_frames_at, as_stop, stop_of_found, StaysUnit, StayUnits, indexed_unit, indexed_units, is_uncached, parsed_units, HaveEntriesOf, StayAllEntries, answers_in, has_entries_at, FindsNothing, LookupStop, after_fault, asks_lines_of, ends_lookup, function_offset_of, functions_of_take_memory, inlined_at_number, or_stop, known_in, knows_detail_at, has_parsed, AreUnits, as_units_state, FramesResult, asks_lines_in, frames_in, inlined_of_unit, IsFaultAt, UnitsState, asked_by, asks_no_memory_at, has_all_at, reads_no_memory_at}
+use Rattle.std.specs.Prelude.{IfOk, unwrap_or}
+use Rattle.addr2line_units.specs.declared.frames.FramesStop.TheVariants as stops
+use Rattle.addr2line_units.specs.declared.entries.UnitFrames.{UnitFrames}
+use Rattle.addr2line_units.proofs.UnitsCachedLemmas.{entries_set, reads_set, same_answers, stay_entries_set}
+use Rattle.addr2line_units.proofs.FramesFoundLemmas.{lendable_if_told}
+use Rattle.addr2line_units.proofs.FramesLookupLemmas.{gives_after, no_stop, oom_before, refused_before, stop_is, stop_there, there_after}
+use Rattle.addr2line_units.proofs.EntriesKnownLemmas.{known_is, known_unchanged}
+use Rattle.addr2line_units.proofs.EntriesLearnedLemmas.{detail_at, detail_set, detail_unchanged, entries_learn}
+use Rattle.addr2line_units.proofs.FramesNumberedLemmas.{asks_are, frames_are, frames_given, functions_take, known_then, lines_only, lines_take, many_are, none_known, nothing_at, offset_is, places_there, then_known, then_no_memory}
+use Rattle.addr2line_units.proofs.EntriesStayLemmas.{stays_known}
+use Rattle.addr2line_units.proofs.UnitsAtLemmas.{all_entries, as_many, cache_within, its_entries, unit_is}
+use Rattle.addr2line_units.proofs.UnitsLinesLemmas.{stay_indexed, stay_parsed, stay_set}
+use Rattle.addr2line_units.proofs.FramesWalkLemmas.{and_first, and_not}
+use Rattle.addr2line_units.proofs.LoadsLemmas.{slice_get_none}
+
+-- a range of the unit of a number
+abbrev range_of : ℕ → List UnitRange
+range_of n = record { unit = n; range = record { begin = 0; end = 0 } } ∷ []
+
+holds_alone : (h : Bool) (x : FramesResult) → h ≡ true → (h && (ends_lookup x || true)) ≡ true
+holds_alone h x e = by (ends_lookup x) h e
+  where
+    by : (b h : Bool) → h ≡ true → (h && (b || true)) ≡ true
+    by true true e = refl
+    by false true e = refl
+    by b false e = cc
+
+module _ {R : Type 0} {scope : Scope} {cs : List (UnitCache R)} {last : FramesStop} (i : AreUnits scope cs last) (probe n : ℕ) (steps : ℕ) (was : LookupStop) where
+  abbrev us : List UnitRecord
+  us = scope.file.units
+
+  abbrev d : Sections
+  d = scope.file.sections
+
+  abbrev old : UnitsState
+  old = as_units_state scope cs steps was
+
+  -- there is no unit of that number
+  module _ (none : slice_get us n ≡ None) where
+    past : length cs ≤ n
+    past = subst (λ m. m ≤ n) (as_many i) (slice_get_none us n none)
+
+    of_faults : (faults : OnFault) (r : FramesResult) → r ≡ Ok (Some []) → (after_fault faults r >>= or_stop n (Ok FindsNothing)) ≡ Ok FindsNothing
+    of_faults faults r e = ap (λ x. after_fault faults x >>= or_stop n (Ok FindsNothing)) e
+
+    pub none_gives : (faults : OnFault) → stop_at faults probe old n ≡ Ok FindsNothing
+    none_gives faults = of_faults faults _ (nothing_at scope probe us cs n past)
+
+    pub none_after : AfterAsk {X = Unit {0}} n probe (Ok tt) old (as_units_state scope cs steps FindsNothing)
+    none_after = record {
+      asked = record { scope = refl; units = refl; answers = refl; parsed = λ m e. e; known = λ m. record { at = λ p e. e; whole = λ k h. h }; only = λ m e. inl e; learns = λ m. inl refl; details = λ m o e. inl e; raised = omega arith };
+      ready = λ h. ap (λ b. b && (not (asks_lines_of scope (indexed_units us cs) (answers_in cs) probe n) || has_parsed (parsed_units cs) n)) (known_is probe cs n) ∙ none_known scope probe us cs n past;
+      memory = λ h. tt;
+      stop = tt;
+    }
+
+  module _ {u : UnitRecord} (there : slice_get us n ≡ Some u) where
+    module _ {c : UnitCache R} (at : c ≡ get_or cs n c) where
+      within : n < length cs
+      within = cache_within i n there
+
+      unit : u ≡ get_or us n u
+      unit = unit_is i n there
+
+      own : HaveEntriesOf scope us cs
+      own = all_entries i
+
+      module _ (w : UnitCache R) where
+        abbrev now_cs : List (UnitCache R)
+        now_cs = set cs n w
+
+        module _ (faults : OnFault) (result : Result UnitFrames Error) (gives : ExactlyUnlessOom (frames_of_place w.lines w.entries) result (frames_in scope (indexed_unit u c.lines) (first_answer_of c.entries) probe)) where
+          given : ExactlyUnlessOom (frames_found_at now_cs n) (found_after_fault faults result) (asked_by faults probe old n)
+          given = gives_after faults (frames_found_at now_cs n) result _ refl
+              (frames_given scope probe us cs n own within u c w unit at result gives)
+
+          of_found : (f : UnitFrames) → or_stop n (Ok FindsNothing) (frames_found_at now_cs n f) ≡ Ok (as_stop now_cs (found_stop n f))
+          of_found f = by (stop_of_found n f) refl
+            where
+              by : (o : Option FramesStop) → stop_of_found n f ≡ o → or_stop n (Ok FindsNothing) (frames_found_at now_cs n f) ≡ Ok (as_stop now_cs (unwrap_or o stops.FindsNothing))
+              by None e = ap (or_stop n (Ok FindsNothing)) (no_stop now_cs n f e)
+              by (Some stop) e = stop_is now_cs n f stop (Ok FindsNothing) e
+
+          pub asked_ok : (f : UnitFrames) → found_after_fault faults result ≡ Ok f → stop_at faults probe old n ≡ Ok (as_stop now_cs (found_stop n f))
+          asked_ok f e =
+              ap (λ x. x >>= or_stop n (Ok FindsNothing)) (subst (λ q. ExactlyUnlessOom (frames_found_at now_cs n) q (asked_by faults probe old n)) e given) ∙ of_found f
+
+          pub asked_err : (x : Error) → found_after_fault faults result ≡ Err x → x ≢ OutOfMemory → stop_at faults probe old n ≡ Err x
+          asked_err x e ne = ap (λ y. y >>= or_stop n (Ok FindsNothing)) (subst (λ q. ExactlyUnlessOom (frames_found_at now_cs n) q (asked_by faults probe old n)) e given ne)
+
+          stop_right : IfOk result (AreFramesIn w.lines w.entries) → (f : UnitFrames) → found_after_fault faults result ≡ Ok f → IsStopIn now_cs (found_stop n f)
+          stop_right ok f e = by (stop_of_found n f) refl
+            where
+              places : IfOk result (AreFoundAt now_cs n)
+              places = places_there scope probe us cs n own within u c w unit at result ok
+
+              found : AreFoundAt now_cs n f
+              found = subst (λ q. IfOk q (AreFoundAt now_cs n)) e (there_after faults now_cs n result places)
+
+              by : (o : Option FramesStop) → stop_of_found n f ≡ o → IsStopIn now_cs (unwrap_or o stops.FindsNothing)
+              by None q = tt
+              by (Some stop) q = stop_there now_cs n f stop q found
+
+          -- what is known after it
+          module _ (stays : StaysUnit c.lines w.lines) (stay : StayEntries c.entries w.entries) (only : ReadsEntriesOf probe c.entries w.entries)
+              (lines : asks_lines_in scope u (first_answer_of c.entries) probe ≡ false → w.lines ≡ c.lines)
+              (ready : WasNotRefused result → has_entries probe w.entries ≡ true)
+              (parsed : WasNotRefused result → asks_lines_in scope u (first_answer_of c.entries) probe ≡ true → is_uncached w.lines.lines ≡ false)
+              (memory : has_entries probe w.entries ≡ true → (asks_lines_in scope u (first_answer_of c.entries) probe ≡ true → is_uncached w.lines.lines ≡ false) → exceeds_inline_room (inlined_of_unit scope u (first_answer_of c.entries) probe) ≡ false → WasNotRefused result) where
+            stay_lines : StayUnits cs now_cs
+            stay_lines = stay_set cs n c w within at stays
+
+            stay_entries : StayAllEntries cs now_cs
+            stay_entries = stay_entries_set cs n c w within at stay
+
+            units_same : indexed_units us now_cs ≡ indexed_units us cs
+            units_same = stay_indexed us cs now_cs stay_lines
+
+            answers_same : answers_in now_cs ≡ answers_in cs
+            answers_same = same_answers cs now_cs stay_entries
+
+            abbrev asks : ℕ → Bool
+            asks m = asks_lines_of scope (indexed_units us cs) (answers_in cs) probe m
+
+            known_there : WasNotRefused result → has_frames_at asks probe now_cs n ≡ true
+            known_there told = known_then scope probe us cs n own within u c w unit at (ready told) (parsed told)
+
+            -- what is stored can be lent
+            pub stop_lendable : AreEntriesOf scope u w.entries → IfOk result (AreFramesIn w.lines w.entries) → (f : UnitFrames) → found_after_fault faults result ≡ Ok f → IsLendable now_cs (found_stop n f)
+            stop_lendable entries ok f e =
+                lendable_if_told scope probe faults us now_cs (indexed_units us cs) (answers_in cs) asks (range_of n) (Ok (found_stop n f)) (entries_set scope us cs n u w unit own entries)
+                (sym units_same) (sym answers_same) (stop_right ok f e) (asked_ok f e)
+                (λ _. holds_alone (has_frames_at asks probe now_cs n) (asked_by faults probe old n) (known_there (oom_before faults result (subst WasNotRefused (sym e) tt))))
+
+            module _ (now : ℕ) (raised : steps ≤ now) (stop : LookupStop) where
+              abbrev new : UnitsState
+              new = as_units_state scope now_cs now stop
+
+              all_is : has_all_at probe new n ≡ has_frames_at asks probe now_cs n
+              all_is =
+                  ap (λ b. b && (not (asks_lines_of scope (indexed_units us now_cs) (answers_in now_cs) probe n) || has_parsed (parsed_units now_cs) n)) (known_is probe now_cs n)
+                  ∙ ap (λ xs. has_entries_at probe now_cs n && (not (asks_lines_of scope xs (answers_in now_cs) probe n) || has_parsed (parsed_units now_cs) n)) units_same
+                  ∙ ap (λ a. has_entries_at probe now_cs n && (not (asks_lines_of scope (indexed_units us cs) a probe n) || has_parsed (parsed_units now_cs) n)) answers_same
+
+              many_is : exceeds_inline_room (inlined_at_number scope (indexed_units us now_cs) (answers_in now_cs) probe n) ≡ exceeds_inline_room (inlined_of_unit scope u (first_answer_of c.entries) probe)
+              many_is =
+                  ap (λ xs. exceeds_inline_room (inlined_at_number scope xs (answers_in now_cs) probe n)) units_same
+                  ∙ ap (λ a. exceeds_inline_room (inlined_at_number scope (indexed_units us cs) a probe n)) answers_same
+                  ∙ many_are scope probe us cs n own within u c w unit at
+
+              -- where the lookup takes no memory there, a refusal is the fault of the unit
+              pub refused_alone : (shares : Bool) → (AsksNoMemoryIn shares scope u (first_answer_of c.entries) probe w.lines w.entries → IfErr result (λ e. frames_in scope (indexed_unit u c.lines) (first_answer_of c.entries) probe ≡ Err e))
+                  → (x : Error) → found_after_fault faults result ≡ Err x → asks_no_memory_at shares probe new n ≡ true → IsFaultAt probe old n x
+              refused_alone shares alone x e none =
+                  frames_are scope probe us cs n own within u c w unit at
+                  ∙ subst (λ q. IfErr q (λ y. frames_in scope (indexed_unit u c.lines) (first_answer_of c.entries) probe ≡ Err y)) (refused_before faults result x e)
+                  (alone (then_no_memory scope probe us cs n own within u c w unit at shares (sym none_is ∙ and_first _ _ none) (sym many_is ∙ and_not _ _ none)))
+                where
+                  none_is : reads_no_memory_at shares probe new n ≡ ((has_entries_at probe now_cs n || not (functions_in_take_memory shares scope u (first_answer_of c.entries)))
+                      && (not (asks_lines_in scope u (first_answer_of c.entries) probe) || (has_parsed (parsed_units now_cs) n || not (lines_take_memory shares u))))
+                  none_is =
+                      ap (λ b. (b || not (functions_of_take_memory shares scope (indexed_units us now_cs) (answers_in now_cs) n)) && (not (asks_lines_of scope (indexed_units us now_cs) (answers_in now_cs) probe n) || (has_parsed (parsed_units now_cs) n || not (lines_of_take_memory shares (indexed_units us now_cs) n)))) (known_is probe now_cs n)
+                      ∙ ap (λ xs. (has_entries_at probe now_cs n || not (functions_of_take_memory shares scope xs (answers_in now_cs) n)) && (not (asks_lines_of scope xs (answers_in now_cs) probe n) || (has_parsed (parsed_units now_cs) n || not (lines_of_take_memory shares xs n)))) units_same
+                      ∙ ap (λ a. (has_entries_at probe now_cs n || not (functions_of_take_memory shares scope (indexed_units us cs) a n)) && (not (asks_lines_of scope (indexed_units us cs) a probe n) || (has_parsed (parsed_units now_cs) n || not (lines_of_take_memory shares (indexed_units us cs) n)))) answers_same
+                      ∙ ap (λ b. (has_entries_at probe now_cs n || not b) && (not (asks n) || (has_parsed (parsed_units now_cs) n || not (lines_of_take_memory shares (indexed_units us cs) n)))) (functions_take scope probe us cs n own within u c w unit at shares)
+                      ∙ ap (λ b. (has_entries_at probe now_cs n || not (functions_in_take_memory shares scope u (first_answer_of c.entries))) && (not b || (has_parsed (parsed_units now_cs) n || not (lines_of_take_memory shares (indexed_units us cs) n)))) (asks_are scope probe us cs n own within u c w unit at)
+                      ∙ ap (λ b. (has_entries_at probe now_cs n || not (functions_in_take_memory shares scope u (first_answer_of c.entries))) && (not (asks_lines_in scope u (first_answer_of c.entries) probe) || (has_parsed (parsed_units now_cs) n || not b))) (lines_take scope probe us cs n own within u c w unit at shares)
+
+              details_there : AreEntriesOf scope u w.entries → (m : ℕ) → m ≡ n → (offset : ℕ) → knows_detail_at (known_in now_cs) offset m ≡ true → (knows_detail_at (known_in cs) offset m ≡ true) ⊎ (function_offset_of scope (indexed_units us cs) (answers_in cs) probe m ≡ Some offset)
+              details_there right m is offset e = elim (entries_learn scope u probe offset c.entries w.entries (its_entries i n there at) right stay only.alone (sym (detail_set cs n c w within at offset m is) ∙ e)) [
+                | inl h ↦ inl (detail_at cs n c w within at offset m is ∙ h)
+                | inr h ↦ inr (ap (function_offset_of scope (indexed_units us cs) (answers_in cs) probe) is ∙ offset_is scope probe us cs n own within u c w unit at ∙ h)
+              ]
+
+              pub after_asked : {X : Type 0} (q : Result X Error) → AreEntriesOf scope u w.entries → (WasNotRefused q → WasNotRefused result) → (WasNotRefused result → WasNotRefused q) → IfErr q (λ _. stop ≡ FindsNothing) → AfterAsk n probe q old new
+              after_asked q right before then stored = record {
+                asked = record {
+                  scope = refl;
+                  units = units_same;
+                  answers = answers_same;
+                  parsed = stay_parsed cs now_cs stay_lines;
+                  known = stays_known cs now_cs stay_entries;
+                  only = lines_only scope probe us cs n own within u c w unit at lines;
+                  learns = λ m. elim (reads_set probe cs n c w at only m) [
+                    | inl e ↦ inl (known_unchanged cs now_cs m e)
+                    | inr x ↦ inr x.0
+                  ];
+                  details = λ m offset e. elim (reads_set probe cs n c w at only m) [
+                    | inl same ↦ inl (detail_unchanged cs now_cs offset m same e)
+                    | inr x ↦ details_there right m x.0 offset e
+                  ];
+                  raised = raised;
+                };
+                stop = stored;
+                ready = λ told. all_is ∙ known_there (before told);
+                memory = λ few.
+                    let both = then_known scope probe us cs n own within u c w unit at (sym all_is ∙ and_first _ _ few) in
+                    then (memory both.0 both.1 (sym many_is ∙ and_not _ _ few));
+              }

@@ -1,0 +1,155 @@
+-- Least begins beside ranges (on specs/IndexLeastBegins.antt).
+use Rattle.addr2line_units.proofs.Common.{ℕ, ◌≡◌, ◌-◌, ◌<◌, ◌≤◌, Bool, true, false, cond, ◌&&◌, nat_le, nat_lt, nat_cmp, leb, min, List, [], ◌∷◌, ◌++◌, Result, Ok, map, length, take, drop, reverse, arith, ◌∙◌, ap, sym, subst, refl, zero, suc, AllByRecursion, IsNonDecreasingBy, IsPartitionPoint, nat_tests, reverse-append, take_all, Error, IsInOrder, in_order, in_order_ordered, UnitRange}
+use Rattle.std.specs.List.{filter}
+use Rattle.std.specs.Ordering.{is_lt, ordering_then}
+use Rattle.std.proofs.lemmas.List.{append-nil, append_assoc, length-drop}
+use Rattle.addr2line_lines.proofs.SeekLemmas.{Up, non_decreasing}
+use Rattle.addr2line_lines.specs.LastAddress.{last_address}
+use Rattle.addr2line_units.specs.declared.index.IndexedRange.{IndexedRange}
+use Rattle.addr2line_units.specs.IndexCover.{ends_sooner}
+use Rattle.addr2line_units.specs.IndexLeastBegins.{AreIndexed, AreLeastBegins, EndFits, range_begins_by, is_between, least_begin, unit_range_of, with_least_begins}
+use Rattle.addr2line_units.proofs.IndexLemmas.{ends_order}
+
+-- the ranges that were taken from the end, and what was made of them
+pub record IsMade (all left : List UnitRange) (made : List IndexedRange) (least : ℕ) : Type 0 where
+  pub taken : List UnitRange
+  pub all_are : left ++ taken ≡ all
+  pub made_are : made ≡ reverse (with_least_begins taken)
+  pub least_is : least ≡ least_begin taken
+  pub fit : AllByRecursion EndFits taken
+
+pub none_made : (all : List UnitRange) → IsMade all all [] last_address
+none_made all = record { taken = []; all_are = append-nil all; made_are = refl; least_is = refl; fit = tt }
+
+pub one_made : (all left rest : List UnitRange) (made : List IndexedRange) (least : ℕ) (x : UnitRange) → IsMade all left made least → left ≡ rest ++ x ∷ []
+    → (y : IndexedRange) → y.unit_range ≡ x → y.least_begin ≡ min least x.range.begin → EndFits x → IsMade all rest (made ++ y ∷ []) y.least_begin
+one_made all left rest made least x h e y same is small =
+    let now : y.least_begin ≡ min (least_begin h.taken) x.range.begin = is ∙ ap (λ m. min m x.range.begin) h.least_is in
+    let last : IndexedRange = record { unit_range = x; least_begin = min (least_begin h.taken) x.range.begin } in
+    record {
+      taken = x ∷ h.taken;
+      all_are = sym (append_assoc rest (x ∷ []) h.taken) ∙ ap (λ xs. xs ++ h.taken) (sym e) ∙ h.all_are;
+      made_are = ap (λ z. made ++ z ∷ []) (parts_are y last same now) ∙ ap (λ xs. xs ++ last ∷ []) h.made_are ∙ sym (reverse-append (last ∷ []) (with_least_begins h.taken));
+      least_is = now;
+      fit = (small, h.fit);
+    }
+  where
+    parts_are : (y z : IndexedRange) → y.unit_range ≡ z.unit_range → y.least_begin ≡ z.least_begin → y ≡ z
+    parts_are y z e f = ap (λ (r : UnitRange). record { unit_range = r; least_begin = y.least_begin }) e ∙ ap (λ n. record { unit_range = z.unit_range; least_begin = n }) f
+
+-- once none is left, all were taken
+pub all_fit : (all left : List UnitRange) (made : List IndexedRange) (least : ℕ) → left ≡ [] → IsMade all left made least → AllByRecursion EndFits all
+all_fit all left made least e h = subst (AllByRecursion EndFits) (sym (ap (λ xs. xs ++ h.taken) e) ∙ h.all_are) h.fit
+
+-- what stands beside ranges with their least begins
+pub ranges_beside : (ranges : List UnitRange) → map unit_range_of (with_least_begins ranges) ≡ ranges
+ranges_beside [] = refl
+ranges_beside (r ∷ ranges) = ap (λ xs. r ∷ xs) (ranges_beside ranges)
+
+-- the least begins of later ranges are right where those of all are
+pub later_least : (x : IndexedRange) (xs : List IndexedRange) → AreLeastBegins (x ∷ xs) → AreLeastBegins xs
+later_least x xs h = cc
+
+pub dropped_least : (n : ℕ) (xs : List IndexedRange) → AreLeastBegins xs → AreLeastBegins (drop n xs)
+dropped_least zero xs h = h
+dropped_least (suc n) [] h = h
+dropped_least (suc n) (x ∷ xs) h = dropped_least n xs (later_least x xs h)
+
+-- a slice from a place on is what is left from there on
+pub rest_is : {X : Type 0} (n : ℕ) (ys xs : List X) → ys ≡ xs → take (length ys - n) (drop n ys) ≡ drop n xs
+rest_is n ys xs e = let left = length-drop n ys in take_all (length ys - n) (drop n ys) (omega arith) ∙ ap (drop n) e
+
+-- where the least begin is past the last address of a search, none begins at or below it
+none_by : (last : ℕ) (ranges : List UnitRange) → last < least_begin ranges → filter (range_begins_by last) ranges ≡ []
+none_by last [] h = refl
+none_by last (r ∷ ranges) h =
+    ap (λ b. cond b (r ∷ filter (range_begins_by last) ranges) (filter (range_begins_by last) ranges)) (late r.range.begin (least_begin ranges) h) ∙ none_by last ranges (rest r.range.begin (least_begin ranges) h)
+  where
+    late : (b m : ℕ) → last < min m b → nat_le b last ≡ false
+    late b m l = grind (arith, nat_tests)
+
+    rest : (b m : ℕ) → last < min m b → last < m
+    rest b m l = omega arith
+
+pub all_late : (last : ℕ) (x : IndexedRange) (xs : List IndexedRange) → AreLeastBegins (x ∷ xs) → last < x.least_begin → filter (range_begins_by last) (map unit_range_of (x ∷ xs)) ≡ []
+all_late last x xs least h =
+    let is : x.least_begin ≡ least_begin (map unit_range_of (x ∷ xs)) = ap (first_least x.least_begin) least in
+    none_by last (map unit_range_of (x ∷ xs)) (omega arith)
+  where
+    first_least : ℕ → List IndexedRange → ℕ
+    first_least d [] = d
+    first_least d (y ∷ ys) = y.least_begin
+
+-- in order the ends don't fall
+later_ends : (x : UnitRange) (xs : List IndexedRange) → AllByRecursion (λ y. ends_sooner y x ≡ false) (map unit_range_of xs) → AllByRecursion (λ (y : IndexedRange). x.range.end ≤ y.unit_range.range.end) xs
+later_ends x [] all = tt
+later_ends x (y ∷ ys) all = (of_numbers y.unit_range.range.end y.unit_range.unit y.unit_range.range.begin x.range.end x.unit x.range.begin all.0, later_ends x ys all.1)
+  where
+    of_numbers : (a b c d e f : ℕ) → is_lt (ordering_then (nat_cmp a d) (ordering_then (nat_cmp b e) (nat_cmp c f))) ≡ false → d ≤ a
+    of_numbers a b c d e f h = grind (arith, nat_tests)
+
+ends_up : (xs : List IndexedRange) → IsInOrder ends_sooner (map unit_range_of xs) → Up (λ (y : IndexedRange). y.unit_range.range.end) xs
+ends_up [] up = tt
+ends_up (x ∷ xs) up = (later_ends x.unit_range xs up.0, ends_up xs up.1)
+
+abbrev pub EndsRise : List IndexedRange → Type 0
+EndsRise xs = IsNonDecreasingBy (λ (y : IndexedRange). y.unit_range.range.end) xs
+
+pub ends_rise : (xs : List IndexedRange) → IsInOrder ends_sooner (map unit_range_of xs) → EndsRise xs
+ends_rise xs up = non_decreasing (λ (y : IndexedRange). y.unit_range.range.end) xs (ends_up xs up)
+
+-- whether a range ends at or below low
+abbrev pub ends_by : ℕ → IndexedRange → Bool
+ends_by low y = leb y.unit_range.range.end low
+
+-- from the first range on that ends past low, those that begin at or below the last address
+from_point : (low last : ℕ) (xs : List IndexedRange) (n : ℕ) → n ≤ length xs → IsPartitionPoint (λ y. ends_by low y ≡ true) (λ y. ends_by low y ≡ false) xs n
+    → filter (range_begins_by last) (map unit_range_of (drop n xs)) ≡ filter (is_between low last) (map unit_range_of xs)
+from_point low last [] zero le h = refl
+from_point low last [] (suc n) le h = refl
+from_point low last (x ∷ xs) zero le h =
+    ap (λ ys. cond (range_begins_by last x.unit_range) (x.unit_range ∷ ys) ys) (from_point low last xs zero (omega arith) ((λ k d from l. absurd (omega arith)), (λ k d from l. h.1 (suc k) d (omega arith) (omega arith))))
+    ∙ sym (ap (λ b. cond b (x.unit_range ∷ filter (is_between low last) (map unit_range_of xs)) (filter (is_between low last) (map unit_range_of xs))) (past x.unit_range.range.begin x.unit_range.range.end (h.1 0 x (omega arith) (omega arith))))
+  where
+    past : (b e : ℕ) → leb e low ≡ false → (nat_lt low e && nat_le b last) ≡ nat_le b last
+    past b e l = grind (arith, nat_tests)
+from_point low last (x ∷ xs) (suc n) le h =
+    from_point low last xs n (omega arith) ((λ k d from l. h.0 (suc k) d (omega arith) (omega arith)), (λ k d from l. h.1 (suc k) d (omega arith) (omega arith)))
+    ∙ sym (ap (λ b. cond b (x.unit_range ∷ filter (is_between low last) (map unit_range_of xs)) (filter (is_between low last) (map unit_range_of xs))) (before x.unit_range.range.begin x.unit_range.range.end (h.0 0 x (omega arith) (omega arith))))
+  where
+    before : (b e : ℕ) → leb e low ≡ true → (nat_lt low e && nat_le b last) ≡ false
+    before b e l = grind (arith, nat_tests)
+
+pub found_from : (low last : ℕ) (items xs ys : List IndexedRange) (n : ℕ) → xs ≡ items → ys ≡ items → n ≤ length xs → IsPartitionPoint (λ y. ends_by low y ≡ true) (λ y. ends_by low y ≡ false) xs n
+    → filter (range_begins_by last) (map unit_range_of (take (length ys - n) (drop n ys))) ≡ filter (is_between low last) (map unit_range_of items)
+found_from low last items xs ys n e f le h =
+    ap (λ zs. filter (range_begins_by last) (map unit_range_of zs)) (rest_is n ys items f)
+    ∙ ap (λ zs. filter (range_begins_by last) (map unit_range_of (drop n zs))) (sym e)
+    ∙ from_point low last xs n le h
+    ∙ ap (λ zs. filter (is_between low last) (map unit_range_of zs)) e
+
+-- the table of ranges that were put in order
+ok_is : (xs ys : List IndexedRange) → ◌≡◌ {A = Result (List IndexedRange) Error} (Ok xs) (Ok ys) → ys ≡ xs
+ok_is xs ys e = cc
+
+pub given_is : (listed ordered : List UnitRange) (made : List IndexedRange) → ordered ≡ in_order ends_sooner listed → ◌≡◌ {A = Result (List IndexedRange) Error} (Ok (with_least_begins ordered)) (Ok made) → in_order ends_sooner listed ≡ map unit_range_of made
+given_is listed ordered made e h = sym e ∙ sym (ranges_beside ordered) ∙ sym (ap (map unit_range_of) (ok_is _ _ h))
+
+pub indexed_is : (listed ordered : List UnitRange) (made : List IndexedRange) → ordered ≡ in_order ends_sooner listed → ◌≡◌ {A = Result (List IndexedRange) Error} (Ok (with_least_begins ordered)) (Ok made) → AllByRecursion EndFits ordered → AreIndexed listed made
+indexed_is listed ordered made e h fit =
+    let is = given_is listed ordered made e h in
+    record {
+      sorted = sym is;
+      ordered = subst (IsInOrder ends_sooner) is (in_order_ordered ends_sooner ends_order listed);
+      least = ok_is _ _ h ∙ ap with_least_begins (e ∙ is);
+      fit = subst (AllByRecursion EndFits) (e ∙ is) fit;
+    }
+
+-- no range ends past the greatest address
+pub none_past_greatest : (low last : ℕ) → low ≡ last_address → (ranges : List UnitRange) → AllByRecursion EndFits ranges → filter (is_between low last) ranges ≡ []
+none_past_greatest low last e [] fit = refl
+none_past_greatest low last e (r ∷ ranges) fit =
+    ap (λ b. cond b (r ∷ filter (is_between low last) ranges) (filter (is_between low last) ranges)) (of_numbers r.range.begin r.range.end fit.0) ∙ none_past_greatest low last e ranges fit.1
+  where
+    of_numbers : (b d : ℕ) → d ≤ last_address → (nat_lt low d && nat_le b last) ≡ false
+    of_numbers b d h = grind (arith, nat_tests)

@@ -1,0 +1,162 @@
+-- Answers to the loads of units, and what is cached of their entries (on specs/EntriesCached.antt).
+use Rattle.addr2line_units.proofs.Common.{◌≡◌, ◌≢◌, ℕ, zero, suc, ◌<◌, Bool, true, false, List, [], ◌∷◌, length, get_or, slice_get, arith, Option, Some, None, Result, Ok, Err, ap, refl, sym, ◌∙◌, set, set-get_or, IfErr, OnOk, Error, OutOfMemory, Sections, UnitRecord, Scope, LazyFunctions, UnitCache, UnitEntries, UnitView, ViewState, answer_of, with_answer, AreEntriesOf, StayEntries, first_answer_of, AreFunctionsOf, were_read, StayAllEntries, answers_in, decided_at, IsViewOf, is_decided, answer_of_view, verdict_in, waits, was_checked, FirstAnswers, View, decided_answer, is_open, verdict, view_scope}
+use Rattle.std.specs.Prelude.{IfOk, IfSome, is_none, is_some, if◌then◌else◌}
+use Rattle.addr2line_units.specs.declared.entries.LazyFunctions.TheVariants as lazy
+use Rattle.addr2line_units.specs.declared.unit.ViewState.TheVariants as states
+use Rattle.addr2line_units.proofs.UnitsCachedLemmas.{stay_entries_set}
+
+-- what waits isn't decided
+pub waiting_is_undecided : {R : Type 0} (s : ViewState R) → waits s ≡ true → is_decided s ≡ false
+waiting_is_undecided states.Undecided e = refl
+waiting_is_undecided states.Open e = refl
+waiting_is_undecided states.Main e = absurd cc
+waiting_is_undecided (states.Unnamed x) e = absurd cc
+waiting_is_undecided (states.Answered a) e = absurd cc
+
+pub unread_are : {R : Type 0} (scope : Scope) (u : UnitRecord) (f : LazyFunctions R) → were_read f ≡ false → AreFunctionsOf scope u f
+unread_are scope u lazy.Unread e = tt
+unread_are scope u lazy.Absent e = absurd cc
+unread_are scope u (lazy.Read t) e = absurd cc
+unread_are scope u (lazy.Faulty x) e = absurd cc
+
+-- where no functions were read the view is all that is cached
+pub unread_entries : {R : Type 0} (scope : Scope) (u : UnitRecord) (v : UnitView R) (f : LazyFunctions R) → IsViewOf scope.file.sections u v → were_read f ≡ false
+    → AreEntriesOf scope u (record { view = v; functions = f })
+unread_entries {R} scope u v f h e = record { view = h; functions = by (verdict scope.file.sections u (answer_of_view v)); unread = λ k. e }
+  where
+    by : (w : Option (Result View Error)) → IfSome w (λ view. IfOk view (λ x. AreFunctionsOf (view_scope scope x) x.unit f))
+    by None = tt
+    by (Some (Ok x)) = unread_are (view_scope scope x) x.unit f e
+    by (Some (Err x)) = tt
+
+-- a call that left the view as it was left all that is cached as it was
+pub same_entries : {R : Type 0} (r : Result (Unit {0}) Error) (v w : UnitView R) (f : LazyFunctions R) (x : UnitEntries R) (P : Type 0) → x ≡ record { view = w; functions = f }
+    → IfErr r (λ e. (e ≡ OutOfMemory) × (v ≡ w) × P) → IfErr r (λ e. (e ≡ OutOfMemory) × (record { view = v; functions = f } ≡ x) × P)
+same_entries (Ok a) v w f x P e h = tt
+same_entries (Err a) v w f x P e h = (h.0, ap (λ y. record { view = y; functions = f }) h.1 ∙ sym e, h.2)
+
+pub no_answer : {X : Type 0} (o : Option X) → is_some o ≡ false → o ≡ None
+no_answer None e = refl
+no_answer (Some x) e = absurd cc
+
+-- what was looked at waits where the unit is open
+pub checked_waits : {R : Type 0} (d : Sections) (u : UnitRecord) (v : UnitView R) → IsViewOf d u v → was_checked v.state ≡ true → waits v.state ≡ is_open d u (answer_of_view v)
+checked_waits {R} d u v h k = by v.state (verdict d u (answer_of_view v)) h.right k
+  where
+    by : (s : ViewState R) (w : Option (Result View Error)) → IfSome (verdict_in d u s) (λ cached. cached ≡ w) → was_checked s ≡ true → waits s ≡ is_none w
+    by states.Undecided w e l = absurd cc
+    by states.Open w e l = ap is_none e
+    by states.Main w e l = ap is_none e
+    by (states.Unnamed x) w e l = ap is_none e
+    by (states.Answered a) w e l = ap is_none e
+
+-- the answer of a unit after one more
+pub decided_if_open : (d : Sections) (u : UnitRecord) (answer : Option (Option Sections)) (given : Option Sections) → is_open d u answer ≡ true → decided_answer d u answer given ≡ Some given
+decided_if_open d u answer given e = ap (λ b. if b then Some given else answer) e
+
+pub decided_if_not : (d : Sections) (u : UnitRecord) (answer : Option (Option Sections)) (given : Option Sections) → is_open d u answer ≡ false → decided_answer d u answer given ≡ answer
+decided_if_not d u answer given e = ap (λ b. if b then Some given else answer) e
+
+pub decided_was_checked : {R : Type 0} (s : ViewState R) → is_decided s ≡ true → was_checked s ≡ true
+decided_was_checked states.Undecided e = absurd cc
+decided_was_checked states.Open e = absurd cc
+decided_was_checked states.Main e = refl
+decided_was_checked (states.Unnamed x) e = refl
+decided_was_checked (states.Answered a) e = refl
+
+pub decided_waits_not : {R : Type 0} (s : ViewState R) → is_decided s ≡ true → waits s ≡ false
+decided_waits_not states.Undecided e = absurd cc
+decided_waits_not states.Open e = absurd cc
+decided_waits_not states.Main e = refl
+decided_waits_not (states.Unnamed x) e = refl
+decided_waits_not (states.Answered a) e = refl
+
+-- whether the unit is open, by what waits after it was looked at
+pub open_by_check : {R : Type 0} (d : Sections) (u : UnitRecord) (v w : UnitView R) (b : Bool) → IsViewOf d u w → was_checked w.state ≡ true → answer_of_view w ≡ answer_of_view v → b ≡ waits w.state
+    → is_open d u (answer_of_view v) ≡ b
+open_by_check d u v w b h l same e = ap (λ a. is_open d u a) (sym same) ∙ sym (checked_waits d u w h l) ∙ sym e
+
+-- what was decided before a check of the split file doesn't wait after it
+pub never_waits : {R : Type 0} (v w : UnitEntries R) (b : Bool) → is_decided v.view.state ≡ true → (was_checked v.view.state ≡ true → w ≡ v) → b ≡ waits w.view.state → b ≡ true → ⊥
+never_waits v w b h same e t =
+    let f : waits w.view.state ≡ false = ap (λ x. waits x.view.state) (same (decided_was_checked v.view.state h)) ∙ decided_waits_not v.view.state h in
+    let k : true ≡ false = sym t ∙ e ∙ f in cc
+
+-- the first answer of the unit of a number
+pub answer_at : {R : Type 0} (vs : List (UnitCache R)) (n : ℕ) (v : UnitCache R) → n < length vs → v ≡ get_or vs n v → answer_of (answers_in vs) n ≡ first_answer_of v.entries
+answer_at [] n v h e = absurd (omega arith)
+answer_at (y ∷ vs) zero v h e = ap (λ (x : UnitCache _). first_answer_of x.entries) (sym e)
+answer_at (y ∷ vs) (suc n) v h e = answer_at vs n v (omega arith) e
+
+pub answers_set : {R : Type 0} (vs : List (UnitCache R)) (n : ℕ) (w : UnitCache R) → answers_in (set vs n w) ≡ set (answers_in vs) n (first_answer_of w.entries)
+answers_set [] n w = refl
+answers_set (y ∷ vs) zero w = refl
+answers_set (y ∷ vs) (suc n) w = ap (λ xs. first_answer_of y.entries ∷ xs) (answers_set vs n w)
+
+-- answers stay where that of one unit is set to what it was
+pub answers_stay : {R : Type 0} (vs : List (UnitCache R)) (n : ℕ) (v w : UnitCache R) → n < length vs → v ≡ get_or vs n v → first_answer_of w.entries ≡ first_answer_of v.entries → answers_in (set vs n w) ≡ answers_in vs
+answers_stay [] n v w h e k = absurd (omega arith)
+answers_stay (y ∷ vs) zero v w h e k = ap (λ x. x ∷ answers_in vs) (k ∙ ap (λ (z : UnitCache _). first_answer_of z.entries) e)
+answers_stay (y ∷ vs) (suc n) v w h e k = ap (λ xs. first_answer_of y.entries ∷ xs) (answers_stay vs n v w (omega arith) e k)
+
+pub got_unit : (us : List UnitRecord) (n : ℕ) (u : UnitRecord) → n < length us → u ≡ get_or us n u → slice_get us n ≡ Some u
+got_unit [] n u h e = absurd (omega arith)
+got_unit (x ∷ us) zero u h e = ap Some (sym e)
+got_unit (x ∷ us) (suc n) u h e = got_unit us n u (omega arith) e
+
+-- the answers of all units after one more of one unit
+pub answered_all : {R : Type 0} (d : Sections) (us : List UnitRecord) (vs : List (UnitCache R)) (n : ℕ) (u : UnitRecord) (v w : UnitCache R) (given : Option Sections) → n < length us → n < length vs
+    → u ≡ get_or us n u → v ≡ get_or vs n v → first_answer_of w.entries ≡ decided_answer d u (first_answer_of v.entries) given → answers_in (set vs n w) ≡ with_answer d us (answers_in vs) n given
+answered_all d us vs n u v w given h k e f new =
+    answers_set vs n w
+    ∙ ap (λ a. set (answers_in vs) n a) (new ∙ ap (λ a. decided_answer d u a given) (sym (answer_at vs n v k f)))
+    ∙ sym (ap (λ o. answers_by o) (got_unit us n u h e))
+  where
+    answers_by : Option UnitRecord → FirstAnswers
+    answers_by o = elim o [ None ↦ answers_in vs | Some x ↦ set (answers_in vs) n (decided_answer d x (answer_of (answers_in vs) n) given) ]
+
+-- the same after a call that may be refused
+pub answered_if_ok : {R : Type 0} (d : Sections) (us : List UnitRecord) (vs : List (UnitCache R)) (n : ℕ) (u : UnitRecord) (v w : UnitCache R) (given : Option Sections) (r : Result (Unit {0}) Error)
+    → n < length us → n < length vs → u ≡ get_or us n u → v ≡ get_or vs n v → OnOk r (first_answer_of w.entries ≡ decided_answer d u (first_answer_of v.entries) given) → OnOk r (answers_in (set vs n w) ≡ with_answer d us (answers_in vs) n given)
+answered_if_ok d us vs n u v w given (Ok x) h k e f new = answered_all d us vs n u v w given h k e f new
+answered_if_ok d us vs n u v w given (Err x) h k e f new = tt
+
+pub answers_if_refused : {R : Type 0} (vs : List (UnitCache R)) (n : ℕ) (v w : UnitCache R) (r : Result (Unit {0}) Error) (P : Type 0) → n < length vs → v ≡ get_or vs n v
+    → IfErr r (λ e. (e ≡ OutOfMemory) × StayEntries v.entries w.entries × P) → IfErr r (λ e. (e ≡ OutOfMemory) × (answers_in (set vs n w) ≡ answers_in vs) × StayAllEntries vs (set vs n w) × P)
+answers_if_refused vs n v w (Ok x) P h e same = tt
+answers_if_refused vs n v w (Err x) P h e same = (same.0, answers_stay vs n v w h e same.1.answer, stay_entries_set vs n v w h e same.1, same.2)
+
+-- the entries of other units are the same
+pub others_stay : {X : Type 0} (vs : List X) (n k : ℕ) (w : X) → k ≢ n → slice_get (set vs n w) k ≡ slice_get vs k
+others_stay [] n k w ne = refl
+others_stay (v ∷ vs) zero zero w ne = absurd (ne refl)
+others_stay (v ∷ vs) zero (suc k) w ne = refl
+others_stay (v ∷ vs) (suc n) zero w ne = refl
+others_stay (v ∷ vs) (suc n) (suc k) w ne = others_stay vs n k w (λ e. ne (ap suc e))
+
+-- nothing is new where an element is set to what it was
+pub same_set : {X : Type 0} (vs : List X) (n : ℕ) (v w : X) → v ≡ get_or vs n v → w ≡ v → set vs n w ≡ vs
+same_set vs n v w e same = ap (set vs n) (same ∙ e) ∙ set-get_or vs n v
+
+-- whether the unit of a number is decided, by what is cached of it
+pub decided_there : {R : Type 0} (vs : List (UnitCache R)) (n : ℕ) (v : UnitCache R) → v ≡ get_or vs n v → decided_at vs n ≡ true → is_decided v.entries.view.state ≡ true
+decided_there [] n v e h = absurd cc
+decided_there (y ∷ vs) zero v e h = ap (λ (x : UnitCache _). is_decided x.entries.view.state) e ∙ h
+decided_there (y ∷ vs) (suc n) v e h = decided_there vs n v e h
+
+pub decided_within : {R : Type 0} (vs : List (UnitCache R)) (n : ℕ) → decided_at vs n ≡ true → n < length vs
+decided_within [] n h = absurd cc
+decided_within (v ∷ vs) zero h = omega arith
+decided_within (v ∷ vs) (suc n) h = let k = decided_within vs n h in omega (arith, k)
+
+pub unit_same : (u v : UnitRecord) → ◌≡◌ {A = Option UnitRecord} (Some u) (Some v) → u ≡ v
+unit_same u v e = cc
+
+decided_set : {R : Type 0} (vs : List (UnitCache R)) (n : ℕ) (w : UnitCache R) → n < length vs → is_decided w.entries.view.state ≡ true → decided_at (set vs n w) n ≡ true
+decided_set [] n w h d = absurd (omega arith)
+decided_set (y ∷ vs) zero w h d = d
+decided_set (y ∷ vs) (suc n) w h d = decided_set vs n w (omega arith) d
+
+pub decided_if_ok : {R : Type 0} (vs : List (UnitCache R)) (n : ℕ) (w : UnitCache R) (r : Result (Unit {0}) Error) → n < length vs → OnOk r (is_decided w.entries.view.state ≡ true) → OnOk r (decided_at (set vs n w) n ≡ true)
+decided_if_ok vs n w (Ok x) h d = decided_set vs n w h d
+decided_if_ok vs n w (Err x) h d = tt

@@ -1,0 +1,209 @@
+-- Answers to the loads of units, and the loads that are listed (on specs/Loads.antt and
+-- specs/LoadsListed.antt).
+use Rattle.addr2line_units.proofs.Common.{◌≡◌, ℕ, zero, suc, ◌<◌, ◌≤◌, ◌==◌, ◌++◌, ◌||◌, ◌&&◌, not, cond, Bool, true, false, List, [], ◌∷◌, filter, length, get_or, slice_get, arith, subst, Option, Some, None, Result, Ok, Err, ap, refl, sym, ◌∙◌, set, Error, UnknownToken, ◌>>=◌, ExactlyUnlessOom, Section, Sections, UnitRecord, UnitCache, answer_of, with_answer, first_answer_of, answers_in, parts_or_fault, before_others, forget_result, is_of_other, load_of_number, load_result, unit_of_token, view_fault, FirstAnswers, SplitLoad, View, awaited_by, awaited_load, decided_answer, is_open, load_by, load_of_unit, split_name_of, verdict, verdict_by}
+use Rattle.std.proofs.lemmas.List.{append_assoc}
+use Rattle.std.specs.Option.{option_to_list}
+use Rattle.std.specs.Prelude.{IfSome, is_none, is_some, if◌then◌else◌}
+use Rattle.gimli.specs.declared.unit.DwoId.{DwoId}
+use Rattle.addr2line_units.specs.LoadsListed.{MarksLoad, MarksUnit, if_new, is_marked, is_new}
+use Rattle.addr2line_units.proofs.LoadsAnswerLemmas.{answer_at}
+
+-- a view with a unit has no fault
+pub no_view_fault : (w : Option (Result View Error)) (p : Sections × UnitRecord) → IfSome w (λ r. parts_or_fault r ≡ Ok p) → view_fault w ≡ Ok tt
+no_view_fault None p h = refl
+no_view_fault (Some (Ok v)) p h = refl
+no_view_fault (Some (Err e)) p h = absurd cc
+
+-- a number of no unit
+pub no_unit : (us : List UnitRecord) (n : ℕ) → slice_get us n ≡ None → unit_of_token us n ≡ Err UnknownToken
+no_unit us n e = by (slice_get us n) e
+  where
+    by : (o : Option UnitRecord) → o ≡ None → ◌≡◌ {A = Result UnitRecord Error} (elim o [ None ↦ Err UnknownToken | Some u ↦ Ok u ]) (Err UnknownToken)
+    by None k = refl
+    by (Some u) k = absurd cc
+
+pub this_unit : (us : List UnitRecord) (n : ℕ) (u : UnitRecord) → slice_get us n ≡ Some u → unit_of_token us n ≡ Ok u
+this_unit us n u e = by (slice_get us n) e
+  where
+    by : (o : Option UnitRecord) → o ≡ Some u → ◌≡◌ {A = Result UnitRecord Error} (elim o [ None ↦ Err UnknownToken | Some x ↦ Ok x ]) (Ok u)
+    by None k = absurd cc
+    by (Some x) k = let same : x ≡ u = cc in ap Ok same
+
+pub slice_get_none : {X : Type 0} (xs : List X) (n : ℕ) → slice_get xs n ≡ None → length xs ≤ n
+slice_get_none [] n e = omega arith
+slice_get_none (x ∷ xs) zero e = absurd cc
+slice_get_none (x ∷ xs) (suc n) e = let k = slice_get_none xs n e in omega (arith, k)
+
+pub unknown_load : (d : Sections) (us : List UnitRecord) (answers : FirstAnswers) (n : ℕ) (given : Option Sections) → slice_get us n ≡ None → load_result d us answers n given ≡ Err UnknownToken
+unknown_load d us answers n given e = ap (λ r. r >>= λ u. view_fault (verdict d u (decided_answer d u (answer_of answers n) given))) (no_unit us n e)
+
+pub unknown_forget : (us : List UnitRecord) (n : ℕ) → slice_get us n ≡ None → forget_result us n ≡ Err UnknownToken
+unknown_forget us n e = ap (λ r. r >>= λ _. Ok tt) (no_unit us n e)
+
+pub known_forget : (us : List UnitRecord) (n : ℕ) (u : UnitRecord) → slice_get us n ≡ Some u → forget_result us n ≡ Ok tt
+known_forget us n u e = ap (λ r. r >>= λ _. Ok tt) (this_unit us n u e)
+
+pub known_forget_within : (us : List UnitRecord) (n : ℕ) → n < length us → forget_result us n ≡ Ok tt
+known_forget_within us n h = by (slice_get us n) refl
+  where
+    by : (o : Option UnitRecord) → slice_get us n ≡ o → forget_result us n ≡ Ok tt
+    by None e = absurd (let k = slice_get_none us n e in omega (arith, h, k))
+    by (Some u) e = known_forget us n u e
+
+pub unknown_answer : (d : Sections) (us : List UnitRecord) (answers : FirstAnswers) (n : ℕ) (given : Option Sections) → slice_get us n ≡ None → with_answer d us answers n given ≡ answers
+unknown_answer d us answers n given e = by (slice_get us n) e
+  where
+    by : (o : Option UnitRecord) → o ≡ None → elim o [ None ↦ answers | Some u ↦ set answers n (decided_answer d u (answer_of answers n) given) ] ≡ answers
+    by None k = refl
+    by (Some u) k = absurd cc
+
+pub past_set : {X : Type 0} (xs : List X) (n : ℕ) (x : X) → length xs ≤ n → set xs n x ≡ xs
+past_set [] n x h = refl
+past_set (y ∷ xs) zero x h = absurd (omega (arith, h))
+past_set (y ∷ xs) (suc n) x h = ap (λ z. y ∷ z) (past_set xs n x (omega (arith, h)))
+
+answer_of_set : (answers : FirstAnswers) (n : ℕ) (a : Option (Option Sections)) → n < length answers → answer_of (set answers n a) n ≡ a
+answer_of_set [] n a h = absurd (omega (arith, h))
+answer_of_set (x ∷ answers) zero a h = refl
+answer_of_set (x ∷ answers) (suc n) a h = answer_of_set answers n a (omega (arith, h))
+
+-- the first answer of a unit after one more
+pub answer_after : (d : Sections) (us : List UnitRecord) (answers : FirstAnswers) (n : ℕ) (given : Option Sections) (u : UnitRecord) → slice_get us n ≡ Some u → n < length answers
+    → answer_of (with_answer d us answers n given) n ≡ decided_answer d u (answer_of answers n) given
+answer_after d us answers n given u e h = by (slice_get us n) e
+  where
+    by : (o : Option UnitRecord) → o ≡ Some u → answer_of (elim o [ None ↦ answers | Some x ↦ set answers n (decided_answer d x (answer_of answers n) given) ]) n ≡ decided_answer d u (answer_of answers n) given
+    by None k = absurd cc
+    by (Some x) k = let same : x ≡ u = cc in answer_of_set answers n _ h ∙ ap (λ y. decided_answer d y (answer_of answers n) given) same
+
+-- what an answer gives, by the fault of the view after it
+pub load_gives : (d : Sections) (us : List UnitRecord) (answers after : FirstAnswers) (n : ℕ) (given : Option Sections) (u : UnitRecord) → slice_get us n ≡ Some u → n < length answers
+    → after ≡ with_answer d us answers n given → load_result d us answers n given ≡ view_fault (verdict d u (answer_of after n))
+load_gives d us answers after n given u e h same =
+    ap (λ r. r >>= λ x. view_fault (verdict d x (decided_answer d x (answer_of answers n) given))) (this_unit us n u e)
+    ∙ ap (λ a. view_fault (verdict d u a)) (sym (ap (λ xs. answer_of xs n) same ∙ answer_after d us answers n given u e h))
+
+pub as_many_answers : {R : Type 0} (vs : List (UnitCache R)) → length (answers_in vs) ≡ length vs
+as_many_answers [] = refl
+as_many_answers (v ∷ vs) = ap suc (as_many_answers vs)
+
+-- the same by a call that gives the fault
+pub load_gives_within : {R : Type 0} (d : Sections) (us later : List UnitRecord) (vs ws : List (UnitCache R)) (n : ℕ) (given : Option Sections) (r : Result (Unit {0}) Error) → n < length us → length us ≡ length vs → later ≡ us
+    → answers_in ws ≡ with_answer d us (answers_in vs) n given → ((u : UnitRecord) → slice_get later n ≡ Some u → r ≡ view_fault (verdict d u (answer_of (answers_in ws) n))) → r ≡ load_result d us (answers_in vs) n given
+load_gives_within d us later vs ws n given r h many e same gives = by (slice_get us n) refl
+  where
+    by : (o : Option UnitRecord) → slice_get us n ≡ o → r ≡ load_result d us (answers_in vs) n given
+    by None k = absurd (let l = slice_get_none us n k in omega (arith, h, l))
+    by (Some u) k =
+        let m = as_many_answers vs in
+        gives u (ap (λ xs. slice_get xs n) e ∙ k) ∙ sym (load_gives d us (answers_in vs) (answers_in ws) n given u k (omega (arith, h, many, m)) same)
+
+pub exactly_this : {X : Type 0} (r given : Result X Error) → r ≡ given → ExactlyUnlessOom (λ x. x) r given
+exactly_this (Ok x) given e = sym e
+exactly_this (Err x) given e = λ ne. sym e
+
+-- the load that a unit waits for names its number
+abbrev unit_in : Option SplitLoad → ℕ
+unit_in None = 0
+unit_in (Some l) = l.unit
+
+pub awaited_unit : (d : Sections) (n : ℕ) (u : UnitRecord) (answer : Option (Option Sections)) (l : SplitLoad) → awaited_load d n u answer ≡ Some l → l.unit ≡ n
+unfolding load_of_unit
+awaited_unit d n u answer l e = by_id u.dwo_id (split_name_of d u) answer e
+  where
+    by_id : (id : Option DwoId) (name : Result (Option Section) Error) (a : Option (Option Sections)) → awaited_by (load_by d n u name id) a ≡ Some l → l.unit ≡ n
+    by_id None name a k = absurd cc
+    by_id (Some id) (Err x) a k = absurd cc
+    by_id (Some id) (Ok path) None k = sym (ap unit_in k)
+    by_id (Some id) (Ok path) (Some x) k = absurd cc
+
+-- a unit is open where it waits for a load
+pub open_awaits : (d : Sections) (n : ℕ) (u : UnitRecord) (answer : Option (Option Sections)) → is_open d u answer ≡ is_some (awaited_load d n u answer)
+unfolding load_of_unit
+open_awaits d n u answer = by_id u.dwo_id (split_name_of d u) answer
+  where
+    by_id : (id : Option DwoId) (name : Result (Option Section) Error) (a : Option (Option Sections)) → is_none (verdict_by d u (load_by d 0 u name id) a) ≡ is_some (awaited_by (load_by d n u name id) a)
+    by_id None name a = refl
+    by_id (Some id) (Err x) a = refl
+    by_id (Some id) (Ok path) None = refl
+    by_id (Some id) (Ok path) (Some x) = refl
+
+-- what waits waits for the load of its unit
+pub awaits_this : (d : Sections) (n : ℕ) (u : UnitRecord) (answer : Option (Option Sections)) (l : SplitLoad) → load_of_unit d n u ≡ Ok (Some l) → is_some (awaited_load d n u answer) ≡ true → awaited_load d n u answer ≡ Some l
+awaits_this d n u answer l e h = by answer (load_of_unit d n u) e h
+  where
+    by : (a : Option (Option Sections)) (r : Result (Option SplitLoad) Error) → r ≡ Ok (Some l) → is_some (awaited_by r a) ≡ true → awaited_by r a ≡ Some l
+    by None r k w = ap (λ y. awaited_by y None) k
+    by (Some a) (Err x) k w = absurd cc
+    by (Some a) (Ok None) k w = absurd cc
+    by (Some a) (Ok (Some x)) k w = absurd cc
+
+-- a load is listed where its unit isn't marked, and its unit is marked then
+module _ (marks : List Bool) (n : ℕ) where
+  pub not_new : (o : Option SplitLoad) → is_some o ≡ true → ((l : SplitLoad) → o ≡ Some l → l.unit ≡ n) → not (is_marked marks n) ≡ false → if_new marks o ≡ None
+  not_new None h own e = absurd cc
+  not_new (Some l) h own e = ap (λ b. if b then Some l else None) (ap (λ m. not (is_marked marks m)) (own l refl) ∙ e)
+
+  pub is_new_load : (l : SplitLoad) → l.unit ≡ n → not (is_marked marks n) ≡ true → if_new marks (Some l) ≡ Some l
+  is_new_load l own e = ap (λ b. if b then Some l else None) (ap (λ m. not (is_marked marks m)) own ∙ e)
+
+  pub marks_load : (now : List Bool) (o : Option SplitLoad) → is_some o ≡ true → ((l : SplitLoad) → o ≡ Some l → l.unit ≡ n) → MarksUnit n marks now → MarksLoad o marks now
+  marks_load now None h own e = absurd cc
+  marks_load now (Some l) h own e = subst (λ m. MarksUnit m marks now) (sym (own l refl)) e
+
+pub marks_none : (marks : List Bool) (o : Option SplitLoad) → o ≡ None → MarksLoad o marks marks
+marks_none marks o e = subst (λ x. MarksLoad x marks marks) (sym e) refl
+
+-- one more unit is marked
+both_or : (a b : Bool) → not (a || b) ≡ (not a && not b)
+both_or true b = refl
+both_or false b = refl
+
+pub filter_twice : {X : Type 0} (p r q : X → Bool) → ((x : X) → q x ≡ (r x && p x)) → (xs : List X) → filter p (filter r xs) ≡ filter q xs
+filter_twice p r q both [] = refl
+filter_twice {X} p r q both (x ∷ xs) = by (r x) (p x) refl (both x) (filter_twice p r q both xs)
+  where
+    by : (a b : Bool) → p x ≡ b → q x ≡ (a && b) → filter p (filter r xs) ≡ filter q xs → filter p (cond a (x ∷ filter r xs) (filter r xs)) ≡ cond (q x) (x ∷ filter q xs) (filter q xs)
+    by true true e f rest = ap (λ y. cond y (x ∷ filter p (filter r xs)) (filter p (filter r xs))) e ∙ ap (λ z. x ∷ z) rest ∙ sym (ap (λ y. cond y (x ∷ filter q xs) (filter q xs)) f)
+    by true false e f rest = ap (λ y. cond y (x ∷ filter p (filter r xs)) (filter p (filter r xs))) e ∙ rest ∙ sym (ap (λ y. cond y (x ∷ filter q xs) (filter q xs)) f)
+    by false b e f rest = rest ∙ sym (ap (λ y. cond y (x ∷ filter q xs) (filter q xs)) f)
+
+filter_all : {X : Type 0} (p : X → Bool) → ((x : X) → p x ≡ true) → (xs : List X) → filter p xs ≡ xs
+filter_all p all [] = refl
+filter_all p all (x ∷ xs) = ap (λ b. cond b (x ∷ filter p xs) (filter p xs)) (all x) ∙ ap (λ z. x ∷ z) (filter_all p all xs)
+
+pub none_marked : (loads : List SplitLoad) → filter (is_new []) loads ≡ loads
+none_marked loads = filter_all (is_new []) (λ x. refl) loads
+
+-- the loads that are new, the first of them in front
+next_listed : (o : Option SplitLoad) (old now : List Bool) (loads : List SplitLoad) → MarksLoad o old now → filter (is_new old) (before_others o loads) ≡ option_to_list (if_new old o) ++ filter (is_new now) loads
+next_listed None old now loads e = ap (λ m. filter (is_new m) loads) (sym e)
+next_listed (Some l) old now loads e = by (is_new old l) (filter_twice (is_new old) (is_of_other l.unit) (is_new now) (λ x. ap not (e x.unit) ∙ both_or (x.unit == l.unit) (is_marked old x.unit)) loads)
+  where
+    by : (b : Bool) → filter (is_new old) (filter (is_of_other l.unit) loads) ≡ filter (is_new now) loads
+        → cond b (l ∷ filter (is_new old) (filter (is_of_other l.unit) loads)) (filter (is_new old) (filter (is_of_other l.unit) loads)) ≡ option_to_list (if b then Some l else None) ++ filter (is_new now) loads
+    by true k = ap (λ z. l ∷ z) k
+    by false k = k
+
+-- the loads that are listed so far and those that are new make up all
+module _ (listed : List SplitLoad) (o : Option SplitLoad) (old now : List Bool) (loads all : List SplitLoad) where
+  pub listed_more : (found : Option SplitLoad) → found ≡ if_new old o → MarksLoad o old now → listed ++ filter (is_new old) (before_others o loads) ≡ all → (listed ++ option_to_list found) ++ filter (is_new now) loads ≡ all
+  listed_more found f m h =
+      append_assoc listed (option_to_list found) (filter (is_new now) loads)
+      ∙ ap (λ z. listed ++ z) (ap (λ z. option_to_list z ++ filter (is_new now) loads) f ∙ sym (next_listed o old now loads m)) ∙ h
+
+-- the load of the unit of a number, by what is cached of it
+pub load_there : {R : Type 0} (d : Sections) (us : List UnitRecord) (vs : List (UnitCache R)) (n : ℕ) (u : UnitRecord) (v : UnitCache R) → slice_get us n ≡ Some u → n < length vs → v ≡ get_or vs n v
+    → load_of_number d us (answers_in vs) n ≡ awaited_load d n u (first_answer_of v.entries)
+load_there d us vs n u v e h at = by (slice_get us n) e
+  where
+    by : (o : Option UnitRecord) → o ≡ Some u → elim o [ None ↦ None | Some x ↦ awaited_load d n x (answer_of (answers_in vs) n) ] ≡ awaited_load d n u (first_answer_of v.entries)
+    by None k = absurd cc
+    by (Some x) k = let same : x ≡ u = cc in ap (λ y. awaited_load d n y (answer_of (answers_in vs) n)) same ∙ ap (awaited_load d n u) (answer_at vs n v h at)
+
+pub no_load : (d : Sections) (us : List UnitRecord) (answers : FirstAnswers) (n : ℕ) → slice_get us n ≡ None → load_of_number d us answers n ≡ None
+no_load d us answers n e = by (slice_get us n) e
+  where
+    by : (o : Option UnitRecord) → o ≡ None → ◌≡◌ {A = Option SplitLoad} (elim o [ None ↦ None | Some x ↦ awaited_load d n x (answer_of answers n) ]) None
+    by None k = refl
+    by (Some x) k = absurd cc

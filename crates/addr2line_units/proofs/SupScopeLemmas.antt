@@ -1,0 +1,194 @@
+-- The units that references lead to in a context, and what is cached of their entries at first (on
+-- specs/UnitsIndexLaws.antt, specs/FramesLookup.antt and specs/UnitsCached.antt).
+use Rattle.addr2line_units.proofs.Common.{◌≡◌, ◌∙◌, ap, sym, refl, subst, Bool, true, false, List, [], ◌∷◌, ◌++◌, filter_map, map, Option, Some, None, option_map, is_some, IfSome, IfOk, Result, Ok, Err, if◌then◌else◌, DwLang, Error, Range, Costed, free, ◌>>=◌, result_map, UnitHeaderFields, Sections, SupSections, UnitRecord, unit_record_of, all_headers, read_all, AreInOrder, IsFileInOrder, IsScope, Scope, UnitArange, LazyFunctions, UnitCache, UnitEntries, ViewState, HaveLinesOf, indexed_units, main_scope, AreEntriesOf, AreFresh, first_answer_of, AreFunctionsOf, were_read, AreFreshOf, HaveEntriesOf, answers_in, answer_in, verdict_in, was_checked, by_abbreviations, units_of, aranges_in, indexed_of, unit_records, RangedUnit, listed_in_unit, is_type_unit, ranged_units, unit_ranges_from, unit_of_header, unless_faulty, FirstAnswers, View, verdict, view_scope}
+use Rattle.std.specs.Prelude.{option_to_list}
+use Rattle.std.specs.Result.{result_ok}
+use Rattle.gimli.proofs.HeaderOrder.{headers_in_order}
+use Rattle.addr2line_lines.proofs.UnitOrder.{kept_in_order, record_header, units_read}
+use Rattle.addr2line_units.specs.declared.entries.LazyFunctions.TheVariants as lazy
+use Rattle.addr2line_units.specs.declared.unit.ViewState.TheVariants as states
+use Rattle.addr2line_units.specs.UnitsIndex.{UnitIndex, index_units, sup_sections, sup_unit_of_header, sup_units}
+use Rattle.addr2line_units.proofs.LoadsAnswerLemmas.{unread_are}
+
+-- the unit of a header has it
+module _ (d : Sections) (aranges : List UnitArange) (h : UnitHeaderFields) (x : RangedUnit) where
+  of_given : (u : UnitRecord) → u.header ≡ h → (r : Result (Option DwLang × List Range) Error)
+      → ((r >>= λ y. Ok (record { indexed = record { unit = u; language = y.0 }; listed = y.1 })) >>= λ z. Ok (Some z)) ≡ Ok (Some x) → x.indexed.unit.header ≡ h
+  of_given u e (Err f) k = absurd cc
+  of_given u e (Ok y) k =
+      let same : ◌≡◌ {A = RangedUnit} (record { indexed = record { unit = u; language = y.0 }; listed = y.1 }) x = cc in
+      ap (λ (z : RangedUnit). z.indexed.unit.header) (sym same) ∙ e
+
+  of_record : (r : Result UnitRecord Error) → unit_record_of d h ≡ r → unless_faulty d aranges r ≡ Ok (Some x) → x.indexed.unit.header ≡ h
+  of_record (Err f) e k = absurd cc
+  of_record (Ok u) e k = of_given u (record_header d h u e) (listed_in_unit d aranges u) k
+
+  of_kind : (b : Bool) → (if b then free (Ok None) else by_abbreviations d h (unless_faulty d aranges (unit_record_of d h))).given ≡ Ok (Some x) → x.indexed.unit.header ≡ h
+  of_kind true k = absurd cc
+  of_kind false k = of_record (unit_record_of d h) refl k
+
+  ranged_header : (unit_of_header d aranges h).given ≡ Ok (Some x) → x.indexed.unit.header ≡ h
+  unfolding unit_of_header
+  ranged_header k = of_kind (is_type_unit h.unit_type) k
+
+-- so has one of a supplementary file
+sup_header : (d : Sections) (h : UnitHeaderFields) (u : UnitRecord) → (sup_unit_of_header d h).given ≡ Ok (Some u) → u.header ≡ h
+sup_header d h u k = of_record (unit_record_of d h) refl k
+  where
+    of_record : (r : Result UnitRecord Error) → unit_record_of d h ≡ r → ◌≡◌ {A = Result (Option UnitRecord) Error} (Ok (result_ok r)) (Ok (Some u)) → u.header ≡ h
+    of_record (Err f) e l = absurd cc
+    of_record (Ok v) e l =
+        let same : ◌≡◌ {A = UnitRecord} v u = cc in
+        record_header d h u (e ∙ ap (λ (w : UnitRecord). Ok w) same)
+
+-- the records of units, behind one name
+records_of : (units : List RangedUnit) → map (λ (u : RangedUnit). u.indexed.unit) units ≡ unit_records (map indexed_of units)
+records_of [] = refl
+records_of (u ∷ units) = ap (λ (us : List UnitRecord). u.indexed.unit ∷ us) (records_of units)
+
+map_same : (us : List UnitRecord) → map (λ u. u) us ≡ us
+map_same [] = refl
+map_same (u ∷ us) = ap (λ (vs : List UnitRecord). u ∷ vs) (map_same us)
+
+-- the units of headers without the memory that they take
+module _ {U : Type 0} (read : UnitHeaderFields → Costed (Option U)) where
+  abbrev kept : Result (List (Option U)) Error → Result (List U) Error
+  kept units = units >>= λ us. Ok (filter_map (λ u. u) us)
+
+  all_given : (headers : List (Result UnitHeaderFields Error)) → (units_of read headers).given ≡ units_read (λ h. (read h).given) headers
+  all_given [] = refl
+  all_given (Err e ∷ headers) = refl
+  all_given (Ok h ∷ headers) =
+      ap (λ q. (read h).given >>= λ unit. q >>= λ us. Ok (option_to_list unit ++ us)) (all_given headers)
+      ∙ of_unit (read h).given (map (λ x. x >>= λ y. (read y).given) headers)
+    where
+      of_both : (u : Option U) (q : Result (List (Option U)) Error) → (kept q >>= λ us. Ok (option_to_list u ++ us)) ≡ kept (result_map (λ us. u ∷ us) q)
+      of_both u (Err e) = refl
+      of_both None (Ok us) = refl
+      of_both (Some u) (Ok us) = refl
+
+      of_unit : (r : Result (Option U) Error) (rs : List (Result (Option U) Error)) → (r >>= λ unit. kept (read_all rs) >>= λ us. Ok (option_to_list unit ++ us)) ≡ kept (read_all (r ∷ rs))
+      of_unit (Err e) rs = refl
+      of_unit (Ok u) rs = of_both u (read_all rs)
+
+-- the units of the sections stand in order
+ranged_in_order : (d : Sections) (units : List RangedUnit) → ranged_units d ≡ Ok units → AreInOrder (unit_records (map indexed_of units))
+ranged_in_order d units e = of_aranges (aranges_in d.debug_aranges) e
+  where
+    of_aranges : (r : Result (List UnitArange) Error) → (r >>= λ aranges. (units_of (unit_of_header d aranges) (all_headers d.debug_info)).given) ≡ Ok units → AreInOrder (unit_records (map indexed_of units))
+    of_aranges (Err f) k = absurd cc
+    of_aranges (Ok aranges) k = subst (λ (us : List UnitRecord). AreInOrder us) (records_of units)
+        (kept_in_order (λ (u : RangedUnit). u.indexed.unit) (λ h. (unit_of_header d aranges h).given) (ranged_header d aranges) (all_headers d.debug_info) units (headers_in_order d.debug_info)
+        (sym (all_given (unit_of_header d aranges) (all_headers d.debug_info)) ∙ k))
+
+-- so do those of the supplementary file, if there is one
+sup_in_order : (sup : Option SupSections) (units : List UnitRecord) → sup_units sup ≡ Ok units → AreInOrder units
+sup_in_order None units e = subst (λ (us : List UnitRecord). AreInOrder us) (no_units e) tt
+  where
+    no_units : ◌≡◌ {A = Result (List UnitRecord) Error} (Ok []) (Ok units) → [] ≡ units
+    no_units k = cc
+sup_in_order (Some s) units e = subst (λ (us : List UnitRecord). AreInOrder us) (map_same units)
+    (kept_in_order (λ u. u) (λ h. (sup_unit_of_header (sup_sections s) h).given) (sup_header (sup_sections s)) (all_headers s.debug_info) units (headers_in_order s.debug_info)
+    (sym (all_given (sup_unit_of_header (sup_sections s)) (all_headers s.debug_info)) ∙ e))
+
+-- the units of a context stand in order, and those of the supplementary file
+module _ (d : Sections) (m : UnitIndex) where
+  index : List RangedUnit → List UnitRecord → UnitIndex
+  index units sup = record { units = map indexed_of units; ranges = unit_ranges_from d 0 units; sup_units = sup }
+
+  AreBoth : UnitIndex → Type 0
+  AreBoth n = AreInOrder (unit_records n.units) × AreInOrder n.sup_units
+
+  of_sup : (units : List RangedUnit) → ranged_units d ≡ Ok units → (r : Result (List UnitRecord) Error) → sup_units d.sup ≡ r → (r >>= λ sup. Ok (index units sup)) ≡ Ok m → AreBoth m
+  unfolding index AreBoth
+  of_sup units e (Err f) l k = absurd cc
+  of_sup units e (Ok sup) l k =
+      let same : index units sup ≡ m = cc in
+      subst AreBoth same (ranged_in_order d units e, sup_in_order d.sup sup l)
+
+  of_units : (r : Result (List RangedUnit) Error) → ranged_units d ≡ r → (r >>= λ units. sup_units d.sup >>= λ sup. Ok (index units sup)) ≡ Ok m → AreBoth m
+  of_units (Err f) e k = absurd cc
+  of_units (Ok units) e k = of_sup units e (sup_units d.sup) refl k
+
+  both_in_order : index_units d ≡ Ok m → AreBoth m
+  unfolding index
+  both_in_order e = of_units (ranged_units d) refl e
+
+  pub units_in_order : index_units d ≡ Ok m → AreInOrder (unit_records m.units)
+  unfolding AreBoth
+  units_in_order e = (both_in_order e).0
+
+  pub sup_units_in_order : index_units d ≡ Ok m → AreInOrder m.sup_units
+  unfolding AreBoth
+  sup_units_in_order e = (both_in_order e).1
+
+  -- references lead to units in order
+  pub main_scope_in_order : index_units d ≡ Ok m → IsScope (main_scope d m)
+  main_scope_in_order e = record { units = units_in_order e; sup_units = of_file d.sup }
+    where
+      of_file : (s : Option SupSections) → IsFileInOrder (option_map (λ s. record { sections = sup_sections s; units = m.sup_units }) s)
+      of_file None = tt
+      of_file (Some s) = sup_units_in_order e
+
+-- the records of units that stand beside their lines
+pub records_beside : {R : Type 0} (d : Sections) (us : List UnitRecord) (rs : List (UnitCache R)) → HaveLinesOf d us rs → unit_records (indexed_units us rs) ≡ us
+records_beside d [] [] own = refl
+records_beside d [] (r ∷ rs) own = absurd own
+records_beside d (u ∷ us) [] own = absurd own
+records_beside d (u ∷ us) (r ∷ rs) own = ap (λ (vs : List UnitRecord). u ∷ vs) (records_beside d us rs own.1)
+
+-- before a unit is looked at nothing is cached of its view
+no_answer : {R : Type 0} (s : ViewState R) → was_checked s ≡ false → answer_in s ≡ None
+no_answer states.Undecided e = refl
+no_answer states.Open e = absurd cc
+no_answer states.Main e = absurd cc
+no_answer (states.Unnamed f) e = absurd cc
+no_answer (states.Answered a) e = absurd cc
+
+no_verdict : {R : Type 0} (d : Sections) (u : UnitRecord) (s : ViewState R) → was_checked s ≡ false → verdict_in d u s ≡ None
+no_verdict d u states.Undecided e = refl
+no_verdict d u states.Open e = absurd cc
+no_verdict d u states.Main e = absurd cc
+no_verdict d u (states.Unnamed f) e = absurd cc
+no_verdict d u (states.Answered a) e = absurd cc
+
+-- what nobody has asked for is that of every unit
+fresh_are_of : {R : Type 0} (scope : Scope) (u : UnitRecord) (v : UnitEntries R) → AreFresh v → AreEntriesOf scope u v
+fresh_are_of {R} scope u v fresh = record {
+  view = record {
+    right = subst (λ (kept : Option (Option (Result View Error))). IfSome kept (λ k. k ≡ verdict scope.file.sections u (first_answer_of v))) (sym (no_verdict scope.file.sections u v.view.state fresh.view)) tt;
+    waited = λ e. absurd (none_some (ap (λ (a : Option (Option Sections)). is_some a) (sym (no_answer v.view.state fresh.view)) ∙ e));
+  };
+  functions = of_verdict (verdict scope.file.sections u (first_answer_of v));
+  unread = λ e. fresh.functions;
+}
+  where
+    none_some : false ≡ true → ⊥
+    none_some e = cc
+
+    of_verdict : (view : Option (Result View Error)) → IfSome view (λ x. IfOk x (λ y. AreFunctionsOf (view_scope scope y) y.unit v.functions))
+    of_verdict None = tt
+    of_verdict (Some (Err e)) = tt
+    of_verdict (Some (Ok y)) = unread_are (view_scope scope y) y.unit v.functions fresh.functions
+
+pub fresh_entries : {R : Type 0} (scope : Scope) (us : List UnitRecord) (vs : List (UnitCache R)) → AreFreshOf us vs → HaveEntriesOf scope us vs
+fresh_entries scope [] [] fresh = tt
+fresh_entries scope [] (v ∷ vs) fresh = absurd fresh
+fresh_entries scope (u ∷ us) [] fresh = absurd fresh
+fresh_entries scope (u ∷ us) (v ∷ vs) fresh = (fresh_are_of scope u v.entries fresh.0, fresh_entries scope us vs fresh.1)
+
+-- no unit has an answer then
+pub no_answers : {R : Type 0} (us : List UnitRecord) (vs : List (UnitCache R)) → AreFreshOf us vs → answers_in vs ≡ map (λ _. None) us
+no_answers [] [] fresh = refl
+no_answers [] (v ∷ vs) fresh = absurd fresh
+no_answers (u ∷ us) [] fresh = absurd fresh
+no_answers (u ∷ us) (v ∷ vs) fresh =
+    ap (λ (a : Option (Option Sections)). a ∷ answers_in vs) (no_answer v.entries.view.state fresh.0.view)
+    ∙ ap (λ (xs : FirstAnswers). None ∷ xs) (no_answers us vs fresh.1)
+
+-- one more unit of which nobody has asked for anything
+pub fresh_push : {R : Type 0} (us : List UnitRecord) (vs : List (UnitCache R)) (u : UnitRecord) (v : UnitCache R) → AreFreshOf us vs → AreFresh v.entries → AreFreshOf (us ++ u ∷ []) (vs ++ v ∷ [])
+fresh_push [] [] u v fresh one = (one, tt)
+fresh_push [] (w ∷ vs) u v fresh one = absurd fresh
+fresh_push (x ∷ us) [] u v fresh one = absurd fresh
+fresh_push (x ∷ us) (w ∷ vs) u v fresh one = (fresh.0, fresh_push us vs u v fresh.1 one)

@@ -1,0 +1,75 @@
+-- The unit of a number, what is cached of it, and the units when that is put back (on
+-- specs/UnitsStored.antt).
+use Rattle.addr2line_units.proofs.Common.{◌≡◌, ℕ, ◌<◌, nat_lt, ltb-false, ltb-true, true, false, List, length, get_or, slice_get, Some, None, refl, sym, ap, subst, ◌∙◌, set, length-map, get_or_from_slice_get, slice_get_past, slice_get_read, slice_get_within, UnitRecord, Scope, FramesStop, UnitLines, UnitCache, UnitEntries, CountsUnits, AreEntriesOf, first_answer_of, IsLendable, known_by, AreLinesOf, HaveLinesOf, is_parsed, HaveEntriesOf, LookupStop, AreUnits, as_units_state}
+use Rattle.addr2line_units.specs.declared.frames.FramesStop.TheVariants as stops
+use Rattle.addr2line_units.proofs.UnitsCachedLemmas.{as_many_entries, cache_set, entries_at, entries_right, lines_right}
+use Rattle.addr2line_units.proofs.UnitsLinesLemmas.{as_many_indexed, own_at}
+
+-- where references lead from the units, as the scope says that was asked for
+module _ {scope seen : Scope} (is : seen ≡ scope) where
+  pub sections_seen : seen.file.sections ≡ scope.file.sections
+  sections_seen = ap (λ (s : Scope). s.file.sections) is
+
+  units_seen : seen.file.units ≡ scope.file.units
+  units_seen = ap (λ (s : Scope). s.file.units) is
+
+  -- the unit of a number among those, and that there is none
+  module _ (n : ℕ) where
+    pub unit_got : {u : UnitRecord} → true ≡ nat_lt n (length seen.file.units) → u ≡ get_or seen.file.units n u → slice_get scope.file.units n ≡ Some u
+    unit_got {u} below at = subst (λ xs. slice_get xs n ≡ Some u) units_seen (slice_get_read seen.file.units _ n u refl (ltb-true _ _ (sym below)) at)
+
+    pub none_got : false ≡ nat_lt n (length seen.file.units) → slice_get scope.file.units n ≡ None
+    none_got past = subst (λ xs. slice_get xs n ≡ None) units_seen (slice_get_past seen.file.units n (ltb-false _ _ (sym past)))
+
+module _ {R : Type 0} {scope : Scope} {held : List (UnitCache R)} {last : FramesStop} (i : AreUnits scope held last) where
+  -- what is cached of all units is their own
+  pub all_entries : HaveEntriesOf scope scope.file.units held
+  all_entries = entries_right scope scope.file.units held i.caches
+
+  pub all_lines : HaveLinesOf scope.file.sections scope.file.units held
+  all_lines = lines_right scope scope.file.units held i.caches
+
+  pub as_many : length scope.file.units ≡ length held
+  as_many = as_many_entries scope scope.file.units held all_entries
+
+  pub counts : {n : ℕ} (steps : ℕ) (was : LookupStop) → n ≡ length held → CountsUnits n (as_units_state scope held steps was)
+  counts steps was many = record {
+    records = many ∙ sym as_many;
+    units = many ∙ sym (as_many_indexed scope.file.sections scope.file.units held all_lines);
+    answers = many ∙ sym (length-map held (λ (c : UnitCache R). first_answer_of c.entries));
+    parsed = many ∙ sym (length-map held (λ (c : UnitCache R). is_parsed c.lines));
+    known = many ∙ sym (length-map held (λ (c : UnitCache R). known_by c.entries.view.state c.entries.functions));
+  }
+
+  module _ (n : ℕ) {u : UnitRecord} (there : slice_get scope.file.units n ≡ Some u) where
+    pub unit_is : u ≡ get_or scope.file.units n u
+    unit_is = sym (get_or_from_slice_get scope.file.units n u u there)
+
+    pub unit_within : n < length scope.file.units
+    unit_within = slice_get_within scope.file.units n u there
+
+    pub cache_within : n < length held
+    cache_within = subst (λ m. n < m) as_many unit_within
+
+    -- what is cached of it is its own
+    module _ {c : UnitCache R} (at : c ≡ get_or held n c) where
+      pub its_lines : AreLinesOf scope.file.sections u c.lines.lines
+      its_lines = own_at scope.file.sections scope.file.units held n u c cache_within unit_is at all_lines
+
+      pub its_entries : AreEntriesOf scope u c.entries
+      its_entries = entries_at scope scope.file.units held n u c cache_within unit_is at all_entries
+
+    -- and so is all where its own is put back
+    pub units_with : (c : UnitCache R) {stop : FramesStop} → AreLinesOf scope.file.sections u c.lines.lines → AreEntriesOf scope u c.entries → IsLendable (set held n c) stop → AreUnits scope (set held n c) stop
+    units_with c lines entries lendable = record {
+      in_order = i.in_order;
+      caches = cache_set scope scope.file.units held n u c unit_is i.caches (record { lines = lines; entries = entries });
+      stop = lendable;
+    }
+
+    module _ {c : UnitCache R} (at : c ≡ get_or held n c) where
+      pub units_with_entries : (w : UnitEntries R) → AreEntriesOf scope u w → AreUnits scope (set held n (record c { entries = w })) stops.FindsNothing
+      units_with_entries w entries = units_with (record c { entries = w }) {stop = stops.FindsNothing} (its_lines at) entries tt
+
+      pub units_with_lines : (l : UnitLines) → AreLinesOf scope.file.sections u l.lines → AreUnits scope (set held n (record c { lines = l })) stops.FindsNothing
+      units_with_lines l lines = units_with (record c { lines = l }) {stop = stops.FindsNothing} lines (its_entries at) tt

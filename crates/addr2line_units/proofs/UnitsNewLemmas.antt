@@ -1,0 +1,146 @@
+-- The units of a context as they are read (on specs/UnitsState.antt and specs/UnitsStored.antt).
+use Rattle.addr2line_units.proofs.Common.{◌≡◌, List, [], ◌∷◌, map, Option, Some, None, option_map, Result, Ok, Err, refl, sym, ap, subst, ◌∙◌, Error, ◌>>=◌, Sections, SupSections, UnitRecord, all_headers, FileRecord, IsScope, Scope, UnitArange, UnitRange, UnitCache, HaveLinesOf, indexed_units, parsed_units, AreFreshOf, answers_in, FindsNothing, main_scope, units_of, known_in, KnownEntries, NothingKnown, IndexedUnit, RangedUnit, indexed_of, ranged_units, unit_of_header, unit_ranges_from, unit_records, AreUnits, as_units_state, aranges_in, UnitsState, first_state, new_units, FirstAnswers}
+use Rattle.addr2line_units.specs.declared.frames.FramesStop.TheVariants as stops
+use Rattle.addr2line_units.specs.declared.sup.SupUnits.{SupUnits}
+use Rattle.addr2line_units.specs.UnitsIndexed.{IndexState, index_of, index_read}
+use Rattle.addr2line_units.specs.SupScope.{scope_in}
+use Rattle.addr2line_units.specs.UnitsIndex.{UnitIndex, index_units, sup_sections, sup_units}
+use Rattle.addr2line_units.proofs.UnitsCachedLemmas.{caches_right}
+use Rattle.addr2line_units.proofs.EntriesKnownLemmas.{nothing_known}
+use Rattle.addr2line_units.proofs.SupScopeLemmas.{fresh_entries, main_scope_in_order, no_answers, records_beside}
+
+pub ok_is : {X : Type 0} (x y : X) → ◌≡◌ {A = Result X Error} (Ok x) (Ok y) → x ≡ y
+ok_is x y e = cc
+
+-- the first answers of units before any answer
+abbrev no_answers_of : {U : Type 0} → List U → FirstAnswers
+no_answers_of units = map (λ _. None) units
+
+no_more_answers : (units : List RangedUnit) → no_answers_of units ≡ no_answers_of (unit_records (map indexed_of units))
+no_more_answers [] = refl
+no_more_answers (u ∷ units) = ap (λ (xs : FirstAnswers). None ∷ xs) (no_more_answers units)
+
+-- what is known of units before anybody asks
+abbrev nothing_known_of : {U : Type 0} → List U → List KnownEntries
+nothing_known_of units = map (λ _. NothingKnown) units
+
+no_more_known : (units : List RangedUnit) → nothing_known_of units ≡ nothing_known_of (unit_records (map indexed_of units))
+no_more_known [] = refl
+no_more_known (u ∷ units) = ap (λ (xs : List KnownEntries). NothingKnown ∷ xs) (no_more_known units)
+
+-- units that are made
+module _ {R : Type 0} (d : Sections) (us : List UnitRecord) (cs : List (UnitCache R)) (ranges : List UnitRange) (sup : SupUnits R)
+    (e : (ranged_units d >>= λ units. Ok (index_of d units)) ≡ Ok (record { units = indexed_units us cs; ranges = ranges; parsed = parsed_units cs })) (f : sup_units d.sup ≡ Ok sup.units.items) (sup_is : sup.dwarf ≡ option_map sup_sections d.sup)
+    (own : HaveLinesOf d us cs) (fresh : AreFreshOf us cs) where
+  abbrev index : IndexState
+  index = record { units = indexed_units us cs; ranges = ranges; parsed = parsed_units cs }
+
+  abbrev made : UnitIndex
+  made = record { units = indexed_units us cs; ranges = ranges; sup_units = sup.units.items }
+
+  -- where references lead
+  scope_is : scope_in d us sup ≡ main_scope d made
+  scope_is =
+      ap (λ (xs : List UnitRecord). scope_at xs (option_map (λ s. file_at s) sup.dwarf)) (sym (records_beside d us cs own))
+      ∙ ap (λ (o : Option FileRecord). scope_at (unit_records made.units) o) of_sup
+    where
+      file_at : Sections → FileRecord
+      file_at s = record { sections = s; units = sup.units.items }
+
+      scope_at : List UnitRecord → Option FileRecord → Scope
+      scope_at xs o = record { file = record { sections = d; units = xs }; sup = o }
+
+      fused : (o : Option SupSections) → option_map (λ s. file_at s) (option_map sup_sections o) ≡ option_map (λ (s : SupSections). file_at (sup_sections s)) o
+      fused None = refl
+      fused (Some s) = refl
+
+      of_sup : option_map (λ s. file_at s) sup.dwarf ≡ option_map (λ (s : SupSections). file_at (sup_sections s)) d.sup
+      of_sup = ap (λ (o : Option Sections). option_map (λ s. file_at s) o) sup_is ∙ fused d.sup
+
+  what_is_made : index_units d ≡ Ok made
+  what_is_made = of_units (ranged_units d) e
+    where
+      all : List IndexedUnit → List UnitRange → List UnitRecord → Result UnitIndex Error
+      all units ranges s = Ok (record { units = units; ranges = ranges; sup_units = s })
+
+      of_units : (r : Result (List RangedUnit) Error) → (r >>= λ units. Ok (index_of d units)) ≡ Ok index
+          → (r >>= λ units. sup_units d.sup >>= λ s. all (map indexed_of units) (unit_ranges_from d 0 units) s) ≡ all index.units index.ranges sup.units.items
+      of_units (Ok units) h =
+          ap (λ (r : Result (List UnitRecord) Error). r >>= λ s. all (map indexed_of units) (unit_ranges_from d 0 units) s) f
+          ∙ ap (λ (x : IndexState). all x.units x.ranges sup.units.items) (ok_is (index_of d units) index h)
+      of_units (Err x) h = absurd cc
+
+  pub are_units : AreUnits (scope_in d us sup) cs stops.FindsNothing
+  are_units = record {
+    in_order = subst IsScope (sym scope_is) (main_scope_in_order d made what_is_made);
+    caches = caches_right (scope_in d us sup) us cs own (fresh_entries (scope_in d us sup) us cs fresh);
+    stop = tt;
+  }
+
+  abbrev State : Type 0
+  State = UnitsState × List UnitRange
+
+  abbrev state : Scope → IndexState → FirstAnswers → List KnownEntries → Result State Error
+  state scope x answers known = Ok (record { scope = scope; units = x.units; answers = answers; parsed = x.parsed; known = known; steps = 0; stop = FindsNothing }, x.ranges)
+
+  abbrev of_index : IndexState → Result State Error
+  of_index x = state (main_scope d (record { units = x.units; ranges = x.ranges; sup_units = sup.units.items })) x (no_answers_of (unit_records x.units)) (nothing_known_of (unit_records x.units))
+
+  pub units_made : new_units d ≡ Ok (as_units_state (scope_in d us sup) cs 0 FindsNothing, ranges)
+  units_made =
+      of_units (ranged_units d) e
+      ∙ ap (λ xs. state (main_scope d made) index xs (nothing_known_of (unit_records (indexed_units us cs)))) (sym none)
+      ∙ ap (λ xs. state (main_scope d made) index (answers_in cs) xs) (sym not_known)
+      ∙ ap (λ s. state s index (answers_in cs) (known_in cs)) (sym scope_is)
+    where
+      none : answers_in cs ≡ no_answers_of (unit_records (indexed_units us cs))
+      none = no_answers us cs fresh ∙ ap (λ (xs : List UnitRecord). no_answers_of xs) (sym (records_beside d us cs own))
+
+      not_known : known_in cs ≡ nothing_known_of (unit_records (indexed_units us cs))
+      not_known = nothing_known us cs fresh ∙ ap (λ (xs : List UnitRecord). nothing_known_of xs) (sym (records_beside d us cs own))
+
+      of_units : (r : Result (List RangedUnit) Error) → (r >>= λ units. Ok (index_of d units)) ≡ Ok index
+          → (r >>= λ units. sup_units d.sup >>= λ s. Ok (first_state d units s, unit_ranges_from d 0 units)) ≡ of_index index
+      of_units (Ok units) h =
+          ap (λ (r : Result (List UnitRecord) Error). r >>= λ s. Ok (first_state d units s, unit_ranges_from d 0 units)) f
+          ∙ ap (λ xs. state (first_state d units sup.units.items).scope (index_of d units) xs (nothing_known_of units)) (no_more_answers units)
+          ∙ ap (λ xs. state (first_state d units sup.units.items).scope (index_of d units) (no_answers_of (unit_records (map indexed_of units))) xs) (no_more_known units)
+          ∙ ap of_index (ok_is (index_of d units) index h)
+      of_units (Err x) h = absurd cc
+
+-- a fault of the supplementary file refuses the units
+pub sup_fault : (d : Sections) (i : IndexState) (f : Error) → (ranged_units d >>= λ units. Ok (index_of d units)) ≡ Ok i → sup_units d.sup ≡ Err f → new_units d ≡ Err f
+sup_fault d i f e h = of_units (ranged_units d) e
+  where
+    state : List RangedUnit → List UnitRecord → Result (UnitsState × List UnitRange) Error
+    state units s = Ok (first_state d units s, unit_ranges_from d 0 units)
+
+    of_units : (r : Result (List RangedUnit) Error) → (r >>= λ units. Ok (index_of d units)) ≡ Ok i → (r >>= λ units. sup_units d.sup >>= λ s. state units s) ≡ Err f
+    of_units (Ok units) k = ap (λ (r : Result (List UnitRecord) Error). r >>= λ s. state units s) h
+    of_units (Err x) k = absurd cc
+
+-- a fault of a unit does
+pub units_fault : (d : Sections) (f : Error) → (ranged_units d >>= λ units. Ok (index_of d units)) ≡ Err f → new_units d ≡ Err f
+units_fault d f e = of_units (ranged_units d) e
+  where
+    state : List RangedUnit → List UnitRecord → Result (UnitsState × List UnitRange) Error
+    state units s = Ok (first_state d units s, unit_ranges_from d 0 units)
+
+    of_units : (r : Result (List RangedUnit) Error) → (r >>= λ units. Ok (index_of d units)) ≡ Err f → (r >>= λ units. sup_units d.sup >>= λ s. state units s) ≡ Err f
+    of_units (Ok units) k = absurd cc
+    of_units (Err x) k = let is : x ≡ f = cc in ap (λ e. Err e) is
+
+-- the units with their ranges, as the private functions read them
+pub index_is : (d : Sections) → (index_read d).given ≡ (ranged_units d >>= λ units. Ok (index_of d units))
+index_is d = of_aranges (aranges_in d.debug_aranges)
+  where
+    units : List UnitArange → Result (List RangedUnit) Error
+    units aranges = (units_of (unit_of_header d aranges) (all_headers d.debug_info)).given
+
+    of_units : (r : Result (List RangedUnit) Error) → ((r >>= λ us. Ok (index_of d us)) >>= λ index. Ok index) ≡ (r >>= λ us. Ok (index_of d us))
+    of_units (Ok us) = refl
+    of_units (Err e) = refl
+
+    of_aranges : (r : Result (List UnitArange) Error) → ((r >>= λ xs. Ok xs) >>= λ aranges. (units aranges >>= λ us. Ok (index_of d us)) >>= λ index. Ok index) ≡ ((r >>= λ aranges. units aranges) >>= λ us. Ok (index_of d us))
+    of_aranges (Ok aranges) = of_units (units aranges)
+    of_aranges (Err e) = refl

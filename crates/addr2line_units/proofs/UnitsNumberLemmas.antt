@@ -1,0 +1,159 @@
+-- What is answered, loaded, listed and forgotten of the unit of a number (on
+-- specs/UnitsAfter.antt and specs/UnitsStored.antt).
+use Rattle.addr2line_units.proofs.Common.{◌≡◌, inl, inr, ℕ, ◌<◌, ◌≤◌, Bool, true, false, List, length, get_or, slice_get, Option, Some, None, Result, Ok, Err, refl, sym, ap, ◌∙◌, arith, set, cases_eq, IfErr, OnOk, Error, OutOfMemory, UnknownToken, ◌>>=◌, Sections, UnitRecord, Scope, FramesStop, UnitCache, UnitEntries, AreEntriesOf, StayEntries, first_answer_of, were_read, known_in, HaveSameLines, answers_in, decided_at, is_decided, FindsNothing, LookupStop, answer_of, LearnsNoFunctions, is_open_at, load_of_number, load_result, view_fault, AreUnits, as_units_state, UnitsState, awaited_load, decided_answer, is_open, verdict}
+use Rattle.std.specs.Prelude.{is_some}
+use Rattle.addr2line_units.specs.UnitsAfter.{AfterAnswer, AfterForget, AfterListing, AfterLoad}
+use Rattle.addr2line_units.proofs.LoadsAnswerLemmas.{answer_at, answered_if_ok, answers_if_refused, answers_set, decided_there, others_stay, same_set}
+use Rattle.addr2line_units.proofs.UnitsCachedLemmas.{as_many_entries, entries_set, same_lines_set, stay_entries_set}
+use Rattle.addr2line_units.proofs.EntriesLearnedLemmas.{UnitLearnsNone, answered_learns, forgotten_learns, set_learns}
+use Rattle.addr2line_units.proofs.LoadsLemmas.{as_many_answers, load_there, past_set, slice_get_none, this_unit, unknown_answer, unknown_load}
+use Rattle.addr2line_units.proofs.LoadsOpenLemmas.{not_open_there}
+use Rattle.addr2line_units.proofs.UnitsAtLemmas.{all_entries, as_many, cache_within, its_entries, unit_is, unit_within}
+use Rattle.addr2line_units.proofs.UnitsStateLemmas.{after_answer, after_forget, after_listing, after_load}
+
+-- the unit of a number
+module _ {R : Type 0} {scope : Scope} {held : List (UnitCache R)} {last : FramesStop} (i : AreUnits scope held last) (n : ℕ) where
+  abbrev d : Sections
+  d = scope.file.sections
+
+  abbrev us : List UnitRecord
+  us = scope.file.units
+
+  -- there is none
+  module _ (none : slice_get us n ≡ None) (given : Option Sections) (steps : ℕ) (was : LookupStop) where
+    pub none_answered : AfterAnswer n given (Ok tt) (as_units_state scope held steps was) (as_units_state scope held steps FindsNothing)
+    none_answered = record {
+      stays = refl;
+      answers = sym (unknown_answer d us (answers_in held) n given none);
+      refused = tt;
+      others = λ k ne. refl;
+      functions = λ k. inl refl;
+      known = λ shut k. record { at = λ probe q. q; whole = λ kind q. q };
+      same = λ one e. refl;
+      not_open = λ shut. refl;
+      beside = as_many i ∙ sym (as_many_answers held);
+    }
+
+    pub none_loaded : AfterLoad n given (Err UnknownToken) (as_units_state scope held steps was) (as_units_state scope held steps FindsNothing)
+    none_loaded = record {
+      stays = refl;
+      answers = λ told. sym (unknown_answer d us (answers_in held) n given none);
+      begun = inl refl;
+      refused = λ ne. (refl, λ k. record { at = λ probe q. q; whole = λ kind q. q });
+      known = λ shut k. record { at = λ probe q. q; whole = λ kind q. q };
+      same = λ one e. refl;
+      others = λ k ne. refl;
+      functions = λ k. inl refl;
+      not_open = λ shut. sym (unknown_load d us (answers_in held) n given none);
+      none = λ e. sym (unknown_load d us (answers_in held) n None none);
+    }
+
+    pub none_forgotten : AfterForget n (as_units_state scope held steps was) (as_units_state scope held steps FindsNothing)
+    none_forgotten = record {
+      stays = refl;
+      answers = sym (past_set (answers_in held) n None past);
+      same = λ e. refl;
+      others = λ k ne. refl;
+      functions = λ k. inl refl;
+    }
+      where
+        past : length (answers_in held) ≤ n
+        past =
+            let a = slice_get_none us n none in
+            let b = as_many i in
+            let c = as_many_answers held in
+            omega (arith, a, b, c)
+
+  module _ {u : UnitRecord} (there : slice_get us n ≡ Some u) where
+    module _ {c : UnitCache R} (at : c ≡ get_or held n c) where
+      abbrev v : UnitEntries R
+      v = c.entries
+
+      within : n < length held
+      within = cache_within i n there
+
+      answer_is : answer_of (answers_in held) n ≡ first_answer_of v
+      answer_is = answer_at held n c within at
+
+      load_is : (given : Option Sections) → load_result d us (answers_in held) n given ≡ view_fault (verdict d u (decided_answer d u (first_answer_of v) given))
+      load_is given =
+          ap (λ r. r >>= λ x. view_fault (verdict d x (decided_answer d x (answer_of (answers_in held) n) given))) (this_unit us n u there)
+          ∙ ap (λ a. view_fault (verdict d u (decided_answer d u a given))) answer_is
+
+      -- its load, and whether it is open
+      pub load_listed : load_of_number d us (answers_in held) n ≡ awaited_load d n u (first_answer_of v)
+      load_listed = load_there d us held n u c there within at
+
+      pub shut_there : is_open_at d us (answers_in held) n ≡ false → is_open d u (first_answer_of v) ≡ false
+      shut_there = not_open_there d us held n u c there within at
+
+      pub refused_told : (given : Option Sections) (r : Result (Unit {0}) Error) → IfErr r (λ e. view_fault (verdict d u (decided_answer d u (first_answer_of v) given)) ≡ Err e) → IfErr r (λ e. load_result d us (answers_in held) n given ≡ Err e)
+      refused_told given (Ok x) h = tt
+      refused_told given (Err e) h = load_is given ∙ h
+
+      module _ (w : UnitEntries R) where
+        abbrev with_entries : UnitCache R
+        with_entries = record c { entries = w }
+
+        abbrev now : List (UnitCache R)
+        now = set held n with_entries
+
+        same_lines_now : HaveSameLines held now
+        same_lines_now = same_lines_set held n c with_entries at refl
+
+        pub load_told : (given : Option Sections) (r : Result (Unit {0}) Error) → first_answer_of w ≡ decided_answer d u (first_answer_of v) given → r ≡ view_fault (verdict d u (first_answer_of w)) → r ≡ load_result d us (answers_in held) n given
+        load_told given r same e = e ∙ ap (λ a. view_fault (verdict d u a)) same ∙ sym (load_is given)
+
+        pub fault_told : (given : Option Sections) (r : Result (Unit {0}) Error) → r ≡ view_fault (verdict d u (decided_answer d u (first_answer_of v) given)) → r ≡ load_result d us (answers_in held) n given
+        fault_told given r e = e ∙ sym (load_is given)
+
+        -- its load was listed
+        pub listed_there : (steps : ℕ) (was : LookupStop) → StayEntries v w → UnitLearnsNone v w → AfterListing (λ k. k ≡ n) (as_units_state scope held steps was) (as_units_state scope now steps FindsNothing)
+        listed_there steps was stay none = after_listing scope held (all_entries i) now same_lines_now steps was (λ k. k ≡ n) (stay_entries_set held n c with_entries within at stay)
+            (λ k. elim (cases_eq k n) [ inl is ↦ inr is | inr ne ↦ inl (others_stay held n k with_entries ne) ])
+            (set_learns held n c with_entries within at none)
+
+        module _ (given : Option Sections) (b : Bool) (some : is_some given ≡ b) (steps : ℕ) (was : LookupStop) where
+          abbrev old : UnitsState
+          old = as_units_state scope held steps was
+
+          abbrev new : UnitsState
+          new = as_units_state scope now steps FindsNothing
+
+          module _ (own : AreEntriesOf scope u w) (functions : w.functions ≡ v.functions) (same : is_decided v.view.state ≡ true → w ≡ v) where
+            same_decided : decided_at held n ≡ true → now ≡ held
+            same_decided h = same_set held n c with_entries at (ap (λ e. record c { entries = e }) (same (decided_there held n c at h)))
+
+            many : length us ≡ length now
+            many = as_many_entries scope us now (entries_set scope us held n u with_entries (unit_is i n there) (all_entries i) own)
+
+            learns : LearnsNoFunctions (known_in held) (known_in now)
+            learns = set_learns held n c with_entries within at (answered_learns scope u v w (its_entries i n there at) functions same)
+
+            pub answered_there : (r : Result (Unit {0}) Error) → OnOk r (first_answer_of w ≡ decided_answer d u (first_answer_of v) given) → IfErr r (λ e. (e ≡ OutOfMemory) × StayEntries v w × (b ≡ true)) → (is_open d u (first_answer_of v) ≡ false → r ≡ Ok tt) → AfterAnswer n given r old new
+            answered_there r answer refused shut = after_answer scope held (all_entries i) now same_lines_now steps was n (λ k ne. others_stay held n k with_entries ne) same_decided many given r (λ h. some ∙ h)
+                (answered_if_ok d us held n u c with_entries given r (unit_within i n there) within (unit_is i n there) at answer)
+                (answers_if_refused held n c with_entries r (b ≡ true) within at refused) learns
+                (λ h. shut (shut_there h))
+
+            -- the answer was given
+            pub loaded_there : (r : Result (Unit {0}) Error) → first_answer_of w ≡ decided_answer d u (first_answer_of v) given → r ≡ view_fault (verdict d u (first_answer_of w)) → AfterLoad n given r old new
+            loaded_there r answer fault =
+                let told = load_told given r answer fault in
+                let answers = answered_if_ok d us held n u c with_entries given (Ok tt) (unit_within i n there) within (unit_is i n there) at answer in
+                after_load scope held (all_entries i) now same_lines_now steps was n (λ k ne. others_stay held n k with_entries ne) same_decided many given r (λ h. answers) (inr answers) (λ ne. absurd (ne told)) (λ shut. told)
+                (λ e. told ∙ ap (load_result d us (answers_in held) n) e) learns
+
+            -- memory was refused
+            pub refused_there : (e : Error) → (e ≡ OutOfMemory) × StayEntries v w × (b ≡ true) → (is_open d u (first_answer_of v) ≡ false → ◌≡◌ {A = Result (Unit {0}) Error} (Err e) (Ok tt)) → AfterLoad n given (Err e) old new
+            refused_there e refused shut =
+                let r = answers_if_refused held n c with_entries (Err e) (b ≡ true) within at refused in
+                after_load scope held (all_entries i) now same_lines_now steps was n (λ k ne. others_stay held n k with_entries ne) same_decided many given (Err e) (λ told. absurd (told refused.0)) (inl r.1) (λ ne. (r.1, r.2))
+                (λ h. absurd (let no = shut (shut_there h) in cc))
+                (λ none. absurd (let f : false ≡ true = ap is_some (sym none) ∙ some ∙ refused.2 in cc)) learns
+
+        pub forgotten_there : (steps : ℕ) (was : LookupStop) → first_answer_of w ≡ None → (first_answer_of v ≡ None → w ≡ v) → (is_some (first_answer_of v) ≡ true → were_read w.functions ≡ false) → AfterForget n (as_units_state scope held steps was) (as_units_state scope now steps FindsNothing)
+        forgotten_there steps was none same unread = after_forget scope held (all_entries i) now same_lines_now steps was n
+            (answers_set held n with_entries ∙ ap (λ a. set (answers_in held) n a) none)
+            (λ h. same_set held n c with_entries at (ap (λ e. record c { entries = e }) (same (sym answer_is ∙ h)))) (λ k ne. others_stay held n k with_entries ne)
+            (set_learns held n c with_entries within at (forgotten_learns v w same unread))

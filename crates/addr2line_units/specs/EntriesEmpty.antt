@@ -1,0 +1,40 @@
+-- Units of which it is known that they have nothing at any address.
+use Rattle.std.specs.Prelude.{◌≡◌, ◌&&◌, ℕ, Bool, true, false, is_ok, Ok}
+use Rattle.addr2line_units.specs.declared.entries.LazyFunctions.{LazyFunctions}
+use Rattle.addr2line_units.specs.declared.entries.LazyFunctions.TheVariants as functions
+use Rattle.addr2line_units.specs.declared.entries.UnitCache.{UnitCache}
+use Rattle.addr2line_units.specs.declared.frames.OnFault.{OnFault}
+use Rattle.addr2line_units.specs.declared.unit.LazyLines.{LazyLines}
+use Rattle.addr2line_units.specs.declared.unit.LazyLines.TheVariants as lines
+use Rattle.addr2line_units.specs.declared.unit.ViewState.{ViewState}
+use Rattle.addr2line_units.specs.declared.unit.ViewState.TheVariants as states
+use Rattle.addr2line_units.specs.UnitsAsked.{stop_at}
+use Rattle.addr2line_units.specs.FramesLookup.{FindsNothing}
+use Rattle.addr2line_units.specs.UnitsState.{UnitsState, has_all_at}
+
+-- whether a view is known, and has no fault
+abbrev pub has_view : {R : Type 0} → ViewState R → Bool
+has_view states.Main = true
+has_view (states.Answered a) = is_ok a.unit
+has_view _ = false
+
+-- whether it is known that a view has no functions
+abbrev pub has_no_functions : {R : Type 0} → LazyFunctions R → Bool
+has_no_functions functions.Absent = true
+has_no_functions _ = false
+
+-- whether it is known that a unit has no lines
+abbrev pub has_no_lines : LazyLines → Bool
+has_no_lines lines.Absent = true
+has_no_lines _ = false
+
+-- whether it is known that a unit has nothing at any address: neither functions, in a view that has
+-- no fault, nor lines
+abbrev pub has_nothing : {R : Type 0} → UnitCache R → Bool
+has_nothing c = has_no_functions c.entries.functions
+    && (has_no_lines c.lines.lines && has_view c.entries.view.state)
+
+-- no lookup finds anything in the unit of a number, and nothing is left to read there
+pub record HasNothingAt (s : UnitsState) (n : ℕ) : Type 0 where
+  pub stop : (faults : OnFault) (probe : ℕ) → stop_at faults probe s n ≡ Ok FindsNothing
+  pub known : (probe : ℕ) → has_all_at probe s n ≡ true

@@ -1,0 +1,154 @@
+-- The lines of units as a context caches them, as the private functions see them.
+-- Own: lines are read when they are first asked for, and cached then, their fault too. OutOfMemory
+-- is never cached. Lines are absent where the unit has no rows and no files, as where it has no line
+-- program.
+use Rattle.std.specs.Prelude.{◌≡◌, ◌≢◌, ℕ, Bool, true, false, not, List, [], ◌∷◌, map, Option, Some, None, is_some, slice_get, Result, Ok, Err, box_value}
+use Rattle.std.specs.List.{AllZip}
+use Rattle.addr2line_units.specs.Common.{Error, OutOfMemory, Range, ◌>>=◌, fault_of, Sections, UnitRecord, Location, location_of_row, LocatedSpan, locations_in_range, sequence_ranges, unit_lines}
+use Rattle.addr2line_lines.specs.declared.row.Row.{Row}
+use Rattle.addr2line_lines.specs.Location.{LineTable as Lines}
+use Rattle.addr2line_lines.specs.Counts.{most_steps_in}
+use Rattle.addr2line_lines.specs.Spans.{row_at}
+use Rattle.addr2line_units.specs.declared.units.UnitRow.{UnitRow}
+use Rattle.addr2line_units.specs.declared.unit.LazyLines.{LazyLines}
+use Rattle.addr2line_units.specs.declared.unit.LazyLines.TheVariants.{Unread, Absent, Read, Faulty}
+use Rattle.addr2line_units.specs.declared.unit.UnitLines.{UnitLines}
+use Rattle.addr2line_units.specs.declared.entries.UnitCache.{UnitCache}
+use Rattle.addr2line_units.specs.UnitsRanged.{IndexedUnit}
+use Rattle.addr2line_units.specs.Locations.{all_read}
+
+-- no lines
+abbrev pub no_lines : Lines
+no_lines = record { files = []; sequences = [] }
+
+-- the cached lines are those that the unit's bytes give, or their fault, which is never
+-- OutOfMemory
+abbrev pub AreLinesOf : Sections → UnitRecord → LazyLines → Type 0
+AreLinesOf d u Unread = Unit {0}
+AreLinesOf d u Absent = unit_lines d u ≡ Ok no_lines
+AreLinesOf d u (Read lines) = unit_lines d u ≡ Ok (box_value lines)
+AreLinesOf d u (Faulty e) = (unit_lines d u ≡ Err e) × (e ≢ OutOfMemory)
+
+-- the cached lines, none before they are read and where they have a fault
+abbrev pub cached_lines : LazyLines → Option Lines
+cached_lines Absent = Some no_lines
+cached_lines (Read lines) = Some (box_value lines)
+cached_lines _ = None
+
+-- the cached lines, or their cached fault
+abbrev pub cached_lines_result : LazyLines → Result (Option Lines) Error
+cached_lines_result Unread = Ok None
+cached_lines_result Absent = Ok (Some no_lines)
+cached_lines_result (Read lines) = Ok (Some (box_value lines))
+cached_lines_result (Faulty e) = Err e
+
+-- whether nothing is cached yet
+abbrev pub is_uncached : LazyLines → Bool
+is_uncached Unread = true
+is_uncached _ = false
+
+-- what is cached stays as it is: a parse, and a fault too
+abbrev pub LinesStayCached : LazyLines → LazyLines → Type 0
+LinesStayCached old new = is_uncached old ≡ false → new ≡ old
+
+-- after an answer the lines are cached, or their fault; after OutOfMemory they are as before
+abbrev pub CachesResult : {X : Type 0} → LazyLines → Result X Error → LazyLines → Type 0
+CachesResult old (Ok x) new = is_uncached new ≡ false
+CachesResult old (Err e) new =
+    (e ≢ OutOfMemory → is_uncached new ≡ false) × (e ≡ OutOfMemory → new ≡ old)
+
+-- what the lines of a unit are once they are cached
+abbrev pub lines_result : Sections → UnitRecord → Result (Option Lines) Error
+lines_result d u = unit_lines d u >>= λ lines. Ok (Some lines)
+
+-- the texts of the files of cached lines
+abbrev pub cached_files : LazyLines → List (List ℕ)
+cached_files (Read lines) = (box_value lines).files
+cached_files _ = []
+
+-- the ranges of the sequences of cached lines
+abbrev pub cached_ranges : LazyLines → List Range
+cached_ranges (Read lines) = sequence_ranges (box_value lines)
+cached_ranges _ = []
+
+-- the row of the probe in cached lines
+abbrev pub cached_row : ℕ → LazyLines → Option Row
+cached_row probe (Read lines) = row_at probe (box_value lines).sequences
+cached_row probe _ = None
+
+-- the most steps in cached lines
+abbrev pub cached_steps : LazyLines → ℕ
+cached_steps (Read lines) = most_steps_in (box_value lines)
+cached_steps _ = 0
+
+-- what cached lines have in a range, or their cached fault
+abbrev pub cached_spans : Range → ℕ → ℕ → LazyLines → List (Result LocatedSpan Error)
+cached_spans range low high Unread = []
+cached_spans range low high Absent = []
+cached_spans range low high (Read lines) =
+    all_read (locations_in_range (box_value lines) range low high)
+cached_spans range low high (Faulty e) = Err e ∷ []
+
+-- a unit and its language
+abbrev pub indexed_unit : UnitRecord → UnitLines → IndexedUnit
+indexed_unit dw_unit u = record { unit = dw_unit; language = u.lang }
+
+-- whether the lines of a unit are parsed
+abbrev pub is_parsed : UnitLines → Bool
+is_parsed u = not (is_uncached u.lines)
+
+-- the lines of a unit that was just read are not parsed, unless it has no line program
+pub record IsUnparsed (d : Sections) (dw_unit : UnitRecord) (u : UnitLines) : Type 0 where
+  pub uncached : is_uncached u.lines ≡ is_some dw_unit.line_program
+  pub lines : AreLinesOf d dw_unit u.lines
+
+-- the units and their languages, which are cached beside them
+abbrev pub indexed_units : {R : Type 0} → List UnitRecord → List (UnitCache R) → List IndexedUnit
+indexed_units [] caches = []
+indexed_units (d ∷ dw_units) [] = []
+indexed_units (d ∷ dw_units) (c ∷ caches) =
+    indexed_unit d c.lines ∷ indexed_units dw_units caches
+
+-- of which units the lines are parsed
+abbrev pub parsed_units : {R : Type 0} → List (UnitCache R) → List Bool
+parsed_units caches = map (λ c. is_parsed c.lines) caches
+
+-- beside each unit stand cached lines, which are its own
+abbrev pub HaveLinesOf : {R : Type 0} → Sections → List UnitRecord → List (UnitCache R) → Type 0
+HaveLinesOf d dw_units caches = AllZip (λ x c. AreLinesOf d x c.lines.lines) dw_units caches
+
+-- the lines of a unit, as they are cached
+abbrev pub lines_in_cache : {R : Type 0} → Option (UnitCache R) → LazyLines
+lines_in_cache None = Unread
+lines_in_cache (Some c) = c.lines.lines
+
+-- the lines of a unit by its number, as they are cached
+abbrev pub lines_at : {R : Type 0} → List (UnitCache R) → ℕ → LazyLines
+lines_at caches n = lines_in_cache (slice_get caches n)
+
+-- the language of a unit stays, and so do its cached lines or their fault
+pub record StaysUnit (old new : UnitLines) : Type 0 where
+  pub language : new.lang ≡ old.lang
+  pub lines : LinesStayCached old.lines new.lines
+
+-- the same of each unit
+abbrev pub StayUnits : {R : Type 0} → List (UnitCache R) → List (UnitCache R) → Type 0
+StayUnits old new = AllZip (λ a b. StaysUnit a.lines b.lines) old new
+
+-- what is cached of the entries of each unit is the same
+abbrev pub HaveSameEntries : {R : Type 0} → List (UnitCache R) → List (UnitCache R) → Type 0
+HaveSameEntries old new = AllZip (λ a b. b.entries ≡ a.entries) old new
+
+-- the fault of the lines of a unit, if there is such a unit and they have one
+abbrev pub lines_result_at : Sections → Option IndexedUnit → Result (Unit {0}) Error
+lines_result_at d None = Ok tt
+lines_result_at d (Some u) = fault_of (unit_lines d u.unit)
+
+-- a row in the lines of a unit
+abbrev pub unit_row : ℕ → Row → UnitRow
+unit_row n row = record { unit = n; row = row }
+
+-- the location of a row in the lines of a unit
+abbrev pub location_of_unit_row : {R : Type 0} → List (UnitCache R) → UnitRow → Location
+location_of_unit_row caches found =
+    location_of_row (cached_files (lines_at caches found.unit)) found.row

@@ -1,0 +1,201 @@
+-- What calls leave of the units of a context (DWARF 5, sections 3.1.2, 3.3, 6.2 and 7.3.2).
+-- Own: a lookup parses only lines that it asks for, and reads nothing of a unit that it doesn't
+-- ask; nothing that is known is parsed again. The first answer to a unit's load counts until the
+-- unit is forgotten.
+use Rattle.std.specs.Prelude.{◌≡◌, ◌≢◌, ◌⊎◌, ◌+◌, ◌<◌, ◌≤◌, ℕ, Bool, true, false, List, length, IfErr, OnOk, is_some, slice_get, Option, Some, None, Result, Ok}
+use Rattle.std.specs.List.{AllByRecursion}
+use Rattle.addr2line_units.specs.Common.{Error, OutOfMemory, WasNotRefused, Sections}
+use Rattle.addr2line_units.specs.declared.frames.OnFault.{OnFault}
+use Rattle.addr2line_units.specs.declared.index.UnitRange.{UnitRange}
+use Rattle.addr2line_units.specs.declared.parses.ReadingDepth.{ReadingDepth}
+use Rattle.addr2line_units.specs.declared.parses.ReadingDepth.TheVariants as depths
+use Rattle.addr2line_units.specs.FramesLookup.{FindsNothing, LookupAsks, answer_of, asks_lines_of, holds_along, function_offset_of, with_answer}
+use Rattle.addr2line_units.specs.Parses.{AreFirstDecided, AreReadBefore, AreReadyFor, answers_after_parse, read_of_units}
+use Rattle.addr2line_units.specs.EntriesKnown.{LearnsDetailsAt, LearnsNoDetails, LearnsNoFunctions, knows_at}
+use Rattle.addr2line_units.specs.Loads.{forgotten, is_open_at, load_result}
+use Rattle.addr2line_units.specs.Locations.{is_found, steps_along}
+use Rattle.addr2line_units.specs.LocationsParsed.{AllAskFor, AreAllParsed, AreParsed, AreReadyForAll, AsksFor, LeadTo, ParsesOnly, StaysParsed, TakeNone, TakeNoneForAll, ready_along}
+use Rattle.addr2line_units.specs.EntriesStayKnown.{IsReadBy, IsReadyAt, StaysKnown}
+use Rattle.addr2line_units.specs.UnitsState.{IsFaultAt, UnitsState, asked_by, has_all_at, has_few_at}
+
+-- nothing is changed but which lines are parsed, how often they were looked at, and that no lookup
+-- of frames is stored: those stay parsed that were, and no others are but those that are asked for
+pub record AfterLines (asks : ℕ → Type 0) (old new : UnitsState) : Type 0 where
+  pub same : new ≡ record old { parsed = new.parsed; steps = new.steps; stop = FindsNothing }
+  pub many : length new.parsed ≡ length old.parsed
+  pub parsed : StaysParsed old.parsed new.parsed
+  pub only : ParsesOnly asks old.parsed new.parsed
+
+-- after a lookup of a row along ranges the same lookup parses nothing more, but after OutOfMemory,
+-- where something is left to parse
+pub record AfterRow {X : Type 0} (probe : ℕ) (ranges : List UnitRange)
+    (result : Result (Option X) Error) (old new : UnitsState) : Type 0 where
+  pub lines : AfterLines (AsksFor old.scope.file.sections old.units probe ranges) old new
+  pub ready : WasNotRefused result
+      → ready_along old.scope.file.sections old.units new.parsed probe ranges ≡ true
+  pub memory : ready_along old.scope.file.sections old.units new.parsed probe ranges ≡ true
+      → WasNotRefused result
+  pub raised : old.steps ≤ new.steps
+  pub counted : is_found result ≡ true → old.steps < new.steps
+  pub cost : new.steps ≤ old.steps + steps_along old.scope.file.sections old.units ranges
+
+-- after the lines of units along ranges were parsed, or after OutOfMemory, where those of a unit
+-- are left that take memory, over readers that share their bytes or don't
+pub record AfterCaching {X : Type 0} (shares : Bool) (ranges : List UnitRange)
+    (result : Result X Error) (old new : UnitsState) : Type 0 where
+  pub lines : AfterLines (LeadTo ranges) old new
+  pub steps : new.steps ≡ old.steps
+  pub parsed : OnOk result (AreParsed new.parsed ranges)
+  pub memory : TakeNone shares old.units new.parsed ranges → WasNotRefused result
+  pub refused : IfErr result (λ e. e ≡ OutOfMemory)
+
+-- after the lines of all units were parsed, up to the first fault, or after OutOfMemory, where
+-- those of a unit are left that take memory, over readers that share their bytes or don't
+pub record AfterLineParse (shares : Bool) (result : Result (Unit {0}) Error) (old new : UnitsState)
+    : Type 0 where
+  pub lines : AfterLines (AllAskFor old.scope.file.sections old.units) old new
+  pub steps : new.steps ≡ old.steps
+  pub ready : WasNotRefused result → AreReadyForAll old.scope.file.sections old.units new.parsed
+  pub memory : TakeNoneForAll shares old.scope.file.sections old.units new.parsed
+      → WasNotRefused result
+  pub parsed : OnOk result (AreAllParsed new.parsed)
+
+-- units were asked for the probe: what was read stays, nothing is read of others, and no detail of
+-- a function but that of the one at the probe
+pub record WereAsked (asks : ℕ → Type 0) (probe : ℕ) (old new : UnitsState) : Type 0 where
+  pub scope : new.scope ≡ old.scope
+  pub units : new.units ≡ old.units
+  pub answers : new.answers ≡ old.answers
+  pub parsed : StaysParsed old.parsed new.parsed
+  pub known : StaysKnown old.known new.known
+  pub only : ParsesOnly (λ n. asks n
+      × (asks_lines_of old.scope old.units old.answers probe n ≡ true)) old.parsed new.parsed
+  pub learns : (n : ℕ) → (slice_get new.known n ≡ slice_get old.known n) ⊎ asks n
+  pub details : LearnsDetailsAt (function_offset_of old.scope old.units old.answers probe) old.known
+      new.known
+  pub raised : old.steps ≤ new.steps
+
+-- after units were asked; the same lookup reads nothing more, but after OutOfMemory, and no lookup
+-- of frames is stored where this one was refused
+pub record AfterAsking {X : Type 0} (asks : ℕ → Type 0) (probe : ℕ) (all few : UnitsState → Bool)
+    (result : Result X Error) (old new : UnitsState) : Type 0 where
+  pub asked : WereAsked asks probe old new
+  pub ready : WasNotRefused result → all new ≡ true
+  pub memory : few new ≡ true → WasNotRefused result
+  pub stop : IfErr result (λ _. new.stop ≡ FindsNothing)
+
+-- after a lookup along ranges
+abbrev pub AfterWalk : {X : Type 0} → OnFault → ℕ → List UnitRange → Result X Error → UnitsState
+    → UnitsState → Type 0
+AfterWalk faults probe ranges result old = AfterAsking
+    (LookupAsks (asked_by faults probe old) ranges) probe
+    (λ s. holds_along (has_all_at probe s) (asked_by faults probe old) ranges)
+    (λ s. holds_along (has_few_at probe s) (asked_by faults probe old) ranges) result old
+
+-- a unit that a lookup asks along ranges has this fault
+abbrev pub IsFaultAlong : OnFault → ℕ → UnitsState → List UnitRange → Error → Type 0
+IsFaultAlong faults probe s ranges e =
+    (n : ℕ) × LookupAsks (asked_by faults probe s) ranges n × IsFaultAt probe s n e
+
+-- nothing is changed but first answers, what is known of units' entries, and that no lookup of
+-- frames is stored
+abbrev pub StayRead : UnitsState → UnitsState → Type 0
+StayRead old new = new
+    ≡ record old { answers = new.answers; known = new.known; stop = FindsNothing }
+
+-- after an answer to the load of the unit of a number nothing is changed but of that unit, of which
+-- what was known stays unless it was open, and nothing is changed where it had an answer; no
+-- function becomes known; after OutOfMemory in the place of given sections all first answers are as
+-- before, and what was known stays known
+pub record AfterAnswer (n : ℕ) (given : Option Sections) (result : Result (Unit {0}) Error)
+    (old new : UnitsState) : Type 0 where
+  pub stays : StayRead old new
+  pub answers : OnOk result (new.answers
+      ≡ with_answer old.scope.file.sections old.scope.file.units old.answers n given)
+  pub refused : IfErr result (λ e. (e ≡ OutOfMemory) × (new.answers ≡ old.answers)
+      × StaysKnown old.known new.known × (is_some given ≡ true))
+  pub others : (k : ℕ) → k ≢ n → slice_get new.known k ≡ slice_get old.known k
+  pub functions : LearnsNoFunctions old.known new.known
+  pub known : is_open_at old.scope.file.sections old.scope.file.units old.answers n ≡ false
+      → StaysKnown old.known new.known
+  pub same : (first : Option Sections) → answer_of old.answers n ≡ Some first
+      → new.known ≡ old.known
+  pub not_open : is_open_at old.scope.file.sections old.scope.file.units old.answers n ≡ false
+      → result ≡ Ok tt
+  pub beside : length old.scope.file.units ≡ length old.answers
+
+-- the same outside a lookup, where the fault of the unit's view refuses too: nothing is changed of
+-- a unit that had an answer, and of one that wasn't open what was known stays
+pub record AfterLoad (n : ℕ) (given : Option Sections) (result : Result (Unit {0}) Error)
+    (old new : UnitsState) : Type 0 where
+  pub stays : StayRead old new
+  pub answers : WasNotRefused result → new.answers
+      ≡ with_answer old.scope.file.sections old.scope.file.units old.answers n given
+  pub begun : (new.answers ≡ old.answers) ⊎ (new.answers
+      ≡ with_answer old.scope.file.sections old.scope.file.units old.answers n given)
+  pub refused : result
+      ≢ load_result old.scope.file.sections old.scope.file.units old.answers n given
+      → (new.answers ≡ old.answers) × StaysKnown old.known new.known
+  pub known : is_open_at old.scope.file.sections old.scope.file.units old.answers n ≡ false
+      → StaysKnown old.known new.known
+  pub same : (first : Option Sections) → answer_of old.answers n ≡ Some first
+      → new.known ≡ old.known
+  pub others : (k : ℕ) → k ≢ n → slice_get new.known k ≡ slice_get old.known k
+  pub functions : LearnsNoFunctions old.known new.known
+  pub not_open : is_open_at old.scope.file.sections old.scope.file.units old.answers n ≡ false
+      → result ≡ load_result old.scope.file.sections old.scope.file.units old.answers n given
+  pub none : given ≡ None
+      → result ≡ load_result old.scope.file.sections old.scope.file.units old.answers n None
+
+-- after the unit of a number is forgotten nothing is changed but of that unit, and that no lookup
+-- of frames is stored; of the unit nothing where it had no answer; no function becomes known
+pub record AfterForget (n : ℕ) (old new : UnitsState) : Type 0 where
+  pub stays : StayRead old new
+  pub answers : new.answers ≡ forgotten old.answers n
+  pub same : answer_of old.answers n ≡ None → new.known ≡ old.known
+  pub others : (k : ℕ) → k ≢ n → slice_get new.known k ≡ slice_get old.known k
+  pub functions : LearnsNoFunctions old.known new.known
+
+-- after the loads of units were listed nothing is changed but that more may be known of those
+-- units, and no function of them, and that no lookup of frames is stored
+pub record AfterListing (asks : ℕ → Type 0) (old new : UnitsState) : Type 0 where
+  pub stays : StayRead old new
+  pub answers : new.answers ≡ old.answers
+  pub known : StaysKnown old.known new.known
+  pub learns : (n : ℕ) → (slice_get new.known n ≡ slice_get old.known n) ⊎ asks n
+  pub functions : LearnsNoFunctions old.known new.known
+
+-- after a parse of all functions open units are decided by none, up to the first fault; where
+-- memory was refused, some of the first ones. What was known of the others stays, and where
+-- functions alone are read no detail becomes known. Unless memory was refused all is known that the
+-- parse reads, and where it is, none was refused; where it was before, the result is that of the
+-- reading, and nothing is changed of what is known and answered. Without a fault all is read; of
+-- units behind the first fault nothing becomes known
+pub record AfterReading (depth : ReadingDepth) (result : Result (Unit {0}) Error)
+    (old new : UnitsState) : Type 0 where
+  pub stays : StayRead old new
+  pub answers : WasNotRefused result → new.answers
+      ≡ answers_after_parse depth old.scope old.scope.file.units old.answers
+  pub begun : AreFirstDecided depth old.scope old.scope.file.units old.answers new.answers
+  pub known : (probe n : ℕ)
+      → is_open_at old.scope.file.sections old.scope.file.units old.answers n ≡ false
+      → knows_at old.known probe n ≡ true → knows_at new.known probe n ≡ true
+  pub whole : (kind : ReadingDepth) (n : ℕ)
+      → is_open_at old.scope.file.sections old.scope.file.units old.answers n ≡ false
+      → IsReadyAt kind old.known n → IsReadyAt kind new.known n
+  pub only : (n : ℕ) → (slice_get new.known n ≡ slice_get old.known n)
+      ⊎ AreReadBefore depth old.scope old.scope.file.units old.answers n
+  pub details : depth ≡ depths.Functions → LearnsNoDetails old.known new.known
+  pub read : OnOk result (AllByRecursion (IsReadBy depth) new.known)
+  pub whole_known : AllByRecursion (IsReadBy depth) old.known → result ≡ Ok tt
+  pub ready : WasNotRefused result
+      → AreReadyFor depth old.scope old.scope.file.units new.answers new.known
+  pub memory : AreReadyFor depth old.scope old.scope.file.units new.answers new.known
+      → WasNotRefused result
+  pub exact : AreReadyFor depth old.scope old.scope.file.units old.answers old.known
+      → result ≡ read_of_units depth old.scope old.scope.file.units old.answers
+  pub same : AreReadyFor depth old.scope old.scope.file.units old.answers old.known
+      → (new.answers ≡ old.answers) × (new.known ≡ old.known)
+  pub all : depth ≡ depths.Details → OnOk result
+      ((probe n : ℕ) → knows_at new.known probe n ≡ true)
+  pub beside : length old.scope.file.units ≡ length old.answers

@@ -1,0 +1,60 @@
+-- What a context is made of (DWARF 5, sections 3.1 and 7.3.6): its units with their languages, the
+-- ranges of addresses that lead to each (specs/UnitsRanged.antt), and the units of the
+-- supplementary file.
+-- Own: the first fault refuses the context: of a set's header of .debug_aranges; then of a unit, in
+-- their order; then of a header of the supplementary file.
+-- Own: in the supplementary file every unit whose record can be read counts.
+use Rattle.std.specs.Prelude.{List, [], map, Option, Some, None, Result, Ok}
+use Rattle.std.specs.Result.{result_ok}
+use Rattle.addr2line_units.specs.Common.{Error, ◌>>=◌, Costed, free, UnitHeaderFields, Sections, SupSections, UnitRecord, unit_record_of, all_headers}
+use Rattle.gimli.specs.declared.dwarf.DwarfFileType.TheVariants.{Main}
+use Rattle.addr2line_units.specs.declared.index.UnitRange.{UnitRange}
+use Rattle.addr2line_units.specs.UnitsOfHeaders.{by_abbreviations, units_of}
+use Rattle.addr2line_units.specs.UnitsRanged.{IndexedUnit, indexed_of, unit_ranges_from, ranged_units}
+
+-- what a context is made of
+pub record UnitIndex : Type 0 where
+  pub units : List IndexedUnit
+  pub ranges : List UnitRange
+  pub sup_units : List UnitRecord
+
+-- the unit of a header of the supplementary file, none where its record is faulty
+abbrev pub sup_unit_of_header : Sections → UnitHeaderFields → Costed (Option UnitRecord)
+sup_unit_of_header d h = by_abbreviations d h (Ok (result_ok (unit_record_of d h)))
+
+-- the sections of a supplementary file as those of a file of its own
+abbrev pub sup_sections : SupSections → Sections
+sup_sections s = record {
+  debug_abbrev = s.debug_abbrev;
+  debug_addr = s.debug_addr;
+  debug_aranges = s.debug_aranges;
+  debug_info = s.debug_info;
+  debug_line = s.debug_line;
+  debug_line_str = s.debug_line_str;
+  debug_ranges = s.debug_ranges;
+  debug_rnglists = s.debug_rnglists;
+  debug_str = s.debug_str;
+  debug_str_offsets = s.debug_str_offsets;
+  file_type = Main;
+  sup = None;
+}
+
+-- the units of the supplementary file as they are read, or the first fault
+abbrev pub sup_read : Option SupSections → Costed (List UnitRecord)
+sup_read None = free (Ok [])
+sup_read (Some s) = units_of (sup_unit_of_header (sup_sections s)) (all_headers s.debug_info)
+
+-- these units, or the fault
+abbrev pub sup_units : Option SupSections → Result (List UnitRecord) Error
+sup_units sup = (sup_read sup).given
+
+-- what a context of the sections is made of, or why it is refused
+abbrev pub index_units : Sections → Result UnitIndex Error
+index_units d = do
+  units ← ranged_units d
+  sup ← sup_units d.sup
+  Ok (record {
+    units = map indexed_of units;
+    ranges = unit_ranges_from d 0 units;
+    sup_units = sup;
+  })

@@ -1,0 +1,92 @@
+-- The units of a context and their ranges as they are read, one after another, as the private
+-- functions see them.
+use Rattle.std.specs.Prelude.{Bool, List, [], ◌++◌, length, map, nat_lt, Ok}
+use Rattle.addr2line_units.specs.Common.{Range, Costed, free, Section, UnitHeaderFields, Sections, UnitRecord, all_headers}
+use Rattle.gimli_read.specs.Costed.{◌>>=◌}
+use Rattle.addr2line_units.specs.declared.index.UnitArange.{UnitArange}
+use Rattle.addr2line_units.specs.declared.index.UnitRange.{UnitRange}
+use Rattle.addr2line_units.specs.declared.unit.UnitLines.{UnitLines}
+use Rattle.addr2line_units.specs.declared.units.Index.{Index}
+use Rattle.addr2line_units.specs.declared.units.IndexedUnits.{IndexedUnits}
+use Rattle.addr2line_units.specs.UnitLinesCached.{indexed_unit, indexed_units, parsed_units}
+use Rattle.addr2line_units.specs.UnitsOfHeaders.{put_to, units_of}
+use Rattle.addr2line_units.specs.UnitsRanged.{IndexedUnit, indexed_of, RangedUnit, has_lines, unit_ranges_from, unit_of_header}
+use Rattle.addr2line_units.specs.IndexAranges.{aranges_in, lists_aranges}
+use Rattle.addr2line_units.specs.UnitsIndex.{sup_read}
+
+-- units, the ranges that lead to them, and of which units the lines are parsed
+pub record IndexState : Type 0 where
+  pub units : List IndexedUnit
+  pub ranges : List UnitRange
+  pub parsed : List Bool
+
+-- before the first unit
+abbrev pub no_index : IndexState
+no_index = record { units = []; ranges = []; parsed = [] }
+
+-- those of units that are read
+abbrev pub index_of : Sections → List RangedUnit → IndexState
+index_of d units = record {
+  units = map indexed_of units;
+  ranges = unit_ranges_from d 0 units;
+  parsed = map has_lines units;
+}
+
+-- a list that is put in order, which takes memory where it has something
+abbrev pub sorted : {X : Type 0} → List X → Costed (List X)
+sorted xs = record { given = Ok xs; takes_memory = λ shares. nat_lt 0 (length xs) }
+
+-- the ranges that a section lists for units, as they are read
+abbrev pub aranges_read : Section → Costed (List UnitArange)
+aranges_read s =
+    record { given = aranges_in s; takes_memory = λ shares. lists_aranges s } >>= sorted
+
+-- the units of the sections with the ranges that .debug_aranges lists, or the first fault
+abbrev pub indexed_with : Sections → List UnitArange → Costed IndexState
+indexed_with d aranges = units_of (unit_of_header d aranges) (all_headers d.debug_info)
+    >>= λ units. free (Ok (index_of d units))
+
+-- the units of the sections, or the first fault
+abbrev pub index_read : Sections → Costed IndexState
+index_read d = do
+  aranges ← aranges_read d.debug_aranges
+  index ← indexed_with d aranges
+  ranges ← sorted index.ranges
+  free (Ok index)
+
+-- units that are read, behind those that were
+abbrev pub appended : Sections → IndexState → List RangedUnit → IndexState
+appended d m units = record {
+  units = m.units ++ map indexed_of units;
+  ranges = m.ranges ++ unit_ranges_from d (length m.units) units;
+  parsed = m.parsed ++ map has_lines units;
+}
+
+-- the unit of one more header
+abbrev pub with_header : Sections → List UnitArange → IndexState → UnitHeaderFields
+    → Costed IndexState
+with_header d aranges m h = put_to (appended d) m (unit_of_header d aranges h)
+
+-- what was read so far
+abbrev pub index_seen : {R : Type 0} → Index R → IndexState
+index_seen i = record {
+  units = indexed_units i.dw_units.items i.caches.items;
+  ranges = i.ranges.items;
+  parsed = parsed_units i.caches.items;
+}
+
+-- the units of a file and their ranges
+abbrev pub units_seen : {R : Type 0} → IndexedUnits R → IndexState
+units_seen u = record {
+  units = indexed_units u.dw_units.items u.caches.items;
+  ranges = u.ranges;
+  parsed = parsed_units u.caches.items;
+}
+
+-- a unit and the ranges that are given for it
+abbrev pub ranged_seen : UnitRecord → UnitLines → List Range → RangedUnit
+ranged_seen dw_unit u listed = record { indexed = indexed_unit dw_unit u; listed = listed }
+
+-- whether memory may be taken for all that a context has
+abbrev pub context_takes_memory : Bool → Sections → Bool
+context_takes_memory shares d = (index_read d >>= λ index. sup_read d.sup).takes_memory shares

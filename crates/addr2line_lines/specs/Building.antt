@@ -100,8 +100,8 @@ built rows sequences first = record {
   pending = drop first rows;
 }
 
--- the rows of sequences end at or before place first, which is no further than the rows go, and they are
--- as many as there are before it
+-- the rows of sequences end at or before place first, which is no further than the rows go, and
+-- they are as many as there are before it
 pub record IsBuilder (rows : List Row) (sequences : List LineSequence) (first : ℕ) : Type 0 where
   pub upto : first ≤ length rows
   pub each : AllByRecursion (RowsEndBy first) sequences

@@ -18,8 +18,8 @@ use Rattle.addr2line_lines.specs.InlinedChain.{inlined_chain}
 use Rattle.addr2line_lines.specs.InlinedEntries.{InlinedEntry}
 use Rattle.addr2line_lines.specs.InlinedOrder.{inlined_sooner, inlined_place}
 
--- names of functions, inlined entries and ranges, and of entries that are referred to what is known:
--- their names or faults
+-- names of functions, inlined entries and ranges, and of entries that are referred to what is
+-- known: their names or faults
 pub record CachedDetails : Type 0 where
   pub names : List (Option Section)
   pub found : FoundInlined

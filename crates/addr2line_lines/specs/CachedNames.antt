@@ -55,7 +55,7 @@ pub record AreNamesMore (scope : Scope) (u : UnitRecord) (old new : List CachedN
   pub right : AreNamesOf scope u new
   pub grown : IsGrown old new
 
--- the same, where references lead somewhere
+-- the same, where the units that references lead to are in order
 abbrev pub GrowNames : Scope → UnitRecord → List CachedName → List CachedName → Type 0
 GrowNames scope u old new = IsScope scope × AreNamesMore scope u old new
 

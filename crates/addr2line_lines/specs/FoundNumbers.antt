@@ -9,8 +9,8 @@ use Rattle.addr2line_lines.specs.FoundAttributes.{is_call}
 use Rattle.addr2line_lines.specs.FoundRanges.{is_address_name}
 use Rattle.addr2line_lines.specs.Names.{is_origin}
 
--- whether an attribute is read as a number where its form is a frequent one: of a call, of addresses,
--- or of the entry that it stems from
+-- whether an attribute is read as a number where its form is a frequent one: of a call, of
+-- addresses, or of the entry that it stems from
 abbrev pub is_number_name : DwAt → Bool
 is_number_name name = is_call name || is_address_name name || is_origin name
 

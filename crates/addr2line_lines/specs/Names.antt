@@ -2,8 +2,8 @@
 -- Own: a string that can't be read gives no name. The last linkage name of an entry's own counts,
 -- else the first attribute that gives a name, by itself or by the entry that it refers to.
 -- Own: of an entry that is referred to, the first linkage name that can be read counts and ends its
--- reading, else the last name, else the entry that its last reference names; at most 16 such entries
--- are visited.
+-- reading, else the last name, else the entry that its last reference names; at most 16 such
+-- entries are visited.
 use Rattle.std.specs.Prelude.{ℕ, zero, suc, ◌==◌, ◌||◌, Bool, List, [], ◌∷◌, Option, Some, None, Result, Ok, Err, if◌then◌else◌}
 use Rattle.std.specs.Option.{option_or}
 use Rattle.std.specs.Result.{result_ok}

@@ -72,8 +72,8 @@ pub record AreBlocks (rows : List Row) (addresses : List ℕ) : Type 0 where
   pub at : (k : ℕ) → block_rows * k < length rows
       → slice_index addresses k ≡ row_address_at rows (block_rows * k)
 
--- there are as many rows as sequences have, whose rows all lie among them; the searched sequences are
--- the listed ones in order, and the coarse list has the first address of each block
+-- there are as many rows as sequences have, whose rows all lie among them; the searched sequences
+-- are the listed ones in order, and the coarse list has the first address of each block
 pub record IsPacked (rows : List Row) (coarse : List ℕ) (listed sequences : List LineSequence)
     : Type 0 where
   pub coarse_is : AreBlocks rows coarse

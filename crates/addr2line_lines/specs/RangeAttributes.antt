@@ -38,7 +38,8 @@ with_range_attribute d u r a =
     Ok (record r { ranges_offset = offset }))
     else Ok r
 
--- what attributes say, the last of each counting, or the first fault of an address's index
+-- what attributes say, the last of each counting, or the first fault of an index, of an address or
+-- a range list
 abbrev pub range_attributes_of
     : Sections → UnitRecord → List NamedValue → Result RangeAttributes Error
 range_attributes_of d u attributes =

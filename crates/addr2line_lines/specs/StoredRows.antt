@@ -1,7 +1,7 @@
 -- Rows as they are stored, as the private functions see them.
--- Own: rows take twelve bytes each as long as file indexes and columns have 16 bits and addresses have
--- the upper half of the first row that is stored; where none is stored any more, the next row's takes
--- its place. From the first row on that doesn't fit, all are stored whole.
+-- Own: rows take twelve bytes each as long as file indexes and columns have 16 bits and addresses
+-- have the upper half of the first row that is stored; where none is stored any more, the next
+-- row's takes its place. From the first row on that doesn't fit, all are stored whole.
 use Rattle.std.specs.Prelude.{ℕ, ◌≡◌, ◌⊎◌, ◌+◌, ◌*◌, ◌^◌, ◌/◌, ◌%◌, ◌==◌, ◌&&◌, Bool, true, List, [], length, map, nat_lt, if◌then◌else◌}
 use Rattle.addr2line_lines.specs.declared.row.Row.{Row}
 use Rattle.addr2line_lines.specs.declared.rows.RowStore.{RowStore}

@@ -16,8 +16,8 @@ running_cmp x y =
     ordering_then (ordering_then (nat_cmp y.0.0 x.0.0) (nat_cmp y.0.1 x.0.1))
     (nat_cmp y.0.2 x.0.2)
 
--- whether the first running range is shorter than another range, or as long and of no greater place,
--- and ends no sooner
+-- whether the first running range is shorter than another range, or as long and of no greater
+-- place, and ends no sooner
 abbrev pub is_outdone : RunningRange → List RunningRange → Bool
 is_outdone range [] = false
 is_outdone range (o ∷ running) =
@@ -51,9 +51,9 @@ pub record SomeIsNoLonger (running : List RunningRange) (probe : ℕ) (address :
   pub ends_past : probe < other.range.end
   pub no_longer : IsNoLonger address_begin address_end address_function other address
 
--- all below an address is cut into segments; the running ranges are a heap, each of a range that has
--- begun; where a range before a place holds an address from there on, one runs that ends past it and
--- is no longer
+-- all below an address is cut into segments; the running ranges are a heap, each of a range that
+-- has begun; where a range before a place holds an address from there on, one runs that ends past
+-- it and is no longer
 pub record IsSwept (addresses : List FunctionAddress) (next at : ℕ) (running : List RunningRange)
     (segments : List FunctionAddress) : Type 0 where
   pub heap : IsHeap running_cmp running

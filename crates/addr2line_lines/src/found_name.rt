@@ -88,8 +88,8 @@ impl<R: Reader> FoundName<R> {
         }
     }
 
-    /// The name for one entry alone. Refused `OutOfMemory` alone, where readers share their bytes and
-    /// it isn't its entry's own.
+    /// The name for one entry alone. Refused `OutOfMemory` alone, where readers share their bytes
+    /// and it isn't its entry's own.
     pub(crate) fn own(self) -> Result<Option<R>, Error>
         ensures gives { ExactlyUnlessOomIf R.shares (option_map R.section) result
             (Ok (found_name R.section self)) }

@@ -259,8 +259,8 @@ impl<R: Reader> AttributeSink<R, Attribute<R>> for RangeSink<'_, R> {
 }
 
 /// The range attributes among those of specifications. A value that can't be read is a fault before
-/// that of an index, of an address or a range list, so the first of these waits until all values are
-/// read.
+/// that of an index, of an address or a range list, so the first of these waits until all values
+/// are read.
 pub(crate) fn read_range_attributes<R: Reader>(
     unit: UnitRef<'_, R>,
     entries: &mut EntriesRaw<'_, R>,

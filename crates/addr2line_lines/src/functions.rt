@@ -290,9 +290,9 @@ impl<R: Reader> Functions<R> {
     /// that references in the unit give may be cached too, and their faults. Refused as the first
     /// fault of an entry up to the end of the function, of a reference that a name follows, of
     /// range attributes or of a range list; `UnexpectedEof` where closing entries are missing. May
-    /// fail with `OutOfMemory` instead, which is not cached: where a reader's parts share its bytes,
-    /// where nothing is refused, or where the function's own entry has no fault and, before any
-    /// fault, an inlined entry gives a range or an entry has children. Past the last function
+    /// fail with `OutOfMemory` instead, which is not cached: where a reader's parts share its
+    /// bytes, where nothing is refused, or where the function's own entry has no fault and, before
+    /// any fault, an inlined entry gives a range or an entry has children. Past the last function
     /// nothing is read. Takes no memory where the detail or its fault is cached. Source: DWARF 5,
     /// section 3.3.8.
     pub fn read(&mut self, scope: Scope<'_, R>, unit: &Unit<R>, place: usize) -> Result<(), Error>

@@ -114,7 +114,7 @@ fn is_call(name: DwAt) -> bool
     )
 }
 
-// Whether an attribute's value is mostly a number.
+// Whether an attribute's value is a number in most forms.
 #[inline(always)]
 fn is_number_name(name: DwAt) -> bool
     ensures gives { result ≡ is_number_name name }
@@ -148,7 +148,7 @@ impl WantedNames for InlinedWanted {
     }
 }
 
-// Those of them whose values are mostly numbers.
+// Those of them whose values are numbers in most forms.
 struct InlinedNumbers;
 
 impl WantedNames for InlinedNumbers {

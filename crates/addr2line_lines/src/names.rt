@@ -18,8 +18,8 @@ const MOST_STEPS: usize = 8;
 // A slot of no name: no list is so long that a name has this place.
 const NO_PLACE: u32 = u32::MAX;
 
-// The name that an entry gives, or its fault, beside where the entry begins, in bytes from the start
-// of the unit's length. So each takes sixteen bytes; an entry further on has none.
+// The name that an entry gives, or its fault, beside where the entry begins, in bytes from the
+// start of the unit's length. So each takes sixteen bytes; an entry further on has none.
 #[derive(Drop)]
 enum CachedName<R: Reader> {
     Named { offset: u32, name: Rc<Option<R>> },
@@ -94,9 +94,9 @@ fn set_slot(slots: &mut Vec<u32>, offset: UnitOffset, place: usize) {
     }
 }
 
-// Makes room for more slots, if there are at most two for each name, and sets them anew. Where memory
-// is refused there are few until some more names are added, and most names are looked up again until
-// then.
+// Makes room for more slots, if there are at most two for each name, and sets them anew. Where
+// memory is refused there are few until some more names are added, and most names are looked up
+// again until then.
 fn make_slots<R: Reader>(names: &[CachedName<R>], slots: &mut Vec<u32>) {
     if slots.len() / 2 > names.len() {
         return;
@@ -172,8 +172,8 @@ impl<R: Reader> NameCache<R> {
         }
     }
 
-    // Adds the name of an entry that others share, or nothing where it can't be shared once more, or
-    // the entry begins too far on.
+    // Adds the name of an entry that others share, or nothing where it can't be shared once more,
+    // or the entry begins too far on.
     fn push_shared(&mut self, offset: UnitOffset, name: &Rc<Option<R>>)
         ensures after { IsOneMoreAtMost
             (name_at_offset offset (Ok (option_map R.section name.now.value)))
@@ -188,8 +188,8 @@ impl<R: Reader> NameCache<R> {
         }
     }
 
-    /// Adds the name of an entry, or nothing where memory is refused or the entry begins too far on,
-    /// and gives it back.
+    /// Adds the name of an entry, or nothing where memory is refused or the entry begins too far
+    /// on, and gives it back.
     pub(crate) fn add(&mut self, offset: UnitOffset, name: Option<R>) -> FoundName<R>
         ensures gives { found_name R.section result ≡ option_map R.section name }
         ensures after { IsOneMoreAtMost (name_at_offset offset (Ok (option_map R.section name)))
@@ -204,8 +204,8 @@ impl<R: Reader> NameCache<R> {
         }
     }
 
-    /// Adds the fault of an entry's name, or nothing where memory is refused or the entry begins too
-    /// far on.
+    /// Adds the fault of an entry's name, or nothing where memory is refused or the entry begins
+    /// too far on.
     pub(crate) fn add_fault(&mut self, offset: UnitOffset, error: Error)
         ensures after { IsOneMoreAtMost (name_at_offset offset (Err error))
             (as_names R.section self.old) (as_names R.section self.new) }

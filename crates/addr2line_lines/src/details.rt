@@ -85,7 +85,7 @@ impl<R: Reader> Details<R> {
             (on_parts (stored_detail_at (as_scope scope.entry) unit.now offset.0)) }
         ensures kept { AreDetailsMore (as_details R.section self.old)
             (as_details R.section self.new) }
-        ensures there { IfOk result (IsDetailPlace (as_details R.section self.new)) }
+        ensures within { IfOk result (IsDetailPlace (as_details R.section self.new)) }
         ensures after { IfOk result (IsNextPlace (as_details R.section self.old)
             (as_details R.section self.new)) }
         ensures names { OnErr result (map (option_map R.section) self.new.names.items ≡
@@ -143,7 +143,7 @@ impl<R: Reader> Details<R> {
             (on_parts (stored_detail_at (as_scope scope.entry) unit.now offset.0)) }
         ensures kept { AreDetailsMore (as_details R.section self.old)
             (as_details R.section self.new) }
-        ensures there { IfOk result (IsDetailPlace (as_details R.section self.new)) }
+        ensures within { IfOk result (IsDetailPlace (as_details R.section self.new)) }
         ensures after { IfOk result (IsNextPlace (as_details R.section self.old)
             (as_details R.section self.new)) }
         ensures refused { IfErr result (IsRefusedThen (as_details R.section self.old)
@@ -193,7 +193,7 @@ impl<R: Reader> Details<R> {
             (exceeds_inline_room (cached_chain (as_details R.section self.now) detail.now probe))
             (λ chain. map (entry_among (as_details R.section self.now).found.entries) chain.items)
             result (Ok (cached_chain (as_details R.section self.now) detail.now probe)) }
-        ensures there { IfOk result (λ chain. AllByRecursion
+        ensures within { IfOk result (λ chain. AllByRecursion
             (λ n. n < length (as_details R.section self.now).found.entries) chain.items) }
     {
         let ranges = &self.inlined.ranges;

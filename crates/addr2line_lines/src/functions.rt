@@ -248,7 +248,7 @@ impl<R: Reader> Functions<R> {
             unit.entry.unit.now) (λ f. f.ranges) result
             (functions_of unit.entry.dwarf.now unit.entry.unit.now) }
         ensures empty { IfOk result AreUnread }
-        ensures right { IfOk result AreListed }
+        ensures functions { IfOk result AreListed }
         ensures names { IfOk result (λ f. f.names ≡ []) }
     {
         let FunctionLists {
@@ -269,7 +269,7 @@ impl<R: Reader> Functions<R> {
         ensures found { option_and_then (cached_offset_at self.now) result
             ≡ function_offset_at probe self.now.ranges }
         ensures gives { result ≡ function_place_at probe self.now }
-        ensures there { IfSome result (λ n. n < length self.now.functions) }
+        ensures within { IfSome result (λ n. n < length self.now.functions) }
     {
         self.addresses.find(probe)
     }
@@ -333,7 +333,7 @@ impl<R: Reader> Functions<R> {
             self.old.functions) (λ x. x) result
             (details_fault (as_scope scope.entry) unit.now self.old.functions) }
         ensures after { IsTableMore self.old self.new }
-        ensures right { AreDetailsOf (as_scope scope.entry) unit.now self.old
+        ensures read { AreDetailsOf (as_scope scope.entry) unit.now self.old
             → AreDetailsOf (as_scope scope.entry) unit.now self.new }
         ensures known { OnOk result (AllByRecursion HasDetail self.new.functions) }
         ensures whole { result ≢ Err OutOfMemory → AreCachedToFault self.new.functions }
@@ -406,7 +406,7 @@ impl<R: Reader> Functions<R> {
             (exceeds_inline_room (inlined_chain probe (cached_inlined self.now place)))
             (λ chain. map (entry_among self.now.inlined) chain.items) result
             (Ok (inlined_chain probe (cached_inlined self.now place))) }
-        ensures there { IfOk result (λ chain. AllByRecursion
+        ensures within { IfOk result (λ chain. AllByRecursion
             (λ n. n < length self.now.inlined) chain.items) }
     {
         match read_detail_of(&self.functions, place) {

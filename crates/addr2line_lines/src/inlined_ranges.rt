@@ -104,7 +104,7 @@ impl ShortList<ShortRange> {
     /// Puts the ranges from a place on in order of depth, then begin, then end, then function.
     /// Takes no memory.
     pub(crate) fn sort_from(&mut self, start: usize)
-        requires there { start ≤ length self.old.elements }
+        requires within { start ≤ length self.old.elements }
         ensures gives { self.new.elements ≡ take start self.old.elements
             ++ in_order inlined_sooner (drop start self.old.elements) }
         ensures width { self.new.width ≡ self.old.width }

@@ -103,7 +103,7 @@ impl PackedRows {
 
     /// A row by its place.
     pub(crate) fn row(&self, place: usize) -> Row
-        requires there { place < length self.now.rows }
+        requires within { place < length self.now.rows }
         ensures gives { slice_get self.now.rows place ≡ Some result }
     {
         self.rows.row(place)
@@ -111,7 +111,7 @@ impl PackedRows {
 
     /// The address of a row by its place.
     pub(crate) fn address(&self, place: usize) -> u64
-        requires there { place < length self.now.rows }
+        requires within { place < length self.now.rows }
         ensures gives { result ≡ row_address_at self.now.rows place }
     {
         self.rows.address(place)
@@ -126,7 +126,7 @@ impl PackedRows {
 
     /// What holds of the rows and sequences.
     pub(crate) fn known(&self)
-        ensures right { IsTable self.now.sequences self.now.rows }
+        ensures sequences { IsTable self.now.sequences self.now.rows }
         ensures gives { self.now.sequences ≡ in_order packed_sooner self.now.listed }
         ensures within { AllByRecursion (IsAmong self.now.rows) self.now.listed }
         ensures bound { length self.now.sequences < 2 ^ 64 }

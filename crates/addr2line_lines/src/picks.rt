@@ -42,7 +42,7 @@ impl Stored for InlinedFunctionAddress {
 pub(crate) fn sort_inlined<S: Stored<Whole = InlinedFunctionAddress>>(upper: u32, ranges: &mut [S])
     ensures gives { map (S.whole upper) ranges.new
         ≡ in_order inlined_sooner (map (S.whole upper) ranges.old) }
-    ensures right { IsInOrder inlined_sooner (map (S.whole upper) ranges.new) }
+    ensures after { IsInOrder inlined_sooner (map (S.whole upper) ranges.new) }
 {
     ranges.sort_unstable_by_key(|r| {
         let whole = r.whole(upper);
@@ -61,7 +61,7 @@ pub(crate) fn sort_inlined_from<S: Stored<Whole = InlinedFunctionAddress>>(
     ranges: &mut Vec<S>,
     start: usize,
 )
-    requires there { start ≤ length ranges.old.items }
+    requires within { start ≤ length ranges.old.items }
     ensures gives { map (S.whole upper) ranges.new.items
         ≡ take start (map (S.whole upper) ranges.old.items)
         ++ in_order inlined_sooner (drop start (map (S.whole upper) ranges.old.items)) }

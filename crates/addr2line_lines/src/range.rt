@@ -35,7 +35,7 @@ impl LineSpan {
 // The span of the row at a place: up to the address of the next row before `until`, else up to
 // `end`.
 fn span_at(packed: &PackedRows, place: usize, until: usize, end: u64) -> LineSpan
-    requires there { place < until }
+    requires within { place < until }
     requires inside { until ≤ length packed.now.rows }
     ensures gives { spans_left end packed.now.rows place until ≡
         as_span result ∷ spans_left end packed.now.rows (place + 1) until }

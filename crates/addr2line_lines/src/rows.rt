@@ -262,7 +262,7 @@ impl RowStore {
 
     // A row by its place.
     fn row(&self, place: usize) -> Row
-        requires there { place < length (whole_rows self.now) }
+        requires within { place < length (whole_rows self.now) }
         ensures gives { slice_get (whole_rows self.now) place ≡ Some result }
     {
         match self {
@@ -305,7 +305,7 @@ impl Rows {
 
     /// A row by its place.
     pub(crate) fn row(&self, place: usize) -> Row
-        requires there { place < length self.now.rows }
+        requires within { place < length self.now.rows }
         ensures gives { slice_get self.now.rows place ≡ Some result }
     {
         self.store.row(place)
@@ -313,7 +313,7 @@ impl Rows {
 
     /// The address of a row by its place.
     pub(crate) fn address(&self, place: usize) -> u64
-        requires there { place < length self.now.rows }
+        requires within { place < length self.now.rows }
         ensures gives { result ≡ row_address_at self.now.rows place }
     {
         self.row(place).address

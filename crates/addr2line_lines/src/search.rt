@@ -32,7 +32,7 @@ pub(crate) trait Table {
 
     /// A look at a sequence.
     fn sequence(&mut self, place: usize) -> LineSequence
-        requires there { place < length (sequences self.old) }
+        requires within { place < length (sequences self.old) }
         ensures gives { slice_get (sequences self.old) place ≡ Some result }
         ensures steps { steps self.new ≡ steps self.old + 1 }
         ensures sequences { sequences self.new ≡ sequences self.old }
@@ -40,7 +40,7 @@ pub(crate) trait Table {
 
     /// A look at the first address of a block.
     fn block(&mut self, place: usize) -> u64
-        requires there { block_rows * place < length (rows self.old) }
+        requires within { block_rows * place < length (rows self.old) }
         ensures gives { result ≡ row_address_at (rows self.old) (block_rows * place) }
         ensures steps { steps self.new ≡ steps self.old + 1 }
         ensures sequences { sequences self.new ≡ sequences self.old }
@@ -48,7 +48,7 @@ pub(crate) trait Table {
 
     /// A look at a row.
     fn row(&mut self, place: usize) -> Row
-        requires there { place < length (rows self.old) }
+        requires within { place < length (rows self.old) }
         ensures gives { slice_get (rows self.old) place ≡ Some result }
         ensures steps { steps self.new ≡ steps self.old + 1 }
         ensures sequences { sequences self.new ≡ sequences self.old }

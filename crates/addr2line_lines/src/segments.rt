@@ -45,7 +45,7 @@ impl Sweep {
     fn new(alloc: Global) -> Sweep
         ensures empty { (result.at ≡ 0) × (heap_items result.running ≡ [])
             × (result.segments.items ≡ []) }
-        ensures right { (addresses : List FunctionAddress) → IsSweptBy addresses 0 result }
+        ensures none { (addresses : List FunctionAddress) → IsSweptBy addresses 0 result }
     {
         Sweep {
             at: 0,
@@ -84,7 +84,7 @@ impl Sweep {
         ensures gives { OnOk result (self.new.segments.items ≡ self.old.segments.items
             ++ segment_to until self.old.at (heap_items self.old.running)) }
         ensures kept { heap_items self.new.running ≡ heap_items self.old.running }
-        ensures right { IsGreatestFirst (heap_items self.old.running) }
+        ensures known { IsGreatestFirst (heap_items self.old.running) }
         ensures refused { IfErr result (λ e. e ≡ OutOfMemory) }
     {
         if let Some(Reverse((_, function, _))) = self.running.peek() {
@@ -105,7 +105,7 @@ impl Sweep {
     //
     // Refused `OutOfMemory` alone.
     fn close(&mut self, limit: u64) -> Result<(), Error>
-        ensures right { (addresses : List FunctionAddress) → (next : ℕ)
+        ensures after { (addresses : List FunctionAddress) → (next : ℕ)
             → IsBegunFrom addresses next limit → IsSweptBy addresses next self.old
             → OnOk result (IsSweptBy addresses next self.new) }
         ensures none { OnOk result (first_end limit (heap_items self.new.running) ≡ None) }
@@ -129,7 +129,7 @@ impl Sweep {
     // Refused `OutOfMemory` alone.
     fn enter(&mut self, address: FunctionAddress) -> Result<(), Error>
         requires closed { first_end address.range.begin (heap_items self.old.running) ≡ None }
-        ensures right { (addresses : List FunctionAddress) → (next : ℕ) → (d : FunctionAddress)
+        ensures after { (addresses : List FunctionAddress) → (next : ℕ) → (d : FunctionAddress)
             → IsBegunFrom addresses next address.range.begin → next < length addresses
             → slice_index_or addresses next d ≡ address → IsSweptBy addresses next self.old
             → OnOk result (IsSweptBy addresses (next + 1) self.new) }
@@ -185,7 +185,7 @@ fn are_disjoint(addresses: &[FunctionAddress]) -> bool
 
 // Puts ranges in order of begin.
 fn sort_addresses(addresses: &mut Vec<FunctionAddress>)
-    ensures right { IsNonDecreasingBy address_begin addresses.new.items }
+    ensures after { IsNonDecreasingBy address_begin addresses.new.items }
     ensures kept { IsPermutation addresses.old.items addresses.new.items }
 {
     addresses.sort_unstable_by_key(|address| address.range.begin);

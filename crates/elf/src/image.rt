@@ -131,7 +131,7 @@ impl FileImage {
 
     // A file of these pieces; none where they don't stand in order in it, or where there is none.
     pub(crate) fn of_pieces(alloc: Global, len: u64, pieces: Vec<Piece>) -> Option<FileImage>
-        ensures right { IfSome result (λ image. (bytes : List ℕ) → len ≡ length bytes
+        ensures made { IfSome result (λ image. (bytes : List ℕ) → len ≡ length bytes
             → ArePiecesOf bytes pieces.items → Shows image bytes) }
         ensures gives { IfSome result (λ image.
             image ≡ record { len = len; pieces = pieces.items }) }

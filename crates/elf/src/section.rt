@@ -251,7 +251,7 @@ pub(crate) fn with_readable(
     names: &[u8],
 ) -> Result<FileImage, LoaderError>
     ensures gives { IfOk result (λ f. image_bytes f ≡ image_bytes file) }
-    ensures there { IfOk result (λ f. AreReadable f names.now sections.now) }
+    ensures known { IfOk result (λ f. AreReadable f names.now sections.now) }
     ensures exact { AreReadable file names.now sections.now → result ≡ Ok file }
     ensures none { sections.now ≡ [] → IsOk result }
     ensures refused { IfErr result (λ e. e ≡ OutOfMemory) }

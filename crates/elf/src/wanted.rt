@@ -378,7 +378,7 @@ fn planned<S: PartSource>(alloc: Global, source: &S) -> Result<Option<Vec<Range>
 fn read_planned<S: PartSource>(alloc: Global, source: &S) -> Result<Option<FileImage>, AllocError>
     ensures gives { IfSome (S.bytes source.now) (λ bytes. IfOk result (λ found. IfSome found (λ f.
         Shows f bytes))) }
-    ensures there { IfOk result (λ found. IfSome found (λ f. has_wanted f ≡ true)) }
+    ensures whole { IfOk result (λ found. IfSome found (λ f. has_wanted f ≡ true)) }
 {
     let Some(ranges) = planned(alloc, source)? else {
         return Ok(None);
@@ -405,7 +405,7 @@ pub fn read_wanted<S: PartSource>(
 ) -> Result<Option<FileImage>, AllocError>
     ensures gives { IfSome (S.bytes source.now) (λ bytes. IfOk result (λ found. IfSome found (λ f.
         Shows f bytes))) }
-    ensures there { IfOk result (λ found. IfSome found HasWanted) }
+    ensures whole { IfOk result (λ found. IfSome found HasWanted) }
     ensures found { IfSome (S.bytes source.now) (λ _. IfOk result (λ found.
         is_some found ≡ true)) }
 {

@@ -44,7 +44,7 @@ pub fn read_sections<R: Reader + Drop>(input: &mut R) -> Result<Dwarf<R>, Error>
 
 /// The units of a file, in the order of `.debug_info`.
 pub fn read_units<R: Reader + Drop>(alloc: Global, dwarf: &Dwarf<R>) -> Result<Vec<Unit<R>>, Error>
-    ensures right { IfOk result (λ units. AreInOrder units.items) }
+    ensures made { IfOk result (λ units. AreInOrder units.items) }
 {
     let mut units = Vec::new(alloc);
     let mut headers = dwarf.units()?;

@@ -97,7 +97,7 @@ fn take_special(parameters: &LineParameters, registers: &mut Registers, n: u8) -
     ensures gives { TakesOpcode parameters.now.encoding registers.old (Special n) 1 result
         registers.new }
     ensures bound { IsShort result }
-    ensures right { IsRunning parameters.now.encoding registers.new }
+    ensures registers { IsRunning parameters.now.encoding registers.new }
 {
     let line = move_line(registers.line, special_advance(parameters, n));
     if registers.dropping {
@@ -127,7 +127,7 @@ fn take_advance(
     requires running { IsRunning parameters.now.encoding registers.old }
     ensures gives { TakesOpcode parameters.now.encoding registers.old (AdvancePc operations) len
         result registers.new }
-    ensures right { IsRunning parameters.now.encoding registers.new }
+    ensures registers { IsRunning parameters.now.encoding registers.new }
 {
     if registers.dropping {
         return Frequent::Quiet(len);
@@ -155,7 +155,7 @@ fn take_first<R: Reader>(
     ensures gives { (rest : List ℕ) → TakesFirst header.now registers.old
         (code ∷ first ∷ second ∷ rest) result registers.new }
     ensures bound { IsShort result }
-    ensures right { IsRunning header.now.line_encoding registers.new }
+    ensures registers { IsRunning header.now.line_encoding registers.new }
 {
     // Code 0 is that of extended opcodes, also where it isn't below the base.
     let base = parameters.encoding.opcode_base.max(1);
@@ -218,7 +218,7 @@ pub(crate) fn run_frequent<R: Reader, S: RowSink>(
     ensures within { IfOk result (λ len. len ≤ length bytes.now) }
     ensures refused { OnErr result ((endian : RunTimeEndian) (e : Error) → rows_left header.now
         registers.old (record { bytes = bytes.now; endian = endian }) ≡ Err e ∷ [] → ⊥) }
-    ensures right { OnOk result (IsRunning header.now.line_encoding registers.new) }
+    ensures registers { OnOk result (IsRunning header.now.line_encoding registers.new) }
 {
     // A copy, which no store to the sink can change: so its numbers stay in registers.
     let parameters = header.parameters;

@@ -172,7 +172,7 @@ fn take_instruction<R: Reader>(
     requires running { IsRunning header.old.line_encoding registers.old }
     ensures gives { ExactlyUnlessOomIf (is_file instruction)
         (λ x. (x, registers.new, header.new)) result (taken header.old registers.old instruction) }
-    ensures right { OnOk result (IsRunning header.new.line_encoding registers.new) }
+    ensures registers { OnOk result (IsRunning header.new.line_encoding registers.new) }
     ensures kept { OnErr result (header.new ≡ header.old) }
 {
     match instruction {
@@ -199,7 +199,7 @@ fn step_instruction<R: Reader>(
         (gives_file (coded_instruction_at header.old code (R.section program.old)))
         (λ x. (x, registers.new, header.new, R.section program.new)) result
         (step_instruction header.old registers.old code (R.section program.old)) }
-    ensures right { OnOk result (IsRunning header.new.line_encoding registers.new) }
+    ensures registers { OnOk result (IsRunning header.new.line_encoding registers.new) }
     ensures kept { OnErr result (header.new ≡ header.old) }
 {
     if code == DW_LNS_extended_op {
@@ -231,7 +231,7 @@ fn find_row<R: Reader>(
     ensures files { OnOk result (DefinesOn header.old (R.section program.old)
         header.new (R.section program.new)) }
     ensures none { IfOk result (λ row. row ≡ None → (R.section program.new).bytes ≡ []) }
-    ensures right { OnOk result (IsRunning header.new.line_encoding registers.new) }
+    ensures registers { OnOk result (IsRunning header.new.line_encoding registers.new) }
 {
     while !program.is_empty() {
         let code = program.read_u8()?;
@@ -261,7 +261,7 @@ fn take_next<R: Reader, S: RowSink>(
     ensures exact { IfErr result (λ e. (d : Fault)
         → ahead_left header.old registers.old (R.section program.old) ≡ []
         → rows_left header.old registers.old (R.section program.old) ≡ Err d ∷ [] → e ≡ d) }
-    ensures right { OnOk result (IsRunning header.new.line_encoding registers.new) }
+    ensures registers { OnOk result (IsRunning header.new.line_encoding registers.new) }
 {
     let code = program.read_u8()?;
     if let Some(row) = step_instruction(header, registers, code, program)? {
@@ -287,7 +287,7 @@ fn take_frequent<R: Reader, S: RowSink>(
     ensures fault { IfErr result (λ e. e ≡ OutOfMemory) }
     ensures exact { OnErr result ((d : Fault)
         → rows_left header.now registers.old (R.section program.old) ≡ Err d ∷ [] → ⊥) }
-    ensures right { OnOk result (IsRunning header.now.line_encoding registers.new) }
+    ensures registers { OnOk result (IsRunning header.now.line_encoding registers.new) }
 {
     let len = run_frequent(header, registers, program.to_slice(), sink)?;
     program.skip(len as u64)?;

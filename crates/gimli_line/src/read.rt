@@ -26,7 +26,7 @@ fn read_program_address_size<R: Reader>(
 ) -> Result<u8, Error>
     ensures gives { Reads R.section input.old input.new result
         (program_address_size_at version unit_size) }
-    ensures right { IfOk result (λ size. is_address_size size ≡ true) }
+    ensures width { IfOk result (λ size. is_address_size size ≡ true) }
 {
     if version < DWARF_5 {
         if !is_address_size(unit_size) {

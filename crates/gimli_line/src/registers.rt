@@ -242,7 +242,7 @@ impl Registers {
         requires running { IsRunning parameters.now.encoding self.old }
         ensures gives { Exactly (λ x. (x, self.new)) result
             (executed parameters.now.encoding self.old opcode) }
-        ensures right { OnOk result (IsRunning parameters.now.encoding self.new) }
+        ensures registers { OnOk result (IsRunning parameters.now.encoding self.new) }
     {
         self.step(parameters, opcode)?;
         if ends(opcode) {

@@ -89,7 +89,7 @@ pub(crate) fn step_standard<R: Reader>(
     requires running { IsRunning header.now.line_encoding registers.old }
     ensures gives { Exactly (λ x. (x, registers.new, R.section input.new)) result
         (step_standard header.now registers.old code (R.section input.old)) }
-    ensures right { OnOk result (IsRunning header.now.line_encoding registers.new) }
+    ensures registers { OnOk result (IsRunning header.now.line_encoding registers.new) }
 {
     let opcode = read_standard(header, code, input)?;
     registers.execute(&header.parameters, opcode)

@@ -75,7 +75,7 @@ pub trait Reader: Clone {
     /// Takes no memory.
     fn known_text(&self) -> Option<&str>
         ensures gives { IfSome result (λ text. text.now ≡ (section self.now).bytes) }
-        ensures right { IfSome result (λ _. IsUtf8 (section self.now).bytes) }
+        ensures known { IfSome result (λ _. IsUtf8 (section self.now).bytes) }
     {
         None
     }
@@ -288,7 +288,7 @@ pub fn read_initial_length<R: Reader>(input: &mut R) -> Result<(u64, Format), Er
 #[tactic(auto, unfolding(crate::specs::Number::address_size_at))]
 pub fn read_address_size<R: Reader>(input: &mut R) -> Result<u8, Error>
     ensures gives { Reads R.section input.old input.new result address_size_at }
-    ensures right { IfOk result (λ size. is_address_size size ≡ true) }
+    ensures width { IfOk result (λ size. is_address_size size ≡ true) }
 {
     let size = input.read_u8()?;
     if !is_address_size(size) {

@@ -10,4 +10,4 @@ returns g c =
     let up = c.sort_unstable_by_key.ensures.sorted (λ r. key (whole r)) (always_returns_same _ (λ a r. r ≡ key (whole a.0.now)) _ (λ a r q h. search rules)) in
     let moved = IsPermutation-map whole _ _ c.sort_unstable_by_key.ensures.permutation in
     let e = permuted_is inlined_sooner inlined_order one_range _ _ moved (by_tuple whole _ up) in
-    record { gives = e; right = subst (IsInOrder inlined_sooner) (sym e) (in_order_ordered inlined_sooner inlined_order (map whole c.args.ranges.now)) }
+    record { gives = e; after = subst (IsInOrder inlined_sooner) (sym e) (in_order_ordered inlined_sooner inlined_order (map whole c.args.ranges.now)) }

@@ -6,7 +6,7 @@ pub loop-address-init : goal.loop-address-init
 loop-address-init c =
     let a = ap length c.new-sweep.ensures.empty.2 in
     let b = ap length c.new-sweep.ensures.empty.1 in
-    record { swept = c.new-sweep.ensures.right c.args.addresses.now; few = omega arith }
+    record { swept = c.new-sweep.ensures.none c.args.addresses.now; few = omega arith }
 
 pub returns-clause-gives : goal.returns-clause-gives
 returns-clause-gives c =
@@ -17,7 +17,7 @@ returns-clause-gives c =
     let now = c.close-2.new.self in
     let a = i.few in let b = c.in_ok-close-2.ensures.bound in
     all_cut all next now.at (heap_items now.running) now.segments.items (omega arith) (c.in_ok-close-2.ensures.empty (omega arith))
-    (c.in_ok-close-2.ensures.right all next (λ j d low m. absurd (omega arith)) i.swept) (omega arith)
+    (c.in_ok-close-2.ensures.after all next (λ j d low m. absurd (omega arith)) i.swept) (omega arith)
 
 pub loop-address-preserved : goal.loop-address-preserved
 loop-address-preserved c =
@@ -29,7 +29,7 @@ loop-address-preserved c =
     let begun = begun_from all next d c.requires.sorted here in
     let a = i.few in let b = c.in_ok-close.ensures.bound in let e = c.in_ok-enter.ensures.bound in
     record {
-      swept = c.in_ok-enter.ensures.right all next d begun here refl (c.in_ok-close.ensures.right all next begun i.swept);
+      swept = c.in_ok-enter.ensures.after all next d begun here refl (c.in_ok-close.ensures.after all next begun i.swept);
       few = omega arith;
     }
 

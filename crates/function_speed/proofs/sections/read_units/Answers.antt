@@ -17,4 +17,4 @@ loop-headers-preserved g c =
 pub returns : goal.returns
 returns g c =
     let ended = rw c.in_default.is at c.in_ok-header.ensures.gives in
-    record { right = read_in_order c.args.dwarf.now _ _ _ _ (headers_in_order c.args.dwarf.now.debug_info) ended c.loop-headers.invariant }
+    record { made = read_in_order c.args.dwarf.now _ _ _ _ (headers_in_order c.args.dwarf.now.debug_info) ended c.loop-headers.invariant }

@@ -6,7 +6,7 @@ use Rattle.gimli_line.proofs.frequent.run_frequent.Goals as goal
 
 pub loop-at-preserved-in-Quiet : goal.loop-at-preserved-in-Quiet
 loop-at-preserved-in-Quiet g c = record {
-  running = c.in-Quiet.ensures.right;
+  running = c.in-Quiet.ensures.registers;
   passes = quiet_on g.S.RowSink.taken c.args.header.now c.args.registers.now c.loop-at.now c.take_first.new.registers c.args.bytes.now c.loop-at.at c.in-Quiet.len c.args.sink.now c.loop-at.sink
       (omega arith) c.loop-at.invariant.passes c.in-Quiet.ensures.gives;
   within = omega (arith, c.in-Quiet.ensures.bound.1);
@@ -19,7 +19,7 @@ returns-in_err-take-in-Shows-clause-refused g c = after_refusal c.from_residual.
 
 pub loop-at-preserved : goal.loop-at-preserved
 loop-at-preserved g c = record {
-  running = c.in-Shows.ensures.right;
+  running = c.in-Shows.ensures.registers;
   passes = row_on g.S.RowSink.taken c.args.header.now c.args.registers.now c.loop-at.now c.take_first.new.registers c.args.bytes.now c.loop-at.at c.in-Shows.len c.args.sink.now c.loop-at.sink
       (omega arith) c.loop-at.invariant.passes _ c.take.new.self c.in-Shows.ensures.gives
       (c.in_ok-take-in-Shows.ensures.gives ∙ ap (g.S.RowSink.taken c.loop-at.sink) c.row.ensures.gives);

@@ -70,7 +70,7 @@ loop-program-preserved g c =
     let h = c.loop-program.header in
     let w = step_whole h c.loop-program.registers _ _ _ _ _ _ _ none c.in_ok-code.ensures.gives k in
     record {
-      running = c.in_ok-row.ensures.right;
+      running = c.in_ok-row.ensures.registers;
       left = sym (left_more h c.loop-program.registers _ _ w.instruction None _ _ w.read w.took) ∙ c.loop-program.invariant.left;
       ahead = defined_more _ _ h c.loop-program.registers _ _ w.instruction _ _ c.loop-program.invariant.ahead w.read w.took;
       files = defines_more _ _ h c.loop-program.registers _ _ w.instruction _ _ _ c.loop-program.invariant.files w.read w.took;

@@ -93,8 +93,8 @@ returns-clause-kept g c =
       known = c.in_ok-read.ensures.names.grown;
     }
 
-pub returns-clause-there : goal.returns-clause-there
-returns-clause-there g c = place_cached (as_scope c.args.scope) c.args.unit.now c.args.offset.0 _ (old g c).found (listed g c) c.in_ok-read.ensures.gives (more g c) (made g c) (at g c)
+pub returns-clause-within : goal.returns-clause-within
+returns-clause-within g c = place_cached (as_scope c.args.scope) c.args.unit.now c.args.offset.0 _ (old g c).found (listed g c) c.in_ok-read.ensures.gives (more g c) (made g c) (at g c)
 
 pub returns-clause-after : goal.returns-clause-after
 returns-clause-after g c =
@@ -111,8 +111,8 @@ returns-clause-after g c =
 pub returns-in_err-read-clause-kept : goal.returns-in_err-read-clause-kept
 returns-in_err-read-clause-kept g c = record { names = grown_not _; found = c.in_err-read.ensures.kept; known = c.in_err-read.ensures.names.grown }
 
-pub returns-in_err-read-clause-there : goal.returns-in_err-read-clause-there
-returns-in_err-read-clause-there g c = let p = err_from_is_err_and c.from_residual.result c.from_residual.ensures.1 in rw p.1 tt
+pub returns-in_err-read-clause-within : goal.returns-in_err-read-clause-within
+returns-in_err-read-clause-within g c = let p = err_from_is_err_and c.from_residual.result c.from_residual.ensures.1 in rw p.1 tt
 
 pub returns-in_err-read-clause-after : goal.returns-in_err-read-clause-after
 returns-in_err-read-clause-after g c = let p = err_from_is_err_and c.from_residual.result c.from_residual.ensures.1 in rw p.1 tt
@@ -123,8 +123,8 @@ returns-in_err-read-clause-names g c = let p = err_from_is_err_and c.from_residu
 pub returns-in_err-push-clause-kept : goal.returns-in_err-push-clause-kept
 returns-in_err-push-clause-kept g c = record { names = grown_by _ _ [] (ap (map (option_map g.R.Reader.section)) c.in_err-push.ensures.items ∙ sym (append-nil _)); found = c.in_ok-read.ensures.kept; known = c.in_ok-read.ensures.names.grown }
 
-pub returns-in_err-push-clause-there : goal.returns-in_err-push-clause-there
-returns-in_err-push-clause-there g c = let p = err_from_is_err_and c.from_residual-in_err-push.result c.from_residual-in_err-push.ensures.1 in rw p.1 tt
+pub returns-in_err-push-clause-within : goal.returns-in_err-push-clause-within
+returns-in_err-push-clause-within g c = let p = err_from_is_err_and c.from_residual-in_err-push.result c.from_residual-in_err-push.ensures.1 in rw p.1 tt
 
 pub returns-in_err-push-clause-after : goal.returns-in_err-push-clause-after
 returns-in_err-push-clause-after g c = let p = err_from_is_err_and c.from_residual-in_err-push.result c.from_residual-in_err-push.ensures.1 in rw p.1 tt

@@ -10,5 +10,5 @@ find_chain-requires g c =
 pub returns-clause-gives : goal.returns-clause-gives
 returns-clause-gives g c = chain_gives (as_details g.R.Reader.section c.args.self.now) c.args.detail.now c.requires.place c.args.probe (λ x. x.items) _ c.find_chain.ensures.gives
 
-pub returns-clause-there : goal.returns-clause-there
-returns-clause-there g c = chain_items (as_details g.R.Reader.section c.args.self.now) c.args.detail.now c.requires.place c.args.probe (λ x. x.items) _ c.find_chain.ensures.gives
+pub returns-clause-within : goal.returns-clause-within
+returns-clause-within g c = chain_items (as_details g.R.Reader.section c.args.self.now) c.args.detail.now c.requires.place c.args.probe (λ x. x.items) _ c.find_chain.ensures.gives

@@ -25,8 +25,8 @@ returns-clause-gives g c =
     subst (λ (t : FunctionTable). c.find.result ≡ function_place_at probe t) c.self.view_is
     (c.find.ensures.found ∙ place_is d fs addresses probe c.self.invariant.in_order)
 
-pub returns-clause-there : goal.returns-clause-there
-returns-clause-there g c =
+pub returns-clause-within : goal.returns-clause-within
+returns-clause-within g c =
     let fs = c.self.inside.functions.items in
     let addresses = c.self.inside.addresses in
     let d = as_details g.R.Reader.section c.self.inside.details in

@@ -22,9 +22,9 @@ returns-in-Some-clause-gives g c =
     (subst (λ (xs : List InlinedRange). ExactlyUnlessOomIf (exceeds_inline_room (inlined_chain probe xs)) (λ chain. map (entry_among d.found.entries) chain.items) result (Ok (inlined_chain probe xs)))
     (sym (ap inlined_cached (read_is d fs c.args.place c.in-Some.detail.now at))) c.find_inlined_functions.ensures.gives)
 
-pub returns-in-Some-clause-there : goal.returns-in-Some-clause-there
-returns-in-Some-clause-there g c =
-    subst (λ (t : FunctionTable). IfOk c.find_inlined_functions.result (λ chain. AllByRecursion (λ n. n < length t.inlined) chain.items)) c.self.view_is c.find_inlined_functions.ensures.there
+pub returns-in-Some-clause-within : goal.returns-in-Some-clause-within
+returns-in-Some-clause-within g c =
+    subst (λ (t : FunctionTable). IfOk c.find_inlined_functions.result (λ chain. AllByRecursion (λ n. n < length t.inlined) chain.items)) c.self.view_is c.find_inlined_functions.ensures.within
 
 pub returns-in-None-clause-gives : goal.returns-in-None-clause-gives
 returns-in-None-clause-gives g c =

@@ -17,7 +17,7 @@ returns-in_err-functions g c =
     record {
       gives = rw (p.1, p.2) (λ ne. subst (AgreesFound (functions_of d u)) (c.in_err-functions.ensures.gives ne) (functions_agree d u));
       empty = rw p.1 tt;
-      right = rw p.1 tt;
+      functions = rw p.1 tt;
       names = rw p.1 tt;
     }
 
@@ -48,7 +48,7 @@ returns g c =
     record {
       gives = a.0 ∙ ap (λ xs. Ok (map (function_range_of found.offsets) xs)) listed;
       empty = functions_unread (as_details g.R.Reader.section c.new-2.result) _ c.in_ok-functions.ensures.empty;
-      right = offsets_seen (λ (f : LazyFunction). f.dw_die_offset) (as_function (as_details g.R.Reader.section c.new-2.result)) (λ (f : CachedFunction). f.offset) (λ x. refl) c.in_ok-functions.field-0.functions.items
+      functions = offsets_seen (λ (f : LazyFunction). f.dw_die_offset) (as_function (as_details g.R.Reader.section c.new-2.result)) (λ (f : CachedFunction). f.offset) (λ x. refl) c.in_ok-functions.field-0.functions.items
           ∙ (are_functions d u found c.in_ok-functions.ensures.gives).listed
           ∙ ap (λ xs. entries_of (map (function_range_of found.offsets) xs)) listed;
       names = ap (λ (d : CachedDetails). d.known) c.new-2.ensures.gives;

@@ -22,8 +22,8 @@ pub returns-in_err-read-clause-after : goal.returns-in_err-read-clause-after
 returns-in_err-read-clause-after g c =
     (fault_kept g.R.Reader.shares (as_scope c.args.scope) c.args.unit.now c.args.self.now c.loop-place.self c.read.new.self c.loop-place.place c.read.result c.loop-place.invariant.read c.read.ensures.gives).0
 
-pub returns-in_err-read-clause-right : goal.returns-in_err-read-clause-right
-returns-in_err-read-clause-right g c =
+pub returns-in_err-read-clause-read : goal.returns-in_err-read-clause-read
+returns-in_err-read-clause-read g c =
     (fault_kept g.R.Reader.shares (as_scope c.args.scope) c.args.unit.now c.args.self.now c.loop-place.self c.read.new.self c.loop-place.place c.read.result c.loop-place.invariant.read c.read.ensures.gives).1
 
 pub loop-place-preserved : goal.loop-place-preserved
@@ -45,8 +45,8 @@ returns-clause-gives g c =
 pub returns-clause-after : goal.returns-clause-after
 returns-clause-after g c = c.loop-place.invariant.read.kept
 
-pub returns-clause-right : goal.returns-clause-right
-returns-clause-right g c = c.loop-place.invariant.read.right
+pub returns-clause-read : goal.returns-clause-read
+returns-clause-read g c = c.loop-place.invariant.read.right
 
 pub returns-clause-known : goal.returns-clause-known
 returns-clause-known g c =

@@ -13,7 +13,7 @@ invariant_of-self g c =
     let at = unread_at cached fs n c.args.offset.0 (ap (λ (t : FunctionTable). slice_get t.functions n) c.self.view_is ∙ c.requires.unread) in
     let y : LazyFunction = record { dw_die_offset = c.index_mut.result.now.dw_die_offset; detail = Read c.in-Ok.detail } in
     let entry = ap (λ (x : LazyFunction). x.dw_die_offset) (c.index_mut.ensures.value ∙ get_or_from_slice_get fs n at.0 c.index_mut.result.now at.1) in
-    read_cached fs n at.0 y at.1 entry c.self.inside.addresses cached more c.self.invariant at.3 c.read.ensures.kept c.in-Ok.detail refl c.in-Ok.ensures.there c.in-Ok.ensures.after
+    read_cached fs n at.0 y at.1 entry c.self.inside.addresses cached more c.self.invariant at.3 c.read.ensures.kept c.in-Ok.detail refl c.in-Ok.ensures.within c.in-Ok.ensures.after
 
 pub index_mut-requires-in_default : goal.index_mut-requires-in_default
 index_mut-requires-in_default g c =
@@ -50,7 +50,7 @@ returns-in-Ok g c =
     let y : LazyFunction = record { dw_die_offset = c.index_mut.result.now.dw_die_offset; detail = Read c.in-Ok.detail } in
     let entry = ap (λ (x : LazyFunction). x.dw_die_offset) (c.index_mut.ensures.value ∙ get_or_from_slice_get fs n at.0 c.index_mut.result.now at.1) in
     let new = table_of (slice_set fs n y) addresses more in
-    let with_detail = table_read fs n at.0 y at.1 entry addresses cached more c.self.invariant at.3 c.read.ensures.kept c.in-Ok.detail refl c.in-Ok.ensures.there c.in-Ok.ensures.after c.args.offset.0 (detail_at scope u c.args.offset.0) at.2 c.in-Ok.ensures.gives in
+    let with_detail = table_read fs n at.0 y at.1 entry addresses cached more c.self.invariant at.3 c.read.ensures.kept c.in-Ok.detail refl c.in-Ok.ensures.within c.in-Ok.ensures.after c.args.offset.0 (detail_at scope u c.args.offset.0) at.2 c.in-Ok.ensures.gives in
     record {
       gives = subst (λ (t : FunctionTable). IsReadAt scope u n t (Ok tt) new) c.self.view_is
           (reads scope u n c.args.offset.0 (table_of fs addresses cached) new (Ok tt) unread (ap fault_of c.in-Ok.ensures.gives, with_detail));

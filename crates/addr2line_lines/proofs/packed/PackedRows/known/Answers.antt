@@ -2,8 +2,8 @@ use Rattle.addr2line_lines.proofs.Common.{◌<◌, ◌^◌, arith, length, subst
 use Rattle.addr2line_lines.proofs.TableLemmas.{table_of}
 use Rattle.addr2line_lines.proofs.packed.PackedRows.known.Goals as goal
 
-pub returns-clause-right : goal.returns-clause-right
-returns-clause-right c =
+pub returns-clause-sequences : goal.returns-clause-sequences
+returns-clause-sequences c =
     let i = c.self.invariant in
     let e = c.len-rows.ensures.gives in
     let few : length c.self.inside.rows.rows < 2 ^ 64 = omega arith in

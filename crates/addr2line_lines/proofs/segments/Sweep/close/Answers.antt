@@ -21,7 +21,7 @@ loop-end-preserved c =
       swept = λ addresses next begun h. popped addresses next now.at (heap_items now.running) (heap_items c.pop.new.self) now.segments.items c.args.limit end _ c.pop.result now.running.data.ok.0 c.pop.ensures.variant first (omega arith)
           c.pop.ensures.top c.pop.ensures.permutation c.pop.ensures.heap_order
           (advanced_to addresses next was.at end was.segments.items (heap_items was.running) now.at now.segments.items (heap_items now.running) a.after a.gives a.kept (i.swept addresses next begun h) (begun_before addresses next c.args.limit end under begun)
-          (fits_first addresses next was.at end was.segments.items c.args.limit (heap_items was.running) met) a.right);
+          (fits_first addresses next was.at end was.segments.items c.args.limit (heap_items was.running) met) a.known);
       few = omega arith;
       still = λ e. absurd (none_first c.args.limit end (heap_items was.running) (i.still e) met);
     }

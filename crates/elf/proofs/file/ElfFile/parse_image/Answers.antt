@@ -44,7 +44,7 @@ invariant_of-result c =
     subst (λ (s : List SectionHeader). Has (image_bytes c.args.file) s) c.deref-2.ensures.value c.in_ok-tables.ensures.gives in
     let Readable : List ℕ → List SectionHeader → Type 0 = λ (names : List ℕ) (sections : List SectionHeader). AreReadable c.in_ok-file.file names sections in
     let by_names : Readable tables.section_names.bytes c.deref-3.result.now =
-    subst (λ (n : List ℕ). Readable n c.deref-3.result.now) c.to_slice.ensures.gives c.in_ok-file.ensures.there in
+    subst (λ (n : List ℕ). Readable n c.deref-3.result.now) c.to_slice.ensures.gives c.in_ok-file.ensures.known in
     record {
       tables = subst (λ (b : List ℕ). Has b c.in_ok-sections.sections.items) (sym c.in_ok-file.ensures.gives) of_file;
       readable = subst (λ (s : List SectionHeader). Readable tables.section_names.bytes s) c.deref-3.ensures.value by_names;

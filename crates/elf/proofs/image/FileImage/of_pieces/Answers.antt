@@ -14,7 +14,7 @@ returns c =
     let ordered : Ordered ps = subst Ordered c.deref.ensures.value (c.are_in_order.ensures.gives c.if-not-are_in_order.false) in
     let image : List Piece → Image = λ (qs : List Piece). record { len = c.args.len; pieces = qs } in
     record {
-      right = λ bytes size are. subst (λ (qs : List Piece). Shows (image qs) bytes) (sym all) (pieces_show c.args.len ps bytes ordered size are);
+      made = λ bytes size are. subst (λ (qs : List Piece). Shows (image qs) bytes) (sym all) (pieces_show c.args.len ps bytes ordered size are);
       gives = ap image all;
       found = λ any in_order. refl;
     }

@@ -1,7 +1,7 @@
 use Rattle.addr2line_units.proofs.Common.{Err, Ok, arith, refl, subst, sym, ◌≡◌, err_from_is_err_and, set, WasNotRefused, IsCacheOf, as_stop, FindsNothing, found_stop, stop_at, IsFaultAt}
 use Rattle.addr2line_units.proofs.FramesAskLemmas.{after_asked, asked_err, asked_ok, none_after, none_gives, refused_alone, stop_lendable}
 use Rattle.addr2line_units.proofs.FramesLookupLemmas.{oom_after, oom_before}
-use Rattle.addr2line_units.proofs.UnitsAtLemmas.{cache_within, its_cache, none_got, sections_seen, unit_got, units_with}
+use Rattle.addr2line_units.proofs.UnitsAtLemmas.{cache_within, its_cache, none_got, unit_got, units_with}
 use Rattle.addr2line_units.proofs.units.Units.ask_unit.Goals as goal
 
 pub returns-in_default-clause-gives : goal.returns-in_default-clause-gives
@@ -29,7 +29,7 @@ find_frames_in-found-requires g c =
 pub invariant_of-self-in_err-found : goal.invariant_of-self-in_err-found
 invariant_of-self-in_err-found g c =
     let there = unit_got c.scope-scope.ensures.gives c.args.number c.in-Some.ensures.lookup.0 c.in-Some.ensures.lookup.1 in
-    let e = rw (c.scope-scope.ensures.gives, sections_seen c.scope-scope.ensures.gives) at c.find_frames_in-found.ensures in
+    let e = rw c.scope-scope.ensures.gives at c.find_frames_in-found.ensures in
     units_with c.self.invariant c.args.number there _ e.after.right tt
 
 pub returns-in_err-found : goal.returns-in_err-found
@@ -42,7 +42,7 @@ returns-in_err-found g c =
     let found = c.find_frames_in-found in
     let w = found.new.cache in
     let was = as_stop s.caches.items s.stop in
-    let e = rw (c.scope-scope.ensures.gives, sections_seen c.scope-scope.ensures.gives) at found.ensures in
+    let e = rw c.scope-scope.ensures.gives at found.ensures in
     let is = c.in_err-found.ensures.gives in
     rw (p.1, p.2) (record {
       gives = λ ne. subst (λ y. stop_at c.args.faults c.args.probe y c.args.number ≡ Err c.in_err-found.field-0.0) c.self.view_is
@@ -59,7 +59,7 @@ invariant_of-self-2 g c =
     let i = c.self.invariant in
     let there = unit_got c.scope-scope.ensures.gives c.args.number c.in-Some.ensures.lookup.0 c.in-Some.ensures.lookup.1 in
     let found = c.find_frames_in-found in
-    let e = rw (c.scope-scope.ensures.gives, sections_seen c.scope-scope.ensures.gives) at found.ensures in
+    let e = rw c.scope-scope.ensures.gives at found.ensures in
     rw c.stop_at.ensures.gives (units_with i c.args.number there _ e.after.right
     (stop_lendable i c.args.probe c.args.number s.steps (as_stop s.caches.items s.stop) there c.index_mut-cache.ensures.value found.new.cache c.args.faults found.result e.gives e.after _ (sym c.in_ok-found.ensures.gives)))
 
@@ -72,7 +72,7 @@ returns g c =
     let found = c.find_frames_in-found in
     let w = found.new.cache in
     let was = as_stop s.caches.items s.stop in
-    let e = rw (c.scope-scope.ensures.gives, sections_seen c.scope-scope.ensures.gives) at found.ensures in
+    let e = rw c.scope-scope.ensures.gives at found.ensures in
     let is = c.in_ok-found.ensures.gives in
     record {
       gives = rw c.stop_at.ensures.gives (subst (λ y. stop_at c.args.faults c.args.probe y c.args.number ≡ Ok (as_stop (set s.caches.items c.args.number w) (found_stop c.args.number c.in_ok-found.found))) c.self.view_is

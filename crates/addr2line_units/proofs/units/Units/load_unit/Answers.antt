@@ -65,7 +65,7 @@ returns g c =
     let at = c.index_mut-cache.ensures.value in
     let w = c.answer.new.self in
     let given = option_map (λ x. x.value) c.args.sections in
-    let e = rw (c.scope-scope.ensures.gives, sections_seen c.scope-scope.ensures.gives) at c.in_ok-answer.ensures in
+    let e = rw c.scope-scope.ensures.gives at c.in_ok-answer.ensures in
     let fault = rw (sections_seen c.scope-scope.ensures.gives) at c.check_view.ensures.gives in
     let told = load_told i c.args.token.number there at w given c.check_view.result e.after.answer fault in
     rw (sym c.self.view_is) (record {

@@ -2,7 +2,7 @@
 -- 3.1.2, 3.3, 6.2 and 7.3.2).
 -- Own: what is cached stays, until the unit is forgotten, and nothing is read that isn't asked for.
 -- OutOfMemory is never cached.
-use Rattle.std.specs.Prelude.{◌≡◌, ℕ, Bool, true, false, Option, None, Result, Ok, Err, IfOk, IfErr, IfSome, OnOk, is_some}
+use Rattle.std.specs.Prelude.{◌≡◌, ℕ, Bool, true, false, Option, None, Some, Result, Ok, Err, IfOk, IfErr, IfSome, OnOk, is_some}
 use Rattle.addr2line_units.specs.Common.{Error, OutOfMemory, WasNotRefused, Sections, UnitRecord, Scope, IsScope, functions_of, functions_take_memory, exceeds_inline_room}
 use Rattle.addr2line_lines.specs.FunctionDetails.{AreUnread}
 use Rattle.addr2line_units.specs.declared.entries.FunctionPlace.{FunctionPlace}
@@ -19,7 +19,8 @@ use Rattle.addr2line_units.specs.Frames.{function_at}
 use Rattle.addr2line_units.specs.UnitLinesCached.{AreLinesOf, CachesResult, StaysUnit, indexed_unit, is_uncached, lines_result}
 use Rattle.addr2line_units.specs.UnitsCached.{IsCacheOf}
 use Rattle.addr2line_units.specs.UnitView.{decided_answer, is_open}
-use Rattle.addr2line_units.specs.UnitViewCached.{is_decided, was_checked}
+use Rattle.addr2line_units.specs.declared.unit.UnitView.{UnitView}
+use Rattle.addr2line_units.specs.UnitViewCached.{IsViewOf, answer_of_view, is_decided, was_checked}
 
 -- after the lines of a unit were asked for: what is cached is right, and stays; unless memory was
 -- refused they are cached, or their fault, and where they are, none was; where they take no memory
@@ -90,6 +91,31 @@ pub record AfterFunctionIn {R : Type 0} (shares : Bool) (scope : Scope) (u : Uni
       → HasFewInlined scope u (first_answer_of old) probe → WasNotRefused result
   pub no_memory : functions_in_take_memory shares scope u (first_answer_of old) ≡ false
       → IfErr result (λ e. function_in scope u (first_answer_of old) probe ≡ Err e)
+
+-- after the view of a unit was looked at, unless that was done: it is known whether the unit waits,
+-- and its answer is as it was
+pub record AfterViewCheck {R : Type 0} (d : Sections) (u : UnitRecord) (old new : UnitView R)
+    : Type 0 where
+  pub right : IsViewOf d u new
+  pub known : was_checked new.state ≡ true
+  pub answer : answer_of_view new ≡ answer_of_view old
+  pub kept : was_checked old.state ≡ true → new ≡ old
+
+-- after an answer was given to a unit that waits: it is decided by it, or memory was refused in the
+-- place of given sections, and nothing is changed
+pub record AfterViewAnswer {R : Type 0} (d : Sections) (u : UnitRecord) (given : Option Sections)
+    (result : Result (Unit {0}) Error) (old new : UnitView R) : Type 0 where
+  pub right : IsViewOf d u new
+  pub answer : OnOk result (answer_of_view new ≡ Some given)
+  pub known : OnOk result (is_decided new.state ≡ true)
+  pub refused : IfErr result (λ e. (e ≡ OutOfMemory) × (new ≡ old) × (is_some given ≡ true))
+
+-- after the answer of a unit was forgotten, if it had one
+pub record AfterViewForgetting {R : Type 0} (d : Sections) (u : UnitRecord) (old new : UnitView R)
+    : Type 0 where
+  pub right : IsViewOf d u new
+  pub answer : answer_of_view new ≡ None
+  pub kept : answer_of_view old ≡ None → new ≡ old
 
 -- after a unit was looked at, unless that was done: what is cached is right, and stays, and no
 -- functions are read

@@ -8,7 +8,7 @@ ghost use Rattle.addr2line_units.specs.EntriesMemory.{lines_take_memory};
 ghost use Rattle.addr2line_units.specs.Locations.{is_found, location_in, steps_in};
 ghost use Rattle.addr2line_units.specs.IndexAranges.{range_in};
 ghost use Rattle.addr2line_units.specs.UnitLinesCached.{AreLinesOf, IsUnparsed, cached_lines_result, cached_files, cached_steps, cached_ranges, cached_row, indexed_unit, lines_result, cached_lines, is_parsed, is_uncached};
-ghost use Rattle.addr2line_units.specs.CacheAfter.{AfterLinesOf};
+ghost use Rattle.addr2line_units.specs.CacheAfter.{AfterLinesOf, AfterViewAnswer, AfterViewCheck, AfterViewForgetting};
 ghost use Rattle.addr2line_units.specs.UnitsIndexed.{ranged_seen};
 ghost use Rattle.addr2line_units.specs.LoadsMemory.{answer_takes_memory};
 ghost use Rattle.addr2line_units.specs.UnitViewCached.{IsViewOf, answer_in, is_decided, parts_or_fault, answer_of_view, as_sections, split_file_by, split_file_in, split_unit, unboxed, verdict_in, view_in, waits, was_checked};
@@ -513,11 +513,8 @@ impl<R: Reader> UnitView<R> {
 
     // Looks whether the unit needs an answer, unless that was done. Takes no memory.
     pub(crate) fn check_split(&mut self, dwarf: &Dwarf<R>, dw_unit: &Unit<R>)
-        requires view { IsViewOf dwarf.now dw_unit.now self.old }
-        ensures right { IsViewOf dwarf.now dw_unit.now self.new }
-        ensures known { was_checked self.new.state ≡ true }
-        ensures kept { was_checked self.old.state ≡ true → self.new ≡ self.old }
-        ensures answer { answer_of_view self.new ≡ answer_of_view self.old }
+        requires right { IsViewOf dwarf.now dw_unit.now self.old }
+        ensures after { AfterViewCheck dwarf.now dw_unit.now self.old self.new }
     {
         if matches!(self.state, ViewState::Undecided) {
             self.state = first_state(dwarf, dw_unit);
@@ -577,17 +574,13 @@ impl<R: Reader> UnitView<R> {
         dw_unit: &Unit<R>,
         sections: Option<Rc<Dwarf<R>>>,
     ) -> Result<(), Error>
-        requires view { IsViewOf dwarf.now dw_unit.now self.old }
+        requires right { IsViewOf dwarf.now dw_unit.now self.old }
         requires waits { waits self.old.state ≡ true }
-        ensures right { IsViewOf dwarf.now dw_unit.now self.new }
-        ensures answer { OnOk result (answer_of_view self.new
-            ≡ Some (option_map (λ d. d.value) sections)) }
-        ensures known { OnOk result (is_decided self.new.state ≡ true) }
-        ensures refused { IfErr result (λ e. (e ≡ OutOfMemory) × (self.new ≡ self.old)
-            × (is_some sections ≡ true)) }
         ensures gives { OnOk result (verdict dwarf.now dw_unit.now (answer_of_view self.new)
             ≡ Some (answered_view dwarf.now dw_unit.now
             (option_map (λ d. d.value) sections))) }
+        ensures after { AfterViewAnswer dwarf.now dw_unit.now (option_map (λ d. d.value) sections)
+            result self.old self.new }
         ensures exact { answer_takes_memory R.shares (option_map (λ d. d.value) sections) ≡ false
             → IfErr result (λ e. answered_view dwarf.now dw_unit.now
             (option_map (λ d. d.value) sections) ≡ Err e) }
@@ -603,10 +596,8 @@ impl<R: Reader> UnitView<R> {
 
     // Forgets the answer, if there is one: the unit waits for one again. Takes no memory.
     pub(crate) fn forget(&mut self, dwarf: &Dwarf<R>, dw_unit: &Unit<R>)
-        requires view { IsViewOf dwarf.now dw_unit.now self.old }
-        ensures right { IsViewOf dwarf.now dw_unit.now self.new }
-        ensures answer { answer_of_view self.new ≡ None }
-        ensures kept { answer_of_view self.old ≡ None → self.new ≡ self.old }
+        requires right { IsViewOf dwarf.now dw_unit.now self.old }
+        ensures after { AfterViewForgetting dwarf.now dw_unit.now self.old self.new }
     {
         if matches!(self.state, ViewState::Answered(_)) {
             self.state = ViewState::Open;

@@ -8,8 +8,8 @@ returns-then-is_answered g c =
     let some : is_some (first_answer_of c.args.self.now) ≡ true = search rules in
     record {
       after = record {
-        right = unread_entries (as_scope c.args.scope) c.args.dw_unit.now c.forget.new.self Unread c.requires.right.in_order c.forget.ensures.right refl;
-        answer = c.forget.ensures.answer;
+        right = unread_entries (as_scope c.args.scope) c.args.dw_unit.now c.forget.new.self Unread c.requires.right.in_order c.forget.ensures.after.right refl;
+        answer = c.forget.ensures.after.answer;
         kept = λ none. absurd (answered_is_some _ some none);
         empty = λ _. refl;
       };

@@ -49,7 +49,7 @@ unfoldable pub use Rattle.addr2line_units.specs.EntriesMemory.{functions_in_take
 pub use Rattle.addr2line_units.specs.UnitsAsked.{AfterAsk, AfterCachingAt, AfterRowAt, CountsUnits, found_stop, has_stopped, stop_at}
 pub use Rattle.addr2line_units.specs.EntriesCached.{AreEntriesOf, AreFramesIn, AreFresh, AreRead, AsksNoMemoryIn, ReadsEntriesOf, StayEntries, first_answer_of, frames_of_place, has_answered, has_entries, has_entries_by}
 pub use Rattle.addr2line_units.specs.FramesCached.{AreFoundAt, IsLendable, IsStopIn, found_after_fault, frames_at_place, frames_found_at, functions_at, has_frames_at, language_at, as_stop, stop_of_found}
-pub use Rattle.addr2line_units.specs.EntriesFunctions.{AreFunctionsOf, ArePlacesIn, IsTableOf, ReadsNoDetail, ReadsNoOther, StayFunctions, cached_detail_takes_memory, cached_fault, cached_functions, cached_has_function, cached_inlined_at, cached_takes_memory, details_at, find_takes_memory, function_of_place, functions_fault, has_detail, has_place, has_table, is_cached_fault, no_functions, place_takes_memory, reading_takes_memory, table_takes_memory, were_read}
+pub use Rattle.addr2line_units.specs.EntriesFunctions.{AreFunctionsOf, ArePlacesIn, IsTableOf, ReadsNoDetail, ReadsNoOther, StayFunctions, cached_detail_takes_memory, cached_fault, cached_functions, cached_has_function, cached_takes_memory, details_at, find_takes_memory, function_of_place, functions_fault, has_detail, has_place, has_table, is_cached_fault, no_functions, place_takes_memory, reading_takes_memory, table_takes_memory, were_read}
 pub use Rattle.addr2line_units.specs.EntriesKnownCached.{known_answer, known_by, known_detail, known_fault, known_function, known_functions, known_in, known_table}
 pub use Rattle.addr2line_units.specs.UnitLinesCached.{AreLinesOf, CachesResult, HaveLinesOf, HaveSameEntries, StayUnits, StaysUnit, cached_files, cached_lines, cached_lines_result, cached_ranges, cached_spans, indexed_unit, indexed_units, is_parsed, is_uncached, lines_at, lines_in_cache, lines_result, lines_result_at, location_of_unit_row, no_lines, parsed_units, unit_row}
 pub use Rattle.addr2line_units.specs.UnitsCached.{AreFreshOf, HaveCachesOf, HaveEntriesOf, HaveSameLines, HaveViewsOf, IsCacheOf, ReadsOnly, StayAllEntries, answers_in, decided_at, has_entries_at, waits_at}

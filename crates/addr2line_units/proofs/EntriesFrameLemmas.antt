@@ -1,9 +1,18 @@
 -- The frames in a unit by its functions and its lines (on specs/EntriesFrames.antt).
-use Rattle.addr2line_units.proofs.Common.{◌≡◌, ◌≢◌, ◌∙◌, ℕ, ap, sym, refl, subst, not, ◌&&◌, is_ok, is_none, box_value, Bool, true, false, Option, Some, None, option_map, Result, Ok, Err, if◌then◌else◌, Error, OutOfMemory, ◌>>=◌, Sections, UnitRecord, cached_detail, exceeds_inline_room, Location, location_at, location_of_row, Scope, unit_lines, LazyFunctions, LazyLines, UnitLines, UnitEntries, UnitView, ViewState, functions_in_take_memory, lines_take_memory, AreLinesOf, cached_files, is_uncached, no_lines, FoundFunction, found_frames, AreRead, AsksNoMemoryIn, ReadsEntriesOf, StayEntries, has_entries, has_entries_by, StayFunctions, cached_functions, IsViewOf, answer_in, answer_of_view, waits, was_checked, LocationResult, location_in, asks_lines_in, frames_by, frames_in, function_in, inlined_of_unit, IndexedUnit, is_open}
+use Rattle.addr2line_units.proofs.Common.{◌≡◌, ◌≢◌, ◌∙◌, ℕ, ap, sym, refl, subst, not, ◌&&◌, is_ok, is_none, box_value, Bool, true, false, Option, Some, None, option_map, Result, Ok, Err, if◌then◌else◌, Error, OutOfMemory, ◌>>=◌, Sections, UnitRecord, cached_detail, exceeds_inline_room, Location, location_at, location_of_row, Scope, unit_lines, LazyFunctions, LazyLines, UnitLines, UnitEntries, UnitView, ViewState, functions_in_take_memory, lines_take_memory, AreLinesOf, cached_files, is_uncached, no_lines, FoundFunction, found_frames, AreRead, AsksNoMemoryIn, ReadsEntriesOf, StayEntries, has_entries, has_entries_by, StayFunctions, cached_functions, IsViewOf, answer_in, answer_of_view, waits, was_checked, LocationResult, location_in, asks_lines_in, frames_by, frames_in, function_in, inlined_of_unit, IndexedUnit, is_open, ExactlyUnlessOom, ExactlyUnlessOomIf, IfErr, UnitCache, AreEntriesOf, first_answer_of, is_decided, find_takes_memory, function_at, false≢true, indexed_unit, frames_of_place, verdict}
 use Rattle.addr2line_lines.specs.declared.row.Row.{Row}
 use Rattle.addr2line_lines.specs.Location.{LineTable as Lines}
 use Rattle.addr2line_units.specs.declared.unit.LazyLines.TheVariants as lines
 use Rattle.addr2line_units.specs.declared.unit.ViewState.TheVariants as states
+use Rattle.addr2line_units.specs.declared.entries.FunctionPlace.{FunctionPlace}
+use Rattle.addr2line_units.specs.declared.entries.UnitFrames.TheVariants as found
+use Rattle.addr2line_units.specs.CacheAfter.{AfterCheck, AfterFramesIn, AfterFunction, AfterFunctionIn, AfterLinesOf}
+use Rattle.addr2line_units.specs.EntriesFrames.{HasFewInlined}
+use Rattle.addr2line_units.specs.EntriesFunctions.{found_in_cache}
+use Rattle.addr2line_units.proofs.EntriesLemmas.{IsView, checked_decides, exactly_unless_oom, fault_entries, fault_in, few_in, function_entries, function_is_in, functions_keep, functions_right, functions_stay, functions_take_in, not_open}
+use Rattle.addr2line_units.proofs.EntriesMemoryLemmas.{exactly_if_none, find_takes_none}
+use Rattle.addr2line_units.proofs.EntriesPlaceLemmas.{cached_is_not_oom, cached_unless_oom}
+use Rattle.addr2line_units.proofs.UnitLinesLemmas.{lines_fault}
 use Rattle.addr2line_units.proofs.UnitViewLemmas.{waiting_is_open}
 
 open_by : {R : Type 0} (d : Sections) (u : UnitRecord) (s : ViewState R) → waits s ≡ true → IsViewOf d u (record { state = s }) → is_open d u (answer_in s) ≡ true
@@ -14,11 +23,11 @@ open_by d u (states.Unnamed e) w h = cc
 open_by d u (states.Answered a) w h = cc
 
 -- a unit whose view waits is open
-pub waiting_stays_open : {R : Type 0} (d : Sections) (u : UnitRecord) (v : UnitView R) → waits v.state ≡ true → IsViewOf d u v → is_open d u (answer_of_view v) ≡ true
+waiting_stays_open : {R : Type 0} (d : Sections) (u : UnitRecord) (v : UnitView R) → waits v.state ≡ true → IsViewOf d u v → is_open d u (answer_of_view v) ≡ true
 waiting_stays_open d u v w h = open_by d u v.state w h
 
 -- of a unit that waits all is known that a lookup asks
-pub waiting_entries : {R : Type 0} (probe : ℕ) (s : ViewState R) (fs : LazyFunctions R) → waits s ≡ true → has_entries_by probe s fs ≡ true
+waiting_entries : {R : Type 0} (probe : ℕ) (s : ViewState R) (fs : LazyFunctions R) → waits s ≡ true → has_entries_by probe s fs ≡ true
 waiting_entries probe states.Undecided fs e = absurd cc
 waiting_entries probe states.Open fs e = refl
 waiting_entries probe states.Main fs e = absurd cc
@@ -32,35 +41,13 @@ known_checks probe states.Main fs h = refl
 known_checks probe (states.Unnamed e) fs h = refl
 known_checks probe (states.Answered a) fs h = refl
 
-module _ {R : Type 0} (probe : ℕ) (old mid : UnitEntries R) (functions : mid.functions ≡ old.functions) (same : was_checked old.view.state ≡ true → mid ≡ old) where
-  -- a look reads no functions
-  pub check_only : ReadsEntriesOf probe old mid
-  check_only = record {
-    alone = λ n ne. ap (λ (fs : LazyFunctions R). cached_detail (cached_functions fs) n) functions;
-    kept = λ has. same (known_checks probe old.view.state old.functions has);
-  }
-
-  -- after a look no more is read
-  pub only_after : (new : UnitEntries R) → ReadsEntriesOf probe mid new → ReadsEntriesOf probe old new
-  only_after new h = record {
-    alone = λ n ne. h.alone n ne ∙ ap (λ (fs : LazyFunctions R). cached_detail (cached_functions fs) n) functions;
-    kept = λ has. (let is = same (known_checks probe old.view.state old.functions has) in h.kept (ap (has_entries probe) is ∙ has) ∙ is);
-  }
-
-  pub stay_after : (new : UnitEntries R) → StayEntries old mid → StayEntries mid new → StayEntries old new
-  stay_after new a b = record {
-    answer = b.answer ∙ a.answer;
-    view = λ checked. b.view (ap (λ (v : UnitView R). was_checked v.state) (a.view checked) ∙ checked) ∙ a.view checked;
-    functions = subst (λ (fs : LazyFunctions R). StayFunctions fs new.functions) functions b.functions;
-  }
-
 module _ (scope : Scope) (x : IndexedUnit) (answer : Option (Option Sections)) (probe : ℕ) where
   -- an open unit has no frames yet, and asks for no lines
-  pub open_frames : is_open scope.file.sections x.unit answer ≡ true → frames_in scope x answer probe ≡ Ok None
+  open_frames : is_open scope.file.sections x.unit answer ≡ true → frames_in scope x answer probe ≡ Ok None
   unfolding frames_in
   open_frames e = ap (λ (b : Bool). if b then Ok None else (frames_by scope x probe (function_in scope x.unit answer probe) >>= λ frames. Ok (Some frames))) e
 
-  pub open_asks : is_open scope.file.sections x.unit answer ≡ true → asks_lines_in scope x.unit answer probe ≡ false
+  open_asks : is_open scope.file.sections x.unit answer ≡ true → asks_lines_in scope x.unit answer probe ≡ false
   unfolding asks_lines_in
   open_asks e = ap (λ (b : Bool). not b && is_ok (function_in scope x.unit answer probe)) e
 
@@ -71,18 +58,18 @@ module _ (scope : Scope) (x : IndexedUnit) (answer : Option (Option Sections)) (
         ∙ ap (λ (r : Result (Option FoundFunction) Error). frames_by scope x probe r >>= λ frames. Ok (Some frames)) e
 
     -- lines are asked for where the function has no fault
-    pub closed_asks : (r : Result (Option FoundFunction) Error) → function_in scope x.unit answer probe ≡ r → asks_lines_in scope x.unit answer probe ≡ is_ok r
+    closed_asks : (r : Result (Option FoundFunction) Error) → function_in scope x.unit answer probe ≡ r → asks_lines_in scope x.unit answer probe ≡ is_ok r
     unfolding asks_lines_in
     closed_asks r e = ap (λ (b : Bool). not b && is_ok (function_in scope x.unit answer probe)) closed ∙ ap is_ok e
 
-    pub fault_frames : (e : Error) → function_in scope x.unit answer probe ≡ Err e → frames_in scope x answer probe ≡ Err e
+    fault_frames : (e : Error) → function_in scope x.unit answer probe ≡ Err e → frames_in scope x answer probe ≡ Err e
     fault_frames e h = by_function (Err e) h
 
     module _ (f : Option FoundFunction) (h : function_in scope x.unit answer probe ≡ Ok f) where
       by_lines : (r : Result Lines Error) → unit_lines scope.file.sections x.unit ≡ r → frames_in scope x answer probe ≡ ((r >>= λ table. Ok (found_frames table.files x.language f (location_at probe table))) >>= λ frames. Ok (Some frames))
       by_lines r e = by_function (Ok f) h ∙ ap (λ (r : Result Lines Error). (r >>= λ table. Ok (found_frames table.files x.language f (location_at probe table))) >>= λ frames. Ok (Some frames)) e
 
-      pub lines_fault_frames : (e : Error) → location_in scope.file.sections probe (Some x) ≡ Err e → frames_in scope x answer probe ≡ Err e
+      lines_fault_frames : (e : Error) → location_in scope.file.sections probe (Some x) ≡ Err e → frames_in scope x answer probe ≡ Err e
       lines_fault_frames e k = by_cases (unit_lines scope.file.sections x.unit) refl k
         where
           by_cases : (r : Result Lines Error) → unit_lines scope.file.sections x.unit ≡ r → (r >>= λ table. Ok (location_at probe table)) ≡ Err e → frames_in scope x answer probe ≡ Err e
@@ -104,7 +91,7 @@ module _ (scope : Scope) (x : IndexedUnit) (answer : Option (Option Sections)) (
       lines_frames (lines.Read table) row right cached k = (tt, read_frames (box_value table) row right k)
 
 -- where a lookup takes no memory in a unit, its refusal is the fault of the function
-pub function_alone : {R : Type 0} (shares : Bool) (scope : Scope) (u : UnitRecord) (answer : Option (Option Sections)) (probe : ℕ) (r : UnitLines) (v : UnitEntries R) (e : Error) → AsksNoMemoryIn shares scope u answer probe r v
+function_alone : {R : Type 0} (shares : Bool) (scope : Scope) (u : UnitRecord) (answer : Option (Option Sections)) (probe : ℕ) (r : UnitLines) (v : UnitEntries R) (e : Error) → AsksNoMemoryIn shares scope u answer probe r v
     → (has_entries probe v ≡ true → exceeds_inline_room (inlined_of_unit scope u answer probe) ≡ false → e ≢ OutOfMemory) → (e ≢ OutOfMemory → function_in scope u answer probe ≡ Err e)
     → (functions_in_take_memory shares scope u answer ≡ false → function_in scope u answer probe ≡ Err e) → function_in scope u answer probe ≡ Err e
 function_alone shares scope u answer probe r v e h known gives alone = by_test (functions_in_take_memory shares scope u answer) refl
@@ -114,10 +101,177 @@ function_alone shares scope u answer probe r v e h known gives alone = by_test (
     by_test false t = alone t
 
 -- or that of the lines
-pub lines_alone : {R : Type 0} (shares : Bool) (scope : Scope) (u : UnitRecord) (answer : Option (Option Sections)) (probe : ℕ) (r : UnitLines) (v : UnitEntries R) (e : Error) (given : LocationResult) → AsksNoMemoryIn shares scope u answer probe r v
+lines_alone : {R : Type 0} (shares : Bool) (scope : Scope) (u : UnitRecord) (answer : Option (Option Sections)) (probe : ℕ) (r : UnitLines) (v : UnitEntries R) (e : Error) (given : LocationResult) → AsksNoMemoryIn shares scope u answer probe r v
     → asks_lines_in scope u answer probe ≡ true → (is_uncached r.lines ≡ false → e ≢ OutOfMemory) → (e ≢ OutOfMemory → given ≡ Err e) → (lines_take_memory shares u ≡ false → given ≡ Err e) → given ≡ Err e
 lines_alone shares scope u answer probe r v e given h asked known gives alone = by_test (lines_take_memory shares u) refl
   where
     by_test : (b : Bool) → lines_take_memory shares u ≡ b → given ≡ Err e
     by_test true t = gives (known (h.lines asked t))
     by_test false t = alone t
+
+-- the function in the view of a unit that is decided
+module _ {R : Type 0} (shares : Bool) (scope : Scope) (u : UnitRecord) (probe : ℕ) (old : UnitEntries R) (h : AreEntriesOf scope u old) (decided : is_decided old.view.state ≡ true) where
+  abbrev with_functions : LazyFunctions R → UnitEntries R
+  with_functions fs = record { view = old.view; functions = fs }
+
+  -- the view has a fault
+  pub faulty_view : (x : Error) → verdict scope.file.sections u (first_answer_of old) ≡ Some (Err x) → AfterFunctionIn shares scope u probe (Err x) old old
+  faulty_view x is = record {
+    right = h;
+    there = tt;
+    stay = record { answer = refl; view = λ _. refl; functions = functions_stay scope u old.functions };
+    within = record { alone = λ n ne. refl; kept = λ _. refl };
+    ready = λ ne. fault_entries scope u probe old h decided x is old.functions ∙ cached_unless_oom x ne;
+    memory = λ has few. cached_is_not_oom x (sym (fault_entries scope u probe old h decided x is old.functions) ∙ has);
+    no_memory = λ none. fault_in scope u probe old h decided x is;
+  }
+
+  -- the function is that among the functions of the view
+  module _ (inner : Scope) (unit : UnitRecord) (v : IsView scope u probe old h decided inner unit) (result : Result (Option FunctionPlace) Error) (new : LazyFunctions R)
+      (gives : ExactlyUnlessOomIf (find_takes_memory shares inner unit probe old.functions && find_takes_memory shares inner unit probe new) (found_in_cache new) result (function_at inner unit probe)) where
+    pub function_given : ExactlyUnlessOom (found_in_cache new) result (function_in scope u (first_answer_of old) probe)
+    function_given = subst (λ given. ExactlyUnlessOom (found_in_cache new) result given) (sym (function_is_in scope u probe old h decided inner unit v)) (exactly_unless_oom _ _ _ _ gives)
+
+    pub function_after : AfterFunction inner unit probe result old.functions new → AfterFunctionIn shares scope u probe result old (with_functions new)
+    function_after a = record {
+      right = functions_keep scope u probe old h decided inner unit v new a.right;
+      there = a.there;
+      stay = record { answer = refl; view = λ _. refl; functions = a.stay };
+      within = record {
+        alone = a.within;
+        kept = λ has. ap with_functions (a.kept (sym (function_entries scope u probe old h decided inner unit v old.functions) ∙ has));
+      };
+      ready = λ told. function_entries scope u probe old h decided inner unit v new ∙ a.known told;
+      memory = λ has few. a.memory (sym (function_entries scope u probe old h decided inner unit v new) ∙ has) (few_in scope u probe old h decided inner unit v few);
+      no_memory = λ none. subst (λ given. IfErr result (λ e. given ≡ Err e)) (sym (function_is_in scope u probe old h decided inner unit v))
+          (exactly_if_none (find_takes_memory shares inner unit probe old.functions && find_takes_memory shares inner unit probe new) (found_in_cache new) result (function_at inner unit probe)
+          (ap (λ b. b && find_takes_memory shares inner unit probe new) (find_takes_none shares inner unit old.functions (functions_right scope u probe old h decided inner unit v) (functions_take_in scope u probe old h decided inner unit v shares none) probe)) gives);
+    }
+
+-- the frames of a unit that was looked at
+module _ {R : Type 0} (shares : Bool) (scope : Scope) (u : UnitRecord) (probe : ℕ) (was : UnitCache R) (own : AreLinesOf scope.file.sections u was.lines.lines) (mid : UnitEntries R) (look : AfterCheck scope u was.entries mid) where
+  abbrev x : IndexedUnit
+  x = indexed_unit u was.lines
+
+  abbrev answer : Option (Option Sections)
+  answer = first_answer_of was.entries
+
+  -- it waits
+  module _ (waiting : waits mid.view.state ≡ true) where
+    open_now : is_open scope.file.sections u answer ≡ true
+    open_now = ap (is_open scope.file.sections u) (sym look.stay.answer) ∙ waiting_stays_open scope.file.sections u mid.view waiting look.right.view
+
+    pub waits_gives : frames_in scope x answer probe ≡ Ok None
+    waits_gives = open_frames scope x answer probe open_now
+
+    pub waits_after : AfterFramesIn shares scope u probe (Ok found.Open) was (record { lines = was.lines; entries = mid })
+    waits_after = record {
+      right = record { lines = own; entries = look.right };
+      there = tt;
+      unit = record { language = refl; lines = λ _. refl };
+      stay = look.stay;
+      within = record {
+        alone = λ n ne. ap (λ (fs : LazyFunctions R). cached_detail (cached_functions fs) n) look.functions;
+        kept = λ has. look.kept (known_checks probe was.entries.view.state was.entries.functions has);
+      };
+      kept = λ _. refl;
+      ready = λ _. waiting_entries probe mid.view.state mid.functions waiting;
+      known = λ _ asks. absurd (false≢true (sym (open_asks scope x answer probe open_now) ∙ asks));
+      memory = λ _ _ _. tt;
+      no_memory = λ _. tt;
+    }
+
+  -- it doesn't, and the function was looked for
+  module _ (shut : waits mid.view.state ≡ false) (new : UnitEntries R) where
+    closed : is_open scope.file.sections u answer ≡ false
+    closed = ap (is_open scope.file.sections u) (sym look.stay.answer) ∙ not_open scope u probe mid look.right (checked_decides mid.view.state look.known shut)
+
+    before : {r : Result (Option FoundFunction) Error} → function_in scope u (first_answer_of mid) probe ≡ r → function_in scope u answer probe ≡ r
+    before h = ap (λ a. function_in scope u a probe) (sym look.stay.answer) ∙ h
+
+    few_then : HasFewInlined scope u answer probe → HasFewInlined scope u (first_answer_of mid) probe
+    few_then few = ap (λ a. exceeds_inline_room (inlined_of_unit scope u a probe)) look.stay.answer ∙ few
+
+    module _ {result : Result (Option FunctionPlace) Error} (f : AfterFunctionIn shares scope u probe result mid new) where
+      within_now : ReadsEntriesOf probe was.entries new
+      within_now = record {
+        alone = λ n ne. f.within.alone n ne ∙ ap (λ (fs : LazyFunctions R). cached_detail (cached_functions fs) n) look.functions;
+        kept = λ has. (let is = look.kept (known_checks probe was.entries.view.state was.entries.functions has) in f.within.kept (ap (has_entries probe) is ∙ has) ∙ is);
+      }
+
+      stay_now : StayEntries was.entries new
+      stay_now = record {
+        answer = f.stay.answer ∙ look.stay.answer;
+        view = λ checked. f.stay.view (ap (λ (v : UnitView R). was_checked v.state) (look.stay.view checked) ∙ checked) ∙ look.stay.view checked;
+        functions = subst (λ (fs : LazyFunctions R). StayFunctions fs new.functions) look.functions f.stay.functions;
+      }
+
+    -- the function is refused
+    module _ (e : Error) (f : AfterFunctionIn shares scope u probe (Err e) mid new) (gives : e ≢ OutOfMemory → function_in scope u (first_answer_of mid) probe ≡ Err e) where
+      pub no_function_gives : e ≢ OutOfMemory → frames_in scope x answer probe ≡ Err e
+      no_function_gives ne = fault_frames scope x answer probe closed e (before (gives ne))
+
+      pub no_function_after : AfterFramesIn shares scope u probe (Err e) was (record { lines = was.lines; entries = new })
+      no_function_after = record {
+        right = record { lines = own; entries = f.right };
+        there = tt;
+        unit = record { language = refl; lines = λ _. refl };
+        stay = stay_now f;
+        within = within_now f;
+        kept = λ _. refl;
+        ready = f.ready;
+        known = λ ne asks. absurd (false≢true (sym (closed_asks scope x answer probe closed (Err e) (before (gives ne))) ∙ asks));
+        memory = λ has _ few. f.memory has (few_then few);
+        no_memory = λ none. fault_frames scope x answer probe closed e (before
+            (function_alone shares scope u (first_answer_of mid) probe was.lines new e (subst (λ a. AsksNoMemoryIn shares scope u a probe was.lines new) (sym look.stay.answer) none) f.memory gives f.no_memory));
+      }
+
+    -- it is found, or there is none
+    module _ (p : Option FunctionPlace) (f : AfterFunctionIn shares scope u probe (Ok p) mid new) (gives : function_in scope u (first_answer_of mid) probe ≡ Ok (found_in_cache new.functions p)) (l : UnitLines) where
+      asked : asks_lines_in scope u answer probe ≡ true
+      asked = closed_asks scope x answer probe closed (Ok (found_in_cache new.functions p)) (before gives)
+
+      unasked : asks_lines_in scope u answer probe ≡ false → l ≡ was.lines
+      unasked none = absurd (false≢true (sym none ∙ asked))
+
+      -- the lines are refused
+      module _ (e : Error) (r : AfterLinesOf {X = Option Row} shares scope.file.sections u (Err e) was.lines l) (located : e ≢ OutOfMemory → location_in scope.file.sections probe (Some x) ≡ Err e) where
+        pub no_lines_gives : e ≢ OutOfMemory → frames_in scope x answer probe ≡ Err e
+        no_lines_gives ne = lines_fault_frames scope x answer probe closed (found_in_cache new.functions p) (before gives) e (located ne)
+
+        pub no_lines_after : AfterFramesIn shares scope u probe (Err e) was (record { lines = l; entries = new })
+        no_lines_after = record {
+          right = record { lines = r.right; entries = f.right };
+          there = tt;
+          unit = r.stay;
+          stay = stay_now f;
+          within = within_now f;
+          kept = unasked;
+          ready = λ ne. f.ready tt;
+          known = λ ne asks. r.known.0 ne;
+          memory = λ has parsed few. r.memory (parsed asked);
+          no_memory = λ none. lines_fault_frames scope x answer probe closed (found_in_cache new.functions p) (before gives) e
+              (lines_alone shares scope u answer probe l new e (location_in scope.file.sections probe (Some x)) none asked r.memory located (λ takes. lines_fault scope.file.sections probe x e (r.no_memory takes)));
+        }
+
+      -- the row is found, or there is none
+      module _ (row : Option Row) (r : AfterLinesOf shares scope.file.sections u (Ok row) was.lines l) (located : location_in scope.file.sections probe (Some x) ≡ Ok (option_map (location_of_row (cached_files l.lines)) row)) where
+        here : (AreRead l.lines) × (frames_in scope x answer probe ≡ Ok (Some (found_frames (cached_files l.lines) x.language (found_in_cache new.functions p) (option_map (location_of_row (cached_files l.lines)) row))))
+        here = lines_frames scope x answer probe closed (found_in_cache new.functions p) (before gives) l.lines row r.right r.known located
+
+        pub here_gives : frames_in scope x answer probe ≡ Ok (frames_of_place l new (found.Here p row))
+        here_gives = here.1 ∙ ap (λ language. Ok (Some (found_frames (cached_files l.lines) language (found_in_cache new.functions p) (option_map (location_of_row (cached_files l.lines)) row)))) (sym r.stay.language)
+
+        pub here_after : AfterFramesIn shares scope u probe (Ok (found.Here p row)) was (record { lines = l; entries = new })
+        here_after = record {
+          right = record { lines = r.right; entries = f.right };
+          there = (f.there, here.0);
+          unit = r.stay;
+          stay = stay_now f;
+          within = within_now f;
+          kept = unasked;
+          ready = λ _. f.ready tt;
+          known = λ _ asks. r.known;
+          memory = λ _ _ _. tt;
+          no_memory = λ _. tt;
+        }

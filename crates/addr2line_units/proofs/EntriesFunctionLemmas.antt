@@ -1,5 +1,5 @@
 -- The function at an address by what is cached of a view (on specs/EntriesFunctions.antt).
-use Rattle.addr2line_units.proofs.Common.{Box, Global, ◌≡◌, ◌≢◌, ℕ, ◌+◌, ◌<◌, ◌==◌, ◌&&◌, ◌⊎◌, inl, inr, nat_lt, not, Bool, true, false, cond, List, [], ◌∷◌, length, map, slice_get, slice_set, Option, Some, None, option_and_then, option_map, unwrap_or, Result, Ok, Err, refl, ap, sym, subst, ◌∙◌, arith, zero, suc, OnOk, AllByRecursion, AllZip, position_or_len, nat_tests, DwLang, Error, OutOfMemory, ◌>>=◌, ExactlyUnlessOomIf, fault_of, Section, Sections, UnitRecord, Detail, detail_at, InlinedEntry, FunctionRange, entries_of, function_offset_at, functions_of, functions_take_memory, AreDetailsOf, AreUnread, HasDetail, IsDetailOf, IsFunctionMore, IsReadAt, IsReadOf, IsReadOnce, IsTableMore, IsWithDetail, details_fault, details_take_memory, AreListed, CachedFunction, FunctionTable, cached_detail, cached_inlined, cached_name, function_place_at, inlined_of_detail, name_of_detail, cached_offset_at, Location, exceeds_inline_room, Scope, all_at, get_set_other, some_at, read_more, read_right, unread_right, LazyFunctions, FrameRecord, found_frames, found_function, frames_from, function_at, function_from, ArePlacesIn, IsTableOf, ReadsNoOther, StayFunctions, cached_inlined_at, cached_detail_takes_memory, cached_takes_memory, details_at, find_takes_memory, function_of_place, functions_fault, cached_functions, place_takes_memory, reading_takes_memory, table_takes_memory, were_read, memory_or_not}
+use Rattle.addr2line_units.proofs.Common.{Box, Global, ◌≡◌, ◌≢◌, ℕ, ◌+◌, ◌==◌, ◌&&◌, ◌⊎◌, inl, inr, nat_lt, not, Bool, true, false, cond, List, [], ◌∷◌, length, map, slice_get, slice_set, Option, Some, None, option_and_then, option_map, unwrap_or, Result, Ok, Err, refl, ap, sym, subst, ◌∙◌, zero, suc, OnOk, AllByRecursion, AllZip, position_or_len, DwLang, Error, OutOfMemory, ◌>>=◌, ExactlyUnlessOomIf, fault_of, Section, Sections, UnitRecord, Detail, detail_at, InlinedEntry, FunctionRange, entries_of, function_offset_at, functions_of, functions_take_memory, AreDetailsOf, AreUnread, IsDetailOf, IsFunctionMore, IsReadAt, IsReadOf, IsReadOnce, IsTableMore, IsWithDetail, details_fault, details_take_memory, AreListed, CachedFunction, FunctionTable, cached_detail, cached_inlined, cached_name, function_place_at, inlined_of_detail, name_of_detail, cached_offset_at, Location, exceeds_inline_room, Scope, all_at, get_set_other, some_at, read_more, read_right, unread_right, LazyFunctions, FrameRecord, found_frames, found_function, frames_from, function_at, function_from, ArePlacesIn, IsTableOf, ReadsNoOther, StayFunctions, cached_detail_takes_memory, cached_takes_memory, details_at, find_takes_memory, function_of_place, functions_fault, cached_functions, place_takes_memory, reading_takes_memory, table_takes_memory, were_read, memory_or_not}
 use Rattle.std.specs.Prelude.{IfSome, position, reverse}
 use Rattle.addr2line_lines.specs.CachedNames.{AreNamesOf}
 use Rattle.addr2line_lines.specs.InlinedChain.{inlined_chain}
@@ -71,20 +71,6 @@ place_stays probe old new more =
     by_offset : (o : Option ℕ) → option_and_then (λ offset. position (λ (f : CachedFunction). f.offset == offset) new.functions) o ≡ option_and_then (λ offset. position (λ (f : CachedFunction). f.offset == offset) old.functions) o
     by_offset None = refl
     by_offset (Some offset) = place_same offset old.functions new.functions more.functions
-
--- where what is at the place of a function is cached, memory is taken for many inlined functions
--- alone
-pub cached_ready : (probe n : ℕ) (t : FunctionTable) (v : Result Detail Error) → function_place_at probe t ≡ Some n → cached_detail t n ≡ Some v → table_takes_memory probe t ≡ exceeds_inline_room (cached_inlined_at probe t)
-cached_ready probe n t v at e =
-    ap (place_takes_memory probe t) at ∙ ap (cached_detail_takes_memory probe) e
-    ∙ sym (ap (λ (o : Option (Result Detail Error)). exceeds_inline_room (inlined_chain probe (elim o [ None ↦ [] | Some d ↦ inlined_of_detail d ]))) e)
-    ∙ sym (ap (λ (o : Option ℕ). exceeds_inline_room (elim o [ None ↦ [] | Some m ↦ inlined_chain probe (cached_inlined t m) ])) at)
-
--- where no function is at the address neither is any memory taken, nor are there inlined functions
-pub none_ready : (probe : ℕ) (t : FunctionTable) → function_place_at probe t ≡ None → table_takes_memory probe t ≡ exceeds_inline_room (cached_inlined_at probe t)
-none_ready probe t at =
-    ap (place_takes_memory probe t) at
-    ∙ sym (ap (λ (o : Option ℕ). exceeds_inline_room (elim o [ None ↦ [] | Some m ↦ inlined_chain probe (cached_inlined t m) ])) at)
 
 -- the function at no place
 pub none_found : (scope : Scope) (view : UnitRecord) (probe : ℕ) (t : FunctionTable) → IsTableOf scope view t → None ≡ function_offset_at probe t.ranges → function_at scope view probe ≡ Ok None
@@ -186,12 +172,6 @@ module _ (scope : Scope) (view : UnitRecord) (probe n : ℕ) (old new : Function
         absurd (lacks (both _ _ before after) m.0))
   ]
 
-  pub refused_ready : IsTableOf scope view old → function_place_at probe old ≡ Some n → (x : Error) → IsReadAt scope view n old (Err x) new → x ≢ OutOfMemory → table_takes_memory probe new ≡ exceeds_inline_room (cached_inlined_at probe new)
-  refused_ready h place x k ne = elim (read_err x (all_at (IsDetailOf scope view) old.functions n f h.details q) k) [
-    | inl c ↦ cached_ready probe n new (Err x) (place_stays probe old new (read_more scope view n old new (Err x) k) ∙ place) (cached_is (Err x) c)
-    | inr m ↦ absurd (ne m.0)
-  ]
-
   -- memory is taken for more than 16 inlined functions before and after, so that no other refusal stands
   pub refused_chain : IsTableOf scope view old → function_place_at probe old ≡ Some n → IsReadAt scope view n old (Ok tt) new → (x : Error) → ((exceeds_inline_room (inlined_chain probe (cached_inlined new n)) ≡ true → x ≢ OutOfMemory) → ◌≡◌ {A = Result (List InlinedEntry) Error} (Ok (inlined_chain probe (cached_inlined new n))) (Err x)) → MemoryLacks x → ⊥
   refused_chain h place k x given lacks =
@@ -222,11 +202,6 @@ module _ (scope : Scope) (view : UnitRecord) (probe n : ℕ) (old new : Function
               let same : v ≡ Ok d = sym (right v e) ∙ c.is in
               ap (λ (w : Result Detail Error). exceeds_inline_room (inlined_chain probe (inlined_of_detail w))) same
               ∙ sym (ap (λ (o : Option (Result Detail Error)). exceeds_inline_room (inlined_chain probe (elim o [ None ↦ [] | Some y ↦ inlined_of_detail y ]))) (cached_is (Ok d) c)) ∙ many
-
-  pub chain_ready : IsTableOf scope view old → function_place_at probe old ≡ Some n → IsReadAt scope view n old (Ok tt) new → table_takes_memory probe new ≡ exceeds_inline_room (cached_inlined_at probe new)
-  chain_ready h place k =
-      let c = read_ok (all_at (IsDetailOf scope view) old.functions n f h.details q) k in
-      cached_ready probe n new (Ok c.0) (place_stays probe old new (read_more scope view n old new (Ok tt) k) ∙ place) (cached_is (Ok c.0) c.1)
 
   pub chain_found : IsTableOf scope view old → cached_offset_at old n ≡ function_offset_at probe old.ranges → IsReadAt scope view n old (Ok tt) new → (p : FunctionPlace) → p.place ≡ n
       → ◌≡◌ {A = Result (List InlinedEntry) Error} (Ok (inlined_chain probe (cached_inlined new n))) (Ok (map (entry_among new.inlined) p.inlined.items))
@@ -282,28 +257,6 @@ pub fault_is : (scope : Scope) (view : UnitRecord) (t : FunctionTable) → IsTab
 fault_is scope view t h =
     ap (λ (r : Result (List FunctionRange) Error). r >>= λ ranges. details_at scope view (entries_of ranges)) h.ranges
     ∙ ap (details_at scope view) (sym h.listed) ∙ sym (details_by_entries scope view t.functions)
-
--- where all details are cached memory is taken for many inlined functions alone
-pub all_ready : (t : FunctionTable) → AllByRecursion HasDetail t.functions → (probe : ℕ) → table_takes_memory probe t ≡ exceeds_inline_room (cached_inlined_at probe t)
-all_ready t all probe = by_place (function_place_at probe t) refl
-  where
-    short : (k l m : ℕ) → cond (nat_lt k l) (Some k) None ≡ Some m → m < l
-    short k l m e = by_test (nat_lt k l) refl e
-      where
-        by_test : (b : Bool) → nat_lt k l ≡ b → cond b (Some k) None ≡ Some m → m < l
-        by_test true t e = let same : k ≡ m = cc in let below : k < l = grind (arith, nat_tests) in omega arith
-        by_test false t e = absurd cc
-
-    below : (o : Option ℕ) (n : ℕ) → option_and_then (λ offset. position (λ (f : CachedFunction). f.offset == offset) t.functions) o ≡ Some n → n < length t.functions
-    below None n e = absurd cc
-    below (Some offset) n e = short (position_or_len (λ (f : CachedFunction). f.offset == offset) t.functions) (length t.functions) n e
-
-    by_place : (o : Option ℕ) → function_place_at probe t ≡ o → table_takes_memory probe t ≡ exceeds_inline_room (cached_inlined_at probe t)
-    by_place None e = none_ready probe t e
-    by_place (Some n) e =
-        let at = some_at t.functions n (below (function_offset_at probe t.ranges) n e) in
-        let d = all_at HasDetail t.functions n at.0 all at.1 in
-        cached_ready probe n t (Ok d.0) e (ap (λ (o : Option CachedFunction). option_and_then (λ (g : CachedFunction). g.detail) o) at.1 ∙ d.1)
 
 -- functions stay those of the view where more right details are cached
 pub table_more : (scope : Scope) (view : UnitRecord) (old new : FunctionTable) → IsTableOf scope view old → IsTableMore old new → AreDetailsOf scope view new → AreNamesOf scope view new.names → IsTableOf scope view new

@@ -1,6 +1,7 @@
 -- What is cached of the entries of a unit (on specs/EntriesCached.antt and specs/EntriesFrames.antt).
-use Rattle.addr2line_units.proofs.Common.{◌≡◌, ◌∙◌, ℕ, ap, sym, refl, subst, Bool, true, false, Option, Some, IfOk, IfSome, is_none, Result, Ok, Err, Error, ◌>>=◌, ExactlyUnlessOom, ExactlyUnlessOomIf, Sections, UnitRecord, functions_take_memory, exceeds_inline_room, Scope, table_same, LazyFunctions, UnitEntries, UnitView, ViewState, functions_in_take_memory, view_takes_memory, function_at, AreEntriesOf, StayEntries, has_answered, has_entries_by, first_answer_of, AreFunctionsOf, StayFunctions, cached_has_function, is_cached_fault, were_read, IsViewOf, is_decided, parts_or_fault, answer_of_view, as_sections, unboxed, verdict_in, view_by, waits, was_checked, function_by, function_in, inlined_of_unit, inlined_of_found, View, is_open, parts_of, verdict, view_scope}
+use Rattle.addr2line_units.proofs.Common.{◌≡◌, ◌∙◌, ℕ, ap, sym, refl, subst, Bool, true, false, Option, Some, IfOk, IfSome, is_none, Result, Ok, Err, Error, ◌>>=◌, ExactlyUnlessOom, ExactlyUnlessOomIf, Sections, UnitRecord, functions_take_memory, exceeds_inline_room, Scope, table_same, LazyFunctions, UnitEntries, UnitView, ViewState, functions_in_take_memory, view_takes_memory, function_at, AreEntriesOf, has_answered, has_entries_by, first_answer_of, AreFunctionsOf, StayFunctions, cached_has_function, is_cached_fault, were_read, IsViewOf, is_decided, parts_or_fault, answer_of_view, as_sections, unboxed, verdict_in, view_by, waits, was_checked, function_by, function_in, inlined_of_unit, inlined_of_found, View, is_open, parts_of, verdict, view_scope}
 use Rattle.std.specs.Prelude.{Box}
+use Rattle.addr2line_units.specs.CacheAfter.{AfterCheck, AfterViewCheck}
 use Rattle.std.specs.declared.alloc.Global.{Global}
 use Rattle.addr2line_units.specs.declared.entries.LazyFunctions.TheVariants as lazy
 use Rattle.addr2line_units.specs.declared.unit.ViewState.TheVariants as states
@@ -27,24 +28,25 @@ checked_decides states.Main h k = refl
 checked_decides (states.Unnamed e) h k = refl
 checked_decides (states.Answered a) h k = refl
 
-module _ {R : Type 0} (scope : Scope) (u : UnitRecord) (old : UnitEntries R) (view : UnitView R) (kept : was_checked old.view.state ≡ true → (view ≡ old.view)) where
-  abbrev with_view : UnitView R → UnitEntries R
-  with_view v = record { view = v; functions = old.functions }
-
-  -- what is cached stays right where the view is looked at
-  pub check_keeps : answer_of_view view ≡ answer_of_view old.view → AreEntriesOf scope u old → IsViewOf scope.file.sections u view → AreEntriesOf scope u (record { view = view; functions = old.functions })
-  check_keeps answer h right = record {
-    view = right;
-    functions = subst (λ a. IfSome (verdict scope.file.sections u a) (λ r. IfOk r (λ x. AreFunctionsOf (view_scope scope x) x.unit old.functions))) (sym answer) h.functions;
-    unread = by_check (was_checked old.view.state) refl;
+module _ {R : Type 0} (scope : Scope) (u : UnitRecord) (old : UnitEntries R) (view : UnitView R) (a : AfterViewCheck scope.file.sections u old.view view) where
+  -- after the view was looked at
+  pub check_after : AreEntriesOf scope u old → AfterCheck scope u old (record { view = view; functions = old.functions })
+  check_after h = record {
+    right = record {
+      in_order = h.in_order;
+      view = a.right;
+      functions = subst (λ o. IfSome (verdict scope.file.sections u o) (λ r. IfOk r (λ x. AreFunctionsOf (view_scope scope x) x.unit old.functions))) (sym a.answer) h.functions;
+      unread = by_check (was_checked old.view.state) refl;
+    };
+    known = a.known;
+    stay = record { answer = a.answer; view = a.kept; functions = functions_stay scope u old.functions };
+    functions = refl;
+    kept = λ checked. ap (λ v. record { view = v; functions = old.functions }) (a.kept checked);
   }
     where
       by_check : (b : Bool) → was_checked old.view.state ≡ b → is_decided view.state ≡ false → were_read old.functions ≡ false
-      by_check true e waiting = h.unread (ap (λ (v : UnitView R). is_decided v.state) (sym (kept e)) ∙ waiting)
+      by_check true e waiting = h.unread (ap (λ (v : UnitView R). is_decided v.state) (sym (a.kept e)) ∙ waiting)
       by_check false e waiting = h.unread (undecided old.view.state e)
-
-  pub check_stays : answer_of_view view ≡ answer_of_view old.view → StayEntries old (record { view = view; functions = old.functions })
-  check_stays answer = record { answer = answer; view = kept; functions = functions_stay scope u old.functions }
 
 -- memory may be taken at any time
 pub exactly_unless_oom : {X Y : Type 0} (may : Bool) (see : X → Y) (r : Result X Error) (given : Result Y Error) → ExactlyUnlessOomIf may see r given → ExactlyUnlessOom see r given
@@ -135,6 +137,7 @@ module _ {R : Type 0} (scope : Scope) (u : UnitRecord) (probe : ℕ) (old : Unit
     -- the unit stays right where other functions of its view are cached
     pub functions_keep : (new : LazyFunctions R) → AreFunctionsOf inner unit new → AreEntriesOf scope u (record { view = old.view; functions = new })
     functions_keep new right = record {
+      in_order = h.in_order;
       view = h.view;
       functions = subst (λ w. IfSome w (λ r. IfOk r (λ x. AreFunctionsOf (view_scope scope x) x.unit new))) (sym v.is)
           (subst (λ s. AreFunctionsOf s v.view.unit new) v.leads (subst (λ y. AreFunctionsOf inner y new) (sym v.unit) right));

@@ -1,9 +1,10 @@
 -- What the units of a context are after one of them was asked (on specs/UnitsAfter.antt and
 -- specs/UnitsStored.antt).
-use Rattle.addr2line_units.proofs.Common.{◌≡◌, ◌≢◌, ◌⊎◌, inl, inr, ℕ, ◌<◌, ◌≤◌, ◌&&◌, ◌||◌, Bool, true, false, not, List, [], ◌∷◌, length, get_or, slice_get, Option, Some, None, Result, Ok, Err, refl, sym, ap, subst, ◌∙◌, arith, set, IfErr, Error, OutOfMemory, ◌>>=◌, ExactlyUnlessOom, WasNotRefused, Sections, UnitRecord, exceeds_inline_room, Scope, OnFault, FramesStop, UnitRange, UnitCache, AfterAsk, found_stop, stop_at, functions_in_take_memory, lines_of_take_memory, lines_take_memory, AreEntriesOf, AreFramesIn, AsksNoMemoryIn, ReadsEntriesOf, StayEntries, first_answer_of, frames_of_place, has_entries, AreFoundAt, IsLendable, IsStopIn, found_after_fault, frames_found_at, has_frames_at, as_stop, stop_of_found, StaysUnit, StayUnits, indexed_unit, indexed_units, is_uncached, parsed_units, HaveEntriesOf, StayAllEntries, answers_in, has_entries_at, FindsNothing, LookupStop, after_fault, asks_lines_of, ends_lookup, function_offset_of, functions_of_take_memory, inlined_at_number, or_stop, known_in, knows_detail_at, has_parsed, AreUnits, as_units_state, FramesResult, asks_lines_in, frames_in, inlined_of_unit, IsFaultAt, UnitsState, asked_by, asks_no_memory_at, has_all_at, reads_no_memory_at}
+use Rattle.addr2line_units.proofs.Common.{◌≡◌, ◌≢◌, ◌⊎◌, inl, inr, ℕ, ◌<◌, ◌≤◌, ◌&&◌, ◌||◌, Bool, true, false, not, List, [], ◌∷◌, length, get_or, slice_get, Option, Some, None, Result, Ok, Err, refl, sym, ap, subst, ◌∙◌, arith, set, IfErr, Error, OutOfMemory, ◌>>=◌, ExactlyUnlessOom, WasNotRefused, Sections, UnitRecord, exceeds_inline_room, Scope, OnFault, FramesStop, UnitRange, UnitCache, AfterAsk, found_stop, stop_at, functions_in_take_memory, lines_of_take_memory, lines_take_memory, AreFramesIn, first_answer_of, frames_of_place, AreFoundAt, IsLendable, IsStopIn, found_after_fault, frames_found_at, has_frames_at, as_stop, stop_of_found, StayUnits, indexed_unit, indexed_units, parsed_units, HaveEntriesOf, StayAllEntries, answers_in, has_entries_at, FindsNothing, LookupStop, after_fault, asks_lines_of, ends_lookup, function_offset_of, functions_of_take_memory, inlined_at_number, or_stop, known_in, knows_detail_at, has_parsed, AreUnits, as_units_state, FramesResult, asks_lines_in, frames_in, inlined_of_unit, IsFaultAt, UnitsState, asked_by, asks_no_memory_at, has_all_at, reads_no_memory_at}
 use Rattle.std.specs.Prelude.{IfOk, unwrap_or}
 use Rattle.addr2line_units.specs.declared.frames.FramesStop.TheVariants as stops
 use Rattle.addr2line_units.specs.declared.entries.UnitFrames.{UnitFrames}
+use Rattle.addr2line_units.specs.CacheAfter.{AfterFramesIn}
 use Rattle.addr2line_units.proofs.UnitsCachedLemmas.{entries_set, reads_set, same_answers, stay_entries_set}
 use Rattle.addr2line_units.proofs.FramesFoundLemmas.{lendable_if_told}
 use Rattle.addr2line_units.proofs.FramesLookupLemmas.{gives_after, no_stop, oom_before, refused_before, stop_is, stop_there, there_after}
@@ -105,16 +106,12 @@ module _ {R : Type 0} {scope : Scope} {cs : List (UnitCache R)} {last : FramesSt
               by (Some stop) q = stop_there now_cs n f stop q found
 
           -- what is known after it
-          module _ (stays : StaysUnit c.lines w.lines) (stay : StayEntries c.entries w.entries) (only : ReadsEntriesOf probe c.entries w.entries)
-              (lines : asks_lines_in scope u (first_answer_of c.entries) probe ≡ false → w.lines ≡ c.lines)
-              (ready : WasNotRefused result → has_entries probe w.entries ≡ true)
-              (parsed : WasNotRefused result → asks_lines_in scope u (first_answer_of c.entries) probe ≡ true → is_uncached w.lines.lines ≡ false)
-              (memory : has_entries probe w.entries ≡ true → (asks_lines_in scope u (first_answer_of c.entries) probe ≡ true → is_uncached w.lines.lines ≡ false) → exceeds_inline_room (inlined_of_unit scope u (first_answer_of c.entries) probe) ≡ false → WasNotRefused result) where
+          module _ {shares : Bool} (e : AfterFramesIn shares scope u probe result c w) where
             stay_lines : StayUnits cs now_cs
-            stay_lines = stay_set cs n c w within at stays
+            stay_lines = stay_set cs n c w within at e.unit
 
             stay_entries : StayAllEntries cs now_cs
-            stay_entries = stay_entries_set cs n c w within at stay
+            stay_entries = stay_entries_set cs n c w within at e.stay
 
             units_same : indexed_units us now_cs ≡ indexed_units us cs
             units_same = stay_indexed us cs now_cs stay_lines
@@ -126,14 +123,14 @@ module _ {R : Type 0} {scope : Scope} {cs : List (UnitCache R)} {last : FramesSt
             asks m = asks_lines_of scope (indexed_units us cs) (answers_in cs) probe m
 
             known_there : WasNotRefused result → has_frames_at asks probe now_cs n ≡ true
-            known_there told = known_then scope probe us cs n own within u c w unit at (ready told) (parsed told)
+            known_there told = known_then scope probe us cs n own within u c w unit at (e.ready told) (e.known told)
 
             -- what is stored can be lent
-            pub stop_lendable : AreEntriesOf scope u w.entries → IfOk result (AreFramesIn w.lines w.entries) → (f : UnitFrames) → found_after_fault faults result ≡ Ok f → IsLendable now_cs (found_stop n f)
-            stop_lendable entries ok f e =
-                lendable_if_told scope probe faults us now_cs (indexed_units us cs) (answers_in cs) asks (range_of n) (Ok (found_stop n f)) (entries_set scope us cs n u w unit own entries)
-                (sym units_same) (sym answers_same) (stop_right ok f e) (asked_ok f e)
-                (λ _. holds_alone (has_frames_at asks probe now_cs n) (asked_by faults probe old n) (known_there (oom_before faults result (subst WasNotRefused (sym e) tt))))
+            pub stop_lendable : (f : UnitFrames) → found_after_fault faults result ≡ Ok f → IsLendable now_cs (found_stop n f)
+            stop_lendable f is =
+                lendable_if_told scope probe faults us now_cs (indexed_units us cs) (answers_in cs) asks (range_of n) (Ok (found_stop n f)) (entries_set scope us cs n u w unit own e.right.entries)
+                (sym units_same) (sym answers_same) (stop_right e.there f is) (asked_ok f is)
+                (λ _. holds_alone (has_frames_at asks probe now_cs n) (asked_by faults probe old n) (known_there (oom_before faults result (subst WasNotRefused (sym is) tt))))
 
             module _ (now : ℕ) (raised : steps ≤ now) (stop : LookupStop) where
               abbrev new : UnitsState
@@ -152,12 +149,11 @@ module _ {R : Type 0} {scope : Scope} {cs : List (UnitCache R)} {last : FramesSt
                   ∙ many_are scope probe us cs n own within u c w unit at
 
               -- where the lookup takes no memory there, a refusal is the fault of the unit
-              pub refused_alone : (shares : Bool) → (AsksNoMemoryIn shares scope u (first_answer_of c.entries) probe w.lines w.entries → IfErr result (λ e. frames_in scope (indexed_unit u c.lines) (first_answer_of c.entries) probe ≡ Err e))
-                  → (x : Error) → found_after_fault faults result ≡ Err x → asks_no_memory_at shares probe new n ≡ true → IsFaultAt probe old n x
-              refused_alone shares alone x e none =
+              pub refused_alone : (x : Error) → found_after_fault faults result ≡ Err x → asks_no_memory_at shares probe new n ≡ true → IsFaultAt probe old n x
+              refused_alone x is none =
                   frames_are scope probe us cs n own within u c w unit at
-                  ∙ subst (λ q. IfErr q (λ y. frames_in scope (indexed_unit u c.lines) (first_answer_of c.entries) probe ≡ Err y)) (refused_before faults result x e)
-                  (alone (then_no_memory scope probe us cs n own within u c w unit at shares (sym none_is ∙ and_first _ _ none) (sym many_is ∙ and_not _ _ none)))
+                  ∙ subst (λ q. IfErr q (λ y. frames_in scope (indexed_unit u c.lines) (first_answer_of c.entries) probe ≡ Err y)) (refused_before faults result x is)
+                  (e.no_memory (then_no_memory scope probe us cs n own within u c w unit at shares (sym none_is ∙ and_first _ _ none) (sym many_is ∙ and_not _ _ none)))
                 where
                   none_is : reads_no_memory_at shares probe new n ≡ ((has_entries_at probe now_cs n || not (functions_in_take_memory shares scope u (first_answer_of c.entries)))
                       && (not (asks_lines_in scope u (first_answer_of c.entries) probe) || (has_parsed (parsed_units now_cs) n || not (lines_take_memory shares u))))
@@ -169,28 +165,28 @@ module _ {R : Type 0} {scope : Scope} {cs : List (UnitCache R)} {last : FramesSt
                       ∙ ap (λ b. (has_entries_at probe now_cs n || not (functions_in_take_memory shares scope u (first_answer_of c.entries))) && (not b || (has_parsed (parsed_units now_cs) n || not (lines_of_take_memory shares (indexed_units us cs) n)))) (asks_are scope probe us cs n own within u c w unit at)
                       ∙ ap (λ b. (has_entries_at probe now_cs n || not (functions_in_take_memory shares scope u (first_answer_of c.entries))) && (not (asks_lines_in scope u (first_answer_of c.entries) probe) || (has_parsed (parsed_units now_cs) n || not b))) (lines_take scope probe us cs n own within u c w unit at shares)
 
-              details_there : AreEntriesOf scope u w.entries → (m : ℕ) → m ≡ n → (offset : ℕ) → knows_detail_at (known_in now_cs) offset m ≡ true → (knows_detail_at (known_in cs) offset m ≡ true) ⊎ (function_offset_of scope (indexed_units us cs) (answers_in cs) probe m ≡ Some offset)
-              details_there right m is offset e = elim (entries_learn scope u probe offset c.entries w.entries (its_entries i n there at) right stay only.alone (sym (detail_set cs n c w within at offset m is) ∙ e)) [
+              details_there : (m : ℕ) → m ≡ n → (offset : ℕ) → knows_detail_at (known_in now_cs) offset m ≡ true → (knows_detail_at (known_in cs) offset m ≡ true) ⊎ (function_offset_of scope (indexed_units us cs) (answers_in cs) probe m ≡ Some offset)
+              details_there m is offset known = elim (entries_learn scope u probe offset c.entries w.entries (its_entries i n there at) e.right.entries e.stay e.within.alone (sym (detail_set cs n c w within at offset m is) ∙ known)) [
                 | inl h ↦ inl (detail_at cs n c w within at offset m is ∙ h)
                 | inr h ↦ inr (ap (function_offset_of scope (indexed_units us cs) (answers_in cs) probe) is ∙ offset_is scope probe us cs n own within u c w unit at ∙ h)
               ]
 
-              pub after_asked : {X : Type 0} (q : Result X Error) → AreEntriesOf scope u w.entries → (WasNotRefused q → WasNotRefused result) → (WasNotRefused result → WasNotRefused q) → IfErr q (λ _. stop ≡ FindsNothing) → AfterAsk n probe q old new
-              after_asked q right before then stored = record {
+              pub after_asked : {X : Type 0} (q : Result X Error) → (WasNotRefused q → WasNotRefused result) → (WasNotRefused result → WasNotRefused q) → IfErr q (λ _. stop ≡ FindsNothing) → AfterAsk n probe q old new
+              after_asked q before then stored = record {
                 asked = record {
                   scope = refl;
                   units = units_same;
                   answers = answers_same;
                   parsed = stay_parsed cs now_cs stay_lines;
                   known = stays_known cs now_cs stay_entries;
-                  only = lines_only scope probe us cs n own within u c w unit at lines;
-                  learns = λ m. elim (reads_set probe cs n c w at only m) [
-                    | inl e ↦ inl (known_unchanged cs now_cs m e)
+                  only = lines_only scope probe us cs n own within u c w unit at e.kept;
+                  learns = λ m. elim (reads_set probe cs n c w at e.within m) [
+                    | inl same ↦ inl (known_unchanged cs now_cs m same)
                     | inr x ↦ inr x.0
                   ];
-                  details = λ m offset e. elim (reads_set probe cs n c w at only m) [
-                    | inl same ↦ inl (detail_unchanged cs now_cs offset m same e)
-                    | inr x ↦ details_there right m x.0 offset e
+                  details = λ m offset known. elim (reads_set probe cs n c w at e.within m) [
+                    | inl same ↦ inl (detail_unchanged cs now_cs offset m same known)
+                    | inr x ↦ details_there m x.0 offset known
                   ];
                   raised = raised;
                 };
@@ -198,5 +194,5 @@ module _ {R : Type 0} {scope : Scope} {cs : List (UnitCache R)} {last : FramesSt
                 ready = λ told. all_is ∙ known_there (before told);
                 memory = λ few.
                     let both = then_known scope probe us cs n own within u c w unit at (sym all_is ∙ and_first _ _ few) in
-                    then (memory both.0 both.1 (sym many_is ∙ and_not _ _ few));
+                    then (e.memory both.0 both.1 (sym many_is ∙ and_not _ _ few));
               }

@@ -21,6 +21,7 @@ pub mod EntriesPlaceLemmas
 pub mod EntriesLemmas
 pub mod EntriesMemoryLemmas
 pub mod EntriesFrameLemmas
+pub mod EntriesFindLemmas
 pub mod UnitViewLemmas
 pub mod LoadsAnswerLemmas
 pub mod SupScopeLemmas

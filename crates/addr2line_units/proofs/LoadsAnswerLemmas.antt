@@ -1,8 +1,10 @@
 -- Answers to the loads of units, and what is cached of their entries (on specs/EntriesCached.antt).
-use Rattle.addr2line_units.proofs.Common.{◌≡◌, ◌≢◌, ℕ, zero, suc, ◌<◌, Bool, true, false, List, [], ◌∷◌, length, get_or, slice_get, arith, Option, Some, None, Result, Ok, Err, ap, refl, sym, ◌∙◌, set, set-get_or, IfErr, OnOk, Error, OutOfMemory, Sections, UnitRecord, Scope, LazyFunctions, UnitCache, UnitEntries, UnitView, ViewState, answer_of, with_answer, AreEntriesOf, StayEntries, first_answer_of, AreFunctionsOf, were_read, StayAllEntries, answers_in, decided_at, IsViewOf, is_decided, answer_of_view, verdict_in, waits, was_checked, FirstAnswers, View, decided_answer, is_open, verdict, view_scope}
+use Rattle.addr2line_units.proofs.Common.{◌≡◌, ◌≢◌, ℕ, zero, suc, ◌<◌, Bool, true, false, List, [], ◌∷◌, length, get_or, slice_get, arith, Option, Some, None, Result, Ok, Err, ap, refl, sym, ◌∙◌, set, set-get_or, false≢true, IfErr, OnOk, Error, OutOfMemory, Sections, UnitRecord, IsScope, Scope, LazyFunctions, UnitCache, UnitEntries, UnitView, ViewState, answer_of, with_answer, AreEntriesOf, StayEntries, first_answer_of, AreFunctionsOf, were_read, StayAllEntries, answers_in, decided_at, IsViewOf, is_decided, answer_of_view, verdict_in, waits, was_checked, FirstAnswers, View, decided_answer, is_open, verdict, view_scope}
 use Rattle.std.specs.Prelude.{IfOk, IfSome, is_none, is_some, if◌then◌else◌}
 use Rattle.addr2line_units.specs.declared.entries.LazyFunctions.TheVariants as lazy
 use Rattle.addr2line_units.specs.declared.unit.ViewState.TheVariants as states
+use Rattle.addr2line_units.specs.CacheAfter.{AfterAnswering, AfterCheck}
+use Rattle.addr2line_units.proofs.EntriesLemmas.{checked_decides}
 use Rattle.addr2line_units.proofs.UnitsCachedLemmas.{stay_entries_set}
 
 -- what waits isn't decided
@@ -20,24 +22,22 @@ unread_are scope u (lazy.Read t) e = absurd cc
 unread_are scope u (lazy.Faulty x) e = absurd cc
 
 -- where no functions were read the view is all that is cached
-pub unread_entries : {R : Type 0} (scope : Scope) (u : UnitRecord) (v : UnitView R) (f : LazyFunctions R) → IsViewOf scope.file.sections u v → were_read f ≡ false
+pub unread_entries : {R : Type 0} (scope : Scope) (u : UnitRecord) (v : UnitView R) (f : LazyFunctions R) → IsScope scope → IsViewOf scope.file.sections u v → were_read f ≡ false
     → AreEntriesOf scope u (record { view = v; functions = f })
-unread_entries {R} scope u v f h e = record { view = h; functions = by (verdict scope.file.sections u (answer_of_view v)); unread = λ k. e }
+unread_entries {R} scope u v f order h e = record { in_order = order; view = h; functions = by (verdict scope.file.sections u (answer_of_view v)); unread = λ k. e }
   where
     by : (w : Option (Result View Error)) → IfSome w (λ view. IfOk view (λ x. AreFunctionsOf (view_scope scope x) x.unit f))
     by None = tt
     by (Some (Ok x)) = unread_are (view_scope scope x) x.unit f e
     by (Some (Err x)) = tt
 
--- a call that left the view as it was left all that is cached as it was
-pub same_entries : {R : Type 0} (r : Result (Unit {0}) Error) (v w : UnitView R) (f : LazyFunctions R) (x : UnitEntries R) (P : Type 0) → x ≡ record { view = w; functions = f }
-    → IfErr r (λ e. (e ≡ OutOfMemory) × (v ≡ w) × P) → IfErr r (λ e. (e ≡ OutOfMemory) × (record { view = v; functions = f } ≡ x) × P)
-same_entries (Ok a) v w f x P e h = tt
-same_entries (Err a) v w f x P e h = (h.0, ap (λ y. record { view = y; functions = f }) h.1 ∙ sym e, h.2)
-
 pub no_answer : {X : Type 0} (o : Option X) → is_some o ≡ false → o ≡ None
 no_answer None e = refl
 no_answer (Some x) e = absurd cc
+
+pub answered_is_some : {X : Type 0} (o : Option X) → is_some o ≡ true → o ≡ None → ⊥
+answered_is_some None e h = cc
+answered_is_some (Some x) e h = cc
 
 -- what was looked at waits where the unit is open
 pub checked_waits : {R : Type 0} (d : Sections) (u : UnitRecord) (v : UnitView R) → IsViewOf d u v → was_checked v.state ≡ true → waits v.state ≡ is_open d u (answer_of_view v)
@@ -81,6 +81,50 @@ pub never_waits : {R : Type 0} (v w : UnitEntries R) (b : Bool) → is_decided v
 never_waits v w b h same e t =
     let f : waits w.view.state ≡ false = ap (λ x. waits x.view.state) (same (decided_was_checked v.view.state h)) ∙ decided_waits_not v.view.state h in
     let k : true ≡ false = sym t ∙ e ∙ f in cc
+
+-- a unit that was looked at is answered
+module _ {R : Type 0} (scope : Scope) (u : UnitRecord) (given : Option Sections) (old mid : UnitEntries R) (look : AfterCheck scope u old mid) where
+  -- it doesn't wait
+  pub shut_after : waits mid.view.state ≡ false → AfterAnswering scope u given (Ok tt) old mid
+  shut_after shut = record {
+    right = look.right;
+    answer = look.stay.answer ∙ sym (decided_if_not scope.file.sections u (first_answer_of old) given (open_by_check scope.file.sections u old.view mid.view false look.right.view look.known look.stay.answer (sym shut)));
+    known = checked_decides mid.view.state look.known shut;
+    refused = tt;
+    functions = look.functions;
+    kept = λ h. (look.kept (decided_was_checked old.view.state h), refl);
+    none = λ _. refl;
+  }
+
+  -- it waits
+  module _ (waiting : waits mid.view.state ≡ true) where
+    never_decided : is_decided old.view.state ≡ true → ⊥
+    never_decided h = never_waits old mid true h look.kept (sym waiting) refl
+
+    pub was_open : is_open scope.file.sections u (first_answer_of old) ≡ true
+    was_open = open_by_check scope.file.sections u old.view mid.view true look.right.view look.known look.stay.answer (sym waiting)
+
+    pub decided_after : (view : UnitView R) → IsViewOf scope.file.sections u view → answer_of_view view ≡ Some given → is_decided view.state ≡ true → AfterAnswering scope u given (Ok tt) old (record { view = view; functions = mid.functions })
+    decided_after view right answer known = record {
+      right = unread_entries scope u view mid.functions look.right.in_order right (look.right.unread (waiting_is_undecided mid.view.state waiting));
+      answer = answer ∙ sym (decided_if_open scope.file.sections u (first_answer_of old) given was_open);
+      known = known;
+      refused = tt;
+      functions = look.functions;
+      kept = λ h. absurd (never_decided h);
+      none = λ shut. absurd (false≢true (sym shut ∙ was_open));
+    }
+
+    pub undecided_after : (e : Error) → e ≡ OutOfMemory → is_some given ≡ true → AfterAnswering scope u given (Err e) old mid
+    undecided_after e oom some = record {
+      right = look.right;
+      answer = tt;
+      known = tt;
+      refused = (oom, look.stay, some);
+      functions = look.functions;
+      kept = λ h. absurd (never_decided h);
+      none = λ shut. absurd (false≢true (sym shut ∙ was_open));
+    }
 
 -- the first answer of the unit of a number
 pub answer_at : {R : Type 0} (vs : List (UnitCache R)) (n : ℕ) (v : UnitCache R) → n < length vs → v ≡ get_or vs n v → answer_of (answers_in vs) n ≡ first_answer_of v.entries

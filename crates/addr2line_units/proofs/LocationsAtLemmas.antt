@@ -8,6 +8,7 @@ use Rattle.addr2line_units.proofs.UnitsStateLemmas.{after_lines, files_are}
 use Rattle.addr2line_units.proofs.UnitsAtLemmas.{all_lines, as_many, cache_within, unit_is, unit_within}
 use Rattle.addr2line_units.proofs.UnitsLinesLemmas.{answer_cached, lines_read, lines_set, no_parsed, no_unit, only_set, own_set, parsed_set, set_parsed, stay_indexed, stay_set, unit_at}
 use Rattle.addr2line_units.proofs.LoadsLemmas.{slice_get_none}
+use Rattle.addr2line_units.proofs.UnitLinesLemmas.{lines_fault}
 
 module _ {R : Type 0} {scope : Scope} {cs : List (UnitCache R)} {last : FramesStop} (i : AreUnits scope cs last) (n : ℕ) (steps : ℕ) (was : LookupStop) where
   abbrev d : Sections
@@ -97,10 +98,10 @@ module _ {R : Type 0} {scope : Scope} {cs : List (UnitCache R)} {last : FramesSt
             cost = subst (λ o. later ≤ steps + steps_in d o) (sym indexed) cost;
           }
 
-          pub row_alone : (shares : Bool) (probe : ℕ) (result : Result (Option Row) Error) → (lines_take_memory shares u ≡ false → IfErr result (λ e. location_in d probe (Some (indexed_unit u c.lines)) ≡ Err e))
+          pub row_alone : (shares : Bool) (probe : ℕ) (result : Result (Option Row) Error) → (lines_take_memory shares u ≡ false → IfErr result (λ e. lines_result d u ≡ Err e))
               → lines_of_take_memory shares old.units n ≡ false → IfErr result (λ e. location_in d probe (slice_get old.units n) ≡ Err e)
           row_alone shares probe (Ok x) alone none = tt
-          row_alone shares probe (Err e) alone none = ap (location_in d probe) indexed ∙ alone (sym (takes_is shares) ∙ none)
+          row_alone shares probe (Err e) alone none = ap (location_in d probe) indexed ∙ lines_fault d probe (indexed_unit u c.lines) e (alone (sym (takes_is shares) ∙ none))
 
           -- the lines alone
           pub read_there : (lines : Option LineTable) (result : Result (Unit {0}) Error) → ExactlyUnlessOom (λ _. lines) result (lines_result d u) → ExactlyUnlessOom (λ x. x) result (lines_result_at d (slice_get old.units n))

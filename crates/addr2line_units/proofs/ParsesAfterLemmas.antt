@@ -1,8 +1,9 @@
 -- What a parse of functions leaves of the functions of a view, and of a unit (on
 -- specs/ParsesAfter.antt).
-use Rattle.addr2line_units.proofs.Common.{◌≡◌, ◌∙◌, Bool, true, false, [], Option, Some, Result, Ok, Err, None, refl, sym, ap, subst, inr, IfErr, OnOk, AllByRecursion, Error, OutOfMemory, ExactlyUnlessOomIf, WasNotRefused, Sections, UnitRecord, HasDetail, cached_detail, functions_of, functions_take_memory, AreUnread, Scope, LazyFunctions, ReadingDepth, UnitEntries, UnitView, functions_in_take_memory, AreEntriesOf, first_answer_of, AreFunctionsOf, StayFunctions, cached_fault, cached_functions, functions_fault, is_cached_fault, reading_takes_memory, were_read, known_by, known_fault, known_functions, is_decided, answer_of_view, IsReadyFor, read_of_functions, read_of_view, View, decided_answer, is_open, verdict}
+use Rattle.addr2line_units.proofs.Common.{◌≡◌, ◌∙◌, Bool, true, false, [], Option, Some, Result, Ok, Err, None, refl, sym, ap, subst, inr, IfErr, OnOk, AllByRecursion, Error, OutOfMemory, ExactlyUnlessOomIf, WasNotRefused, Sections, UnitRecord, HasDetail, cached_detail, functions_of, functions_take_memory, AreUnread, Scope, LazyFunctions, ReadingDepth, UnitEntries, UnitView, functions_in_take_memory, AreEntriesOf, first_answer_of, AreFunctionsOf, StayFunctions, cached_fault, cached_functions, functions_fault, is_cached_fault, reading_takes_memory, were_read, known_by, known_fault, known_functions, is_decided, answer_of_view, IsReadyFor, read_of_functions, read_of_view, View, is_open, verdict}
 use Rattle.addr2line_units.specs.declared.entries.LazyFunctions.TheVariants as lazy
 use Rattle.addr2line_units.specs.declared.parses.ReadingDepth.TheVariants as depths
+use Rattle.addr2line_units.specs.CacheAfter.{AfterAnswering}
 use Rattle.addr2line_units.specs.ParsesAfter.{AfterReadingFunctions, AfterReadingOf, AfterReadingUnit, AfterReadingView, IsDecidedAndReady}
 use Rattle.addr2line_units.specs.EntriesStayKnown.{IsReadBy}
 use Rattle.addr2line_units.proofs.LoadsAnswerLemmas.{decided_if_not, checked_waits}
@@ -11,7 +12,7 @@ use Rattle.addr2line_units.proofs.ParsesCachedLemmas.{alone_fault, alone_read, c
 use Rattle.addr2line_units.proofs.EntriesLemmas.{IsView, functions_keep, functions_stay, functions_take_in, not_open, checked_decides}
 use Rattle.addr2line_units.proofs.EntriesLearnedLemmas.{cache_reads_none, functions_learn_none}
 use Rattle.addr2line_units.proofs.EntriesReadByLemmas.{never_fault, read_decided, read_were_read}
-use Rattle.addr2line_units.proofs.ParsesReadyLemmas.{fault_by_view, functions_by_view, known_not_oom, ready_fault, ready_were_read}
+use Rattle.addr2line_units.proofs.ParsesReadyLemmas.{fault_by_view, fault_of_functions, functions_by_view, known_not_oom, ready_fault, ready_were_read}
 use Rattle.addr2line_units.proofs.EntriesStayLemmas.{whole_was_checked}
 
 -- the fault of functions that were read
@@ -45,6 +46,11 @@ ready_unrefused lazy.Absent h = tt
 ready_unrefused (lazy.Read t) h = tt
 ready_unrefused (lazy.Faulty e) h = known_not_oom depths.Functions e h
 
+-- the fault of functions, however they are read
+fault_of_depth : (depth : ReadingDepth) (scope : Scope) (view : UnitRecord) (e : Error) → functions_of scope.file.sections view ≡ Err e → read_of_functions depth scope view ≡ Err e
+fault_of_depth depths.Functions scope view e h = alone_fault scope view e h
+fault_of_depth depths.Details scope view e h = fault_of_functions scope view e h
+
 -- functions that are cached, unless they were
 module _ {R : Type 0} (shares : Bool) (scope : Scope) (view : UnitRecord) (old new : LazyFunctions R) (right : AreFunctionsOf scope view new) where
   module _ (kept : were_read old ≡ true → new ≡ old) (read : were_read new ≡ true) (unread : were_read old ≡ false → AreUnread (cached_functions new)) where
@@ -72,21 +78,21 @@ module _ {R : Type 0} (shares : Bool) (scope : Scope) (view : UnitRecord) (old n
         of_fault (Err e) is = sym is
 
   -- memory was refused
-  module _ (e : Error) (oom : e ≡ OutOfMemory) (same : new ≡ old) (unread : were_read old ≡ true → ⊥) (fault : functions_take_memory shares scope.file.sections view ≡ false → functions_of scope.file.sections view ≡ Err e) where
-    pub refused_after : AfterReadingFunctions shares depths.Functions scope view (Err e) old new
+  module _ (depth : ReadingDepth) (e : Error) (oom : e ≡ OutOfMemory) (same : new ≡ old) (unread : were_read old ≡ true → ⊥) (fault : functions_take_memory shares scope.file.sections view ≡ false → functions_of scope.file.sections view ≡ Err e) where
+    pub refused_after : AfterReadingFunctions shares depth scope view (Err e) old new
     refused_after = record {
       right = right;
       stay = cached_stay scope view old new (λ read. same);
       known = record {
         read = tt;
-        whole = λ h. absurd (unread (read_were_read depths.Functions old h));
+        whole = λ h. absurd (unread (read_were_read depth old h));
         ready = λ ne. absurd (ne oom);
-        memory = λ k. absurd (unread (ready_were_read depths.Functions old (subst (λ f. IsReadyFor depths.Functions (known_functions f)) same k.1)));
-        exact = λ k. absurd (unread (ready_were_read depths.Functions old k.1));
+        memory = λ k. absurd (unread (ready_were_read depth old (subst (λ f. IsReadyFor depth (known_functions f)) same k.1)));
+        exact = λ k. absurd (unread (ready_were_read depth old k.1));
         same = λ k. ap (λ f. known_functions f) same;
       };
       details = λ is n. ap (λ f. cached_detail (cached_functions f) n) same;
-      no_memory = λ none. alone_fault scope view e (fault none);
+      no_memory = λ none. fault_of_depth depth scope view e (fault none);
     }
 
   -- functions that are read with their details
@@ -162,9 +168,11 @@ module _ {R : Type 0} (shares : Bool) (depth : ReadingDepth) (scope : Scope) (u 
     }
 
 -- a unit that was decided by none where it was open, and whose functions were read then
-module _ {R : Type 0} (shares : Bool) (depth : ReadingDepth) (scope : Scope) (u : UnitRecord) (old mid : UnitEntries R) (f : LazyFunctions R) (before : AreEntriesOf scope u old) (functions : mid.functions ≡ old.functions)
-    (same : is_decided old.view.state ≡ true → mid ≡ old) (answer : first_answer_of mid ≡ decided_answer scope.file.sections u (first_answer_of old) None) (decided : is_decided mid.view.state ≡ true) (result : Result (Unit {0}) Error)
+module _ {R : Type 0} (shares : Bool) (depth : ReadingDepth) (scope : Scope) (u : UnitRecord) (old mid : UnitEntries R) (f : LazyFunctions R) (before : AreEntriesOf scope u old) (given : AfterAnswering scope u None (Ok tt) old mid) (result : Result (Unit {0}) Error)
     (a : AfterReadingView shares depth scope u mid.view result mid.functions f) where
+  same : is_decided old.view.state ≡ true → mid ≡ old
+  same h = (given.kept h).0
+
   abbrev d : Sections
   d = scope.file.sections
 
@@ -172,7 +180,7 @@ module _ {R : Type 0} (shares : Bool) (depth : ReadingDepth) (scope : Scope) (u 
   new = record { view = mid.view; functions = f }
 
   shut_now : is_open d u (first_answer_of new) ≡ false
-  shut_now = not_open scope u 0 new a.right decided
+  shut_now = not_open scope u 0 new a.right given.known
 
   -- of what was known of a unit that wasn't open
   was_decided : IsDecidedAndReady depth (is_open d u (first_answer_of old)) (known_by old.view.state old.functions) → is_decided old.view.state ≡ true
@@ -186,18 +194,18 @@ module _ {R : Type 0} (shares : Bool) (depth : ReadingDepth) (scope : Scope) (u 
   pub unit_after : AfterReadingUnit shares depth scope u result old new
   unit_after = record {
     right = a.right;
-    answer = λ _. answer;
-    begun = inr answer;
+    answer = λ _. given.answer;
+    begun = inr given.answer;
     stay = λ was. entries_then old mid f (same was) a.stay;
     known = record {
       read = a.known.read;
       whole = λ h. a.known.whole (subst (λ (v : UnitEntries R). IsReadBy depth (known_by v.view.state v.functions)) (sym (same (read_decided depth old.view.state old.functions h))) h);
       ready = λ ne. (shut_now, (a.known.ready ne).1);
       memory = λ k. a.known.memory (refl, k.1);
-      exact = λ k. a.known.exact (still_ready k) ∙ ap (λ x. read_of_view depth scope (verdict d u x)) answer;
+      exact = λ k. a.known.exact (still_ready k) ∙ ap (λ x. read_of_view depth scope (verdict d u x)) given.answer;
       same = λ k. a.known.same (still_ready k) ∙ ap (λ (v : UnitEntries R). known_by v.view.state v.functions) (same (was_decided k));
     };
-    details = λ is offset. functions_learn_none scope u offset old mid f before functions same a.stay (a.details is);
-    no_memory = λ none. subst (λ x. IfErr result (λ e. read_of_view depth scope (verdict d u x) ≡ Err e)) answer
+    details = λ is offset. functions_learn_none scope u offset old mid f before given.functions same a.stay (a.details is);
+    no_memory = λ none. subst (λ x. IfErr result (λ e. read_of_view depth scope (verdict d u x) ≡ Err e)) given.answer
         (a.no_memory (subst (λ x. functions_in_take_memory shares scope u x ≡ false) (decided_if_not d u (first_answer_of new) None shut_now) none));
   }

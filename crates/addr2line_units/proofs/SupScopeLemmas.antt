@@ -153,8 +153,9 @@ no_verdict d u (states.Unnamed f) e = absurd cc
 no_verdict d u (states.Answered a) e = absurd cc
 
 -- what nobody has asked for is that of every unit
-fresh_are_of : {R : Type 0} (scope : Scope) (u : UnitRecord) (v : UnitEntries R) → AreFresh v → AreEntriesOf scope u v
-fresh_are_of {R} scope u v fresh = record {
+fresh_are_of : {R : Type 0} (scope : Scope) (u : UnitRecord) (v : UnitEntries R) → IsScope scope → AreFresh v → AreEntriesOf scope u v
+fresh_are_of {R} scope u v order fresh = record {
+  in_order = order;
   view = record {
     right = subst (λ (kept : Option (Option (Result View Error))). IfSome kept (λ k. k ≡ verdict scope.file.sections u (first_answer_of v))) (sym (no_verdict scope.file.sections u v.view.state fresh.view)) tt;
     waited = λ e. absurd (none_some (ap (λ (a : Option (Option Sections)). is_some a) (sym (no_answer v.view.state fresh.view)) ∙ e));
@@ -171,11 +172,11 @@ fresh_are_of {R} scope u v fresh = record {
     of_verdict (Some (Err e)) = tt
     of_verdict (Some (Ok y)) = unread_are (view_scope scope y) y.unit v.functions fresh.functions
 
-pub fresh_entries : {R : Type 0} (scope : Scope) (us : List UnitRecord) (vs : List (UnitCache R)) → AreFreshOf us vs → HaveEntriesOf scope us vs
-fresh_entries scope [] [] fresh = tt
-fresh_entries scope [] (v ∷ vs) fresh = absurd fresh
-fresh_entries scope (u ∷ us) [] fresh = absurd fresh
-fresh_entries scope (u ∷ us) (v ∷ vs) fresh = (fresh_are_of scope u v.entries fresh.0, fresh_entries scope us vs fresh.1)
+pub fresh_entries : {R : Type 0} (scope : Scope) (us : List UnitRecord) (vs : List (UnitCache R)) → IsScope scope → AreFreshOf us vs → HaveEntriesOf scope us vs
+fresh_entries scope [] [] order fresh = tt
+fresh_entries scope [] (v ∷ vs) order fresh = absurd fresh
+fresh_entries scope (u ∷ us) [] order fresh = absurd fresh
+fresh_entries scope (u ∷ us) (v ∷ vs) order fresh = (fresh_are_of scope u v.entries order fresh.0, fresh_entries scope us vs order fresh.1)
 
 -- no unit has an answer then
 pub no_answers : {R : Type 0} (us : List UnitRecord) (vs : List (UnitCache R)) → AreFreshOf us vs → answers_in vs ≡ map (λ _. None) us

@@ -1,11 +1,12 @@
 -- What is answered, loaded, listed and forgotten of the unit of a number (on
 -- specs/UnitsAfter.antt and specs/UnitsStored.antt).
-use Rattle.addr2line_units.proofs.Common.{◌≡◌, inl, inr, ℕ, ◌<◌, ◌≤◌, Bool, true, false, List, length, get_or, slice_get, Option, Some, None, Result, Ok, Err, refl, sym, ap, ◌∙◌, arith, set, cases_eq, IfErr, OnOk, Error, OutOfMemory, UnknownToken, ◌>>=◌, Sections, UnitRecord, Scope, FramesStop, UnitCache, UnitEntries, AreEntriesOf, StayEntries, first_answer_of, were_read, known_in, HaveSameLines, answers_in, decided_at, is_decided, FindsNothing, LookupStop, answer_of, LearnsNoFunctions, is_open_at, load_of_number, load_result, view_fault, AreUnits, as_units_state, UnitsState, awaited_load, decided_answer, is_open, verdict}
+use Rattle.addr2line_units.proofs.Common.{◌≡◌, inl, inr, ℕ, ◌<◌, ◌≤◌, true, false, List, length, get_or, slice_get, Option, Some, None, Result, Ok, Err, refl, sym, ap, ◌∙◌, arith, set, cases_eq, IfErr, OnOk, Error, UnknownToken, ◌>>=◌, Sections, UnitRecord, Scope, FramesStop, UnitCache, UnitEntries, first_answer_of, known_in, HaveSameLines, answers_in, decided_at, FindsNothing, LookupStop, answer_of, LearnsNoFunctions, is_open_at, load_of_number, load_result, view_fault, AreUnits, as_units_state, UnitsState, awaited_load, decided_answer, is_open, verdict, with_answer}
 use Rattle.std.specs.Prelude.{is_some}
+use Rattle.addr2line_units.specs.CacheAfter.{AfterAnswering, AfterCheck, AfterForgetting}
 use Rattle.addr2line_units.specs.UnitsAfter.{AfterAnswer, AfterForget, AfterListing, AfterLoad}
 use Rattle.addr2line_units.proofs.LoadsAnswerLemmas.{answer_at, answered_if_ok, answers_if_refused, answers_set, decided_there, others_stay, same_set}
 use Rattle.addr2line_units.proofs.UnitsCachedLemmas.{as_many_entries, entries_set, same_lines_set, stay_entries_set}
-use Rattle.addr2line_units.proofs.EntriesLearnedLemmas.{UnitLearnsNone, answered_learns, forgotten_learns, set_learns}
+use Rattle.addr2line_units.proofs.EntriesLearnedLemmas.{answered_learns, checked_learns, forgotten_learns, set_learns}
 use Rattle.addr2line_units.proofs.LoadsLemmas.{as_many_answers, load_there, past_set, slice_get_none, this_unit, unknown_answer, unknown_load}
 use Rattle.addr2line_units.proofs.LoadsOpenLemmas.{not_open_there}
 use Rattle.addr2line_units.proofs.UnitsAtLemmas.{all_entries, as_many, cache_within, its_entries, unit_is, unit_within}
@@ -108,52 +109,52 @@ module _ {R : Type 0} {scope : Scope} {held : List (UnitCache R)} {last : Frames
         fault_told given r e = e ∙ sym (load_is given)
 
         -- its load was listed
-        pub listed_there : (steps : ℕ) (was : LookupStop) → StayEntries v w → UnitLearnsNone v w → AfterListing (λ k. k ≡ n) (as_units_state scope held steps was) (as_units_state scope now steps FindsNothing)
-        listed_there steps was stay none = after_listing scope held (all_entries i) now same_lines_now steps was (λ k. k ≡ n) (stay_entries_set held n c with_entries within at stay)
+        pub listed_there : (steps : ℕ) (was : LookupStop) → AfterCheck scope u v w → AfterListing (λ k. k ≡ n) (as_units_state scope held steps was) (as_units_state scope now steps FindsNothing)
+        listed_there steps was a = after_listing scope held (all_entries i) now same_lines_now steps was (λ k. k ≡ n) (stay_entries_set held n c with_entries within at a.stay)
             (λ k. elim (cases_eq k n) [ inl is ↦ inr is | inr ne ↦ inl (others_stay held n k with_entries ne) ])
-            (set_learns held n c with_entries within at none)
+            (set_learns held n c with_entries within at (checked_learns scope u v w (its_entries i n there at) a.stay a.functions))
 
-        module _ (given : Option Sections) (b : Bool) (some : is_some given ≡ b) (steps : ℕ) (was : LookupStop) where
+        module _ (given : Option Sections) (steps : ℕ) (was : LookupStop) where
           abbrev old : UnitsState
           old = as_units_state scope held steps was
 
           abbrev new : UnitsState
           new = as_units_state scope now steps FindsNothing
 
-          module _ (own : AreEntriesOf scope u w) (functions : w.functions ≡ v.functions) (same : is_decided v.view.state ≡ true → w ≡ v) where
+          module _ {r : Result (Unit {0}) Error} (a : AfterAnswering scope u given r v w) where
             same_decided : decided_at held n ≡ true → now ≡ held
-            same_decided h = same_set held n c with_entries at (ap (λ e. record c { entries = e }) (same (decided_there held n c at h)))
+            same_decided h = same_set held n c with_entries at (ap (λ e. record c { entries = e }) (a.kept (decided_there held n c at h)).0)
 
             many : length us ≡ length now
-            many = as_many_entries scope us now (entries_set scope us held n u with_entries (unit_is i n there) (all_entries i) own)
+            many = as_many_entries scope us now (entries_set scope us held n u with_entries (unit_is i n there) (all_entries i) a.right)
 
             learns : LearnsNoFunctions (known_in held) (known_in now)
-            learns = set_learns held n c with_entries within at (answered_learns scope u v w (its_entries i n there at) functions same)
+            learns = set_learns held n c with_entries within at (answered_learns scope u v w (its_entries i n there at) a.functions (λ h. (a.kept h).0))
 
-            pub answered_there : (r : Result (Unit {0}) Error) → OnOk r (first_answer_of w ≡ decided_answer d u (first_answer_of v) given) → IfErr r (λ e. (e ≡ OutOfMemory) × StayEntries v w × (b ≡ true)) → (is_open d u (first_answer_of v) ≡ false → r ≡ Ok tt) → AfterAnswer n given r old new
-            answered_there r answer refused shut = after_answer scope held (all_entries i) now same_lines_now steps was n (λ k ne. others_stay held n k with_entries ne) same_decided many given r (λ h. some ∙ h)
-                (answered_if_ok d us held n u c with_entries given r (unit_within i n there) within (unit_is i n there) at answer)
-                (answers_if_refused held n c with_entries r (b ≡ true) within at refused) learns
-                (λ h. shut (shut_there h))
+            answers : OnOk r (answers_in now ≡ with_answer d us (answers_in held) n given)
+            answers = answered_if_ok d us held n u c with_entries given r (unit_within i n there) within (unit_is i n there) at a.answer
 
-            -- the answer was given
-            pub loaded_there : (r : Result (Unit {0}) Error) → first_answer_of w ≡ decided_answer d u (first_answer_of v) given → r ≡ view_fault (verdict d u (first_answer_of w)) → AfterLoad n given r old new
-            loaded_there r answer fault =
-                let told = load_told given r answer fault in
-                let answers = answered_if_ok d us held n u c with_entries given (Ok tt) (unit_within i n there) within (unit_is i n there) at answer in
-                after_load scope held (all_entries i) now same_lines_now steps was n (λ k ne. others_stay held n k with_entries ne) same_decided many given r (λ h. answers) (inr answers) (λ ne. absurd (ne told)) (λ shut. told)
-                (λ e. told ∙ ap (load_result d us (answers_in held) n) e) learns
+            pub answered_there : AfterAnswer n given r old new
+            answered_there = after_answer scope held (all_entries i) now same_lines_now steps was n (λ k ne. others_stay held n k with_entries ne) same_decided many given r (λ h. h)
+                answers (answers_if_refused held n c with_entries r (is_some given ≡ true) within at a.refused) learns (λ h. a.none (shut_there h))
 
-            -- memory was refused
-            pub refused_there : (e : Error) → (e ≡ OutOfMemory) × StayEntries v w × (b ≡ true) → (is_open d u (first_answer_of v) ≡ false → ◌≡◌ {A = Result (Unit {0}) Error} (Err e) (Ok tt)) → AfterLoad n given (Err e) old new
-            refused_there e refused shut =
-                let r = answers_if_refused held n c with_entries (Err e) (b ≡ true) within at refused in
-                after_load scope held (all_entries i) now same_lines_now steps was n (λ k ne. others_stay held n k with_entries ne) same_decided many given (Err e) (λ told. absurd (told refused.0)) (inl r.1) (λ ne. (r.1, r.2))
-                (λ h. absurd (let no = shut (shut_there h) in cc))
-                (λ none. absurd (let f : false ≡ true = ap is_some (sym none) ∙ some ∙ refused.2 in cc)) learns
+          -- the answer was given
+          pub loaded_there : AfterAnswering scope u given (Ok tt) v w → (r : Result (Unit {0}) Error) → r ≡ view_fault (verdict d u (first_answer_of w)) → AfterLoad n given r old new
+          loaded_there a r fault =
+              let told = load_told given r a.answer fault in
+              after_load scope held (all_entries i) now same_lines_now steps was n (λ k ne. others_stay held n k with_entries ne) (same_decided a) (many a) given r (λ h. answers a) (inr (answers a)) (λ ne. absurd (ne told)) (λ shut. told)
+              (λ e. told ∙ ap (load_result d us (answers_in held) n) e) (learns a)
 
-        pub forgotten_there : (steps : ℕ) (was : LookupStop) → first_answer_of w ≡ None → (first_answer_of v ≡ None → w ≡ v) → (is_some (first_answer_of v) ≡ true → were_read w.functions ≡ false) → AfterForget n (as_units_state scope held steps was) (as_units_state scope now steps FindsNothing)
-        forgotten_there steps was none same unread = after_forget scope held (all_entries i) now same_lines_now steps was n
-            (answers_set held n with_entries ∙ ap (λ a. set (answers_in held) n a) none)
-            (λ h. same_set held n c with_entries at (ap (λ e. record c { entries = e }) (same (sym answer_is ∙ h)))) (λ k ne. others_stay held n k with_entries ne)
-            (set_learns held n c with_entries within at (forgotten_learns v w same unread))
+          -- memory was refused
+          pub refused_there : (e : Error) → AfterAnswering scope u given (Err e) v w → AfterLoad n given (Err e) old new
+          refused_there e a =
+              let r = answers_if_refused held n c with_entries (Err e) (is_some given ≡ true) within at a.refused in
+              after_load scope held (all_entries i) now same_lines_now steps was n (λ k ne. others_stay held n k with_entries ne) (same_decided a) (many a) given (Err e) (λ told. absurd (told a.refused.0)) (inl r.1) (λ ne. (r.1, r.2))
+              (λ h. absurd (let no = a.none (shut_there h) in cc))
+              (λ none. absurd (let f : false ≡ true = ap is_some (sym none) ∙ a.refused.2 in cc)) (learns a)
+
+        pub forgotten_there : (steps : ℕ) (was : LookupStop) → AfterForgetting scope u v w → AfterForget n (as_units_state scope held steps was) (as_units_state scope now steps FindsNothing)
+        forgotten_there steps was a = after_forget scope held (all_entries i) now same_lines_now steps was n
+            (answers_set held n with_entries ∙ ap (λ o. set (answers_in held) n o) a.answer)
+            (λ h. same_set held n c with_entries at (ap (λ e. record c { entries = e }) (a.kept (sym answer_is ∙ h)))) (λ k ne. others_stay held n k with_entries ne)
+            (set_learns held n c with_entries within at (forgotten_learns v w a.kept a.empty))

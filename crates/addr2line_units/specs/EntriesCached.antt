@@ -4,7 +4,7 @@
 -- then, their fault too, until the unit is forgotten; so is each detail. OutOfMemory is never
 -- cached.
 use Rattle.std.specs.Prelude.{◌≡◌, ℕ, Bool, true, false, List, Option, Some, None, Result, Ok, Err, IfOk, IfSome, option_map}
-use Rattle.addr2line_units.specs.Common.{Error, Sections, UnitRecord, location_of_row, Scope}
+use Rattle.addr2line_units.specs.Common.{Error, Sections, UnitRecord, location_of_row, IsScope, Scope}
 use Rattle.addr2line_units.specs.declared.entries.LazyFunctions.{LazyFunctions}
 use Rattle.addr2line_units.specs.declared.unit.LazyLines.{LazyLines}
 use Rattle.addr2line_units.specs.declared.unit.LazyLines.TheVariants as lines
@@ -26,10 +26,11 @@ use Rattle.addr2line_units.specs.UnitView.{verdict, view_scope}
 abbrev pub first_answer_of : {R : Type 0} → UnitEntries R → Option (Option Sections)
 first_answer_of v = answer_of_view v.view
 
--- what is cached is the view of the unit and the functions of that view, which are read only where
--- the view is known
+-- references lead from the unit to units in order; what is cached is the view of the unit and the
+-- functions of that view, which are read only where the view is known
 pub record AreEntriesOf {R : Type 0} (scope : Scope) (u : UnitRecord) (v : UnitEntries R)
     : Type 0 where
+  pub in_order : IsScope scope
   pub view : IsViewOf scope.file.sections u v.view
   pub functions : IfSome (verdict scope.file.sections u (first_answer_of v)) (λ view.
       IfOk view (λ x. AreFunctionsOf (view_scope scope x) x.unit v.functions))

@@ -3,7 +3,7 @@
 -- each detail. OutOfMemory is never cached. Functions are absent where a view has none.
 use Rattle.std.specs.Prelude.{◌≡◌, ◌≢◌, ◌<◌, ℕ, Bool, true, false, List, [], ◌∷◌, length, map, Option, Some, None, option_map, unwrap_or, Result, Ok, Err, box_value}
 use Rattle.std.specs.List.{AllByRecursion}
-use Rattle.addr2line_units.specs.Common.{Error, OutOfMemory, ◌>>=◌, UnitRecord, AreListed, FunctionTable, cached_detail, cached_inlined, cached_name, function_place_at, inlined_of_detail, cached_offset_at, entries_of, functions_of, functions_take_memory, exceeds_inline_room, InlinedEntry, Scope}
+use Rattle.addr2line_units.specs.Common.{Error, OutOfMemory, ◌>>=◌, UnitRecord, AreListed, FunctionTable, cached_detail, cached_name, function_place_at, inlined_of_detail, cached_offset_at, entries_of, functions_of, functions_take_memory, exceeds_inline_room, Scope}
 use Rattle.addr2line_lines.specs.CachedNames.{AreNamesOf}
 use Rattle.addr2line_lines.specs.Details.{Detail, detail_at}
 use Rattle.addr2line_lines.specs.InlinedChain.{inlined_chain}
@@ -83,11 +83,6 @@ function_of_place t p = record {
 abbrev pub found_in_cache : {R : Type 0} → LazyFunctions R → Option FunctionPlace
     → Option FoundFunction
 found_in_cache f = option_map (function_of_place (cached_functions f))
-
--- the inlined functions at the probe, as far as details are cached
-abbrev pub cached_inlined_at : ℕ → FunctionTable → List InlinedEntry
-cached_inlined_at probe t = elim (function_place_at probe t)
-    [ None ↦ [] | Some n ↦ inlined_chain probe (cached_inlined t n) ]
 
 -- whether memory may be taken to find a function by what is cached of it: nothing is, or there are
 -- many inlined functions

@@ -34,6 +34,7 @@ pub mod FramesLookup
 pub mod EntriesCached
 pub mod FramesCached
 pub mod UnitsCached
+pub mod CacheAfter
 pub mod EntriesKnown
 pub mod EntriesKnownCached
 pub mod Loads

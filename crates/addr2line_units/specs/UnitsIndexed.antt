@@ -32,7 +32,7 @@ index_of d units = record {
   parsed = map has_lines units;
 }
 
--- a list that is put in order, which takes memory where it has something
+-- a list as it is, with the memory that putting it in order takes: some where it has something
 abbrev pub sorted : {X : Type 0} → List X → Costed (List X)
 sorted xs = record { given = Ok xs; takes_memory = λ shares. nat_lt 0 (length xs) }
 
@@ -62,7 +62,7 @@ appended d m units = record {
   parsed = m.parsed ++ map has_lines units;
 }
 
--- the unit of one more header
+-- what was read, and the unit of one more header behind it, unless that is passed over
 abbrev pub with_header : Sections → List UnitArange → IndexState → UnitHeaderFields
     → Costed IndexState
 with_header d aranges m h = put_to (appended d) m (unit_of_header d aranges h)

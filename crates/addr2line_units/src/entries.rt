@@ -1,21 +1,18 @@
 //! What is cached of the entries of a unit: its functions, and what stands at an address.
 
-ghost use Rattle.std.specs.Prelude.{◌≡◌, ◌≢◌, ◌&&◌, ℕ, Err, IfErr, IfOk, IfSome, Ok, OnOk, false, option_map, true, ◌≤◌, None};
-ghost use Rattle.std.specs.List.{AllByRecursion};
-ghost use Rattle.addr2line_units.specs.Common.{OutOfMemory, ExactlyUnlessOomIf, ExactlyUnlessOom, WasNotRefused, functions_of, functions_take_memory, exceeds_inline_room, IsScope, as_scope};
-ghost use Rattle.addr2line_lines.specs.FunctionDetails.{AreUnread, HasDetail, IsTableMore};
+ghost use Rattle.std.specs.Prelude.{◌≡◌, ◌&&◌, IfErr, IfOk, true, ◌≤◌, None};
+ghost use Rattle.addr2line_units.specs.Common.{ExactlyUnlessOomIf, ExactlyUnlessOom, as_scope};
 ghost use Rattle.addr2line_units.specs.Frames.{function_at};
-ghost use Rattle.addr2line_units.specs.Parses.{IsReadyFor};
-ghost use Rattle.addr2line_units.specs.EntriesFunctions.{AreFunctionsOf, ArePlacesIn, IsTableOf, ReadsNoOther, StayFunctions, cached_inlined_at, find_takes_memory, found_in_cache, function_of_place, functions_fault, cached_has_function, has_table, cached_functions, reading_takes_memory, table_takes_memory, were_read};
-ghost use Rattle.addr2line_units.specs.EntriesKnownCached.{known_functions};
-ghost use Rattle.addr2line_units.specs.EntriesFrames.{HasFewInlined, inlined_of_found, asks_lines_in, frames_in, function_in};
-ghost use Rattle.addr2line_units.specs.UnitLinesCached.{AreLinesOf, StaysUnit, indexed_unit};
-ghost use Rattle.addr2line_units.specs.EntriesMemory.{functions_in_take_memory};
-ghost use Rattle.addr2line_units.specs.EntriesCached.{AreEntriesOf, AreFramesIn, AsksNoMemoryIn, AreFresh, HasAskedLines, ReadsEntriesOf, StayEntries, frames_of_place, has_entries, has_entries_by, first_answer_of};
+ghost use Rattle.addr2line_units.specs.ParsesAfter.{AfterReadingFunctions};
+ghost use Rattle.addr2line_units.specs.EntriesFunctions.{AreFunctionsOf, find_takes_memory, found_in_cache, functions_fault, reading_takes_memory, were_read};
+ghost use Rattle.addr2line_units.specs.EntriesFrames.{frames_in, function_in};
+ghost use Rattle.addr2line_units.specs.UnitLinesCached.{indexed_unit};
+ghost use Rattle.addr2line_units.specs.UnitsCached.{IsCacheOf};
+ghost use Rattle.addr2line_units.specs.EntriesCached.{AreEntriesOf, AreFresh, frames_of_place, first_answer_of};
 ghost use Rattle.addr2line_units.specs.EntriesEmpty.{has_nothing};
-ghost use Rattle.addr2line_units.specs.UnitViewCached.{is_decided, answer_of_view, waits, was_checked};
-ghost use Rattle.addr2line_units.specs.UnitView.{is_open};
-ghost use Rattle.addr2line_units.specs.declared.parses.ReadingDepth.TheVariants as depths;
+ghost use Rattle.addr2line_units.specs.UnitViewCached.{answer_of_view, is_decided};
+ghost use Rattle.addr2line_units.specs.CacheAfter.{AfterCachingFunctions, AfterCheck, AfterFramesIn, AfterFunction, AfterFunctionIn, AreFunctionsIn, AreNewFunctionsOf, IsRefusalOf};
+ghost use Rattle.addr2line_units.specs.declared.parses.ReadingDepth.TheVariants.{Details};
 
 use crate::unit::{LazyLines, UnitLines, UnitView};
 use addr2line_lines::{Count, Functions, InlinedPlaces, Row, Scope};
@@ -52,12 +49,8 @@ fn read_functions<R: Reader>(
     scope: Scope<'_, R>,
     view: &Unit<R>,
 ) -> Result<LazyFunctions<R>, Error>
-    ensures right { IfOk result (AreFunctionsOf (as_scope scope.entry) view.now) }
-    ensures read { IfOk result (λ f. were_read f ≡ true) }
-    ensures empty { IfOk result (λ f. AreUnread (cached_functions f)) }
-    ensures refused { IfErr result (λ e. e ≡ OutOfMemory) }
-    ensures memory { IfErr result (λ e. functions_take_memory R.shares scope.entry.file.dwarf.now
-        view.now ≡ false → functions_of scope.entry.file.dwarf.now view.now ≡ Err e) }
+    ensures read { IfOk result (AreNewFunctionsOf (as_scope scope.entry) view.now) }
+    ensures refused { IfErr result (IsRefusalOf R.shares (as_scope scope.entry) view.now) }
 {
     match Functions::parse(alloc, UnitRef::new(scope.file.dwarf, view)) {
         Ok(functions) => match functions.offset(0) {
@@ -69,43 +62,6 @@ fn read_functions<R: Reader>(
             _ => Ok(LazyFunctions::Faulty(error)),
         },
     }
-}
-
-// The function at an address among those of a view. Its detail is read and cached, unless it is,
-// its fault too.
-fn find_place<R: Reader>(
-    alloc: Global,
-    functions: &mut Functions<R>,
-    scope: Scope<'_, R>,
-    view: &Unit<R>,
-    probe: u64,
-) -> Result<Option<FunctionPlace>, Error>
-    requires in_order { IsScope (as_scope scope) }
-    requires right { IsTableOf (as_scope scope) view.now functions.old }
-    ensures gives { ExactlyUnlessOomIf
-        (table_takes_memory probe functions.old && table_takes_memory probe functions.new)
-        (option_map (function_of_place functions.new)) result
-        (function_at (as_scope scope.entry) view.now probe) }
-    ensures there { IfOk result (λ found. IfSome found (ArePlacesIn functions.new)) }
-    ensures right { IsTableOf (as_scope scope.entry) view.now functions.new }
-    ensures after { IsTableMore functions.old functions.new }
-    ensures within { ReadsNoOther probe functions.old functions.new }
-    ensures ready { result ≢ Err OutOfMemory
-        → table_takes_memory probe functions.new
-        ≡ exceeds_inline_room (cached_inlined_at probe functions.new) }
-    ensures kept { has_table probe functions.old ≡ true → functions.new ≡ functions.old }
-    ensures known { WasNotRefused result → has_table probe functions.new ≡ true }
-    ensures memory { has_table probe functions.new ≡ true
-        → exceeds_inline_room
-        (inlined_of_found (function_at (as_scope scope.entry) view.now probe)) ≡ false
-        → WasNotRefused result }
-{
-    let Some(place) = functions.find(probe) else {
-        return Ok(None);
-    };
-    functions.read(scope, view, place)?;
-    let inlined = functions.find_inlined_functions(alloc, place, probe)?;
-    Ok(Some(FunctionPlace { place, inlined }))
 }
 
 impl<R: Reader> LazyFunctions<R> {
@@ -125,14 +81,8 @@ impl<R: Reader> LazyFunctions<R> {
         view: &Unit<R>,
     ) -> Result<(), Error>
         requires right { AreFunctionsOf (as_scope scope) view.now self.old }
-        ensures right { AreFunctionsOf (as_scope scope.entry) view.now self.new }
-        ensures read { OnOk result (were_read self.new ≡ true) }
-        ensures empty { were_read self.old ≡ false → AreUnread (cached_functions self.new) }
-        ensures kept { were_read self.old ≡ true → (self.new ≡ self.old) × (result ≡ Ok tt) }
-        ensures refused { IfErr result (λ e. (e ≡ OutOfMemory) × (self.new ≡ self.old)) }
-        ensures memory { IfErr result (λ e. functions_take_memory R.shares
-            scope.entry.file.dwarf.now view.now ≡ false
-            → functions_of scope.entry.file.dwarf.now view.now ≡ Err e) }
+        ensures after { AfterCachingFunctions R.shares (as_scope scope.entry) view.now result
+            self.old self.new }
     {
         if !self.were_read() {
             *self = read_functions(alloc, scope, view)?;
@@ -153,32 +103,26 @@ impl<R: Reader> LazyFunctions<R> {
         view: &Unit<R>,
         probe: u64,
     ) -> Result<Option<FunctionPlace>, Error>
-        requires in_order { IsScope (as_scope scope) }
-        requires right { AreFunctionsOf (as_scope scope) view.now self.old }
+        requires right { AreFunctionsIn (as_scope scope) view.now self.old }
         ensures gives { ExactlyUnlessOomIf
             (find_takes_memory R.shares (as_scope scope.entry) view.now probe self.old
             && find_takes_memory R.shares (as_scope scope.entry) view.now probe self.new)
             (found_in_cache self.new) result (function_at (as_scope scope.entry) view.now probe) }
-        ensures there { IfOk result (λ found.
-            IfSome found (ArePlacesIn (cached_functions self.new))) }
-        ensures right { AreFunctionsOf (as_scope scope.entry) view.now self.new }
-        ensures after { StayFunctions self.old self.new }
-        ensures within { ReadsNoOther probe (cached_functions self.old)
-            (cached_functions self.new) }
-        ensures ready { result ≢ Err OutOfMemory
-            → find_takes_memory R.shares (as_scope scope.entry) view.now probe self.new
-            ≡ exceeds_inline_room (cached_inlined_at probe (cached_functions self.new)) }
-        ensures kept { cached_has_function probe self.old ≡ true → self.new ≡ self.old }
-        ensures known { WasNotRefused result → cached_has_function probe self.new ≡ true }
-        ensures memory { cached_has_function probe self.new ≡ true
-            → exceeds_inline_room
-            (inlined_of_found (function_at (as_scope scope.entry) view.now probe)) ≡ false
-            → WasNotRefused result }
+        ensures after { AfterFunction (as_scope scope.entry) view.now probe result self.old
+            self.new }
     {
         self.cache(alloc, scope, view)?;
         match self {
             LazyFunctions::Absent => Ok(None),
-            LazyFunctions::Read(functions) => find_place(alloc, functions, scope, view, probe),
+            LazyFunctions::Read(functions) => {
+                let table: &mut Functions<R> = functions;
+                let Some(place) = table.find(probe) else {
+                    return Ok(None);
+                };
+                table.read(scope, view, place)?;
+                let inlined = table.find_inlined_functions(alloc, place, probe)?;
+                Ok(Some(FunctionPlace { place, inlined }))
+            }
             LazyFunctions::Faulty(error) => Err(*error),
             // After `cache` they were read.
             LazyFunctions::Unread => Ok(None),
@@ -196,27 +140,12 @@ impl<R: Reader> LazyFunctions<R> {
         scope: Scope<'_, R>,
         view: &Unit<R>,
     ) -> Result<(), Error>
-        requires in_order { IsScope (as_scope scope) }
-        requires right { AreFunctionsOf (as_scope scope) view.now self.old }
+        requires right { AreFunctionsIn (as_scope scope) view.now self.old }
         ensures gives { ExactlyUnlessOomIf
             (reading_takes_memory R.shares (as_scope scope.entry) view.now self.old) (λ x. x)
             result (functions_fault (as_scope scope.entry) view.now) }
-        ensures right { AreFunctionsOf (as_scope scope.entry) view.now self.new }
-        ensures after { StayFunctions self.old self.new }
-        ensures read { OnOk result (were_read self.new ≡ true) }
-        ensures known { OnOk result
-            (AllByRecursion HasDetail (cached_functions self.new).functions) }
-        ensures ready { OnOk result ((probe : ℕ)
-            → find_takes_memory R.shares (as_scope scope.entry) view.now probe self.new
-            ≡ exceeds_inline_room (cached_inlined_at probe (cached_functions self.new))) }
-        ensures whole { WasNotRefused result
-            → IsReadyFor depths.Details (known_functions self.new) }
-        ensures memory { IsReadyFor depths.Details (known_functions self.new)
-            → WasNotRefused result }
-        ensures exact { IsReadyFor depths.Details (known_functions self.old)
-            → result ≡ functions_fault (as_scope scope.entry) view.now }
-        ensures kept { IsReadyFor depths.Details (known_functions self.old)
-            → self.new ≡ self.old }
+        ensures after { AfterReadingFunctions R.shares Details (as_scope scope.entry) view.now
+            result self.old self.new }
     {
         self.cache(alloc, scope, view)?;
         match self {
@@ -267,43 +196,6 @@ pub(crate) enum UnitFrames {
     },
 }
 
-// The function at an address in a view, as `UnitEntries::find_function` has it.
-fn find_in_view<'x, R: Reader>(
-    alloc: Global,
-    view: &'x UnitView<R>,
-    functions: &mut LazyFunctions<R>,
-    scope: Scope<'x, R>,
-    dw_unit: &'x Unit<R>,
-    probe: u64,
-) -> Result<Option<FunctionPlace>, Error>
-    requires in_order { IsScope (as_scope scope) }
-    requires right { AreEntriesOf (as_scope scope) dw_unit.now
-        (record { view = view.now; functions = functions.old }) }
-    requires decided { is_decided view.now.state ≡ true }
-    ensures gives { ExactlyUnlessOom (found_in_cache functions.new) result
-        (function_in (as_scope scope.entry) dw_unit.now (answer_of_view view.now) probe) }
-    ensures there { IfOk result (λ found. IfSome found
-        (ArePlacesIn (cached_functions functions.new))) }
-    ensures right { AreEntriesOf (as_scope scope.entry) dw_unit.now
-        (record { view = view.now; functions = functions.new }) }
-    ensures after { StayFunctions functions.old functions.new }
-    ensures within { ReadsNoOther probe (cached_functions functions.old)
-        (cached_functions functions.new) }
-    ensures kept { has_entries_by probe view.now.state functions.old ≡ true
-        → functions.new ≡ functions.old }
-    ensures ready { WasNotRefused result
-        → has_entries_by probe view.now.state functions.new ≡ true }
-    ensures memory { has_entries_by probe view.now.state functions.new ≡ true
-        → HasFewInlined (as_scope scope.entry) dw_unit.now (answer_of_view view.now) probe
-        → WasNotRefused result }
-    ensures no_memory { functions_in_take_memory R.shares (as_scope scope.entry) dw_unit.now
-        (answer_of_view view.now) ≡ false → IfErr result (λ e. function_in
-        (as_scope scope.entry) dw_unit.now (answer_of_view view.now) probe ≡ Err e) }
-{
-    let unit = view.unit_ref(scope.file.dwarf, dw_unit)?;
-    functions.find(alloc, view.scope_of(scope), unit.unit, probe)
-}
-
 impl<R: Reader> UnitEntries<R> {
     // Before anybody asks for something. Takes no memory.
     pub(crate) fn new() -> UnitEntries<R>
@@ -319,50 +211,37 @@ impl<R: Reader> UnitEntries<R> {
     // Looks whether the unit waits for an answer, unless that was done. Takes no memory.
     pub(crate) fn check_split(&mut self, scope: Scope<'_, R>, dw_unit: &Unit<R>)
         requires right { AreEntriesOf (as_scope scope) dw_unit.now self.old }
-        ensures right { AreEntriesOf (as_scope scope.entry) dw_unit.now self.new }
-        ensures known { was_checked self.new.view.state ≡ true }
-        ensures after { StayEntries self.old self.new }
-        ensures functions { self.new.functions ≡ self.old.functions }
-        ensures kept { was_checked self.old.view.state ≡ true → self.new ≡ self.old }
+        ensures after { AfterCheck (as_scope scope.entry) dw_unit.now self.old self.new }
     {
         self.view.check_split(scope.file.dwarf, dw_unit);
     }
+}
 
-    // The function at an address in the unit's view, none where no function holds it. The functions
-    // and its detail are read and cached, unless they are, their faults too.
-    //
-    // Refused by the first fault of the view, its functions and the detail; may fail with
-    // `OutOfMemory` instead, only where something of these isn't cached, and the functions take
-    // memory, or there are more than 16 inlined functions.
-    fn find_function<'x>(
-        &mut self,
-        alloc: Global,
-        scope: Scope<'x, R>,
-        dw_unit: &'x Unit<R>,
-        probe: u64,
-    ) -> Result<Option<FunctionPlace>, Error>
-        requires in_order { IsScope (as_scope scope) }
-        requires right { AreEntriesOf (as_scope scope) dw_unit.now self.old }
-        requires checked { was_checked self.old.view.state ≡ true }
-        requires decided { waits self.old.view.state ≡ false }
-        ensures gives { ExactlyUnlessOom (found_in_cache self.new.functions) result
-            (function_in (as_scope scope.entry) dw_unit.now (first_answer_of self.old) probe) }
-        ensures there { IfOk result (λ found. IfSome found
-            (ArePlacesIn (cached_functions self.new.functions))) }
-        ensures right { AreEntriesOf (as_scope scope.entry) dw_unit.now self.new }
-        ensures after { StayEntries self.old self.new }
-        ensures within { ReadsEntriesOf probe self.old self.new }
-        ensures ready { WasNotRefused result → has_entries probe self.new ≡ true }
-        ensures memory { has_entries probe self.new ≡ true
-            → HasFewInlined (as_scope scope.entry) dw_unit.now (first_answer_of self.old) probe
-            → WasNotRefused result }
-        ensures no_memory { functions_in_take_memory R.shares (as_scope scope.entry) dw_unit.now
-            (first_answer_of self.old) ≡ false → IfErr result (λ e. function_in
-            (as_scope scope.entry) dw_unit.now (first_answer_of self.old) probe ≡ Err e) }
-    {
-        let UnitEntries { view, functions } = self;
-        find_in_view(alloc, view, functions, scope, dw_unit, probe)
-    }
+// The function at an address in a view that is decided, none where no function holds it. The
+// functions and its detail are read and cached, unless they are, their faults too.
+//
+// Refused by the first fault of the view, its functions and the detail; may fail with `OutOfMemory`
+// instead, only where something of these isn't cached, and the functions take memory, or there are
+// more than 16 inlined functions.
+fn find_in_view<'x, R: Reader>(
+    alloc: Global,
+    view: &'x UnitView<R>,
+    functions: &mut LazyFunctions<R>,
+    scope: Scope<'x, R>,
+    dw_unit: &'x Unit<R>,
+    probe: u64,
+) -> Result<Option<FunctionPlace>, Error>
+    requires right { AreEntriesOf (as_scope scope) dw_unit.now
+        (record { view = view.now; functions = functions.old }) }
+    requires decided { is_decided view.now.state ≡ true }
+    ensures gives { ExactlyUnlessOom (found_in_cache functions.new) result
+        (function_in (as_scope scope.entry) dw_unit.now (answer_of_view view.now) probe) }
+    ensures after { AfterFunctionIn R.shares (as_scope scope.entry) dw_unit.now probe result
+        (record { view = view.now; functions = functions.old })
+        (record { view = view.now; functions = functions.new }) }
+{
+    let unit = view.unit_ref(scope.file.dwarf, dw_unit)?;
+    functions.find(alloc, view.scope_of(scope), unit.unit, probe)
 }
 
 // What a unit has at an address, unless it waits for an answer. Its view is decided if it needs no
@@ -376,43 +255,25 @@ pub(crate) fn find_frames_in<'x, R: Reader>(
     alloc: Global,
     scope: Scope<'x, R>,
     dw_unit: &'x Unit<R>,
-    unit: &mut UnitLines,
-    entries: &mut UnitEntries<R>,
+    cache: &mut UnitCache<R>,
     steps: &mut Count,
     probe: u64,
 ) -> Result<UnitFrames, Error>
-    requires in_order { IsScope (as_scope scope) }
-    requires read { AreLinesOf scope.file.dwarf.now dw_unit.now unit.old.lines }
-    requires right { AreEntriesOf (as_scope scope) dw_unit.now entries.old }
-    ensures gives { ExactlyUnlessOom (frames_of_place unit.new entries.new) result
-        (frames_in (as_scope scope.entry) (indexed_unit dw_unit.now unit.old)
-        (first_answer_of entries.old) probe) }
-    ensures there { IfOk result (AreFramesIn unit.new entries.new) }
-    ensures read { AreLinesOf scope.entry.file.dwarf.now dw_unit.now unit.new.lines }
-    ensures right { AreEntriesOf (as_scope scope.entry) dw_unit.now entries.new }
-    ensures unit { StaysUnit unit.old unit.new }
-    ensures after { StayEntries entries.old entries.new }
-    ensures within { ReadsEntriesOf probe entries.old entries.new }
-    ensures kept { asks_lines_in (as_scope scope.entry) dw_unit.now (first_answer_of entries.old)
-        probe ≡ false → unit.new ≡ unit.old }
-    ensures ready { WasNotRefused result → has_entries probe entries.new ≡ true }
-    ensures known { WasNotRefused result → HasAskedLines (as_scope scope.entry) dw_unit.now
-        (first_answer_of entries.old) probe unit.new.lines }
-    ensures memory { has_entries probe entries.new ≡ true
-        → HasAskedLines (as_scope scope.entry) dw_unit.now (first_answer_of entries.old) probe
-        unit.new.lines → HasFewInlined (as_scope scope.entry) dw_unit.now
-        (first_answer_of entries.old) probe → WasNotRefused result }
-    ensures no_memory { AsksNoMemoryIn R.shares (as_scope scope.entry) dw_unit.now
-        (first_answer_of entries.old) probe unit.new entries.new → IfErr result (λ e. frames_in
-        (as_scope scope.entry) (indexed_unit dw_unit.now unit.old) (first_answer_of entries.old)
-        probe ≡ Err e) }
+    requires right { IsCacheOf (as_scope scope) dw_unit.now cache.old }
+    ensures gives { ExactlyUnlessOom (frames_of_place cache.new.lines cache.new.entries) result
+        (frames_in (as_scope scope.entry) (indexed_unit dw_unit.now cache.old.lines)
+        (first_answer_of cache.old.entries) probe) }
+    ensures after { AfterFramesIn R.shares (as_scope scope.entry) dw_unit.now probe result
+        cache.old cache.new }
     ensures steps { steps.old ≤ steps.new }
 {
+    let UnitCache { lines, entries } = cache;
     entries.check_split(scope, dw_unit);
     if entries.view.is_open() {
         return Ok(UnitFrames::Open);
     }
-    let function = entries.find_function(alloc, scope, dw_unit, probe)?;
-    let row = unit.find_row(alloc, scope.file.dwarf, dw_unit, steps, probe)?;
+    let UnitEntries { view, functions } = entries;
+    let function = find_in_view(alloc, view, functions, scope, dw_unit, probe)?;
+    let row = lines.find_row(alloc, scope.file.dwarf, dw_unit, steps, probe)?;
     Ok(UnitFrames::Here { function, row })
 }

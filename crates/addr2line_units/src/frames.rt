@@ -459,9 +459,8 @@ impl<R: Reader> Units<R> {
             return Ok(());
         };
         let cache = &mut self.caches[number];
-        let UnitCache { lines, entries } = cache;
         let steps = &mut self.steps;
-        let found = find_frames_in(self.alloc, scope, dw_unit, lines, entries, steps, probe);
+        let found = find_frames_in(self.alloc, scope, dw_unit, cache, steps, probe);
         let found = after_fault(found, faults)?;
         self.stop = stop_at(number, found);
         Ok(())

@@ -1,17 +1,15 @@
 //! The answers to the loads of units, and the loads that an address waits for.
 
-ghost use Rattle.std.specs.Prelude.{◌≡◌, Err, IfErr, IfOk, None, OnOk, Ok, Some, false, is_some, option_map, true, ◌⊎◌, ◌++◌, ◌<◌, IsOk, length, not};
+ghost use Rattle.std.specs.Prelude.{◌≡◌, Err, IfErr, IfOk, None, OnOk, Ok, Some, false, option_map, true, ◌++◌, ◌<◌, IsOk, length, not};
 ghost use Rattle.std.specs.Option.{option_to_list};
 ghost use Rattle.addr2line_units.specs.Common.{OutOfMemory, IsUnlessOom, as_scope};
-ghost use Rattle.addr2line_units.specs.EntriesCached.{AreEntriesOf, StayEntries, first_answer_of};
-ghost use Rattle.addr2line_units.specs.EntriesFunctions.{were_read};
+ghost use Rattle.addr2line_units.specs.EntriesCached.{AreEntriesOf, first_answer_of};
 ghost use Rattle.addr2line_units.specs.UnitViewCached.{IsViewOf, is_decided, waits};
 ghost use Rattle.addr2line_units.specs.LoadsMemory.{answer_takes_memory};
 ghost use Rattle.addr2line_units.specs.Loads.{view_fault, NoneOpen, forget_result, is_open_at, load_of_number, load_result, loads_along};
-ghost use Rattle.addr2line_units.specs.UnitView.{answered_view, decided_answer, is_open, load_of_unit, verdict, awaited_load};
+ghost use Rattle.addr2line_units.specs.UnitView.{decided_answer, is_open, load_of_unit, verdict, awaited_load};
 ghost use Rattle.addr2line_units.specs.UnitsAfter.{AfterForget, AfterListing, AfterLoad};
-ghost use Rattle.addr2line_units.specs.EntriesKnownCached.{known_by};
-ghost use Rattle.addr2line_units.specs.EntriesKnown.{HasNoFunctions};
+ghost use Rattle.addr2line_units.specs.CacheAfter.{AfterAnswering, AfterCheck, AfterForgetting};
 ghost use Rattle.addr2line_units.specs.LoadsListed.{MarksLoad, MarksUnit, if_new, is_marked};
 ghost use Rattle.addr2line_units.specs.LocationsParsed.{LeadTo};
 ghost use Rattle.addr2line_units.specs.RangeIterLeft.{ranges_left};
@@ -35,40 +33,11 @@ impl<R: Reader> UnitEntries<R> {
         self.view.is_open()
     }
 
-    // Decides the unit, which waits for an answer, by one. Refused `OutOfMemory` alone, and only
-    // where it has sections; then nothing is changed.
-    pub(crate) fn decide(
-        &mut self,
-        alloc: Global,
-        scope: Scope<'_, R>,
-        dw_unit: &Unit<R>,
-        sections: Option<Rc<Dwarf<R>>>,
-    ) -> Result<(), Error>
-        requires right { AreEntriesOf (as_scope scope) dw_unit.now self.old }
-        requires waits { waits self.old.view.state ≡ true }
-        ensures right { AreEntriesOf (as_scope scope.entry) dw_unit.now self.new }
-        ensures answer { OnOk result (first_answer_of self.new
-            ≡ Some (option_map (λ d. d.value) sections)) }
-        ensures known { OnOk result (is_decided self.new.view.state ≡ true) }
-        ensures functions { self.new.functions ≡ self.old.functions }
-        ensures refused { IfErr result (λ e. (e ≡ OutOfMemory) × (self.new ≡ self.old)
-            × (is_some sections ≡ true)) }
-        ensures exact { answer_takes_memory R.shares (option_map (λ d. d.value) sections) ≡ false
-            → IfErr result (λ e. answered_view scope.entry.file.dwarf.now dw_unit.now
-            (option_map (λ d. d.value) sections) ≡ Err e) }
-    {
-        self.view.decide(alloc, scope.file.dwarf, dw_unit, sections)
-    }
-
     // Forgets the answer, if there is one, and what was read of its view: the unit waits for one
     // again. Takes no memory.
     pub(crate) fn forget(&mut self, scope: Scope<'_, R>, dw_unit: &Unit<R>)
         requires right { AreEntriesOf (as_scope scope) dw_unit.now self.old }
-        ensures right { AreEntriesOf (as_scope scope.entry) dw_unit.now self.new }
-        ensures answer { first_answer_of self.new ≡ None }
-        ensures kept { first_answer_of self.old ≡ None → self.new ≡ self.old }
-        ensures empty { is_some (first_answer_of self.old) ≡ true
-            → were_read self.new.functions ≡ false }
+        ensures after { AfterForgetting (as_scope scope.entry) dw_unit.now self.old self.new }
     {
         if self.view.is_answered() {
             self.view.forget(scope.file.dwarf, dw_unit);
@@ -103,18 +72,8 @@ impl<R: Reader> UnitEntries<R> {
         sections: Option<Rc<Dwarf<R>>>,
     ) -> Result<(), Error>
         requires right { AreEntriesOf (as_scope scope) dw_unit.now self.old }
-        ensures right { AreEntriesOf (as_scope scope.entry) dw_unit.now self.new }
-        ensures answer { OnOk result (first_answer_of self.new
-            ≡ decided_answer scope.entry.file.dwarf.now dw_unit.now (first_answer_of self.old)
-            (option_map (λ d. d.value) sections)) }
-        ensures known { OnOk result (is_decided self.new.view.state ≡ true) }
-        ensures refused { IfErr result (λ e. (e ≡ OutOfMemory)
-            × StayEntries self.old self.new × (is_some sections ≡ true)) }
-        ensures functions { self.new.functions ≡ self.old.functions }
-        ensures kept { is_decided self.old.view.state ≡ true
-            → (self.new ≡ self.old) × (result ≡ Ok tt) }
-        ensures none { is_open scope.entry.file.dwarf.now dw_unit.now (first_answer_of self.old)
-            ≡ false → result ≡ Ok tt }
+        ensures after { AfterAnswering (as_scope scope.entry) dw_unit.now
+            (option_map (λ d. d.value) sections) result self.old self.new }
         ensures exact { answer_takes_memory R.shares (option_map (λ d. d.value) sections) ≡ false
             → IfErr result (λ e. view_fault (verdict scope.entry.file.dwarf.now dw_unit.now
             (decided_answer scope.entry.file.dwarf.now dw_unit.now (first_answer_of self.old)
@@ -122,7 +81,8 @@ impl<R: Reader> UnitEntries<R> {
     {
         self.check_split(scope, dw_unit);
         if self.is_open() {
-            self.decide(alloc, scope, dw_unit, sections)?;
+            self.view
+                .decide(alloc, scope.file.dwarf, dw_unit, sections)?;
         }
         Ok(())
     }
@@ -231,11 +191,7 @@ impl<R: Reader> UnitEntries<R> {
         ensures none { is_open dwarf.now.value dw_unit.now (first_answer_of self.old) ≡ false
             → result ≡ Ok None }
         ensures refused { IfErr result (λ e. e ≡ OutOfMemory) }
-        ensures right { AreEntriesOf (as_scope scope.entry) dw_unit.now self.new }
-        ensures after { StayEntries self.old self.new }
-        ensures functions { (known_by self.new.view.state self.new.functions
-            ≡ known_by self.old.view.state self.old.functions)
-            ⊎ HasNoFunctions (known_by self.new.view.state self.new.functions) }
+        ensures after { AfterCheck (as_scope scope.entry) dw_unit.now self.old self.new }
     {
         self.check_split(scope, dw_unit);
         if !self.is_open() {

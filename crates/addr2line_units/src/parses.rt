@@ -1,15 +1,16 @@
 //! Parses of the functions of all units.
 
 ghost use Rattle.std.specs.Prelude.{◌≡◌, Err, IfErr, Ok, true};
-ghost use Rattle.addr2line_units.specs.Common.{IsUnlessOom, IsScope, as_scope};
+ghost use Rattle.addr2line_units.specs.Common.{IsUnlessOom, as_scope};
 ghost use Rattle.addr2line_units.specs.declared.parses.ReadingDepth.TheVariants.{Functions};
+ghost use Rattle.addr2line_units.specs.CacheAfter.{AreFunctionsIn};
 ghost use Rattle.addr2line_units.specs.ParsesAfter.{AfterReadingAt, AfterReadingFunctions, AfterReadingUnit, AfterReadingView};
 ghost use Rattle.addr2line_units.specs.UnitsAfter.{AfterReading};
 ghost use Rattle.addr2line_units.specs.EntriesCached.{AreEntriesOf, first_answer_of};
 ghost use Rattle.addr2line_units.specs.EntriesFunctions.{AreFunctionsOf, cached_fault};
-ghost use Rattle.addr2line_units.specs.UnitViewCached.{is_decided, answer_of_view};
 ghost use Rattle.addr2line_units.specs.Parses.{ReadsNoMemory, read_of_functions, read_of_number, read_of_unit, read_of_units, read_of_view};
 ghost use Rattle.addr2line_units.specs.UnitView.{verdict};
+ghost use Rattle.addr2line_units.specs.UnitViewCached.{answer_of_view, is_decided};
 
 use crate::entries::{LazyFunctions, UnitEntries};
 use crate::frames::FramesStop;
@@ -68,8 +69,7 @@ impl<R: Reader> LazyFunctions<R> {
         view: &Unit<R>,
         depth: ReadingDepth,
     ) -> Result<(), Error>
-        requires in_order { IsScope (as_scope scope) }
-        requires right { AreFunctionsOf (as_scope scope) view.now self.old }
+        requires right { AreFunctionsIn (as_scope scope) view.now self.old }
         ensures gives { IsUnlessOom result
             (read_of_functions depth (as_scope scope.entry) view.now) }
         ensures after { AfterReadingFunctions R.shares depth (as_scope scope.entry) view.now
@@ -91,7 +91,6 @@ fn read_in_view<'x, R: Reader>(
     dw_unit: &'x Unit<R>,
     depth: ReadingDepth,
 ) -> Result<(), Error>
-    requires in_order { IsScope (as_scope scope) }
     requires right { AreEntriesOf (as_scope scope) dw_unit.now
         (record { view = view.now; functions = functions.old }) }
     requires decided { is_decided view.now.state ≡ true }
@@ -120,7 +119,6 @@ impl<R: Reader> UnitEntries<R> {
         dw_unit: &'x Unit<R>,
         depth: ReadingDepth,
     ) -> Result<(), Error>
-        requires in_order { IsScope (as_scope scope) }
         requires right { AreEntriesOf (as_scope scope) dw_unit.now self.old }
         ensures gives { IsUnlessOom result (read_of_unit depth
             (as_scope scope.entry) dw_unit.now (first_answer_of self.old)) }

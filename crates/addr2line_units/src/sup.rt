@@ -108,8 +108,8 @@ impl<R: Reader> SupUnits<R> {
     /// The units of the supplementary file, if there is one, whose record can be read.
     ///
     /// Refused by the first fault of a unit's header; may fail with `OutOfMemory` instead, where
-    /// that of a unit with abbreviations can be read, a type unit too, or bytes are shared. Source:
-    /// DWARF 5, sections 3.1 and 7.3.6.
+    /// that of a unit with abbreviations can be read, a type unit too, or bytes are shared. Takes
+    /// no memory where there is no supplementary file. Source: DWARF 5, sections 3.1 and 7.3.6.
     pub fn parse(alloc: Global, dwarf: &Dwarf<R>) -> Result<SupUnits<R>, Error>
         ensures gives { ExactlyAtCost R.shares (λ s. s.units.items) result
             (sup_read dwarf.now.sup) }

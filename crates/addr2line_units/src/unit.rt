@@ -7,7 +7,8 @@ ghost use Rattle.addr2line_units.specs.UnitsRanged.{is_partial, is_type_unit, li
 ghost use Rattle.addr2line_units.specs.EntriesMemory.{lines_take_memory};
 ghost use Rattle.addr2line_units.specs.Locations.{is_found, location_in, steps_in};
 ghost use Rattle.addr2line_units.specs.IndexAranges.{range_in};
-ghost use Rattle.addr2line_units.specs.UnitLinesCached.{AreLinesOf, IsUnparsed, LinesStayCached, CachesResult, StaysUnit, cached_lines_result, cached_files, cached_steps, cached_ranges, cached_row, indexed_unit, lines_result, cached_lines, is_parsed, is_uncached};
+ghost use Rattle.addr2line_units.specs.UnitLinesCached.{AreLinesOf, IsUnparsed, cached_lines_result, cached_files, cached_steps, cached_ranges, cached_row, indexed_unit, lines_result, cached_lines, is_parsed, is_uncached};
+ghost use Rattle.addr2line_units.specs.CacheAfter.{AfterLinesOf, AfterViewAnswer, AfterViewCheck, AfterViewForgetting};
 ghost use Rattle.addr2line_units.specs.UnitsIndexed.{ranged_seen};
 ghost use Rattle.addr2line_units.specs.LoadsMemory.{answer_takes_memory};
 ghost use Rattle.addr2line_units.specs.UnitViewCached.{IsViewOf, answer_in, is_decided, parts_or_fault, answer_of_view, as_sections, split_file_by, split_file_in, split_unit, unboxed, verdict_in, view_in, waits, was_checked};
@@ -225,20 +226,11 @@ impl UnitLines {
         dwarf: &Dwarf<R>,
         dw_unit: &Unit<R>,
     ) -> Result<(), Error>
-        requires read { AreLinesOf dwarf.now dw_unit.now self.old.lines }
+        requires right { AreLinesOf dwarf.now dw_unit.now self.old.lines }
         ensures gives { OnOk result (cached_lines_result self.new.lines
             ≡ lines_result dwarf.now dw_unit.now) }
-        ensures exact { is_uncached self.old.lines ≡ false → result ≡ Ok tt }
-        ensures known { OnOk result (is_uncached self.new.lines ≡ false) }
-        ensures fault { is_uncached self.old.lines ≡ true → OnOk result
-            (cached_lines_result self.new.lines ≢ Err OutOfMemory) }
-        ensures after { LinesStayCached self.old.lines self.new.lines }
+        ensures after { AfterLinesOf R.shares dwarf.now dw_unit.now result self.old self.new }
         ensures refused { IfErr result (λ e. e ≡ OutOfMemory) }
-        ensures memory { OnErr result (self.new.lines ≡ self.old.lines) }
-        ensures no_memory { lines_take_memory R.shares dw_unit.now ≡ false
-            → IfErr result (λ e. lines_result dwarf.now dw_unit.now ≡ Err e) }
-        ensures kept { self.new.lang ≡ self.old.lang }
-        ensures read { AreLinesOf dwarf.now dw_unit.now self.new.lines }
     {
         if is_uncached(&self.lines) {
             self.lines = parse_lines(alloc, dwarf, dw_unit)?;
@@ -253,19 +245,10 @@ impl UnitLines {
         dwarf: &Dwarf<R>,
         dw_unit: &Unit<R>,
     ) -> Result<(), Error>
-        requires read { AreLinesOf dwarf.now dw_unit.now self.old.lines }
+        requires right { AreLinesOf dwarf.now dw_unit.now self.old.lines }
         ensures gives { ExactlyUnlessOom (λ _. cached_lines self.new.lines) result
             (lines_result dwarf.now dw_unit.now) }
-        ensures exact { is_uncached self.old.lines ≡ false →
-            Exactly (λ _. cached_lines self.new.lines) result
-            (lines_result dwarf.now dw_unit.now) }
-        ensures after { LinesStayCached self.old.lines self.new.lines }
-        ensures known { CachesResult self.old.lines result self.new.lines }
-        ensures memory { is_uncached self.new.lines ≡ false → WasNotRefused result }
-        ensures no_memory { lines_take_memory R.shares dw_unit.now ≡ false
-            → IfErr result (λ e. lines_result dwarf.now dw_unit.now ≡ Err e) }
-        ensures kept { self.new.lang ≡ self.old.lang }
-        ensures read { AreLinesOf dwarf.now dw_unit.now self.new.lines }
+        ensures after { AfterLinesOf R.shares dwarf.now dw_unit.now result self.old self.new }
     {
         self.cache_lines(alloc, dwarf, dw_unit)?;
         check_lines(&self.lines)
@@ -307,19 +290,11 @@ impl UnitLines {
         steps: &mut Count,
         probe: u64,
     ) -> Result<Option<Row>, Error>
-        requires read { AreLinesOf dwarf.now dw_unit.now self.old.lines }
+        requires right { AreLinesOf dwarf.now dw_unit.now self.old.lines }
         ensures gives { ExactlyUnlessOom (option_map (location_of_row (cached_files
             self.new.lines))) result
             (location_in dwarf.now probe (Some (indexed_unit dw_unit.now self.old))) }
-        ensures exact { is_uncached self.old.lines ≡ false → Exactly (option_map
-            (location_of_row (cached_files self.new.lines))) result
-            (location_in dwarf.now probe (Some (indexed_unit dw_unit.now self.old))) }
-        ensures after { StaysUnit self.old self.new }
-        ensures known { CachesResult self.old.lines result self.new.lines }
-        ensures memory { is_uncached self.new.lines ≡ false → WasNotRefused result }
-        ensures no_memory { lines_take_memory R.shares dw_unit.now ≡ false → IfErr result (λ e.
-            location_in dwarf.now probe (Some (indexed_unit dw_unit.now self.old)) ≡ Err e) }
-        ensures read { AreLinesOf dwarf.now dw_unit.now self.new.lines }
+        ensures after { AfterLinesOf R.shares dwarf.now dw_unit.now result self.old self.new }
         ensures bound { steps.new ≤ steps.old
             + steps_in dwarf.now (Some (indexed_unit dw_unit.now self.old)) }
         ensures steps { steps.old ≤ steps.new }
@@ -538,11 +513,8 @@ impl<R: Reader> UnitView<R> {
 
     // Looks whether the unit needs an answer, unless that was done. Takes no memory.
     pub(crate) fn check_split(&mut self, dwarf: &Dwarf<R>, dw_unit: &Unit<R>)
-        requires view { IsViewOf dwarf.now dw_unit.now self.old }
-        ensures right { IsViewOf dwarf.now dw_unit.now self.new }
-        ensures known { was_checked self.new.state ≡ true }
-        ensures kept { was_checked self.old.state ≡ true → self.new ≡ self.old }
-        ensures answer { answer_of_view self.new ≡ answer_of_view self.old }
+        requires right { IsViewOf dwarf.now dw_unit.now self.old }
+        ensures after { AfterViewCheck dwarf.now dw_unit.now self.old self.new }
     {
         if matches!(self.state, ViewState::Undecided) {
             self.state = first_state(dwarf, dw_unit);
@@ -602,17 +574,13 @@ impl<R: Reader> UnitView<R> {
         dw_unit: &Unit<R>,
         sections: Option<Rc<Dwarf<R>>>,
     ) -> Result<(), Error>
-        requires view { IsViewOf dwarf.now dw_unit.now self.old }
+        requires right { IsViewOf dwarf.now dw_unit.now self.old }
         requires waits { waits self.old.state ≡ true }
-        ensures right { IsViewOf dwarf.now dw_unit.now self.new }
-        ensures answer { OnOk result (answer_of_view self.new
-            ≡ Some (option_map (λ d. d.value) sections)) }
-        ensures known { OnOk result (is_decided self.new.state ≡ true) }
-        ensures refused { IfErr result (λ e. (e ≡ OutOfMemory) × (self.new ≡ self.old)
-            × (is_some sections ≡ true)) }
         ensures gives { OnOk result (verdict dwarf.now dw_unit.now (answer_of_view self.new)
             ≡ Some (answered_view dwarf.now dw_unit.now
             (option_map (λ d. d.value) sections))) }
+        ensures after { AfterViewAnswer dwarf.now dw_unit.now (option_map (λ d. d.value) sections)
+            result self.old self.new }
         ensures exact { answer_takes_memory R.shares (option_map (λ d. d.value) sections) ≡ false
             → IfErr result (λ e. answered_view dwarf.now dw_unit.now
             (option_map (λ d. d.value) sections) ≡ Err e) }
@@ -628,10 +596,8 @@ impl<R: Reader> UnitView<R> {
 
     // Forgets the answer, if there is one: the unit waits for one again. Takes no memory.
     pub(crate) fn forget(&mut self, dwarf: &Dwarf<R>, dw_unit: &Unit<R>)
-        requires view { IsViewOf dwarf.now dw_unit.now self.old }
-        ensures right { IsViewOf dwarf.now dw_unit.now self.new }
-        ensures answer { answer_of_view self.new ≡ None }
-        ensures kept { answer_of_view self.old ≡ None → self.new ≡ self.old }
+        requires right { IsViewOf dwarf.now dw_unit.now self.old }
+        ensures after { AfterViewForgetting dwarf.now dw_unit.now self.old self.new }
     {
         if matches!(self.state, ViewState::Answered(_)) {
             self.state = ViewState::Open;

@@ -257,12 +257,12 @@ impl<R: Reader> Units<R> {
     /// attributes. The units of the supplementary file come last.
     ///
     /// Refused by the first fault of a set's header, of a unit's header, or of the range attributes
-    /// of a unit whose record can be read; then by that of a header of the supplementary file. May
-    /// fail with `OutOfMemory` instead where a set lists a range, up to the first fault of a set's
-    /// header; and, where there is none, where bytes are shared or, up to the first fault of a
-    /// unit, the header can be read of one that is no type unit and has abbreviations; and for the
-    /// supplementary file, where the units have no fault. Source: DWARF 5, sections 2.17, 3.1,
-    /// 6.1.2 and 7.3.6.
+    /// or the range list of a unit whose record can be read; then by that of a header of the
+    /// supplementary file. May fail with `OutOfMemory` instead where a set lists a range, up to the
+    /// first fault of a set's header; and, where there is none, where bytes are shared or, up to
+    /// the first fault of a unit, the header can be read of one that is no type unit and has
+    /// abbreviations; and for the supplementary file, where the units have no fault. Source: DWARF
+    /// 5, sections 2.17, 3.1, 6.1.2 and 7.3.6.
     pub fn parse(alloc: Global, dwarf: Rc<Dwarf<R>>) -> Result<(Units<R>, UnitRanges), Error>
         ensures gives { ExactlyUnlessOomIf (context_takes_memory R.shares dwarf.value)
             (λ x. (x.0, x.1)) result (new_units dwarf.value) }

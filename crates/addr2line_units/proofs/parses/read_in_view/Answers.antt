@@ -24,7 +24,7 @@ read-requires g c =
     let inner = as_scope c.scope_of.result in
     let x = c.in_ok-unit.unit.unit.now in
     let v = view_known scope u 0 old c.requires.right c.requires.decided c.in_ok-unit.unit.dwarf.now x inner c.in_ok-unit.ensures.gives (c.scope_of.ensures.gives scope.file.sections u c.requires.right.view) in
-    record { in_order = c.scope_of.ensures.right c.requires.in_order; right = functions_right scope u 0 old c.requires.right c.requires.decided inner x v }
+    record { right = record { in_order = c.scope_of.ensures.right c.requires.right.in_order; functions = functions_right scope u 0 old c.requires.right c.requires.decided inner x v } }
 
 pub returns : goal.returns
 returns g c =

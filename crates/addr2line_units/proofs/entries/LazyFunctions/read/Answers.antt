@@ -1,6 +1,5 @@
 use Rattle.addr2line_units.proofs.Common.{subst, sym, ExactlyUnlessOom, as_scope, functions_fault, reading_takes_memory, read_of_functions}
 use Rattle.addr2line_units.specs.ParsesAfter.{AfterReadingFunctions}
-use Rattle.addr2line_units.proofs.ParsesAfterLemmas.{details_after}
 use Rattle.addr2line_units.proofs.EntriesLemmas.{exactly_unless_oom}
 use Rattle.addr2line_units.proofs.entries.LazyFunctions.read.Goals as goal
 
@@ -18,11 +17,9 @@ returns-in-Details g c =
     let shares = g.R.Reader.shares in
     let scope = as_scope c.args.scope in
     let view = c.args.view.now in
-    let old = c.args.self.now in
     let e = c.read_all.ensures in
     record {
       gives = subst (λ r. ExactlyUnlessOom (λ y. y) c.read_all.result (read_of_functions r scope view)) (sym c.in-Details.is)
-          (exactly_unless_oom (reading_takes_memory shares scope view old) (λ y. y) c.read_all.result (functions_fault scope view) e.gives);
-      after = subst (λ r. AfterReadingFunctions shares r scope view c.read_all.result old c.read_all.new.self) (sym c.in-Details.is)
-          (details_after shares scope view old c.read_all.new.self e.right c.read_all.result c.requires.right e.gives e.after e.read e.known e.whole e.memory e.exact e.kept);
+          (exactly_unless_oom (reading_takes_memory shares scope view c.args.self.now) (λ y. y) c.read_all.result (functions_fault scope view) e.gives);
+      after = subst (λ r. AfterReadingFunctions shares r scope view c.read_all.result c.args.self.now c.read_all.new.self) (sym c.in-Details.is) e.after;
     }

@@ -1,108 +1,15 @@
-use Rattle.addr2line_units.proofs.Common.{◌≡◌, ◌≢◌, Bool, Err, Result, false, refl, true, ◌∙◌, ap, subst, sym, AllByRecursion, err_from_is_err_and, Error, ExactlyUnlessOomIf, OutOfMemory, UnitRecord, HasDetail, details_take_memory, FunctionTable, functions_of, functions_take_memory, exceeds_inline_room, Scope, as_scope, LazyFunctions, AreFunctionsOf, cached_functions, find_takes_memory, functions_fault, reading_takes_memory, cached_inlined_at, were_read, known_functions, IsReadyFor}
+use Rattle.addr2line_units.proofs.Common.{◌≡◌, ◌≢◌, Bool, Err, Ok, Result, AllByRecursion, HasDetail, cached_functions, false, refl, true, ◌∙◌, ap, subst, sym, false≢true, err_from_is_err_and, Error, ExactlyUnlessOomIf, OutOfMemory, UnitRecord, details_take_memory, FunctionTable, functions_of, functions_take_memory, Scope, as_scope, LazyFunctions, AreFunctionsOf, functions_fault, reading_takes_memory, were_read, known_functions, IsReadyFor}
 use Rattle.std.specs.Box.{with_value}
 use Rattle.addr2line_lines.specs.CachedNames.{AreNamesOf}
 use Rattle.addr2line_units.specs.declared.entries.LazyFunctions.TheVariants as lazy
 use Rattle.addr2line_units.specs.declared.parses.ReadingDepth.TheVariants as depths
-use Rattle.addr2line_units.proofs.EntriesFunctionLemmas.{all_ready, exactly_weaker, fault_is, no_fault_of, on_ok, reading_before, stay_faulty, stay_read, table_more}
+use Rattle.addr2line_units.proofs.EntriesFindLemmas.{were_unread}
+use Rattle.addr2line_units.proofs.EntriesFunctionLemmas.{exactly_weaker, fault_is, no_fault_of, on_ok, reading_before, stay_faulty, stay_read, table_more}
+use Rattle.addr2line_units.proofs.ParsesAfterLemmas.{details_after, refused_after}
 use Rattle.addr2line_units.proofs.ParsesCachedLemmas.{cached_stay}
-use Rattle.addr2line_units.proofs.ParsesReadyLemmas.{fault_of_functions, had_not_oom, known_not_oom, not_oom, ready_fault, ready_same, ready_then, ready_were_read}
+use Rattle.addr2line_units.proofs.ParsesReadyLemmas.{fault_of_functions, had_not_oom, known_not_oom, not_oom, ready_fault, ready_same, ready_then}
 use Rattle.addr2line_units.proofs.EntriesKnownTableLemmas.{to_fault_cached, to_fault_known}
 use Rattle.addr2line_units.proofs.entries.LazyFunctions.read_all.Goals as goal
-
-pub returns-in-Read-clause-gives : goal.returns-in-Read-clause-gives
-returns-in-Read-clause-gives g c =
-    let scope = as_scope c.args.scope in
-    let view = c.args.view.now in
-    let t = c.in-Read.functions in
-    let may = details_take_memory g.R.Reader.shares scope view t.value.functions in
-    let table = subst (λ x. AreFunctionsOf scope view x) c.in-Read.is c.cache.ensures.right in
-    exactly_weaker may (reading_takes_memory g.R.Reader.shares scope view c.args.self.now) (λ x. x) c.read_all.result (functions_fault scope view)
-    (reading_before c.args.self.now c.cache.new.self (λ read. (c.cache.ensures.kept read).0) g.R.Reader.shares scope view t c.in-Read.is table)
-    (subst (λ (r : Result (Unit {0}) Error). ExactlyUnlessOomIf may (λ x. x) c.read_all.result r) (sym (fault_is scope view t.value table)) (rw c.deref_mut.ensures.value at c.read_all.ensures.gives table.details))
-
-pub returns-in-Read-clause-right : goal.returns-in-Read-clause-right
-returns-in-Read-clause-right g c =
-    let scope = as_scope c.args.scope in
-    let view = c.args.view.now in
-    let table = subst (λ x. AreFunctionsOf scope view x) c.in-Read.is c.cache.ensures.right in
-    let kept = rw c.deref_mut.ensures.value at c.read_all.ensures.after in
-    let details = rw c.deref_mut.ensures.value at c.read_all.ensures.right in
-    table_more scope view c.in-Read.functions.value c.read_all.new.self table kept (details table.details) c.read_all.ensures.names
-
-pub returns-in-Read-clause-after : goal.returns-in-Read-clause-after
-returns-in-Read-clause-after g c =
-    let kept = rw c.deref_mut.ensures.value at c.read_all.ensures.after in
-    stay_read c.args.self.now c.cache.new.self (λ read. (c.cache.ensures.kept read).0) c.in-Read.functions (with_value c.in-Read.functions c.read_all.new.self) c.in-Read.is kept
-
-pub returns-in-Read-clause-ready : goal.returns-in-Read-clause-ready
-returns-in-Read-clause-ready g c = on_ok c.read_all.result (all_ready c.read_all.new.self) c.read_all.ensures.known
-
-pub returns-in-Faulty-clause-after : goal.returns-in-Faulty-clause-after
-returns-in-Faulty-clause-after g c =
-    stay_faulty c.args.self.now c.cache.new.self (λ read. (c.cache.ensures.kept read).0) c.in-Faulty.error c.in-Faulty.is
-
-pub returns-in-Absent-clause-gives : goal.returns-in-Absent-clause-gives
-returns-in-Absent-clause-gives g c =
-    let scope = as_scope c.args.scope in
-    let view = c.args.view.now in
-    no_fault_of scope view (subst (AreFunctionsOf scope view) c.in-Absent.is c.cache.ensures.right)
-
-pub returns-in-Absent-clause-after : goal.returns-in-Absent-clause-after
-returns-in-Absent-clause-after g c =
-    cached_stay (as_scope c.args.scope) c.args.view.now c.args.self.now c.cache.new.self (λ read. (c.cache.ensures.kept read).0)
-
-pub returns-in-Absent-clause-known : goal.returns-in-Absent-clause-known
-returns-in-Absent-clause-known g c = subst (λ f. AllByRecursion HasDetail (cached_functions f).functions) (sym c.in-Absent.is) tt
-
-pub returns-in-Absent-clause-ready : goal.returns-in-Absent-clause-ready
-returns-in-Absent-clause-ready g c = λ probe.
-    subst (λ f. find_takes_memory g.R.Reader.shares (as_scope c.args.scope) c.args.view.now probe f ≡ exceeds_inline_room (cached_inlined_at probe (cached_functions f))) (sym c.in-Absent.is) refl
-
-pub returns-in-Absent-clause-whole : goal.returns-in-Absent-clause-whole
-returns-in-Absent-clause-whole g c = λ ne. subst (λ f. IsReadyFor depths.Details (known_functions f)) (sym c.in-Absent.is) tt
-
-pub returns-in-Absent-clause-exact : goal.returns-in-Absent-clause-exact
-returns-in-Absent-clause-exact g c = λ ready. sym (returns-in-Absent-clause-gives g c)
-
-pub returns-in-Absent-clause-kept : goal.returns-in-Absent-clause-kept
-returns-in-Absent-clause-kept g c = λ ready.
-    ready_same depths.Details c.args.self.now c.cache.new.self (λ read. (c.cache.ensures.kept read).0) ready
-
-pub returns-in_err-cache-clause-exact : goal.returns-in_err-cache-clause-exact
-returns-in_err-cache-clause-exact g c = λ ready.
-    absurd (let no = (c.in_err-cache.ensures.kept (ready_were_read depths.Details c.args.self.now ready)).1 in cc)
-
-pub returns-in-Read-clause-whole : goal.returns-in-Read-clause-whole
-returns-in-Read-clause-whole g c = λ ne. to_fault_known c.read_all.new.self.functions (c.read_all.ensures.whole (not_oom c.read_all.result ne))
-
-pub returns-in-Read-clause-exact : goal.returns-in-Read-clause-exact
-returns-in-Read-clause-exact g c = λ ready.
-    let scope = as_scope c.args.scope in
-    let view = c.args.view.now in
-    let t = c.in-Read.functions in
-    let table = subst (λ x. AreFunctionsOf scope view x) c.in-Read.is c.cache.ensures.right in
-    let exact = rw c.deref_mut.ensures.value at c.read_all.ensures.exact in
-    exact table.details (to_fault_cached t.value.functions (ready_then depths.Details c.args.self.now c.cache.new.self (λ read. (c.cache.ensures.kept read).0) ready (lazy.Read t) c.in-Read.is)) ∙ sym (fault_is scope view t.value table)
-
-pub returns-in-Read-clause-kept : goal.returns-in-Read-clause-kept
-returns-in-Read-clause-kept g c = λ ready.
-    let t = c.in-Read.functions in
-    let same = rw c.deref_mut.ensures.value at c.read_all.ensures.kept in
-    ap (λ x. lazy.Read (with_value t x)) (same (to_fault_cached t.value.functions (ready_then depths.Details c.args.self.now c.cache.new.self (λ read. (c.cache.ensures.kept read).0) ready (lazy.Read t) c.in-Read.is)))
-    ∙ sym c.in-Read.is ∙ ready_same depths.Details c.args.self.now c.cache.new.self (λ read. (c.cache.ensures.kept read).0) ready
-
-pub returns-in-Faulty-clause-whole : goal.returns-in-Faulty-clause-whole
-returns-in-Faulty-clause-whole g c = λ ne. ready_fault depths.Details c.in-Faulty.error ne
-
-pub returns-in-Faulty-clause-exact : goal.returns-in-Faulty-clause-exact
-returns-in-Faulty-clause-exact g c = λ _.
-    let scope = as_scope c.args.scope in
-    let view = c.args.view.now in
-    sym (fault_of_functions scope view c.in-Faulty.error (subst (λ x. AreFunctionsOf scope view x) c.in-Faulty.is c.cache.ensures.right))
-
-pub returns-in-Faulty-clause-kept : goal.returns-in-Faulty-clause-kept
-returns-in-Faulty-clause-kept g c = λ ready.
-    sym c.in-Faulty.is ∙ ready_same depths.Details c.args.self.now c.cache.new.self (λ read. (c.cache.ensures.kept read).0) ready
 
 -- functions that weren't read take memory, or memory is their fault
 unread_takes : {R : Type 0} (shares : Bool) (scope : Scope) (view : UnitRecord) (old : LazyFunctions R) (x : Error) → (were_read old ≡ true → ⊥) → x ≡ OutOfMemory
@@ -117,26 +24,85 @@ unread_takes shares scope view lazy.Absent x unread oom fault may = absurd (unre
 unread_takes shares scope view (lazy.Read t) x unread oom fault may = absurd (unread refl)
 unread_takes shares scope view (lazy.Faulty y) x unread oom fault may = absurd (unread refl)
 
-pub returns-in_err-cache-clause-gives : goal.returns-in_err-cache-clause-gives
-returns-in_err-cache-clause-gives g c =
+pub returns-in_err-cache : goal.returns-in_err-cache
+returns-in_err-cache g c =
     let p = err_from_is_err_and c.from_residual.result c.from_residual.ensures.1 in
+    let shares = g.R.Reader.shares in
     let scope = as_scope c.args.scope in
     let view = c.args.view.now in
-    rw (p.1, p.2) (λ may. fault_of_functions scope view _
-    (unread_takes g.R.Reader.shares scope view c.args.self.now _ (λ read. let no = (c.in_err-cache.ensures.kept read).1 in cc) c.in_err-cache.ensures.refused.0 c.in_err-cache.ensures.memory may))
+    let old = c.args.self.now in
+    let x = c.in_err-cache.field-0.0 in
+    let a = c.in_err-cache.ensures.after in
+    let unread = were_unread shares scope view 0 old c.cache.new.self x a in
+    rw (p.1, p.2) (record {
+      gives = λ may. fault_of_functions scope view x (unread_takes shares scope view old x unread a.refused.0.0 a.refused.0.1 may);
+      after = refused_after shares scope view old c.cache.new.self a.right depths.Details x a.refused.0.0 a.refused.1 unread a.refused.0.1;
+    })
 
-pub returns-in_err-cache-clause-memory : goal.returns-in_err-cache-clause-memory
-returns-in_err-cache-clause-memory g c = λ ready.
-    let read = ap (λ f. were_read f) (sym c.in_err-cache.ensures.refused.1) ∙ ready_were_read depths.Details c.cache.new.self ready in
-    absurd (let no = (c.in_err-cache.ensures.kept read).1 in cc)
+pub returns-in-Absent : goal.returns-in-Absent
+returns-in-Absent g c =
+    let scope = as_scope c.args.scope in
+    let view = c.args.view.now in
+    let old = c.args.self.now in
+    let new = c.cache.new.self in
+    let a = c.in_ok-cache.ensures.after in
+    let kept : were_read old ≡ true → new ≡ old = λ read. (a.kept read).0 in
+    let gives = no_fault_of scope view (subst (AreFunctionsOf scope view) c.in-Absent.is a.right) in
+    record {
+      gives = gives;
+      after = details_after g.R.Reader.shares scope view old new a.right (Ok tt) c.requires.right.functions gives (cached_stay scope view old new kept) a.read
+          (subst (λ f. AllByRecursion HasDetail (cached_functions f).functions) (sym c.in-Absent.is) tt)
+          (λ ne. subst (λ f. IsReadyFor depths.Details (known_functions f)) (sym c.in-Absent.is) tt) (λ ready. tt) (λ ready. sym gives) (λ ready. ready_same depths.Details old new kept ready);
+    }
 
-pub returns-in-Read-clause-memory : goal.returns-in-Read-clause-memory
-returns-in-Read-clause-memory g c = λ ready. had_not_oom c.read_all.result (c.read_all.ensures.memory (to_fault_cached c.read_all.new.self.functions ready))
+pub returns-in-Read : goal.returns-in-Read
+returns-in-Read g c =
+    let shares = g.R.Reader.shares in
+    let scope = as_scope c.args.scope in
+    let view = c.args.view.now in
+    let old = c.args.self.now in
+    let mid = c.cache.new.self in
+    let a = c.in_ok-cache.ensures.after in
+    let kept : were_read old ≡ true → mid ≡ old = λ read. (a.kept read).0 in
+    let t = c.in-Read.functions in
+    let new = c.read_all.new.self in
+    let result = c.read_all.result in
+    let table = subst (λ x. AreFunctionsOf scope view x) c.in-Read.is a.right in
+    let e = rw c.deref_mut.ensures.value at c.read_all.ensures in
+    let may = details_take_memory shares scope view t.value.functions in
+    let gives = exactly_weaker may (reading_takes_memory shares scope view old) (λ x. x) result (functions_fault scope view)
+    (reading_before old mid kept shares scope view t c.in-Read.is table)
+    (subst (λ (r : Result (Unit {0}) Error). ExactlyUnlessOomIf may (λ x. x) result r) (sym (fault_is scope view t.value table)) (e.gives table.details)) in
+    record {
+      gives = gives;
+      after = details_after shares scope view old (lazy.Read (with_value t new)) (table_more scope view t.value new table e.after (e.right table.details) e.names) result c.requires.right.functions gives
+          (stay_read old mid kept t (with_value t new) c.in-Read.is e.after) (on_ok result (λ _. refl) e.known) e.known
+          (λ ne. to_fault_known new.functions (e.whole (not_oom result ne))) (λ ready. had_not_oom result (e.memory (to_fault_cached new.functions ready)))
+          (λ ready. e.exact table.details (to_fault_cached t.value.functions (ready_then depths.Details old mid kept ready (lazy.Read t) c.in-Read.is)) ∙ sym (fault_is scope view t.value table))
+          (λ ready. ap (λ x. lazy.Read (with_value t x)) (e.kept (to_fault_cached t.value.functions (ready_then depths.Details old mid kept ready (lazy.Read t) c.in-Read.is))) ∙ sym c.in-Read.is ∙ ready_same depths.Details old mid kept ready);
+    }
 
-pub returns-in-Faulty-clause-memory : goal.returns-in-Faulty-clause-memory
-returns-in-Faulty-clause-memory g c = λ ready. known_not_oom depths.Details c.in-Faulty.error ready
+pub returns-in-Faulty : goal.returns-in-Faulty
+returns-in-Faulty g c =
+    let scope = as_scope c.args.scope in
+    let view = c.args.view.now in
+    let old = c.args.self.now in
+    let mid = c.cache.new.self in
+    let a = c.in_ok-cache.ensures.after in
+    let kept : were_read old ≡ true → mid ≡ old = λ read. (a.kept read).0 in
+    let x = c.in-Faulty.error in
+    let right = subst (λ f. AreFunctionsOf scope view f) c.in-Faulty.is a.right in
+    let fault = fault_of_functions scope view x right in
+    record {
+      gives = λ _. fault;
+      after = details_after g.R.Reader.shares scope view old (lazy.Faulty x) right (Err x) c.requires.right.functions (λ _. fault) (stay_faulty old mid kept x c.in-Faulty.is) tt tt
+          (λ ne. ready_fault depths.Details x ne) (λ ready. known_not_oom depths.Details x ready) (λ ready. sym fault) (λ ready. sym c.in-Faulty.is ∙ ready_same depths.Details old mid kept ready);
+    }
 
 pub read_all-requires-clause-names : goal.read_all-requires-clause-names
 read_all-requires-clause-names g c =
     subst (λ (t : FunctionTable). AreNamesOf (as_scope c.args.scope) c.args.view.now t.names) (sym c.deref_mut.ensures.value)
-    (subst (λ x. AreFunctionsOf (as_scope c.args.scope) c.args.view.now x) c.in-Read.is c.cache.ensures.right).names
+    (subst (λ x. AreFunctionsOf (as_scope c.args.scope) c.args.view.now x) c.in-Read.is c.cache.ensures.after.right).names
+
+pub returns-in-Unread : goal.returns-in-Unread
+returns-in-Unread g c = absurd (false≢true (sym (ap were_read c.in-Unread.is) ∙ c.in_ok-cache.ensures.after.read))

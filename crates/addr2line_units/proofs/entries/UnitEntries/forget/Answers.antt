@@ -1,11 +1,28 @@
-use Rattle.addr2line_units.proofs.Common.{refl, rules, as_scope, first_answer_of}
+use Rattle.addr2line_units.proofs.Common.{◌≡◌, ◌∙◌, false, false≢true, is_some, refl, rules, sym, true, as_scope, first_answer_of}
 use Rattle.addr2line_units.specs.declared.entries.LazyFunctions.TheVariants.{Unread}
-use Rattle.addr2line_units.proofs.LoadsAnswerLemmas.{no_answer, unread_entries}
+use Rattle.addr2line_units.proofs.LoadsAnswerLemmas.{answered_is_some, no_answer, unread_entries}
 use Rattle.addr2line_units.proofs.entries.UnitEntries.forget.Goals as goal
 
-pub returns-then-is_answered-clause-right : goal.returns-then-is_answered-clause-right
-returns-then-is_answered-clause-right g c =
-    unread_entries (as_scope c.args.scope) c.args.dw_unit.now c.forget.new.self Unread c.forget.ensures.right refl
+pub returns-then-is_answered : goal.returns-then-is_answered
+returns-then-is_answered g c =
+    let some : is_some (first_answer_of c.args.self.now) ≡ true = search rules in
+    record {
+      after = record {
+        right = unread_entries (as_scope c.args.scope) c.args.dw_unit.now c.forget.new.self Unread c.requires.right.in_order c.forget.ensures.after.right refl;
+        answer = c.forget.ensures.after.answer;
+        kept = λ none. absurd (answered_is_some _ some none);
+        empty = λ _. refl;
+      };
+    }
 
-pub returns-else-is_answered-clause-answer : goal.returns-else-is_answered-clause-answer
-returns-else-is_answered-clause-answer g c = no_answer (first_answer_of c.args.self.now) (search rules)
+pub returns-else-is_answered : goal.returns-else-is_answered
+returns-else-is_answered g c =
+    let none : is_some (first_answer_of c.args.self.now) ≡ false = search rules in
+    record {
+      after = record {
+        right = c.requires.right;
+        answer = no_answer (first_answer_of c.args.self.now) none;
+        kept = λ _. refl;
+        empty = λ some. absurd (false≢true (sym none ∙ some));
+      };
+    }

@@ -3,15 +3,18 @@ use Rattle.addr2line_units.proofs.ParsesAfterLemmas.{unit_after}
 use Rattle.addr2line_units.proofs.entries.UnitEntries.read.Goals as goal
 
 pub returns-in_err-answer : goal.returns-in_err-answer
-returns-in_err-answer g c = absurd (let no = c.in_err-answer.ensures.refused.2 in cc)
+returns-in_err-answer g c = absurd (let no = c.in_err-answer.ensures.after.refused.2 in cc)
+
+pub read_in_view-requires : goal.read_in_view-requires
+read_in_view-requires g c = record { right = c.in_ok-answer.ensures.after.right; decided = c.in_ok-answer.ensures.after.known }
 
 pub returns : goal.returns
 returns g c =
     let scope = as_scope c.args.scope in
     let u = c.args.dw_unit.now in
-    let e = c.in_ok-answer.ensures in
+    let a = c.in_ok-answer.ensures.after in
     let r = c.read_in_view in
     record {
-      gives = subst (λ a. ExactlyUnlessOom (λ y. y) r.result (read_of_view c.args.depth scope (verdict scope.file.sections u a))) e.answer r.ensures.gives;
-      after = unit_after g.R.Reader.shares c.args.depth scope u c.args.self.now c.answer.new.self r.new.functions c.requires.right e.functions (λ h. (e.kept h).0) e.answer e.known r.result r.ensures.after;
+      gives = subst (λ o. ExactlyUnlessOom (λ y. y) r.result (read_of_view c.args.depth scope (verdict scope.file.sections u o))) a.answer r.ensures.gives;
+      after = unit_after g.R.Reader.shares c.args.depth scope u c.args.self.now c.answer.new.self r.new.functions c.requires.right a r.result r.ensures.after;
     }

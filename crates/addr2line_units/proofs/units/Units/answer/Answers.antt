@@ -1,6 +1,5 @@
 use Rattle.addr2line_units.proofs.Common.{arith, option_map, subst, sym, AreEntriesOf, as_stop}
 use Rattle.addr2line_units.proofs.UnitsNumberLemmas.{answered_there, none_answered, refused_told}
-use Rattle.addr2line_units.proofs.UnitsStateLemmas.{some_given}
 use Rattle.addr2line_units.proofs.UnitsAtLemmas.{cache_within, its_entries, none_got, sections_seen, unit_got, units_with_entries}
 use Rattle.addr2line_units.proofs.units.Units.answer.Goals as goal
 
@@ -24,7 +23,7 @@ pub invariant_of-self-2 : goal.invariant_of-self-2
 invariant_of-self-2 g c =
     let there = unit_got c.scope-scope.ensures.gives c.args.number c.in-Some.ensures.lookup.0 c.in-Some.ensures.lookup.1 in
     units_with_entries c.self.invariant c.args.number there c.index_mut-cache.ensures.value _
-    (subst (λ S. AreEntriesOf S c.in-Some.dw_unit.now c.answer.new.self) c.scope-scope.ensures.gives c.answer.ensures.right)
+    (subst (λ S. AreEntriesOf S c.in-Some.dw_unit.now c.answer.new.self) c.scope-scope.ensures.gives c.answer.ensures.after.right)
 
 pub returns : goal.returns
 returns g c =
@@ -35,6 +34,6 @@ returns g c =
     let given = option_map (λ x. x.value) c.args.sections in
     let e = rw (c.scope-scope.ensures.gives, sections_seen c.scope-scope.ensures.gives) at c.answer.ensures in
     rw (sym c.self.view_is) (record {
-      after = answered_there i c.args.number there at c.answer.new.self given _ (some_given _ c.args.sections) s.steps (as_stop s.caches.items s.stop) e.right e.functions (λ h. (e.kept h).0) c.answer.result e.answer e.refused e.none;
+      after = answered_there i c.args.number there at c.answer.new.self given s.steps (as_stop s.caches.items s.stop) e.after;
       no_memory = λ none. refused_told i c.args.number there at given c.answer.result (e.exact none);
     })

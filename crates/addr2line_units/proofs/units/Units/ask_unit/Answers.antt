@@ -1,7 +1,7 @@
-use Rattle.addr2line_units.proofs.Common.{Err, Ok, arith, refl, subst, sym, ◌≡◌, err_from_is_err_and, set, WasNotRefused, IsScope, AreEntriesOf, as_stop, AreLinesOf, FindsNothing, found_stop, stop_at, IsFaultAt}
+use Rattle.addr2line_units.proofs.Common.{Err, Ok, arith, refl, subst, sym, ◌≡◌, err_from_is_err_and, set, WasNotRefused, IsCacheOf, as_stop, FindsNothing, found_stop, stop_at, IsFaultAt}
 use Rattle.addr2line_units.proofs.FramesAskLemmas.{after_asked, asked_err, asked_ok, none_after, none_gives, refused_alone, stop_lendable}
 use Rattle.addr2line_units.proofs.FramesLookupLemmas.{oom_after, oom_before}
-use Rattle.addr2line_units.proofs.UnitsAtLemmas.{cache_within, its_entries, its_lines, none_got, sections_seen, unit_got, units_with}
+use Rattle.addr2line_units.proofs.UnitsAtLemmas.{cache_within, its_cache, none_got, unit_got, units_with}
 use Rattle.addr2line_units.proofs.units.Units.ask_unit.Goals as goal
 
 pub returns-in_default-clause-gives : goal.returns-in_default-clause-gives
@@ -23,91 +23,61 @@ index_mut-cache-requires g c =
 
 pub find_frames_in-found-requires : goal.find_frames_in-found-requires
 find_frames_in-found-requires g c =
-    let i = c.self.invariant in
-    let seen = sym c.scope-scope.ensures.gives in
     let there = unit_got c.scope-scope.ensures.gives c.args.number c.in-Some.ensures.lookup.0 c.in-Some.ensures.lookup.1 in
-    let u = c.in-Some.dw_unit.now in
-    let v = c.index_mut-cache.result.now in
-    let at = c.index_mut-cache.ensures.value in
-    record {
-      in_order = subst IsScope seen i.in_order;
-      read = subst (λ y. AreLinesOf y.file.sections u v.lines.lines) seen (its_lines i c.args.number there at);
-      right = subst (λ y. AreEntriesOf y u v.entries) seen (its_entries i c.args.number there at);
-    }
+    record { right = subst (λ S. IsCacheOf S c.in-Some.dw_unit.now c.index_mut-cache.result.now) (sym c.scope-scope.ensures.gives) (its_cache c.self.invariant c.args.number there c.index_mut-cache.ensures.value) }
 
 pub invariant_of-self-in_err-found : goal.invariant_of-self-in_err-found
 invariant_of-self-in_err-found g c =
     let there = unit_got c.scope-scope.ensures.gives c.args.number c.in-Some.ensures.lookup.0 c.in-Some.ensures.lookup.1 in
-    let e = rw (c.scope-scope.ensures.gives, sections_seen c.scope-scope.ensures.gives) at c.find_frames_in-found.ensures in
-    units_with c.self.invariant c.args.number there _ e.read e.right tt
+    let e = rw c.scope-scope.ensures.gives at c.find_frames_in-found.ensures in
+    units_with c.self.invariant c.args.number there _ e.after.right tt
 
-pub returns-in_err-found-clause-gives : goal.returns-in_err-found-clause-gives
-returns-in_err-found-clause-gives g c =
+pub returns-in_err-found : goal.returns-in_err-found
+returns-in_err-found g c =
     let s = c.self.inside in
+    let i = c.self.invariant in
     let p = err_from_is_err_and c.from_residual.result c.from_residual.ensures.1 in
     let there = unit_got c.scope-scope.ensures.gives c.args.number c.in-Some.ensures.lookup.0 c.in-Some.ensures.lookup.1 in
-    let v = c.index_mut-cache.result.now in
+    let at = c.index_mut-cache.ensures.value in
     let found = c.find_frames_in-found in
-    let w = record v { lines = found.new.unit; entries = found.new.entries } in
-    let e = rw (c.scope-scope.ensures.gives, sections_seen c.scope-scope.ensures.gives) at found.ensures in
-    rw (p.1, p.2) (λ ne. subst (λ y. stop_at c.args.faults c.args.probe y c.args.number ≡ Err c.in_err-found.field-0.0) c.self.view_is
-    (asked_err c.self.invariant c.args.probe c.args.number s.steps (as_stop s.caches.items s.stop) there c.index_mut-cache.ensures.value w c.args.faults found.result e.gives _ (sym c.in_err-found.ensures.gives) ne))
-
-pub returns-in_err-found-clause-after : goal.returns-in_err-found-clause-after
-returns-in_err-found-clause-after g c =
-    let s = c.self.inside in
-    let p = err_from_is_err_and c.from_residual.result c.from_residual.ensures.1 in
-    let there = unit_got c.scope-scope.ensures.gives c.args.number c.in-Some.ensures.lookup.0 c.in-Some.ensures.lookup.1 in
-    let v = c.index_mut-cache.result.now in
-    let found = c.find_frames_in-found in
-    let w = record v { lines = found.new.unit; entries = found.new.entries } in
-    let e = rw (c.scope-scope.ensures.gives, sections_seen c.scope-scope.ensures.gives) at found.ensures in
-    rw (p.1, p.2, sym c.self.view_is) (after_asked c.self.invariant c.args.probe c.args.number s.steps (as_stop s.caches.items s.stop) there c.index_mut-cache.ensures.value w c.args.faults found.result e.gives e.unit e.after e.within e.kept e.ready e.known e.memory found.new.steps e.steps FindsNothing _ e.right
-    (λ told. oom_before c.args.faults found.result (subst WasNotRefused c.in_err-found.ensures.gives told)) (λ told. subst WasNotRefused (sym c.in_err-found.ensures.gives) (oom_after c.args.faults found.result told)) refl)
-
-pub returns-in_err-found-clause-no_memory : goal.returns-in_err-found-clause-no_memory
-returns-in_err-found-clause-no_memory g c =
-    let s = c.self.inside in
-    let p = err_from_is_err_and c.from_residual.result c.from_residual.ensures.1 in
-    let there = unit_got c.scope-scope.ensures.gives c.args.number c.in-Some.ensures.lookup.0 c.in-Some.ensures.lookup.1 in
-    let v = c.index_mut-cache.result.now in
-    let found = c.find_frames_in-found in
-    let w = record v { lines = found.new.unit; entries = found.new.entries } in
-    let e = rw (c.scope-scope.ensures.gives, sections_seen c.scope-scope.ensures.gives) at found.ensures in
-    rw (p.1, p.2) (λ none. subst (λ y. IsFaultAt c.args.probe y c.args.number c.in_err-found.field-0.0) c.self.view_is
-    (refused_alone c.self.invariant c.args.probe c.args.number s.steps (as_stop s.caches.items s.stop) there c.index_mut-cache.ensures.value w c.args.faults found.result e.gives e.unit e.after e.within e.kept e.ready e.known e.memory found.new.steps e.steps FindsNothing
-    g.R.Reader.shares e.no_memory c.in_err-found.field-0.0 (sym c.in_err-found.ensures.gives) none))
+    let w = found.new.cache in
+    let was = as_stop s.caches.items s.stop in
+    let e = rw c.scope-scope.ensures.gives at found.ensures in
+    let is = c.in_err-found.ensures.gives in
+    rw (p.1, p.2) (record {
+      gives = λ ne. subst (λ y. stop_at c.args.faults c.args.probe y c.args.number ≡ Err c.in_err-found.field-0.0) c.self.view_is
+          (asked_err i c.args.probe c.args.number s.steps was there at w c.args.faults found.result e.gives _ (sym is) ne);
+      after = rw (sym c.self.view_is) (after_asked i c.args.probe c.args.number s.steps was there at w c.args.faults found.result e.gives e.after found.new.steps e.steps FindsNothing _
+          (λ told. oom_before c.args.faults found.result (subst WasNotRefused is told)) (λ told. subst WasNotRefused (sym is) (oom_after c.args.faults found.result told)) refl);
+      no_memory = λ none. subst (λ y. IsFaultAt c.args.probe y c.args.number c.in_err-found.field-0.0) c.self.view_is
+          (refused_alone i c.args.probe c.args.number s.steps was there at w c.args.faults found.result e.gives e.after found.new.steps e.steps FindsNothing c.in_err-found.field-0.0 (sym is) none);
+    })
 
 pub invariant_of-self-2 : goal.invariant_of-self-2
 invariant_of-self-2 g c =
     let s = c.self.inside in
     let i = c.self.invariant in
     let there = unit_got c.scope-scope.ensures.gives c.args.number c.in-Some.ensures.lookup.0 c.in-Some.ensures.lookup.1 in
-    let v = c.index_mut-cache.result.now in
     let found = c.find_frames_in-found in
-    let w = record v { lines = found.new.unit; entries = found.new.entries } in
-    let e = rw (c.scope-scope.ensures.gives, sections_seen c.scope-scope.ensures.gives) at found.ensures in
-    rw c.stop_at.ensures.gives (units_with i c.args.number there _ e.read e.right
-    (stop_lendable i c.args.probe c.args.number s.steps (as_stop s.caches.items s.stop) there c.index_mut-cache.ensures.value w c.args.faults found.result e.gives e.unit e.after e.within e.kept e.ready e.known e.memory e.right e.there _ (sym c.in_ok-found.ensures.gives)))
+    let e = rw c.scope-scope.ensures.gives at found.ensures in
+    rw c.stop_at.ensures.gives (units_with i c.args.number there _ e.after.right
+    (stop_lendable i c.args.probe c.args.number s.steps (as_stop s.caches.items s.stop) there c.index_mut-cache.ensures.value found.new.cache c.args.faults found.result e.gives e.after _ (sym c.in_ok-found.ensures.gives)))
 
-pub returns-clause-gives : goal.returns-clause-gives
-returns-clause-gives g c =
+pub returns : goal.returns
+returns g c =
     let s = c.self.inside in
+    let i = c.self.invariant in
     let there = unit_got c.scope-scope.ensures.gives c.args.number c.in-Some.ensures.lookup.0 c.in-Some.ensures.lookup.1 in
-    let v = c.index_mut-cache.result.now in
+    let at = c.index_mut-cache.ensures.value in
     let found = c.find_frames_in-found in
-    let w = record v { lines = found.new.unit; entries = found.new.entries } in
-    let e = rw (c.scope-scope.ensures.gives, sections_seen c.scope-scope.ensures.gives) at found.ensures in
-    rw c.stop_at.ensures.gives (subst (λ y. stop_at c.args.faults c.args.probe y c.args.number ≡ Ok (as_stop (set s.caches.items c.args.number w) (found_stop c.args.number c.in_ok-found.found))) c.self.view_is
-    (asked_ok c.self.invariant c.args.probe c.args.number s.steps (as_stop s.caches.items s.stop) there c.index_mut-cache.ensures.value w c.args.faults found.result e.gives _ (sym c.in_ok-found.ensures.gives)))
-
-pub returns-clause-after : goal.returns-clause-after
-returns-clause-after g c =
-    let s = c.self.inside in
-    let there = unit_got c.scope-scope.ensures.gives c.args.number c.in-Some.ensures.lookup.0 c.in-Some.ensures.lookup.1 in
-    let v = c.index_mut-cache.result.now in
-    let found = c.find_frames_in-found in
-    let w = record v { lines = found.new.unit; entries = found.new.entries } in
-    let e = rw (c.scope-scope.ensures.gives, sections_seen c.scope-scope.ensures.gives) at found.ensures in
-    rw (sym c.self.view_is) (after_asked c.self.invariant c.args.probe c.args.number s.steps (as_stop s.caches.items s.stop) there c.index_mut-cache.ensures.value w c.args.faults found.result e.gives e.unit e.after e.within e.kept e.ready e.known e.memory found.new.steps e.steps _ _ e.right
-    (λ told. oom_before c.args.faults found.result (subst WasNotRefused c.in_ok-found.ensures.gives told)) (λ told. subst WasNotRefused (sym c.in_ok-found.ensures.gives) (oom_after c.args.faults found.result told)) tt)
+    let w = found.new.cache in
+    let was = as_stop s.caches.items s.stop in
+    let e = rw c.scope-scope.ensures.gives at found.ensures in
+    let is = c.in_ok-found.ensures.gives in
+    record {
+      gives = rw c.stop_at.ensures.gives (subst (λ y. stop_at c.args.faults c.args.probe y c.args.number ≡ Ok (as_stop (set s.caches.items c.args.number w) (found_stop c.args.number c.in_ok-found.found))) c.self.view_is
+          (asked_ok i c.args.probe c.args.number s.steps was there at w c.args.faults found.result e.gives _ (sym is)));
+      after = rw (sym c.self.view_is) (after_asked i c.args.probe c.args.number s.steps was there at w c.args.faults found.result e.gives e.after found.new.steps e.steps _ _
+          (λ told. oom_before c.args.faults found.result (subst WasNotRefused is told)) (λ told. subst WasNotRefused (sym is) (oom_after c.args.faults found.result told)) tt);
+      no_memory = λ none. tt;
+    }

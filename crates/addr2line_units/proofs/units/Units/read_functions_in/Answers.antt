@@ -1,4 +1,4 @@
-use Rattle.addr2line_units.proofs.Common.{Ok, arith, subst, sym, ExactlyUnlessOom, IsScope, AreEntriesOf, first_answer_of, as_stop, read_of_number, read_of_unit, UnitsState}
+use Rattle.addr2line_units.proofs.Common.{Ok, arith, subst, sym, ExactlyUnlessOom, AreEntriesOf, first_answer_of, as_stop, read_of_number, read_of_unit, UnitsState}
 use Rattle.addr2line_units.specs.ParsesAfter.{AfterReadingUnit}
 use Rattle.addr2line_units.proofs.ParsesAtLemmas.{after_there, none_after, none_gives, reading_was}
 use Rattle.addr2line_units.proofs.UnitsAtLemmas.{cache_within, its_entries, none_got, unit_got, units_with_entries}
@@ -23,10 +23,7 @@ pub read-requires : goal.read-requires
 read-requires g c =
     let gives = c.scope-scope.ensures.gives in
     let there = unit_got gives c.args.number c.in-Some.ensures.lookup.0 c.in-Some.ensures.lookup.1 in
-    record {
-      in_order = subst IsScope (sym gives) c.self.invariant.in_order;
-      right = subst (λ S. AreEntriesOf S c.in-Some.dw_unit.now c.index_mut-cache.result.now.entries) (sym gives) (its_entries c.self.invariant c.args.number there c.index_mut-cache.ensures.value);
-    }
+    record { right = subst (λ S. AreEntriesOf S c.in-Some.dw_unit.now c.index_mut-cache.result.now.entries) (sym gives) (its_entries c.self.invariant c.args.number there c.index_mut-cache.ensures.value) }
 
 pub invariant_of-self-2 : goal.invariant_of-self-2
 invariant_of-self-2 g c =

@@ -1,4 +1,5 @@
-use Rattle.addr2line_units.proofs.Common.{Err, Ok, arith, false, slice_get, subst, sym, ◌≡◌, IfErr, ExactlyUnlessOom, lines_take_memory, as_stop, AreLinesOf, cached_lines, lines_result, lines_result_at, UnitsState}
+use Rattle.addr2line_units.proofs.Common.{Ok, arith, slice_get, subst, sym, ◌≡◌, ExactlyUnlessOom, as_stop, AreLinesOf, cached_lines, lines_result, lines_result_at, UnitsState}
+use Rattle.addr2line_units.specs.CacheAfter.{AfterLinesOf}
 use Rattle.addr2line_units.proofs.LocationsAtLemmas.{caching_after, none_after_caching, none_read, read_there}
 use Rattle.addr2line_units.proofs.UnitsAtLemmas.{cache_within, its_lines, none_got, sections_seen, unit_got, units_with_lines}
 use Rattle.addr2line_units.proofs.UnitsLinesLemmas.{answer_cached}
@@ -23,13 +24,13 @@ index_mut-cache-requires g c =
 pub read_lines-requires : goal.read_lines-requires
 read_lines-requires g c =
     let there = unit_got c.scope-scope.ensures.gives c.args.number c.in-Some.ensures.lookup.0 c.in-Some.ensures.lookup.1 in
-    record { read = subst (λ y. AreLinesOf y c.in-Some.dw_unit.now c.index_mut-cache.result.now.lines.lines) (sym (sections_seen c.scope-scope.ensures.gives)) (its_lines c.self.invariant c.args.number there c.index_mut-cache.ensures.value) }
+    record { right = subst (λ y. AreLinesOf y c.in-Some.dw_unit.now c.index_mut-cache.result.now.lines.lines) (sym (sections_seen c.scope-scope.ensures.gives)) (its_lines c.self.invariant c.args.number there c.index_mut-cache.ensures.value) }
 
 pub invariant_of-self-2 : goal.invariant_of-self-2
 invariant_of-self-2 g c =
     let there = unit_got c.scope-scope.ensures.gives c.args.number c.in-Some.ensures.lookup.0 c.in-Some.ensures.lookup.1 in
     units_with_lines c.self.invariant c.args.number there c.index_mut-cache.ensures.value _
-    (subst (λ y. AreLinesOf y c.in-Some.dw_unit.now c.read_lines.new.self.lines) (sections_seen c.scope-scope.ensures.gives) c.read_lines.ensures.read)
+    (subst (λ y. AreLinesOf y c.in-Some.dw_unit.now c.read_lines.new.self.lines) (sections_seen c.scope-scope.ensures.gives) c.read_lines.ensures.after.right)
 
 pub returns : goal.returns
 returns g c =
@@ -45,8 +46,8 @@ returns g c =
     let e = c.read_lines.ensures in
     let is = sections_seen c.scope-scope.ensures.gives in
     let told = subst (λ d. ExactlyUnlessOom (λ _. cached_lines l.lines) r (lines_result d u)) is e.gives in
-    let alone = subst (λ d. lines_take_memory g.R.Reader.shares u ≡ false → IfErr r (λ x. lines_result d u ≡ Err x)) is e.no_memory in
+    let a = subst (λ d. AfterLinesOf g.R.Reader.shares d u r v.lines l) is e.after in
     record {
-      gives = subst (λ (y : UnitsState). ExactlyUnlessOom (λ x. x) r (lines_result_at y.scope.file.sections (slice_get y.units c.args.number))) c.self.view_is (read_there i c.args.number s.steps was there at l (record { language = e.kept; lines = e.after }) (cached_lines l.lines) r told);
-      after = rw (sym c.self.view_is) (caching_after i c.args.number s.steps was there at l (record { language = e.kept; lines = e.after }) g.R.Reader.shares r (answer_cached v.lines.lines r l.lines e.known) e.memory alone);
+      gives = subst (λ (y : UnitsState). ExactlyUnlessOom (λ x. x) r (lines_result_at y.scope.file.sections (slice_get y.units c.args.number))) c.self.view_is (read_there i c.args.number s.steps was there at l a.stay (cached_lines l.lines) r told);
+      after = rw (sym c.self.view_is) (caching_after i c.args.number s.steps was there at l a.stay g.R.Reader.shares r (answer_cached v.lines.lines r l.lines a.known) a.memory a.no_memory);
     }

@@ -1,0 +1,21 @@
+use Rattle.addr2line_units.proofs.Common.{◌≡◌, false, rules, true, err_from_is_err_and, is_uncached}
+use Rattle.addr2line_units.proofs.UnitLinesLemmas.{cached_after, parsed_after, unparsed_after}
+use Rattle.addr2line_units.proofs.unit.UnitLines.cache_lines.Goals as goal
+
+pub returns-in_err-self-clause-after : goal.returns-in_err-self-clause-after
+returns-in_err-self-clause-after g c =
+    let p = err_from_is_err_and c.from_residual.result c.from_residual.ensures.1 in
+    let e = c.in_err-self.ensures in
+    let uncached : is_uncached c.args.self.now.lines ≡ true = search rules in
+    rw (p.1, p.2) (unparsed_after g.R.Reader.shares c.args.dwarf.now c.args.dw_unit.now c.args.self.now c.in_err-self.field-0.0 uncached e.refused c.requires.right e.no_memory)
+
+pub returns-in_ok-self-clause-after : goal.returns-in_ok-self-clause-after
+returns-in_ok-self-clause-after g c =
+    let e = c.in_ok-self.ensures in
+    let uncached : is_uncached c.args.self.now.lines ≡ true = search rules in
+    parsed_after g.R.Reader.shares c.args.dwarf.now c.args.dw_unit.now c.args.self.now c.in_ok-self.field-0 uncached e.read e.known
+
+pub returns-else-is_uncached-clause-after : goal.returns-else-is_uncached-clause-after
+returns-else-is_uncached-clause-after g c =
+    let cached : is_uncached c.args.self.now.lines ≡ false = search rules in
+    cached_after g.R.Reader.shares c.args.dwarf.now c.args.dw_unit.now c.args.self.now cached c.requires.right

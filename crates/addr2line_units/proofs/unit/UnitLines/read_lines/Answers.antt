@@ -1,0 +1,13 @@
+use Rattle.addr2line_units.proofs.Common.{err_from_is_err_and}
+use Rattle.addr2line_units.proofs.UnitLinesLemmas.{lines_told}
+use Rattle.addr2line_units.proofs.unit.UnitLines.read_lines.Goals as goal
+
+pub returns-in_err-cache_lines : goal.returns-in_err-cache_lines
+returns-in_err-cache_lines g c =
+    let p = err_from_is_err_and c.from_residual.result c.from_residual.ensures.1 in
+    rw (p.1, p.2) (record { gives = λ ne. absurd (ne c.in_err-cache_lines.ensures.refused); after = c.in_err-cache_lines.ensures.after })
+
+pub returns : goal.returns
+returns g c =
+    let told = lines_told c.check_lines.result c.in_ok-cache_lines.ensures.after c.check_lines.ensures.gives in
+    record { gives = told.0; after = told.1 }

@@ -1,4 +1,5 @@
 use Rattle.addr2line_units.proofs.Common.{Err, Ok, arith, refl, subst, sym, ◌≡◌, err_from_is_err_and, set, WasNotRefused, IsScope, AreEntriesOf, as_stop, AreLinesOf, FindsNothing, found_stop, stop_at, IsFaultAt}
+use Rattle.addr2line_units.specs.declared.frames.Asks.TheVariants as lookups
 use Rattle.addr2line_units.proofs.FramesAskLemmas.{after_asked, asked_err, asked_ok, none_after, none_gives, refused_alone, stop_lendable}
 use Rattle.addr2line_units.proofs.FramesLookupLemmas.{oom_after, oom_before}
 use Rattle.addr2line_units.proofs.UnitsAtLemmas.{cache_within, its_entries, its_lines, none_got, sections_seen, unit_got, units_with}
@@ -8,13 +9,13 @@ pub returns-in_default-clause-gives : goal.returns-in_default-clause-gives
 returns-in_default-clause-gives g c =
     let s = c.self.inside in
     let none = none_got c.scope-scope.ensures.gives c.args.number c.in_default.ensures.lookup.0 in
-    subst (λ y. stop_at c.args.faults c.args.probe y c.args.number ≡ Ok FindsNothing) c.self.view_is (none_gives c.self.invariant c.args.probe c.args.number s.steps (as_stop s.caches.items s.stop) none c.args.faults)
+    subst (λ y. stop_at (lookups.Frames c.args.faults) c.args.probe y c.args.number ≡ Ok FindsNothing) c.self.view_is (none_gives c.self.invariant c.args.probe c.args.number s.steps (as_stop s.caches.items s.stop) none c.args.faults)
 
 pub returns-in_default-clause-after : goal.returns-in_default-clause-after
 returns-in_default-clause-after g c =
     let s = c.self.inside in
     let none = none_got c.scope-scope.ensures.gives c.args.number c.in_default.ensures.lookup.0 in
-    rw (sym c.self.view_is) (none_after c.self.invariant c.args.probe c.args.number s.steps (as_stop s.caches.items s.stop) none)
+    rw (sym c.self.view_is) (none_after c.self.invariant c.args.probe c.args.number s.steps (as_stop s.caches.items s.stop) none c.args.faults)
 
 pub index_mut-cache-requires : goal.index_mut-cache-requires
 index_mut-cache-requires g c =
@@ -50,7 +51,7 @@ returns-in_err-found-clause-gives g c =
     let found = c.find_frames_in-found in
     let w = record v { lines = found.new.unit; entries = found.new.entries } in
     let e = rw (c.scope-scope.ensures.gives, sections_seen c.scope-scope.ensures.gives) at found.ensures in
-    rw (p.1, p.2) (λ ne. subst (λ y. stop_at c.args.faults c.args.probe y c.args.number ≡ Err c.in_err-found.field-0.0) c.self.view_is
+    rw (p.1, p.2) (λ ne. subst (λ y. stop_at (lookups.Frames c.args.faults) c.args.probe y c.args.number ≡ Err c.in_err-found.field-0.0) c.self.view_is
     (asked_err c.self.invariant c.args.probe c.args.number s.steps (as_stop s.caches.items s.stop) there c.index_mut-cache.ensures.value w c.args.faults found.result e.gives _ (sym c.in_err-found.ensures.gives) ne))
 
 pub returns-in_err-found-clause-after : goal.returns-in_err-found-clause-after
@@ -74,7 +75,7 @@ returns-in_err-found-clause-no_memory g c =
     let found = c.find_frames_in-found in
     let w = record v { lines = found.new.unit; entries = found.new.entries } in
     let e = rw (c.scope-scope.ensures.gives, sections_seen c.scope-scope.ensures.gives) at found.ensures in
-    rw (p.1, p.2) (λ none. subst (λ y. IsFaultAt c.args.probe y c.args.number c.in_err-found.field-0.0) c.self.view_is
+    rw (p.1, p.2) (λ none. subst (λ y. IsFaultAt (lookups.Frames c.args.faults) c.args.probe y c.args.number c.in_err-found.field-0.0) c.self.view_is
     (refused_alone c.self.invariant c.args.probe c.args.number s.steps (as_stop s.caches.items s.stop) there c.index_mut-cache.ensures.value w c.args.faults found.result e.gives e.unit e.after e.within e.kept e.ready e.known e.memory found.new.steps e.steps FindsNothing
     g.R.Reader.shares e.no_memory c.in_err-found.field-0.0 (sym c.in_err-found.ensures.gives) none))
 
@@ -98,7 +99,7 @@ returns-clause-gives g c =
     let found = c.find_frames_in-found in
     let w = record v { lines = found.new.unit; entries = found.new.entries } in
     let e = rw (c.scope-scope.ensures.gives, sections_seen c.scope-scope.ensures.gives) at found.ensures in
-    rw c.stop_at.ensures.gives (subst (λ y. stop_at c.args.faults c.args.probe y c.args.number ≡ Ok (as_stop (set s.caches.items c.args.number w) (found_stop c.args.number c.in_ok-found.found))) c.self.view_is
+    rw c.stop_at.ensures.gives (subst (λ y. stop_at (lookups.Frames c.args.faults) c.args.probe y c.args.number ≡ Ok (as_stop (set s.caches.items c.args.number w) (found_stop c.args.number c.in_ok-found.found))) c.self.view_is
     (asked_ok c.self.invariant c.args.probe c.args.number s.steps (as_stop s.caches.items s.stop) there c.index_mut-cache.ensures.value w c.args.faults found.result e.gives _ (sym c.in_ok-found.ensures.gives)))
 
 pub returns-clause-after : goal.returns-clause-after

@@ -6,21 +6,21 @@ pub returns-in_err-ask-clause-after : goal.returns-in_err-ask-clause-after
 returns-in_err-ask-clause-after g c =
     let p = err_from_is_err_and c.from_residual.result c.from_residual.ensures.1 in
     let e = c.in_err-ask.ensures in
-    rw (p.1, p.2) (fault_after c.args.faults c.args.probe (ranges_left c.args.ranges) c.in-Some.range (ranges_left c.next.new.self) (ranges_left c.loop-range.ranges) c.in-Some.ensures.steps c.args.self.now c.loop-range.self c.ask.new.self c.loop-range.invariant c.in_err-ask.field-0.0 e.after e.gives)
+    rw (p.1, p.2) (fault_after c.args.asks c.args.probe (ranges_left c.args.ranges) c.in-Some.range (ranges_left c.next.new.self) (ranges_left c.loop-range.ranges) c.in-Some.ensures.steps c.args.self.now c.loop-range.self c.ask.new.self c.loop-range.invariant c.in_err-ask.field-0.0 e.after e.gives)
 
 pub returns-then-has_stopped-clause-after : goal.returns-then-has_stopped-clause-after
 returns-then-has_stopped-clause-after g c =
     let e = c.in_ok-ask.ensures in
-    stop_after c.args.faults c.args.probe (ranges_left c.args.ranges) c.in-Some.range (ranges_left c.next.new.self) (ranges_left c.loop-range.ranges) c.in-Some.ensures.steps c.args.self.now c.loop-range.self c.ask.new.self c.loop-range.invariant tt e.after e.gives (sym c.if-has_stopped.ensures.gives)
+    stop_after c.args.asks c.args.probe (ranges_left c.args.ranges) c.in-Some.range (ranges_left c.next.new.self) (ranges_left c.loop-range.ranges) c.in-Some.ensures.steps c.args.self.now c.loop-range.self c.ask.new.self c.loop-range.invariant tt e.after e.gives (sym c.if-has_stopped.ensures.gives)
 
 pub loop-range-preserved : goal.loop-range-preserved
 loop-range-preserved g c =
     let e = c.in_ok-ask.ensures in
-    walked_on c.args.faults c.args.probe (ranges_left c.args.ranges) c.in-Some.range (ranges_left c.next.new.self) (ranges_left c.loop-range.ranges) c.in-Some.ensures.steps c.args.self.now c.loop-range.self c.ask.new.self c.loop-range.invariant tt e.after e.gives (sym c.if-has_stopped.ensures.gives)
+    walked_on c.args.asks c.args.probe (ranges_left c.args.ranges) c.in-Some.range (ranges_left c.next.new.self) (ranges_left c.loop-range.ranges) c.in-Some.ensures.steps c.args.self.now c.loop-range.self c.ask.new.self c.loop-range.invariant tt e.after e.gives (sym c.if-has_stopped.ensures.gives)
 
 pub returns-in_err-ask-clause-no_memory : goal.returns-in_err-ask-clause-no_memory
 returns-in_err-ask-clause-no_memory g c =
     let p = err_from_is_err_and c.from_residual.result c.from_residual.ensures.1 in
     let e = c.in_err-ask.ensures in
-    rw (p.1, p.2) (fault_alone c.args.faults c.args.probe (ranges_left c.args.ranges) c.in-Some.range (ranges_left c.next.new.self) (ranges_left c.loop-range.ranges) c.in-Some.ensures.steps c.args.self.now c.loop-range.self c.ask.new.self c.loop-range.invariant c.in_err-ask.field-0.0 e.after e.gives
+    rw (p.1, p.2) (fault_alone c.args.asks c.args.probe (ranges_left c.args.ranges) c.in-Some.range (ranges_left c.next.new.self) (ranges_left c.loop-range.ranges) c.in-Some.ensures.steps c.args.self.now c.loop-range.self c.ask.new.self c.loop-range.invariant c.in_err-ask.field-0.0 e.after e.gives
     g.R.Reader.shares e.no_memory)

@@ -1,5 +1,5 @@
 -- What a context has and what its sections give (on specs/Context.antt).
-use Rattle.addr2line.proofs.Common.{◌≡◌, ℕ, zero, suc, ◌≤◌, ◌&&◌, ◌||◌, inl, inr, Bool, true, false, List, [], ◌∷◌, length, map, slice_get, Option, Some, None, option_map, Result, Ok, Err, refl, sym, ap, subst, ◌∙◌, arith, ◌+◌, IfErr, OnOk, Error, ◌>>=◌, Exactly, ExactlyUnlessOom, fault_of, result_map, WasNotRefused, Sections, UnitRecord, Scope, UnitRange, cover, cover_range, FindsNothing, main_scope, LocationResult, first_location, all_lines, is_found, lines_of_unit, location_in, location_of, steps_along, or_first_location, spans_along, spans_of, AreAllParsed, AreParsed, AsksFor, LeadTo, ParsesOnly, StaysParsed, has_parsed, ready_along, NothingKnown, IndexedUnit, RangedUnit, has_lines, indexed_of, ranged_units, unit_ranges_from, UnitIndex, index_units, sup_units, UnitsState, first_state, new_units, AfterLookup, AfterRangeLookup, ContextState, IsContext, IsReady, IsUncovered, IsReadyForRange, LocatesNoMemory, Stays, lines_of_all, new_context, as_context, has_stopped, ends_lookup, located_frames, location_stop, stop_along, stop_of, asked_by, holds_along, takes_none_at, OutOfMemory}
+use Rattle.addr2line.proofs.Common.{◌≡◌, ℕ, zero, suc, ◌≤◌, ◌&&◌, ◌||◌, inl, inr, Bool, true, false, List, [], ◌∷◌, length, map, slice_get, Option, Some, None, option_map, Result, Ok, Err, refl, sym, ap, subst, ◌∙◌, arith, ◌+◌, IfErr, OnOk, Error, ◌>>=◌, Exactly, ExactlyUnlessOom, fault_of, result_map, WasNotRefused, Sections, UnitRecord, Scope, UnitRange, cover, cover_range, FindsNothing, main_scope, LocationResult, first_location, all_lines, is_found, lines_of_unit, location_in, location_of, steps_along, or_first_location, spans_along, spans_of, AreAllParsed, AreParsed, AsksFor, LeadTo, ParsesOnly, StaysParsed, has_parsed, ready_along, NothingKnown, IndexedUnit, RangedUnit, has_lines, indexed_of, ranged_units, unit_ranges_from, UnitIndex, index_units, sup_units, UnitsState, first_state, new_units, AfterLookup, AfterRangeLookup, ContextState, IsContext, IsReady, IsUncovered, IsReadyForRange, LocatesNoMemory, Stays, lines_of_all, new_context, as_context, has_stopped, ends_lookup, located_frames, location_stop, stop_along, stop_of, asked_by, holds_along, takes_none_at, OutOfMemory, LookupStop, Waits, Finds, location_found}
 use Rattle.std.specs.Prelude.{is_ok}
 use Rattle.addr2line_lines.specs.Location.{LineTable, Location, location_at}
 use Rattle.addr2line_lines.specs.Rows.{read_all}
@@ -29,6 +29,13 @@ same_bools (a ∷ p) (b ∷ q) e f h = ap (λ x. x ∷ q) (parsed_both a b (f 0)
 
 pub same_if_asked : (asks : ℕ → Type 0) (old new : UnitsState) → left.AfterLines asks old new → ((n : ℕ) → asks n → has_parsed old.parsed n ≡ true) → new.parsed ≡ old.parsed
 same_if_asked asks old new a ready = same_bools old.parsed new.parsed a.many a.parsed (λ n e. elim (a.only n e) [ inl p ↦ p | inr asked ↦ ready n asked ])
+
+-- where a location is found, a lookup has found something
+pub found_stopped : {X : Type 0} (see : X → Location) (x : Option X) (stop : LookupStop) → option_map see x ≡ location_found stop → is_found {X = X} (Ok x) ≡ true → has_stopped stop ≡ true
+found_stopped see None stop e h = absurd (let no : false ≡ true = h in cc)
+found_stopped see (Some y) (Waits n) e h = refl
+found_stopped see (Some y) (Finds n frames) e h = refl
+found_stopped see (Some y) FindsNothing e h = absurd cc
 
 -- a lookup that is ready asks for lines that are parsed
 asked_ready : (d : Sections) (us : List IndexedUnit) (p : List Bool) (probe : ℕ) (ranges : List UnitRange) → ready_along d us p probe ranges ≡ true → (n : ℕ) → AsksFor d us probe ranges n → has_parsed p n ≡ true

@@ -1,5 +1,6 @@
 -- The lines of the unit of a number (on specs/UnitsAsked.antt and specs/UnitsStored.antt).
 use Rattle.addr2line_units.proofs.Common.{◌≡◌, inl, ℕ, ◌+◌, ◌<◌, ◌≤◌, Bool, true, false, List, length, get_or, slice_get, Option, Some, None, Result, Ok, Err, refl, sym, ap, subst, ◌∙◌, arith, set, false≢true, IfErr, Error, ExactlyUnlessOom, WasNotRefused, Sections, UnitRecord, LineTable, location_of_row, Scope, FramesStop, UnitLines, UnitCache, AfterCachingAt, lines_of_take_memory, lines_take_memory, AreLinesOf, CachesResult, StaysUnit, StayUnits, cached_files, indexed_unit, is_uncached, lines_result, lines_result_at, parsed_units, FindsNothing, LookupStop, is_found, location_in, steps_in, has_parsed, AreUnits, as_units_state, UnitsState, ◌≢◌, ◌>>=◌, LazyLines, AfterAsk, AreRead, IsLendable, IsFaultAt, takes_none_at, location_frames, Finds, as_stop, has_stopped, or_stop, parses_no_memory, row_stop, stop_at, unit_lines, location_at, IndexedUnit, LocationResult, OutOfMemory, Location}
+use Rattle.std.proofs.Math.Seq.{lt-length-set}
 use Rattle.std.specs.Prelude.{option_map}
 use Rattle.addr2line_lines.specs.declared.row.Row.{Row}
 use Rattle.addr2line_units.specs.declared.frames.Asks.TheVariants as lookups
@@ -83,7 +84,7 @@ module _ {R : Type 0} {scope : Scope} {cs : List (UnitCache R)} {last : FramesSt
           lines_after later stop = after_lines scope cs now stay (same_entries_set cs n c with_lines at refl) steps later was stop (λ k. k ≡ n) (only_set cs n with_lines)
 
           -- what a lookup of a location comes to, by what is found in the lines
-          by_location : LocationResult → Result LookupStop Error
+          abbrev by_location : LocationResult → Result LookupStop Error
           by_location found = (found >>= λ location. Ok (Some (location_frames location))) >>= or_stop n (Ok FindsNothing)
 
           located_here : (probe : ℕ) → stop_at lookups.Location probe old n ≡ by_location (location_in d probe (Some (indexed_unit u c.lines)))
@@ -103,7 +104,7 @@ module _ {R : Type 0} {scope : Scope} {cs : List (UnitCache R)} {last : FramesSt
           pub row_lendable : (probe : ℕ) (row : Option Row) → AreLinesOf d u l.lines → is_uncached l.lines ≡ false → location_in d probe (Some (indexed_unit u c.lines)) ≡ Ok (option_map (location_of_row (cached_files l.lines)) row) → IsLendable now (row_stop n row)
           row_lendable probe None right cached gives = tt
           row_lendable probe (Some row) right cached gives = record {
-            unit = subst (λ m. n < m) (sym (length_set cs n with_lines)) within;
+            unit = lt-length-set cs n with_lines within;
             function = tt;
             lines = subst AreRead (sym (lines_set cs n with_lines within)) (read_if_found d u probe l.lines _ right cached gives);
           }

@@ -1,6 +1,6 @@
 -- Lookups of locations and parses of lines, one unit after another (on specs/UnitsAfter.antt and
 -- specs/UnitsAsked.antt).
-use Rattle.addr2line_units.proofs.Common.{◌≡◌, ◌≢◌, inl, inr, ℕ, ◌+◌, ◌<◌, ◌≤◌, Bool, true, false, List, [], ◌∷◌, drop, length, slice_get, Some, None, Result, Ok, Err, refl, sym, ap, subst, ◌∙◌, arith, AllByRecursion, Error, OutOfMemory, ◌>>=◌, ExactlyUnlessOom, fault_of, Sections, Asks, UnitRange, AfterCachingAt, lines_result_at, location_frames, FindsNothing, LookupStop, ends_lookup, located_frames, location_found, or_stop, stop_along, LocationResult, all_lines, first_location, location_in, or_first_location, AllAskFor, AreAllParsed, AreParsed, AsksFor, LeadTo, StaysParsed, has_parsed, parses_no_memory, IndexedUnit, FramesResult, UnitsState, stop_of}
+use Rattle.addr2line_units.proofs.Common.{◌≡◌, ◌≢◌, inl, inr, ℕ, ◌+◌, ◌<◌, ◌≤◌, Bool, true, false, List, [], ◌∷◌, drop, length, slice_get, Some, None, Result, Ok, Err, refl, sym, ap, subst, ◌∙◌, arith, AllByRecursion, Error, OutOfMemory, ◌>>=◌, ExactlyUnlessOom, fault_of, Sections, Asks, UnitRange, AfterCachingAt, lines_result_at, location_frames, FindsNothing, LookupStop, ends_lookup, located_frames, location_found, or_stop, stop_along, LocationResult, all_lines, first_location, location_in, or_first_location, AllAskFor, AreAllParsed, AreParsed, AsksFor, LeadTo, StaysParsed, has_parsed, parses_no_memory, IndexedUnit, FramesResult, UnitsState, stop_of, Option, reverse, DwLang, InlinedEntry, Location, FoundFunction, found_frames, frames_from, first_frame_location}
 use Rattle.addr2line_units.specs.declared.frames.Asks.TheVariants as lookups
 use Rattle.addr2line_units.specs.UnitsAfter.{AfterCaching, AfterLineParse, AfterLines}
 use Rattle.addr2line_units.proofs.UnitsLinesLemmas.{all_parsed, asks_more, lines_end, lines_more, lines_stop, only_more, parsed_below, readable, ready_at_fault}
@@ -29,6 +29,16 @@ module _ (d : Sections) (units : List IndexedUnit) (probe : ℕ) where
       of_location (Ok None) e = e
       of_location (Ok (Some x)) e = refl
       of_location (Err x) e = refl
+
+-- the first of the frames that were found has the location of the address
+pub first_found : (files : List (List ℕ)) (language : Option DwLang) (f : Option FoundFunction) (location : Option Location) → first_frame_location (found_frames files language f location) ≡ location
+first_found files language None None = refl
+first_found files language None (Some l) = refl
+first_found files language (Some f) location = of_entries (reverse f.inlined)
+  where
+    of_entries : (es : List InlinedEntry) → first_frame_location (frames_from files language f.offset f.name es location) ≡ location
+    of_entries [] = refl
+    of_entries (e ∷ es) = refl
 
 -- what is told of a lookup is told of the location that it has found
 pub location_told : {X : Type 0} (asks : Asks) (probe : ℕ) (ranges : List UnitRange) (old : UnitsState) (result : Result X Error) (stop : LookupStop) → ExactlyUnlessOom (λ _. stop) result (stop_of asks probe old ranges) → asks ≡ lookups.Location

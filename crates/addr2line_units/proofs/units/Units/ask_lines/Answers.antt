@@ -1,4 +1,4 @@
-use Rattle.addr2line_units.proofs.Common.{◌+◌, ◌≤◌, Err, Ok, Some, arith, refl, subst, sym, ◌≡◌, ◌≢◌, OutOfMemory, err_from_is_err_and, false, IfErr, option_map, location_of_row, lines_take_memory, as_stop, AreLinesOf, cached_files, indexed_unit, location_in, steps_in, row_stop, stop_at, set, FindsNothing, IsFaultAt}
+use Rattle.addr2line_units.proofs.Common.{◌+◌, ◌≤◌, Err, Ok, Some, arith, refl, subst, sym, ◌≡◌, ◌≢◌, OutOfMemory, err_from_is_err_and, false, option_map, location_of_row, lines_take_memory, as_stop, AreLinesOf, cached_files, indexed_unit, location_in, steps_in, row_stop, stop_at, set, FindsNothing, IsFaultAt}
 use Rattle.addr2line_units.specs.declared.frames.Asks.TheVariants as lookups
 use Rattle.addr2line_units.proofs.LocationsAtLemmas.{fault_after, none_after_row, none_row, row_after, row_alone, row_fault, row_lendable, row_told}
 use Rattle.addr2line_units.proofs.UnitsAtLemmas.{cache_within, its_entries, its_lines, none_got, sections_seen, unit_got, units_with, units_with_lines}

@@ -21,18 +21,18 @@ pub use Rattle.addr2line_units.proofs.LoadsLawLemmas.{answered_load, fewer_left,
 pub use Rattle.addr2line_units.specs.IndexCover.{cover, cover_range, holds_until}
 pub use Rattle.addr2line_units.specs.Frames.{FoundFunction, FrameRecord, found_frames, frames_from}
 pub use Rattle.addr2line_units.specs.FramesLeft.{frames_left}
-pub use Rattle.addr2line_units.specs.FramesLookup.{Finds, FindsNothing, LookupAsks, LookupStop, Waits, after_fault, answer_of, asked_frames, asks_lines_of, ends_lookup, frames_of_number, function_offset_of, holds_along, inlined_at_number, is_waiting, main_scope, or_stop, readable_view, stop_along, unit_found, view_of_number, with_answer}
+pub use Rattle.addr2line_units.specs.FramesLookup.{Finds, FindsNothing, LookupAsks, LookupStop, Waits, after_fault, answer_of, asked_frames, asks_lines_of, ends_lookup, frames_of_number, function_offset_of, holds_along, inlined_at_number, is_waiting, main_scope, or_stop, readable_view, stop_along, unit_found, view_of_number, with_answer, has_stopped, located_frames, location_found}
 pub use Rattle.addr2line_units.specs.EntriesKnown.{KnownEntries, LearnsDetailsAt, LearnsNoDetails, NothingKnown, knows_at}
 pub use Rattle.addr2line_units.specs.Loads.{NoneOpen, before_others, forget_result, forgotten, is_of_other, is_open_at, load_of_number, load_result, loads_along}
 pub use Rattle.addr2line_units.specs.Locations.{LocationResult, all_lines, first_location, is_found, lines_of_unit, location_in, location_of, steps_along, or_first_location, spans_along, spans_of}
-pub use Rattle.addr2line_units.specs.LocationsParsed.{AllAskFor, AreAllParsed, AreParsed, AreReadyForAll, AsksFor, LeadTo, ParsesOnly, StaysParsed, TakeNone, TakeNoneForAll, decides, has_parsed, ready_along, takes_none_along, unit_decides}
+pub use Rattle.addr2line_units.specs.LocationsParsed.{AllAskFor, AreAllParsed, AreParsed, AreReadyForAll, AsksFor, LeadTo, ParsesOnly, StaysParsed, TakeNone, TakeNoneForAll, has_parsed, ready_along, takes_none_along}
 pub use Rattle.addr2line_units.specs.UnitsRanged.{IndexedUnit, RangedUnit, has_lines, indexed_of, ranged_units, unit_ranges_from, unit_records}
 pub use Rattle.addr2line_units.specs.EntriesStayKnown.{IsReadyAt, StaysKnown, StaysKnownOf}
 pub use Rattle.addr2line_units.specs.Continuation.{IfLoad, IfOutput, IsOkOutput, SkipsTo}
 pub use Rattle.addr2line_units.specs.EntriesFrames.{FramesResult, frames_by, function_by, function_in, function_offset_by}
 unfoldable pub use Rattle.addr2line_units.specs.EntriesFrames.{asks_lines_in, frames_in, function_offset_in}
 pub use Rattle.addr2line_units.specs.UnitsIndex.{UnitIndex, index_units, sup_units}
-pub use Rattle.addr2line_units.specs.UnitsState.{UnitsState, asked_by, asks_no_memory_at, first_state, has_all_at, has_few_at, new_units, row_location, stop_of, waiting_unit}
+pub use Rattle.addr2line_units.specs.UnitsState.{UnitsState, asked_by, asks_no_memory_at, first_state, has_all_at, has_few_at, new_units, stop_of, waiting_unit, takes_none_at}
 pub use Rattle.addr2line_units.specs.UnitView.{FirstAnswers, SplitLoad, View, awaited_by, awaited_load, decided_answer, first_unit, is_open, load_by, parts_of, verdict, verdict_by}
 unfoldable pub use Rattle.addr2line_units.specs.UnitView.{load_of_unit, split_name_of}
 pub use Rattle.addr2line_units.specs.declared.continuation.LookupResult.{LookupResult}
@@ -42,7 +42,7 @@ pub use Rattle.addr2line_units.specs.declared.frames.OnFault.TheVariants.{Skip, 
 pub use Rattle.addr2line_units.specs.declared.index.UnitRange.{UnitRange}
 pub use Rattle.addr2line.specs.AfterLookups.{AfterFrames, AfterFramesOver, IsKnown, IsKnownFew, IsLent, IsStored, NeedsNoMemory, ReadsAsked, Suspends, TakesMemory, has_few_of}
 pub use Rattle.addr2line.specs.Answers.{AfterAnswering, AfterResume, SuspendsAgain, answered, load_reply}
-pub use Rattle.addr2line.specs.Context.{AfterLookup, AfterRangeLookup, ContextState, IsContext, IsReady, IsReadyForRange, IsUncovered, LocatesNoMemory, Stays, lines_of_all, new_context, as_context}
+pub use Rattle.addr2line.specs.Context.{AfterLookup, AfterRangeLookup, ContextState, IsContext, IsReady, IsReadyForRange, IsUncovered, LocatesNoMemory, Stays, lines_of_all, new_context, as_context, location_stop}
 pub use Rattle.addr2line.specs.Files.{Files, ReadFiles, as_read, as_read_if_known, listed_files, as_named_file}
 pub use Rattle.addr2line.specs.History.{Abandoned, AfterCall, AfterCalls, Answered, AnswersLoad, AsksFrames, AsksLoads, AsksLocation, AsksRange, AsksUnit, Forgets, Given, HasBegun, HistoryCall, IsCutShort, Leaves, ParsesFunctions, ParsesLines, answers_after, answers_given, answers_left, frames_replied, replies_to, reply_to, unit_replied, where_waiting}
 pub use Rattle.addr2line.specs.Loads.{AfterForgetting, AfterLoading, AfterParse, AfterPreload, IsAllKnown, IsNotOpen, NoneOpenAt, ReachesAllOf, ReadsFunctionsNoMemory, StaysRead, forget_reply, parse_reply, parsed_answers}

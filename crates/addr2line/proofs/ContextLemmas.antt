@@ -1,11 +1,14 @@
 -- What a context has and what its sections give (on specs/Context.antt).
-use Rattle.addr2line.proofs.Common.{◌≡◌, ℕ, zero, suc, ◌≤◌, ◌&&◌, ◌||◌, inl, inr, Bool, true, false, List, [], ◌∷◌, length, map, slice_get, Option, Some, None, option_map, Result, Ok, Err, refl, sym, ap, subst, ◌∙◌, arith, ◌+◌, IfErr, OnOk, Error, ◌>>=◌, Exactly, ExactlyUnlessOom, fault_of, result_map, WasNotRefused, Sections, UnitRecord, Scope, UnitRange, cover, cover_range, FindsNothing, main_scope, LocationResult, first_location, all_lines, is_found, lines_of_unit, location_in, location_of, steps_along, or_first_location, spans_along, spans_of, AreAllParsed, AreParsed, AsksFor, LeadTo, ParsesOnly, StaysParsed, decides, has_parsed, ready_along, takes_none_along, NothingKnown, IndexedUnit, RangedUnit, has_lines, indexed_of, ranged_units, unit_ranges_from, UnitIndex, index_units, sup_units, UnitsState, first_state, new_units, AfterLookup, AfterRangeLookup, ContextState, IsContext, IsReady, IsUncovered, IsReadyForRange, LocatesNoMemory, Stays, lines_of_all, new_context, as_context}
+use Rattle.addr2line.proofs.Common.{◌≡◌, ℕ, zero, suc, ◌≤◌, ◌&&◌, ◌||◌, inl, inr, Bool, true, false, List, [], ◌∷◌, length, map, slice_get, Option, Some, None, option_map, Result, Ok, Err, refl, sym, ap, subst, ◌∙◌, arith, ◌+◌, IfErr, OnOk, Error, ◌>>=◌, Exactly, ExactlyUnlessOom, fault_of, result_map, WasNotRefused, Sections, UnitRecord, Scope, UnitRange, cover, cover_range, FindsNothing, main_scope, LocationResult, first_location, all_lines, is_found, lines_of_unit, location_in, location_of, steps_along, or_first_location, spans_along, spans_of, AreAllParsed, AreParsed, AsksFor, LeadTo, ParsesOnly, StaysParsed, has_parsed, ready_along, NothingKnown, IndexedUnit, RangedUnit, has_lines, indexed_of, ranged_units, unit_ranges_from, UnitIndex, index_units, sup_units, UnitsState, first_state, new_units, AfterLookup, AfterRangeLookup, ContextState, IsContext, IsReady, IsUncovered, IsReadyForRange, LocatesNoMemory, Stays, lines_of_all, new_context, as_context, has_stopped, ends_lookup, located_frames, location_stop, stop_along, stop_of, asked_by, holds_along, takes_none_at, OutOfMemory, LookupStop, Waits, Finds, location_found}
 use Rattle.std.specs.Prelude.{is_ok}
 use Rattle.addr2line_lines.specs.Location.{LineTable, Location, location_at}
 use Rattle.addr2line_lines.specs.Rows.{read_all}
+use Rattle.addr2line_units.specs.declared.frames.Asks.TheVariants as lookups
 use Rattle.addr2line_units.specs.UnitsAfter as left
 use Rattle.addr2line_units.proofs.UnitsNewLemmas.{ok_is}
-use Rattle.addr2line_units.proofs.UnitsLinesLemmas.{parsed_none_along, ready_both, ready_first}
+use Rattle.addr2line_units.proofs.FramesLookupLemmas.{holds_both, holds_first, holds_rest}
+use Rattle.addr2line_units.proofs.LocationsWalkLemmas.{located_fault}
+use Rattle.addr2line_units.proofs.UnitsLinesLemmas.{parsed_none_along}
 
 -- an answer that isn't OutOfMemory is exactly what is given
 pub exactly_told : {X Y : Type 0} (see : X → Y) (r : Result X Error) (given : Result Y Error) → ExactlyUnlessOom see r given → WasNotRefused r → Exactly see r given
@@ -27,21 +30,20 @@ same_bools (a ∷ p) (b ∷ q) e f h = ap (λ x. x ∷ q) (parsed_both a b (f 0)
 pub same_if_asked : (asks : ℕ → Type 0) (old new : UnitsState) → left.AfterLines asks old new → ((n : ℕ) → asks n → has_parsed old.parsed n ≡ true) → new.parsed ≡ old.parsed
 same_if_asked asks old new a ready = same_bools old.parsed new.parsed a.many a.parsed (λ n e. elim (a.only n e) [ inl p ↦ p | inr asked ↦ ready n asked ])
 
+-- where a location is found, a lookup has found something
+pub found_stopped : {X : Type 0} (see : X → Location) (x : Option X) (stop : LookupStop) → option_map see x ≡ location_found stop → is_found {X = X} (Ok x) ≡ true → has_stopped stop ≡ true
+found_stopped see None stop e h = absurd (let no : false ≡ true = h in cc)
+found_stopped see (Some y) (Waits n) e h = refl
+found_stopped see (Some y) (Finds n frames) e h = refl
+found_stopped see (Some y) FindsNothing e h = absurd cc
+
 -- a lookup that is ready asks for lines that are parsed
 asked_ready : (d : Sections) (us : List IndexedUnit) (p : List Bool) (probe : ℕ) (ranges : List UnitRange) → ready_along d us p probe ranges ≡ true → (n : ℕ) → AsksFor d us probe ranges n → has_parsed p n ≡ true
 asked_ready d us p probe [] ready n asked = absurd asked
-asked_ready d us p probe (r ∷ ranges) ready n asked = elim asked [ inl e ↦ ap (has_parsed p) e ∙ ready_first d us probe r ranges p ready | inr more ↦ asked_ready d us p probe ranges (rest (has_parsed p r.unit) (decides (location_in d probe (slice_get us r.unit))) (ready_along d us p probe ranges) more.0 ready) n more.1 ]
-  where
-    rest : (a b c : Bool) → b ≡ false → (a && (b || c)) ≡ true → c ≡ true
-    rest true false c e k = k
-    rest true true c e k = absurd (true_false e)
-      where
-        true_false : true ≡ false → ⊥
-        true_false h = cc
-    rest false b c e k = absurd (false_true k)
-      where
-        false_true : false ≡ true → ⊥
-        false_true h = cc
+asked_ready d us p probe (r ∷ ranges) ready n asked = elim asked [
+  | inl e ↦ ap (has_parsed p) e ∙ holds_first (located_frames d us probe) r ranges (has_parsed p) ready
+  | inr more ↦ asked_ready d us p probe ranges (holds_rest (located_frames d us probe) r ranges (has_parsed p) more.0 ready) n more.1
+]
 
 led_ready : (p : List Bool) (ranges : List UnitRange) → AreParsed p ranges → (n : ℕ) → LeadTo ranges n → has_parsed p n ≡ true
 led_ready p [] ready n led = absurd led
@@ -129,20 +131,26 @@ module _ (ranges : List UnitRange) (u : UnitsState) (i : IsContext ranges u) whe
     pub at_lines : (P : Scope → List IndexedUnit → List UnitRange → Type 0) → ((m : UnitIndex) → index_units now.scope.file.sections ≡ Ok m → P (main_scope now.scope.file.sections m) m.units m.ranges) → P u.scope u.units ranges
     at_lines = at_now now scope_same units_same
 
-  -- after a lookup of a row
-  module _ {Y : Type 0} (probe : ℕ) (r : Result (Option Y) Error) (now : UnitsState) (a : left.AfterRow probe (cover probe ranges) r u now) where
+  pub location_stop_is : (probe : ℕ) → location_stop d probe ≡ stop_of lookups.Location probe u (cover probe ranges)
+  location_stop_is probe = by_made (λ s xs rs. stop_along (located_frames s.file.sections xs probe) (cover probe rs))
+
+  -- after a lookup of a location
+  module _ {Y : Type 0} (probe : ℕ) (r : Result Y Error) (now : UnitsState) (a : left.AfterWalk lookups.Location probe (cover probe ranges) r u now) where
     abbrev asked : ℕ → Type 0
     asked = AsksFor d u.units probe (cover probe ranges)
 
     abbrev ready_by : List Bool → Scope → List IndexedUnit → List UnitRange → Type 0
     ready_by p s xs rs = ready_along s.file.sections xs p probe (cover probe rs) ≡ true
 
+    pub located_context : IsContext ranges now
+    located_context = lines_context asked now a.asked.lines
+
     pub ready_told : IsReady (as_context u) probe → WasNotRefused r
     ready_told ready = a.memory (more (cover probe ranges) (at_made (ready_by u.parsed) ready))
       where
         more : (rs : List UnitRange) → ready_along d u.units u.parsed probe rs ≡ true → ready_along d u.units now.parsed probe rs ≡ true
         more [] h = refl
-        more (x ∷ rs) h = step (has_parsed u.parsed x.unit) (has_parsed now.parsed x.unit) (decides (location_in d probe (slice_get u.units x.unit))) (ready_along d u.units u.parsed probe rs) (ready_along d u.units now.parsed probe rs) (a.lines.parsed x.unit) (more rs) h
+        more (x ∷ rs) h = step (has_parsed u.parsed x.unit) (has_parsed now.parsed x.unit) (ends_lookup (located_frames d u.units probe x.unit)) (ready_along d u.units u.parsed probe rs) (ready_along d u.units now.parsed probe rs) (a.asked.lines.parsed x.unit) (more rs) h
           where
             step : (p q e f g : Bool) → (p ≡ true → q ≡ true) → (f ≡ true → g ≡ true) → (p && (e || f)) ≡ true → (q && (e || g)) ≡ true
             step true true true f g k l h = refl
@@ -150,43 +158,53 @@ module _ (ranges : List UnitRange) (u : UnitsState) (i : IsContext ranges u) whe
             step true false e f g k l h = k refl
             step false q e f g k l h = cc
 
-    pub after_lookup : {X : Type 0} (result : Result (Option X) Error) → (WasNotRefused result → WasNotRefused r) → (WasNotRefused r → WasNotRefused result) → (is_found result ≡ true → is_found r ≡ true) → AfterLookup probe result (as_context u) (as_context now)
+    pub after_lookup : {X : Type 0} (result : Result (Option X) Error) → (WasNotRefused result → WasNotRefused r) → (WasNotRefused r → WasNotRefused result) → (is_found result ≡ true → has_stopped now.stop ≡ true) → AfterLookup probe result (as_context u) (as_context now)
     after_lookup result f h k = record {
-      stays = lines_stay asked now a.lines;
-      ready = λ told. of_lines asked now a.lines (ready_by now.parsed) (a.ready (f told));
-      memory = λ ready. h (a.memory (at_lines asked now a.lines (ready_by now.parsed) ready));
-      only = of_made (λ s xs rs. ParsesOnly (AsksFor s.file.sections xs probe (cover probe rs)) u.parsed now.parsed) a.lines.only;
-      same = λ ready. same_if_asked asked u now a.lines (asked_ready d u.units u.parsed probe (cover probe ranges) (at_made (ready_by u.parsed) ready));
-      raised = a.raised;
-      counted = λ found. a.counted (k found);
-      cost = of_made (λ s xs rs. now.steps ≤ u.steps + steps_along s.file.sections xs (cover probe rs)) a.cost;
+      stays = lines_stay asked now a.asked.lines;
+      ready = λ told. of_lines asked now a.asked.lines (ready_by now.parsed) (a.ready (f told));
+      memory = λ ready. h (a.memory (at_lines asked now a.asked.lines (ready_by now.parsed) ready));
+      only = of_made (λ s xs rs. ParsesOnly (AsksFor s.file.sections xs probe (cover probe rs)) u.parsed now.parsed) a.asked.lines.only;
+      same = λ ready. same_if_asked asked u now a.asked.lines (asked_ready d u.units u.parsed probe (cover probe ranges) (at_made (ready_by u.parsed) ready));
+      raised = a.asked.raised;
+      counted = λ found. a.asked.counted (k found);
+      cost = of_made (λ s xs rs. now.steps ≤ u.steps + steps_along s.file.sections xs (cover probe rs)) a.asked.cost;
     }
 
+    -- what is stored
+    pub stored_now : location_stop now.scope.file.sections probe ≡ stop_of lookups.Location probe u (cover probe ranges)
+    stored_now = ap (λ (x : UnitsState). location_stop x.scope.file.sections probe) a.asked.lines.same ∙ location_stop_is probe
+
     -- where the lookup takes no memory, a refusal is the fault of lines
-    pub located_alone : (shares : Bool) → (takes_none_along shares d u.units now.parsed probe (cover probe ranges) ≡ true → IfErr r (λ e. first_location d u.units probe (cover probe ranges) ≡ Err e))
+    pub located_alone : (shares : Bool) → (holds_along (takes_none_at shares lookups.Location probe now) (asked_by lookups.Location probe u) (cover probe ranges) ≡ true → IfErr r (left.IsFaultAlong lookups.Location probe u (cover probe ranges)))
         → LocatesNoMemory shares (as_context now) probe → IfErr r (λ e. location_of d probe ≡ Err e)
-    located_alone shares alone none = of_units r (alone (at_lines asked now a.lines (λ s xs rs. takes_none_along shares s.file.sections xs now.parsed probe (cover probe rs) ≡ true) none))
+    located_alone shares alone none = of_units r (alone (subst (λ (xs : List IndexedUnit). takes_none_by xs d u.units (cover probe ranges)) (sym (ap (λ (x : UnitsState). x.units) a.asked.lines.same)) given))
       where
-        of_units : (q : Result (Option Y) Error) → IfErr q (λ e. first_location d u.units probe (cover probe ranges) ≡ Err e) → IfErr q (λ e. location_of d probe ≡ Err e)
+        takes_none_by : List IndexedUnit → Sections → List IndexedUnit → List UnitRange → Type 0
+        takes_none_by xs s us rs = holds_along (parses_no_memory shares xs now.parsed) (located_frames s us probe) rs ≡ true
+
+        given : takes_none_by u.units d u.units (cover probe ranges)
+        given = at_lines asked now a.asked.lines (λ s xs rs. takes_none_by xs s.file.sections xs (cover probe rs)) none
+
+        of_units : (q : Result Y Error) → IfErr q (left.IsFaultAlong lookups.Location probe u (cover probe ranges)) → IfErr q (λ e. location_of d probe ≡ Err e)
         of_units (Ok x) h = tt
-        of_units (Err e) h = location_is probe ∙ h
+        of_units (Err e) h = location_is probe ∙ located_fault d u.units probe (cover probe ranges) h.0 e h.1 h.2
+
+    -- where no unit covers the probe no memory is taken
+    pub told_uncovered : cover probe ranges ≡ [] → WasNotRefused r
+    told_uncovered none = a.memory (subst (λ rs. ready_along d u.units now.parsed probe rs ≡ true) (sym none) refl)
 
   -- where the sections tell that no unit covers the probe, none does
   pub covers_none : (probe : ℕ) → IsUncovered (as_context u) probe → cover probe ranges ≡ []
   covers_none probe h = ap (cover probe) i.ranges ∙ ap (λ (m : UnitIndex). cover probe m.ranges) (ok_is i.made h.0 (sym i.indexed ∙ h.1)) ∙ h.2
 
-  -- where no unit covers the probe nothing is found, and no memory is taken
-  pub none_covered : {Y : Type 0} (see : Y → Location) (probe : ℕ) (r : Result (Option Y) Error) (now : UnitsState) → left.AfterRow probe (cover probe ranges) r u now → ExactlyUnlessOom (option_map see) r (first_location d u.units probe (cover probe ranges))
-      → cover probe ranges ≡ [] → r ≡ Ok None
-  none_covered see probe r now a gives none = of_result r (exactly_told (option_map see) r (first_location d u.units probe (cover probe ranges)) gives told)
-    where
-      told : WasNotRefused r
-      told = a.memory (subst (λ rs. ready_along d u.units now.parsed probe rs ≡ true) (sym none) refl)
+  -- where no unit covers the probe nothing is found
+  module _ (probe : ℕ) (none : cover probe ranges ≡ []) where
+    pub finds_none : {X : Type 0} (see : X → Location) (x : Option X) → first_location d u.units probe (cover probe ranges) ≡ Ok (option_map see x) → x ≡ None
+    finds_none see None h = refl
+    finds_none see (Some y) h = absurd (let e : ◌≡◌ {A = LocationResult} (Ok None) (Ok (Some (see y))) = sym (ap (first_location d u.units probe) none) ∙ h in cc)
 
-      of_result : (q : Result (Option _) Error) → Exactly (option_map see) q (first_location d u.units probe (cover probe ranges)) → q ≡ Ok None
-      of_result (Ok None) h = refl
-      of_result (Ok (Some y)) h = absurd (let e : ◌≡◌ {A = LocationResult} (Ok None) (Ok (Some (see y))) = sym (ap (first_location d u.units probe) none) ∙ h in cc)
-      of_result (Err e) h = absurd (let f : ◌≡◌ {A = LocationResult} (Ok None) (Err e) = sym (ap (first_location d u.units probe) none) ∙ h in cc)
+    pub has_no_fault : (e : Error) → first_location d u.units probe (cover probe ranges) ≡ Err e → ⊥
+    has_no_fault e h = let f : ◌≡◌ {A = LocationResult} (Ok None) (Err e) = sym (ap (first_location d u.units probe) none) ∙ h in cc
 
   -- after a lookup of a range
   pub after_range_lookup : {X Y : Type 0} (shares : Bool) (low high : ℕ) (r : Result Y Error) (now : UnitsState) → left.AfterCaching shares (cover_range low high ranges) r u now → (result : Result X Error) → (WasNotRefused result → OnOk r (AreParsed now.parsed (cover_range low high ranges)) → AreParsed now.parsed (cover_range low high ranges))
@@ -237,7 +255,7 @@ module _ (d : Sections) where
   -- where the lines of all units are parsed, each lookup is ready
   pub all_ready : (us : List IndexedUnit) (p : List Bool) → AreAllParsed p → (probe : ℕ) (ranges : List UnitRange) → ready_along d us p probe ranges ≡ true
   all_ready us p all probe [] = refl
-  all_ready us p all probe (r ∷ ranges) = ready_both d us probe r ranges p (all r.unit) (all_ready us p all probe ranges)
+  all_ready us p all probe (r ∷ ranges) = holds_both (located_frames d us probe) r ranges (has_parsed p) (all r.unit) (all_ready us p all probe ranges)
 
 -- what holds of an answer that is given
 pub when_ok : {P : Type 0} (result given : Result (Unit {0}) Error) → ExactlyUnlessOom (λ x. x) result given → (given ≡ Ok tt → P) → OnOk result P

@@ -1,7 +1,8 @@
 -- What a lookup of frames comes to in a context (on specs/Lookups.antt and specs/AfterLookups.antt).
-use Rattle.addr2line.proofs.Common.{◌≡◌, ◌≢◌, ◌⊎◌, ℕ, ◌&&◌, ◌||◌, Bool, true, not, List, [], ◌∷◌, slice_get, Some, None, option_map, Result, Ok, Err, refl, sym, ap, subst, ◌∙◌, IfErr, IfOk, Error, ◌>>=◌, ExactlyUnlessOom, WasNotRefused, Scope, OnFault, Skip, UnitRange, cover, LookupAsks, LookupStop, after_fault, asked_frames, asks_lines_of, frames_of_number, function_offset_of, inlined_at_number, holds_along, or_stop, stop_along, LearnsDetailsAt, knows_at, ParsesOnly, has_parsed, IndexedUnit, FramesResult, UnitsState, asked_by, asks_no_memory_at, has_all_at, has_few_at, stop_of, FirstAnswers, SplitLoad, load_of_unit, IsContext, as_context, AfterFrames, IsKnownFew, NeedsNoMemory, IsFaultOfAsked, IsLoadOf, lookup_stop}
+use Rattle.addr2line.proofs.Common.{◌≡◌, ◌≢◌, ◌⊎◌, ℕ, ◌&&◌, ◌||◌, Bool, true, not, List, [], ◌∷◌, slice_get, Some, None, option_map, Result, Ok, Err, refl, sym, ap, subst, ◌∙◌, IfErr, IfOk, Error, ◌>>=◌, ExactlyUnlessOom, WasNotRefused, Scope, OnFault, Skip, UnitRange, cover, LookupAsks, LookupStop, after_fault, asked_frames, asks_lines_of, frames_of_number, function_offset_of, inlined_at_number, holds_along, or_stop, stop_along, LearnsDetailsAt, knows_at, ParsesOnly, has_parsed, IndexedUnit, FramesResult, UnitsState, asked_by, asks_no_memory_at, has_all_at, has_few_at, stop_of, FirstAnswers, SplitLoad, load_of_unit, IsContext, as_context, AfterFrames, IsKnownFew, NeedsNoMemory, IsFaultOfAsked, IsLoadOf, lookup_stop, takes_none_at}
 use Rattle.gimli_read.specs.declared.error.Error.TheVariants.{OutOfMemory}
 use Rattle.addr2line_lines.specs.InlineRoom.{exceeds_inline_room}
+use Rattle.addr2line_units.specs.declared.frames.Asks.TheVariants as lookups
 use Rattle.addr2line_units.specs.UnitsAfter as left
 use Rattle.addr2line.proofs.ContextLemmas.{at_made, by_made, of_made, still_context}
 
@@ -22,10 +23,10 @@ only_oom : (e : Error) {given : Result LookupStop Error} → given ≢ Err e →
 only_oom OutOfMemory never h = refl
 only_oom e never h = absurd (never (h (λ q. absurd cc)))
 
-pub refused_for_memory : {X : Type 0} (see : X → LookupStop) (u : UnitsState) (ranges : List UnitRange) (faults : OnFault) (probe : ℕ) (r : Result X Error) → faults ≡ Skip → ExactlyUnlessOom see r (stop_of faults probe u ranges) → IfErr r (λ e. e ≡ OutOfMemory)
+pub refused_for_memory : {X : Type 0} (see : X → LookupStop) (u : UnitsState) (ranges : List UnitRange) (faults : OnFault) (probe : ℕ) (r : Result X Error) → faults ≡ Skip → ExactlyUnlessOom see r (stop_of (lookups.Frames faults) probe u ranges) → IfErr r (λ e. e ≡ OutOfMemory)
 refused_for_memory see u ranges faults probe (Ok x) p h = tt
 refused_for_memory see u ranges faults probe (Err e) p h =
-    only_oom e (λ k. passes_over u.scope u.units u.answers probe ranges e (ap (λ f. stop_of f probe u ranges) (sym p) ∙ k)) h
+    only_oom e (λ k. passes_over u.scope u.units u.answers probe ranges e (ap (λ f. stop_of (lookups.Frames f) probe u ranges) (sym p) ∙ k)) h
 
 -- the load of the unit of a number
 pub load_told : (ranges : List UnitRange) (u : UnitsState) → IsContext ranges u → (n : ℕ) (r : Result SplitLoad Error) → IfOk r (λ l. option_map (load_of_unit u.scope.file.sections n) (slice_get u.scope.file.units n) ≡ Some (Ok (Some l))) → IfOk r (λ l. IsLoadOf u.scope.file.sections n l)
@@ -37,7 +38,7 @@ module _ (ranges : List UnitRange) (u : UnitsState) (i : IsContext ranges u) (fa
   pub stop_is : (answers : FirstAnswers) → lookup_stop faults u.scope.file.sections answers probe ≡ stop_along (asked_frames faults u.scope u.units answers probe) (cover probe ranges)
   stop_is answers = by_made ranges u i (λ s xs rs. stop_along (asked_frames faults s xs answers probe) (cover probe rs))
 
-  module _ (now : UnitsState) {X : Type 0} (r : Result X Error) (w : left.AfterWalk faults probe (cover probe ranges) r u now) where
+  module _ (now : UnitsState) {X : Type 0} (r : Result X Error) (w : left.AfterWalk (lookups.Frames faults) probe (cover probe ranges) r u now) where
     pub walked_context : IsContext ranges now
     walked_context = still_context ranges u i now w.asked.scope w.asked.units
 
@@ -48,8 +49,8 @@ module _ (ranges : List UnitRange) (u : UnitsState) (i : IsContext ranges u) (fa
     as_after : (P : Scope → List IndexedUnit → FirstAnswers → Type 0) → P u.scope u.units u.answers → P now.scope now.units now.answers
     as_after P h = subst (λ a. P now.scope now.units a) (sym w.asked.answers) (subst (λ xs. P now.scope xs u.answers) (sym w.asked.units) (subst (λ s. P s u.units u.answers) (sym w.asked.scope) h))
 
-    pub stop_now : lookup_stop faults now.scope.file.sections now.answers probe ≡ stop_of faults probe u (cover probe ranges)
-    stop_now = as_after (λ s xs a. lookup_stop faults s.file.sections a probe ≡ stop_of faults probe u (cover probe ranges)) (stop_is u.answers)
+    pub stop_now : lookup_stop faults now.scope.file.sections now.answers probe ≡ stop_of (lookups.Frames faults) probe u (cover probe ranges)
+    stop_now = as_after (λ s xs a. lookup_stop faults s.file.sections a probe ≡ stop_of (lookups.Frames faults) probe u (cover probe ranges)) (stop_is u.answers)
 
     abbrev all_by : Scope → List IndexedUnit → ℕ → Bool
     all_by s xs n = knows_at now.known probe n && (not (asks_lines_of s xs now.answers probe n) || has_parsed now.parsed n)
@@ -65,12 +66,12 @@ module _ (ranges : List UnitRange) (u : UnitsState) (i : IsContext ranges u) (fa
     abbrev none_by : Bool → Scope → List IndexedUnit → ℕ → Bool
     none_by shares s xs n = asks_no_memory_at shares probe (record now { scope = s; units = xs }) n
 
-    of_units : (q : Result X Error) → IfErr q (left.IsFaultAlong faults probe u (cover probe ranges)) → IfErr q (IsFaultOfAsked faults u.scope.file.sections u.answers probe)
+    of_units : (q : Result X Error) → IfErr q (left.IsFaultAlong (lookups.Frames faults) probe u (cover probe ranges)) → IfErr q (IsFaultOfAsked faults u.scope.file.sections u.answers probe)
     of_units (Ok x) h = tt
     of_units (Err e) h = (i.made, i.indexed, of_made ranges u i (λ s xs rs. (n : ℕ) × LookupAsks (asked_frames faults s xs u.answers probe) (cover probe rs) n × (frames_of_number s xs u.answers probe n ≡ Err e)) h i.made i.indexed)
 
     -- where the lookup takes no memory, a refusal is the fault of a unit that it asks
-    pub walk_alone : (shares : Bool) → (holds_along (asks_no_memory_at shares probe now) (asked_by faults probe u) (cover probe ranges) ≡ true → IfErr r (left.IsFaultAlong faults probe u (cover probe ranges)))
+    pub walk_alone : (shares : Bool) → (holds_along (takes_none_at shares (lookups.Frames faults) probe now) (asked_by (lookups.Frames faults) probe u) (cover probe ranges) ≡ true → IfErr r (left.IsFaultAlong (lookups.Frames faults) probe u (cover probe ranges)))
         → NeedsNoMemory shares faults (as_context now) probe → IfErr r (IsFaultOfAsked faults u.scope.file.sections u.answers probe)
     walk_alone shares alone none = of_units r (alone (as_before (λ s xs a. holds_along (asks_no_memory_at shares probe now) (asked_frames faults s xs a probe) (cover probe ranges) ≡ true)
         (at_made ranges now walked_context (λ s xs rs. holds_along (none_by shares s xs) (asked_frames faults s xs now.answers probe) (cover probe rs) ≡ true) none)))

@@ -1,5 +1,5 @@
 -- Lookups in a context that has read all (on specs/WarmUp.antt).
-use Rattle.addr2line.proofs.Common.{◌≡◌, ℕ, ◌&&◌, ◌||◌, Bool, true, false, not, List, [], ◌∷◌, Result, Ok, Err, refl, sym, ap, subst, ◌∙◌, Error, Sections, OnFault, UnitRange, cover, holds_until, LookupStop, Waits, Finds, FindsNothing, asks_lines_of, inlined_at_number, holds_along, is_waiting, main_scope, knows_at, StaysParsed, has_parsed, unit_decides, UnitIndex, index_units, FirstAnswers, IsKnownFew, has_few_of, ContextState, lines_of_all, IsAllKnown, asked_of, lookup_stop}
+use Rattle.addr2line.proofs.Common.{◌≡◌, ℕ, ◌&&◌, ◌||◌, Bool, true, false, not, List, [], ◌∷◌, Result, Ok, Err, refl, sym, ap, subst, ◌∙◌, Error, Sections, OnFault, UnitRange, cover, holds_until, LookupStop, Waits, Finds, FindsNothing, asks_lines_of, inlined_at_number, holds_along, is_waiting, main_scope, knows_at, StaysParsed, has_parsed, UnitIndex, index_units, FirstAnswers, IsKnownFew, has_few_of, ContextState, lines_of_all, IsAllKnown, asked_of, lookup_stop, ends_lookup, located_frames}
 use Rattle.addr2line_lines.specs.InlineRoom.{exceeds_inline_room}
 use Rattle.addr2line_units.specs.ParsesLaws.{IsReached}
 use Rattle.addr2line.specs.WarmUp.{FindsAllWhenWarm, IsFewInlined, IsWarm, LocatesWhenWarm}
@@ -65,6 +65,6 @@ all_until ends holds all (r ∷ ranges) = by (holds r.unit) (ends r.unit) (all r
 
 pub locates : LocatesWhenWarm
 locates probe result old new w after = (
-  λ m e. all_until (unit_decides old.sections m.units probe) (has_parsed old.parsed) w.parsed (cover probe m.ranges),
+  λ m e. all_until (λ n. ends_lookup (located_frames old.sections m.units probe n)) (has_parsed old.parsed) w.parsed (cover probe m.ranges),
   warm_stays old new w after.stays.sections after.stays.answers after.stays.parsed (λ p n. subst (λ k. knows_at k p n ≡ true) (sym after.stays.known) (w.known p n)),
 )

@@ -13,7 +13,7 @@ pub use Rattle.addr2line_lines.specs.LastAddress.{last_address}
 pub use Rattle.addr2line_units.specs.IndexCover.{cover, cover_range}
 pub use Rattle.addr2line_units.specs.Frames.{FoundFunction, FrameRecord, NameRecord}
 pub use Rattle.addr2line_units.specs.FramesLeft.{frames_left}
-pub use Rattle.addr2line_units.specs.FramesLookup.{Finds, FindsNothing, LookupAsks, LookupStop, Waits, answer_of, asked_frames, asks_lines_of, frames_found, frames_of_number, function_offset_of, holds_along, inlined_at_number, is_waiting, main_scope, readable_view, stop_along, view_of_number, with_answer}
+pub use Rattle.addr2line_units.specs.FramesLookup.{Finds, FindsNothing, LookupAsks, LookupStop, Waits, answer_of, asked_frames, asks_lines_of, frames_found, frames_of_number, function_offset_of, holds_along, inlined_at_number, is_waiting, located_frames, main_scope, readable_view, stop_along, view_of_number, with_answer}
 pub use Rattle.addr2line_units.specs.EntriesKnown.{KnownEntries, LearnsDetailsAt, LearnsNoDetails, LearnsNoFunctions, NothingKnown, knows_at}
 pub use Rattle.addr2line_units.specs.Loads.{NoneOpen, forget_result, forgotten, is_open_at, load_result, token_number}
 pub use Rattle.addr2line_units.specs.Locations.{LocationResult, all_lines, is_found, location_of, steps_along, spans_of}

@@ -1,19 +1,18 @@
 -- A context as callers see it: the sections that it was made from (DWARF 5, section 7.5), the first
 -- answers to the loads of its units, of which units it has parsed the lines, what it knows of the
--- entries of units, how often it looked at lines, and what its last lookup of frames or of a unit has
--- come to.
+-- entries of units, how often it looked at lines, and what its last lookup has come to.
 -- Own: the lines of a unit, or their fault, are parsed when a lookup first asks for them, and stay
 -- parsed; a context that is made has parsed them only where they give a unit its ranges, and a unit
 -- without a line program has its lines, which are none.
 -- Own: of a unit the first answer to its load counts: the sections of a split file, or none.
 use Rattle.std.specs.Prelude.{◌≡◌, ℕ, ◌+◌, ◌<◌, ◌≤◌, Bool, true, List, [], map, Option, None, IfErr, Result, Ok, Err}
-use Rattle.addr2line.specs.Common.{Error, ◌>>=◌, fault_of, WasNotRefused, Section, Sections, FindsNothing, LookupStop, main_scope, KnownEntries, NothingKnown, all_lines, is_found, location_of, steps_along, UnitIndex, index_units, sup_units, has_lines, ranged_units, AllAskFor, AreParsed, AreReadyForAll, AsksFor, LeadTo, ParsesOnly, StaysParsed, TakeNone, TakeNoneForAll, ready_along, takes_none_along, cover, cover_range, UnitsState, FirstAnswers}
+use Rattle.addr2line.specs.Common.{Error, ◌>>=◌, ExactlyUnlessOom, fault_of, WasNotRefused, Section, Sections, FindsNothing, LookupStop, located_frames, main_scope, stop_along, KnownEntries, NothingKnown, all_lines, is_found, location_of, steps_along, UnitIndex, index_units, sup_units, has_lines, ranged_units, AllAskFor, AreParsed, AreReadyForAll, AsksFor, LeadTo, ParsesOnly, StaysParsed, TakeNone, TakeNoneForAll, ready_along, takes_none_along, cover, cover_range, UnitsState, FirstAnswers}
 use Rattle.gimli.specs.declared.dwarf.DwarfFileType.TheVariants.{Main}
 use Rattle.addr2line_units.specs.declared.index.UnitRange.{UnitRange}
 
 -- the sections, the first answer of each unit, none before it has one, of which units the lines are
 -- parsed, what is known of each unit's entries, how often lines were looked at, and what the last
--- lookup of frames or of a unit has come to
+-- lookup has come to
 pub record ContextState : Type 0 where
   pub sections : Sections
   pub answers : FirstAnswers
@@ -124,11 +123,23 @@ pub record AfterLookup {X : Type 0} (probe : ℕ) (result : Result (Option X) Er
   pub counted : is_found result ≡ true → old.steps < new.steps
   pub cost : StepsWithin probe old new
 
--- the same over readers that share their bytes or don't: where the lookup takes no memory, a
--- refusal is the fault of lines
+-- what a lookup of a location comes to among units
+abbrev pub location_stop_in : Sections → ℕ → UnitIndex → Result LookupStop Error
+location_stop_in d probe m =
+    stop_along (located_frames d m.units probe) (cover probe m.ranges)
+
+-- what a lookup of a location comes to
+abbrev pub location_stop : Sections → ℕ → Result LookupStop Error
+location_stop d probe = index_units d >>= location_stop_in d probe
+
+-- the same over readers that share their bytes or don't: the context has stored what the lookup
+-- came to, nothing where it was refused; where the lookup takes no memory, a refusal is the fault of
+-- lines
 pub record AfterLookupOver {X : Type 0} (shares : Bool) (probe : ℕ)
     (result : Result (Option X) Error) (old new : ContextState) : Type 0 where
   pub after : AfterLookup probe result old new
+  pub stored : ExactlyUnlessOom (λ _. new.stop) result (location_stop new.sections probe)
+  pub refused : IfErr result (λ _. new.stop ≡ FindsNothing)
   pub no_memory : LocatesNoMemory shares new probe
       → IfErr result (λ e. location_of old.sections probe ≡ Err e)
 

@@ -8,6 +8,7 @@ ghost use Rattle.addr2line_units.specs.LocationsLeft.{locations_left};
 ghost use Rattle.addr2line.specs.Context.{main_sections, new_context, lines_of_all, AfterLookupOver, AfterRangeLookup, IsReady, IsUncovered, IsReadyForAll, IsReadyForRange, LocatesRangeNoMemory, ParsesNoMemory, ParsesToFault, Stays};
 
 use addr2line_lines::Location;
+use addr2line_units::frames::Asks;
 use addr2line_units::index::UnitRanges;
 use addr2line_units::locations::LocationRangeIter;
 use addr2line_units::units::Units;
@@ -145,10 +146,9 @@ impl<R: Reader> Context<R> {
         ensures* ends { EndsAs 𝓛 R.row R.Reader self.entry
             (AfterLookupOver R.shares probe result self.old) }
     {
-        match self.units.find_row(self.ranges.find(probe), probe)? {
-            Some(place) => Ok(Some(self.units.location(place))),
-            None => Ok(None),
-        }
+        let ranges = self.ranges.find(probe);
+        self.units.walk(ranges, probe, Asks::Location)?;
+        Ok(self.units.location())
     }
 
     /// The rows that the addresses from `low` up to `high` meet, each with its address, the length

@@ -1,4 +1,4 @@
-//! What the last lookup of frames or of a unit has come to, and what is lent of it.
+//! What the last lookup has come to, and what is lent of it.
 
 ghost use Rattle.std.specs.Prelude.{◌≡◌, IfErr, IfOk};
 ghost use Rattle.addr2line.specs.Common.{OutOfMemory, WasNotRefused, last_address, Skip, frames_left, Waits, frames_found, waiting_unit};
@@ -10,13 +10,13 @@ ghost use Rattle.std.specs.Prelude.{option_map};
 
 use crate::context::Context;
 use addr2line_units::FrameIter;
-use addr2line_units::frames::OnFault;
+use addr2line_units::frames::{Asks, OnFault};
 use addr2line_units::unit::SplitDwarfLoad;
 use gimli::UnitRef;
 use gimli::read::{Error, Reader};
 
 impl<R: Reader> Context<R> {
-    // Stores what a lookup comes to. What it asks for is read and cached.
+    // Stores what a lookup of frames or of a unit comes to. What it asks for is read and cached.
     pub(crate) fn walk(&mut self, probe: u64, faults: OnFault) -> Result<(), Error>
         ensures gives { IsStored faults probe result self.new }
         ensures refused { faults ≡ Skip → IfErr result (λ e. e ≡ OutOfMemory) }
@@ -26,7 +26,8 @@ impl<R: Reader> Context<R> {
         ensures no_memory { NeedsNoMemory R.shares faults self.new probe → IfErr result
             (IsFaultOfAsked faults self.old.sections self.old.answers probe) }
     {
-        self.units.walk(self.ranges.find(probe), probe, faults)
+        let ranges = self.ranges.find(probe);
+        self.units.walk(ranges, probe, Asks::Frames(faults))
     }
 
     // The unit that the last lookup waits for, if it waits for one.

@@ -46,17 +46,17 @@ pub use Rattle.addr2line_lines.specs.UnitLines.{IsFaultAtOnce, lines_in, unit_li
 unfoldable pub use Rattle.addr2line_lines.specs.UnitLines.{program_lines}
 pub use Rattle.addr2line_units.specs.EntriesMemory.{any_program_takes_memory, is_fault_at_once, lines_of_take_memory, view_takes_memory}
 unfoldable pub use Rattle.addr2line_units.specs.EntriesMemory.{functions_in_take_memory, lines_take_memory}
-pub use Rattle.addr2line_units.specs.UnitsAsked.{AfterAsk, AfterCachingAt, AfterRowAt, CountsUnits, found_stop, has_stopped, stop_at}
+pub use Rattle.addr2line_units.specs.UnitsAsked.{AfterAsk, AfterCachingAt, CountsUnits, found_stop, stop_at, row_stop}
 pub use Rattle.addr2line_units.specs.EntriesCached.{AreEntriesOf, AreFramesIn, AreFresh, AreRead, AsksNoMemoryIn, ReadsEntriesOf, StayEntries, first_answer_of, frames_of_place, has_answered, has_entries, has_entries_by}
 pub use Rattle.addr2line_units.specs.FramesCached.{AreFoundAt, IsLendable, IsStopIn, found_after_fault, frames_at_place, frames_found_at, functions_at, has_frames_at, language_at, as_stop, stop_of_found}
 pub use Rattle.addr2line_units.specs.EntriesFunctions.{AreFunctionsOf, ArePlacesIn, IsTableOf, ReadsNoDetail, ReadsNoOther, StayFunctions, cached_detail_takes_memory, cached_fault, cached_functions, cached_has_function, cached_takes_memory, details_at, find_takes_memory, function_of_place, functions_fault, has_detail, has_place, has_table, is_cached_fault, no_functions, place_takes_memory, reading_takes_memory, table_takes_memory, were_read}
 pub use Rattle.addr2line_units.specs.EntriesKnownCached.{known_answer, known_by, known_detail, known_fault, known_function, known_functions, known_in, known_table}
-pub use Rattle.addr2line_units.specs.UnitLinesCached.{AreLinesOf, CachesResult, HaveLinesOf, HaveSameEntries, StayUnits, StaysUnit, cached_files, cached_lines, cached_lines_result, cached_ranges, cached_spans, indexed_unit, indexed_units, is_parsed, is_uncached, lines_at, lines_in_cache, lines_result, lines_result_at, location_of_unit_row, no_lines, parsed_units, unit_row}
+pub use Rattle.addr2line_units.specs.UnitLinesCached.{AreLinesOf, CachesResult, HaveLinesOf, HaveSameEntries, StayUnits, StaysUnit, cached_files, cached_lines, cached_lines_result, cached_ranges, cached_spans, indexed_unit, indexed_units, is_parsed, is_uncached, lines_at, lines_in_cache, lines_result, lines_result_at, no_lines, parsed_units}
 pub use Rattle.addr2line_units.specs.UnitsCached.{AreFreshOf, HaveCachesOf, HaveEntriesOf, HaveSameLines, HaveViewsOf, IsCacheOf, ReadsOnly, StayAllEntries, answers_in, decided_at, has_entries_at, waits_at}
 pub use Rattle.addr2line_units.specs.UnitViewCached.{IsViewOf, answer_in, cached_verdict, is_decided, parts_or_fault, scope_by, answer_of_view, as_sections, split_file_by, split_file_in, split_unit, unboxed, verdict_in, view_by, waits, was_checked}
-pub use Rattle.addr2line_units.specs.Frames.{FoundFunction, FrameRecord, call_location, found_frames, found_function, frames_from, function_frame, function_from}
+pub use Rattle.addr2line_units.specs.Frames.{FoundFunction, FrameRecord, call_location, found_frames, found_function, frames_from, function_frame, function_from, location_frames}
 unfoldable pub use Rattle.addr2line_units.specs.Frames.{function_at}
-pub use Rattle.addr2line_units.specs.FramesLookup.{Finds, FindsNothing, LookupAsks, LookupStop, Waits, after_fault, answer_of, asked_frames, asks_lines_of, ends_lookup, frames_of_number, function_offset_of, functions_of_take_memory, holds_along, inlined_at_number, main_scope, or_stop, readable_view, stop_along, unit_found, view_of_number, with_answer}
+pub use Rattle.addr2line_units.specs.FramesLookup.{Finds, FindsNothing, LookupAsks, LookupStop, Waits, after_fault, answer_of, asked_frames, asks_lines_of, ends_lookup, frames_of_number, function_offset_of, functions_of_take_memory, holds_along, inlined_at_number, main_scope, or_stop, readable_view, stop_along, unit_found, view_of_number, with_answer, asked_of_unit, first_frame_location, found_in_unit, has_stopped, located_frames, location_found}
 pub use Rattle.addr2line_units.specs.Parses.{AreKnownToFault, AreReadBefore, AreReadyFor, IsKnownToFault, IsReadyFor, IsReadyOf, ReadsNoMemory, answers_after_parse, first_decided, parse_of_takes_memory, parse_takes_memory, read_of_functions, read_of_number, read_of_unit, read_of_units, read_of_view, unless_fault}
 pub use Rattle.addr2line_units.specs.UnitsOfHeaders.{by_abbreviations, has_abbreviations, put_to, units_of}
 pub use Rattle.addr2line_units.specs.EntriesKnown.{AllKnown, FunctionsKnown, HasFault, HasNoFunctions, IsRead, KnownEntries, KnownFunction, LearnsDetailsAt, LearnsNoDetails, LearnsNoFunctions, NotRead, NothingKnown, is_detail_known, is_known_at, known_function_at, knows_at, knows_detail, knows_detail_at}
@@ -64,7 +64,7 @@ pub use Rattle.addr2line_units.specs.LegacyText.{after_first, ascii_front, eleme
 unfoldable pub use Rattle.addr2line_units.specs.LegacyText.{demangled, element_at, element_text, elements_at, elements_text, escape_char, escape_in, legacy_text, spelled_text, suffix_at, without_prefix}
 pub use Rattle.addr2line_units.specs.Loads.{NoneOpen, before_others, forget_result, forgotten, is_of_other, is_open_at, load_of_number, load_result, loads_along, unit_of_token, view_fault}
 pub use Rattle.addr2line_units.specs.Locations.{LocationResult, all_lines, all_read, first_location, is_found, lines_of_unit, location_in, location_of, steps_along, steps_in, or_first_location, spans_along, spans_in, spans_of, spans_or_fault}
-pub use Rattle.addr2line_units.specs.LocationsParsed.{AllAskFor, AreAllParsed, AreParsed, AreReadyForAll, AsksFor, LeadTo, ParsesOnly, StaysParsed, TakeNone, TakeNoneForAll, can_be_read, decides, has_parsed, parses_no_memory, ready_along, takes_none_along, unit_decides}
+pub use Rattle.addr2line_units.specs.LocationsParsed.{AllAskFor, AreAllParsed, AreParsed, AreReadyForAll, AsksFor, LeadTo, ParsesOnly, StaysParsed, TakeNone, TakeNoneForAll, can_be_read, has_parsed, parses_no_memory, ready_along, takes_none_along}
 pub use Rattle.addr2line_units.specs.UnitsRanged.{IndexedUnit, RangedUnit, has_lines, indexed_of, is_partial, is_type_unit, listed_unit_ranges, or_attribute_ranges, range_of_unit, ranged_unit, ranged_units, unit_ranges, unit_ranges_from, unit_records, unless_faulty}
 unfoldable pub use Rattle.addr2line_units.specs.UnitsRanged.{listed_in_unit, unit_of_header}
 pub use Rattle.addr2line_units.specs.UnitsStored.{AreUnits, scope_of, as_units_state}
@@ -72,12 +72,13 @@ pub use Rattle.addr2line_units.specs.IndexAranges.{aranges_at, aranges_in, is_ar
 pub use Rattle.addr2line_units.specs.EntriesFrames.{FramesResult, frames_by, function_by, function_in, function_offset_among, function_offset_by, inlined_of_found}
 unfoldable pub use Rattle.addr2line_units.specs.EntriesFrames.{asks_lines_in, frames_in, function_offset_in, inlined_of_unit}
 pub use Rattle.addr2line_units.specs.RangeIterLeft.{ranges_left}
-pub use Rattle.addr2line_units.specs.UnitsState.{IsFaultAt, UnitsState, asked_by, asks_no_memory_at, files_of, first_state, has_all_at, has_few_at, new_units, reads_no_memory_at, row_location, stop_of, table_files}
+pub use Rattle.addr2line_units.specs.UnitsState.{IsFaultAt, UnitsState, asked_by, asks_no_memory_at, first_state, has_all_at, has_few_at, new_units, reads_no_memory_at, stop_of, has_asked_at, has_asked_few_at, takes_none_at}
 pub use Rattle.addr2line_units.specs.UnitView.{FirstAnswers, SplitLoad, View, answered_view, awaited_by, awaited_load, decided_answer, first_of, first_takes_memory, first_unit, first_unit_takes_memory, first_view, is_open, load_by, main_view, parts_of, verdict, verdict_by, view_scope}
 unfoldable pub use Rattle.addr2line_units.specs.UnitView.{load_of_unit, split_name_of}
 pub use Rattle.addr2line_units.specs.declared.entries.LazyFunctions.{LazyFunctions}
 pub use Rattle.addr2line_units.specs.declared.entries.UnitCache.{UnitCache}
 pub use Rattle.addr2line_units.specs.declared.entries.UnitEntries.{UnitEntries}
+pub use Rattle.addr2line_units.specs.declared.frames.Asks.{Asks}
 pub use Rattle.addr2line_units.specs.declared.frames.FramesStop.{FramesStop}
 pub use Rattle.addr2line_units.specs.declared.frames.OnFault.{OnFault}
 pub use Rattle.addr2line_units.specs.declared.frames.OnFault.TheVariants.{Skip, Stop}

@@ -1,5 +1,5 @@
 -- Nothing that units, their views, lines and functions give is OutOfMemory (on the specs of this crate).
-use Rattle.addr2line_units.proofs.Common.{ℕ, Bool, true, false, if◌then◌else◌, List, [], ◌∷◌, map, is_some, slice_get, Option, Some, None, IfSome, IfOk, Result, Ok, Err, Error, UnknownToken, Range, Costed, free, ◌>>=◌, WasNotRefused, Section, IsByBytes, AreByBytes, step, either, value, fault, moved_fault, fault_of_is, are_joined, not_refused, none_refused, UnitHeaderFields, Sections, SupSections, UnitRecord, unit_record_of, all_headers, entries_of, function_offset_at, LineTable, Location, Scope, UnitArange, OnFault, Stop, Skip, UnitRange, ReadingDepth, aranges_at, aranges_in, by_abbreviations, units_of, IndexedUnit, is_type_unit, is_partial, or_attribute_ranges, listed_unit_ranges, listed_in_unit, unless_faulty, unit_of_header, ranged_units, UnitsState, new_units, asked_by, stop_of, FirstAnswers, View, SplitLoad, split_name_of, first_of, first_unit, answered_view, load_by, load_of_unit, verdict_by, verdict, is_open, decided_answer, view_scope, FoundFunction, FrameRecord, function_from, function_at, FramesResult, function_by, function_in, frames_by, frames_in, LookupStop, FindsNothing, answer_of, frames_of_number, after_fault, asked_frames, or_stop, stop_along, stop_at, details_at, functions_fault, read_of_functions, read_of_view, read_of_unit, read_of_number, read_of_units, unit_of_token, view_fault, load_result, forget_result, LocationResult, lines_of_unit, location_in, or_first_location, first_location, location_of, all_read, spans_or_fault, spans_in, spans_along, spans_of, all_lines}
+use Rattle.addr2line_units.proofs.Common.{ℕ, Bool, true, false, if◌then◌else◌, List, [], ◌∷◌, map, is_some, slice_get, Option, Some, None, IfSome, IfOk, Result, Ok, Err, Error, UnknownToken, Range, Costed, free, ◌>>=◌, WasNotRefused, Section, IsByBytes, AreByBytes, step, either, value, fault, moved_fault, fault_of_is, are_joined, not_refused, none_refused, UnitHeaderFields, Sections, SupSections, UnitRecord, unit_record_of, all_headers, entries_of, function_offset_at, LineTable, Location, Scope, UnitArange, OnFault, Stop, Skip, UnitRange, ReadingDepth, aranges_at, aranges_in, by_abbreviations, units_of, IndexedUnit, is_type_unit, is_partial, or_attribute_ranges, listed_unit_ranges, listed_in_unit, unless_faulty, unit_of_header, ranged_units, UnitsState, new_units, asked_by, stop_of, FirstAnswers, View, SplitLoad, split_name_of, first_of, first_unit, answered_view, load_by, load_of_unit, verdict_by, verdict, is_open, decided_answer, view_scope, FoundFunction, FrameRecord, function_from, function_at, FramesResult, function_by, function_in, frames_by, frames_in, LookupStop, FindsNothing, answer_of, frames_of_number, after_fault, asked_frames, or_stop, stop_along, stop_at, details_at, functions_fault, read_of_functions, read_of_view, read_of_unit, read_of_number, read_of_units, unit_of_token, view_fault, load_result, forget_result, LocationResult, lines_of_unit, location_in, or_first_location, first_location, location_of, all_read, spans_or_fault, spans_in, spans_along, spans_of, all_lines, Asks, asked_of_unit, located_frames}
 use Rattle.gimli_read.specs.FaultLaws.{NoneWasRefused}
 use Rattle.gimli_read.specs.Form.{NamedValue}
 use Rattle.gimli.specs.declared.unit.DwoId.{DwoId}
@@ -8,6 +8,7 @@ use Rattle.gimli.proofs.FaultLemmas.{all_headers_are, arange_sets_are, dwo_name_
 use Rattle.addr2line_lines.specs.declared.function.RangeAttributes.{RangeAttributes}
 use Rattle.addr2line_lines.specs.RangeLocations.{LocatedSpan, locations_in_range}
 use Rattle.addr2line_lines.proofs.FaultLemmas.{read_all_is, optional_string_is, unit_lines_are, with_range_attribute_is, attribute_ranges_are, functions_are, detail_is}
+use Rattle.addr2line_units.specs.declared.frames.Asks.TheVariants as lookups
 use Rattle.addr2line_units.specs.declared.attributes.UnitAttributes.{UnitAttributes}
 use Rattle.addr2line_units.specs.declared.parses.ReadingDepth.TheVariants as depths
 use Rattle.addr2line_units.specs.IndexCover.{cover, cover_range}
@@ -219,11 +220,18 @@ pub stop_along_is : (frames : ℕ → FramesResult) → ((n : ℕ) → IsByBytes
 stop_along_is frames h [] = value
 stop_along_is frames h (r ∷ ranges) = step (h r.unit) (λ found. or_stop_is r.unit (stop_along frames ranges) found (stop_along_is frames h ranges))
 
-pub stop_of_is : (faults : OnFault) (probe : ℕ) (s : UnitsState) (ranges : List UnitRange) → IsByBytes (stop_of faults probe s ranges)
-stop_of_is faults probe s ranges = stop_along_is (asked_by faults probe s) (asked_frames_are faults s.scope s.units s.answers probe) ranges
+located_frames_are : (d : Sections) (units : List IndexedUnit) (probe n : ℕ) → IsByBytes (located_frames d units probe n)
+located_frames_are d units probe n = step (location_in_is d probe (slice_get units n)) (λ location. value)
 
-pub stop_at_is : (faults : OnFault) (probe : ℕ) (s : UnitsState) (n : ℕ) → IsByBytes (stop_at faults probe s n)
-stop_at_is faults probe s n = step (asked_frames_are faults s.scope s.units s.answers probe n) (λ found. or_stop_is n (Ok FindsNothing) found value)
+pub asked_of_unit_are : (asks : Asks) (scope : Scope) (units : List IndexedUnit) (answers : FirstAnswers) (probe n : ℕ) → IsByBytes (asked_of_unit asks scope units answers probe n)
+asked_of_unit_are lookups.Location scope units answers probe n = located_frames_are scope.file.sections units probe n
+asked_of_unit_are (lookups.Frames faults) scope units answers probe n = asked_frames_are faults scope units answers probe n
+
+pub stop_of_is : (asks : Asks) (probe : ℕ) (s : UnitsState) (ranges : List UnitRange) → IsByBytes (stop_of asks probe s ranges)
+stop_of_is asks probe s ranges = stop_along_is (asked_by asks probe s) (asked_of_unit_are asks s.scope s.units s.answers probe) ranges
+
+pub stop_at_is : (asks : Asks) (probe : ℕ) (s : UnitsState) (n : ℕ) → IsByBytes (stop_at asks probe s n)
+stop_at_is asks probe s n = step (asked_of_unit_are asks s.scope s.units s.answers probe n) (λ found. or_stop_is n (Ok FindsNothing) found value)
 
 -- ---- loads
 unit_if_is : (u : Option UnitRecord) → IsByBytes {A = UnitRecord} (elim u [ None ↦ Err UnknownToken | Some u ↦ Ok u ])

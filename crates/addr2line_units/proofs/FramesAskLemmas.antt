@@ -1,7 +1,8 @@
 -- What the units of a context are after one of them was asked (on specs/UnitsAfter.antt and
 -- specs/UnitsStored.antt).
-use Rattle.addr2line_units.proofs.Common.{◌≡◌, ◌≢◌, ◌⊎◌, inl, inr, ℕ, ◌<◌, ◌≤◌, ◌&&◌, ◌||◌, Bool, true, false, not, List, [], ◌∷◌, length, get_or, slice_get, Option, Some, None, Result, Ok, Err, refl, sym, ap, subst, ◌∙◌, arith, set, IfErr, Error, OutOfMemory, ◌>>=◌, ExactlyUnlessOom, WasNotRefused, Sections, UnitRecord, exceeds_inline_room, Scope, OnFault, FramesStop, UnitRange, UnitCache, AfterAsk, found_stop, stop_at, functions_in_take_memory, lines_of_take_memory, lines_take_memory, AreFramesIn, first_answer_of, frames_of_place, AreFoundAt, IsLendable, IsStopIn, found_after_fault, frames_found_at, has_frames_at, as_stop, stop_of_found, StayUnits, indexed_unit, indexed_units, parsed_units, HaveEntriesOf, StayAllEntries, answers_in, has_entries_at, FindsNothing, LookupStop, after_fault, asks_lines_of, ends_lookup, function_offset_of, functions_of_take_memory, inlined_at_number, or_stop, known_in, knows_detail_at, has_parsed, AreUnits, as_units_state, FramesResult, asks_lines_in, frames_in, inlined_of_unit, IsFaultAt, UnitsState, asked_by, asks_no_memory_at, has_all_at, reads_no_memory_at}
+use Rattle.addr2line_units.proofs.Common.{◌≡◌, ◌≢◌, ◌⊎◌, inl, inr, ℕ, ◌<◌, ◌≤◌, ◌&&◌, ◌||◌, Bool, true, false, not, List, [], ◌∷◌, length, get_or, slice_get, Option, Some, None, Result, Ok, Err, refl, sym, ap, subst, ◌∙◌, arith, set, IfErr, Error, OutOfMemory, ◌>>=◌, ExactlyUnlessOom, WasNotRefused, Sections, UnitRecord, exceeds_inline_room, Scope, OnFault, FramesStop, UnitRange, UnitCache, AfterAsk, found_stop, stop_at, functions_in_take_memory, lines_of_take_memory, lines_take_memory, AreFramesIn, first_answer_of, frames_of_place, AreFoundAt, IsLendable, IsStopIn, found_after_fault, frames_found_at, has_frames_at, as_stop, stop_of_found, StayUnits, indexed_unit, indexed_units, parsed_units, HaveEntriesOf, StayAllEntries, answers_in, has_entries_at, FindsNothing, LookupStop, after_fault, asks_lines_of, ends_lookup, function_offset_of, functions_of_take_memory, inlined_at_number, or_stop, known_in, knows_detail_at, has_parsed, AreUnits, as_units_state, FramesResult, asks_lines_in, frames_in, inlined_of_unit, IsFaultAt, UnitsState, asked_by, takes_none_at, has_all_at, reads_no_memory_at}
 use Rattle.std.specs.Prelude.{IfOk, unwrap_or}
+use Rattle.addr2line_units.specs.declared.frames.Asks.TheVariants as lookups
 use Rattle.addr2line_units.specs.declared.frames.FramesStop.TheVariants as stops
 use Rattle.addr2line_units.specs.declared.entries.UnitFrames.{UnitFrames}
 use Rattle.addr2line_units.specs.CacheAfter.{AfterFramesIn}
@@ -47,11 +48,11 @@ module _ {R : Type 0} {scope : Scope} {cs : List (UnitCache R)} {last : FramesSt
     of_faults : (faults : OnFault) (r : FramesResult) → r ≡ Ok (Some []) → (after_fault faults r >>= or_stop n (Ok FindsNothing)) ≡ Ok FindsNothing
     of_faults faults r e = ap (λ x. after_fault faults x >>= or_stop n (Ok FindsNothing)) e
 
-    pub none_gives : (faults : OnFault) → stop_at faults probe old n ≡ Ok FindsNothing
+    pub none_gives : (faults : OnFault) → stop_at (lookups.Frames faults) probe old n ≡ Ok FindsNothing
     none_gives faults = of_faults faults _ (nothing_at scope probe us cs n past)
 
-    pub none_after : AfterAsk {X = Unit {0}} n probe (Ok tt) old (as_units_state scope cs steps FindsNothing)
-    none_after = record {
+    pub none_after : (faults : OnFault) → AfterAsk {X = Unit {0}} (lookups.Frames faults) n probe (Ok tt) old (as_units_state scope cs steps FindsNothing)
+    none_after faults = record {
       asked = record { scope = refl; units = refl; answers = refl; parsed = λ m e. e; known = λ m. record { at = λ p e. e; whole = λ k h. h }; only = λ m e. inl e; learns = λ m. inl refl; details = λ m o e. inl e; raised = omega arith };
       ready = λ h. ap (λ b. b && (not (asks_lines_of scope (indexed_units us cs) (answers_in cs) probe n) || has_parsed (parsed_units cs) n)) (known_is probe cs n) ∙ none_known scope probe us cs n past;
       memory = λ h. tt;
@@ -74,7 +75,7 @@ module _ {R : Type 0} {scope : Scope} {cs : List (UnitCache R)} {last : FramesSt
         now_cs = set cs n w
 
         module _ (faults : OnFault) (result : Result UnitFrames Error) (gives : ExactlyUnlessOom (frames_of_place w.lines w.entries) result (frames_in scope (indexed_unit u c.lines) (first_answer_of c.entries) probe)) where
-          given : ExactlyUnlessOom (frames_found_at now_cs n) (found_after_fault faults result) (asked_by faults probe old n)
+          given : ExactlyUnlessOom (frames_found_at now_cs n) (found_after_fault faults result) (asked_by (lookups.Frames faults) probe old n)
           given = gives_after faults (frames_found_at now_cs n) result _ refl
               (frames_given scope probe us cs n own within u c w unit at result gives)
 
@@ -85,12 +86,12 @@ module _ {R : Type 0} {scope : Scope} {cs : List (UnitCache R)} {last : FramesSt
               by None e = ap (or_stop n (Ok FindsNothing)) (no_stop now_cs n f e)
               by (Some stop) e = stop_is now_cs n f stop (Ok FindsNothing) e
 
-          pub asked_ok : (f : UnitFrames) → found_after_fault faults result ≡ Ok f → stop_at faults probe old n ≡ Ok (as_stop now_cs (found_stop n f))
+          pub asked_ok : (f : UnitFrames) → found_after_fault faults result ≡ Ok f → stop_at (lookups.Frames faults) probe old n ≡ Ok (as_stop now_cs (found_stop n f))
           asked_ok f e =
-              ap (λ x. x >>= or_stop n (Ok FindsNothing)) (subst (λ q. ExactlyUnlessOom (frames_found_at now_cs n) q (asked_by faults probe old n)) e given) ∙ of_found f
+              ap (λ x. x >>= or_stop n (Ok FindsNothing)) (subst (λ q. ExactlyUnlessOom (frames_found_at now_cs n) q (asked_by (lookups.Frames faults) probe old n)) e given) ∙ of_found f
 
-          pub asked_err : (x : Error) → found_after_fault faults result ≡ Err x → x ≢ OutOfMemory → stop_at faults probe old n ≡ Err x
-          asked_err x e ne = ap (λ y. y >>= or_stop n (Ok FindsNothing)) (subst (λ q. ExactlyUnlessOom (frames_found_at now_cs n) q (asked_by faults probe old n)) e given ne)
+          pub asked_err : (x : Error) → found_after_fault faults result ≡ Err x → x ≢ OutOfMemory → stop_at (lookups.Frames faults) probe old n ≡ Err x
+          asked_err x e ne = ap (λ y. y >>= or_stop n (Ok FindsNothing)) (subst (λ q. ExactlyUnlessOom (frames_found_at now_cs n) q (asked_by (lookups.Frames faults) probe old n)) e given ne)
 
           stop_right : IfOk result (AreFramesIn w.lines w.entries) → (f : UnitFrames) → found_after_fault faults result ≡ Ok f → IsStopIn now_cs (found_stop n f)
           stop_right ok f e = by (stop_of_found n f) refl
@@ -130,7 +131,7 @@ module _ {R : Type 0} {scope : Scope} {cs : List (UnitCache R)} {last : FramesSt
             stop_lendable f is =
                 lendable_if_told scope probe faults us now_cs (indexed_units us cs) (answers_in cs) asks (range_of n) (Ok (found_stop n f)) (entries_set scope us cs n u w unit own e.right.entries)
                 (sym units_same) (sym answers_same) (stop_right e.there f is) (asked_ok f is)
-                (λ _. holds_alone (has_frames_at asks probe now_cs n) (asked_by faults probe old n) (known_there (oom_before faults result (subst WasNotRefused (sym is) tt))))
+                (λ _. holds_alone (has_frames_at asks probe now_cs n) (asked_by (lookups.Frames faults) probe old n) (known_there (oom_before faults result (subst WasNotRefused (sym is) tt))))
 
             module _ (now : ℕ) (raised : steps ≤ now) (stop : LookupStop) where
               abbrev new : UnitsState
@@ -149,7 +150,7 @@ module _ {R : Type 0} {scope : Scope} {cs : List (UnitCache R)} {last : FramesSt
                   ∙ many_are scope probe us cs n own within u c w unit at
 
               -- where the lookup takes no memory there, a refusal is the fault of the unit
-              pub refused_alone : (x : Error) → found_after_fault faults result ≡ Err x → asks_no_memory_at shares probe new n ≡ true → IsFaultAt probe old n x
+              pub refused_alone : (x : Error) → found_after_fault faults result ≡ Err x → takes_none_at shares (lookups.Frames faults) probe new n ≡ true → IsFaultAt (lookups.Frames faults) probe old n x
               refused_alone x is none =
                   frames_are scope probe us cs n own within u c w unit at
                   ∙ subst (λ q. IfErr q (λ y. frames_in scope (indexed_unit u c.lines) (first_answer_of c.entries) probe ≡ Err y)) (refused_before faults result x is)
@@ -171,7 +172,7 @@ module _ {R : Type 0} {scope : Scope} {cs : List (UnitCache R)} {last : FramesSt
                 | inr h ↦ inr (ap (function_offset_of scope (indexed_units us cs) (answers_in cs) probe) is ∙ offset_is scope probe us cs n own within u c w unit at ∙ h)
               ]
 
-              pub after_asked : {X : Type 0} (q : Result X Error) → (WasNotRefused q → WasNotRefused result) → (WasNotRefused result → WasNotRefused q) → IfErr q (λ _. stop ≡ FindsNothing) → AfterAsk n probe q old new
+              pub after_asked : {X : Type 0} (q : Result X Error) → (WasNotRefused q → WasNotRefused result) → (WasNotRefused result → WasNotRefused q) → IfErr q (λ _. stop ≡ FindsNothing) → AfterAsk (lookups.Frames faults) n probe q old new
               after_asked q before then stored = record {
                 asked = record {
                   scope = refl;

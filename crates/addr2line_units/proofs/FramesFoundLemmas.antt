@@ -1,13 +1,10 @@
 -- The unit in which a lookup of frames has found something (on specs/FramesLookup.antt and
 -- specs/UnitsCached.antt).
-use Rattle.addr2line_units.proofs.Common.{◌≡◌, ℕ, zero, suc, Bool, true, false, ◌&&◌, ◌||◌, List, [], ◌∷◌, Option, Some, None, Result, Ok, Err, ap, refl, subst, ◌∙◌, Error, ◌>>=◌, ExactlyUnlessOom, WasNotRefused, Sections, UnitRecord, Scope, OnFault, Stop, Skip, FramesStop, UnitRange, UnitCache, ViewState, indexed_units, FrameRecord, LookupStop, Waits, Finds, FindsNothing, after_fault, asked_frames, ends_lookup, frames_of_number, holds_along, or_stop, stop_along, first_answer_of, HaveEntriesOf, answers_in, decided_at, has_entries_at, IsLendable, IsStopIn, frames_at_place, has_frames_at, as_stop, is_decided, waits, was_checked, FramesResult, frames_by, frames_in, function_in, IndexedUnit, FirstAnswers, is_open}
+use Rattle.addr2line_units.proofs.Common.{◌≡◌, ℕ, Bool, true, false, ◌&&◌, ◌||◌, List, [], ◌∷◌, Option, Some, None, Result, Ok, Err, ap, refl, subst, Error, ◌>>=◌, ExactlyUnlessOom, WasNotRefused, Sections, UnitRecord, Scope, OnFault, Stop, Skip, FramesStop, UnitRange, UnitCache, indexed_units, FrameRecord, LookupStop, Waits, Finds, FindsNothing, after_fault, asked_frames, ends_lookup, holds_along, or_stop, stop_along, HaveEntriesOf, answers_in, IsLendable, IsStopIn, has_frames_at, as_stop, FramesResult, frames_by, frames_in, function_in, IndexedUnit, FirstAnswers, is_open}
 use Rattle.std.specs.Prelude.{IfOk, if◌then◌else◌}
 use Rattle.addr2line_units.specs.declared.frames.FramesStop.TheVariants as stops
-use Rattle.addr2line_units.specs.declared.unit.ViewState.TheVariants as states
-use Rattle.addr2line_units.proofs.LoadsAnswerLemmas.{checked_waits}
-use Rattle.addr2line_units.proofs.FramesWaitLemmas.{known_was_checked, waits_where_told}
+use Rattle.addr2line_units.proofs.FramesWaitLemmas.{waits_where_told}
 use Rattle.addr2line_units.proofs.FramesWalkLemmas.{and_first, and_second}
-use Rattle.addr2line_units.proofs.EntriesLemmas.{checked_decides}
 
 number_of : LookupStop → ℕ → ℕ
 number_of (Waits n) d = d
@@ -66,43 +63,15 @@ decided_by_frames scope u answer probe e = of_open (is_open scope.file.sections 
     of_open true r k = absurd cc
     of_open false r k = refl
 
--- of a unit that was looked at and has frames the view is known
+-- what a lookup has come to can be lent, where all is known that it asks for
 module _ {R : Type 0} (scope : Scope) (probe : ℕ) where
-  decided_there : (us : List UnitRecord) (vs : List (UnitCache R)) (n : ℕ) → HaveEntriesOf scope us vs
-      → has_frames (frames_of_number scope (indexed_units us vs) (answers_in vs) probe n) ≡ true → has_entries_at probe vs n ≡ true → decided_at vs n ≡ true
-  unfolding has_frames
-  decided_there [] vs n own e h = absurd cc
-  decided_there (u ∷ us) [] n own e h = absurd cc
-  decided_there (u ∷ us) (v ∷ vs) zero own e h =
-      let decided = decided_by_frames scope (record { unit = u; language = v.lines.lang }) (first_answer_of v.entries) probe e in
-      let checked = known_was_checked probe v.entries h in
-      checked_decides v.entries.view.state checked (checked_waits scope.file.sections u v.entries.view own.0.view checked ∙ decided)
-  decided_there (u ∷ us) (v ∷ vs) (suc n) own e h = decided_there us vs n own.1 e h
-
-  -- so it is where a lookup has found something
-  pub known_where_found : (faults : OnFault) (us : List UnitRecord) (vs : List (UnitCache R)) (asks_lines : ℕ → Bool) (ranges : List UnitRange) (n : ℕ) (fs : List FrameRecord) → HaveEntriesOf scope us vs
-      → holds_along (has_frames_at asks_lines probe vs) (asked_frames faults scope (indexed_units us vs) (answers_in vs) probe) ranges ≡ true
-      → stop_along (asked_frames faults scope (indexed_units us vs) (answers_in vs) probe) ranges ≡ Ok (Finds n fs) → decided_at vs n ≡ true
-  known_where_found faults us vs asks_lines ranges n fs own h w =
-      let t = found_along (has_frames_at asks_lines probe vs) (asked_frames faults scope (indexed_units us vs) (answers_in vs) probe) n fs ranges h w in
-      decided_there us vs n own (found_by_unit faults (frames_of_number scope (indexed_units us vs) (answers_in vs) probe n) t.0)
-      (and_first (has_entries_at probe vs n) _ t.1)
-
-  -- so what a lookup has come to can be lent
   pub lendable_if_told : (faults : OnFault) (us : List UnitRecord) (vs : List (UnitCache R)) (units : List IndexedUnit) (answers : FirstAnswers) (asks_lines : ℕ → Bool)
       (ranges : List UnitRange) (r : Result FramesStop Error) → HaveEntriesOf scope us vs → units ≡ indexed_units us vs → answers ≡ answers_in vs → IfOk r (IsStopIn vs)
       → ExactlyUnlessOom (as_stop vs) r (stop_along (asked_frames faults scope units answers probe) ranges)
       → (WasNotRefused r → holds_along (has_frames_at asks_lines probe vs) (asked_frames faults scope units answers probe) ranges ≡ true) → IfOk r (IsLendable vs)
   lendable_if_told faults us vs units answers asks_lines ranges (Err x) own e f there gives ready = tt
   lendable_if_told faults us vs units answers asks_lines ranges (Ok stops.FindsNothing) own e f there gives ready = tt
-  lendable_if_told faults us vs units answers asks_lines ranges (Ok (stops.Finds p)) own e f there gives ready = (
-    there,
-    known_where_found faults us vs asks_lines ranges p.unit (frames_at_place vs p) own
-        (subst (λ a. holds_along (has_frames_at asks_lines probe vs) (asked_frames faults scope (indexed_units us vs) a probe) ranges ≡ true) f
-        (subst (λ xs. holds_along (has_frames_at asks_lines probe vs) (asked_frames faults scope xs answers probe) ranges ≡ true) e (ready tt)))
-        (subst (λ a. stop_along (asked_frames faults scope (indexed_units us vs) a probe) ranges ≡ Ok (Finds p.unit (frames_at_place vs p))) f
-        (subst (λ xs. stop_along (asked_frames faults scope xs answers probe) ranges ≡ Ok (Finds p.unit (frames_at_place vs p))) e gives)),
-  )
+  lendable_if_told faults us vs units answers asks_lines ranges (Ok (stops.Finds p)) own e f there gives ready = there
   lendable_if_told faults us vs units answers asks_lines ranges (Ok (stops.Waits n)) own e f there gives ready =
       waits_where_told scope probe faults us vs asks_lines ranges n own
       (subst (λ a. holds_along (has_frames_at asks_lines probe vs) (asked_frames faults scope (indexed_units us vs) a probe) ranges ≡ true) f

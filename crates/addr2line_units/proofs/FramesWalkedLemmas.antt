@@ -1,27 +1,47 @@
 -- Walks over the units of a context, one unit after another (on specs/UnitsAfter.antt).
-use Rattle.addr2line_units.proofs.Common.{◌≡◌, ◌≢◌, inl, inr, ℕ, ◌&&◌, ◌||◌, Bool, true, false, not, List, [], ◌∷◌, Some, None, Result, Ok, Err, refl, sym, ap, subst, ◌∙◌, arith, ⊤, Error, OutOfMemory, ◌>>=◌, Scope, OnFault, UnitRange, FindsNothing, Finds, LookupAsks, LookupStop, Waits, asked_frames, asks_lines_of, ends_lookup, frames_of_number, function_offset_of, holds_along, or_stop, stop_along, LearnsDetailsAt, knows_at, ParsesOnly, has_parsed, IndexedUnit, FramesResult, AfterAsk, has_stopped, stop_at, IsFaultAt, UnitsState, asked_by, asks_no_memory_at, has_all_at, has_few_at, stop_of, FirstAnswers}
-use Rattle.addr2line_units.specs.UnitsAfter.{AfterWalk, IsFaultAlong, WereAsked}
+use Rattle.addr2line_units.proofs.Common.{◌≡◌, ◌≢◌, inl, inr, ℕ, ◌+◌, ◌≤◌, ◌&&◌, ◌||◌, Bool, true, false, not, List, [], ◌∷◌, slice_get, Some, None, Result, Ok, Err, refl, sym, ap, subst, ◌∙◌, arith, false≢true, ⊤, Error, OutOfMemory, ◌>>=◌, Scope, Asks, UnitRange, FindsNothing, Finds, LookupAsks, LookupStop, Waits, asked_of_unit, asks_lines_of, ends_lookup, found_in_unit, function_offset_of, has_stopped, holds_along, or_stop, stop_along, LearnsDetailsAt, knows_at, steps_along, steps_in, ParsesOnly, has_parsed, IndexedUnit, FramesResult, AfterAsk, stop_at, IsFaultAt, UnitsState, asked_by, has_all_at, has_asked_at, has_asked_few_at, stop_of, takes_none_at, FirstAnswers}
+use Rattle.addr2line_units.specs.declared.frames.Asks.TheVariants as lookups
+use Rattle.addr2line_units.specs.UnitsAfter.{AfterWalk, IsFaultAlong, WereAsked, WereAskedFor}
 use Rattle.addr2line_units.proofs.FramesLookupLemmas.{faults_there, goes_on, holds_both, holds_ended, holds_first, holds_rest, parses_more}
 use Rattle.addr2line_units.proofs.EntriesStayLemmas.{known_twice}
 use Rattle.addr2line_units.proofs.FramesWalkLemmas.{asked_first}
+use Rattle.addr2line_units.proofs.LocationsWalkLemmas.{lines_first, lines_over}
+use Rattle.addr2line_units.proofs.UnitsLinesLemmas.{steps_counted, steps_first, steps_of_one, steps_raised, steps_within}
+
+-- so often lines were looked at, with the most looks that are left, where a location is asked for
+abbrev pub LooksWithin : Asks → ℕ → ℕ → UnitsState → UnitsState → Type 0
+LooksWithin lookups.Location left most old now = now.steps + left ≤ old.steps + most
+LooksWithin (lookups.Frames faults) left most old now = Unit {0}
 
 -- a walk that has gone on so far
-pub record Walked (faults : OnFault) (probe : ℕ) (all rest : List UnitRange) (old now : UnitsState) : Type 0 where
-  pub asked : WereAsked (LookupAsks (asked_by faults probe old) all) probe old now
+pub record Walked (asks : Asks) (probe : ℕ) (all rest : List UnitRange) (old now : UnitsState) : Type 0 where
+  pub asked : WereAskedFor asks (LookupAsks (asked_by asks probe old) all) (steps_along old.scope.file.sections old.units all) probe old now
+  pub looks : LooksWithin asks (steps_along old.scope.file.sections old.units rest) (steps_along old.scope.file.sections old.units all) old now
   pub stop : now.stop ≡ FindsNothing
-  pub rest_is : stop_of faults probe old rest ≡ stop_of faults probe old all
-  pub less : (holds : ℕ → Bool) → holds_along holds (asked_by faults probe old) all ≡ true → holds_along holds (asked_by faults probe old) rest ≡ true
-  pub more : (holds : ℕ → Bool) → ((n : ℕ) → has_all_at probe now n ≡ true → holds n ≡ true) → holds_along holds (asked_by faults probe old) rest ≡ true → holds_along holds (asked_by faults probe old) all ≡ true
-  pub asks : (n : ℕ) → LookupAsks (asked_by faults probe old) rest n → LookupAsks (asked_by faults probe old) all n
+  pub rest_is : stop_of asks probe old rest ≡ stop_of asks probe old all
+  pub less : (holds : ℕ → Bool) → holds_along holds (asked_by asks probe old) all ≡ true → holds_along holds (asked_by asks probe old) rest ≡ true
+  pub more : (holds : ℕ → Bool) → ((n : ℕ) → has_asked_at asks probe now n ≡ true → holds n ≡ true) → holds_along holds (asked_by asks probe old) rest ≡ true → holds_along holds (asked_by asks probe old) all ≡ true
+  pub comes : (n : ℕ) → LookupAsks (asked_by asks probe old) rest n → LookupAsks (asked_by asks probe old) all n
 
-pub walked_first : (faults : OnFault) (probe : ℕ) (all : List UnitRange) (old : UnitsState) → Walked faults probe all all old (record old { stop = FindsNothing })
-walked_first faults probe all old = record {
-  asked = record { scope = refl; units = refl; answers = refl; parsed = λ n e. e; known = λ n. record { at = λ p e. e; whole = λ k h. h }; only = λ n e. inl e; learns = λ n. inl refl; details = λ n o e. inl e; raised = omega arith };
+-- nothing was asked yet
+asked_none : (asks : Asks) (asked : ℕ → Type 0) (most probe : ℕ) (old : UnitsState) → WereAskedFor asks asked most probe old (record old { stop = FindsNothing })
+asked_none lookups.Location asked most probe old = record { lines = lines_first asked old; raised = omega arith; counted = λ found. absurd (false≢true found); cost = omega arith }
+asked_none (lookups.Frames faults) asked most probe old =
+    record { scope = refl; units = refl; answers = refl; parsed = λ n e. e; known = λ n. record { at = λ p e. e; whole = λ k h. h }; only = λ n e. inl e; learns = λ n. inl refl; details = λ n o e. inl e; raised = omega arith }
+
+looks_none : (asks : Asks) (most : ℕ) (old : UnitsState) → LooksWithin asks most most old (record old { stop = FindsNothing })
+looks_none lookups.Location most old = omega arith
+looks_none (lookups.Frames faults) most old = tt
+
+pub walked_first : (asks : Asks) (probe : ℕ) (all : List UnitRange) (old : UnitsState) → Walked asks probe all all old (record old { stop = FindsNothing })
+walked_first asks probe all old = record {
+  asked = asked_none asks (LookupAsks (asked_by asks probe old) all) (steps_along old.scope.file.sections old.units all) probe old;
+  looks = looks_none asks (steps_along old.scope.file.sections old.units all) old;
   stop = refl;
   rest_is = refl;
   less = λ holds e. e;
   more = λ holds f e. e;
-  asks = λ n e. e;
+  comes = λ n e. e;
 }
 
 -- what is said of a state that has the same units and answers
@@ -87,107 +107,152 @@ any_asked asks probe old new a = record {
   raised = a.raised;
 }
 
-module _ (faults : OnFault) (probe : ℕ) (all : List UnitRange) (r : UnitRange) (rest ranges : List UnitRange) (is : ranges ≡ r ∷ rest) (old mid now : UnitsState) (w : Walked faults probe all ranges old mid) where
+-- units that were asked are the same
+scope_same : (asks : Asks) (asked : ℕ → Type 0) (most probe : ℕ) (old now : UnitsState) → WereAskedFor asks asked most probe old now → now.scope ≡ old.scope
+scope_same lookups.Location asked most probe old now a = ap (λ (s : UnitsState). s.scope) a.lines.same
+scope_same (lookups.Frames faults) asked most probe old now a = a.scope
+
+units_same : (asks : Asks) (asked : ℕ → Type 0) (most probe : ℕ) (old now : UnitsState) → WereAskedFor asks asked most probe old now → now.units ≡ old.units
+units_same lookups.Location asked most probe old now a = ap (λ (s : UnitsState). s.units) a.lines.same
+units_same (lookups.Frames faults) asked most probe old now a = a.units
+
+answers_same : (asks : Asks) (asked : ℕ → Type 0) (most probe : ℕ) (old now : UnitsState) → WereAskedFor asks asked most probe old now → now.answers ≡ old.answers
+answers_same lookups.Location asked most probe old now a = ap (λ (s : UnitsState). s.answers) a.lines.same
+answers_same (lookups.Frames faults) asked most probe old now a = a.answers
+
+-- and all that was known stays so
+has_more : (asks : Asks) (asked : ℕ → Type 0) (most probe : ℕ) (mid now : UnitsState) → WereAskedFor asks asked most probe mid now → (n : ℕ) → has_asked_at asks probe mid n ≡ true → has_asked_at asks probe now n ≡ true
+has_more lookups.Location asked most probe mid now a n e = a.lines.parsed n e
+has_more (lookups.Frames faults) asked most probe mid now a n e = has_all_more probe mid now (any_asked asked probe mid now a) n e
+
+-- one more unit was asked
+asked_over : (asks : Asks) (asked : ℕ → Type 0) (k most probe : ℕ) (old mid now : UnitsState) → WereAskedFor asks asked most probe old mid → WereAskedFor asks (λ n. n ≡ k) (steps_in mid.scope.file.sections (slice_get mid.units k)) probe mid now → asked k
+    → (left rest : ℕ) → LooksWithin asks left most old mid → left ≡ steps_in old.scope.file.sections (slice_get old.units k) + rest → WereAskedFor asks asked most probe old now × LooksWithin asks rest most old now
+asked_over lookups.Location asked k most probe old mid now w a first left rest looks is = (
+  record {
+    lines = lines_over asked k old mid now w.lines a.lines first;
+    raised = steps_raised old.steps mid.steps now.steps w.raised a.raised;
+    counted = λ found. steps_counted old.steps mid.steps now.steps w.raised (a.counted found);
+    cost = steps_of_one _ _ _ within;
+  },
+  within,
+)
+  where
+    within : now.steps + rest ≤ old.steps + most
+    within = steps_within mid.steps now.steps (old.steps + most) (steps_in old.scope.file.sections (slice_get old.units k)) rest left
+        (subst (λ (s : UnitsState). now.steps ≤ mid.steps + steps_in s.scope.file.sections (slice_get s.units k)) w.lines.same a.cost) looks is
+asked_over (lookups.Frames faults) asked k most probe old mid now w a first left rest looks is = (
+  record {
+    scope = a.scope ∙ w.scope;
+    units = a.units ∙ w.units;
+    answers = a.answers ∙ w.answers;
+    parsed = λ n e. a.parsed n (w.parsed n e);
+    known = known_twice old.known mid.known now.known w.known a.known;
+    only = parses_more (λ n. asked n × (asks_lines_of old.scope old.units old.answers probe n ≡ true)) (λ n. (n ≡ k) × (asks_lines_of old.scope old.units old.answers probe n ≡ true)) old.parsed mid.parsed now.parsed w.only
+        (at_old mid old w.scope w.units w.answers (λ s us xs. ParsesOnly (λ n. (n ≡ k) × (asks_lines_of s us xs probe n ≡ true)) mid.parsed now.parsed) a.only)
+        (λ n q. (subst asked (sym q.0) first, q.1));
+    learns = λ n. elim (a.learns n) [
+      | inl p ↦ elim (w.learns n) [ inl q ↦ inl (p ∙ q) | inr q ↦ inr q ]
+      | inr p ↦ inr (subst asked (sym p) first)
+    ];
+    details = λ n offset e. elim (at_old mid old w.scope w.units w.answers (λ s us xs. LearnsDetailsAt (function_offset_of s us xs probe) mid.known now.known) a.details n offset e) [
+      | inl before ↦ w.details n offset before
+      | inr here ↦ inr here
+    ];
+    raised = let x = w.raised in let y = a.raised in omega (arith, x, y);
+  },
+  tt,
+)
+
+module _ (asks : Asks) (probe : ℕ) (all : List UnitRange) (r : UnitRange) (rest ranges : List UnitRange) (is : ranges ≡ r ∷ rest) (old mid now : UnitsState) (w : Walked asks probe all ranges old mid) where
   abbrev frames : ℕ → FramesResult
-  frames = asked_by faults probe old
+  frames = asked_by asks probe old
 
-  module _ {X : Type 0} (result : Result X Error) (a : AfterAsk r.unit probe result mid now) where
-    first : LookupAsks frames all r.unit
-    first = asked_first frames r rest ranges all is w.asks
+  abbrev most : ℕ
+  most = steps_along old.scope.file.sections old.units all
 
-    pub both_asked : WereAsked (LookupAsks frames all) probe old now
-    both_asked = record {
-      scope = a.asked.scope ∙ w.asked.scope;
-      units = a.asked.units ∙ w.asked.units;
-      answers = a.asked.answers ∙ w.asked.answers;
-      parsed = λ n e. a.asked.parsed n (w.asked.parsed n e);
-      known = known_twice old.known mid.known now.known w.asked.known a.asked.known;
-      only = parses_more (λ n. LookupAsks frames all n × (asks_lines_of old.scope old.units old.answers probe n ≡ true)) (λ n. (n ≡ r.unit) × (asks_lines_of old.scope old.units old.answers probe n ≡ true)) old.parsed mid.parsed now.parsed w.asked.only
-          (at_old mid old w.asked.scope w.asked.units w.asked.answers (λ s us xs. ParsesOnly (λ n. (n ≡ r.unit) × (asks_lines_of s us xs probe n ≡ true)) mid.parsed now.parsed) a.asked.only)
-          (λ n q. (subst (LookupAsks frames all) (sym q.0) first, q.1));
-      learns = λ n. elim (a.asked.learns n) [
-        | inl p ↦ elim (w.asked.learns n) [ inl q ↦ inl (p ∙ q) | inr q ↦ inr q ]
-        | inr p ↦ inr (subst (LookupAsks frames all) (sym p) first)
-      ];
-      details = λ n offset e. elim (at_old mid old w.asked.scope w.asked.units w.asked.answers (λ s us xs. LearnsDetailsAt (function_offset_of s us xs probe) mid.known now.known) a.asked.details n offset e) [
-        | inl before ↦ w.asked.details n offset before
-        | inr here ↦ inr here
-      ];
-      raised = let x = w.asked.raised in let y = a.asked.raised in omega (arith, x, y);
-    }
+  -- what is said of the units so far is so of those before them
+  as_old : (P : Scope → List IndexedUnit → FirstAnswers → Type 0) → P mid.scope mid.units mid.answers → P old.scope old.units old.answers
+  as_old = at_old mid old (scope_same asks (LookupAsks frames all) most probe old mid w.asked) (units_same asks (LookupAsks frames all) most probe old mid w.asked) (answers_same asks (LookupAsks frames all) most probe old mid w.asked)
 
-    has_more_now : (n : ℕ) → has_all_at probe mid n ≡ true → has_all_at probe now n ≡ true
-    has_more_now = has_all_more probe mid now (any_asked (λ n. n ≡ r.unit) probe mid now a.asked)
+  module _ {X : Type 0} (result : Result X Error) (a : AfterAsk asks r.unit probe result mid now) where
+    both : WereAskedFor asks (LookupAsks frames all) most probe old now × LooksWithin asks (steps_along old.scope.file.sections old.units rest) most old now
+    both = asked_over asks (LookupAsks frames all) r.unit most probe old mid now w.asked a.asked (asked_first frames r rest ranges all is w.comes) (steps_along old.scope.file.sections old.units ranges)
+        (steps_along old.scope.file.sections old.units rest) w.looks (ap (steps_along old.scope.file.sections old.units) is ∙ steps_first old.scope.file.sections old.units r rest)
+
+    has_more_now : (n : ℕ) → has_asked_at asks probe mid n ≡ true → has_asked_at asks probe now n ≡ true
+    has_more_now = has_more asks (λ n. n ≡ r.unit) (steps_in mid.scope.file.sections (slice_get mid.units r.unit)) probe mid now a.asked
 
     -- the walk ends there
-    ended : ends_lookup (frames r.unit) ≡ true → AfterWalk faults probe all result old now
+    ended : ends_lookup (frames r.unit) ≡ true → AfterWalk asks probe all result old now
     ended ends = record {
-      asked = both_asked;
+      asked = both.0;
       stop = a.stop;
-      ready = λ told. w.more (has_all_at probe now) has_more_now (subst (λ xs. holds_along (has_all_at probe now) frames xs ≡ true) (sym is) (holds_ended frames r rest (has_all_at probe now) (a.ready told) ends));
-      memory = λ few. a.memory (holds_first frames r rest (has_few_at probe now) (subst (λ xs. holds_along (has_few_at probe now) frames xs ≡ true) is (w.less (has_few_at probe now) few)));
+      ready = λ told. w.more (has_asked_at asks probe now) has_more_now (subst (λ xs. holds_along (has_asked_at asks probe now) frames xs ≡ true) (sym is) (holds_ended frames r rest (has_asked_at asks probe now) (a.ready told) ends));
+      memory = λ few. a.memory (holds_first frames r rest (has_asked_few_at asks probe now) (subst (λ xs. holds_along (has_asked_few_at asks probe now) frames xs ≡ true) is (w.less (has_asked_few_at asks probe now) few)));
     }
 
-  here : (P : FramesResult → Type 0) → P (asked_by faults probe mid r.unit) → P (frames r.unit)
-  here P h = at_old mid old w.asked.scope w.asked.units w.asked.answers (λ s us xs. P (asked_frames faults s us xs probe r.unit)) h
+  here : (P : FramesResult → Type 0) → P (asked_by asks probe mid r.unit) → P (frames r.unit)
+  here P h = as_old (λ s us xs. P (asked_of_unit asks s us xs probe r.unit)) h
 
   -- a fault ends it
-  module _ {X : Type 0} (e : Error) (a : AfterAsk {X = X} r.unit probe (Err e) mid now) (gives : e ≢ OutOfMemory → stop_at faults probe mid r.unit ≡ Err e) where
+  module _ {X : Type 0} (e : Error) (a : AfterAsk {X = X} asks r.unit probe (Err e) mid now) (gives : e ≢ OutOfMemory → stop_at asks probe mid r.unit ≡ Err e) where
     frames_err : e ≢ OutOfMemory → frames r.unit ≡ Err e
     frames_err ne = step_err r.unit e (frames r.unit) (here (λ x. (x >>= or_stop r.unit (Ok FindsNothing)) ≡ Err e) (gives ne))
 
-    pub fault_gives : e ≢ OutOfMemory → stop_of faults probe old all ≡ Err e
+    pub fault_gives : e ≢ OutOfMemory → stop_of asks probe old all ≡ Err e
     fault_gives ne = sym w.rest_is ∙ ap (stop_along frames) is ∙ faults_there frames r rest e (frames_err ne)
 
     -- where the walk takes no memory, the refusal is the fault of a unit that it asks
-    pub fault_alone : (shares : Bool) → (asks_no_memory_at shares probe now r.unit ≡ true → IsFaultAt probe mid r.unit e) → holds_along (asks_no_memory_at shares probe now) frames all ≡ true → IsFaultAlong faults probe old all e
+    pub fault_alone : (shares : Bool) → (takes_none_at shares asks probe now r.unit ≡ true → IsFaultAt asks probe mid r.unit e) → holds_along (takes_none_at shares asks probe now) frames all ≡ true → IsFaultAlong asks probe old all e
     fault_alone shares alone none = (
       r.unit,
-      asked_first frames r rest ranges all is w.asks,
-      at_old mid old w.asked.scope w.asked.units w.asked.answers (λ s us xs. frames_of_number s us xs probe r.unit ≡ Err e)
-          (alone (holds_first frames r rest (asks_no_memory_at shares probe now) (subst (λ xs. holds_along (asks_no_memory_at shares probe now) frames xs ≡ true) is (w.less (asks_no_memory_at shares probe now) none)))),
+      asked_first frames r rest ranges all is w.comes,
+      as_old (λ s us xs. found_in_unit asks s us xs probe r.unit ≡ Err e)
+          (alone (holds_first frames r rest (takes_none_at shares asks probe now) (subst (λ xs. holds_along (takes_none_at shares asks probe now) frames xs ≡ true) is (w.less (takes_none_at shares asks probe now) none)))),
     )
 
-    pub fault_after : AfterWalk {X = X} faults probe all (Err e) old now
+    pub fault_after : AfterWalk {X = X} asks probe all (Err e) old now
     fault_after = record {
-      asked = both_asked (Err e) a;
+      asked = (both (Err e) a).0;
       stop = a.stop;
       ready = λ told. (ended (Err e) a (ap ends_lookup (frames_err told))).ready told;
-      memory = λ few. a.memory (holds_first frames r rest (has_few_at probe now) (subst (λ xs. holds_along (has_few_at probe now) frames xs ≡ true) is (w.less (has_few_at probe now) few)));
+      memory = λ few. a.memory (holds_first frames r rest (has_asked_few_at asks probe now) (subst (λ xs. holds_along (has_asked_few_at asks probe now) frames xs ≡ true) is (w.less (has_asked_few_at asks probe now) few)));
     }
 
-  module _ {X : Type 0} (x : X) (a : AfterAsk {X = X} r.unit probe (Ok x) mid now) (gives : stop_at faults probe mid r.unit ≡ Ok now.stop) where
+  module _ {X : Type 0} (x : X) (a : AfterAsk {X = X} asks r.unit probe (Ok x) mid now) (gives : stop_at asks probe mid r.unit ≡ Ok now.stop) where
     gave : (frames r.unit >>= or_stop r.unit (Ok FindsNothing)) ≡ Ok now.stop
     gave = here (λ y. (y >>= or_stop r.unit (Ok FindsNothing)) ≡ Ok now.stop) gives
 
-    pub stop_gives : has_stopped now.stop ≡ true → stop_of faults probe old all ≡ Ok now.stop
+    pub stop_gives : has_stopped now.stop ≡ true → stop_of asks probe old all ≡ Ok now.stop
     stop_gives k = sym w.rest_is ∙ ap (stop_along frames) is ∙ (step_stop r.unit now.stop (frames r.unit) gave k).1 (stop_along frames rest)
 
-    pub stop_after : has_stopped now.stop ≡ true → AfterWalk {X = X} faults probe all (Ok x) old now
+    pub stop_after : has_stopped now.stop ≡ true → AfterWalk {X = X} asks probe all (Ok x) old now
     stop_after k = ended (Ok x) a (step_stop r.unit now.stop (frames r.unit) gave k).0
 
-    pub walked_on : has_stopped now.stop ≡ false → Walked faults probe all rest old now
+    pub walked_on : has_stopped now.stop ≡ false → Walked asks probe all rest old now
     walked_on k =
         let on = step_on r.unit now.stop (frames r.unit) gave k in
         let ends : ends_lookup (frames r.unit) ≡ false = ap ends_lookup on.0 in
         record {
-          asked = both_asked (Ok x) a;
+          asked = (both (Ok x) a).0;
+          looks = (both (Ok x) a).1;
           stop = on.1;
           rest_is = sym (goes_on frames r rest on.0) ∙ sym (ap (stop_along frames) is) ∙ w.rest_is;
           less = λ holds h. holds_rest frames r rest holds ends (subst (λ xs. holds_along holds frames xs ≡ true) is (w.less holds h));
           more = λ holds f h. w.more holds (λ n e. f n (has_more_now (Ok x) a n e)) (subst (λ xs. holds_along holds frames xs ≡ true) (sym is) (holds_both frames r rest holds (f r.unit (a.ready tt)) h));
-          asks = λ n h. w.asks n (subst (λ xs. LookupAsks frames xs n) (sym is) (inr (ends, h)));
+          comes = λ n h. w.comes n (subst (λ xs. LookupAsks frames xs n) (sym is) (inr (ends, h)));
         }
 
 -- no range is left
-module _ (faults : OnFault) (probe : ℕ) (all ranges : List UnitRange) (is : ranges ≡ []) (old now : UnitsState) (w : Walked faults probe all ranges old now) where
-  pub end_gives : stop_of faults probe old all ≡ Ok now.stop
-  end_gives = sym w.rest_is ∙ ap (stop_along (asked_by faults probe old)) is ∙ ap (λ s. Ok s) (sym w.stop)
+module _ (asks : Asks) (probe : ℕ) (all ranges : List UnitRange) (is : ranges ≡ []) (old now : UnitsState) (w : Walked asks probe all ranges old now) where
+  pub end_gives : stop_of asks probe old all ≡ Ok now.stop
+  end_gives = sym w.rest_is ∙ ap (stop_along (asked_by asks probe old)) is ∙ ap (λ s. Ok s) (sym w.stop)
 
-  pub end_after : AfterWalk {X = Unit {0}} faults probe all (Ok tt) old now
+  pub end_after : AfterWalk {X = Unit {0}} asks probe all (Ok tt) old now
   end_after = record {
     asked = w.asked;
     stop = tt;
-    ready = λ told. w.more (has_all_at probe now) (λ n e. e) (ap (holds_along (has_all_at probe now) (asked_by faults probe old)) is);
+    ready = λ told. w.more (has_asked_at asks probe now) (λ n e. e) (ap (holds_along (has_asked_at asks probe now) (asked_by asks probe old)) is);
     memory = λ few. tt;
   }

@@ -1,11 +1,9 @@
--- Lookups of rows and parses of lines, one unit after another (on specs/UnitsAfter.antt and
+-- Lookups of locations and parses of lines, one unit after another (on specs/UnitsAfter.antt and
 -- specs/UnitsAsked.antt).
-use Rattle.addr2line_units.proofs.Common.{◌≡◌, ◌≢◌, inl, inr, ℕ, ◌+◌, ◌<◌, ◌≤◌, Bool, true, false, List, [], ◌∷◌, drop, length, slice_get, Option, Some, None, Result, Ok, Err, refl, sym, ap, subst, ◌∙◌, arith, false≢true, AllByRecursion, Error, OutOfMemory, fault_of, Sections, UnitRange, AfterCachingAt, AfterRowAt, lines_of_take_memory, lines_result_at, unit_row, FindsNothing, all_lines, first_location, location_in, steps_along, steps_in, AllAskFor, AreAllParsed, AreParsed, AsksFor, LeadTo, StaysParsed, decides, has_parsed, parses_no_memory, ready_along, takes_none_along, unit_decides, IndexedUnit, UnitsState, row_location}
-use Rattle.addr2line_lines.specs.declared.row.Row.{Row}
-use Rattle.addr2line_units.specs.UnitsAfter.{AfterCaching, AfterLineParse, AfterLines, AfterRow}
-use Rattle.addr2line_units.specs.IndexCover.{holds_until}
-use Rattle.addr2line_units.proofs.EntriesMemoryLemmas.{alone_if_none}
-use Rattle.addr2line_units.proofs.UnitsLinesLemmas.{all_parsed, first_location_fault, first_location_none, first_location_some, asks_more, lines_end, lines_more, lines_stop, steps_counted, steps_first, steps_of_one, steps_raised, steps_within, only_more, parsed_below, readable, ready_at_fault, ready_both, ready_decided, ready_first, such_first, such_rest}
+use Rattle.addr2line_units.proofs.Common.{◌≡◌, ◌≢◌, inl, inr, ℕ, ◌+◌, ◌<◌, ◌≤◌, Bool, true, false, List, [], ◌∷◌, drop, length, slice_get, Some, None, Result, Ok, Err, refl, sym, ap, subst, ◌∙◌, arith, AllByRecursion, Error, OutOfMemory, ◌>>=◌, ExactlyUnlessOom, fault_of, Sections, Asks, UnitRange, AfterCachingAt, lines_result_at, location_frames, FindsNothing, LookupStop, ends_lookup, located_frames, location_found, or_stop, stop_along, LocationResult, all_lines, first_location, location_in, or_first_location, AllAskFor, AreAllParsed, AreParsed, AsksFor, LeadTo, StaysParsed, has_parsed, parses_no_memory, IndexedUnit, FramesResult, UnitsState, stop_of, Option, reverse, DwLang, InlinedEntry, Location, FoundFunction, found_frames, frames_from, first_frame_location}
+use Rattle.addr2line_units.specs.declared.frames.Asks.TheVariants as lookups
+use Rattle.addr2line_units.specs.UnitsAfter.{AfterCaching, AfterLineParse, AfterLines}
+use Rattle.addr2line_units.proofs.UnitsLinesLemmas.{all_parsed, asks_more, lines_end, lines_more, lines_stop, only_more, parsed_below, readable, ready_at_fault}
 
 -- no lines were parsed yet
 pub lines_first : (asks : ℕ → Type 0) (old : UnitsState) → AfterLines asks old (record old { stop = FindsNothing })
@@ -14,143 +12,71 @@ lines_first asks old = record { same = refl; many = refl; parsed = λ n e. e; on
 -- those of one more unit
 pub lines_over : (asks : ℕ → Type 0) (k : ℕ) (old mid now : UnitsState) → AfterLines asks old mid → AfterLines (λ n. n ≡ k) mid now → asks k → AfterLines asks old now
 lines_over asks k old mid now a b asked = record {
-  same = b.same ∙ ap (λ (s : UnitsState). record s { parsed = now.parsed; steps = now.steps; stop = FindsNothing }) a.same;
+  same = b.same ∙ ap (λ (s : UnitsState). record s { parsed = now.parsed; steps = now.steps; stop = now.stop }) a.same;
   many = b.many ∙ a.many;
   parsed = λ n e. b.parsed n (a.parsed n e);
   only = only_more asks old.parsed mid.parsed now.parsed k a.only b.only asked;
 }
 
--- a lookup of a row that has gone on so far
-pub record RowsSoFar (probe : ℕ) (all rest : List UnitRange) (old now : UnitsState) : Type 0 where
-  pub lines : AfterLines (AsksFor old.scope.file.sections old.units probe all) old now
-  pub rest_is : first_location old.scope.file.sections old.units probe rest ≡ first_location old.scope.file.sections old.units probe all
-  pub less : (such : ℕ → Bool) → holds_until (unit_decides old.scope.file.sections old.units probe) such all ≡ true → holds_until (unit_decides old.scope.file.sections old.units probe) such rest ≡ true
-  pub more : (p : List Bool) → StaysParsed now.parsed p → ready_along old.scope.file.sections old.units p probe rest ≡ true → ready_along old.scope.file.sections old.units p probe all ≡ true
-  pub asks : (n : ℕ) → AsksFor old.scope.file.sections old.units probe rest n → AsksFor old.scope.file.sections old.units probe all n
-  pub cost : now.steps + steps_along old.scope.file.sections old.units rest ≤ old.steps + steps_along old.scope.file.sections old.units all
-  pub raised : old.steps ≤ now.steps
+-- the location that a lookup of a location finds along ranges is the first one
+module _ (d : Sections) (units : List IndexedUnit) (probe : ℕ) where
+  pub located_is : (ranges : List UnitRange) → (stop_along (located_frames d units probe) ranges >>= λ stop. Ok (location_found stop)) ≡ first_location d units probe ranges
+  located_is [] = refl
+  located_is (r ∷ ranges) = of_location (location_in d probe (slice_get units r.unit)) (located_is ranges)
+    where
+      of_location : (l : LocationResult) → (stop_along (located_frames d units probe) ranges >>= λ stop. Ok (location_found stop)) ≡ first_location d units probe ranges
+          → ((l >>= λ location. Ok (Some (location_frames location))) >>= or_stop r.unit (stop_along (located_frames d units probe) ranges) >>= λ stop. Ok (location_found stop)) ≡ (l >>= λ location. or_first_location (first_location d units probe ranges) location)
+      of_location (Ok None) e = e
+      of_location (Ok (Some x)) e = refl
+      of_location (Err x) e = refl
 
-pub rows_first : (probe : ℕ) (all : List UnitRange) (old : UnitsState) → RowsSoFar probe all all old (record old { stop = FindsNothing })
-rows_first probe all old = record {
-  lines = lines_first (AsksFor old.scope.file.sections old.units probe all) old;
-  rest_is = refl;
-  less = λ such e. e;
-  more = λ p stays e. e;
-  asks = λ n e. e;
-  cost = omega arith;
-  raised = omega arith;
-}
+-- the first of the frames that were found has the location of the address
+pub first_found : (files : List (List ℕ)) (language : Option DwLang) (f : Option FoundFunction) (location : Option Location) → first_frame_location (found_frames files language f location) ≡ location
+first_found files language None None = refl
+first_found files language None (Some l) = refl
+first_found files language (Some f) location = of_entries (reverse f.inlined)
+  where
+    of_entries : (es : List InlinedEntry) → first_frame_location (frames_from files language f.offset f.name es location) ≡ location
+    of_entries [] = refl
+    of_entries (e ∷ es) = refl
 
-module _ (probe : ℕ) (all : List UnitRange) (r : UnitRange) (rest ranges : List UnitRange) (is : ranges ≡ r ∷ rest) (old mid now : UnitsState) (w : RowsSoFar probe all ranges old mid) where
-  abbrev d : Sections
-  d = old.scope.file.sections
+-- what is told of a lookup is told of the location that it has found
+pub location_told : {X : Type 0} (asks : Asks) (probe : ℕ) (ranges : List UnitRange) (old : UnitsState) (result : Result X Error) (stop : LookupStop) → ExactlyUnlessOom (λ _. stop) result (stop_of asks probe old ranges) → asks ≡ lookups.Location
+    → ExactlyUnlessOom (λ _. location_found stop) result (first_location old.scope.file.sections old.units probe ranges)
+location_told lookups.Location probe ranges old (Ok x) stop e is =
+    sym (located_is old.scope.file.sections old.units probe ranges) ∙ ap (λ (r : Result LookupStop Error). r >>= λ s. Ok (location_found s)) e
+location_told lookups.Location probe ranges old (Err x) stop e is =
+    λ ne. sym (located_is old.scope.file.sections old.units probe ranges) ∙ ap (λ (r : Result LookupStop Error). r >>= λ s. Ok (location_found s)) (e ne)
+location_told (lookups.Frames faults) probe ranges old result stop e is = absurd cc
 
-  abbrev us : List IndexedUnit
-  us = old.units
+-- a fault of a unit that is asked for a location is the first one along ranges
+pub located_fault : (d : Sections) (units : List IndexedUnit) (probe : ℕ) (ranges : List UnitRange) (n : ℕ) (e : Error) → AsksFor d units probe ranges n → located_frames d units probe n ≡ Err e → first_location d units probe ranges ≡ Err e
+located_fault d units probe ranges n e asked fault = sym (located_is d units probe ranges) ∙ ap (λ (r : Result LookupStop Error). r >>= λ s. Ok (location_found s)) (along ranges asked)
+  where
+    passed : (k : ℕ) (rest : Result LookupStop Error) (r : FramesResult) → ends_lookup r ≡ false → rest ≡ Err e → (r >>= or_stop k rest) ≡ Err e
+    passed k rest (Err x) ends h = absurd cc
+    passed k rest (Ok None) ends h = absurd cc
+    passed k rest (Ok (Some [])) ends h = h
+    passed k rest (Ok (Some (f ∷ fs))) ends h = absurd cc
 
-  asked : AsksFor d us probe all r.unit
-  asked = w.asks r.unit (subst (λ xs. AsksFor d us probe xs r.unit) (sym is) (inl refl))
-
-  module _ (result : Result (Option Row) Error) (a : AfterRowAt r.unit result mid now) where
-    both_lines : AfterLines (AsksFor d us probe all) old now
-    both_lines = lines_over (AsksFor d us probe all) r.unit old mid now w.lines a.lines asked
-
-    raised_now : old.steps ≤ now.steps
-    raised_now = steps_raised old.steps mid.steps now.steps w.raised a.raised
-
-    cost_now : now.steps + steps_along d us rest ≤ old.steps + steps_along d us all
-    cost_now = steps_within mid.steps now.steps (old.steps + steps_along d us all) (steps_in d (slice_get us r.unit)) (steps_along d us rest) (steps_along d us ranges)
-        (subst (λ (s : UnitsState). now.steps ≤ mid.steps + steps_in s.scope.file.sections (slice_get s.units r.unit)) w.lines.same a.cost)
-        w.cost (ap (steps_along d us) is ∙ steps_first d us r rest)
-
-  -- a fault ends it
-  module _ (e : Error) (a : AfterRowAt {X = Row} r.unit (Err e) mid now) (gives : e ≢ OutOfMemory → location_in mid.scope.file.sections probe (slice_get mid.units r.unit) ≡ Err e) where
-    fault : e ≢ OutOfMemory → location_in d probe (slice_get us r.unit) ≡ Err e
-    fault ne = subst (λ (s : UnitsState). location_in s.scope.file.sections probe (slice_get s.units r.unit) ≡ Err e) w.lines.same (gives ne)
-
-    there : location_in d probe (slice_get us r.unit) ≡ Err e → first_location d us probe all ≡ Err e
-    there f = sym w.rest_is ∙ ap (first_location d us probe) is ∙ first_location_fault d us probe r rest e f
-
-    pub row_fault : e ≢ OutOfMemory → first_location d us probe all ≡ Err e
-    row_fault ne = there (fault ne)
-
-    pub row_fault_after : {X : Type 0} → AfterRow {X = X} probe all (Err e) old now
-    row_fault_after = record {
-      lines = both_lines (Err e) a;
-      ready = λ ne. w.more now.parsed a.lines.parsed (subst (λ xs. ready_along d us now.parsed probe xs ≡ true) (sym is) (ready_decided d us probe r rest now.parsed (a.ready ne) (ap decides (fault ne))));
-      memory = λ ready. a.memory (ready_first d us probe r rest now.parsed (subst (λ xs. ready_along d us now.parsed probe xs ≡ true) is (w.less (has_parsed now.parsed) ready)));
-      raised = raised_now (Err e) a;
-      counted = λ found. absurd (false≢true found);
-      cost = steps_of_one _ _ _ (cost_now (Err e) a);
-    }
-
-    pub row_fault_alone : (shares : Bool) → (lines_of_take_memory shares mid.units r.unit ≡ false → location_in mid.scope.file.sections probe (slice_get mid.units r.unit) ≡ Err e)
-        → takes_none_along shares d us now.parsed probe all ≡ true → first_location d us probe all ≡ Err e
-    row_fault_alone shares alone none =
-        let such = parses_no_memory shares us now.parsed in
-        let here = such_first d us probe r rest such (subst (λ xs. holds_until (unit_decides d us probe) such xs ≡ true) is (w.less such none)) in
-        there (alone_if_none (has_parsed now.parsed r.unit) (lines_of_take_memory shares us r.unit) e (location_in d probe (slice_get us r.unit)) here a.memory fault
-        (subst (λ (s : UnitsState). lines_of_take_memory shares s.units r.unit ≡ false → location_in s.scope.file.sections probe (slice_get s.units r.unit) ≡ Err e) w.lines.same alone))
-
-  -- so does a row
-  module _ (row : Row) (a : AfterRowAt r.unit (Ok (Some row)) mid now) (gives : location_in mid.scope.file.sections probe (slice_get mid.units r.unit) ≡ Ok (Some (row_location mid (unit_row r.unit row)))) where
-    found : location_in d probe (slice_get us r.unit) ≡ Ok (Some (row_location old (unit_row r.unit row)))
-    found = subst (λ (s : UnitsState). location_in s.scope.file.sections probe (slice_get s.units r.unit) ≡ Ok (Some (row_location s (unit_row r.unit row)))) w.lines.same gives
-
-    pub row_gives : first_location d us probe all ≡ Ok (Some (row_location old (unit_row r.unit row)))
-    row_gives = sym w.rest_is ∙ ap (first_location d us probe) is ∙ first_location_some d us probe r rest _ found
-
-    pub row_after : AfterRow probe all (Ok (Some (unit_row r.unit row))) old now
-    row_after = record {
-      lines = both_lines (Ok (Some row)) a;
-      ready = λ told. w.more now.parsed a.lines.parsed (subst (λ xs. ready_along d us now.parsed probe xs ≡ true) (sym is) (ready_decided d us probe r rest now.parsed (a.ready tt) (ap decides found)));
-      memory = λ ready. tt;
-      raised = raised_now (Ok (Some row)) a;
-      counted = λ told. steps_counted old.steps mid.steps now.steps w.raised (a.counted refl);
-      cost = steps_of_one _ _ _ (cost_now (Ok (Some row)) a);
-    }
-
-  -- else it goes on
-  module _ (a : AfterRowAt {X = Row} r.unit (Ok None) mid now) (gives : location_in mid.scope.file.sections probe (slice_get mid.units r.unit) ≡ Ok None) where
-    nothing : location_in d probe (slice_get us r.unit) ≡ Ok None
-    nothing = subst (λ (s : UnitsState). location_in s.scope.file.sections probe (slice_get s.units r.unit) ≡ Ok None) w.lines.same gives
-
-    pub rows_on : RowsSoFar probe all rest old now
-    rows_on = record {
-      lines = both_lines (Ok None) a;
-      rest_is = sym (first_location_none d us probe r rest nothing) ∙ sym (ap (first_location d us probe) is) ∙ w.rest_is;
-      less = λ such e. such_rest d us probe r rest such nothing (subst (λ xs. holds_until (unit_decides d us probe) such xs ≡ true) is (w.less such e));
-      more = λ p stays e. w.more p (λ n parsed. stays n (a.lines.parsed n parsed)) (subst (λ xs. ready_along d us p probe xs ≡ true) (sym is) (ready_both d us probe r rest p (stays r.unit (a.ready tt)) e));
-      asks = λ n e. w.asks n (subst (λ xs. AsksFor d us probe xs n) (sym is) (inr (ap decides nothing, e)));
-      cost = cost_now (Ok None) a;
-      raised = raised_now (Ok None) a;
-    }
-
--- no range is left
-module _ (probe : ℕ) (all ranges : List UnitRange) (is : ranges ≡ []) (old now : UnitsState) (w : RowsSoFar probe all ranges old now) where
-  pub rows_end : first_location old.scope.file.sections old.units probe all ≡ Ok None
-  rows_end = sym w.rest_is ∙ ap (first_location old.scope.file.sections old.units probe) is
-
-  pub rows_end_after : {X : Type 0} → AfterRow {X = X} probe all (Ok None) old now
-  rows_end_after = record {
-    lines = w.lines;
-    ready = λ told. w.more now.parsed (λ n e. e) (ap (ready_along old.scope.file.sections old.units now.parsed probe) is);
-    memory = λ ready. tt;
-    raised = w.raised;
-    counted = λ found. absurd (false≢true found);
-    cost = steps_of_one _ _ _ w.cost;
-  }
+    along : (rs : List UnitRange) → AsksFor d units probe rs n → stop_along (located_frames d units probe) rs ≡ Err e
+    along [] asked = absurd asked
+    along (r ∷ rs) asked = elim asked [
+      | inl is ↦ ap (λ x. x >>= or_stop r.unit (stop_along (located_frames d units probe) rs)) (ap (located_frames d units probe) (sym is) ∙ fault)
+      | inr more ↦ passed r.unit (stop_along (located_frames d units probe) rs) (located_frames d units probe r.unit) more.0 (along rs more.1)
+    ]
 
 -- a parse of lines along ranges that has gone on so far
 pub record CachedSoFar (all rest : List UnitRange) (old now : UnitsState) : Type 0 where
   pub lines : AfterLines (LeadTo all) old now
+  pub stop : now.stop ≡ FindsNothing
   pub steps : now.steps ≡ old.steps
   pub less : (such : ℕ → Bool) → AllByRecursion (λ (r : UnitRange). such r.unit ≡ true) all → AllByRecursion (λ (r : UnitRange). such r.unit ≡ true) rest
   pub more : (p : List Bool) → StaysParsed now.parsed p → AreParsed p rest → AreParsed p all
   pub leads : (n : ℕ) → LeadTo rest n → LeadTo all n
 
 pub cached_first : (all : List UnitRange) (old : UnitsState) → CachedSoFar all all old (record old { stop = FindsNothing })
-cached_first all old = record { lines = lines_first (LeadTo all) old; steps = refl; less = λ such e. e; more = λ p stays e. e; leads = λ n e. e }
+cached_first all old = record { lines = lines_first (LeadTo all) old; stop = refl; steps = refl; less = λ such e. e; more = λ p stays e. e; leads = λ n e. e }
 
 module _ (shares : Bool) (all : List UnitRange) (r : UnitRange) (rest ranges : List UnitRange) (is : ranges ≡ r ∷ rest) (old mid now : UnitsState) (w : CachedSoFar all ranges old mid) where
   led : LeadTo all r.unit
@@ -160,6 +86,7 @@ module _ (shares : Bool) (all : List UnitRange) (r : UnitRange) (rest ranges : L
     pub cached_fault : {X : Type 0} → AfterCaching {X = X} shares all (Err e) old now
     cached_fault = record {
       lines = lines_over (LeadTo all) r.unit old mid now w.lines a.lines led;
+      stop = a.stop;
       steps = a.steps ∙ w.steps;
       parsed = tt;
       memory = λ none. a.memory (subst (λ (s : UnitsState). parses_no_memory shares s.units now.parsed r.unit ≡ true) (sym w.lines.same)
@@ -171,6 +98,7 @@ module _ (shares : Bool) (all : List UnitRange) (r : UnitRange) (rest ranges : L
     pub cached_on : CachedSoFar all rest old now
     cached_on = record {
       lines = lines_over (LeadTo all) r.unit old mid now w.lines a.lines led;
+      stop = a.stop;
       steps = a.steps ∙ w.steps;
       less = λ such e. (subst (AllByRecursion (λ (x : UnitRange). such x.unit ≡ true)) is (w.less such e)).1;
       more = λ p stays e. w.more p (λ n parsed. stays n (a.lines.parsed n parsed)) (subst (AreParsed p) (sym is) (stays r.unit (a.ready tt), e));
@@ -181,6 +109,7 @@ module _ (shares : Bool) (all ranges : List UnitRange) (is : ranges ≡ []) (old
   pub cached_end : AfterCaching {X = Unit {0}} shares all (Ok tt) old now
   cached_end = record {
     lines = w.lines;
+    stop = w.stop;
     steps = w.steps;
     parsed = w.more now.parsed (λ n e. e) (subst (AreParsed now.parsed) (sym is) tt);
     memory = λ none. tt;
@@ -190,6 +119,7 @@ module _ (shares : Bool) (all ranges : List UnitRange) (is : ranges ≡ []) (old
 -- a parse of the lines of all units that has come to the unit of a number
 pub record ParsedSoFar (k : ℕ) (old now : UnitsState) : Type 0 where
   pub lines : AfterLines (AllAskFor old.scope.file.sections old.units) old now
+  pub stop : now.stop ≡ FindsNothing
   pub steps : now.steps ≡ old.steps
   pub rest : fault_of (all_lines old.scope.file.sections (drop k old.units)) ≡ fault_of (all_lines old.scope.file.sections old.units)
   pub parsed : (n : ℕ) → n < k → has_parsed now.parsed n ≡ true
@@ -198,6 +128,7 @@ pub record ParsedSoFar (k : ℕ) (old now : UnitsState) : Type 0 where
 pub parsed_first : (old : UnitsState) → ParsedSoFar 0 old (record old { stop = FindsNothing })
 parsed_first old = record {
   lines = lines_first (AllAskFor old.scope.file.sections old.units) old;
+  stop = refl;
   steps = refl;
   rest = refl;
   parsed = λ n below. absurd (omega (arith, below));
@@ -218,6 +149,7 @@ module _ (shares : Bool) (k : ℕ) (old mid now : UnitsState) (w : ParsedSoFar k
     pub parse_fault_after : AfterLineParse shares (Err e) old now
     parse_fault_after = record {
       lines = both (Err e) a;
+      stop = a.stop;
       steps = a.steps ∙ w.steps;
       ready = λ ne. ready_at_fault old.scope.file.sections old.units now.parsed k e (λ n below. a.lines.parsed n (w.parsed n below)) (a.ready ne) (lines_fault ne);
       memory = λ none. a.memory (subst (λ (s : UnitsState). parses_no_memory shares s.units now.parsed k ≡ true) (sym w.lines.same) (none k w.before));
@@ -231,6 +163,7 @@ module _ (shares : Bool) (k : ℕ) (old mid now : UnitsState) (w : ParsedSoFar k
     pub parsed_on : ParsedSoFar (k + 1) old now
     parsed_on = record {
       lines = both (Ok tt) a;
+      stop = a.stop;
       steps = a.steps ∙ w.steps;
       rest = sym (lines_more old.scope.file.sections old.units k within read) ∙ w.rest;
       parsed = parsed_below now.parsed k (λ n below. a.lines.parsed n (w.parsed n below)) (a.ready tt);
@@ -247,6 +180,7 @@ module _ (shares : Bool) (k : ℕ) (old now : UnitsState) (w : ParsedSoFar k old
   pub parsed_end_after : AfterLineParse shares (Ok tt) old now
   parsed_end_after = record {
     lines = w.lines;
+    stop = w.stop;
     steps = w.steps;
     ready = λ told n asked. all n;
     memory = λ none. tt;

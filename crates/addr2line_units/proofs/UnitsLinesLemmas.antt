@@ -1,10 +1,9 @@
 -- The units of a context whose lines are cached one after another (on specs/UnitLinesCached.antt and
 -- specs/LocationsParsed.antt).
-use Rattle.addr2line_units.proofs.Common.{◌≡◌, ℕ, zero, suc, ◌+◌, ◌-◌, ◌≤◌, ◌<◌, Bool, true, false, not, ◌&&◌, ◌||◌, List, [], ◌∷◌, ◌++◌, length, map, drop, add-one, get_or, Option, Some, None, slice_get, Result, Ok, Err, is_ok, refl, sym, ap, subst, arith, ◌∙◌, ◌⊎◌, inl, inr, drop_of_length-le, set, Error, Range, ◌>>=◌, ExactlyUnlessOom, fault_of, result_map, WasNotRefused, Sections, UnitRecord, LineTable, Location, read_all, unit_lines, LazyLines, UnitLines, UnitCache, UnitRange, IndexedUnit, has_lines, range_of_unit, unit_ranges, all_lines, first_location, lines_of_unit, location_in, steps_along, steps_in, or_first_location, lines_of_take_memory, AllAskFor, AreParsed, AreReadyForAll, ParsesOnly, StaysParsed, TakeNone, TakeNoneForAll, can_be_read, decides, has_parsed, parses_no_memory, ready_along, unit_decides, AreLinesOf, CachesResult, HaveLinesOf, StayUnits, StaysUnit, indexed_unit, indexed_units, is_parsed, is_uncached, lines_result, lines_result_at, lines_at, parsed_units}
+use Rattle.addr2line_units.proofs.Common.{◌≡◌, ℕ, zero, suc, ◌+◌, ◌-◌, ◌≤◌, ◌<◌, Bool, true, false, not, ◌||◌, List, [], ◌∷◌, ◌++◌, length, map, drop, add-one, get_or, Option, Some, None, slice_get, Result, Ok, Err, is_ok, refl, sym, ap, subst, arith, ◌∙◌, ◌⊎◌, inl, inr, drop_of_length-le, set, Error, Range, ◌>>=◌, ExactlyUnlessOom, fault_of, result_map, WasNotRefused, Sections, UnitRecord, LineTable, read_all, unit_lines, LazyLines, UnitLines, UnitCache, UnitRange, IndexedUnit, has_lines, range_of_unit, unit_ranges, all_lines, lines_of_unit, steps_along, steps_in, lines_of_take_memory, AllAskFor, AreParsed, AreReadyForAll, ParsesOnly, StaysParsed, TakeNone, TakeNoneForAll, can_be_read, has_parsed, parses_no_memory, AreLinesOf, CachesResult, HaveLinesOf, StayUnits, StaysUnit, indexed_unit, indexed_units, is_parsed, is_uncached, lines_result, lines_result_at, lines_at, parsed_units}
 use Rattle.std.proofs.lemmas.List.{append-nil}
 use Rattle.std.proofs.lemmas.List.Sums.{sum_by-cons}
 use Rattle.addr2line_units.specs.UnitsIndexed.{IndexState, appended, ranged_seen}
-use Rattle.addr2line_units.specs.IndexCover.{holds_until}
 
 -- what is cached is no longer uncached
 parsed_is : (l : LazyLines) → not (is_uncached l) ≡ true → is_uncached l ≡ false
@@ -152,62 +151,6 @@ pushed d us rs u old new given ranges now own lang parsed more =
 pub answer_cached : {X : Type 0} (old : LazyLines) (result : Result X Error) (new : LazyLines) → CachesResult old result new → WasNotRefused result → is_uncached new ≡ false
 answer_cached old (Ok x) new h n = h
 answer_cached old (Err e) new h n = h.0 n
-
--- along ranges
-module _ (d : Sections) (units : List IndexedUnit) (probe : ℕ) (r : UnitRange) (rest : List UnitRange) where
-  pub first_location_none : location_in d probe (slice_get units r.unit) ≡ Ok None → first_location d units probe (r ∷ rest) ≡ first_location d units probe rest
-  first_location_none e = ap (λ x. x >>= λ location. or_first_location (first_location d units probe rest) location) e
-
-  pub first_location_some : (l : Location) → location_in d probe (slice_get units r.unit) ≡ Ok (Some l) → first_location d units probe (r ∷ rest) ≡ Ok (Some l)
-  first_location_some l e = ap (λ x. x >>= λ location. or_first_location (first_location d units probe rest) location) e
-
-  pub first_location_fault : (f : Error) → location_in d probe (slice_get units r.unit) ≡ Err f → first_location d units probe (r ∷ rest) ≡ Err f
-  first_location_fault f e = ap (λ x. x >>= λ location. or_first_location (first_location d units probe rest) location) e
-
-  -- what is so of the units that a lookup asks is so of the first, and of the others unless it decides
-  pub such_first : (such : ℕ → Bool) → holds_until (unit_decides d units probe) such (r ∷ rest) ≡ true → such r.unit ≡ true
-  such_first such e = of_bools (such r.unit) _ e
-    where
-      of_bools : (a b : Bool) → (a && b) ≡ true → a ≡ true
-      of_bools true b e = refl
-      of_bools false b e = e
-
-  -- a lookup that is ready has the lines of the first unit
-  pub ready_first : (p : List Bool) → ready_along d units p probe (r ∷ rest) ≡ true → has_parsed p r.unit ≡ true
-  ready_first p e = such_first (has_parsed p) e
-
-  pub such_rest : (such : ℕ → Bool) → location_in d probe (slice_get units r.unit) ≡ Ok None → holds_until (unit_decides d units probe) such (r ∷ rest) ≡ true → holds_until (unit_decides d units probe) such rest ≡ true
-  such_rest such e k = of_bools (such r.unit) (decides (location_in d probe (slice_get units r.unit))) (holds_until (unit_decides d units probe) such rest) (ap decides e) k
-    where
-      of_bools : (a b c : Bool) → b ≡ false → (a && (b || c)) ≡ true → c ≡ true
-      of_bools true false c e k = k
-      of_bools true true c e k = absurd (true_false e)
-        where
-          true_false : true ≡ false → ⊥
-          true_false h = cc
-      of_bools false b c e k = absurd (false_true k)
-        where
-          false_true : false ≡ true → ⊥
-          false_true h = cc
-
-  pub ready_both : (p : List Bool) → has_parsed p r.unit ≡ true → ready_along d units p probe rest ≡ true → ready_along d units p probe (r ∷ rest) ≡ true
-  ready_both p a c = of_bools (has_parsed p r.unit) (decides (location_in d probe (slice_get units r.unit))) (ready_along d units p probe rest) a c
-    where
-      of_bools : (a b c : Bool) → a ≡ true → c ≡ true → (a && (b || c)) ≡ true
-      of_bools true true c e k = refl
-      of_bools true false c e k = k
-      of_bools false b c e k = e
-
-  pub ready_decided : (p : List Bool) → has_parsed p r.unit ≡ true → decides (location_in d probe (slice_get units r.unit)) ≡ true → ready_along d units p probe (r ∷ rest) ≡ true
-  ready_decided p a c = of_bools (has_parsed p r.unit) (decides (location_in d probe (slice_get units r.unit))) (ready_along d units p probe rest) a c
-    where
-      of_bools : (a b c : Bool) → a ≡ true → b ≡ true → (a && (b || c)) ≡ true
-      of_bools true true c e k = refl
-      of_bools true false c e k = absurd (false_true k)
-        where
-          false_true : false ≡ true → ⊥
-          false_true h = cc
-      of_bools false b c e k = e
 
 -- the lines of a unit, or their fault
 module _ {R : Type 0} (d : Sections) (us : List UnitRecord) (rs : List (UnitCache R)) (n : ℕ) (u : UnitRecord) (r : UnitCache R) (lines : Option LineTable) (result : Result (Unit {0}) Error) (own : HaveLinesOf d us rs) (h : n < length rs) (e : u ≡ get_or us n u) (f : r ≡ get_or rs n r) where

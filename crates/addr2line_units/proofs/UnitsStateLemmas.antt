@@ -1,6 +1,6 @@
 -- What calls leave of the units of a context, by what is cached of them (on specs/UnitsAfter.antt
 -- and specs/UnitsStored.antt).
-use Rattle.addr2line_units.proofs.Common.{◌≡◌, ◌≢◌, ◌⊎◌, inl, inr, ℕ, zero, suc, ◌<◌, ◌≤◌, ◌&&◌, ◌||◌, ◌++◌, Bool, true, false, not, List, [], ◌∷◌, length, get_or, slice_get, Option, Some, None, option_map, unwrap_or, Result, Ok, Err, refl, sym, ap, subst, ◌∙◌, eqb_tells, length-map, IfErr, OnOk, Error, OutOfMemory, WasNotRefused, Range, Sections, UnitRecord, Scope, unit_lines, FramesStop, UnitRange, ReadingDepth, LazyLines, UnitCache, has_entries, IsLendable, as_stop, AreLinesOf, HaveLinesOf, HaveSameEntries, StayUnits, cached_files, cached_spans, indexed_units, is_parsed, is_uncached, lines_at, parsed_units, HaveEntriesOf, HaveSameLines, StayAllEntries, answers_in, decided_at, has_entries_at, waits_at, FindsNothing, LookupStop, Waits, answer_of, ends_lookup, holds_along, with_answer, IsReadyFor, known_in, KnownEntries, LearnsNoFunctions, forgotten, is_open_at, load_result, spans_along, spans_in, spans_or_fault, AreParsed, ParsesOnly, has_parsed, IndexedUnit, as_units_state, FramesResult, UnitsState, table_files, files_of, FirstAnswers, SplitLoad, load_of_unit}
+use Rattle.addr2line_units.proofs.Common.{◌≡◌, ◌≢◌, ◌⊎◌, inl, inr, ℕ, zero, suc, ◌<◌, ◌≤◌, ◌&&◌, ◌||◌, ◌++◌, Bool, true, false, not, List, [], ◌∷◌, length, get_or, slice_get, Option, Some, None, option_map, unwrap_or, Result, Ok, Err, refl, sym, ap, subst, ◌∙◌, eqb_tells, length-map, IfErr, OnOk, Error, OutOfMemory, WasNotRefused, Range, Sections, UnitRecord, Scope, unit_lines, FramesStop, UnitRange, ReadingDepth, LazyLines, UnitCache, has_entries, IsLendable, as_stop, AreLinesOf, HaveLinesOf, HaveSameEntries, StayUnits, cached_spans, indexed_units, is_parsed, is_uncached, lines_at, parsed_units, HaveEntriesOf, HaveSameLines, StayAllEntries, answers_in, decided_at, has_entries_at, waits_at, FindsNothing, LookupStop, Waits, answer_of, ends_lookup, holds_along, with_answer, IsReadyFor, known_in, KnownEntries, LearnsNoFunctions, forgotten, is_open_at, load_result, spans_along, spans_in, spans_or_fault, AreParsed, ParsesOnly, has_parsed, IndexedUnit, as_units_state, FramesResult, UnitsState, FirstAnswers, SplitLoad, load_of_unit}
 use Rattle.std.specs.Prelude.{IfOk, IfSome, is_some}
 use Rattle.addr2line_units.specs.declared.frames.FramePlace.{FramePlace}
 use Rattle.addr2line_units.specs.declared.frames.FramesStop.TheVariants as stops
@@ -38,20 +38,6 @@ pub load_there : (d : Sections) (us : List UnitRecord) (n : ℕ) (u : UnitRecord
 load_there d us n u h e (Ok l) told = ap (option_map (load_of_unit d n)) (got_unit us n u h e) ∙ ap Some told
 load_there d us n u h e (Err x) told = tt
 
--- the texts of the files of a unit whose lines are parsed are those that are cached
-pub files_are : {R : Type 0} (d : Sections) (us : List UnitRecord) (rs : List (UnitCache R)) (n : ℕ) → HaveLinesOf d us rs → has_parsed (parsed_units rs) n ≡ true → files_of d (slice_get (indexed_units us rs) n) ≡ cached_files (lines_at rs n)
-files_are d [] [] n own e = refl
-files_are d [] (r ∷ rs) n own e = absurd own
-files_are d (u ∷ us) [] n own e = absurd own
-files_are d (u ∷ us) (r ∷ rs) zero own e = of_lines r.lines.lines own.0 e
-  where
-    of_lines : (l : LazyLines) → AreLinesOf d u l → not (is_uncached l) ≡ true → table_files (unit_lines d u) ≡ cached_files l
-    of_lines Unread h k = absurd (let f : false ≡ true = k in cc)
-    of_lines Absent h k = ap table_files h
-    of_lines (Read lines) h k = ap table_files h
-    of_lines (Faulty f) h k = ap table_files h.0
-files_are d (u ∷ us) (r ∷ rs) (suc n) own e = files_are d us rs n own.1 e
-
 -- what cached lines have in ranges is what the lines of the units have
 module _ {R : Type 0} (d : Sections) (low high : ℕ) where
   spans_at : (us : List UnitRecord) (rs : List (UnitCache R)) (n : ℕ) (range : Range) → HaveLinesOf d us rs → has_parsed (parsed_units rs) n ≡ true → spans_in d low high range (slice_get (indexed_units us rs) n) ≡ cached_spans range low high (lines_at rs n)
@@ -88,15 +74,15 @@ module _ {R : Type 0} (scope : Scope) (held : List (UnitCache R)) where
   us = scope.file.units
 
   -- after lines were parsed
-  module _ (now : List (UnitCache R)) (stay : StayUnits held now) (same : HaveSameEntries held now) (steps later : ℕ) (was : LookupStop) where
+  module _ (now : List (UnitCache R)) (stay : StayUnits held now) (same : HaveSameEntries held now) (steps later : ℕ) (was stop : LookupStop) where
     abbrev before : UnitsState
     before = as_units_state scope held steps was
 
     abbrev after : UnitsState
-    after = as_units_state scope now later FindsNothing
+    after = as_units_state scope now later stop
 
     abbrev with_units : List IndexedUnit → FirstAnswers → List KnownEntries → UnitsState
-    with_units xs answers known = record { scope = scope; units = xs; answers = answers; parsed = parsed_units now; known = known; steps = later; stop = FindsNothing }
+    with_units xs answers known = record { scope = scope; units = xs; answers = answers; parsed = parsed_units now; known = known; steps = later; stop = stop }
 
     pub after_lines : (asks : ℕ → Type 0) → ParsesOnly asks (parsed_units held) (parsed_units now) → AfterLines asks before after
     after_lines asks only = record {

@@ -3,6 +3,7 @@ use Rattle.std.specs.Prelude.{◌≡◌, ◌&&◌, ℕ, Bool, true, false, is_ok
 use Rattle.addr2line_units.specs.declared.entries.LazyFunctions.{LazyFunctions}
 use Rattle.addr2line_units.specs.declared.entries.LazyFunctions.TheVariants as functions
 use Rattle.addr2line_units.specs.declared.entries.UnitCache.{UnitCache}
+use Rattle.addr2line_units.specs.declared.frames.Asks.TheVariants.{Frames}
 use Rattle.addr2line_units.specs.declared.frames.OnFault.{OnFault}
 use Rattle.addr2line_units.specs.declared.unit.LazyLines.{LazyLines}
 use Rattle.addr2line_units.specs.declared.unit.LazyLines.TheVariants as lines
@@ -34,7 +35,8 @@ abbrev pub has_nothing : {R : Type 0} → UnitCache R → Bool
 has_nothing c = has_no_functions c.entries.functions
     && (has_no_lines c.lines.lines && has_view c.entries.view.state)
 
--- no lookup finds anything in the unit of a number, and nothing is left to read there
+-- no lookup of frames finds anything in the unit of a number, and nothing is left to read there
 pub record HasNothingAt (s : UnitsState) (n : ℕ) : Type 0 where
-  pub stop : (faults : OnFault) (probe : ℕ) → stop_at faults probe s n ≡ Ok FindsNothing
+  pub stop : (faults : OnFault) (probe : ℕ)
+      → stop_at (Frames faults) probe s n ≡ Ok FindsNothing
   pub known : (probe : ℕ) → has_all_at probe s n ≡ true

@@ -6,13 +6,13 @@ use Rattle.std.specs.Prelude.{ℕ, List, Option, IfOk, IfSome}
 use Rattle.addr2line_units.specs.Common.{WasNotRefused, Section, UnitHeaderFields, Sections, SupSections, UnitRecord, Scope}
 use Rattle.gimli_read.specs.FaultLaws.{NoneWasRefused}
 use Rattle.addr2line_units.specs.declared.index.UnitArange.{UnitArange}
-use Rattle.addr2line_units.specs.declared.frames.OnFault.{OnFault}
+use Rattle.addr2line_units.specs.declared.frames.Asks.{Asks}
 use Rattle.addr2line_units.specs.declared.index.UnitRange.{UnitRange}
 use Rattle.addr2line_units.specs.declared.parses.ReadingDepth.{ReadingDepth}
 use Rattle.addr2line_units.specs.UnitsAsked.{stop_at}
 use Rattle.addr2line_units.specs.EntriesFunctions.{functions_fault}
 use Rattle.addr2line_units.specs.Frames.{function_at}
-use Rattle.addr2line_units.specs.FramesLookup.{asked_frames, frames_of_number}
+use Rattle.addr2line_units.specs.FramesLookup.{asked_of_unit, frames_of_number}
 use Rattle.addr2line_units.specs.Parses.{read_of_unit, read_of_units}
 use Rattle.addr2line_units.specs.Loads.{forget_result, load_result, unit_of_token}
 use Rattle.addr2line_units.specs.Locations.{all_lines, first_location, lines_of_unit, location_in, location_of, spans_along, spans_of}
@@ -74,13 +74,13 @@ pub record FramesAreNotRefused : Type 0 where
       → WasNotRefused (frames_in scope u answer probe)
   pub of_number : (scope : Scope) (units : List IndexedUnit) (answers : FirstAnswers)
       (probe n : ℕ) → WasNotRefused (frames_of_number scope units answers probe n)
-  pub asked : (faults : OnFault) (scope : Scope) (units : List IndexedUnit)
+  pub asked : (asks : Asks) (scope : Scope) (units : List IndexedUnit)
       (answers : FirstAnswers) (probe n : ℕ)
-      → WasNotRefused (asked_frames faults scope units answers probe n)
-  pub stop : (faults : OnFault) (probe : ℕ) (s : UnitsState) (ranges : List UnitRange)
-      → WasNotRefused (stop_of faults probe s ranges)
-  pub stop_in_unit : (faults : OnFault) (probe : ℕ) (s : UnitsState) (n : ℕ)
-      → WasNotRefused (stop_at faults probe s n)
+      → WasNotRefused (asked_of_unit asks scope units answers probe n)
+  pub stop : (asks : Asks) (probe : ℕ) (s : UnitsState) (ranges : List UnitRange)
+      → WasNotRefused (stop_of asks probe s ranges)
+  pub stop_in_unit : (asks : Asks) (probe : ℕ) (s : UnitsState) (n : ℕ)
+      → WasNotRefused (stop_at asks probe s n)
 
 -- no fault of a parse of functions and their details is
 pub record ParsesAreNotRefused : Type 0 where

@@ -15,7 +15,7 @@ use Rattle.addr2line_units.specs.FramesLookup.{LookupStop, Waits, Finds, FindsNo
 use Rattle.addr2line_units.specs.EntriesFunctions.{ArePlacesIn, function_of_place, cached_functions, no_functions}
 use Rattle.addr2line_units.specs.LocationsParsed.{has_parsed}
 use Rattle.addr2line_units.specs.EntriesCached.{AreRead}
-use Rattle.addr2line_units.specs.UnitsCached.{decided_at, has_entries_at, waits_at}
+use Rattle.addr2line_units.specs.UnitsCached.{has_entries_at, waits_at}
 
 -- the functions that are cached of the unit of a number, none where there is no such unit
 abbrev pub functions_at : {R : Type 0} → List (UnitCache R) → ℕ → FunctionTable
@@ -53,11 +53,10 @@ IsStopIn caches (stops.Finds p) = IsFramePlaceIn caches p
 IsStopIn caches _ = Unit {0}
 
 -- what a lookup comes to can be lent: the unit waits that it waits for, or the places of what it
--- has found are among what is cached, and the view of their unit is known
+-- has found are among what is cached
 abbrev pub IsLendable : {R : Type 0} → List (UnitCache R) → FramesStop → Type 0
 IsLendable caches (stops.Waits n) = waits_at caches n ≡ true
-IsLendable caches (stops.Finds p) =
-    IsFramePlaceIn caches p × (decided_at caches p.unit ≡ true)
+IsLendable caches (stops.Finds p) = IsFramePlaceIn caches p
 IsLendable caches stops.FindsNothing = Unit {0}
 
 -- whether what the unit of a number has at the probe is known by what is cached of its entries, and

@@ -1,14 +1,18 @@
--- Lookups of frames along the ranges that hold an address (DWARF 5, sections 2.17 and 3.3).
--- Own: the units are asked one after another: the first that waits for an answer, that has a fault,
--- or that has frames ends the lookup. A lookup of a unit passes over each unit with a fault.
+-- Lookups along the ranges that hold an address (DWARF 5, sections 2.17, 3.3 and 6.2).
+-- Own: the units are asked one after another, for their frames or for the location in their lines
+-- alone: the first that waits for an answer, that has a fault, or that has frames ends the lookup. A
+-- lookup of a unit passes over each unit with a fault.
 use Rattle.std.specs.Prelude.{ℕ, Bool, true, false, List, [], ◌∷◌, set, slice_get, Option, Some, None, option_and_then, option_map, unwrap_or, Result, Ok, Err}
-use Rattle.addr2line_units.specs.Common.{Error, ◌>>=◌, Sections, UnitRecord, InlinedEntry, Scope}
+use Rattle.addr2line_units.specs.Common.{Error, ◌>>=◌, Sections, UnitRecord, InlinedEntry, Location, Scope}
+use Rattle.addr2line_units.specs.declared.frames.Asks.{Asks}
+use Rattle.addr2line_units.specs.declared.frames.Asks.TheVariants as lookups
 use Rattle.addr2line_units.specs.declared.index.UnitRange.{UnitRange}
 use Rattle.addr2line_units.specs.declared.frames.OnFault.{OnFault}
 use Rattle.addr2line_units.specs.declared.frames.OnFault.TheVariants.{Stop, Skip}
 use Rattle.addr2line_units.specs.EntriesMemory.{functions_in_take_memory}
 use Rattle.addr2line_units.specs.IndexCover.{ComesTo, holds_until}
-use Rattle.addr2line_units.specs.Frames.{FrameRecord}
+use Rattle.addr2line_units.specs.Frames.{FrameRecord, location_frames}
+use Rattle.addr2line_units.specs.Locations.{location_in}
 use Rattle.addr2line_units.specs.EntriesFrames.{FramesResult, asks_lines_in, frames_in, inlined_of_unit, function_offset_in}
 use Rattle.addr2line_units.specs.UnitsIndex.{UnitIndex, sup_sections}
 use Rattle.addr2line_units.specs.UnitsRanged.{IndexedUnit, unit_records}
@@ -44,10 +48,30 @@ after_fault faults (Ok frames) = Ok frames
 after_fault Stop (Err e) = Err e
 after_fault Skip (Err e) = Ok (Some [])
 
--- what a lookup asks the unit of a number for
+-- the frames that a lookup asks the unit of a number for
 abbrev pub asked_frames : OnFault → Scope → List IndexedUnit → FirstAnswers → ℕ → ℕ → FramesResult
 asked_frames faults scope units answers probe n =
     after_fault faults (frames_of_number scope units answers probe n)
+
+-- the location of the probe in the lines of the unit of a number, as frames of that location alone,
+-- or the fault of the lines
+abbrev pub located_frames : Sections → List IndexedUnit → ℕ → ℕ → FramesResult
+located_frames d units probe n = location_in d probe (slice_get units n)
+    >>= λ location. Ok (Some (location_frames location))
+
+-- what a lookup asks the unit of a number for
+abbrev pub asked_of_unit : Asks → Scope → List IndexedUnit → FirstAnswers → ℕ → ℕ → FramesResult
+asked_of_unit lookups.Location scope units answers probe =
+    located_frames scope.file.sections units probe
+asked_of_unit (lookups.Frames faults) scope units answers probe =
+    asked_frames faults scope units answers probe
+
+-- the same, with a fault also where a lookup passes over it
+abbrev pub found_in_unit : Asks → Scope → List IndexedUnit → FirstAnswers → ℕ → ℕ → FramesResult
+found_in_unit lookups.Location scope units answers probe =
+    located_frames scope.file.sections units probe
+found_in_unit (lookups.Frames faults) scope units answers probe =
+    frames_of_number scope units answers probe
 
 -- the unit of a number waits, or has frames, else the lookup goes on
 abbrev pub or_stop : ℕ → Result LookupStop Error → Option (List FrameRecord)
@@ -66,6 +90,21 @@ stop_along frames (r ∷ ranges) = frames r.unit >>= or_stop r.unit (stop_along 
 abbrev pub frames_found : LookupStop → List FrameRecord
 frames_found (Finds n frames) = frames
 frames_found stop = []
+
+-- the location of the first of frames, if it has one
+abbrev pub first_frame_location : List FrameRecord → Option Location
+first_frame_location [] = None
+first_frame_location (f ∷ frames) = f.location
+
+-- the location of the address that a lookup has found
+abbrev pub location_found : LookupStop → Option Location
+location_found stop = first_frame_location (frames_found stop)
+
+-- whether a lookup has ended: a unit waits, or has something
+abbrev pub has_stopped : LookupStop → Bool
+has_stopped (Waits n) = true
+has_stopped (Finds n frames) = true
+has_stopped FindsNothing = false
 
 -- whether a lookup waits for an answer
 abbrev pub is_waiting : Result LookupStop Error → Bool

@@ -2,45 +2,36 @@
 -- Own: a lookup asks for the lines of the units that cover its address one after another, up to the
 -- first that has a location or a fault; a parse of all lines asks for those of the units in their
 -- order, up to the first that has a fault.
-use Rattle.std.specs.Prelude.{ℕ, ◌≡◌, ◌<◌, ◌⊎◌, ◌||◌, not, Bool, true, false, List, [], ◌∷◌, slice_get, Option, Some, None, unwrap_or, Ok, Err, is_ok}
+use Rattle.std.specs.Prelude.{ℕ, ◌≡◌, ◌<◌, ◌⊎◌, ◌||◌, not, Bool, true, List, [], ◌∷◌, slice_get, Option, Some, None, unwrap_or, is_ok}
 use Rattle.std.specs.List.{AllByRecursion}
 use Rattle.addr2line_units.specs.Common.{Sections}
 use Rattle.addr2line_units.specs.declared.index.UnitRange.{UnitRange}
 use Rattle.addr2line_units.specs.EntriesMemory.{lines_of_take_memory}
-use Rattle.addr2line_units.specs.IndexCover.{ComesTo, holds_until}
+use Rattle.addr2line_units.specs.FramesLookup.{LookupAsks, holds_along, located_frames}
 use Rattle.addr2line_units.specs.UnitsRanged.{IndexedUnit}
-use Rattle.addr2line_units.specs.Locations.{LocationResult, lines_of_unit, location_in}
+use Rattle.addr2line_units.specs.Locations.{lines_of_unit}
 
 -- whether the lines of a unit are parsed, by what is so of each unit; a number of no unit asks for
 -- none
 abbrev pub has_parsed : List Bool → ℕ → Bool
 has_parsed parsed n = unwrap_or (slice_get parsed n) true
 
--- whether what a unit gives ends a lookup: a location, or the fault of its lines
-abbrev pub decides : LocationResult → Bool
-decides (Ok None) = false
-decides (Ok (Some l)) = true
-decides (Err e) = true
-
--- whether what the unit of a number gives ends a lookup of the probe
-abbrev pub unit_decides : Sections → List IndexedUnit → ℕ → ℕ → Bool
-unit_decides d units probe n = decides (location_in d probe (slice_get units n))
-
--- whether along these ranges the lines of each unit are parsed, up to the one that decides
+-- whether along these ranges the lines of each unit are parsed, up to the one that ends a lookup of
+-- a location
 abbrev pub ready_along : Sections → List IndexedUnit → List Bool → ℕ → List UnitRange → Bool
 ready_along d units parsed probe ranges =
-    holds_until (unit_decides d units probe) (has_parsed parsed) ranges
+    holds_along (has_parsed parsed) (located_frames d units probe) ranges
 
 -- whether the lines of the unit of a number are parsed, or no memory is taken for them
 abbrev pub parses_no_memory : Bool → List IndexedUnit → List Bool → ℕ → Bool
 parses_no_memory shares units parsed n =
     has_parsed parsed n || not (lines_of_take_memory shares units n)
 
--- whether along these ranges this is so of each unit, up to the one that decides
+-- whether along these ranges this is so of each unit, up to the one that ends a lookup of a location
 abbrev pub takes_none_along : Bool → Sections → List IndexedUnit → List Bool → ℕ → List UnitRange
     → Bool
 takes_none_along shares d units parsed probe ranges =
-    holds_until (unit_decides d units probe) (parses_no_memory shares units parsed) ranges
+    holds_along (parses_no_memory shares units parsed) (located_frames d units probe) ranges
 
 -- along these ranges the lines of each unit are parsed
 abbrev pub AreParsed : List Bool → List UnitRange → Type 0
@@ -74,9 +65,10 @@ abbrev pub TakeNoneForAll : Bool → Sections → List IndexedUnit → List Bool
 TakeNoneForAll shares d units parsed =
     (n : ℕ) → AllAskFor d units n → parses_no_memory shares units parsed n ≡ true
 
--- a lookup asks for the lines of a unit: a range leads to it, and no unit before it decides
+-- a lookup of a location asks for the lines of a unit: a range leads to it, and no unit before it
+-- ends the lookup
 abbrev pub AsksFor : Sections → List IndexedUnit → ℕ → List UnitRange → ℕ → Type 0
-AsksFor d units probe ranges n = ComesTo (unit_decides d units probe) ranges n
+AsksFor d units probe ranges n = LookupAsks (located_frames d units probe) ranges n
 
 -- one of these ranges leads to a unit
 abbrev pub LeadTo : List UnitRange → ℕ → Type 0

@@ -4,12 +4,11 @@
 -- program.
 use Rattle.std.specs.Prelude.{◌≡◌, ◌≢◌, ℕ, Bool, true, false, not, List, [], ◌∷◌, map, Option, Some, None, is_some, slice_get, Result, Ok, Err, box_value}
 use Rattle.std.specs.List.{AllZip}
-use Rattle.addr2line_units.specs.Common.{Error, OutOfMemory, Range, ◌>>=◌, fault_of, Sections, UnitRecord, Location, location_of_row, LocatedSpan, locations_in_range, sequence_ranges, unit_lines}
+use Rattle.addr2line_units.specs.Common.{Error, OutOfMemory, Range, ◌>>=◌, fault_of, Sections, UnitRecord, LocatedSpan, locations_in_range, sequence_ranges, unit_lines}
 use Rattle.addr2line_lines.specs.declared.row.Row.{Row}
 use Rattle.addr2line_lines.specs.Location.{LineTable as Lines}
 use Rattle.addr2line_lines.specs.Counts.{most_steps_in}
 use Rattle.addr2line_lines.specs.Spans.{row_at}
-use Rattle.addr2line_units.specs.declared.units.UnitRow.{UnitRow}
 use Rattle.addr2line_units.specs.declared.unit.LazyLines.{LazyLines}
 use Rattle.addr2line_units.specs.declared.unit.LazyLines.TheVariants.{Unread, Absent, Read, Faulty}
 use Rattle.addr2line_units.specs.declared.unit.UnitLines.{UnitLines}
@@ -143,12 +142,3 @@ HaveSameEntries old new = AllZip (λ a b. b.entries ≡ a.entries) old new
 abbrev pub lines_result_at : Sections → Option IndexedUnit → Result (Unit {0}) Error
 lines_result_at d None = Ok tt
 lines_result_at d (Some u) = fault_of (unit_lines d u.unit)
-
--- a row in the lines of a unit
-abbrev pub unit_row : ℕ → Row → UnitRow
-unit_row n row = record { unit = n; row = row }
-
--- the location of a row in the lines of a unit
-abbrev pub location_of_unit_row : {R : Type 0} → List (UnitCache R) → UnitRow → Location
-location_of_unit_row caches found =
-    location_of_row (cached_files (lines_at caches found.unit)) found.row

@@ -5,45 +5,34 @@
 use Rattle.std.specs.Prelude.{◌≡◌, ◌≢◌, ◌⊎◌, ◌+◌, ◌<◌, ◌≤◌, ℕ, Bool, true, false, List, length, IfErr, OnOk, is_some, slice_get, Option, Some, None, Result, Ok}
 use Rattle.std.specs.List.{AllByRecursion}
 use Rattle.addr2line_units.specs.Common.{Error, OutOfMemory, WasNotRefused, Sections}
-use Rattle.addr2line_units.specs.declared.frames.OnFault.{OnFault}
+use Rattle.addr2line_units.specs.declared.frames.Asks.{Asks}
+use Rattle.addr2line_units.specs.declared.frames.Asks.TheVariants.{Location, Frames}
 use Rattle.addr2line_units.specs.declared.index.UnitRange.{UnitRange}
 use Rattle.addr2line_units.specs.declared.parses.ReadingDepth.{ReadingDepth}
 use Rattle.addr2line_units.specs.declared.parses.ReadingDepth.TheVariants as depths
-use Rattle.addr2line_units.specs.FramesLookup.{FindsNothing, LookupAsks, answer_of, asks_lines_of, holds_along, function_offset_of, with_answer}
+use Rattle.addr2line_units.specs.FramesLookup.{FindsNothing, LookupAsks, answer_of, asks_lines_of, has_stopped, holds_along, function_offset_of, with_answer}
 use Rattle.addr2line_units.specs.Parses.{AreFirstDecided, AreReadBefore, AreReadyFor, answers_after_parse, read_of_units}
 use Rattle.addr2line_units.specs.EntriesKnown.{LearnsDetailsAt, LearnsNoDetails, LearnsNoFunctions, knows_at}
 use Rattle.addr2line_units.specs.Loads.{forgotten, is_open_at, load_result}
-use Rattle.addr2line_units.specs.Locations.{is_found, steps_along}
-use Rattle.addr2line_units.specs.LocationsParsed.{AllAskFor, AreAllParsed, AreParsed, AreReadyForAll, AsksFor, LeadTo, ParsesOnly, StaysParsed, TakeNone, TakeNoneForAll, ready_along}
+use Rattle.addr2line_units.specs.Locations.{steps_along}
+use Rattle.addr2line_units.specs.LocationsParsed.{AllAskFor, AreAllParsed, AreParsed, AreReadyForAll, LeadTo, ParsesOnly, StaysParsed, TakeNone, TakeNoneForAll}
 use Rattle.addr2line_units.specs.EntriesStayKnown.{IsReadBy, IsReadyAt, StaysKnown}
-use Rattle.addr2line_units.specs.UnitsState.{IsFaultAt, UnitsState, asked_by, has_all_at, has_few_at}
+use Rattle.addr2line_units.specs.UnitsState.{IsFaultAt, UnitsState, asked_by, has_asked_at, has_asked_few_at}
 
--- nothing is changed but which lines are parsed, how often they were looked at, and that no lookup
--- of frames is stored: those stay parsed that were, and no others are but those that are asked for
+-- nothing is changed but which lines are parsed, how often they were looked at, and what is stored
+-- of the last lookup: those stay parsed that were, and no others are but those that are asked for
 pub record AfterLines (asks : ℕ → Type 0) (old new : UnitsState) : Type 0 where
-  pub same : new ≡ record old { parsed = new.parsed; steps = new.steps; stop = FindsNothing }
+  pub same : new ≡ record old { parsed = new.parsed; steps = new.steps; stop = new.stop }
   pub many : length new.parsed ≡ length old.parsed
   pub parsed : StaysParsed old.parsed new.parsed
   pub only : ParsesOnly asks old.parsed new.parsed
-
--- after a lookup of a row along ranges the same lookup parses nothing more, but after OutOfMemory,
--- where something is left to parse
-pub record AfterRow {X : Type 0} (probe : ℕ) (ranges : List UnitRange)
-    (result : Result (Option X) Error) (old new : UnitsState) : Type 0 where
-  pub lines : AfterLines (AsksFor old.scope.file.sections old.units probe ranges) old new
-  pub ready : WasNotRefused result
-      → ready_along old.scope.file.sections old.units new.parsed probe ranges ≡ true
-  pub memory : ready_along old.scope.file.sections old.units new.parsed probe ranges ≡ true
-      → WasNotRefused result
-  pub raised : old.steps ≤ new.steps
-  pub counted : is_found result ≡ true → old.steps < new.steps
-  pub cost : new.steps ≤ old.steps + steps_along old.scope.file.sections old.units ranges
 
 -- after the lines of units along ranges were parsed, or after OutOfMemory, where those of a unit
 -- are left that take memory, over readers that share their bytes or don't
 pub record AfterCaching {X : Type 0} (shares : Bool) (ranges : List UnitRange)
     (result : Result X Error) (old new : UnitsState) : Type 0 where
   pub lines : AfterLines (LeadTo ranges) old new
+  pub stop : new.stop ≡ FindsNothing
   pub steps : new.steps ≡ old.steps
   pub parsed : OnOk result (AreParsed new.parsed ranges)
   pub memory : TakeNone shares old.units new.parsed ranges → WasNotRefused result
@@ -54,13 +43,22 @@ pub record AfterCaching {X : Type 0} (shares : Bool) (ranges : List UnitRange)
 pub record AfterLineParse (shares : Bool) (result : Result (Unit {0}) Error) (old new : UnitsState)
     : Type 0 where
   pub lines : AfterLines (AllAskFor old.scope.file.sections old.units) old new
+  pub stop : new.stop ≡ FindsNothing
   pub steps : new.steps ≡ old.steps
   pub ready : WasNotRefused result → AreReadyForAll old.scope.file.sections old.units new.parsed
   pub memory : TakeNoneForAll shares old.scope.file.sections old.units new.parsed
       → WasNotRefused result
   pub parsed : OnOk result (AreAllParsed new.parsed)
 
--- units were asked for the probe: what was read stays, nothing is read of others, and no detail of
+-- units were asked for a location in their lines: these were looked at so often at most, and once
+-- at least where one was found
+pub record LinesWereAsked (asks : ℕ → Type 0) (most : ℕ) (old new : UnitsState) : Type 0 where
+  pub lines : AfterLines asks old new
+  pub raised : old.steps ≤ new.steps
+  pub counted : has_stopped new.stop ≡ true → old.steps < new.steps
+  pub cost : new.steps ≤ old.steps + most
+
+-- units were asked for frames at the probe: what was read stays, nothing is read of others, and no detail of
 -- a function but that of the one at the probe
 pub record WereAsked (asks : ℕ → Type 0) (probe : ℕ) (old new : UnitsState) : Type 0 where
   pub scope : new.scope ≡ old.scope
@@ -75,27 +73,34 @@ pub record WereAsked (asks : ℕ → Type 0) (probe : ℕ) (old new : UnitsState
       new.known
   pub raised : old.steps ≤ new.steps
 
+-- units were asked for what a lookup asks for, and lines looked at so often at most, where it asks
+-- for a location
+abbrev pub WereAskedFor : Asks → (ℕ → Type 0) → ℕ → ℕ → UnitsState → UnitsState → Type 0
+WereAskedFor Location asked most probe = LinesWereAsked asked most
+WereAskedFor (Frames faults) asked most probe = WereAsked asked probe
+
 -- after units were asked; the same lookup reads nothing more, but after OutOfMemory, and no lookup
--- of frames is stored where this one was refused
-pub record AfterAsking {X : Type 0} (asks : ℕ → Type 0) (probe : ℕ) (all few : UnitsState → Bool)
-    (result : Result X Error) (old new : UnitsState) : Type 0 where
-  pub asked : WereAsked asks probe old new
+-- is stored where this one was refused
+pub record AfterAsking {X : Type 0} (Leaves : UnitsState → UnitsState → Type 0)
+    (all few : UnitsState → Bool) (result : Result X Error) (old new : UnitsState) : Type 0 where
+  pub asked : Leaves old new
   pub ready : WasNotRefused result → all new ≡ true
   pub memory : few new ≡ true → WasNotRefused result
   pub stop : IfErr result (λ _. new.stop ≡ FindsNothing)
 
 -- after a lookup along ranges
-abbrev pub AfterWalk : {X : Type 0} → OnFault → ℕ → List UnitRange → Result X Error → UnitsState
+abbrev pub AfterWalk : {X : Type 0} → Asks → ℕ → List UnitRange → Result X Error → UnitsState
     → UnitsState → Type 0
-AfterWalk faults probe ranges result old = AfterAsking
-    (LookupAsks (asked_by faults probe old) ranges) probe
-    (λ s. holds_along (has_all_at probe s) (asked_by faults probe old) ranges)
-    (λ s. holds_along (has_few_at probe s) (asked_by faults probe old) ranges) result old
+AfterWalk asks probe ranges result old = AfterAsking
+    (WereAskedFor asks (LookupAsks (asked_by asks probe old) ranges)
+    (steps_along old.scope.file.sections old.units ranges) probe)
+    (λ s. holds_along (has_asked_at asks probe s) (asked_by asks probe old) ranges)
+    (λ s. holds_along (has_asked_few_at asks probe s) (asked_by asks probe old) ranges) result old
 
 -- a unit that a lookup asks along ranges has this fault
-abbrev pub IsFaultAlong : OnFault → ℕ → UnitsState → List UnitRange → Error → Type 0
-IsFaultAlong faults probe s ranges e =
-    (n : ℕ) × LookupAsks (asked_by faults probe s) ranges n × IsFaultAt probe s n e
+abbrev pub IsFaultAlong : Asks → ℕ → UnitsState → List UnitRange → Error → Type 0
+IsFaultAlong asks probe s ranges e =
+    (n : ℕ) × LookupAsks (asked_by asks probe s) ranges n × IsFaultAt asks probe s n e
 
 -- nothing is changed but first answers, what is known of units' entries, and that no lookup of
 -- frames is stored

@@ -1,5 +1,5 @@
-//! Lookups of frames and of a unit among units: what the last one has come to; what is lent of it,
-//! the frames with names of functions, and the unit; and an answer to its load.
+//! Lookups among units: what the last one has come to; what is lent of it, the frames with names of
+//! functions, and the unit; and an answer to its load.
 
 ghost use Rattle.std.specs.Prelude.{◌≡◌, ◌+◌, ◌<◌, IfOk, IfSome, IsOk, IsOkUnless, [], length, map, option_and_then, option_map, reverse, slice_get, IfErr, true, Err, Ok, Some, false};
 ghost use Rattle.std.specs.Cow.{cow_str_bytes};
@@ -15,12 +15,14 @@ ghost use Rattle.addr2line_units.specs.FramesLeft.{entry_frame, files_if, frames
 ghost use Rattle.addr2line_units.specs.EntriesFunctions.{ArePlacesIn, function_of_place, cached_functions};
 ghost use Rattle.addr2line_units.specs.FramesLent.{YieldsFrame, language_text, name_text, raw_text, as_frame, as_name};
 ghost use Rattle.addr2line_units.specs.UnitsAfter.{AfterWalk, IsFaultAlong, AfterAnswer};
-ghost use Rattle.addr2line_units.specs.UnitsAsked.{AfterAsk, found_stop, has_stopped, stop_at};
+ghost use Rattle.addr2line_units.specs.UnitsAsked.{AfterAsk, found_stop, row_stop, stop_at};
 ghost use Rattle.addr2line_units.specs.EntriesEmpty.{HasNothingAt};
 ghost use Rattle.addr2line_units.specs.FramesCached.{found_after_fault};
-ghost use Rattle.addr2line_units.specs.FramesLookup.{FindsNothing, holds_along, Waits, frames_found, unit_found};
+ghost use Rattle.addr2line_units.specs.FramesLookup.{FindsNothing, has_stopped, holds_along, Waits, frames_found, location_found, unit_found};
+ghost use Rattle.addr2line_units.specs.Locations.{first_location};
+ghost use Rattle.addr2line_units.specs.declared.frames.Asks.TheVariants as lookups;
 ghost use Rattle.addr2line_units.specs.RangeIterLeft.{ranges_left};
-ghost use Rattle.addr2line_units.specs.UnitsState.{IsFaultAt, asked_by, asks_no_memory_at, stop_of, waiting_unit};
+ghost use Rattle.addr2line_units.specs.UnitsState.{IsFaultAt, asked_by, stop_of, takes_none_at, waiting_unit};
 ghost use Rattle.addr2line_units.specs.LoadsMemory.{answer_takes_memory};
 ghost use Rattle.addr2line_units.specs.EntriesCached.{AreRead};
 ghost use Rattle.addr2line_units.specs.UnitLinesCached.{cached_files};
@@ -351,6 +353,15 @@ pub enum OnFault {
     Skip,
 }
 
+/// What a lookup asks each unit for.
+#[derive(Clone, Copy)]
+pub enum Asks {
+    /// The row of the address in its lines alone, up to the first fault of lines.
+    Location,
+    /// Its frames, and what becomes of a fault.
+    Frames(OnFault),
+}
+
 // A unit by its number, and the function and the row at an address there, as far as there are.
 #[derive(Drop)]
 pub struct FramePlace {
@@ -401,6 +412,20 @@ fn stop_at(number: usize, found: UnitFrames) -> FramesStop
     }
 }
 
+// What a lookup comes to in the unit of a number, by the row there.
+pub(crate) fn row_stop(number: usize, row: Option<Row>) -> FramesStop
+    ensures gives { result ≡ row_stop number row }
+{
+    match row {
+        None => FramesStop::FindsNothing,
+        row => FramesStop::Finds(FramePlace {
+            unit: number,
+            function: None,
+            row,
+        }),
+    }
+}
+
 impl<R: Reader> Units<R> {
     // Forgets what the last lookup has come to.
     pub(crate) fn reset(&mut self)
@@ -426,15 +451,15 @@ impl<R: Reader> Units<R> {
         }
     }
 
-    // Asks the unit of a number, and stores what the lookup comes to there. What is read of the
-    // unit is cached, its fault too. A unit of which it is known that it has nothing at any address
-    // is passed by one test.
-    fn ask(&mut self, number: usize, probe: u64, faults: OnFault) -> Result<(), Error>
+    // Asks the unit of a number for its frames, and stores what the lookup comes to there. What is
+    // read of the unit is cached, its fault too. A unit of which it is known that it has nothing at
+    // any address is passed by one test.
+    fn ask_frames(&mut self, number: usize, probe: u64, faults: OnFault) -> Result<(), Error>
         ensures gives { ExactlyUnlessOom (λ _. self.new.stop) result
-            (stop_at faults probe self.old number) }
-        ensures after { AfterAsk number probe result self.old self.new }
-        ensures no_memory { asks_no_memory_at R.shares probe self.new number ≡ true
-            → IfErr result (IsFaultAt probe self.old number) }
+            (stop_at (lookups.Frames faults) probe self.old number) }
+        ensures after { AfterAsk (lookups.Frames faults) number probe result self.old self.new }
+        ensures no_memory { takes_none_at R.shares (lookups.Frames faults) probe self.new number
+            ≡ true → IfErr result (IsFaultAt (lookups.Frames faults) probe self.old number) }
     {
         if self.has_nothing(number) {
             self.reset();
@@ -443,15 +468,15 @@ impl<R: Reader> Units<R> {
         self.ask_unit(number, probe, faults)
     }
 
-    // Asks the unit of a number, as `ask` has it. It is a call of its own, so that a unit that is
-    // passed doesn't pay for the room that what is found takes.
+    // Asks the unit of a number, as `ask_frames` has it. It is a call of its own, so that a unit
+    // that is passed, or asked for a location, doesn't pay for the room that what is found takes.
     #[inline(never)]
     fn ask_unit(&mut self, number: usize, probe: u64, faults: OnFault) -> Result<(), Error>
         ensures gives { ExactlyUnlessOom (λ _. self.new.stop) result
-            (stop_at faults probe self.old number) }
-        ensures after { AfterAsk number probe result self.old self.new }
-        ensures no_memory { asks_no_memory_at R.shares probe self.new number ≡ true
-            → IfErr result (IsFaultAt probe self.old number) }
+            (stop_at (lookups.Frames faults) probe self.old number) }
+        ensures after { AfterAsk (lookups.Frames faults) number probe result self.old self.new }
+        ensures no_memory { takes_none_at R.shares (lookups.Frames faults) probe self.new number
+            ≡ true → IfErr result (IsFaultAt (lookups.Frames faults) probe self.old number) }
     {
         self.stop = FramesStop::FindsNothing;
         let scope = self.sources.scope();
@@ -466,10 +491,24 @@ impl<R: Reader> Units<R> {
         Ok(())
     }
 
+    // Asks the unit of a number for what a lookup asks for, and stores what it comes to there.
+    fn ask(&mut self, number: usize, probe: u64, asks: Asks) -> Result<(), Error>
+        ensures gives { ExactlyUnlessOom (λ _. self.new.stop) result
+            (stop_at asks probe self.old number) }
+        ensures after { AfterAsk asks number probe result self.old self.new }
+        ensures no_memory { takes_none_at R.shares asks probe self.new number ≡ true
+            → IfErr result (IsFaultAt asks probe self.old number) }
+    {
+        match asks {
+            Asks::Location => self.ask_lines(number, probe),
+            Asks::Frames(faults) => self.ask_frames(number, probe, faults),
+        }
+    }
+
     /// Asks the units that ranges lead to, and stores what the lookup comes to: the first unit that
     /// waits for an answer, that has a fault, unless faults are passed over, or that has a function
-    /// or a location. What is read of the units up to it is cached, their faults too, and nothing
-    /// is read of others.
+    /// or a location; for a location its lines alone are asked. What is read of the units up to it
+    /// is cached, their faults too, and nothing is read of others.
     ///
     /// Refused by that fault; may fail with `OutOfMemory` instead, only where something of what is
     /// asked for isn't cached and takes memory, or there are more than 16 inlined functions.
@@ -479,18 +518,21 @@ impl<R: Reader> Units<R> {
         &mut self,
         mut ranges: UnitRangeIter<'_>,
         probe: u64,
-        faults: OnFault,
+        asks: Asks,
     ) -> Result<(), Error>
         ensures gives { ExactlyUnlessOom (λ _. self.new.stop) result
-            (stop_of faults probe self.old (ranges_left ranges.entry)) }
-        ensures after { AfterWalk faults probe (ranges_left ranges.entry) result self.old self.new }
-        ensures no_memory { holds_along (asks_no_memory_at R.shares probe self.new)
-            (asked_by faults probe self.old) (ranges_left ranges.entry) ≡ true
-            → IfErr result (IsFaultAlong faults probe self.old (ranges_left ranges.entry)) }
+            (stop_of asks probe self.old (ranges_left ranges.entry)) }
+        ensures found { asks ≡ lookups.Location
+            → ExactlyUnlessOom (λ _. location_found self.new.stop) result (first_location
+            self.old.scope.file.sections self.old.units probe (ranges_left ranges.entry)) }
+        ensures after { AfterWalk asks probe (ranges_left ranges.entry) result self.old self.new }
+        ensures no_memory { holds_along (takes_none_at R.shares asks probe self.new)
+            (asked_by asks probe self.old) (ranges_left ranges.entry) ≡ true
+            → IfErr result (IsFaultAlong asks probe self.old (ranges_left ranges.entry)) }
     {
         self.reset();
         while let Some(range) = ranges.next() {
-            self.ask(range.unit, probe, faults)?;
+            self.ask(range.unit, probe, asks)?;
             if self.has_stopped() {
                 return Ok(());
             }
@@ -583,8 +625,8 @@ impl<R: Reader> Units<R> {
     }
 
     /// The sections and the unit of the view of the unit in which the last lookup has found
-    /// something, none where it waits or has found nothing, or where the view has a fault. Takes no
-    /// memory.
+    /// something, none where it waits or has found nothing, or where the unit is open or its view
+    /// has a fault. Takes no memory.
     pub fn unit(&self) -> Option<UnitRef<'_, R>>
         ensures gives { option_map as_unit result ≡ unit_found self.now.scope.file.sections
             self.now.scope.file.units self.now.answers self.now.stop }
@@ -594,11 +636,7 @@ impl<R: Reader> Units<R> {
         };
         let dw_unit = &self.sources.units[place.unit];
         let cache = &self.caches[place.unit];
-        cache
-            .entries
-            .view
-            .unit_ref(&self.sources.dwarf, dw_unit)
-            .ok()
+        cache.entries.view.readable(&self.sources.dwarf, dw_unit)
     }
 
     /// Decides the unit of a number by an answer to its load if it is open, and else leaves it as

@@ -1,26 +1,27 @@
-//! Lookups of locations among units, by their lines alone: the location of an address, and the rows
-//! that a range of addresses meets.
+//! Lookups of locations among units, by their lines alone: what one unit is asked for, and the
+//! location that the last lookup has found; the rows that a range of addresses meets.
 
-ghost use Rattle.std.specs.Prelude.{◌≡◌, false, true, Err, IfErr, IfOk, IfSome, Ok, option_map, slice_get};
+ghost use Rattle.std.specs.Prelude.{◌≡◌, true, IfErr, option_map, slice_get};
 ghost use Rattle.addr2line_units.specs.Common.{OutOfMemory, ExactlyUnlessOom, IsUnlessOom, fault_of, result_map, location_of_row, as_location};
 ghost use Rattle.addr2line_lines.specs.RangesLeft.{located_rows_left, as_located};
-ghost use Rattle.addr2line_units.specs.EntriesMemory.{lines_of_take_memory};
-ghost use Rattle.addr2line_units.specs.UnitsAsked.{AfterCachingAt, AfterRowAt, CountsUnits};
-ghost use Rattle.addr2line_units.specs.UnitsAfter.{AfterCaching, AfterLineParse, AfterRow};
-ghost use Rattle.addr2line_units.specs.UnitLinesCached.{cached_files, lines_result_at, unit_row, cached_spans, lines_at};
-ghost use Rattle.addr2line_units.specs.Locations.{all_lines, location_in, spans_along};
+ghost use Rattle.addr2line_units.specs.declared.frames.Asks.TheVariants as lookups;
+ghost use Rattle.addr2line_units.specs.FramesLookup.{location_found};
+ghost use Rattle.addr2line_units.specs.UnitsAsked.{AfterAsk, AfterCachingAt, CountsUnits, stop_at};
+ghost use Rattle.addr2line_units.specs.UnitsAfter.{AfterCaching, AfterLineParse};
+ghost use Rattle.addr2line_units.specs.UnitLinesCached.{cached_files, lines_result_at, cached_spans, lines_at};
+ghost use Rattle.addr2line_units.specs.Locations.{all_lines, spans_along};
 ghost use Rattle.addr2line_units.specs.LocationsLeft.{locations_left};
-ghost use Rattle.addr2line_units.specs.LocationsParsed.{AreParsed, has_parsed, takes_none_along};
+ghost use Rattle.addr2line_units.specs.LocationsParsed.{AreParsed};
 ghost use Rattle.addr2line_units.specs.RangeIterLeft.{ranges_left};
-ghost use Rattle.addr2line_units.specs.UnitsState.{first_location_in, row_location};
+ghost use Rattle.addr2line_units.specs.UnitsState.{IsFaultAt, takes_none_at};
 ghost use Rattle.addr2line_units.specs.LocationsRange.{YieldsOn, YieldsRow, cached_along, rows_or_fault};
 
 use crate::entries::UnitCache;
-use crate::frames::FramesStop;
+use crate::frames::{FramesStop, row_stop};
 use crate::index::UnitRange;
 use crate::range_iter::UnitRangeIter;
 use crate::unit::LazyLines;
-use crate::units::{UnitRow, Units};
+use crate::units::Units;
 use addr2line_lines::{LineLocationRangeIter, Location, Row};
 use gimli::read::{Error, Range, Reader};
 
@@ -152,30 +153,30 @@ impl<R: Reader> Units<R> {
         self.caches.len()
     }
 
-    // The row of an address in the lines of the unit of a number, which are cached then, or their
-    // fault; none where there is no such unit.
-    fn find_row_in(&mut self, number: usize, probe: u64) -> Result<Option<Row>, Error>
-        ensures gives { ExactlyUnlessOom
-            (option_map (λ row. row_location self.old (unit_row number row))) result
-            (location_in self.old.scope.file.sections probe (slice_get self.old.units number)) }
-        ensures after { AfterRowAt number result self.old self.new }
-        ensures no_memory { lines_of_take_memory R.shares self.old.units number ≡ false
-            → IfErr result (λ e. location_in self.old.scope.file.sections probe
-            (slice_get self.old.units number) ≡ Err e) }
+    // Asks the unit of a number for the row of an address in its lines, which are cached then, or
+    // their fault, and stores what the lookup comes to there.
+    pub(crate) fn ask_lines(&mut self, number: usize, probe: u64) -> Result<(), Error>
+        ensures gives { ExactlyUnlessOom (λ _. self.new.stop) result
+            (stop_at lookups.Location probe self.old number) }
+        ensures after { AfterAsk lookups.Location number probe result self.old self.new }
+        ensures no_memory { takes_none_at R.shares lookups.Location probe self.new number ≡ true
+            → IfErr result (IsFaultAt lookups.Location probe self.old number) }
     {
         self.stop = FramesStop::FindsNothing;
         let scope = self.sources.scope();
         let Some(dw_unit) = scope.file.units.get(number) else {
-            return Ok(None);
+            return Ok(());
         };
         let cache = &mut self.caches[number];
-        cache.lines.find_row(
+        let row = cache.lines.find_row(
             self.alloc,
             scope.file.dwarf,
             dw_unit,
             &mut self.steps,
             probe,
-        )
+        )?;
+        self.stop = row_stop(number, row);
+        Ok(())
     }
 
     // Reads the lines of the unit of a number, unless they are cached, and caches them, or their
@@ -208,48 +209,16 @@ impl<R: Reader> Units<R> {
         }
     }
 
-    /// The row of an address in the first unit along ranges which has one. The lines of each unit
-    /// up to it are parsed then, unless they are, and stay parsed, their fault too; no other lines
-    /// are parsed.
-    ///
-    /// Refused by the first such fault; may fail with `OutOfMemory` instead, which is never cached.
-    /// Takes no memory where the lines that it asks for are parsed, or take none to read, as
-    /// `Lines::parse` has it.
-    pub fn find_row(
-        &mut self,
-        mut ranges: UnitRangeIter<'_>,
-        probe: u64,
-    ) -> Result<Option<UnitRow>, Error>
-        ensures gives { ExactlyUnlessOom (option_map (row_location self.old)) result
-            (first_location_in self.old probe (ranges_left ranges.entry)) }
-        ensures known { IfOk result (λ place. IfSome place (λ p.
-            has_parsed self.new.parsed p.unit ≡ true)) }
-        ensures after { AfterRow probe (ranges_left ranges.entry) result self.old self.new }
-        ensures no_memory { takes_none_along R.shares self.old.scope.file.sections self.old.units
-            self.new.parsed probe (ranges_left ranges.entry) ≡ true → IfErr result (λ e.
-            first_location_in self.old probe (ranges_left ranges.entry) ≡ Err e) }
+    /// The location of the address of the last lookup, by the lines of the unit in which it has
+    /// found something, if it has one there. Takes no memory.
+    pub fn location(&self) -> Option<Location<'_>>
+        ensures gives { option_map as_location result ≡ location_found self.now.stop }
     {
-        self.reset();
-        while let Some(range) = ranges.next() {
-            if let Some(row) = self.find_row_in(range.unit, probe)? {
-                return Ok(Some(UnitRow {
-                    unit: range.unit,
-                    row,
-                }));
-            }
-        }
-        Ok(None)
-    }
-
-    /// The location of a row of a unit whose lines are parsed. Takes no memory.
-    pub fn location(&self, place: UnitRow) -> Location<'_>
-        requires parsed { has_parsed self.now.parsed place.unit ≡ true }
-        ensures gives { as_location result ≡ row_location self.now place }
-    {
-        match self.caches.get(place.unit) {
-            Some(cache) => location_of(&cache.lines.lines, place.row),
-            None => Location::without_file(place.row),
-        }
+        let FramesStop::Finds(place) = &self.stop else {
+            return None;
+        };
+        let cache = &self.caches[place.unit];
+        Some(location_of(&cache.lines.lines, place.row?))
     }
 
     /// Parses the lines of the units that ranges lead to, unless they are; they stay parsed, and

@@ -13,7 +13,8 @@ ghost use Rattle.addr2line_units.specs.UnitsIndexed.{ranged_seen};
 ghost use Rattle.addr2line_units.specs.LoadsMemory.{answer_takes_memory};
 ghost use Rattle.addr2line_units.specs.UnitViewCached.{IsViewOf, answer_in, is_decided, parts_or_fault, answer_of_view, as_sections, split_file_by, split_file_in, split_unit, unboxed, verdict_in, view_in, waits, was_checked};
 ghost use Rattle.addr2line_units.specs.EntriesEmpty.{has_view};
-ghost use Rattle.addr2line_units.specs.UnitView.{answered_view, first_unit, first_unit_takes_memory, load_of_unit, split_name_of, verdict, view_scope};
+ghost use Rattle.addr2line_units.specs.UnitView.{answered_view, first_unit, first_unit_takes_memory, load_of_unit, parts_of, split_name_of, verdict, view_scope};
+ghost use Rattle.addr2line_units.specs.FramesLookup.{readable_view};
 
 use crate::attributes::read_unit_attributes;
 use crate::index::{UnitArange, UnitAranges};
@@ -623,6 +624,29 @@ impl<R: Reader> UnitView<R> {
             }
             ViewState::Unnamed(error) => Err(*error),
             ViewState::Answered(answer) => answer.unit_ref(dwarf, dw_unit),
+        }
+    }
+
+    // The sections and the unit of the view; none where the unit is open or its view has a fault.
+    // Takes no memory.
+    pub(crate) fn readable<'x>(
+        &'x self,
+        dwarf: &'x Dwarf<R>,
+        dw_unit: &'x Unit<R>,
+    ) -> Option<UnitRef<'x, R>>
+        requires view { IsViewOf dwarf.now dw_unit.now self.now }
+        ensures gives { option_map (λ r. (r.dwarf.now, r.unit.now)) result
+            ≡ option_map parts_of (readable_view (verdict dwarf.now dw_unit.now
+            (answer_of_view self.now))) }
+    {
+        match &self.state {
+            ViewState::Undecided => match first_state(dwarf, dw_unit) {
+                ViewState::Main => Some(UnitRef::new(dwarf, dw_unit)),
+                _ => None,
+            },
+            ViewState::Open | ViewState::Unnamed(_) => None,
+            ViewState::Main => Some(UnitRef::new(dwarf, dw_unit)),
+            ViewState::Answered(answer) => answer.unit_ref(dwarf, dw_unit).ok(),
         }
     }
 

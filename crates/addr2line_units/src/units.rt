@@ -14,7 +14,7 @@ use crate::frames::FramesStop;
 use crate::index::{UnitAranges, UnitRange, UnitRanges};
 use crate::sup::SupUnits;
 use crate::unit::{UnitLines, is_type_unit, read_ranged_unit};
-use addr2line_lines::{Count, FileUnits, Row, Scope};
+use addr2line_lines::{Count, FileUnits, Scope};
 use gimli::read::{Error, Range, Reader};
 use gimli::{AbbreviationsCache, Dwarf, Unit, UnitHeader};
 use std::alloc::Global;
@@ -37,7 +37,7 @@ pub struct Units<R: Reader> {
     pub(crate) sources: Sources<R>,
     // What is cached of each unit, in the order of the units.
     pub(crate) caches: Vec<UnitCache<R>>,
-    // What the last lookup of frames or of a unit has come to, from which it is lent.
+    // What the last lookup has come to, from which it is lent.
     pub(crate) stop: FramesStop,
     // How often the lines of units were looked at, for contracts alone: it has no bytes.
     pub(crate) steps: Count,
@@ -288,13 +288,4 @@ impl<R: Reader> Units<R> {
         };
         Ok((units, ranges))
     }
-}
-
-/// A row of the lines of a unit.
-#[derive(Clone, Copy)]
-pub struct UnitRow {
-    /// The place of the unit in the list of units.
-    pub unit: usize,
-    /// The row.
-    pub row: Row,
 }

@@ -1,5 +1,5 @@
 use Rattle.addr2line_units.proofs.Common.{not_refused, none_refused, spans_along, verdict}
-use Rattle.addr2line_units.proofs.FaultLemmas.{aranges_are, unit_attributes_are, unit_of_header_is, ranged_units_are, sup_units_are, index_units_is, new_units_are, lines_of_unit_are, location_in_is, first_location_is, location_of_is, spans_along_are, spans_of_are, spans_unrefused, all_lines_are, split_name_is, first_unit_is, answered_view_is, load_of_unit_is, verdict_is, view_not_refused, function_at_is, function_in_is, frames_in_are, frames_of_number_are, asked_frames_are, stop_of_is, stop_at_is, unit_of_token_is, load_result_is, forget_result_is, functions_fault_is, read_of_unit_is, read_of_units_is}
+use Rattle.addr2line_units.proofs.FaultLemmas.{aranges_are, unit_attributes_are, unit_of_header_is, ranged_units_are, sup_units_are, index_units_is, new_units_are, lines_of_unit_are, location_in_is, first_location_is, location_of_is, spans_along_are, spans_of_are, spans_unrefused, all_lines_are, split_name_is, first_unit_is, answered_view_is, load_of_unit_is, verdict_is, view_not_refused, function_at_is, function_in_is, frames_in_are, frames_of_number_are, asked_of_unit_are, stop_of_is, stop_at_is, unit_of_token_is, load_result_is, forget_result_is, functions_fault_is, read_of_unit_is, read_of_units_is}
 use Rattle.addr2line_units.proofs.laws.fault_laws.Goals as goal
 
 pub returns : goal.returns
@@ -39,9 +39,9 @@ returns c = record {
       in_view = λ scope u answer probe. not_refused (function_in_is scope u answer probe);
       in_unit = λ scope u answer probe. not_refused (frames_in_are scope u answer probe);
       of_number = λ scope units answers probe n. not_refused (frames_of_number_are scope units answers probe n);
-      asked = λ faults scope units answers probe n. not_refused (asked_frames_are faults scope units answers probe n);
-      stop = λ faults probe s ranges. not_refused (stop_of_is faults probe s ranges);
-      stop_in_unit = λ faults probe s n. not_refused (stop_at_is faults probe s n);
+      asked = λ asks scope units answers probe n. not_refused (asked_of_unit_are asks scope units answers probe n);
+      stop = λ asks probe s ranges. not_refused (stop_of_is asks probe s ranges);
+      stop_in_unit = λ asks probe s n. not_refused (stop_at_is asks probe s n);
     };
     parses = record {
       functions = λ scope view. not_refused (functions_fault_is scope view);

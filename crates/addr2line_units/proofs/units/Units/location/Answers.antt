@@ -1,30 +1,35 @@
-use Rattle.addr2line_units.proofs.Common.{ap, ltb-false, ltb-true, refl, sym, ◌∙◌, slice_get_past, slice_get_read, location_of_row, cached_files, lines_in_cache, location_of_unit_row, scope_of}
-use Rattle.addr2line_units.proofs.UnitsCachedLemmas.{lines_right}
-use Rattle.addr2line_units.proofs.UnitsStateLemmas.{files_are}
+use Rattle.addr2line_units.proofs.Common.{None, Some, ap, refl, rules, sym, ◌∙◌, ◌≡◌, option_map, slice_get_read, location_of_row, as_stop, function_of_place, functions_at, language_at, cached_files, lines_at, lines_in_cache, location_found}
+use Rattle.addr2line_units.specs.Common.{as_location}
+use Rattle.addr2line_units.specs.declared.frames.FramesStop.TheVariants as stops
+use Rattle.addr2line_units.proofs.LocationsWalkLemmas.{first_found}
+use Rattle.addr2line_units.proofs.UnitsStateLemmas.{place_if_stored}
 use Rattle.addr2line_units.proofs.units.Units.location.Goals as goal
 
-pub returns-in-Some : goal.returns-in-Some
-returns-in-Some g c =
+pub returns-in_err-place : goal.returns-in_err-place
+returns-in_err-place g c =
     let s = c.self.inside in
-    let place = c.args.place in
-    let parsed = rw (sym c.self.view_is) at c.requires.parsed in
-    let found = c.in-Some.ensures.lookup in
-    let at = slice_get_read c.deref.result.now _ place.unit c.in-Some.cache.now refl (ltb-true _ _ (sym found.0)) found.1 in
+    let cs = s.caches.items in
+    let p = c.in-Finds.place in
+    let last : s.stop ≡ stops.Finds p = search rules in
+    let none : c.from_residual.result ≡ None = search rules in
+    let row : p.row ≡ None = search rules in
+    let see = location_of_row (cached_files (lines_at cs p.unit)) in
     rw (sym c.self.view_is) (record {
-      gives =
-          c.location_of.ensures.gives ∙ ap (λ u. location_of_row (cached_files (lines_in_cache u)) place.row) (sym at) ∙ ap (λ caches. location_of_unit_row caches place) c.deref.ensures.value
-          ∙ ap (λ files. location_of_row files place.row) (sym (files_are s.sources.dwarf.value s.sources.units.items s.caches.items place.unit (lines_right (scope_of s.sources) s.sources.units.items s.caches.items c.self.invariant.caches) parsed));
+      gives = ap (option_map as_location) none ∙ ap (option_map see) (sym row) ∙ sym (first_found (cached_files (lines_at cs p.unit)) (language_at cs p.unit) (option_map (function_of_place (functions_at cs p.unit)) p.function) (option_map see p.row))
+          ∙ ap (λ l. location_found (as_stop cs l)) (sym last);
     })
 
-pub returns-in-None : goal.returns-in-None
-returns-in-None g c =
+pub returns : goal.returns
+returns g c =
     let s = c.self.inside in
-    let place = c.args.place in
-    let parsed = rw (sym c.self.view_is) at c.requires.parsed in
-    let found = c.in-None.ensures.lookup in
-    let at = slice_get_past c.deref.result.now place.unit (ltb-false _ _ (sym found.0)) in
+    let cs = s.caches.items in
+    let p = c.in-Finds.place in
+    let last : s.stop ≡ stops.Finds p = search rules in
+    let row : p.row ≡ Some c.in_ok-place.field-0 = search rules in
+    let within = (place_if_stored cs s.stop p last c.self.invariant.stop).unit in
+    let at = slice_get_read cs _ p.unit c.index-cache.result.now refl within (search rules) in
+    let see = location_of_row (cached_files (lines_at cs p.unit)) in
     rw (sym c.self.view_is) (record {
-      gives =
-          c.without_file.ensures.gives ∙ ap (λ u. location_of_row (cached_files (lines_in_cache u)) place.row) (sym at) ∙ ap (λ caches. location_of_unit_row caches place) c.deref.ensures.value
-          ∙ ap (λ files. location_of_row files place.row) (sym (files_are s.sources.dwarf.value s.sources.units.items s.caches.items place.unit (lines_right (scope_of s.sources) s.sources.units.items s.caches.items c.self.invariant.caches) parsed));
+      gives = ap Some (c.location_of.ensures.gives ∙ ap (λ u. location_of_row (cached_files (lines_in_cache u)) c.in_ok-place.field-0) (sym at)) ∙ ap (option_map see) (sym row)
+          ∙ sym (first_found (cached_files (lines_at cs p.unit)) (language_at cs p.unit) (option_map (function_of_place (functions_at cs p.unit)) p.function) (option_map see p.row)) ∙ ap (λ l. location_found (as_stop cs l)) (sym last);
     })

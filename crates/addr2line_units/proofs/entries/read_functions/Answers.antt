@@ -5,7 +5,7 @@ use Rattle.addr2line_units.proofs.entries.read_functions.Goals as goal
 
 pub returns-in_ok-new-in-Some : goal.returns-in_ok-new-in-Some
 returns-in_ok-new-in-Some g c =
-    let table = read_table (as_scope c.args.scope) c.args.view.now c.new.result.dwarf.now c.new.result.unit.now c.in-Ok.functions c.new.ensures.dwarf c.new.ensures.unit c.in-Ok.ensures.gives c.in-Ok.ensures.right c.in-Ok.ensures.empty c.in-Ok.ensures.names in
+    let table = read_table (as_scope c.args.scope) c.args.view.now c.new.result.dwarf.now c.new.result.unit.now c.in-Ok.functions c.new.ensures.dwarf c.new.ensures.unit c.in-Ok.ensures.gives c.in-Ok.ensures.functions c.in-Ok.ensures.empty c.in-Ok.ensures.names in
     record {
       read = record {
         right = subst (IsTableOf (as_scope c.args.scope) c.args.view.now) (sym c.in_ok-new-in-Some.ensures.ok) table;
@@ -17,16 +17,16 @@ returns-in_ok-new-in-Some g c =
 
 pub returns-in-None : goal.returns-in-None
 returns-in-None g c =
-    let table = read_table (as_scope c.args.scope) c.args.view.now c.new.result.dwarf.now c.new.result.unit.now c.in-Ok.functions c.new.ensures.dwarf c.new.ensures.unit c.in-Ok.ensures.gives c.in-Ok.ensures.right c.in-Ok.ensures.empty c.in-Ok.ensures.names in
+    let table = read_table (as_scope c.args.scope) c.args.view.now c.new.result.dwarf.now c.new.result.unit.now c.in-Ok.functions c.new.ensures.dwarf c.new.ensures.unit c.in-Ok.ensures.gives c.in-Ok.ensures.functions c.in-Ok.ensures.empty c.in-Ok.ensures.names in
     record {
-      read = record { right = table.ranges ∙ ap Ok (no_ranges c.in-Ok.functions c.in-Ok.ensures.right (sym c.in-None.ensures.gives)); read = refl; empty = tt };
+      read = record { right = table.ranges ∙ ap Ok (no_ranges c.in-Ok.functions c.in-Ok.ensures.functions (sym c.in-None.ensures.gives)); read = refl; empty = tt };
       refused = tt;
     }
 
 pub returns-in_err-new-in-Some-clause-refused : goal.returns-in_err-new-in-Some-clause-refused
 returns-in_err-new-in-Some-clause-refused g c =
     let p = err_from_is_err_and c.from_residual.result c.from_residual.ensures.1 in
-    let table = read_table (as_scope c.args.scope) c.args.view.now c.new.result.dwarf.now c.new.result.unit.now c.in-Ok.functions c.new.ensures.dwarf c.new.ensures.unit c.in-Ok.ensures.gives c.in-Ok.ensures.right c.in-Ok.ensures.empty c.in-Ok.ensures.names in
+    let table = read_table (as_scope c.args.scope) c.args.view.now c.new.result.dwarf.now c.new.result.unit.now c.in-Ok.functions c.new.ensures.dwarf c.new.ensures.unit c.in-Ok.ensures.gives c.in-Ok.ensures.functions c.in-Ok.ensures.empty c.in-Ok.ensures.names in
     rw (p.1, p.2) (refl, λ none. absurd (false≢true (sym none ∙ functions_took g.R.Reader.shares (as_scope c.args.scope) c.args.view.now c.in-Ok.functions table _ c.in-Some.ensures.gives)))
 
 pub returns-in_default : goal.returns-in_default

@@ -4,6 +4,7 @@ use Rattle.std.specs.Prelude.{is_ok}
 use Rattle.addr2line_lines.specs.Location.{LineTable, Location, location_at}
 use Rattle.addr2line_lines.specs.Rows.{read_all}
 use Rattle.addr2line_units.specs.declared.frames.Asks.TheVariants as lookups
+use Rattle.addr2line_units.specs.LocationsParsed.{parses_no_memory}
 use Rattle.addr2line_units.specs.UnitsAfter as left
 use Rattle.addr2line_units.proofs.UnitsNewLemmas.{ok_is}
 use Rattle.addr2line_units.proofs.FramesLookupLemmas.{holds_both, holds_first, holds_rest}

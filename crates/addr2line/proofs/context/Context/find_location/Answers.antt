@@ -1,4 +1,4 @@
-use Rattle.addr2line.proofs.Common.{Err, None, Ok, Some, ap, refl, sym, ◌∙◌, ◌≡◌, true, option_map, err_from_is_err_and, has_stopped, is_found, location_found}
+use Rattle.addr2line.proofs.Common.{[], cover, Err, None, Ok, Some, ap, refl, sym, ◌∙◌, ◌≡◌, true, option_map, err_from_is_err_and, has_stopped, is_found, location_found}
 use Rattle.addr2line_lines.specs.LentLocation.{as_location}
 use Rattle.addr2line_units.specs.declared.frames.Asks.TheVariants as lookups
 use Rattle.addr2line.proofs.ContextLemmas.{after_lookup, covers_none, finds_none, found_stopped, has_no_fault, located_alone, located_context, location_is, ready_told, stored_now, told_uncovered}
@@ -19,19 +19,23 @@ returns-in_err-walk g c =
     let now = c.walk.new.self in
     let x = c.in_err-walk.field-0.0 in
     let is = location_is s.ranges s.units i c.args.probe in
-    let uncovered = (λ none. absurd (has_no_fault s.ranges s.units i c.args.probe none x (e.found refl (told_uncovered s.ranges s.units i c.args.probe (Err x) now e.after none)))) in
+    let no : (cover c.args.probe s.ranges ≡ [] → ⊥) = (λ none. has_no_fault s.ranges s.units i c.args.probe none x (e.found refl (told_uncovered s.ranges s.units i c.args.probe (Err x) now e.after none))) in
     rw (p.1, p.2, sym c.self.view_is) (
-      (refl, (λ _. tt), record {
-        after = after_lookup s.ranges s.units i c.args.probe (Err x) now e.after (Err x) (λ h. h) (λ h. h) (λ h. absurd cc);
-        stored = λ n. stored_now s.ranges s.units i c.args.probe (Err x) now e.after ∙ e.gives n;
-        refused = e.after.stop;
-        no_memory = located_alone s.ranges s.units i c.args.probe (Err x) now e.after g.R.Reader.shares e.no_memory;
-      }),
+      (
+        refl,
+        (λ _. tt),
+        record {
+          after = after_lookup s.ranges s.units i c.args.probe (Err x) now e.after (Err x) (λ h. h) (λ h. h) (λ h. absurd cc);
+          stored = λ n. stored_now s.ranges s.units i c.args.probe (Err x) now e.after ∙ e.gives n;
+          refused = e.after.stop;
+          no_memory = located_alone s.ranges s.units i c.args.probe (Err x) now e.after g.R.Reader.shares e.no_memory;
+        },
+      ),
       record {
         gives = λ n. is ∙ e.found refl n;
         exact = λ ready. is ∙ e.found refl (ready_told s.ranges s.units i c.args.probe (Err x) now e.after ready);
-        last = λ q. uncovered (sym c.find-ranges.ensures.gives ∙ c.find-ranges.ensures.last q);
-        none = λ q. uncovered (covers_none s.ranges s.units i c.args.probe q);
+        last = λ q. absurd (no (sym c.find-ranges.ensures.gives ∙ c.find-ranges.ensures.last q));
+        none = λ q. absurd (no (covers_none s.ranges s.units i c.args.probe q));
         ends = tt;
       },
     )
@@ -45,19 +49,23 @@ returns g c =
     let found = c.location.result in
     let told = e.found refl ∙ ap (λ l. Ok l) (sym c.location.ensures.gives) in
     let gives = location_is s.ranges s.units i c.args.probe ∙ told in
-    let uncovered = (λ none. ap (λ l. Ok l) (finds_none s.ranges s.units i c.args.probe none as_location found told)) in
+    let nothing : (cover c.args.probe s.ranges ≡ [] → found ≡ None) = (λ none. finds_none s.ranges s.units i c.args.probe none as_location found told) in
     rw (sym c.self.view_is) (
-      (refl, (λ _. tt), record {
-        after = after_lookup s.ranges s.units i c.args.probe (Ok tt) now e.after (Ok found) (λ h. tt) (λ h. tt) (found_stopped as_location found now.stop c.location.ensures.gives);
-        stored = stored_now s.ranges s.units i c.args.probe (Ok tt) now e.after ∙ e.gives;
-        refused = tt;
-        no_memory = λ none. tt;
-      }),
+      (
+        refl,
+        (λ _. tt),
+        record {
+          after = after_lookup s.ranges s.units i c.args.probe (Ok tt) now e.after (Ok found) (λ h. tt) (λ h. tt) (found_stopped as_location found now.stop c.location.ensures.gives);
+          stored = stored_now s.ranges s.units i c.args.probe (Ok tt) now e.after ∙ e.gives;
+          refused = tt;
+          no_memory = λ none. tt;
+        },
+      ),
       record {
         gives = gives;
         exact = λ ready. gives;
-        last = λ q. uncovered (sym c.find-ranges.ensures.gives ∙ c.find-ranges.ensures.last q);
-        none = λ q. uncovered (covers_none s.ranges s.units i c.args.probe q);
+        last = λ q. ap (λ l. Ok l) (nothing (sym c.find-ranges.ensures.gives ∙ c.find-ranges.ensures.last q));
+        none = λ q. ap (λ l. Ok l) (nothing (covers_none s.ranges s.units i c.args.probe q));
         ends = tt;
       },
     )

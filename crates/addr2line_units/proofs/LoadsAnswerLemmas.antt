@@ -192,15 +192,3 @@ pub decided_within : {R : Type 0} (vs : List (UnitCache R)) (n : ℕ) → decide
 decided_within [] n h = absurd cc
 decided_within (v ∷ vs) zero h = omega arith
 decided_within (v ∷ vs) (suc n) h = let k = decided_within vs n h in omega (arith, k)
-
-pub unit_same : (u v : UnitRecord) → ◌≡◌ {A = Option UnitRecord} (Some u) (Some v) → u ≡ v
-unit_same u v e = cc
-
-decided_set : {R : Type 0} (vs : List (UnitCache R)) (n : ℕ) (w : UnitCache R) → n < length vs → is_decided w.entries.view.state ≡ true → decided_at (set vs n w) n ≡ true
-decided_set [] n w h d = absurd (omega arith)
-decided_set (y ∷ vs) zero w h d = d
-decided_set (y ∷ vs) (suc n) w h d = decided_set vs n w (omega arith) d
-
-pub decided_if_ok : {R : Type 0} (vs : List (UnitCache R)) (n : ℕ) (w : UnitCache R) (r : Result (Unit {0}) Error) → n < length vs → OnOk r (is_decided w.entries.view.state ≡ true) → OnOk r (decided_at (set vs n w) n ≡ true)
-decided_if_ok vs n w (Ok x) h d = decided_set vs n w h d
-decided_if_ok vs n w (Err x) h d = tt

@@ -135,7 +135,7 @@ module _ {R : Type 0} {scope : Scope} {held : List (UnitCache R)} {last : Frames
             answers = answered_if_ok d us held n u c with_entries given r (unit_within i n there) within (unit_is i n there) at a.answer
 
             pub answered_there : AfterAnswer n given r old new
-            answered_there = after_answer scope held (all_entries i) now same_lines_now steps was n (λ k ne. others_stay held n k with_entries ne) same_decided many given r (λ h. h)
+            answered_there = after_answer scope held (all_entries i) now same_lines_now steps was n (λ k ne. others_stay held n k with_entries ne) same_decided many given r
                 answers (answers_if_refused held n c with_entries r (is_some given ≡ true) within at a.refused) learns (λ h. a.none (shut_there h))
 
           -- the answer was given

@@ -16,10 +16,6 @@ use Rattle.addr2line_units.proofs.EntriesReadByLemmas.{answered_is_decided, know
 use Rattle.addr2line_units.proofs.EntriesStayLemmas.{none_whole, stays_known, whole_is_decided}
 use Rattle.addr2line_units.proofs.UnitsLinesLemmas.{stay_indexed, stay_length, stay_parsed}
 
-pub some_given : {X Y : Type 0} (f : X → Y) (o : Option X) → is_some (option_map f o) ≡ is_some o
-some_given f None = refl
-some_given f (Some x) = refl
-
 -- what is stored that waits for a unit waits for one that waits
 pub waits_if_stored : {R : Type 0} (views : List (UnitCache R)) (last : FramesStop) (n : ℕ) → as_stop views last ≡ Waits n → IsLendable views last → waits_at views n ≡ true
 waits_if_stored views (stops.Waits k) n e h = subst (λ j. waits_at views j ≡ true) (same_wait e) h
@@ -136,9 +132,9 @@ module _ {R : Type 0} (scope : Scope) (held : List (UnitCache R)) where
         whole = λ kind q. shut_whole kind k shut (same_or n k) q;
       }
 
-      pub after_answer : (given : Option Sections) (result : Result (Unit {0}) Error) {P : Type 0} → (P → is_some given ≡ true) → OnOk result (answers_in entries ≡ with_answer d us (answers_in held) n given)
-          → IfErr result (λ e. (e ≡ OutOfMemory) × (answers_in entries ≡ answers_in held) × StayAllEntries held entries × P) → LearnsNoFunctions (known_in held) (known_in entries) → (is_open_at d us (answers_in held) n ≡ false → result ≡ Ok tt) → AfterAnswer n given result old new
-      after_answer given result {P} wants answers refused functions not_open = record {
+      pub after_answer : (given : Option Sections) (result : Result (Unit {0}) Error) → OnOk result (answers_in entries ≡ with_answer d us (answers_in held) n given)
+          → IfErr result (λ e. (e ≡ OutOfMemory) × (answers_in entries ≡ answers_in held) × StayAllEntries held entries × (is_some given ≡ true)) → LearnsNoFunctions (known_in held) (known_in entries) → (is_open_at d us (answers_in held) n ≡ false → result ≡ Ok tt) → AfterAnswer n given result old new
+      after_answer given result answers refused functions not_open = record {
         stays = only_entries;
         answers = answers;
         refused = of_err result refused;
@@ -150,10 +146,10 @@ module _ {R : Type 0} (scope : Scope) (held : List (UnitCache R)) where
         beside = beside;
       }
         where
-          of_err : (r : Result (Unit {0}) Error) → IfErr r (λ e. (e ≡ OutOfMemory) × (answers_in entries ≡ answers_in held) × StayAllEntries held entries × P)
+          of_err : (r : Result (Unit {0}) Error) → IfErr r (λ e. (e ≡ OutOfMemory) × (answers_in entries ≡ answers_in held) × StayAllEntries held entries × (is_some given ≡ true))
               → IfErr r (λ e. (e ≡ OutOfMemory) × (answers_in entries ≡ answers_in held) × StaysKnown (known_in held) (known_in entries) × (is_some given ≡ true))
           of_err (Ok x) h = tt
-          of_err (Err e) h = (h.0, h.1, stays_known held entries h.2, wants h.3)
+          of_err (Err e) h = (h.0, h.1, stays_known held entries h.2, h.3)
 
       pub after_load : (given : Option Sections) (result : Result (Unit {0}) Error) → (WasNotRefused result → answers_in entries ≡ with_answer d us (answers_in held) n given)
           → (answers_in entries ≡ answers_in held) ⊎ (answers_in entries ≡ with_answer d us (answers_in held) n given)

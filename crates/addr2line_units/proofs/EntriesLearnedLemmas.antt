@@ -1,6 +1,6 @@
 -- Of which functions details become known where a unit is asked (on specs/EntriesKnown.antt and
 -- specs/EntriesKnownCached.antt).
-use Rattle.addr2line_units.proofs.Common.{Box, Global, ◌≡◌, ◌≢◌, ◌⊎◌, inl, inr, ◌∙◌, ap, sym, refl, subst, ℕ, ◌<◌, ◌==◌, nat_lt, cond, lt-ltb, eqb-true, Bool, true, false, List, get_or, length, position, Option, Some, None, option_and_then, option_map, slice_get, Result, Ok, Err, if◌then◌else◌, cases_eq, slice_get-map, slice_get_read, slice_get_within, set, position_or_len, Error, ◌>>=◌, Sections, UnitRecord, AreUnread, CachedFunction, FunctionTable, cached_detail, function_place_at, function_offset_at, Scope, some_at, LazyFunctions, UnitCache, UnitEntries, ViewState, AreEntriesOf, StayEntries, first_answer_of, AreFunctionsOf, ReadsNoDetail, ReadsNoOther, StayFunctions, cached_functions, has_detail, is_cached_fault, no_functions, were_read, known_answer, known_by, known_fault, known_function, known_functions, known_in, known_table, is_decided, as_sections, unboxed, verdict_in, view_by, was_checked, AllKnown, FunctionsKnown, HasNoFunctions, KnownEntries, KnownFunction, LearnsNoDetails, LearnsNoFunctions, NothingKnown, is_detail_known, knows_detail, knows_detail_at, function_offset_among, function_offset_by, function_offset_in, View, verdict, view_scope}
+use Rattle.addr2line_units.proofs.Common.{Box, Global, ◌≡◌, ◌≢◌, ◌⊎◌, inl, inr, ◌∙◌, ap, sym, refl, subst, ℕ, ◌<◌, ◌==◌, nat_lt, cond, lt-ltb, eqb-true, Bool, true, false, List, get_or, length, position, Option, Some, None, option_and_then, option_map, slice_get, Result, Ok, Err, if◌then◌else◌, cases_eq, slice_get-map, slice_get_read, slice_get_within, set, position_or_len, Error, ◌>>=◌, Sections, UnitRecord, AreUnread, CachedFunction, FunctionTable, cached_detail, function_place_at, function_offset_at, Scope, some_at, LazyFunctions, UnitCache, UnitEntries, ViewState, AreEntriesOf, StayEntries, first_answer_of, AreFunctionsOf, ReadsNoDetail, ReadsNoOther, StayFunctions, cached_functions, has_detail, is_cached_fault, no_functions, were_read, known_answer, known_by, known_fault, known_function, known_functions, known_in, known_table, is_decided, as_sections, unboxed, verdict_in, view_by, AllKnown, FunctionsKnown, HasNoFunctions, KnownEntries, KnownFunction, LearnsNoDetails, LearnsNoFunctions, NothingKnown, is_detail_known, knows_detail, knows_detail_at, function_offset_among, function_offset_by, function_offset_in, View, verdict, view_scope}
 use Rattle.std.proofs.lemmas.List.Folds.{find_at}
 use Rattle.std.proofs.lemmas.List.Quantifiers.{position-Some}
 use Rattle.std.specs.Prelude.{IfOk, IfSome, is_some, unwrap_or}

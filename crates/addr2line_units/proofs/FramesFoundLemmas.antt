@@ -1,9 +1,8 @@
 -- The unit in which a lookup of frames has found something (on specs/FramesLookup.antt and
 -- specs/UnitsCached.antt).
-use Rattle.addr2line_units.proofs.Common.{◌≡◌, ℕ, zero, suc, Bool, true, false, ◌&&◌, ◌||◌, List, [], ◌∷◌, Option, Some, None, Result, Ok, Err, ap, refl, subst, ◌∙◌, Error, ◌>>=◌, ExactlyUnlessOom, WasNotRefused, Sections, UnitRecord, Scope, OnFault, Stop, Skip, FramesStop, UnitRange, UnitCache, ViewState, indexed_units, FrameRecord, LookupStop, Waits, Finds, FindsNothing, after_fault, asked_frames, ends_lookup, frames_of_number, holds_along, or_stop, stop_along, first_answer_of, HaveEntriesOf, answers_in, decided_at, has_entries_at, IsLendable, IsStopIn, frames_at_place, has_frames_at, as_stop, is_decided, waits, was_checked, FramesResult, frames_by, frames_in, function_in, IndexedUnit, FirstAnswers, is_open}
+use Rattle.addr2line_units.proofs.Common.{◌≡◌, ℕ, zero, suc, Bool, true, false, ◌&&◌, ◌||◌, List, [], ◌∷◌, Option, Some, None, Result, Ok, Err, ap, refl, subst, ◌∙◌, Error, ◌>>=◌, ExactlyUnlessOom, WasNotRefused, Sections, UnitRecord, Scope, OnFault, Stop, Skip, FramesStop, UnitRange, UnitCache, indexed_units, FrameRecord, LookupStop, Waits, Finds, FindsNothing, after_fault, asked_frames, ends_lookup, frames_of_number, holds_along, or_stop, stop_along, first_answer_of, HaveEntriesOf, answers_in, decided_at, has_entries_at, IsLendable, IsStopIn, frames_at_place, has_frames_at, as_stop, FramesResult, frames_by, frames_in, function_in, IndexedUnit, FirstAnswers, is_open}
 use Rattle.std.specs.Prelude.{IfOk, if◌then◌else◌}
 use Rattle.addr2line_units.specs.declared.frames.FramesStop.TheVariants as stops
-use Rattle.addr2line_units.specs.declared.unit.ViewState.TheVariants as states
 use Rattle.addr2line_units.proofs.LoadsAnswerLemmas.{checked_waits}
 use Rattle.addr2line_units.proofs.FramesWaitLemmas.{known_was_checked, waits_where_told}
 use Rattle.addr2line_units.proofs.FramesWalkLemmas.{and_first, and_second}

@@ -2,8 +2,8 @@
 -- 3.1.2, 3.3, 6.2 and 7.3.2).
 -- Own: what is cached stays, until the unit is forgotten, and nothing is read that isn't asked for.
 -- OutOfMemory is never cached.
-use Rattle.std.specs.Prelude.{◌≡◌, ℕ, Bool, true, false, Option, None, Some, Result, Ok, Err, IfOk, IfErr, IfSome, OnOk, is_some}
-use Rattle.addr2line_units.specs.Common.{Error, OutOfMemory, WasNotRefused, Sections, UnitRecord, Scope, IsScope, functions_of, functions_take_memory, exceeds_inline_room}
+use Rattle.std.specs.Prelude.{◌≡◌, ℕ, Bool, true, false, List, Option, None, Some, Result, Ok, Err, IfOk, IfErr, IfSome, OnOk, is_some}
+use Rattle.addr2line_units.specs.Common.{Error, OutOfMemory, Range, WasNotRefused, Sections, UnitRecord, Scope, IsScope, functions_of, functions_take_memory, exceeds_inline_room}
 use Rattle.addr2line_lines.specs.FunctionDetails.{AreUnread}
 use Rattle.addr2line_units.specs.declared.entries.FunctionPlace.{FunctionPlace}
 use Rattle.addr2line_units.specs.declared.entries.LazyFunctions.{LazyFunctions}
@@ -16,8 +16,10 @@ use Rattle.addr2line_units.specs.EntriesFrames.{HasFewInlined, asks_lines_in, fr
 use Rattle.addr2line_units.specs.EntriesFunctions.{AreFunctionsOf, ArePlacesIn, ReadsNoOther, StayFunctions, cached_functions, cached_has_function, were_read}
 use Rattle.addr2line_units.specs.EntriesMemory.{functions_in_take_memory, lines_take_memory}
 use Rattle.addr2line_units.specs.Frames.{function_at}
-use Rattle.addr2line_units.specs.UnitLinesCached.{AreLinesOf, CachesResult, StaysUnit, indexed_unit, is_uncached, lines_result}
+use Rattle.addr2line_units.specs.UnitLinesCached.{AreLinesOf, CachesResult, StaysUnit, indexed_unit, is_parsed, is_uncached, lines_result}
 use Rattle.addr2line_units.specs.UnitsCached.{IsCacheOf}
+use Rattle.addr2line_units.specs.UnitsIndexed.{ranged_seen}
+use Rattle.addr2line_units.specs.UnitsRanged.{has_lines}
 use Rattle.addr2line_units.specs.UnitView.{decided_answer, is_open}
 use Rattle.addr2line_units.specs.declared.unit.UnitView.{UnitView}
 use Rattle.addr2line_units.specs.UnitViewCached.{IsViewOf, answer_of_view, is_decided, was_checked}
@@ -33,6 +35,15 @@ pub record AfterLinesOf {X : Type 0} (shares : Bool) (d : Sections) (u : UnitRec
   pub memory : is_uncached new.lines ≡ false → WasNotRefused result
   pub no_memory : lines_take_memory shares u ≡ false
       → IfErr result (λ e. lines_result d u ≡ Err e)
+
+-- after the ranges that lead to a unit were read, of which these are listed: its lines are cached
+-- where they were asked for, and what was cached stays
+pub record AfterLineRanges {X : Type 0} (d : Sections) (u : UnitRecord) (listed : List Range)
+    (result : Result X Error) (old new : UnitLines) : Type 0 where
+  pub right : AreLinesOf d u new.lines
+  pub stay : StaysUnit old new
+  pub known : OnOk result (is_parsed new ≡ has_lines (ranged_seen u old listed))
+  pub refused : IfErr result (λ e. e ≡ OutOfMemory)
 
 -- functions that were just read are those of the view, or their fault, without any detail
 pub record AreNewFunctionsOf {R : Type 0} (scope : Scope) (view : UnitRecord) (f : LazyFunctions R)

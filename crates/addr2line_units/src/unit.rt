@@ -1,14 +1,14 @@
 //! What is cached of one unit but its functions: its lines, and its view, which is where its
 //! entries are read that say what stands at an address.
 
-ghost use Rattle.std.specs.Prelude.{◌≡◌, ◌≢◌, ◌+◌, ◌<◌, ◌≤◌, true, false, not, map, Ok, Err, OnOk, OnErr, IfOk, IfErr, IfSome, IsOk, is_some, length, nat_lt, option_map, None, Some};
-ghost use Rattle.addr2line_units.specs.Common.{Exactly, ExactlyUnlessOom, ExactlyUnlessOomIf, WasNotRefused, OutOfMemory, Sections, UnitRecord, location_of_row, IsScope, as_scope};
-ghost use Rattle.addr2line_units.specs.UnitsRanged.{is_partial, is_type_unit, listed_in_unit, listed_unit_ranges, has_lines, asks_lines, ranged_unit, unit_ranges};
+ghost use Rattle.std.specs.Prelude.{◌≡◌, ◌≢◌, ◌+◌, ◌<◌, ◌≤◌, true, false, not, map, Ok, Err, OnOk, IfOk, IfErr, IfSome, IsOk, is_some, length, nat_lt, option_map, None, Some};
+ghost use Rattle.addr2line_units.specs.Common.{Exactly, ExactlyUnlessOom, ExactlyUnlessOomIf, OutOfMemory, Sections, UnitRecord, location_of_row, IsScope, as_scope};
+ghost use Rattle.addr2line_units.specs.UnitsRanged.{is_partial, is_type_unit, listed_in_unit, listed_unit_ranges, asks_lines, ranged_unit, unit_ranges};
 ghost use Rattle.addr2line_units.specs.EntriesMemory.{lines_take_memory};
 ghost use Rattle.addr2line_units.specs.Locations.{is_found, location_in, steps_in};
 ghost use Rattle.addr2line_units.specs.IndexAranges.{range_in};
-ghost use Rattle.addr2line_units.specs.UnitLinesCached.{AreLinesOf, IsUnparsed, cached_lines_result, cached_files, cached_steps, cached_ranges, cached_row, indexed_unit, lines_result, cached_lines, is_parsed, is_uncached};
-ghost use Rattle.addr2line_units.specs.CacheAfter.{AfterLinesOf, AfterViewAnswer, AfterViewCheck, AfterViewForgetting};
+ghost use Rattle.addr2line_units.specs.UnitLinesCached.{AreLinesOf, IsUnparsed, cached_lines_result, cached_files, cached_steps, cached_ranges, cached_row, indexed_unit, lines_result, cached_lines, is_uncached};
+ghost use Rattle.addr2line_units.specs.CacheAfter.{AfterLineRanges, AfterLinesOf, AfterViewAnswer, AfterViewCheck, AfterViewForgetting};
 ghost use Rattle.addr2line_units.specs.UnitsIndexed.{ranged_seen};
 ghost use Rattle.addr2line_units.specs.LoadsMemory.{answer_takes_memory};
 ghost use Rattle.addr2line_units.specs.UnitViewCached.{IsViewOf, answer_in, is_decided, parts_or_fault, answer_of_view, as_sections, split_file_by, split_file_in, split_unit, unboxed, verdict_in, view_in, waits, was_checked};
@@ -267,13 +267,10 @@ impl UnitLines {
         requires unparsed { IsUnparsed dwarf.now dw_unit.now self.old }
         ensures gives { ExactlyUnlessOom (λ v. v.items) result (Ok (unit_ranges dwarf.now
             (ranged_seen dw_unit.now self.old listed.items))) }
-        ensures refused { IfErr result (λ e. e ≡ OutOfMemory) }
         ensures exact { asks_lines (ranged_seen dw_unit.now self.old listed.items) ≡ false
             → IsOk result }
-        ensures known { OnOk result (is_parsed self.new ≡ has_lines
-            (ranged_seen dw_unit.now self.old listed.items)) }
-        ensures kept { self.new.lang ≡ self.old.lang }
-        ensures read { AreLinesOf dwarf.now dw_unit.now self.new.lines }
+        ensures after { AfterLineRanges dwarf.now dw_unit.now listed.items result self.old
+            self.new }
     {
         if !listed.is_empty() || is_partial(dw_unit.header.type_()) {
             return Ok(listed);

@@ -1,4 +1,4 @@
-use Rattle.addr2line_units.proofs.Common.{◌≡◌, ◌∙◌, None, Some, ap, false, is_some, not, rules, subst, sym, true, first_answer_of, awaited_load, is_open, as_scope}
+use Rattle.addr2line_units.proofs.Common.{◌≡◌, ◌∙◌, None, Some, ap, false, is_some, not, rules, subst, sym, true, first_answer_of, awaited_load, is_open}
 use Rattle.addr2line_units.specs.LoadsListed.{if_new, is_marked}
 use Rattle.addr2line_units.proofs.LoadsAnswerLemmas.{no_answer, open_by_check}
 use Rattle.addr2line_units.proofs.LoadsLemmas.{awaited_unit, awaits_this, is_new_load, marks_load, marks_none, not_new, open_awaits}

@@ -9,7 +9,7 @@ ok_is a b e = cc
 
 pub returns-clause-read : goal.returns-clause-read
 returns-clause-read g c =
-    let own = own_push c.args.dwarf.now c.args.self.now.dw_units.items c.args.self.now.caches.items c.args.dw_unit (record { lines = c.or_line_ranges.new.self; entries = c.new.result }) c.requires.read c.or_line_ranges.ensures.read in
+    let own = own_push c.args.dwarf.now c.args.self.now.dw_units.items c.args.self.now.caches.items c.args.dw_unit (record { lines = c.or_line_ranges.new.self; entries = c.new.result }) c.requires.read c.or_line_ranges.ensures.after.right in
     rw (c.in_ok-push.ensures.items, c.in_ok-push-2.ensures.items) own
 
 pub returns-clause-gives : goal.returns-clause-gives
@@ -23,7 +23,7 @@ returns-clause-gives g c =
     c.in_ok-push_ranges.ensures.gives
     ∙ ap (λ rs. before ++ map (range_of_unit c.len.result) rs) (c.deref.ensures.value ∙ sym read)
     ∙ ap (λ n. before ++ map (range_of_unit n) (unit_ranges d ranged)) count in
-    let more = pushed d c.args.self.now.dw_units.items c.args.self.now.caches.items c.args.dw_unit c.args.lines (record { lines = c.or_line_ranges.new.self; entries = c.new.result }) c.args.listed.items before c.push_ranges.new.unit_ranges.items c.requires.read c.in_ok-ranges.ensures.kept c.in_ok-ranges.ensures.known ranges in
+    let more = pushed d c.args.self.now.dw_units.items c.args.self.now.caches.items c.args.dw_unit c.args.lines (record { lines = c.or_line_ranges.new.self; entries = c.new.result }) c.args.listed.items before c.push_ranges.new.unit_ranges.items c.requires.read c.in_ok-ranges.ensures.after.stay.language c.in_ok-ranges.ensures.after.known ranges in
     rw (c.in_ok-push.ensures.items, c.in_ok-push-2.ensures.items) more
 
 pub returns-clause-empty : goal.returns-clause-empty

@@ -82,7 +82,7 @@ pub trait FileSource: Drop {
         ensures none { HasNoFile (files self.now) path.now → result ≡ Ok None }
         ensures empty { HasEmptyFile (files self.now) path.now
             → result_map (option_map image_bytes) result ≡ Ok (Some []) }
-        ensures there { IfOk result (λ found. IfSome found HasWanted) }
+        ensures whole { IfOk result (λ found. IfSome found HasWanted) }
     {
         match self.read(alloc, path)? {
             Some(bytes) => Ok(Some(whole_file(alloc, bytes)?)),

@@ -80,7 +80,7 @@ impl<R: Reader> LazyFunctions<R> {
         scope: Scope<'_, R>,
         view: &Unit<R>,
     ) -> Result<(), Error>
-        requires right { AreFunctionsOf (as_scope scope) view.now self.old }
+        requires cached { AreFunctionsOf (as_scope scope) view.now self.old }
         ensures after { AfterCachingFunctions R.shares (as_scope scope.entry) view.now result
             self.old self.new }
     {
@@ -103,7 +103,7 @@ impl<R: Reader> LazyFunctions<R> {
         view: &Unit<R>,
         probe: u64,
     ) -> Result<Option<FunctionPlace>, Error>
-        requires right { AreFunctionsIn (as_scope scope) view.now self.old }
+        requires cached { AreFunctionsIn (as_scope scope) view.now self.old }
         ensures gives { ExactlyUnlessOomIf
             (find_takes_memory R.shares (as_scope scope.entry) view.now probe self.old
             && find_takes_memory R.shares (as_scope scope.entry) view.now probe self.new)
@@ -140,7 +140,7 @@ impl<R: Reader> LazyFunctions<R> {
         scope: Scope<'_, R>,
         view: &Unit<R>,
     ) -> Result<(), Error>
-        requires right { AreFunctionsIn (as_scope scope) view.now self.old }
+        requires cached { AreFunctionsIn (as_scope scope) view.now self.old }
         ensures gives { ExactlyUnlessOomIf
             (reading_takes_memory R.shares (as_scope scope.entry) view.now self.old) (λ x. x)
             result (functions_fault (as_scope scope.entry) view.now) }
@@ -210,7 +210,7 @@ impl<R: Reader> UnitEntries<R> {
 
     // Looks whether the unit waits for an answer, unless that was done. Takes no memory.
     pub(crate) fn check_split(&mut self, scope: Scope<'_, R>, dw_unit: &Unit<R>)
-        requires right { AreEntriesOf (as_scope scope) dw_unit.now self.old }
+        requires cached { AreEntriesOf (as_scope scope) dw_unit.now self.old }
         ensures after { AfterCheck (as_scope scope.entry) dw_unit.now self.old self.new }
     {
         self.view.check_split(scope.file.dwarf, dw_unit);
@@ -231,7 +231,7 @@ fn find_in_view<'x, R: Reader>(
     dw_unit: &'x Unit<R>,
     probe: u64,
 ) -> Result<Option<FunctionPlace>, Error>
-    requires right { AreEntriesOf (as_scope scope) dw_unit.now
+    requires cached { AreEntriesOf (as_scope scope) dw_unit.now
         (record { view = view.now; functions = functions.old }) }
     requires decided { is_decided view.now.state ≡ true }
     ensures gives { ExactlyUnlessOom (found_in_cache functions.new) result
@@ -259,7 +259,7 @@ pub(crate) fn find_frames_in<'x, R: Reader>(
     steps: &mut Count,
     probe: u64,
 ) -> Result<UnitFrames, Error>
-    requires right { IsCacheOf (as_scope scope) dw_unit.now cache.old }
+    requires cached { IsCacheOf (as_scope scope) dw_unit.now cache.old }
     ensures gives { ExactlyUnlessOom (frames_of_place cache.new.lines cache.new.entries) result
         (frames_in (as_scope scope.entry) (indexed_unit dw_unit.now cache.old.lines)
         (first_answer_of cache.old.entries) probe) }

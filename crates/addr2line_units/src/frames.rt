@@ -259,7 +259,7 @@ impl<'ctx, R: Reader> FrameIter<'ctx, R> {
         language: Option<DwLang>,
         location: Option<Location<'ctx>>,
     ) -> FrameIter<'ctx, R>
-        requires there { AllByRecursion (λ n. n < length functions.now.inlined) inlined.now }
+        requires within { AllByRecursion (λ n. n < length functions.now.inlined) inlined.now }
         ensures gives { IfSome (cached_offset_at functions.now place) (λ offset. frames_left result
             ≡ frames_from (files_if lines.entry) language offset (cached_name functions.now place)
             (reverse (map (entry_among functions.now.inlined) inlined.now))
@@ -320,7 +320,7 @@ fn frames_of<'ctx, R: Reader>(
     language: Option<DwLang>,
     location: Option<Location<'ctx>>,
 ) -> FrameIter<'ctx, R>
-    requires there { IfSome place.now (ArePlacesIn (cached_functions functions.now)) }
+    requires within { IfSome place.now (ArePlacesIn (cached_functions functions.now)) }
     ensures gives { frames_left result ≡ found_frames (files_if lines.entry) language
         (option_map (function_of_place (cached_functions functions.now)) place.now)
         (option_map as_location location.entry) }

@@ -34,7 +34,7 @@ impl<'a> LegacyName<'a> {
     pub(crate) fn read(name: &'a [u8]) -> Option<LegacyName<'a>>
         ensures gives { MatchOption result (legacy_text name.now ≡ None) (λ parts.
             legacy_text name.now ≡ Some (elements_text parts.elements.now ++ parts.suffix.now)) }
-        ensures right { IfSome result (λ parts. list_all is_ascii parts.suffix.now ≡ true) }
+        ensures within { IfSome result (λ parts. list_all is_ascii parts.suffix.now ≡ true) }
     {
         let elements = strip_start(strip_llvm(name))?;
         let _first = element_in(elements)?;
@@ -185,7 +185,7 @@ fn element_in(text: &[u8]) -> Option<(&[u8], &[u8])>
     ensures gives { MatchOption result (element_at text.now ≡ None)
         (λ e. element_at text.now ≡ Some (e.0.now, e.1.now)) }
     ensures shorter { IfSome result (λ e. length e.1.now < length text.now) }
-    ensures right { IfSome result (λ e. list_all is_ascii e.0.now ≡ true) }
+    ensures within { IfSome result (λ e. list_all is_ascii e.0.now ≡ true) }
 {
     let (digits, rest) = text.split_at(digits_len(text));
     if digits.is_empty() {
@@ -221,7 +221,7 @@ fn may_follow(text: &[u8]) -> bool
 fn suffix_in(rest: &[u8]) -> Option<&[u8]>
     ensures gives { MatchOption result (suffix_at rest.now ≡ None)
         (λ suffix. suffix_at rest.now ≡ Some suffix.now) }
-    ensures right { IfSome result (λ suffix. list_all is_ascii suffix.now ≡ true) }
+    ensures within { IfSome result (λ suffix. list_all is_ascii suffix.now ≡ true) }
 {
     let (first, suffix) = rest.split_first()?;
     if *first == b'E' && may_follow(suffix) {

@@ -36,7 +36,7 @@ impl<R: Reader> UnitEntries<R> {
     // Forgets the answer, if there is one, and what was read of its view: the unit waits for one
     // again. Takes no memory.
     pub(crate) fn forget(&mut self, scope: Scope<'_, R>, dw_unit: &Unit<R>)
-        requires right { AreEntriesOf (as_scope scope) dw_unit.now self.old }
+        requires cached { AreEntriesOf (as_scope scope) dw_unit.now self.old }
         ensures after { AfterForgetting (as_scope scope.entry) dw_unit.now self.old self.new }
     {
         if self.view.is_answered() {
@@ -71,7 +71,7 @@ impl<R: Reader> UnitEntries<R> {
         dw_unit: &Unit<R>,
         sections: Option<Rc<Dwarf<R>>>,
     ) -> Result<(), Error>
-        requires right { AreEntriesOf (as_scope scope) dw_unit.now self.old }
+        requires cached { AreEntriesOf (as_scope scope) dw_unit.now self.old }
         ensures after { AfterAnswering (as_scope scope.entry) dw_unit.now
             (option_map (λ d. d.value) sections) result self.old self.new }
         ensures exact { answer_takes_memory R.shares (option_map (λ d. d.value) sections) ≡ false
@@ -91,7 +91,7 @@ impl<R: Reader> UnitEntries<R> {
 impl<R: Reader> UnitEntries<R> {
     // The fault of the unit's view, which is decided, if it has one. Takes no memory.
     fn check_view(&self, scope: Scope<'_, R>, dw_unit: &Unit<R>) -> Result<(), Error>
-        requires right { AreEntriesOf (as_scope scope) dw_unit.now self.now }
+        requires cached { AreEntriesOf (as_scope scope) dw_unit.now self.now }
         requires decided { is_decided self.now.view.state ≡ true }
         ensures gives { result ≡ view_fault
             (verdict scope.entry.file.dwarf.now dw_unit.now (first_answer_of self.now)) }
@@ -181,8 +181,8 @@ impl<R: Reader> UnitEntries<R> {
         number: usize,
     ) -> Result<Option<SplitDwarfLoad<R>>, Error>
         requires same { scope.file.dwarf.now ≡ dwarf.now.value }
-        requires there { number < length scope.file.units.now }
-        requires right { AreEntriesOf (as_scope scope) dw_unit.now self.old }
+        requires within { number < length scope.file.units.now }
+        requires cached { AreEntriesOf (as_scope scope) dw_unit.now self.old }
         ensures gives { IfOk result (λ load. load ≡ if_new marks.old.items
             (awaited_load dwarf.now.value number dw_unit.now (first_answer_of self.old))) }
         ensures left { OnOk result (MarksLoad

@@ -50,7 +50,7 @@ impl<R: Reader> LazyFunctions<R> {
         scope: Scope<'_, R>,
         view: &Unit<R>,
     ) -> Result<(), Error>
-        requires right { AreFunctionsOf (as_scope scope) view.now self.old }
+        requires cached { AreFunctionsOf (as_scope scope) view.now self.old }
         ensures gives { IsUnlessOom result
             (read_of_functions Functions (as_scope scope.entry) view.now) }
         ensures after { AfterReadingFunctions R.shares Functions (as_scope scope.entry) view.now
@@ -69,7 +69,7 @@ impl<R: Reader> LazyFunctions<R> {
         view: &Unit<R>,
         depth: ReadingDepth,
     ) -> Result<(), Error>
-        requires right { AreFunctionsIn (as_scope scope) view.now self.old }
+        requires cached { AreFunctionsIn (as_scope scope) view.now self.old }
         ensures gives { IsUnlessOom result
             (read_of_functions depth (as_scope scope.entry) view.now) }
         ensures after { AfterReadingFunctions R.shares depth (as_scope scope.entry) view.now
@@ -91,7 +91,7 @@ fn read_in_view<'x, R: Reader>(
     dw_unit: &'x Unit<R>,
     depth: ReadingDepth,
 ) -> Result<(), Error>
-    requires right { AreEntriesOf (as_scope scope) dw_unit.now
+    requires cached { AreEntriesOf (as_scope scope) dw_unit.now
         (record { view = view.now; functions = functions.old }) }
     requires decided { is_decided view.now.state ≡ true }
     ensures gives { IsUnlessOom result (read_of_view depth (as_scope scope.entry)
@@ -119,7 +119,7 @@ impl<R: Reader> UnitEntries<R> {
         dw_unit: &'x Unit<R>,
         depth: ReadingDepth,
     ) -> Result<(), Error>
-        requires right { AreEntriesOf (as_scope scope) dw_unit.now self.old }
+        requires cached { AreEntriesOf (as_scope scope) dw_unit.now self.old }
         ensures gives { IsUnlessOom result (read_of_unit depth
             (as_scope scope.entry) dw_unit.now (first_answer_of self.old)) }
         ensures after { AfterReadingUnit R.shares depth (as_scope scope.entry) dw_unit.now result

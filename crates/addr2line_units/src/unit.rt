@@ -227,7 +227,7 @@ impl UnitLines {
         dwarf: &Dwarf<R>,
         dw_unit: &Unit<R>,
     ) -> Result<(), Error>
-        requires right { AreLinesOf dwarf.now dw_unit.now self.old.lines }
+        requires cached { AreLinesOf dwarf.now dw_unit.now self.old.lines }
         ensures gives { OnOk result (cached_lines_result self.new.lines
             ≡ lines_result dwarf.now dw_unit.now) }
         ensures after { AfterLinesOf R.shares dwarf.now dw_unit.now result self.old self.new }
@@ -246,7 +246,7 @@ impl UnitLines {
         dwarf: &Dwarf<R>,
         dw_unit: &Unit<R>,
     ) -> Result<(), Error>
-        requires right { AreLinesOf dwarf.now dw_unit.now self.old.lines }
+        requires cached { AreLinesOf dwarf.now dw_unit.now self.old.lines }
         ensures gives { ExactlyUnlessOom (λ _. cached_lines self.new.lines) result
             (lines_result dwarf.now dw_unit.now) }
         ensures after { AfterLinesOf R.shares dwarf.now dw_unit.now result self.old self.new }
@@ -288,7 +288,7 @@ impl UnitLines {
         steps: &mut Count,
         probe: u64,
     ) -> Result<Option<Row>, Error>
-        requires right { AreLinesOf dwarf.now dw_unit.now self.old.lines }
+        requires cached { AreLinesOf dwarf.now dw_unit.now self.old.lines }
         ensures gives { ExactlyUnlessOom (option_map (location_of_row (cached_files
             self.new.lines))) result
             (location_in dwarf.now probe (Some (indexed_unit dw_unit.now self.old))) }
@@ -511,7 +511,7 @@ impl<R: Reader> UnitView<R> {
 
     // Looks whether the unit needs an answer, unless that was done. Takes no memory.
     pub(crate) fn check_split(&mut self, dwarf: &Dwarf<R>, dw_unit: &Unit<R>)
-        requires right { IsViewOf dwarf.now dw_unit.now self.old }
+        requires cached { IsViewOf dwarf.now dw_unit.now self.old }
         ensures after { AfterViewCheck dwarf.now dw_unit.now self.old self.new }
     {
         if matches!(self.state, ViewState::Undecided) {
@@ -572,7 +572,7 @@ impl<R: Reader> UnitView<R> {
         dw_unit: &Unit<R>,
         sections: Option<Rc<Dwarf<R>>>,
     ) -> Result<(), Error>
-        requires right { IsViewOf dwarf.now dw_unit.now self.old }
+        requires cached { IsViewOf dwarf.now dw_unit.now self.old }
         requires waits { waits self.old.state ≡ true }
         ensures gives { OnOk result (verdict dwarf.now dw_unit.now (answer_of_view self.new)
             ≡ Some (answered_view dwarf.now dw_unit.now
@@ -594,7 +594,7 @@ impl<R: Reader> UnitView<R> {
 
     // Forgets the answer, if there is one: the unit waits for one again. Takes no memory.
     pub(crate) fn forget(&mut self, dwarf: &Dwarf<R>, dw_unit: &Unit<R>)
-        requires right { IsViewOf dwarf.now dw_unit.now self.old }
+        requires cached { IsViewOf dwarf.now dw_unit.now self.old }
         ensures after { AfterViewForgetting dwarf.now dw_unit.now self.old self.new }
     {
         if matches!(self.state, ViewState::Answered(_)) {
@@ -664,7 +664,7 @@ impl<R: Reader> UnitView<R> {
         ensures gives { (d : Sections) (u : UnitRecord) → IsViewOf d u self.now
             → IfSome (verdict d u (answer_of_view self.now)) (λ view. IfOk view (λ v.
             as_scope result ≡ view_scope (as_scope scope.entry) v)) }
-        ensures right { IsScope (as_scope scope.entry) → IsScope (as_scope result) }
+        ensures kept { IsScope (as_scope scope.entry) → IsScope (as_scope result) }
     {
         match self.split_file() {
             Some(dwarf) => Scope {

@@ -7,7 +7,7 @@ pub returns-then-is_open : goal.returns-then-is_open
 returns-then-is_open g c =
     let scope = as_scope c.args.scope in
     let was = c.args.cache.now in
-    let own = c.requires.right.lines in
+    let own = c.requires.cached.lines in
     let look = c.check_split.ensures.after in
     let waiting = sym c.is_open.ensures.gives ∙ c.if-is_open.true in
     record {
@@ -19,14 +19,14 @@ returns-then-is_open g c =
 pub find_in_view-requires : goal.find_in_view-requires
 find_in_view-requires g c =
     let look = c.check_split.ensures.after in
-    record { right = look.right; decided = checked_decides c.check_split.new.self.view.state look.known (sym c.is_open.ensures.gives ∙ c.if-is_open.false) }
+    record { cached = look.right; decided = checked_decides c.check_split.new.self.view.state look.known (sym c.is_open.ensures.gives ∙ c.if-is_open.false) }
 
 pub returns-in_err-function : goal.returns-in_err-function
 returns-in_err-function g c =
     let p = err_from_is_err_and c.from_residual.result c.from_residual.ensures.1 in
     let scope = as_scope c.args.scope in
     let was = c.args.cache.now in
-    let own = c.requires.right.lines in
+    let own = c.requires.cached.lines in
     let look = c.check_split.ensures.after in
     let shut = sym c.is_open.ensures.gives ∙ c.if-is_open.false in
     let e = c.in_err-function.ensures in
@@ -42,7 +42,7 @@ returns-in_err-row g c =
     let p = err_from_is_err_and c.from_residual-in_err-row.result c.from_residual-in_err-row.ensures.1 in
     let scope = as_scope c.args.scope in
     let was = c.args.cache.now in
-    let own = c.requires.right.lines in
+    let own = c.requires.cached.lines in
     let look = c.check_split.ensures.after in
     let shut = sym c.is_open.ensures.gives ∙ c.if-is_open.false in
     let f = c.in_ok-function.ensures in
@@ -58,7 +58,7 @@ pub returns : goal.returns
 returns g c =
     let scope = as_scope c.args.scope in
     let was = c.args.cache.now in
-    let own = c.requires.right.lines in
+    let own = c.requires.cached.lines in
     let look = c.check_split.ensures.after in
     let shut = sym c.is_open.ensures.gives ∙ c.if-is_open.false in
     let f = c.in_ok-function.ensures in

@@ -9,7 +9,7 @@ returns-in_err-unit g c =
     let scope = as_scope c.args.scope in
     let u = c.args.dw_unit.now in
     let old : UnitEntries g.row.R.Denot = record { view = c.args.view.now; functions = c.args.functions.now } in
-    let right = c.requires.right in
+    let right = c.requires.cached in
     let is = fault_known scope u c.args.probe old right c.requires.decided c.in_err-unit.field-0.0 c.in_err-unit.ensures.gives in
     rw (p.1, p.2) (record {
       gives = λ ne. fault_in scope u c.args.probe old right c.requires.decided c.in_err-unit.field-0.0 is;
@@ -21,18 +21,18 @@ find-requires g c =
     let scope = as_scope c.args.scope in
     let u = c.args.dw_unit.now in
     let old : UnitEntries g.row.R.Denot = record { view = c.args.view.now; functions = c.args.functions.now } in
-    let right = c.requires.right in
+    let right = c.requires.cached in
     let inner = as_scope c.scope_of.result in
     let x = c.in_ok-unit.unit.unit.now in
     let v = view_known scope u c.args.probe old right c.requires.decided c.in_ok-unit.unit.dwarf.now x inner c.in_ok-unit.ensures.gives (c.scope_of.ensures.gives scope.file.sections u right.view) in
-    record { right = record { in_order = c.scope_of.ensures.right right.in_order; functions = functions_right scope u c.args.probe old right c.requires.decided inner x v } }
+    record { cached = record { in_order = c.scope_of.ensures.kept right.in_order; functions = functions_right scope u c.args.probe old right c.requires.decided inner x v } }
 
 pub returns : goal.returns
 returns g c =
     let scope = as_scope c.args.scope in
     let u = c.args.dw_unit.now in
     let old : UnitEntries g.row.R.Denot = record { view = c.args.view.now; functions = c.args.functions.now } in
-    let right = c.requires.right in
+    let right = c.requires.cached in
     let inner = as_scope c.scope_of.result in
     let x = c.in_ok-unit.unit.unit.now in
     let v = view_known scope u c.args.probe old right c.requires.decided c.in_ok-unit.unit.dwarf.now x inner c.in_ok-unit.ensures.gives (c.scope_of.ensures.gives scope.file.sections u right.view) in

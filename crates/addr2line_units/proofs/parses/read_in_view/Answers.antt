@@ -10,10 +10,10 @@ returns-in_err-unit g c =
     let u = c.args.dw_unit.now in
     let old : UnitEntries g.row.R.Denot = record { view = c.args.view.now; functions = c.args.functions.now } in
     let x = c.in_err-unit.field-0.0 in
-    let is = fault_known scope u 0 old c.requires.right c.requires.decided x c.in_err-unit.ensures.gives in
+    let is = fault_known scope u 0 old c.requires.cached c.requires.decided x c.in_err-unit.ensures.gives in
     rw (p.1, p.2) (record {
-      gives = λ ne. view_refused g.R.Reader.shares c.args.depth scope u c.args.view.now c.args.functions.now c.requires.right c.requires.decided x is;
-      after = refused_view_after g.R.Reader.shares c.args.depth scope u c.args.view.now c.args.functions.now c.requires.right c.requires.decided x is;
+      gives = λ ne. view_refused g.R.Reader.shares c.args.depth scope u c.args.view.now c.args.functions.now c.requires.cached c.requires.decided x is;
+      after = refused_view_after g.R.Reader.shares c.args.depth scope u c.args.view.now c.args.functions.now c.requires.cached c.requires.decided x is;
     })
 
 pub read-requires : goal.read-requires
@@ -23,8 +23,8 @@ read-requires g c =
     let old : UnitEntries g.row.R.Denot = record { view = c.args.view.now; functions = c.args.functions.now } in
     let inner = as_scope c.scope_of.result in
     let x = c.in_ok-unit.unit.unit.now in
-    let v = view_known scope u 0 old c.requires.right c.requires.decided c.in_ok-unit.unit.dwarf.now x inner c.in_ok-unit.ensures.gives (c.scope_of.ensures.gives scope.file.sections u c.requires.right.view) in
-    record { right = record { in_order = c.scope_of.ensures.right c.requires.right.in_order; functions = functions_right scope u 0 old c.requires.right c.requires.decided inner x v } }
+    let v = view_known scope u 0 old c.requires.cached c.requires.decided c.in_ok-unit.unit.dwarf.now x inner c.in_ok-unit.ensures.gives (c.scope_of.ensures.gives scope.file.sections u c.requires.cached.view) in
+    record { cached = record { in_order = c.scope_of.ensures.kept c.requires.cached.in_order; functions = functions_right scope u 0 old c.requires.cached c.requires.decided inner x v } }
 
 pub returns : goal.returns
 returns g c =
@@ -33,8 +33,8 @@ returns g c =
     let old : UnitEntries g.row.R.Denot = record { view = c.args.view.now; functions = c.args.functions.now } in
     let inner = as_scope c.scope_of.result in
     let x = c.in_ok-unit.unit.unit.now in
-    let v = view_known scope u 0 old c.requires.right c.requires.decided c.in_ok-unit.unit.dwarf.now x inner c.in_ok-unit.ensures.gives (c.scope_of.ensures.gives scope.file.sections u c.requires.right.view) in
+    let v = view_known scope u 0 old c.requires.cached c.requires.decided c.in_ok-unit.unit.dwarf.now x inner c.in_ok-unit.ensures.gives (c.scope_of.ensures.gives scope.file.sections u c.requires.cached.view) in
     record {
-      gives = subst (ExactlyUnlessOom (λ y. y) c.read.result) (sym (view_reads g.R.Reader.shares c.args.depth scope u c.args.view.now c.args.functions.now c.requires.right c.requires.decided inner x v)) c.read.ensures.gives;
-      after = view_after g.R.Reader.shares c.args.depth scope u c.args.view.now c.args.functions.now c.requires.right c.requires.decided inner x v c.read.result c.read.new.self c.read.ensures.after;
+      gives = subst (ExactlyUnlessOom (λ y. y) c.read.result) (sym (view_reads g.R.Reader.shares c.args.depth scope u c.args.view.now c.args.functions.now c.requires.cached c.requires.decided inner x v)) c.read.ensures.gives;
+      after = view_after g.R.Reader.shares c.args.depth scope u c.args.view.now c.args.functions.now c.requires.cached c.requires.decided inner x v c.read.result c.read.new.self c.read.ensures.after;
     }

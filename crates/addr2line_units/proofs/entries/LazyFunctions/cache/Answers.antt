@@ -8,7 +8,7 @@ returns-in_err-self g c =
     let unread : were_read c.args.self.now ≡ false = search rules in
     rw (p.1, p.2) (record {
       after = record {
-        right = c.requires.right;
+        right = c.requires.cached;
         read = tt;
         empty = λ _. unread_has_none c.args.self.now unread;
         kept = λ read. absurd (false≢true (sym unread ∙ read));
@@ -35,7 +35,7 @@ returns-else-not-were_read g c =
     let read : were_read c.args.self.now ≡ true = search rules in
     record {
       after = record {
-        right = c.requires.right;
+        right = c.requires.cached;
         read = read;
         empty = λ unread. absurd (false≢true (sym unread ∙ read));
         kept = λ _. (refl, refl);

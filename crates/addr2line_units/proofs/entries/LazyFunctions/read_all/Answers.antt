@@ -50,7 +50,7 @@ returns-in-Absent g c =
     let gives = no_fault_of scope view (subst (AreFunctionsOf scope view) c.in-Absent.is a.right) in
     record {
       gives = gives;
-      after = details_after g.R.Reader.shares scope view old new a.right (Ok tt) c.requires.right.functions gives (cached_stay scope view old new kept) a.read
+      after = details_after g.R.Reader.shares scope view old new a.right (Ok tt) c.requires.cached.functions gives (cached_stay scope view old new kept) a.read
           (subst (λ f. AllByRecursion HasDetail (cached_functions f).functions) (sym c.in-Absent.is) tt)
           (λ ne. subst (λ f. IsReadyFor depths.Details (known_functions f)) (sym c.in-Absent.is) tt) (λ ready. tt) (λ ready. sym gives) (λ ready. ready_same depths.Details old new kept ready);
     }
@@ -75,7 +75,7 @@ returns-in-Read g c =
     (subst (λ (r : Result (Unit {0}) Error). ExactlyUnlessOomIf may (λ x. x) result r) (sym (fault_is scope view t.value table)) (e.gives table.details)) in
     record {
       gives = gives;
-      after = details_after shares scope view old (lazy.Read (with_value t new)) (table_more scope view t.value new table e.after (e.right table.details) e.names) result c.requires.right.functions gives
+      after = details_after shares scope view old (lazy.Read (with_value t new)) (table_more scope view t.value new table e.after (e.read table.details) e.names) result c.requires.cached.functions gives
           (stay_read old mid kept t (with_value t new) c.in-Read.is e.after) (on_ok result (λ _. refl) e.known) e.known
           (λ ne. to_fault_known new.functions (e.whole (not_oom result ne))) (λ ready. had_not_oom result (e.memory (to_fault_cached new.functions ready)))
           (λ ready. e.exact table.details (to_fault_cached t.value.functions (ready_then depths.Details old mid kept ready (lazy.Read t) c.in-Read.is)) ∙ sym (fault_is scope view t.value table))
@@ -95,7 +95,7 @@ returns-in-Faulty g c =
     let fault = fault_of_functions scope view x right in
     record {
       gives = λ _. fault;
-      after = details_after g.R.Reader.shares scope view old (lazy.Faulty x) right (Err x) c.requires.right.functions (λ _. fault) (stay_faulty old mid kept x c.in-Faulty.is) tt tt
+      after = details_after g.R.Reader.shares scope view old (lazy.Faulty x) right (Err x) c.requires.cached.functions (λ _. fault) (stay_faulty old mid kept x c.in-Faulty.is) tt tt
           (λ ne. ready_fault depths.Details x ne) (λ ready. known_not_oom depths.Details x ready) (λ ready. sym fault) (λ ready. sym c.in-Faulty.is ∙ ready_same depths.Details old mid kept ready);
     }
 

@@ -8,7 +8,7 @@ returns-then-is_answered g c =
     let some : is_some (first_answer_of c.args.self.now) ≡ true = search rules in
     record {
       after = record {
-        right = unread_entries (as_scope c.args.scope) c.args.dw_unit.now c.forget.new.self Unread c.requires.right.in_order c.forget.ensures.after.right refl;
+        right = unread_entries (as_scope c.args.scope) c.args.dw_unit.now c.forget.new.self Unread c.requires.cached.in_order c.forget.ensures.after.right refl;
         answer = c.forget.ensures.after.answer;
         kept = λ none. absurd (answered_is_some _ some none);
         empty = λ _. refl;
@@ -20,7 +20,7 @@ returns-else-is_answered g c =
     let none : is_some (first_answer_of c.args.self.now) ≡ false = search rules in
     record {
       after = record {
-        right = c.requires.right;
+        right = c.requires.cached;
         answer = no_answer (first_answer_of c.args.self.now) none;
         kept = λ _. refl;
         empty = λ some. absurd (false≢true (sym none ∙ some));

@@ -6,7 +6,7 @@ pub returns-in_err-answer : goal.returns-in_err-answer
 returns-in_err-answer g c = absurd (let no = c.in_err-answer.ensures.after.refused.2 in cc)
 
 pub read_in_view-requires : goal.read_in_view-requires
-read_in_view-requires g c = record { right = c.in_ok-answer.ensures.after.right; decided = c.in_ok-answer.ensures.after.known }
+read_in_view-requires g c = record { cached = c.in_ok-answer.ensures.after.right; decided = c.in_ok-answer.ensures.after.known }
 
 pub returns : goal.returns
 returns g c =
@@ -16,5 +16,5 @@ returns g c =
     let r = c.read_in_view in
     record {
       gives = subst (λ o. ExactlyUnlessOom (λ y. y) r.result (read_of_view c.args.depth scope (verdict scope.file.sections u o))) a.answer r.ensures.gives;
-      after = unit_after g.R.Reader.shares c.args.depth scope u c.args.self.now c.answer.new.self r.new.functions c.requires.right a r.result r.ensures.after;
+      after = unit_after g.R.Reader.shares c.args.depth scope u c.args.self.now c.answer.new.self r.new.functions c.requires.cached a r.result r.ensures.after;
     }

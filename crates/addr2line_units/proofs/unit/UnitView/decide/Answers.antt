@@ -5,7 +5,7 @@ use Rattle.addr2line_units.proofs.unit.UnitView.decide.Goals.{in-Ok, in-Err}
 
 pub returns-clause-after : goal.returns-clause-after
 returns-clause-after g c =
-    let waiting : verdict c.args.dwarf.now c.args.dw_unit.now None ≡ None = waiting_is_open c.args.dwarf.now c.args.dw_unit.now c.args.self.now.state c.requires.waits c.requires.right in
+    let waiting : verdict c.args.dwarf.now c.args.dw_unit.now None ≡ None = waiting_is_open c.args.dwarf.now c.args.dw_unit.now c.args.self.now.state c.requires.waits c.requires.cached in
     record {
       right = elim c.match-read_split_unit.branch [
         | in-Ok w ↦ answered_is_right _ _ _ waiting (ap unboxed w.unit-is ∙ sym w.in-Ok.ensures.gives)
@@ -20,4 +20,4 @@ returns-clause-after g c =
 
 pub returns-clause-gives : goal.returns-clause-gives
 returns-clause-gives g c =
-    verdict_of_open _ _ _ (waiting_is_open c.args.dwarf.now c.args.dw_unit.now c.args.self.now.state c.requires.waits c.requires.right)
+    verdict_of_open _ _ _ (waiting_is_open c.args.dwarf.now c.args.dw_unit.now c.args.self.now.state c.requires.waits c.requires.cached)

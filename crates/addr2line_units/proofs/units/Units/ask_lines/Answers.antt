@@ -25,7 +25,7 @@ index_mut-cache-requires g c =
 pub find_row-requires : goal.find_row-requires
 find_row-requires g c =
     let there = unit_got c.scope-scope.ensures.gives c.args.number c.in-Some.ensures.lookup.0 c.in-Some.ensures.lookup.1 in
-    record { right = subst (λ y. AreLinesOf y c.in-Some.dw_unit.now c.index_mut-cache.result.now.lines.lines) (sym (sections_seen c.scope-scope.ensures.gives)) (its_lines c.self.invariant c.args.number there c.index_mut-cache.ensures.value) }
+    record { cached = subst (λ y. AreLinesOf y c.in-Some.dw_unit.now c.index_mut-cache.result.now.lines.lines) (sym (sections_seen c.scope-scope.ensures.gives)) (its_lines c.self.invariant c.args.number there c.index_mut-cache.ensures.value) }
 
 pub invariant_of-self-in_err-row : goal.invariant_of-self-in_err-row
 invariant_of-self-in_err-row g c =

@@ -25,7 +25,7 @@ index_mut-cache-requires g c =
 pub find_frames_in-found-requires : goal.find_frames_in-found-requires
 find_frames_in-found-requires g c =
     let there = unit_got c.scope-scope.ensures.gives c.args.number c.in-Some.ensures.lookup.0 c.in-Some.ensures.lookup.1 in
-    record { right = subst (λ S. IsCacheOf S c.in-Some.dw_unit.now c.index_mut-cache.result.now) (sym c.scope-scope.ensures.gives) (its_cache c.self.invariant c.args.number there c.index_mut-cache.ensures.value) }
+    record { cached = subst (λ S. IsCacheOf S c.in-Some.dw_unit.now c.index_mut-cache.result.now) (sym c.scope-scope.ensures.gives) (its_cache c.self.invariant c.args.number there c.index_mut-cache.ensures.value) }
 
 pub invariant_of-self-in_err-found : goal.invariant_of-self-in_err-found
 invariant_of-self-in_err-found g c =

@@ -30,8 +30,8 @@ index_mut-cache-requires g c =
     let within = cache_within c.self.invariant c.args.number (unit_got c.scope-scope.ensures.gives c.args.number c.in-Some.ensures.lookup.0 c.in-Some.ensures.lookup.1) in
     omega (arith, within)
 
-pub new_load-requires-clause-right : goal.new_load-requires-clause-right
-new_load-requires-clause-right g c =
+pub new_load-requires-clause-cached : goal.new_load-requires-clause-cached
+new_load-requires-clause-cached g c =
     let there = unit_got c.scope-scope.ensures.gives c.args.number c.in-Some.ensures.lookup.0 c.in-Some.ensures.lookup.1 in
     subst (λ S. AreEntriesOf S c.in-Some.dw_unit.now c.index_mut-cache.result.now.entries) (sym c.scope-scope.ensures.gives) (its_entries c.self.invariant c.args.number there c.index_mut-cache.ensures.value)
 

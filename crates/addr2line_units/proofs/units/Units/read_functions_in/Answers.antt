@@ -23,7 +23,7 @@ pub read-requires : goal.read-requires
 read-requires g c =
     let gives = c.scope-scope.ensures.gives in
     let there = unit_got gives c.args.number c.in-Some.ensures.lookup.0 c.in-Some.ensures.lookup.1 in
-    record { right = subst (λ S. AreEntriesOf S c.in-Some.dw_unit.now c.index_mut-cache.result.now.entries) (sym gives) (its_entries c.self.invariant c.args.number there c.index_mut-cache.ensures.value) }
+    record { cached = subst (λ S. AreEntriesOf S c.in-Some.dw_unit.now c.index_mut-cache.result.now.entries) (sym gives) (its_entries c.self.invariant c.args.number there c.index_mut-cache.ensures.value) }
 
 pub invariant_of-self-2 : goal.invariant_of-self-2
 invariant_of-self-2 g c =

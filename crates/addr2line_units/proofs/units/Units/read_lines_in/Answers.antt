@@ -24,7 +24,7 @@ index_mut-cache-requires g c =
 pub read_lines-requires : goal.read_lines-requires
 read_lines-requires g c =
     let there = unit_got c.scope-scope.ensures.gives c.args.number c.in-Some.ensures.lookup.0 c.in-Some.ensures.lookup.1 in
-    record { right = subst (λ y. AreLinesOf y c.in-Some.dw_unit.now c.index_mut-cache.result.now.lines.lines) (sym (sections_seen c.scope-scope.ensures.gives)) (its_lines c.self.invariant c.args.number there c.index_mut-cache.ensures.value) }
+    record { cached = subst (λ y. AreLinesOf y c.in-Some.dw_unit.now c.index_mut-cache.result.now.lines.lines) (sym (sections_seen c.scope-scope.ensures.gives)) (its_lines c.self.invariant c.args.number there c.index_mut-cache.ensures.value) }
 
 pub invariant_of-self-2 : goal.invariant_of-self-2
 invariant_of-self-2 g c =

@@ -1,4 +1,4 @@
-use Rattle.addr2line.proofs.Common.{[], cover, Err, None, Ok, Some, ap, refl, sym, ◌∙◌, ◌≡◌, true, option_map, err_from_is_err_and, has_stopped, is_found, location_found}
+use Rattle.addr2line.proofs.Common.{[], cover, Err, None, Ok, ap, refl, sym, ◌∙◌, ◌≡◌, err_from_is_err_and}
 use Rattle.addr2line_lines.specs.LentLocation.{as_location}
 use Rattle.addr2line_units.specs.declared.frames.Asks.TheVariants as lookups
 use Rattle.addr2line.proofs.ContextLemmas.{after_lookup, covers_none, finds_none, found_stopped, has_no_fault, located_alone, located_context, location_is, ready_told, stored_now, told_uncovered}

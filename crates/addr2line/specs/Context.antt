@@ -1,7 +1,7 @@
 -- A context as callers see it: the sections that it was made from (DWARF 5, section 7.5), the first
 -- answers to the loads of its units, of which units it has parsed the lines, what it knows of the
--- entries of units, how often it looked at lines, and what its last lookup of frames or of a unit has
--- come to.
+-- entries of units, how often it looked at lines, and what its last lookup of frames or of a unit
+-- has come to.
 -- Own: the lines of a unit, or their fault, are parsed when a lookup first asks for them, and stay
 -- parsed; a context that is made has parsed them only where they give a unit its ranges, and a unit
 -- without a line program has its lines, which are none.

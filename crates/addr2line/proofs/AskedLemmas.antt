@@ -1,6 +1,6 @@
 -- What was asked for by a lookup that waits is asked for after an answer (on
 -- specs/AfterLookups.antt).
-use Rattle.addr2line.proofs.Common.{◌≡◌, ◌≢◌, ◌⊎◌, inl, inr, ℕ, Bool, true, false, ◌&&◌, not, List, [], ◌∷◌, slice_get, Option, Some, None, option_map, Result, Ok, Err, refl, sym, ap, subst, ◌∙◌, eqb_tells, slice_get-map, set, is_none, Error, ◌>>=◌, Sections, UnitRecord, Scope, OnFault, UnitRange, cover, LookupAsks, LookupStop, Waits, after_fault, answer_of, asked_frames, asks_lines_of, ends_lookup, function_offset_of, main_scope, or_stop, stop_along, with_answer, KnownEntries, LearnsDetailsAt, LearnsNoDetails, ParsesOnly, has_parsed, is_open_at, FramesResult, asks_lines_in, frames_in, function_in, function_offset_by, function_offset_in, UnitIndex, index_units, IndexedUnit, unit_records, FirstAnswers, View, decided_answer, is_open, verdict, waits_listed, AfterAnswering, answered, ContextState, AfterFrames, ReadsAsked, asked_of, lookup_stop, stop_in}
+use Rattle.addr2line.proofs.Common.{◌≡◌, ◌≢◌, ◌⊎◌, inl, inr, ℕ, zero, suc, Bool, true, false, ◌&&◌, not, List, [], ◌∷◌, slice_get, if◌then◌else◌, Option, Some, None, option_map, Result, Ok, Err, refl, sym, ap, subst, ◌∙◌, eqb_tells, slice_get-map, set, is_none, Error, ◌>>=◌, Sections, UnitRecord, Scope, OnFault, UnitRange, cover, LookupAsks, LookupStop, Waits, after_fault, answer_of, asked_frames, asks_lines_of, ends_lookup, function_offset_of, main_scope, or_stop, stop_along, with_answer, KnownEntries, LearnsDetailsAt, LearnsNoDetails, ParsesOnly, has_parsed, is_open_at, FramesResult, asks_lines_in, frames_in, function_in, function_offset_by, function_offset_in, UnitIndex, index_units, IndexedUnit, unit_records, FirstAnswers, View, decided_answer, is_open, verdict, waits_listed, AfterAnswering, answered, ContextState, AfterFrames, ReadsAsked, asked_of, lookup_stop, stop_in}
 use Rattle.std.specs.Prelude.{is_ok, unwrap_or}
 use Rattle.addr2line_units.proofs.LoadsAnswerLemmas.{others_stay}
 use Rattle.addr2line_units.proofs.FramesLookupLemmas.{parses_more}
@@ -57,6 +57,35 @@ other_answers d us answers n given k ne = by (slice_get us n)
     by : (o : Option UnitRecord) → answer_of (elim o [ None ↦ answers | Some u ↦ set answers n (decided_answer d u (answer_of answers n) given) ]) k ≡ answer_of answers k
     by None = refl
     by (Some u) = ap (λ o. unwrap_or o None) (others_stay answers n k _ ne)
+
+-- an answer that stands where one was set is that one
+answer_set : (answer : Option (Option Sections)) (answers : FirstAnswers) (n : ℕ) (first : Option Sections) → answer_of (set answers n answer) n ≡ Some first → answer ≡ Some first
+answer_set answer [] n first e = absurd cc
+answer_set answer (a ∷ answers) zero first e = e
+answer_set answer (a ∷ answers) (suc n) first e = answer_set answer answers n first e
+
+-- a first answer after one more was there before, or is that one, of its unit
+pub answer_before : (d : Sections) (answers : FirstAnswers) (n : ℕ) (given : Option Sections) (k : ℕ) (first : Option Sections) → answer_of (answered d answers n given) k ≡ Some first
+    → (answer_of answers k ≡ Some first) ⊎ ((k ≡ n) × (given ≡ first))
+answer_before d answers n given k first = by (index_units d)
+  where
+    by_open : (b : Bool) → (if b then Some given else answer_of answers n) ≡ Some first → (answer_of answers n ≡ Some first) ⊎ (given ≡ first)
+    by_open true e = let same : given ≡ first = cc in inr same
+    by_open false e = inl e
+
+    own : (o : Option UnitRecord) → answer_of (elim o [ None ↦ answers | Some u ↦ set answers n (decided_answer d u (answer_of answers n) given) ]) n ≡ Some first → (answer_of answers n ≡ Some first) ⊎ (given ≡ first)
+    own None e = inl e
+    own (Some u) e = by_open (is_open d u (answer_of answers n)) (answer_set (decided_answer d u (answer_of answers n) given) answers n first e)
+
+    by : (r : Result UnitIndex Error) → answer_of (elim r [ Err e ↦ answers | Ok m ↦ with_answer d (unit_records m.units) answers n given ]) k ≡ Some first → (answer_of answers k ≡ Some first) ⊎ ((k ≡ n) × (given ≡ first))
+    by (Err e) h = inl h
+    by (Ok m) h = elim (eqb_tells k n) [
+      | inl p ↦ elim (own (slice_get (unit_records m.units) n) (subst (λ i. answer_of (with_answer d (unit_records m.units) answers n given) i ≡ Some first) p.1 h)) [
+        | inl q ↦ inl (subst (λ i. answer_of answers i ≡ Some first) (sym p.1) q)
+        | inr q ↦ inr (p.1, q)
+      ]
+      | inr q ↦ inl (sym (other_answers d (unit_records m.units) answers n given k q.1) ∙ h)
+    ]
 
 -- among units, of which one waits for an answer
 module _ (faults : OnFault) (scope : Scope) (units : List IndexedUnit) (answers : FirstAnswers) (n : ℕ) (w : IsOpenThere scope.file.sections units answers n) (given : Option Sections) (probe : ℕ) where

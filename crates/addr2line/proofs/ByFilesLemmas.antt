@@ -1,13 +1,14 @@
 -- Loads that files answer, one after another (on specs/LoadsByFiles.antt, specs/Loader.antt and
 -- specs/FramesByFiles.antt).
-use Rattle.addr2line.proofs.Common.{◌≡◌, ◌≢◌, ◌<◌, ◌≤◌, inl, inr, ℕ, Bool, List, [], ◌∷◌, ◌++◌, length, Option, Some, None, Result, Ok, Err, arith, true, refl, sym, ap, subst, ◌∙◌, eqb_tells, IfErr, IfSome, Error, Sections, LoaderError, OutOfMemory, Loading, LoadsUnlessOom, LookupResult, Output, Stop, FrameRecord, Waits, answer_of, is_waiting, result_map, StaysParsed, has_parsed, StaysKnown, IfOutput, FirstAnswers, SplitLoad, AfterAnswering, AfterResume, SuspendsAgain, answered, ContextState, Files, ReadFiles, as_read, as_read_if_known, Given, Answered, AfterFrames, AfterFramesOver, IsKnownFew, ReadsAsked, Suspends, IsLoadOf, loads_at, lookup_stop, LeavesOpen, given_by_files, of_file}
+use Rattle.addr2line.proofs.Common.{◌≡◌, ◌≢◌, ◌⊎◌, ◌<◌, ◌≤◌, inl, inr, ℕ, Bool, List, [], ◌∷◌, ◌++◌, length, Option, Some, None, option_map, Result, Ok, Err, arith, true, refl, sym, ap, subst, ◌∙◌, eqb_tells, IfErr, IfSome, Error, Sections, LoaderError, OutOfMemory, PathNotUtf8, Loading, LoadsUnlessOom, LookupResult, Output, Stop, FrameRecord, Waits, answer_of, is_waiting, result_map, StaysParsed, has_parsed, StaysKnown, IfOutput, FirstAnswers, SplitLoad, AfterAnswering, AfterResume, SuspendsAgain, answered, ContextState, ReadFiles, Given, Answered, AfterFrames, AfterFramesOver, IsKnownFew, ReadsAsked, Suspends, IsLoadOf, loads_at, lookup_stop, given_by_files, of_file}
 use Rattle.std.proofs.lemmas.List.{append_assoc}
 use Rattle.gimli_read.specs.declared.error.Error.TheVariants as reading
 use Rattle.elf.specs.Text.{loader_error_of}
 use Rattle.addr2line.specs.declared.compressed.CompressedSections.{CompressedSections}
 use Rattle.addr2line.specs.FramesByFiles.{frames_by_files, stop_frames}
-use Rattle.addr2line.specs.LoadsByFiles.{AfterAnswers, AfterFramesByFiles, AnswersByFiles, AnswersInTurn, IsFaultByFiles, IsUnitFault, StayAnswered, WaitsForNone}
-use Rattle.addr2line.proofs.AskedLemmas.{reads_answered, reads_more, reads_nothing}
+use Rattle.addr2line.specs.LoadsByFiles.{AfterAnswers, AfterFramesByFiles, AnswersByFiles, AnswersInTurn, IsFaultByFiles, IsUnitFault, StayAnswered, WaitsForLoad, WaitsForNone}
+use Rattle.addr2line.specs.SplitFiles.{AreOfSomeFile, HasPathNotUtf8}
+use Rattle.addr2line.proofs.AskedLemmas.{answer_before, reads_answered, reads_more, reads_nothing}
 use Rattle.addr2line.proofs.FilesLookupLemmas.{answer_changes, first_answers_stay, frames_ended, frames_stay, refused_frames, stop_stays}
 use Rattle.addr2line.proofs.HistoryLemmas.{HasGiven, given_all, given_more, resumed_output}
 use Rattle.addr2line.proofs.LoadingLemmas.{if_some_both, no_oom, no_path, not_told}
@@ -15,10 +16,10 @@ use Rattle.addr2line.proofs.NoLoadLemmas.{lacks_memory}
 use Rattle.addr2line.proofs.SkippedLemmas.{waits_true}
 use Rattle.addr2line_units.proofs.EntriesStayLemmas.{known_of_twice, same_stays_known}
 
--- what is so of files as they are read is so of those that are known
-pub if_read : (P : ReadFiles → Type 0) (choice : CompressedSections) (files : Option Files) → IfSome files (λ held. P (as_read choice held)) → IfSome (as_read_if_known choice files) P
-if_read P choice None h = tt
-if_read P choice (Some held) h = h
+-- what is so of each value as it is seen
+pub if_seen : {X Y : Type 0} (see : X → Y) (P : Y → Type 0) (o : Option X) → IfSome o (λ x. P (see x)) → IfSome (option_map see o) P
+if_seen see P None h = tt
+if_seen see P (Some x) h = h
 
 -- what holds of each files holds where they are known
 always : {X : Type 0} (o : Option X) {P : X → Type 0} → ((x : X) → P x) → IfSome o P
@@ -42,12 +43,13 @@ same_between old mid new a b n same = by (answer_of old n) (answer_of mid n) ref
 same_stop : (probe : ℕ) (old new : ContextState) → new.sections ≡ old.sections → new.answers ≡ old.answers → lookup_stop Stop new.sections new.answers probe ≡ lookup_stop Stop old.sections old.answers probe
 same_stop probe old new s a = ap (λ d. lookup_stop Stop d new.answers probe) s ∙ ap (λ x. lookup_stop Stop old.sections x probe) a
 
-module _ (files : Option ReadFiles) where
+module _ (compressed : CompressedSections) (files : Option ReadFiles) where
   -- neither sections nor first answers were changed, and what was read stays
-  unchanged : (old new : ContextState) → new.sections ≡ old.sections → new.answers ≡ old.answers → StaysParsed old.parsed new.parsed → StaysKnown old.known new.known → old.steps ≤ new.steps → AfterAnswers files old new
+  unchanged : (old new : ContextState) → new.sections ≡ old.sections → new.answers ≡ old.answers → StaysParsed old.parsed new.parsed → StaysKnown old.known new.known → old.steps ≤ new.steps → AfterAnswers compressed files old new
   unchanged old new s a parsed known raised = record {
     sections = s;
     answers = subst (λ x. StayAnswered old.answers x) (sym a) (λ n given e. e);
+    made = λ n sections e. inl (sym (ap (λ x. answer_of x n) a) ∙ e);
     frames = always files (λ held q. ap (λ d. frames_by_files held d new.answers q) s ∙ ap (λ x. frames_by_files held old.sections x q) a);
     ended = λ q w. same_stop q old new s a;
     parsed = parsed;
@@ -55,10 +57,14 @@ module _ (files : Option ReadFiles) where
     raised = raised;
   }
 
-  then_answered : (old mid new : ContextState) → AfterAnswers files old mid → AfterAnswers files mid new → AfterAnswers files old new
+  then_answered : (old mid new : ContextState) → AfterAnswers compressed files old mid → AfterAnswers compressed files mid new → AfterAnswers compressed files old new
   then_answered old mid new a b = record {
     sections = b.sections ∙ a.sections;
     answers = λ n given e. b.answers n given (a.answers n given e);
+    made = λ n sections e. elim (b.made n sections e) [
+      | inl q ↦ a.made n sections q
+      | inr q ↦ inr (q.0, subst (λ d. IsLoadOf d n q.0) a.sections q.1, q.2)
+    ];
     frames = if_some_both files a.frames b.frames (λ held p q probe. q probe ∙ p probe);
     ended = λ q w. b.ended q (ap is_waiting (a.ended q w) ∙ w) ∙ a.ended q w;
     parsed = λ n e. b.parsed n (a.parsed n e);
@@ -69,15 +75,19 @@ module _ (files : Option ReadFiles) where
   }
 
   -- a fault by the files was one before
-  fault_before : (old mid : ContextState) (probe : ℕ) (e : LoaderError) → AfterAnswers files old mid → IsFaultByFiles files mid probe e → IsFaultByFiles files old probe e
+  fault_before : (old mid : ContextState) (probe : ℕ) (e : LoaderError) → AfterAnswers compressed files old mid → IsFaultByFiles files mid probe e → IsFaultByFiles files old probe e
   fault_before old mid probe e a h = if_some_both files a.frames h (λ held p q ne. sym (p probe) ∙ q ne)
 
   module _ (probe n : ℕ) (load : SplitLoad) (old : ContextState) (waits : lookup_stop Stop old.sections old.answers probe ≡ Ok (Waits n)) (is : IsLoadOf old.sections n load) where
     -- the load was answered by a file
-    answered_by_file : (given : Option Sections) → IfSome files (λ held. given_by_files held load ≡ Ok given) → (new : ContextState) → AfterAnswering n given (Ok tt) old new → AfterAnswers files old new
-    answered_by_file given h new a = record {
+    answered_by_file : (given : Option Sections) → IfSome files (λ held. given_by_files held load ≡ Ok given) → IfSome given (AreOfSomeFile compressed load) → (new : ContextState) → AfterAnswering n given (Ok tt) old new → AfterAnswers compressed files old new
+    answered_by_file given h made new a = record {
       sections = a.sections;
       answers = subst (λ x. StayAnswered old.answers x) (sym a.answers) (first_answers_stay old.sections old.answers probe n load waits is given);
+      made = λ k sections e. elim (answer_before old.sections old.answers n given k (Some sections) (subst (λ x. answer_of x k ≡ Some (Some sections)) a.answers e)) [
+        | inl q ↦ inl q
+        | inr q ↦ inr (load, subst (λ i. IsLoadOf old.sections i load) (sym q.0) is, subst (λ o. IfSome o (AreOfSomeFile compressed load)) q.1 made)
+      ];
       frames = if_some_map files h (λ held e q. ap (λ d. frames_by_files held d new.answers q) a.sections ∙ ap (λ x. frames_by_files held old.sections x q) a.answers
           ∙ frames_stay old.sections old.answers probe n load waits is (given_by_files held) given e q);
       ended = λ q w. ap (λ d. lookup_stop Stop d new.answers q) a.sections ∙ ap (λ x. lookup_stop Stop old.sections x q) a.answers ∙ stop_stays old.sections old.answers probe n load waits is given q w;
@@ -109,26 +119,26 @@ stop_fault files c probe e h = always files by
     by held ne = frames_ended (given_by_files held) c.sections c.answers probe (ap is_waiting (h ne)) ∙ ap stop_frames (h ne)
 
 -- loads of a lookup were answered by files, in turn
-pub record HasAnswered (files : Option ReadFiles) (probe : ℕ) (first now : ContextState) : Type 0 where
-  pub after : AfterAnswers files first now
+pub record HasAnswered (compressed : CompressedSections) (files : Option ReadFiles) (probe : ℕ) (first now : ContextState) : Type 0 where
+  pub after : AfterAnswers compressed files first now
   pub only : ReadsAsked Stop probe first now
   pub given : List Given
   pub so : HasGiven Stop first.sections probe first.answers given now.answers
 
 -- it waits for the unit of a number, which has this load
-pub record WaitsByFiles (files : Option ReadFiles) (probe : ℕ) (first : ContextState) (n : ℕ) (load : SplitLoad) (now : ContextState) : Type 0 where
-  pub so : HasAnswered files probe first now
+pub record WaitsByFiles (compressed : CompressedSections) (files : Option ReadFiles) (probe : ℕ) (first : ContextState) (n : ℕ) (load : SplitLoad) (now : ContextState) : Type 0 where
+  pub so : HasAnswered compressed files probe first now
   pub waits : lookup_stop Stop now.sections now.answers probe ≡ Ok (Waits n)
   pub own : IsLoadOf now.sections n load
 
-module _ (files : Option ReadFiles) (probe : ℕ) (first : ContextState) where
-  none_answered : HasAnswered files probe first first
-  none_answered = record { after = unchanged files first first refl refl (λ n e. e) (λ n. same_stays_known n first.known first.known refl) (omega arith); only = reads_nothing Stop probe first; given = []; so = λ rest. refl }
+module _ (compressed : CompressedSections) (files : Option ReadFiles) (probe : ℕ) (first : ContextState) where
+  none_answered : HasAnswered compressed files probe first first
+  none_answered = record { after = unchanged compressed files first first refl refl (λ n e. e) (λ n. same_stays_known n first.known first.known refl) (omega arith); only = reads_nothing Stop probe first; given = []; so = λ rest. refl }
 
-  module _ (now : ContextState) (h : HasAnswered files probe first now) where
-    checked : {X : Type 0} (r : Result X Error) (new : ContextState) → AfterFrames Stop probe r now new → HasAnswered files probe first new
+  module _ (now : ContextState) (h : HasAnswered compressed files probe first now) where
+    checked : {X : Type 0} (r : Result X Error) (new : ContextState) → AfterFrames Stop probe r now new → HasAnswered compressed files probe first new
     checked r new a = record {
-      after = then_answered files first now new h.after (unchanged files now new a.sections a.answers a.parsed a.known a.raised);
+      after = then_answered compressed files first now new h.after (unchanged compressed files now new a.sections a.answers a.parsed a.known a.raised);
       only = reads_more Stop probe r first now new a h.only;
       given = h.given;
       so = subst (λ x. HasGiven Stop first.sections probe first.answers h.given x) (sym a.answers) h.so;
@@ -137,7 +147,7 @@ module _ (files : Option ReadFiles) (probe : ℕ) (first : ContextState) where
     in_turn : AnswersInTurn probe first now
     in_turn = (h.given, sym (given_all Stop first.sections probe first.answers now.answers h.given h.so))
 
-    waits_then : (n : ℕ) (load : SplitLoad) (new : ContextState) → Suspends Stop probe n load now new → WaitsByFiles files probe first n load new
+    waits_then : (n : ℕ) (load : SplitLoad) (new : ContextState) → Suspends Stop probe n load now new → WaitsByFiles compressed files probe first n load new
     waits_then n load new s = record {
       so = checked (Ok (tt {0})) new s.after;
       waits = same_stop probe now new s.after.sections s.after.answers ∙ s.waits;
@@ -145,8 +155,8 @@ module _ (files : Option ReadFiles) (probe : ℕ) (first : ContextState) where
     }
 
   -- it has ended
-  module _ {X : Type 0} (shares : Bool) (now : ContextState) (h : HasAnswered files probe first now) (new : ContextState) where
-    ended_with : (o : Result X Error) → AfterFramesOver shares Stop probe o now new → AnswersByFiles files probe (of_file (result_map (λ _. tt {0}) o)) first new
+  module _ {X : Type 0} (shares : Bool) (now : ContextState) (h : HasAnswered compressed files probe first now) (new : ContextState) where
+    ended_with : (o : Result X Error) → AfterFramesOver shares Stop probe o now new → AnswersByFiles compressed files probe (of_file (result_map (λ _. tt {0}) o)) first new
     ended_with (Ok x) a =
         let so = checked now h (Ok x) new a.after in record {
           answers = so.after;
@@ -177,26 +187,33 @@ module _ (files : Option ReadFiles) (probe : ℕ) (first : ContextState) where
             memory = memory;
             refused = lacks_memory (loader_error_of e) new probe memory;
           };
-          refused = fault_before files first new probe (loader_error_of e) so.after (stop_fault files new probe e (λ ne. a.stored (no_oom e ne)));
+          refused = fault_before compressed files first new probe (loader_error_of e) so.after (stop_fault files new probe e (λ ne. a.stored (no_oom e ne)));
         }
 
-    ends_then : (o : Result X Error) → AfterFramesOver shares Stop probe o now new → (r : Loading (Unit {0})) → r ≡ of_file (result_map (λ _. tt) o) → AnswersByFiles files probe r first new
-    ends_then o a r is = subst (λ q. AnswersByFiles files probe q first new) (sym is) (ended_with o a)
+    ends_then : (o : Result X Error) → AfterFramesOver shares Stop probe o now new → (r : Loading (Unit {0})) → r ≡ of_file (result_map (λ _. tt) o) → AnswersByFiles compressed files probe r first new
+    ends_then o a r is = subst (λ q. AnswersByFiles compressed files probe q first new) (sym is) (ended_with o a)
 
   -- it waits at first, or ends at once
-  pub begins_waiting : (n : ℕ) (load : SplitLoad) (new : ContextState) → Suspends Stop probe n load first new → WaitsByFiles files probe first n load new
+  pub begins_waiting : (n : ℕ) (load : SplitLoad) (new : ContextState) → Suspends Stop probe n load first new → WaitsByFiles compressed files probe first n load new
   begins_waiting = waits_then first none_answered
 
-  pub ends_at_once : {X : Type 0} (shares : Bool) (o : Result X Error) (new : ContextState) → AfterFramesOver shares Stop probe o first new → (r : Loading (Unit {0})) → r ≡ of_file (result_map (λ _. tt) o) → AnswersByFiles files probe r first new
+  pub ends_at_once : {X : Type 0} (shares : Bool) (o : Result X Error) (new : ContextState) → AfterFramesOver shares Stop probe o first new → (r : Loading (Unit {0})) → r ≡ of_file (result_map (λ _. tt) o) → AnswersByFiles compressed files probe r first new
   ends_at_once shares o new a r is = ends_then shares first none_answered new o a r is
 
-  -- the load was refused, and it still waits
-  module _ (n : ℕ) (load : SplitLoad) (now : ContextState) (w : WaitsByFiles files probe first n load now) (e : LoaderError) (h : LeavesOpen e) where
-    no_end : IsUnitFault e → ⊥
-    no_end fault = elim h [ inl q ↦ fault.0 q | inr q ↦ fault.1 q ]
+  -- it waits for a load of which this holds
+  pub waits_still : (n : ℕ) (load : SplitLoad) (now : ContextState) → WaitsByFiles compressed files probe first n load now → (Holds : SplitLoad → Type 0) → Holds load → (new : ContextState) → new ≡ now → WaitsForLoad Holds new probe
+  waits_still n load now w Holds so new same = subst (λ c. WaitsForLoad Holds c probe) (sym same) (record { number = n; load = load; waits = w.waits; own = w.own; so = so })
 
-    pub given_up : IfSome files (λ held. e ≢ OutOfMemory → given_by_files held load ≡ Err e) → (new : ContextState) → new ≡ now → AnswersByFiles files probe (Err e) first new
-    given_up refusal new same = subst (AnswersByFiles files probe (Err e) first) (sym same) (record {
+  -- the load was refused, and it still waits
+  module _ (n : ℕ) (load : SplitLoad) (now : ContextState) (w : WaitsByFiles compressed files probe first n load now) (e : LoaderError) (h : (e ≡ OutOfMemory) ⊎ ((e ≡ PathNotUtf8) × HasPathNotUtf8 load)) where
+    no_end : IsUnitFault e → ⊥
+    no_end fault = elim h [ inl q ↦ fault.0 q | inr q ↦ fault.1 q.0 ]
+
+    by_path : e ≡ PathNotUtf8 → HasPathNotUtf8 load
+    by_path is = elim h [ inl q ↦ absurd (let no = sym q ∙ is in cc) | inr q ↦ q.1 ]
+
+    pub given_up : IfSome files (λ held. e ≢ OutOfMemory → given_by_files held load ≡ Err e) → (new : ContextState) → new ≡ now → AnswersByFiles compressed files probe (Err e) first new
+    given_up refusal new same = subst (AnswersByFiles compressed files probe (Err e) first) (sym same) (record {
       answers = w.so.after;
       lookup = record {
         in_turn = in_turn now w.so;
@@ -204,18 +221,18 @@ module _ (files : Option ReadFiles) (probe : ℕ) (first : ContextState) where
         ended = λ fault. absurd (no_end fault);
         ready = λ fault. absurd (no_end fault);
         told = λ fault. absurd (no_end fault);
-        waits = λ _. ap is_waiting w.waits;
+        waits = λ q. waits_still n load now w HasPathNotUtf8 (by_path q) now refl;
         memory = λ none few. absurd (waits_no_more probe n now none w.waits);
         refused = λ _. inl (ap is_waiting w.waits);
       };
-      refused = fault_before files first now probe e w.so.after (refused_by_file files probe n load now w.waits w.own e refusal);
+      refused = fault_before compressed files first now probe e w.so.after (refused_by_file compressed files probe n load now w.waits w.own e refusal);
     })
 
   -- the load was answered by a file
-  module _ (n : ℕ) (load : SplitLoad) (now : ContextState) (w : WaitsByFiles files probe first n load now) (x : Option Sections) (by : IfSome files (λ held. given_by_files held load ≡ Ok x)) where
-    answered_then : (new : ContextState) → AfterAnswering n x (Ok tt) now new → HasAnswered files probe first new
+  module _ (n : ℕ) (load : SplitLoad) (now : ContextState) (w : WaitsByFiles compressed files probe first n load now) (x : Option Sections) (by : IfSome files (λ held. given_by_files held load ≡ Ok x)) (made : IfSome x (AreOfSomeFile compressed load)) where
+    answered_then : (new : ContextState) → AfterAnswering n x (Ok tt) now new → HasAnswered compressed files probe first new
     answered_then new a = record {
-      after = then_answered files first now new w.so.after (answered_by_file files probe n load now w.waits w.own x by new a);
+      after = then_answered compressed files first now new w.so.after (answered_by_file compressed files probe n load now w.waits w.own x by made new a);
       only = reads_answered Stop probe n first now new w.waits w.so.only x (Ok tt) a;
       given = w.so.given ++ (Answered x ∷ []);
       so = subst (λ y. HasGiven Stop first.sections probe first.answers (w.so.given ++ (Answered x ∷ [])) y) (sym (a.answers ∙ ap (λ d. answered d now.answers n x) w.so.after.sections))
@@ -223,11 +240,11 @@ module _ (files : Option ReadFiles) (probe : ℕ) (first : ContextState) where
     }
 
     -- memory was refused for it
-    refused_then : (new : ContextState) → AfterAnswering n x (Err reading.OutOfMemory) now new → WaitsByFiles files probe first n load new
+    refused_then : (new : ContextState) → AfterAnswering n x (Err reading.OutOfMemory) now new → WaitsByFiles compressed files probe first n load new
     refused_then new a = record {
       so = record {
-        after = then_answered files first now new w.so.after
-            (unchanged files now new a.sections a.refused.1 (λ k q. subst (λ p. has_parsed p k ≡ true) (sym a.parsed) q) a.refused.2 (subst (λ l. now.steps ≤ l) (sym a.steps) (omega arith)));
+        after = then_answered compressed files first now new w.so.after
+            (unchanged compressed files now new a.sections a.refused.1 (λ k q. subst (λ p. has_parsed p k ≡ true) (sym a.parsed) q) a.refused.2 (subst (λ l. now.steps ≤ l) (sym a.steps) (omega arith)));
         only = reads_answered Stop probe n first now new w.waits w.so.only x (Err reading.OutOfMemory) a;
         given = w.so.given;
         so = subst (λ y. HasGiven Stop first.sections probe first.answers w.so.given y) (sym a.refused.1) w.so.so;
@@ -236,20 +253,20 @@ module _ (files : Option ReadFiles) (probe : ℕ) (first : ContextState) where
       own = subst (λ d. IsLoadOf d n load) (sym a.sections) w.own;
     }
 
-    pub goes_on : (k : ℕ) (next : SplitLoad) (new : ContextState) → SuspendsAgain Stop probe n x k next now new → WaitsByFiles files probe first k next new
+    pub goes_on : (k : ℕ) (next : SplitLoad) (new : ContextState) → SuspendsAgain Stop probe n x k next now new → WaitsByFiles compressed files probe first k next new
     goes_on k next new (mid, a, s) = waits_then mid (answered_then mid a) k next new s
 
     pub ends_resumed : {L D S X : Type 0} (shares : Bool) (result : LookupResult L (Result X Error) D S) (o : Result X Error) → result ≡ Output o → (asked : ℕ) → asked ≡ probe → (new lender : ContextState) → new ≡ lender
-        → IfOutput result (λ q. AfterResume shares Stop asked n x q now lender) → (r : Loading (Unit {0})) → r ≡ of_file (result_map (λ _. tt) o) → AnswersByFiles files probe r first new
+        → IfOutput result (λ q. AfterResume shares Stop asked n x q now lender) → (r : Loading (Unit {0})) → r ≡ of_file (result_map (λ _. tt) o) → AnswersByFiles compressed files probe r first new
     ends_resumed shares result o is asked same new lender ends rests r told =
         elim (resumed_output shares Stop probe n x now result o is asked same new lender ends rests) [
           | inl (mid, a, b) ↦ ends_then shares mid (answered_then mid a) new o b r told
-          | inr (e, a, none) ↦ subst (λ q. AnswersByFiles files probe q first new) (sym (told ∙ ap (λ q. of_file (result_map (λ _. tt {0}) q)) e))
+          | inr (e, a, none) ↦ subst (λ q. AnswersByFiles compressed files probe q first new) (sym (told ∙ ap (λ q. of_file (result_map (λ _. tt {0}) q)) e))
               (given_up n load new (refused_then new a) OutOfMemory (inl refl) (always files (λ held ne. absurd (ne refl))) new refl)
         ]
 
 -- what a lookup gives by files
-module _ (files : Option ReadFiles) (probe : ℕ) (first now : ContextState) (a : AfterAnswers files first now) where
+module _ {compressed : CompressedSections} (files : Option ReadFiles) (probe : ℕ) (first now : ContextState) (a : AfterAnswers compressed files first now) where
   pub gives_by_files : (given : Loading (List FrameRecord)) → AfterFramesByFiles probe given first now → IfErr given (IsFaultByFiles files first probe)
       → IfSome files (λ held. LoadsUnlessOom (λ x. x) given (frames_by_files held first.sections first.answers probe))
   gives_by_files (Ok frames) b h = if_some_map files a.frames (λ held p. sym (p probe) ∙ frames_ended (given_by_files held) now.sections now.answers probe (b.ended tt) ∙ b.told tt)

@@ -1,8 +1,9 @@
 -- Answers about a file, by what its bytes give (on specs/Loading.antt of elf, specs/SplitFiles.antt
 -- and specs/Loaded.antt).
-use Rattle.addr2line.proofs.Common.{◌≡◌, ◌≢◌, inl, Bool, Option, Some, None, Result, Ok, Err, ap, refl, IfErr, IfSome, Error, ExactlyUnlessOom, OutOfMemory, PathNotUtf8, Loading, LoadsUnlessOom, LoadsUnlessOomFor, ObjectFile, ContextState, ReadFiles, LeavesOpen, of_file}
+use Rattle.addr2line.proofs.Common.{◌≡◌, ◌≢◌, Bool, Option, Some, None, Result, Ok, Err, ap, refl, IfSome, Error, ExactlyUnlessOom, OutOfMemory, PathNotUtf8, Loading, LoadsUnlessOom, LoadsUnlessOomFor, ObjectFile, ContextState, ReadFiles, of_file}
 use Rattle.gimli_read.specs.declared.error.Error.TheVariants as reading
 use Rattle.elf.specs.Text.{loader_error_of}
+use Rattle.addr2line.specs.declared.compressed.CompressedSections.{CompressedSections}
 use Rattle.addr2line.specs.Loader.{AfterContext}
 
 -- whatever takes memory
@@ -29,18 +30,13 @@ pub as_loading : {X Y : Type 0} (see : X → Y) (r : Result X Error) (given : Re
 as_loading see (Ok x) given h = ap of_file h
 as_loading see (Err e) given h = λ ne. ap of_file (h (no_oom e ne))
 
--- OutOfMemory leaves a unit open
-pub or_oom : {X : Type 0} (r : Loading X) → IfErr r (λ e. e ≡ OutOfMemory) → IfErr r LeavesOpen
-or_oom (Ok x) h = tt
-or_oom (Err e) h = inl h
-
 -- both of two sources are known
 pub if_some_both : {X : Type 0} (o : Option X) {P Q R : X → Type 0} → IfSome o P → IfSome o Q → ((x : X) → P x → Q x → R x) → IfSome o R
 if_some_both None p q f = tt
 if_some_both (Some x) p q f = f x p q
 
 -- after a lookup of locations in its context, a loader
-pub looked_in_context : {X : Type 0} (IsAfter : Result X Error → ContextState → ContextState → Type 0) (files : Option ReadFiles) (object : ObjectFile) (r : Result X Error) (result : Loading X) (old new : ContextState) → result ≡ of_file r → IsAfter r old new
-    → AfterContext IsAfter result (record { files = files; object = object; context = old }) (record { files = files; object = object; context = new })
+pub looked_in_context : {X : Type 0} (IsAfter : Result X Error → ContextState → ContextState → Type 0) {compressed : CompressedSections} (files : Option ReadFiles) (object : ObjectFile) (r : Result X Error) (result : Loading X) (old new : ContextState) → result ≡ of_file r → IsAfter r old new
+    → AfterContext IsAfter result (record { compressed = compressed; files = files; object = object; context = old }) (record { compressed = compressed; files = files; object = object; context = new })
 looked_in_context IsAfter files object r result old new is after =
-    record { files = refl; object = refl; given = r; answer = is; context = after }
+    record { compressed = refl; files = refl; object = refl; given = r; answer = is; context = after }

@@ -1,6 +1,7 @@
 -- Lookups by files that answer no load (on specs/LoadsByFiles.antt).
 use Rattle.addr2line.proofs.Common.{◌≡◌, ◌≢◌, ◌&&◌, ◌||◌, inl, inr, ℕ, Bool, true, false, not, List, [], ◌∷◌, Option, Result, Ok, Err, refl, sym, ap, subst, ◌∙◌, Error, Sections, LoaderError, OutOfMemory, Loading, LoadsUnlessOom, Stop, UnitRange, cover, FrameRecord, LookupAsks, answer_of, asks_lines_of, ends_lookup, inlined_at_number, holds_along, is_waiting, main_scope, knows_at, StaysParsed, has_parsed, UnitIndex, index_units, FramesResult, ContextState, IsUncovered, ReadFiles, IsKnownFew, TakesMemory, has_few_of, StaysKnown, asked_of, lookup_stop, FirstAnswers}
 use Rattle.addr2line_lines.specs.InlineRoom.{exceeds_inline_room}
+use Rattle.addr2line.specs.declared.compressed.CompressedSections.{CompressedSections}
 use Rattle.addr2line.specs.FramesByFiles.{ended_frames_of, stop_frames}
 use Rattle.addr2line.specs.LoadsByFiles.{AfterAnswers, AfterFramesByFiles, AnswersInTurn, MayLackMemory, WaitsForNone}
 use Rattle.addr2line.proofs.HistoryLemmas.{given_ended}
@@ -75,7 +76,7 @@ module _ (probe : ℕ) (old new : ContextState) where
           more before false few_there after few_there (more _ asks (has_parsed old.parsed n) _ (has_parsed new.parsed n) ((known n).at probe) (parsed n)) (λ q. q) e
 
 -- what a lookup gives by files that waits for no answer
-module _ (files : Option ReadFiles) (probe : ℕ) (first now : ContextState) (a : AfterAnswers files first now) where
+module _ {compressed : CompressedSections} (files : Option ReadFiles) (probe : ℕ) (first now : ContextState) (a : AfterAnswers compressed files first now) where
   module _ (w : WaitsForNone first probe) where
     none_now : WaitsForNone now probe
     none_now = ap is_waiting (a.ended probe w) ∙ w
@@ -91,7 +92,7 @@ module _ (files : Option ReadFiles) (probe : ℕ) (first now : ContextState) (a 
 
     pub gives_if_none : (given : Loading (List FrameRecord)) → AfterFramesByFiles probe given first now → LoadsUnlessOom (λ x. x) given (ended_frames_of first probe)
     gives_if_none (Ok frames) b = as_first ∙ b.told tt
-    gives_if_none (Err e) b = λ ne. as_first ∙ b.told (ne, λ q. let no = sym (b.waits q) ∙ none_now in cc)
+    gives_if_none (Err e) b = λ ne. as_first ∙ b.told (ne, λ q. let no = sym (ap is_waiting (b.waits q).waits) ∙ none_now in cc)
 
     pub gives_exactly : (given : Loading (List FrameRecord)) → AfterFramesByFiles probe given first now → IsKnownFew Stop first probe → ended_frames_of first probe ≡ given
     gives_exactly (Ok frames) b few = gives_if_none (Ok frames) b

@@ -1,7 +1,7 @@
 -- What lookups of frames and of units leave of a context: the lines and the functions that are
 -- parsed for them (DWARF 5, sections 3.1.2, 3.3 and 7.3.2).
 -- Own: a lookup parses only lines that it asks for, and reads nothing of a unit that it doesn't
--- ask; nothing that is known is parsed again.
+-- ask; what is parsed or known stays so.
 use Rattle.std.specs.Prelude.{◌≡◌, ◌⊎◌, ℕ, ◌≤◌, Bool, true, false, slice_get, IfErr, Result, Ok, Err}
 use Rattle.addr2line.specs.Common.{Error, OutOfMemory, ExactlyUnlessOom, WasNotRefused, OnFault, cover, LookupStop, Waits, LookupAsks, asks_lines_of, function_offset_of, holds_along, is_waiting, main_scope, LearnsDetailsAt, ParsesOnly, StaysParsed, StaysKnown, UnitIndex, index_units, UnitsState, asks_no_memory_at, has_all_at, has_few_at, SplitLoad}
 use Rattle.addr2line.specs.Context.{ContextState}
@@ -79,10 +79,11 @@ pub record ReadsAsked (faults : OnFault) (probe : ℕ) (old new : ContextState) 
   pub entries : LearnsAsked faults probe new old new
   pub details : LearnsDetails probe new old new
 
--- after a lookup of the probe: the first answers are the same, what was read stays, and nothing was
--- read of units that it doesn't ask, nor a detail but that of the function at the probe; unless
--- memory was refused, the same lookup reads nothing more; memory is refused only where something is
--- left to read, a load is wanted, or more than 16 inlined functions stand there
+-- after a lookup of the probe: the sections and the first answers are the same, what was parsed or
+-- known stays so, and the steps don't get fewer; no lines were parsed but those that it asks for,
+-- and nothing was read of units that it doesn't ask, nor a detail but that of the function at the
+-- probe; unless memory was refused, all is known that it asks for; memory is refused only where
+-- something of that isn't known, a load is wanted, or more than 16 inlined functions stand there
 pub record AfterFrames {X : Type 0} (faults : OnFault) (probe : ℕ) (result : Result X Error)
     (old new : ContextState) : Type 0 where
   pub sections : new.sections ≡ old.sections

@@ -4,14 +4,17 @@
 -- that call for units without an answer.
 use Rattle.std.specs.Prelude.{◌≡◌, ℕ, List, Option, Result}
 use Rattle.addr2line.specs.Common.{Error, result_map, Loading, ObjectFile, FrameRecord}
+use Rattle.addr2line.specs.declared.compressed.CompressedSections.{CompressedSections}
 use Rattle.addr2line.specs.declared.loader.LoaderOver.{LoaderOver}
 use Rattle.addr2line.specs.Context.{AfterLookup, AfterRangeLookup, ContextState}
 use Rattle.addr2line.specs.Files.{Files, ReadFiles, as_read_if_known}
 use Rattle.addr2line.specs.LoadsByFiles.{AfterAnswers, AfterFramesByFiles}
 use Rattle.addr2line.specs.SplitFiles.{of_file}
 
--- the files, where they are known, as they are read, the main file, and the context
+-- what becomes of compressed sections, the files, where they are known, as they are read, the main
+-- file, and the context
 pub record LoaderState : Type 0 where
+  pub compressed : CompressedSections
   pub files : Option ReadFiles
   pub object : ObjectFile
   pub context : ContextState
@@ -19,24 +22,27 @@ pub record LoaderState : Type 0 where
 -- a loader, by what its files are
 abbrev pub as_loader : {F : Type 0} → (F → Option Files) → LoaderOver F → LoaderState
 as_loader files l = record {
+  compressed = l.compressed;
   files = as_read_if_known l.compressed (files l.files);
   object = l.object;
   context = l.context;
 }
 
--- a lookup of frames at the probe has answered the loads that it came to by files: the files and
--- the main file are the same
+-- a lookup of frames at the probe has answered the loads that it came to by files: the files, as
+-- they are read, and the main file are the same
 pub record AfterLoads {X : Type 0} (see : X → List FrameRecord) (probe : ℕ) (result : Loading X)
     (old new : LoaderState) : Type 0 where
+  pub compressed : new.compressed ≡ old.compressed
   pub files : new.files ≡ old.files
   pub object : new.object ≡ old.object
-  pub context : AfterAnswers old.files old.context new.context
+  pub context : AfterAnswers old.compressed old.files old.context new.context
   pub lookup : AfterFramesByFiles probe (result_map see result) old.context new.context
 
 -- a lookup of locations in the context has this answer, and has left the context as it leaves one;
--- the files and the main file are the same
+-- the files, as they are read, and the main file are the same
 pub record AfterContext {X : Type 0} (IsAfter : Result X Error → ContextState → ContextState
     → Type 0) (result : Loading X) (old new : LoaderState) : Type 0 where
+  pub compressed : new.compressed ≡ old.compressed
   pub files : new.files ≡ old.files
   pub object : new.object ≡ old.object
   pub given : Result X Error

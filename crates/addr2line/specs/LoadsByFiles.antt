@@ -2,21 +2,30 @@
 -- 7.3.2).
 -- Own: the first answer of a unit stays, so a file counts that was there when its unit was first
 -- looked up.
-use Rattle.std.specs.Prelude.{◌≡◌, ◌≢◌, ◌≤◌, ◌⊎◌, ℕ, false, true, List, Option, Some, IfErr, IfSome, Ok, Err}
-use Rattle.addr2line.specs.Common.{result_map, Sections, PathNotUtf8, Loading, Stop, FrameRecord, answer_of, frames_found, is_waiting, StaysParsed, FirstAnswers, StaysKnownOf}
+use Rattle.std.specs.Prelude.{◌≡◌, ◌≢◌, ◌≤◌, ◌⊎◌, ℕ, false, true, List, Option, Some, IfErr, IfSome, Result, Ok, Err}
+use Rattle.addr2line.specs.Common.{◌>>=◌, Error, result_map, Sections, PathNotUtf8, Loading, Stop, FrameRecord, Waits, answer_of, frames_found, is_waiting, StaysParsed, FirstAnswers, SplitLoad, StaysKnownOf}
 use Rattle.elf.specs.declared.error.LoaderError.{LoaderError}
 use Rattle.elf.specs.declared.error.LoaderError.TheVariants.{OutOfMemory}
+use Rattle.addr2line.specs.declared.compressed.CompressedSections.{CompressedSections}
 use Rattle.addr2line.specs.Context.{ContextState}
 use Rattle.addr2line.specs.Files.{ReadFiles}
 use Rattle.addr2line.specs.FramesByFiles.{ended_frames_of, frames_by_files}
 use Rattle.addr2line.specs.History.{Given, answers_given}
-use Rattle.addr2line.specs.Lookups.{lookup_stop}
+use Rattle.addr2line.specs.Lookups.{IsLoadOf, lookup_stop}
 use Rattle.addr2line.specs.AfterLookups.{IsKnown, IsKnownFew, ReadsAsked, TakesMemory}
+use Rattle.addr2line.specs.SplitFiles.{AreOfSomeFile, HasPathNotUtf8, of_file}
 
 -- first answers stay
 abbrev pub StayAnswered : FirstAnswers → FirstAnswers → Type 0
 StayAnswered old new = (n : ℕ) (answer : Option Sections) → answer_of old n ≡ Some answer
     → answer_of new n ≡ Some answer
+
+-- each first answer with sections was there before, or has those of some file for its unit's load
+abbrev pub AnswersAreOfFiles : CompressedSections → ContextState → ContextState → Type 0
+AnswersAreOfFiles compressed old new = (n : ℕ) (sections : Sections)
+    → answer_of new.answers n ≡ Some (Some sections)
+    → (answer_of old.answers n ≡ Some (Some sections))
+    ⊎ ((load : SplitLoad) × IsLoadOf old.sections n load × AreOfSomeFile compressed load sections)
 
 -- where files answer loads, all lookups of frames give the same
 abbrev pub GivesSameFrames : ReadFiles → ContextState → ContextState → Type 0
@@ -31,8 +40,17 @@ WaitsForNone c probe = is_waiting (lookup_stop Stop c.sections c.answers probe) 
 abbrev pub WaitsForOne : ContextState → ℕ → Type 0
 WaitsForOne c probe = is_waiting (lookup_stop Stop c.sections c.answers probe) ≡ true
 
--- a lookup of the probe waits for an answer, whose load may take memory, or for none, and may take
--- memory itself
+-- a lookup of the probe waits for an answer to a load of which this holds
+pub record WaitsForLoad (Holds : SplitLoad → Type 0) (c : ContextState) (probe : ℕ)
+    : Type 0 where
+  pub number : ℕ
+  pub load : SplitLoad
+  pub waits : lookup_stop Stop c.sections c.answers probe ≡ Ok (Waits number)
+  pub own : IsLoadOf c.sections number load
+  pub so : Holds load
+
+-- a lookup of the probe waits for an answer, and to make its load takes memory; or it waits for
+-- none, and takes memory itself
 abbrev pub MayLackMemory : ContextState → ℕ → Type 0
 MayLackMemory c probe = WaitsForOne c probe ⊎ (WaitsForNone c probe × TakesMemory Stop c probe)
 
@@ -42,12 +60,16 @@ StayEnded old new = (probe : ℕ) → WaitsForNone old probe
     → lookup_stop Stop new.sections new.answers probe
     ≡ lookup_stop Stop old.sections old.answers probe
 
--- loads of a context were answered by files: the sections are the same, first answers stay, all
--- lookups of frames give the same, those that wait for none whatever the files are, what was parsed
--- of lines stays parsed, and what was known of the units that weren't answered stays known
-pub record AfterAnswers (files : Option ReadFiles) (old new : ContextState) : Type 0 where
+-- loads of a context were answered by files: the sections are the same, first answers stay, and
+-- each new one is none or of some file. All lookups of frames give the same by files that are known;
+-- whatever the files are, those come to the same that wait for none. What was parsed of lines stays
+-- parsed, what was known of the units that weren't answered stays known, and the steps don't get
+-- fewer
+pub record AfterAnswers (compressed : CompressedSections) (files : Option ReadFiles)
+    (old new : ContextState) : Type 0 where
   pub sections : new.sections ≡ old.sections
   pub answers : StayAnswered old.answers new.answers
+  pub made : AnswersAreOfFiles compressed old new
   pub frames : IfSome files (λ held. GivesSameFrames held old new)
   pub ended : StayEnded old new
   pub parsed : StaysParsed old.parsed new.parsed
@@ -78,9 +100,10 @@ IsFaultByFiles files c probe e = IfSome files (λ held. e ≢ OutOfMemory
 -- a lookup of frames at the probe that gives these has answered the loads that it came to by files:
 -- no other unit was answered, and nothing was read but what it asks for; once it has ended, at a
 -- fault too, each unit that it came to is decided, all is known that it asks for, and what it gives
--- is by the first answers which are left, whatever the files are. A path that isn't UTF-8 leaves
--- the unit open that it came to. Memory is refused only where it waits still, or asks a unit of
--- which something is left to read, or in which more than 16 inlined functions stand there
+-- is by the first answers which are left, whatever the files are. It is refused for a path that
+-- isn't UTF-8 only where it waits for the answer to a load with such a one. Memory is refused only
+-- where it waits still, or asks a unit of which something is left to read, or in which more than 16
+-- inlined functions stand there
 pub record AfterFramesByFiles (probe : ℕ) (given : Loading (List FrameRecord))
     (old new : ContextState) : Type 0 where
   pub in_turn : AnswersInTurn probe old new
@@ -88,15 +111,19 @@ pub record AfterFramesByFiles (probe : ℕ) (given : Loading (List FrameRecord))
   pub ended : HasEnded given → WaitsForNone new probe
   pub ready : HasEnded given → IsKnown Stop new probe
   pub told : HasEnded given → ended_frames_of new probe ≡ given
-  pub waits : IfErr given (λ e. e ≡ PathNotUtf8 → WaitsForOne new probe)
+  pub waits : IfErr given (λ e. e ≡ PathNotUtf8 → WaitsForLoad HasPathNotUtf8 new probe)
   pub memory : WaitsForNone new probe → IsKnownFew Stop new probe
       → IfErr given (λ e. e ≢ OutOfMemory)
   pub refused : IfErr given (λ e. e ≡ OutOfMemory → MayLackMemory new probe)
 
+-- how a lookup ends whose loads are answered: by its own refusal, or by that of an answer
+abbrev pub outcome : Loading (Result (Unit {0}) Error) → Loading (Unit {0})
+outcome ended = ended >>= of_file
+
 -- the loads of a lookup of frames were answered by files, and what it came to is stored, as the
 -- private functions see it
-pub record AnswersByFiles (files : Option ReadFiles) (probe : ℕ) (result : Loading (Unit {0}))
-    (old new : ContextState) : Type 0 where
-  pub answers : AfterAnswers files old new
+pub record AnswersByFiles (compressed : CompressedSections) (files : Option ReadFiles) (probe : ℕ)
+    (result : Loading (Unit {0})) (old new : ContextState) : Type 0 where
+  pub answers : AfterAnswers compressed files old new
   pub lookup : AfterFramesByFiles probe (result_map (λ _. frames_found new.stop) result) old new
   pub refused : IfErr result (IsFaultByFiles files old probe)

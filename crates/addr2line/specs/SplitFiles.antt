@@ -4,7 +4,7 @@
 -- name has no split file, and a path that isn't UTF-8 is a fault.
 -- Own: the first unit of the file has to have the identifier that the load has. A file that can't
 -- be read, another one, and a faulty one are answered none.
-use Rattle.std.specs.Prelude.{◌≡◌, ◌⊎◌, ◌==◌, ◌++◌, ℕ, Bool, false, List, [], ◌∷◌, Option, Some, None, Result, Ok, Err, if◌then◌else◌, option_and_then, option_map}
+use Rattle.std.specs.Prelude.{◌≡◌, ◌≢◌, ◌⊎◌, ◌==◌, ◌++◌, ℕ, Bool, false, List, [], ◌∷◌, Option, Some, None, Result, Ok, Err, if◌then◌else◌, option_and_then, option_map}
 use Rattle.std.specs.Option.{option_map_or}
 use Rattle.addr2line.specs.Common.{Error, ◌>>=◌, Section, Sections, UnitRecord, PathNotUtf8, Loading, ObjectFile, object_file_of, SplitLoad, first_unit}
 use Rattle.gimli.specs.declared.dwarf.DwarfFileType.TheVariants.{Dwo}
@@ -103,6 +103,12 @@ given_by_files read load = elim (split_path load) [
   | Some path ↦ utf8_path path >>= λ text. Ok (split_at_path read load text)
 ]
 
--- a refusal that leaves the unit open whose load it refuses
-abbrev pub LeavesOpen : LoaderError → Type 0
-LeavesOpen e = (e ≡ OutOfMemory) ⊎ (e ≡ PathNotUtf8)
+-- a load has a path that isn't UTF-8
+abbrev pub HasPathNotUtf8 : SplitLoad → Type 0
+HasPathNotUtf8 load = (path : List ℕ) × (split_path load ≡ Some path)
+    × (utf8_path path ≡ Err PathNotUtf8)
+
+-- a refusal of the answer to a load: of memory, where it has a path, or of a path that isn't UTF-8
+abbrev pub RefusesAnswer : SplitLoad → LoaderError → Type 0
+RefusesAnswer load e = ((e ≡ OutOfMemory) × (split_path load ≢ None))
+    ⊎ ((e ≡ PathNotUtf8) × HasPathNotUtf8 load)

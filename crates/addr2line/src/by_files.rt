@@ -1,11 +1,11 @@
 //! Lookups of frames where files answer loads.
 
-ghost use Rattle.std.specs.Prelude.{◌≡◌};
+ghost use Rattle.std.specs.Prelude.{◌≡◌, IfErr};
 ghost use Rattle.addr2line.specs.Common.{result_map, last_address};
 ghost use Rattle.addr2line.specs.Context.{IsUncovered};
 ghost use Rattle.addr2line.specs.Files.{as_read_if_known};
-ghost use Rattle.addr2line.specs.LoadsByFiles.{AnswersByFiles};
-ghost use Rattle.addr2line.specs.SplitFiles.{of_file};
+ghost use Rattle.addr2line.specs.LoadsByFiles.{AnswersByFiles, WaitsForLoad, outcome};
+ghost use Rattle.addr2line.specs.SplitFiles.{RefusesAnswer};
 
 use crate::compressed::CompressedSections;
 use crate::context::Context;
@@ -18,19 +18,19 @@ use elf::LoaderError;
 use gimli::read::{EndianBytes, Error, Reader};
 use std::alloc::Global;
 
-// What the output of a lookup of frames is to a loader, but for the frames, which the context
-// stores.
-fn ended<R: Reader>(frames: Result<FrameIter<'_, R>, Error>) -> Result<(), LoaderError>
-    ensures gives { result ≡ of_file (result_map (λ _. tt) frames.entry) }
+// Whether a lookup of frames is refused. The frames themselves are stored by the context.
+fn ended<R: Reader>(frames: Result<FrameIter<'_, R>, Error>) -> Result<(), Error>
+    ensures gives { result ≡ result_map (λ _. tt) frames.entry }
 {
     match frames {
         Ok(_) => Ok(()),
-        Err(error) => Err(LoaderError::from(error)),
+        Err(error) => Err(error),
     }
 }
 
 // Answers each load that a lookup of frames waits for by files, until it waits for none, and stores
-// what it comes to.
+// what it comes to. What the lookup is refused for stands inside, its loads too, which take memory
+// to be made; outside stands why the answer to one is refused.
 pub(crate) fn answer_loads<F: FileSource>(
     alloc: Global,
     files: &F,
@@ -38,21 +38,23 @@ pub(crate) fn answer_loads<F: FileSource>(
     kept: &mut KeptFiles,
     ctx: &mut Context<EndianBytes>,
     probe: u64,
-) -> Result<(), LoaderError>
-    ensures after { AnswersByFiles (as_read_if_known compressed (F.files files.now)) probe result
-        ctx.old ctx.new }
+) -> Result<Result<(), Error>, LoaderError>
+    ensures after { AnswersByFiles compressed (as_read_if_known compressed (F.files files.now))
+        probe (outcome result) ctx.old ctx.new }
+    ensures refused { IfErr result (λ e.
+        WaitsForLoad (λ load. RefusesAnswer load e) ctx.new probe) }
     ensures last { probe ≡ last_address → IsUncovered ctx.old probe }
 {
     let mut next = match ctx.find_frames(probe) {
         LookupResult::Load { continuation } => continuation,
-        LookupResult::Output(frames) => return ended(frames),
+        LookupResult::Output(frames) => return Ok(ended(frames)),
     };
     loop {
         match answer_to(alloc, files, compressed, kept, next.load()) {
             Ok(sections) => {
                 next = match next.resume(sections) {
                     LookupResult::Load { continuation } => continuation,
-                    LookupResult::Output(frames) => return ended(frames),
+                    LookupResult::Output(frames) => return Ok(ended(frames)),
                 };
             }
             Err(error) => {

@@ -1,4 +1,5 @@
-//! Kinds of lookups whose answer may wait for split files: what becomes of faults, and what is lent.
+//! Kinds of lookups whose answer may wait for split files: what becomes of faults, and what is
+//! lent.
 
 ghost use Rattle.std.specs.Prelude.{◌≡◌};
 ghost use Rattle.addr2line.specs.Lookups.{view_found};

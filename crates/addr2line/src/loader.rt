@@ -318,13 +318,14 @@ impl<F: FileSource> LoaderOver<F> {
     ///
     /// | Refusal | When |
     /// |---|---|
-    /// | `PathNotUtf8` | the path of a split file isn't UTF-8; its unit stays open |
+    /// | `PathNotUtf8` | the path of a split file that is wanted isn't UTF-8; its unit stays open |
     /// | `Dwarf` | as `Context::find_frames` is refused |
     ///
-    /// May fail with `OutOfMemory` instead, which leaves the unit that was asked for open. Takes no
-    /// memory where no unit covers `probe`, nor where it waits for no load, all that it asks for is
-    /// cached and at most 16 inlined functions stand there. No unit covers 2^64 - 1. Source: DWARF
-    /// 5, sections 3.1.2 and 7.3.2. Own: the path, and what counts as none.
+    /// May fail with `OutOfMemory` instead, which is never cached; a unit whose load was wanted, or
+    /// being answered, stays open then. Takes no memory where no unit covers `probe`, nor where it
+    /// waits for no load, all that it asks for is cached and at most 16 inlined functions stand
+    /// there. No unit covers 2^64 - 1. Source: DWARF 5, sections 3.1.2 and 7.3.2. Own: the path,
+    /// and what counts as none.
     pub fn find_frames(&mut self, probe: u64) -> Result<FrameIter<'_, EndianBytes>, LoaderError>
         ensures gives { IfSome (as_read_if_known self.old.compressed (F.files self.old.files))
             (λ read. LoadsUnlessOom frames_left result
@@ -338,15 +339,17 @@ impl<F: FileSource> LoaderOver<F> {
         ensures* ends { LoaderEndsAs 𝓛 F.row F.files self.entry
             (AfterLoads frames_left probe result (as_loader F.files self.old)) }
     {
-        answer_loads(
+        match answer_loads(
             self.alloc,
             &self.files,
             self.compressed,
             &mut self.kept,
             &mut self.context,
             probe,
-        )?;
-        Ok(self.context.found_frames())
+        )? {
+            Ok(()) => Ok(self.context.found_frames()),
+            Err(error) => Err(LoaderError::from(error)),
+        }
     }
 
     /// The name of the symbol of an address, as `ElfFile::symbol` chooses it. Takes no memory.

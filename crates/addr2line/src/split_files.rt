@@ -9,7 +9,7 @@ ghost use Rattle.addr2line.specs.FileSections.{split_section};
 ghost use Rattle.addr2line.specs.Files.{as_read};
 ghost use Rattle.addr2line.specs.declared.kept_files.KeptFile.{KeptFile};
 ghost use Rattle.addr2line.specs.KeptFiles.{KeepsAnswer, KeepsAnswering, kept_at};
-ghost use Rattle.addr2line.specs.SplitFiles.{Answers, AreOfSomeFile, LeavesOpen, bytes_or_none, given_by_files, has_wanted_id, is_absolute, is_same_id, or_none, path_in, separated, split_at_path, split_by, split_of, split_path, utf8_path};
+ghost use Rattle.addr2line.specs.SplitFiles.{Answers, AreOfSomeFile, RefusesAnswer, bytes_or_none, given_by_files, has_wanted_id, is_absolute, is_same_id, or_none, path_in, separated, split_at_path, split_by, split_of, split_path, utf8_path};
 
 use crate::compressed::CompressedSections;
 use crate::file_sections::{
@@ -321,7 +321,7 @@ pub(crate) fn answer_to<F: FileSource>(
         (given_by_files (as_read compressed held) load.now)) }
     ensures made { IfOk result (λ found. IfSome found (λ d.
         AreOfSomeFile compressed load.now d.value)) }
-    ensures fault { IfErr result LeavesOpen }
+    ensures refused { IfErr result (RefusesAnswer load.now) }
     ensures none { split_path load.now ≡ None → result ≡ Ok None }
     ensures kept { IfSome (F.files files.now) (λ _. kept.new ≡ kept.old) }
     ensures after { KeepsAnswer compressed load.now

@@ -129,8 +129,8 @@ impl<'ctx, R: Reader, K: Lent<'ctx, Context<R>>, B: Drop> Suspended<'ctx, R, K, 
     /// Answers none to this load and to each later one, and gives the output. The units that waited
     /// are decided by none, and stay so until they are forgotten.
     ///
-    /// Refused as the call that began the lookup is. It is what `skip_all_loads` gives; here it is said
-    /// too which context is left.
+    /// Refused as the call that began the lookup is. It is what `skip_all_loads` gives; here it is
+    /// said too which context is left.
     pub fn skip(self) -> LookupResult<Suspended<'ctx, R, K, SplitDwarfLoad<R>>>
         ensures* ends { RestsAs 𝓛 (λ c. c.ctx.ghost_name) R.row R.Reader self.entry.ctx result
             (λ o n. AfterSkip R.shares K.faults self.entry.probe o self.entry.ctx.now n) }

@@ -1,12 +1,14 @@
-use Rattle.addr2line.proofs.Common.{◌≡◌, ◌≢◌, Err, Ok, option_map, refl, rules, subst, true, ◌∙◌, IfSome, OutOfMemory, Stop, SuspendsAgain, as_read_if_known, given_by_files}
-use Rattle.addr2line.proofs.ByFilesLemmas.{begins_waiting, ends_at_once, ends_resumed, given_up, goes_on, if_read}
+use Rattle.addr2line.proofs.Common.{◌≡◌, ◌≢◌, inl, inr, Err, Ok, ap, option_map, refl, rules, subst, true, ◌∙◌, IfSome, OutOfMemory, Stop, SuspendsAgain, as_read, as_read_if_known, given_by_files, of_file}
+use Rattle.addr2line.specs.SplitFiles.{AreOfSomeFile, RefusesAnswer}
+use Rattle.addr2line.proofs.ByFilesLemmas.{begins_waiting, ends_at_once, ends_resumed, given_up, goes_on, if_seen, waits_still}
 use Rattle.addr2line.proofs.by_files.answer_loads.Goals as goal
 
 pub returns-in-Output : goal.returns-in-Output
 returns-in-Output g c =
     let files = as_read_if_known c.args.compressed (g.F.FileSource.files c.args.files.now) in
     record {
-      after = ends_at_once files c.args.probe c.args.ctx.now true c.in-Output.frames _ (search rules) c.ended.result c.ended.ensures.gives;
+      after = ends_at_once c.args.compressed files c.args.probe c.args.ctx.now true c.in-Output.frames _ (search rules) (of_file c.ended.result) (ap of_file c.ended.ensures.gives);
+      refused = tt;
       last = c.find_frames.ensures.last;
     }
 
@@ -15,7 +17,7 @@ loop-sections-init g c =
     let files = as_read_if_known c.args.compressed (g.F.FileSource.files c.args.files.now) in
     let next = c.in-Load.continuation in
     let load = c.in-Load.ensures.left in
-    record { name = refl; probe = load.1; so = begins_waiting files c.args.probe c.args.ctx.now next.number next.load next.ctx.now load.2 }
+    record { name = refl; probe = load.1; so = begins_waiting c.args.compressed files c.args.probe c.args.ctx.now next.number next.load next.ctx.now load.2 }
 
 pub loop-sections-preserved : goal.loop-sections-preserved
 loop-sections-preserved g c =
@@ -25,11 +27,12 @@ loop-sections-preserved g c =
     let next = c.in-Load-resume.continuation in
     let load = c.in-Load-resume.ensures.left in
     let x = option_map (λ d. d.value) c.in-Ok.sections in
-    let by = subst (λ s. IfSome files (λ held. given_by_files held s ≡ Ok x)) c.load.ensures.gives (if_read (λ held. given_by_files held c.load.result.now ≡ Ok x) c.args.compressed (g.F.FileSource.files c.args.files.now) c.in-Ok.ensures.gives) in
+    let by = subst (λ s. IfSome files (λ held. given_by_files held s ≡ Ok x)) c.load.ensures.gives (if_seen (as_read c.args.compressed) (λ held. given_by_files held c.load.result.now ≡ Ok x) (g.F.FileSource.files c.args.files.now) c.in-Ok.ensures.gives) in
+    let made = subst (λ s. IfSome x (AreOfSomeFile c.args.compressed s)) c.load.ensures.gives (if_seen (λ d. d.value) (AreOfSomeFile c.args.compressed c.load.result.now) c.in-Ok.sections c.in-Ok.ensures.made) in
     record {
       name = load.0 ∙ inv.name;
       probe = load.1 ∙ inv.probe;
-      so = goes_on files c.args.probe c.args.ctx.now l.number l.load l.ctx.now inv.so x by next.number next.load next.ctx.now
+      so = goes_on c.args.compressed files c.args.probe c.args.ctx.now l.number l.load l.ctx.now inv.so x by made next.number next.load next.ctx.now
           (subst (λ q. SuspendsAgain Stop q l.number x next.number next.load l.ctx.now next.ctx.now) inv.probe load.2);
     }
 
@@ -39,10 +42,12 @@ returns-in-Output-resume g c =
     let l = c.loop-sections.next in
     let inv = c.loop-sections.invariant in
     let x = option_map (λ d. d.value) c.in-Ok.sections in
-    let by = subst (λ s. IfSome files (λ held. given_by_files held s ≡ Ok x)) c.load.ensures.gives (if_read (λ held. given_by_files held c.load.result.now ≡ Ok x) c.args.compressed (g.F.FileSource.files c.args.files.now) c.in-Ok.ensures.gives) in
+    let by = subst (λ s. IfSome files (λ held. given_by_files held s ≡ Ok x)) c.load.ensures.gives (if_seen (as_read c.args.compressed) (λ held. given_by_files held c.load.result.now ≡ Ok x) (g.F.FileSource.files c.args.files.now) c.in-Ok.ensures.gives) in
+    let made = subst (λ s. IfSome x (AreOfSomeFile c.args.compressed s)) c.load.ensures.gives (if_seen (λ d. d.value) (AreOfSomeFile c.args.compressed c.load.result.now) c.in-Ok.sections c.in-Ok.ensures.made) in
     record {
-      after = ends_resumed files c.args.probe c.args.ctx.now l.number l.load l.ctx.now inv.so x by true c.resume.result c.in-Output-resume.frames c.in-Output-resume.is l.probe inv.probe _ c.resume.follows.lender-at-none (search rules) c.resume.follows.holds-at-none
-          c.ended-in-Output-resume.result c.ended-in-Output-resume.ensures.gives;
+      after = ends_resumed c.args.compressed files c.args.probe c.args.ctx.now l.number l.load l.ctx.now inv.so x by made true c.resume.result c.in-Output-resume.frames c.in-Output-resume.is l.probe inv.probe _ c.resume.follows.lender-at-none (search rules) c.resume.follows.holds-at-none
+          (of_file c.ended-in-Output-resume.result) (ap of_file c.ended-in-Output-resume.ensures.gives);
+      refused = tt;
       last = c.find_frames.ensures.last;
     }
 
@@ -52,8 +57,10 @@ returns-in-Err g c =
     let l = c.loop-sections.next in
     let inv = c.loop-sections.invariant in
     let e = c.in-Err.error in
-    let by = subst (λ s. IfSome files (λ held. e ≢ OutOfMemory → given_by_files held s ≡ Err e)) c.load.ensures.gives (if_read (λ held. e ≢ OutOfMemory → given_by_files held c.load.result.now ≡ Err e) c.args.compressed (g.F.FileSource.files c.args.files.now) c.in-Err.ensures.gives) in
+    let by = subst (λ s. IfSome files (λ held. e ≢ OutOfMemory → given_by_files held s ≡ Err e)) c.load.ensures.gives (if_seen (as_read c.args.compressed) (λ held. e ≢ OutOfMemory → given_by_files held c.load.result.now ≡ Err e) (g.F.FileSource.files c.args.files.now) c.in-Err.ensures.gives) in
+    let why = subst (λ s. RefusesAnswer s e) c.load.ensures.gives c.in-Err.ensures.refused in
     record {
-      after = given_up files c.args.probe c.args.ctx.now l.number l.load l.ctx.now inv.so e c.in-Err.ensures.fault by _ (search rules);
+      after = given_up c.args.compressed files c.args.probe c.args.ctx.now l.number l.load l.ctx.now inv.so e (elim why [ inl q ↦ inl q.0 | inr q ↦ inr q ]) by _ (search rules);
+      refused = waits_still c.args.compressed files c.args.probe c.args.ctx.now l.number l.load l.ctx.now inv.so (λ load. RefusesAnswer load e) why _ (search rules);
       last = c.find_frames.ensures.last;
     }

@@ -7,7 +7,7 @@ abbrev pub invariant-loop-sections : goal.invariant-loop-sections
 invariant-loop-sections g l = record {
   name : l.next.ctx.ghost_name ≡ l.initial.next.ctx.ghost_name;
   probe : l.next.probe ≡ l.fn.probe;
-  so : WaitsByFiles (as_read_if_known l.fn.compressed (g.F.FileSource.files l.fn.files)) l.fn.probe l.fn.ctx l.next.number l.next.load l.next.ctx.now;
+  so : WaitsByFiles l.fn.compressed (as_read_if_known l.fn.compressed (g.F.FileSource.files l.fn.files)) l.fn.probe l.fn.ctx l.next.number l.next.load l.next.ctx.now;
 }
 
 abbrev pub decreases-loop-sections : goal.decreases-loop-sections

@@ -15,7 +15,7 @@ returns-in_err-answer_loads g c =
     let a = told.answers in
     let b = told.lookup in
     rw (p.1, p.2) (
-      (refl, (λ _. tt), record { files = refl; object = refl; context = a; lookup = b }),
+      (refl, (λ _. tt), record { compressed = refl; files = refl; object = refl; context = a; lookup = b }),
       record {
         gives = told.refused;
         none = λ w. gives_if_none files probe first now a w _ b;
@@ -25,21 +25,41 @@ returns-in_err-answer_loads g c =
       },
     )
 
-pub returns : goal.returns
-returns g c =
+pub returns-in-Ok : goal.returns-in-Ok
+returns-in-Ok g c =
     let files = as_read_if_known c.args.self.now.compressed (g.F.FileSource.files c.args.self.now.files) in
     let probe = c.args.probe in
     let first = c.args.self.now.context in
     let now = c.answer_loads.new.ctx in
-    let a = c.in_ok-answer_loads.ensures.after.answers in
+    let told = rw c.in-Ok.is at c.in_ok-answer_loads.ensures.after in
+    let a = told.answers in
     let given = Ok (frames_left c.found_frames.result) in
-    let b = subst (λ frames. AfterFramesByFiles probe (Ok frames) first now) (sym c.found_frames.ensures.gives) c.in_ok-answer_loads.ensures.after.lookup in (
-      (refl, (λ _. tt), record { files = refl; object = refl; context = a; lookup = b }),
+    let b = subst (λ frames. AfterFramesByFiles probe (Ok frames) first now) (sym c.found_frames.ensures.gives) told.lookup in (
+      (refl, (λ _. tt), record { compressed = refl; files = refl; object = refl; context = a; lookup = b }),
       record {
         gives = gives_by_files files probe first now a given b tt;
         none = λ w. gives_if_none files probe first now a w given b;
         exact = λ w few. gives_exactly files probe first now a w given b few;
         last = λ q. last_frames probe first (c.answer_loads.ensures.last q) given (λ w few. gives_exactly files probe first now a w given b few);
+        ends = tt;
+      },
+    )
+
+pub returns-in-Err : goal.returns-in-Err
+returns-in-Err g c =
+    let files = as_read_if_known c.args.self.now.compressed (g.F.FileSource.files c.args.self.now.files) in
+    let probe = c.args.probe in
+    let first = c.args.self.now.context in
+    let now = c.answer_loads.new.ctx in
+    let told = rw (c.in-Err.is, sym c.from.ensures) at c.in_ok-answer_loads.ensures.after in
+    let a = told.answers in
+    let b = told.lookup in (
+      (refl, (λ _. tt), record { compressed = refl; files = refl; object = refl; context = a; lookup = b }),
+      record {
+        gives = told.refused;
+        none = λ w. gives_if_none files probe first now a w _ b;
+        exact = λ w few. gives_exactly files probe first now a w _ b few;
+        last = λ q. last_frames probe first (c.answer_loads.ensures.last q) _ (λ w few. gives_exactly files probe first now a w _ b few);
         ends = tt;
       },
     )

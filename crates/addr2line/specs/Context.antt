@@ -133,8 +133,8 @@ abbrev pub location_stop : Sections → ℕ → Result LookupStop Error
 location_stop d probe = index_units d >>= location_stop_in d probe
 
 -- the same over readers that share their bytes or don't: the context has stored what the lookup
--- came to, nothing where it was refused; where the lookup takes no memory, a refusal is the fault of
--- lines
+-- came to, nothing where it was refused; where the lookup takes no memory, a refusal is the fault
+-- of lines
 pub record AfterLookupOver {X : Type 0} (shares : Bool) (probe : ℕ)
     (result : Result (Option X) Error) (old new : ContextState) : Type 0 where
   pub after : AfterLookup probe result old new

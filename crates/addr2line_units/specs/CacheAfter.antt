@@ -1,5 +1,5 @@
--- What calls leave of what is cached of one unit, as the private functions see it (DWARF 5, sections
--- 3.1.2, 3.3, 6.2 and 7.3.2).
+-- What calls leave of what is cached of one unit, as the private functions see it (DWARF 5,
+-- sections 3.1.2, 3.3, 6.2 and 7.3.2).
 -- Own: what is cached stays, until the unit is forgotten, and nothing is read that isn't asked for.
 -- OutOfMemory is never cached.
 use Rattle.std.specs.Prelude.{◌≡◌, ℕ, Bool, true, false, List, Option, None, Some, Result, Ok, Err, IfOk, IfErr, IfSome, OnOk, is_some}

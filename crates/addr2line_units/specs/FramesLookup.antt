@@ -1,7 +1,7 @@
 -- Lookups along the ranges that hold an address (DWARF 5, sections 2.17, 3.3 and 6.2).
 -- Own: the units are asked one after another, for their frames or for the location in their lines
--- alone: the first that waits for an answer, that has a fault, or that has frames ends the lookup. A
--- lookup of a unit passes over each unit with a fault.
+-- alone: the first that waits for an answer, that has a fault, or that has frames ends the lookup.
+-- A lookup of a unit passes over each unit with a fault.
 use Rattle.std.specs.Prelude.{ℕ, Bool, true, false, List, [], ◌∷◌, set, slice_get, Option, Some, None, option_and_then, option_map, unwrap_or, Result, Ok, Err}
 use Rattle.addr2line_units.specs.Common.{Error, ◌>>=◌, Sections, UnitRecord, InlinedEntry, Location, Scope}
 use Rattle.addr2line_units.specs.declared.frames.Asks.{Asks}

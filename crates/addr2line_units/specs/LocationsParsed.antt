@@ -27,7 +27,8 @@ abbrev pub parses_no_memory : Bool → List IndexedUnit → List Bool → ℕ �
 parses_no_memory shares units parsed n =
     has_parsed parsed n || not (lines_of_take_memory shares units n)
 
--- whether along these ranges this is so of each unit, up to the one that ends a lookup of a location
+-- whether along these ranges this is so of each unit, up to the one that ends a lookup of a
+-- location
 abbrev pub takes_none_along : Bool → Sections → List IndexedUnit → List Bool → ℕ → List UnitRange
     → Bool
 takes_none_along shares d units parsed probe ranges =

@@ -58,8 +58,8 @@ pub record LinesWereAsked (asks : ℕ → Type 0) (most : ℕ) (old new : UnitsS
   pub counted : has_stopped new.stop ≡ true → old.steps < new.steps
   pub cost : new.steps ≤ old.steps + most
 
--- units were asked for frames at the probe: what was read stays, nothing is read of others, and no detail of
--- a function but that of the one at the probe
+-- units were asked for frames at the probe: what was read stays, nothing is read of others, and no
+-- detail of a function but that of the one at the probe
 pub record WereAsked (asks : ℕ → Type 0) (probe : ℕ) (old new : UnitsState) : Type 0 where
   pub scope : new.scope ≡ old.scope
   pub units : new.units ≡ old.units

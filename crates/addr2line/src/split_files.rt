@@ -1,6 +1,6 @@
 //! The split files of units, which answer their loads.
 
-ghost use Rattle.std.specs.Prelude.{◌≡◌, IfErr, IfOk, IfSome, None, Ok, Option, Some, option_map};
+ghost use Rattle.std.specs.Prelude.{◌≡◌, false, is_ok, IfErr, IfOk, IfSome, None, Ok, Option, Some, option_map};
 ghost use Rattle.addr2line.specs.Common.{Exactly, result_map, Sections, PathNotUtf8, Loading, LoadsUnlessOom, ObjectFile};
 ghost use Rattle.elf.specs.declared.error.LoaderError.TheVariants.{OutOfMemory};
 ghost use Rattle.elf.specs.FileImage.{image_bytes};
@@ -9,7 +9,7 @@ ghost use Rattle.addr2line.specs.FileSections.{split_section};
 ghost use Rattle.addr2line.specs.Files.{as_read};
 ghost use Rattle.addr2line.specs.declared.kept_files.KeptFile.{KeptFile};
 ghost use Rattle.addr2line.specs.KeptFiles.{KeepsAnswer, KeepsAnswering, kept_at};
-ghost use Rattle.addr2line.specs.SplitFiles.{Answers, AreOfSomeFile, RefusesAnswer, bytes_or_none, given_by_files, has_wanted_id, is_absolute, is_same_id, or_none, path_in, separated, split_at_path, split_by, split_of, split_path, utf8_path};
+ghost use Rattle.addr2line.specs.SplitFiles.{Answers, AreOfSomeFile, HasPathNotUtf8, RefusesAnswer, bytes_or_none, given_by_files, has_wanted_id, is_absolute, is_same_id, or_none, path_in, separated, split_at_path, split_by, split_of, split_path, utf8_path};
 
 use crate::compressed::CompressedSections;
 use crate::file_sections::{
@@ -257,7 +257,7 @@ fn answer_stamped<F: FileSource>(
         AreOfSomeFile compressed load.now d.value)) }
     ensures after { KeepsAnswering compressed load.now path.now
         (result_map (option_map (λ d. d.value)) result) kept.old kept.new }
-    ensures right { (file : KeptFile) → kept_at kept.new path.now ≡ Some file
+    ensures files { (file : KeptFile) → kept_at kept.new path.now ≡ Some file
         → file.stamp ≡ stamp }
     ensures refused { IfErr result (λ e. e ≡ OutOfMemory) }
 {
@@ -322,6 +322,7 @@ pub(crate) fn answer_to<F: FileSource>(
     ensures made { IfOk result (λ found. IfSome found (λ d.
         AreOfSomeFile compressed load.now d.value)) }
     ensures refused { IfErr result (RefusesAnswer load.now) }
+    ensures fault { HasPathNotUtf8 load.now → is_ok result ≡ false }
     ensures none { split_path load.now ≡ None → result ≡ Ok None }
     ensures kept { IfSome (F.files files.now) (λ _. kept.new ≡ kept.old) }
     ensures after { KeepsAnswer compressed load.now

@@ -10,8 +10,8 @@ returns-in-Some-clause-found g c = λ object at.
     subst (λ (o : ObjectFile). LoadsUnlessOom (option_map (λ d. d.value)) c.without_fault.result (Ok (or_none (split_by (split_section c.args.compressed o) c.args.load.now)))) same
     (c.without_fault.ensures.gives (λ d. d.value) _ c.read_split_object.ensures.gives)
 
-pub returns-in-Some-clause-right : goal.returns-in-Some-clause-right
-returns-in-Some-clause-right g c = λ file is.
+pub returns-in-Some-clause-files : goal.returns-in-Some-clause-files
+returns-in-Some-clause-files g c = λ file is.
     let at = (c.in-Some.ensures.gives c.in-Some.object.now).0 refl in
     let kept : KeptFile = record { stamp = c.args.stamp; object = c.in-Some.object.now } in
     let e : Some file ≡ Some kept = sym is ∙ at in

@@ -61,10 +61,10 @@ StayEnded old new = (probe : ℕ) → WaitsForNone old probe
     ≡ lookup_stop Stop old.sections old.answers probe
 
 -- loads of a context were answered by files: the sections are the same, first answers stay, and
--- each new one is none or of some file. All lookups of frames give the same by files that are known;
--- whatever the files are, those come to the same that wait for none. What was parsed of lines stays
--- parsed, what was known of the units that weren't answered stays known, and the steps don't get
--- fewer
+-- each new one is none or of some file. All lookups of frames give the same by files that are
+-- known; whatever the files are, those come to the same that wait for none. What was parsed of
+-- lines stays parsed, what was known of the units that weren't answered stays known, and the steps
+-- don't get fewer
 pub record AfterAnswers (compressed : CompressedSections) (files : Option ReadFiles)
     (old new : ContextState) : Type 0 where
   pub sections : new.sections ≡ old.sections

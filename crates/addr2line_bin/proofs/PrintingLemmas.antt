@@ -1,8 +1,8 @@
 -- A run prints what is asked for one after another.
-use Rattle.addr2line_bin.proofs.Common.{◌≡◌, ◌∙◌, ◌⊎◌, inl, inr, ℕ, List, [], ◌∷◌, ◌++◌, Option, Some, Result, Ok, Err, refl, sym, ap, append-nil, append_assoc, OnOk, IfErr, MatchResult, true, map, drop, drop-cons, length, get_or, add-one, arith, subst, ◌<◌, ◌+◌, Appends, length-append, StreamState, WritesPrefix, Reports, has_fault, plus, TextOf, EndsAt, EndsEarly, IsCutAtRead, IsCutOff, PrintsOf, PrintsReadUnlessStopped, PrintsRun, PrintsUnlessStopped, AreFirstLines, AreLinesToRefusal, InputState, line_probes}
+use Rattle.addr2line_bin.proofs.Common.{◌≡◌, ◌∙◌, ◌⊎◌, inl, inr, ℕ, List, [], ◌∷◌, ◌++◌, Option, Some, Result, Ok, Err, refl, sym, ap, append-nil, append_assoc, OnOk, IfErr, MatchResult, true, map, drop, drop-cons, length, get_or, add-one, arith, subst, ◌<◌, ◌+◌, Appends, length-append, StreamState, WritesPrefix, Reports, has_fault, plus, TextOf, EndsAt, EndsEarly, IsCutAtRead, IsCutOff, PrintsOf, PrintsReadUnlessStopped, PrintsRun, PrintsUnlessStopped, AreFirstLines, AreLines, AreLinesToRefusal, InputState, line_probes}
 use Rattle.std.proofs.lemmas.Grind.{flat_map-append}
 use Rattle.addr2line_bin.specs.Stopped.{IsFault}
-use Rattle.addr2line_bin.specs.Print.{ProbeText, AllTexts, errs, exit_at, last_text, outs}
+use Rattle.addr2line_bin.specs.Print.{EndsRun, ProbeText, AllTexts, errs, last_text, outs}
 use Rattle.addr2line_bin.specs.declared.exit.Exit.{Exit}
 use Rattle.addr2line_bin.specs.declared.exit.Exit.TheVariants as exit
 use Rattle.addr2line_bin.specs.declared.stream.StopReason.{StopReason}
@@ -121,18 +121,26 @@ ends_reported Is oo on eo em en ps why more p t = record {
   err = sends_on eo.contents em.contents en.contents (has_fault eo) (has_fault em) (has_fault en) (errs p.texts ++ p.told) more (rw append-nil at p.err) t;
 }
 
--- the lines of a run that ended early, and its last line
-pub lines_reported : (Is : TextOf) (name : List ℕ) (io inn : InputState) (lines : List (List ℕ)) (oo on eo em en : StreamState) (why : StopReason) (e : Exit)
-    → PrintsReadUnlessStopped Is io inn lines oo on eo em (Err why) → Reports em en (last_text name why) → e ≡ exit_at why
-    → ((cut : IsCutOff Is name oo on eo en (line_probes lines) e) × AreFirstLines io inn lines × (length cut.prints.later ≡ 1))
-    ⊎ (AreLinesToRefusal io inn lines × IsCutAtRead Is name oo on eo en (line_probes lines) e)
+-- a run that printed, and its end
+pub run_printed : (Is : TextOf) (name : List ℕ) (oo on eo em en : StreamState) (ps : List (Option ℕ)) (r : Result (Unit {0}) StopReason) (e : Exit)
+    → PrintsUnlessStopped Is oo on eo em ps r → EndsRun name em en r e → PrintsRun Is name oo on eo en ps e
+run_printed Is name oo on eo em en ps (Ok x) e p h = inl (subst (λ s. PrintsOf Is oo on eo s ps) (sym h.0) p, h.1)
+run_printed Is name oo on eo em en ps (Err why) e p h = inr (record { why = why; prints = ends_reported Is oo on eo em en ps why (last_text name why) p h.0; exit = h.1 })
+
+-- a run that printed what lines ask for, and its end
+pub lines_printed : (Is : TextOf) (name : List ℕ) (io inn : InputState) (lines : List (List ℕ)) (oo on eo em en : StreamState) (r : Result (Unit {0}) StopReason) (e : Exit)
+    → PrintsReadUnlessStopped Is io inn lines oo on eo em r → EndsRun name em en r e
+    → (AreLines io inn lines × PrintsOf Is oo on eo en (line_probes lines) × (e ≡ exit.Done))
+    ⊎ (((cut : IsCutOff Is name oo on eo en (line_probes lines) e) × AreFirstLines io inn lines × (length cut.prints.later ≡ 1))
+    ⊎ (AreLinesToRefusal io inn lines × IsCutAtRead Is name oo on eo en (line_probes lines) e))
 unfolding ends_reported
-lines_reported Is name io inn lines oo on eo em en why e (inl p) t x =
-    inl (record { why = why; prints = ends_reported Is oo on eo em en (line_probes lines) why (last_text name why) p.0 t; exit = x }, p.1, p.2)
-lines_reported Is name io inn lines oo on eo em en why e (inr p) t x =
-    let told : Reports em en (last_text name stop.OutOfMemory) = rw p.0 at t in
-    let failed : e ≡ exit.Failed = rw p.0 at x in
-    inr (
+lines_printed Is name io inn lines oo on eo em en (Ok x) e p h = inl (p.0, subst (λ s. PrintsOf Is oo on eo s (line_probes lines)) (sym h.0) p.1, h.1)
+lines_printed Is name io inn lines oo on eo em en (Err why) e (inl p) h =
+    inr (inl (record { why = why; prints = ends_reported Is oo on eo em en (line_probes lines) why (last_text name why) p.0 h.0; exit = h.1 }, p.1, p.2))
+lines_printed Is name io inn lines oo on eo em en (Err why) e (inr p) h =
+    let told : Reports em en (last_text name stop.OutOfMemory) = rw p.0 at h.0 in
+    let failed : e ≡ exit.Failed = rw p.0 at h.1 in
+    inr (inr (
       p.1,
       record {
         texts = p.2.texts;
@@ -143,7 +151,7 @@ lines_reported Is name io inn lines oo on eo em en why e (inr p) t x =
         err = sends_on eo.contents em.contents en.contents (has_fault eo) (has_fault em) (has_fault en) (errs p.2.texts) (last_text name stop.OutOfMemory) p.2.prints.err told;
         exit = failed;
       },
-    )
+    ))
 
 -- a text that is reported, and one that is sent
 pub sends_one : (Is : TextOf) (oo on eo en : StreamState) (p : Option ℕ) (t : ProbeText) → Is p t → Reports eo en t.err

@@ -1,7 +1,7 @@
 -- What a run writes to its two streams for one probe after another.
 -- Own: a failed write or flush of the output ends the run, without a text for a broken pipe; so
 -- does a refused growth that no line of a lookup's fault tells.
-use Rattle.std.specs.Prelude.{◌≡◌, ℕ, true, false, List, [], ◌∷◌, ◌++◌, length, codes, flat_map}
+use Rattle.std.specs.Prelude.{◌≡◌, ℕ, true, false, List, [], ◌∷◌, ◌++◌, length, Result, Ok, Err, codes, flat_map}
 use Rattle.std.specs.Io.KnownBytes.{Appends}
 use Rattle.addr2line_bin.specs.Put.{StreamState, Reports, plus}
 use Rattle.addr2line_bin.specs.declared.exit.Exit.{Exit}
@@ -39,6 +39,12 @@ abbrev pub exit_at : StopReason → Exit
 exit_at stop.OutOfMemory = exit.Failed
 exit_at (stop.Output true) = exit.Done
 exit_at (stop.Output false) = exit.Failed
+
+-- a run ends that printed all, or stopped early, which is told
+abbrev pub EndsRun : List ℕ → StreamState → StreamState → Result (Unit {0}) StopReason → Exit
+    → Type 0
+EndsRun name eo en (Ok _) e = (en ≡ eo) × (e ≡ exit.Done)
+EndsRun name eo en (Err why) e = Reports eo en (last_text name why) × (e ≡ exit_at why)
 
 -- these texts go out, each with a flush, and their faults are reported
 pub record Prints (oo on eo en : StreamState) (texts : List ProbeText) : Type 0 where

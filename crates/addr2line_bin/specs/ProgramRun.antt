@@ -87,16 +87,11 @@ RunsBy (Err name) answers o io inn oo on eo en e =
 RunsBy (Ok section) answers o io inn oo on eo en e = (c : RunContext)
     × IsRunContext o section c × PrintsAsked answers c o.probes io inn oo on eo en e
 
--- a run over a file
-abbrev pub RunsOver : FileAnswers → Options → InputState → InputState → StreamState → StreamState
-    → StreamState → StreamState → Exit → Type 0
-RunsOver answers o io inn oo on eo en e =
-    RunsBy (section_asked answers (option_map string_bytes o.section)) answers o io inn oo on eo en
-    e
-
--- the same, or the fault of its loading is told
+-- a run over a file, or the fault of its loading is told
 abbrev pub IsRun : {L : Type 0} → (L → FileAnswers) → Loading L → Options → InputState → InputState
     → StreamState → StreamState → StreamState → StreamState → Exit → Type 0
-IsRun answers (Ok file) o io inn oo on eo en e = RunsOver (answers file) o io inn oo on eo en e
+IsRun answers (Ok file) o io inn oo on eo en e =
+    RunsBy (section_asked (answers file) (option_map string_bytes o.section)) (answers file) o
+    io inn oo on eo en e
 IsRun answers (Err fault) o io inn oo on eo en e =
     OnlyFails oo on eo en (load_fault_text (string_bytes o.name) fault) e × (inn ≡ io)

@@ -1,7 +1,7 @@
 -- The whole run: from the words of the command line to the status of the program.
 -- Own: where the words can't be had, the program has the name that it has without any, and they are
 -- misuse unless memory was refused for them.
-use Rattle.std.specs.Prelude.{◌≡◌, ◌≢◌, ◌⊎◌, ℕ, List, [], Option, IfOk, IfSome, Result, Ok, Err, Vec}
+use Rattle.std.specs.Prelude.{◌≡◌, ◌≢◌, ◌⊎◌, ℕ, [], Option, IfOk, IfSome, Result, Ok, Err, Vec}
 use Rattle.std.specs.Prelude.{option_map, string_bytes}
 use Rattle.std.specs.declared.string.String.{String}
 use Rattle.std.specs.declared.alloc.Global.{Global}
@@ -39,38 +39,28 @@ IsLoadedFor known files request loader =
     × IfOk loader (λ l. l.files ≡ files)
     × IfOk loader (λ l. l.compressed ≡ request.compressed)
 
--- what is asked of the files that a request names is printed
-abbrev pub RunsRequest : {F : Type 0} → (F → Option Files) → F → Request → InputState → InputState
-    → StreamState → StreamState → StreamState → StreamState → Exit → Type 0
-RunsRequest {F} known files request io inn oo on eo en e = (loader : Loading (LoaderOver F))
-    × IsLoadedFor known files request loader
-    × IsRun (λ l. loader_answers (as_loader known l)) loader request.options io inn oo on eo en e
-
--- the same with an input, where there is memory for one; the input isn't seen afterwards
+-- what is asked of the files that a request names is printed, where there is memory for an input,
+-- which isn't seen afterwards
 abbrev pub RunsWith : {F I : Type 0} → (F → Option Files) → F → Request → (I → InputState)
     → Result I AllocError → StreamState → StreamState → StreamState → StreamState → Exit → Type 0
-RunsWith known files request state (Ok input) oo on eo en e =
-    (inn : InputState) × RunsRequest known files request (state input) inn oo on eo en e
+RunsWith {F} known files request state (Ok input) oo on eo en e = (inn : InputState)
+    × ((loader : Loading (LoaderOver F)) × IsLoadedFor known files request loader
+    × IsRun (λ l. loader_answers (as_loader known l)) loader request.options (state input) inn
+    oo on eo en e)
 RunsWith known files request state (Err _) oo on eo en e =
     OnlyFails oo on eo en (last_text (string_bytes request.options.name) stop.OutOfMemory) e
 
--- words are answered: what they ask for is printed, or why there is nothing that they ask for
-abbrev pub AnswersCommand : {F I : Type 0} → (F → Option Files) → F → List (String Global)
-    → (I → InputState) → Result I AllocError → StreamState → StreamState → StreamState
-    → StreamState → ℕ → Type 0
-AnswersCommand known files words state input oo on eo en status =
-    ((request : Request) × IsRequest words request
-    × ((e : Exit) × RunsWith known files request state input oo on eo en e
-    × (status ≡ status_at e)))
-    ⊎ ((fault : WordFault) × IsRefusal words fault
-    × AnswersFault (program_name words) fault oo on eo en status)
-
--- the same, or it is told that there are no words
+-- words are answered: what they ask for is printed, or why there is nothing that they ask for; or
+-- it is told that there are no words
 abbrev pub IsWholeRun : {F I : Type 0} → (F → Option Files) → F
     → Result (Vec (String Global) Global) ErrorKind → (I → InputState) → Result I AllocError
     → StreamState → StreamState → StreamState → StreamState → ℕ → Type 0
 IsWholeRun known files (Ok words) state input oo on eo en status =
-    AnswersCommand known files words.items state input oo on eo en status
+    ((request : Request) × IsRequest words.items request
+    × ((e : Exit) × RunsWith known files request state input oo on eo en e
+    × (status ≡ status_at e)))
+    ⊎ ((fault : WordFault) × IsRefusal words.items fault
+    × AnswersFault (program_name words.items) fault oo on eo en status)
 IsWholeRun known files (Err fault) state input oo on eo en status =
     ((fault ≡ kind.OutOfMemory) × TellsNoMemory (program_name []) oo on eo en status)
     ⊎ ((fault ≢ kind.OutOfMemory)

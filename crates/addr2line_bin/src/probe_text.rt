@@ -5,8 +5,8 @@ ghost use Rattle.std.specs.Option.{option_copied};
 ghost use Rattle.addr2line_bin.specs.Common.{result_map, as_location};
 ghost use Rattle.addr2line_units.specs.FramesLeft.{frames_left};
 ghost use Rattle.addr2line_bin.specs.FileAnswers.{StaysAnswered};
-ghost use Rattle.addr2line_bin.specs.ProbeTexts.{AddsAnswer, GivesFrames, GivesLocation, ProbeAnswer};
-ghost use Rattle.addr2line_bin.specs.ProbeTexts.{IsAnswerAt, IsText, MayBeGiven, asked_symbol};
+ghost use Rattle.addr2line_bin.specs.ProbeTexts.{AddsAnswer, GivesFrames, GivesLocation};
+ghost use Rattle.addr2line_bin.specs.ProbeTexts.{IsAnswerAt, IsText, asked_symbol};
 ghost use Rattle.addr2line_bin.specs.ProbeTexts.{asks_frames, looked_up, offset_in};
 
 use crate::address_text::{push_address, push_fault, push_location, push_probe_end};
@@ -123,33 +123,6 @@ fn asks_frames(style: Style) -> bool
     style.functions || style.inlines
 }
 
-// Adds what the lookups of an address give.
-#[tactic(auto, using(crate::proofs::AnswerLemmas::stays_itself))]
-fn push_given<L: Lookups>(
-    texts: &mut Texts,
-    context: &RunContext<'_>,
-    lookups: &mut L,
-    address: u64,
-) -> Result<(), AllocError>
-    ensures gives { OnOk result ((given : ProbeAnswer)
-        × MayBeGiven (L.answers lookups.old) context.now.style address given
-        × AddsAnswer context.now address texts.old texts.new given) }
-    ensures kept { StaysAnswered (L.answers lookups.old) (L.answers lookups.new) }
-{
-    if !asks_frames(context.style) {
-        return push_found(texts, context, address, lookups.find_location(address));
-    }
-    let symbol = symbol_of(context, lookups, address)?;
-    let symbol = symbol.as_deref();
-    push_found_frames(
-        texts,
-        context,
-        address,
-        symbol,
-        lookups.find_frames(address),
-    )
-}
-
 // Adds what stands for what is asked for, by the address that is looked up.
 #[tactic(auto, using(crate::proofs::AnswerLemmas::stays_itself))]
 fn push_answer<L: Lookups>(
@@ -164,10 +137,21 @@ fn push_answer<L: Lookups>(
         × (string_bytes texts.new.err ≡ string_bytes texts.old.err ++ fault)) }
     ensures kept { StaysAnswered (L.answers lookups.old) (L.answers lookups.new) }
 {
-    match address {
-        Some(address) => push_given(texts, context, lookups, address),
-        None => push_missing(&mut texts.out, context.style, None),
+    let Some(address) = address else {
+        return push_missing(&mut texts.out, context.style, None);
+    };
+    if !asks_frames(context.style) {
+        return push_found(texts, context, address, lookups.find_location(address));
     }
+    let symbol = symbol_of(context, lookups, address)?;
+    let symbol = symbol.as_deref();
+    push_found_frames(
+        texts,
+        context,
+        address,
+        symbol,
+        lookups.find_frames(address),
+    )
 }
 
 /// Makes the texts of what is asked for.

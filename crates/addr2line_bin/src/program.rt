@@ -1,12 +1,9 @@
 //! A run over a file: what is asked for, printed.
 
-ghost use Rattle.std.specs.Prelude.{◌≡◌, map, Ok, Err, Option, Some, option_map, string_bytes};
-ghost use Rattle.addr2line_bin.specs.Printing.{PrintsRun};
-ghost use Rattle.addr2line_bin.specs.ProbeTexts.{IsText};
-ghost use Rattle.addr2line_bin.specs.ProgramRun.{IsRun, IsRunContext, PrintsAllRows, PrintsAsked};
-ghost use Rattle.addr2line_bin.specs.ProgramRun.{PrintsLines, RunsOver, section_asked};
+ghost use Rattle.std.specs.Prelude.{◌≡◌, Ok, Err, Option, option_map, string_bytes};
+ghost use Rattle.addr2line_bin.specs.Print.{EndsRun};
+ghost use Rattle.addr2line_bin.specs.ProgramRun.{IsRun, IsRunContext, PrintsAsked, section_asked};
 ghost use Rattle.addr2line_bin.specs.Put.{Reports};
-ghost use Rattle.addr2line_bin.specs.Address.{probes_in};
 ghost use Rattle.addr2line_bin.specs.Told.{addresses_fault_text, section_fault_text};
 ghost use Rattle.addr2line_bin.specs.declared.exit.Exit.TheVariants as exit;
 ghost use Rattle.std.specs.Result.{result_map_both};
@@ -17,7 +14,7 @@ use crate::input::Input;
 use crate::lookups::Lookups;
 use crate::options::{Options, Probes, RunContext};
 use crate::printing::{print_addresses, print_lines, print_words};
-use crate::stream::{Stream, tell_both};
+use crate::stream::{StopReason, Stream, tell_both};
 use addr2line::{LoaderError, Range};
 use std::alloc::Global;
 use std::mem;
@@ -45,73 +42,13 @@ fn tell_addresses_fault<E: Stream>(name: &str, fault: LoaderError, err: &mut E) 
     Exit::Failed
 }
 
-// Prints what the words ask for.
-fn run_words<L: Lookups, W: Stream, E: Stream>(
-    context: &RunContext<'_>,
-    lookups: &mut L,
-    words: &[String],
-    out: &mut W,
-    err: &mut E,
-) -> Exit
-    ensures gives { PrintsRun (IsText (L.answers lookups.old) context.now) context.now.name.now
-        (W.state out.old) (W.state out.new) (E.state err.old) (E.state err.new)
-        (probes_in words.now) result }
+// Ends a run that printed, or tells why it stopped early.
+fn end_run<E: Stream>(name: &str, printed: Result<(), StopReason>, err: &mut E) -> Exit
+    ensures gives { EndsRun name.now (E.state err.old) (E.state err.new) printed result }
 {
-    match print_words(context, lookups, words, out, err) {
+    match printed {
         Ok(()) => Exit::Done,
-        Err(stop) => tell_last(context.name, stop, err),
-    }
-}
-
-// Prints what addresses ask for.
-fn run_addresses<L: Lookups, W: Stream, E: Stream>(
-    context: &RunContext<'_>,
-    lookups: &mut L,
-    addresses: &[u64],
-    out: &mut W,
-    err: &mut E,
-) -> Exit
-    ensures gives { PrintsRun (IsText (L.answers lookups.old) context.now) context.now.name.now
-        (W.state out.old) (W.state out.new) (E.state err.old) (E.state err.new)
-        (map Some addresses.now) result }
-{
-    match print_addresses(context, lookups, addresses, out, err) {
-        Ok(()) => Exit::Done,
-        Err(stop) => tell_last(context.name, stop, err),
-    }
-}
-
-// Prints what the lines of an input ask for.
-fn run_lines<L: Lookups, I: Input, W: Stream, E: Stream>(
-    context: &RunContext<'_>,
-    lookups: &mut L,
-    input: &mut I,
-    out: &mut W,
-    err: &mut E,
-) -> Exit
-    ensures gives { PrintsLines (L.answers lookups.old) context.now
-        (I.state input.old) (I.state input.new) (W.state out.old) (W.state out.new)
-        (E.state err.old) (E.state err.new) result }
-{
-    match print_lines(context, lookups, input, out, err) {
-        Ok(()) => Exit::Done,
-        Err(stop) => tell_last(context.name, stop, err),
-    }
-}
-
-// Prints what the addresses of all rows ask for.
-fn run_all<L: Lookups, W: Stream, E: Stream>(
-    context: &RunContext<'_>,
-    lookups: &mut L,
-    out: &mut W,
-    err: &mut E,
-) -> Exit
-    ensures gives { PrintsAllRows (L.answers lookups.old) context.now
-        (W.state out.old) (W.state out.new) (E.state err.old) (E.state err.new) result }
-{
-    match all_addresses(context.alloc, lookups) {
-        Ok(addresses) => run_addresses(context, lookups, addresses.as_slice(), out, err),
-        Err(fault) => tell_addresses_fault(context.name, fault, err),
+        Err(stop) => tell_last(name, stop, err),
     }
 }
 
@@ -129,9 +66,21 @@ fn run_asked<L: Lookups, I: Input, W: Stream, E: Stream>(
         (E.state err.old) (E.state err.new) result }
 {
     match probes {
-        Probes::All => run_all(context, lookups, out, err),
-        Probes::Words(words) => run_words(context, lookups, words.as_slice(), out, err),
-        Probes::Lines => run_lines(context, lookups, input, out, err),
+        Probes::All => match all_addresses(context.alloc, lookups) {
+            Ok(addresses) => {
+                let printed = print_addresses(context, lookups, addresses.as_slice(), out, err);
+                end_run(context.name, printed, err)
+            }
+            Err(fault) => tell_addresses_fault(context.name, fault, err),
+        },
+        Probes::Words(words) => {
+            let printed = print_words(context, lookups, words.as_slice(), out, err);
+            end_run(context.name, printed, err)
+        }
+        Probes::Lines => {
+            let printed = print_lines(context, lookups, input, out, err);
+            end_run(context.name, printed, err)
+        }
     }
 }
 
@@ -164,37 +113,6 @@ fn run_context<'a>(alloc: Global, options: &'a Options, section: Option<Range>) 
     }
 }
 
-// Prints what is asked of a file.
-fn run_over<L: Lookups + Drop, I: Input, W: Stream, E: Stream>(
-    alloc: Global,
-    options: &Options,
-    lookups: L,
-    input: &mut I,
-    out: &mut W,
-    err: &mut E,
-) -> Exit
-    ensures gives { RunsOver (L.answers lookups) options.now
-        (I.state input.old) (I.state input.new) (W.state out.old) (W.state out.new)
-        (E.state err.old) (E.state err.new) result }
-{
-    let mut lookups = lookups;
-    let exit = match section_of(&options.section, &lookups) {
-        Ok(section) => run_asked(
-            &run_context(alloc, options, section),
-            &options.probes,
-            &mut lookups,
-            input,
-            out,
-            err,
-        ),
-        Err(name) => tell_no_section(options.name.as_str(), name, err),
-    };
-    // The program ends here, and with it all of its memory goes back at once: giving back each list
-    // of each unit before that would only take time.
-    mem::forget(lookups);
-    exit
-}
-
 /// Prints what is asked of a file, or why its debug information can't be loaded.
 ///
 /// What goes to `out` is the joined texts of what is asked for, each with a flush, or a beginning
@@ -212,8 +130,23 @@ pub fn run<L: Lookups + Drop, I: Input, W: Stream, E: Stream>(
         (I.state input.old) (I.state input.new) (W.state out.old) (W.state out.new)
         (E.state err.old) (E.state err.new) result }
 {
-    match loader {
-        Ok(lookups) => run_over(alloc, options, lookups, input, out, err),
-        Err(fault) => tell_load_fault(options.name.as_str(), fault, err),
-    }
+    let mut lookups = match loader {
+        Ok(lookups) => lookups,
+        Err(fault) => return tell_load_fault(options.name.as_str(), fault, err),
+    };
+    let exit = match section_of(&options.section, &lookups) {
+        Ok(section) => run_asked(
+            &run_context(alloc, options, section),
+            &options.probes,
+            &mut lookups,
+            input,
+            out,
+            err,
+        ),
+        Err(name) => tell_no_section(options.name.as_str(), name, err),
+    };
+    // The program ends here, and with it all of its memory goes back at once: giving back each list
+    // of each unit before that would only take time.
+    mem::forget(lookups);
+    exit
 }

@@ -2,7 +2,7 @@
 
 ghost use Rattle.std.specs.Prelude.{◌≡◌};
 ghost use Rattle.std.specs.Process.{exit_status};
-ghost use Rattle.addr2line_bin.specs.WholeRun.{AnswersCommand, IsWholeRun, RunsRequest, RunsWith};
+ghost use Rattle.addr2line_bin.specs.WholeRun.{IsWholeRun, RunsWith};
 
 use crate::command_line::{Request, command_line};
 use crate::exit::{Exit, status_of, tell_last};
@@ -16,31 +16,9 @@ use std::alloc::{AllocError, Global};
 use std::io::ErrorKind;
 use std::process::ExitCode;
 
-// Loads the files that a request names, and prints what is asked of them.
+// Loads the files that a request names, and prints what is asked of them with an input; or tells
+// that memory was refused for the input.
 #[tactic(auto, using(crate::proofs::CommandLemmas::deref_text))]
-fn run_request<F: FileSource, I: Input, W: Stream, E: Stream>(
-    alloc: Global,
-    files: F,
-    request: &Request,
-    input: &mut I,
-    out: &mut W,
-    err: &mut E,
-) -> Exit
-    ensures gives { RunsRequest F.files files request.now
-        (I.state input.old) (I.state input.new) (W.state out.old) (W.state out.new)
-        (E.state err.old) (E.state err.new) result }
-{
-    let loader = LoaderOver::over_with(
-        alloc,
-        files,
-        request.compressed,
-        request.exe.as_str(),
-        request.sup.as_deref(),
-    );
-    run(alloc, &request.options, loader, input, out, err)
-}
-
-// The same with an input, or tells that memory was refused for it.
 fn run_with<F: FileSource, I: Input + Drop, W: Stream, E: Stream>(
     alloc: Global,
     files: F,
@@ -52,32 +30,18 @@ fn run_with<F: FileSource, I: Input + Drop, W: Stream, E: Stream>(
     ensures gives { RunsWith F.files files request.now I.state input
         (W.state out.old) (W.state out.new) (E.state err.old) (E.state err.new) result }
 {
-    match input {
-        Ok(input) => {
-            let mut input = input;
-            run_request(alloc, files, request, &mut input, out, err)
-        }
-        Err(_) => tell_last(request.options.name.as_str(), StopReason::OutOfMemory, err),
-    }
-}
-
-// Answers words: prints what they ask for, or tells why there is nothing that they ask for.
-fn answer_command<F: FileSource, I: Input + Drop, W: Stream, E: Stream>(
-    alloc: Global,
-    files: F,
-    words: &[String],
-    input: Result<I, AllocError>,
-    out: &mut W,
-    err: &mut E,
-) -> ExitCode
-    ensures gives { AnswersCommand F.files files words.now I.state input
-        (W.state out.old) (W.state out.new) (E.state err.old) (E.state err.new)
-        (exit_status result) }
-{
-    match command_line(alloc, words) {
-        Ok(request) => status_of(run_with(alloc, files, &request, input, out, err)),
-        Err(fault) => answer_fault(alloc, program_name(words), fault, out, err),
-    }
+    let Ok(input) = input else {
+        return tell_last(request.options.name.as_str(), StopReason::OutOfMemory, err);
+    };
+    let mut input = input;
+    let loader = LoaderOver::over_with(
+        alloc,
+        files,
+        request.compressed,
+        request.exe.as_str(),
+        request.sup.as_deref(),
+    );
+    run(alloc, &request.options, loader, &mut input, out, err)
 }
 
 /// All that the program does, by what the host has: the words of its command line, or why there are
@@ -99,7 +63,13 @@ pub fn run_program<F: FileSource, I: Input + Drop, W: Stream, E: Stream>(
         (exit_status result) }
 {
     match words {
-        Ok(words) => answer_command(alloc, files, words.as_slice(), input, out, err),
+        Ok(words) => {
+            let words = words.as_slice();
+            match command_line(alloc, words) {
+                Ok(request) => status_of(run_with(alloc, files, &request, input, out, err)),
+                Err(fault) => answer_fault(alloc, program_name(words), fault, out, err),
+            }
+        }
         Err(ErrorKind::OutOfMemory) => {
             status_of(tell_last(program_name(&[]), StopReason::OutOfMemory, err))
         }

@@ -82,7 +82,7 @@ returns-in_ok-inlined-in-Read g c =
     let found : FunctionPlace = record { place = c.in-Some.place; inlined = c.in_ok-inlined-in-Read.inlined } in
     record {
       gives = place_gives shares scope view c.args.probe c.args.self.now c.cache.new.self cache c.in-Read.functions c.in-Read.is c.in-Some.place (sym at.gives) at.found at.within c.read.new.self e.gives found refl chain.gives;
-      after = place_after shares scope view c.args.probe c.args.self.now c.cache.new.self cache c.in-Read.functions c.in-Read.is c.in-Some.place (sym at.gives) at.found at.within c.read.new.self e.gives found refl chain.gives e.names chain.there;
+      after = place_after shares scope view c.args.probe c.args.self.now c.cache.new.self cache c.in-Read.functions c.in-Read.is c.in-Some.place (sym at.gives) at.found at.within c.read.new.self e.gives found refl chain.gives e.names chain.within;
     }
 
 pub returns-in-Faulty : goal.returns-in-Faulty

@@ -2,11 +2,11 @@
 -- sections.
 -- Own: a lookup gives the frames by the first answers to the loads of units, and by the files at
 -- that call for units without an answer.
-use Rattle.std.specs.Prelude.{◌≡◌, ℕ, List, Option, Result}
+use Rattle.std.specs.Prelude.{◌≡◌, ℕ, true, List, Option, Result}
 use Rattle.addr2line.specs.Common.{Error, result_map, Loading, ObjectFile, FrameRecord}
 use Rattle.addr2line.specs.declared.compressed.CompressedSections.{CompressedSections}
 use Rattle.addr2line.specs.declared.loader.LoaderOver.{LoaderOver}
-use Rattle.addr2line.specs.Context.{AfterLookup, AfterRangeLookup, ContextState}
+use Rattle.addr2line.specs.Context.{AfterLookupOver, AfterRangeLookup, ContextState}
 use Rattle.addr2line.specs.Files.{Files, ReadFiles, as_read_if_known}
 use Rattle.addr2line.specs.LoadsByFiles.{AfterAnswers, AfterFramesByFiles}
 use Rattle.addr2line.specs.SplitFiles.{of_file}
@@ -52,7 +52,7 @@ pub record AfterContext {X : Type 0} (IsAfter : Result X Error → ContextState 
 -- after a lookup of the location at the probe
 abbrev pub AfterLocation : {X : Type 0} → ℕ → Loading (Option X) → LoaderState → LoaderState
     → Type 0
-AfterLocation probe result old new = AfterContext (AfterLookup probe) result old new
+AfterLocation probe result old new = AfterContext (AfterLookupOver true probe) result old new
 
 -- after a lookup of the rows that a range of addresses meets
 abbrev pub AfterLocationRange : {X : Type 0} → ℕ → ℕ → Loading X → LoaderState → LoaderState

@@ -49,8 +49,7 @@ pub record WaitsForLoad (Holds : SplitLoad → Type 0) (c : ContextState) (probe
   pub own : IsLoadOf c.sections number load
   pub so : Holds load
 
--- a lookup of the probe waits for an answer, and to make its load takes memory; or it waits for
--- none, and takes memory itself
+-- a lookup of the probe waits for an answer; or it waits for none, and takes memory itself
 abbrev pub MayLackMemory : ContextState → ℕ → Type 0
 MayLackMemory c probe = WaitsForOne c probe ⊎ (WaitsForNone c probe × TakesMemory Stop c probe)
 

@@ -29,8 +29,8 @@ fn ended<R: Reader>(frames: Result<FrameIter<'_, R>, Error>) -> Result<(), Error
 }
 
 // Answers each load that a lookup of frames waits for by files, until it waits for none, and stores
-// what it comes to. What the lookup is refused for stands inside, its loads too, which take memory
-// to be made; outside stands why the answer to one is refused.
+// what it comes to. What refuses the lookup stands inside, refused memory for a load too; outside
+// stands why the answer to a load is refused.
 pub(crate) fn answer_loads<F: FileSource>(
     alloc: Global,
     files: &F,

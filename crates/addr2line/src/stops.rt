@@ -54,7 +54,7 @@ impl<R: Reader> Context<R> {
     }
 
     // The sections and the unit of the view of the unit in which the last lookup has found
-    // something, none where it waits or has found nothing.
+    // something, none where it waits or has found nothing, or where that view can't be read.
     pub(crate) fn found_unit(&self) -> Option<UnitRef<'_, R>>
         ensures gives { option_map as_unit result ≡ unit_value self.now.stop
             (view_found self.now.sections self.now.answers self.now.stop) }

@@ -10,6 +10,7 @@ stays_itself a = record {
   frames = λ address given h. h;
   symbol_at = refl;
   section_at = refl;
+  spans_in = refl;
 }
 
 pub stays_on : (a b c : FileAnswers) → StaysAnswered a b → StaysAnswered b c → StaysAnswered a c
@@ -18,6 +19,7 @@ stays_on a b c p q = record {
   frames = λ address given h. p.frames address given (q.frames address given h);
   symbol_at = q.symbol_at ∙ p.symbol_at;
   section_at = q.section_at ∙ p.section_at;
+  spans_in = q.spans_in ∙ p.spans_in;
 }
 
 may_before : (a b : FileAnswers) → StaysAnswered a b → (style : Style) (address : ℕ) (given : ProbeAnswer) → MayBeGiven b style address given → MayBeGiven a style address given

@@ -1,5 +1,6 @@
 -- Lemmas on the words of the command line (specs/CommandLine): matches and their rows, and faults.
 use Rattle.addr2line_bin.proofs.Common.{◌≡◌, ◌∙◌, ap, refl, sym, subst, inl, inr, true, false, ℕ, List, [], Bor, Result, Ok, Err, IfErr, IfOk, IsErrAnd, Option, Some, None, IsSomeAnd, MatchOption, option_map, option_copied, whole_command}
+use Rattle.std.specs.Prelude.{is_some}
 use Rattle.clap.specs.Words.{App, Rule, Text, is_simple, is_simple_and_free, takes, with_rule}
 use Rattle.clap.specs.Words.{HasKind, IsAmong, Kinds, fault_of, kind_of}
 use Rattle.clap.specs.Words.{Row, all_of, first_of, first_value, matched_of, matches_of, raw_values, rows_of}
@@ -100,3 +101,12 @@ deref_text bytes None None h = refl
 deref_text bytes None (Some y) h = absurd cc
 deref_text bytes (Some x) None h = absurd h
 deref_text bytes (Some x) (Some y) h = ap Some h
+
+-- it lends one exactly where there is one
+pub deref_some : {A : Type 0} (bytes : A → List ℕ) (text : Option A) (lent : Option (Bor (List ℕ)))
+    → MatchOption text (lent ≡ None) (λ x. IsSomeAnd lent (λ y. y.now ≡ bytes x))
+    → is_some lent ≡ is_some text
+deref_some bytes None None h = refl
+deref_some bytes None (Some y) h = absurd cc
+deref_some bytes (Some x) None h = absurd h
+deref_some bytes (Some x) (Some y) h = refl

@@ -15,7 +15,7 @@ use Rattle.addr2line_units.specs.IndexCover.{cover}
 use Rattle.addr2line_units.specs.declared.frames.OnFault.TheVariants.{Stop}
 use Rattle.addr2line_units.specs.Frames.{FrameRecord}
 use Rattle.addr2line_units.specs.FramesLookup.{ends_lookup, is_waiting, located_frames}
-use Rattle.addr2line_units.specs.Locations.{location_of}
+use Rattle.addr2line_units.specs.Locations.{location_of, spans_of}
 use Rattle.addr2line_units.specs.LocationsParsed.{StaysParsed, has_parsed, ready_along}
 use Rattle.addr2line_units.specs.UnitsIndex.{index_units}
 use Rattle.addr2line_units.specs.UnitsRanged.{IndexedUnit}
@@ -78,11 +78,12 @@ same_answers old new files object s = record {
   );
   symbol_at = ap (λ (o : ObjectFile). λ (address : ℕ). option_map (λ (x : NamedAddress). x.name) (symbol_at address o)) object;
   section_at = ap (λ (o : ObjectFile). λ (name : List ℕ). section_range_at name o) object;
+  spans_in = ap (λ (d : Sections). λ (low high : ℕ). spans_of d low high) s.sections;
 }
 
 -- the same after a lookup of a location, and of the rows that a range meets
 pub same_after_location : {X : Type 0} (probe : ℕ) (result : Loading (Option X)) (old new : LoaderState) → AfterLocation probe result old new → StaysAnswered (loader_answers old) (loader_answers new)
-same_after_location probe result old new a = same_answers old new a.files a.object a.context.stays
+same_after_location probe result old new a = same_answers old new a.files a.object a.context.after.stays
 
 pub same_after_range : {X : Type 0} (low high : ℕ) (result : Loading X) (old new : LoaderState) → AfterLocationRange low high result old new → StaysAnswered (loader_answers old) (loader_answers new)
 same_after_range low high result old new a = same_answers old new a.files a.object a.context.stays
@@ -104,6 +105,7 @@ same_after_loads see probe result old new a = record {
   );
   symbol_at = ap (λ (o : ObjectFile). λ (address : ℕ). option_map (λ (x : NamedAddress). x.name) (symbol_at address o)) a.object;
   section_at = ap (λ (o : ObjectFile). λ (name : List ℕ). section_range_at name o) a.object;
+  spans_in = ap (λ (d : Sections). λ (low high : ℕ). spans_of d low high) a.context.sections;
 }
 
 -- a location, as it is seen

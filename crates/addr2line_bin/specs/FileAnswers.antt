@@ -30,6 +30,7 @@ pub record StaysAnswered (old new : FileAnswers) : Type 0 where
       → old.MayGive address given
   pub symbol_at : new.symbol_at ≡ old.symbol_at
   pub section_at : new.section_at ≡ old.section_at
+  pub spans_in : new.spans_in ≡ old.spans_in
 
 -- the file that the caller gets back, once what a lookup lent is dropped, stays answered
 abbrev pub EndsAnswered : {M : Type 1} {𝓤 : Ura M} → Logic 𝓤 → (F : RattleType)

@@ -2,7 +2,7 @@
 -- Own: where the words can't be had, the program has the name that it has without any, and they are
 -- misuse unless memory was refused for them.
 use Rattle.std.specs.Prelude.{◌≡◌, ◌≢◌, ◌⊎◌, ℕ, [], Option, IfOk, IfSome, Result, Ok, Err, Vec}
-use Rattle.std.specs.Prelude.{option_map, string_bytes}
+use Rattle.std.specs.Prelude.{is_some, option_map, string_bytes}
 use Rattle.std.specs.declared.string.String.{String}
 use Rattle.std.specs.declared.alloc.Global.{Global}
 use Rattle.std.specs.declared.alloc.AllocError.{AllocError}
@@ -10,7 +10,7 @@ use Rattle.std.specs.declared.io.ErrorKind.{ErrorKind}
 use Rattle.std.specs.declared.io.ErrorKind.TheVariants as kind
 use Rattle.addr2line_bin.specs.Common.{Loading, LoadsUnlessOom}
 use Rattle.addr2line.specs.Files.{Files, as_read}
-use Rattle.addr2line.specs.Loaded.{loaded}
+use Rattle.addr2line.specs.Loaded.{IsLoaded, loaded}
 use Rattle.addr2line.specs.Loader.{as_loader}
 use Rattle.addr2line.specs.declared.loader.LoaderOver.{LoaderOver}
 use Rattle.addr2line_bin.specs.CommandLine.{IsRefusal, IsRequest}
@@ -29,7 +29,8 @@ use Rattle.addr2line_bin.specs.declared.exit.TheConstants.{USAGE_STATUS}
 use Rattle.addr2line_bin.specs.declared.stream.StopReason.TheVariants as stop
 
 -- a loader over the files, or the fault of its loading: what they say, where they are known, as
--- they are read for the request
+-- they are read for the request; whatever they hold, a loader has a main file that some bytes are,
+-- and the new context of its sections, with those of a supplementary file where one is named
 abbrev pub IsLoadedFor : {F : Type 0} → (F → Option Files) → F → Request → Loading (LoaderOver F)
     → Type 0
 IsLoadedFor known files request loader =
@@ -38,9 +39,10 @@ IsLoadedFor known files request loader =
     (option_map string_bytes request.sup)))
     × IfOk loader (λ l. l.files ≡ files)
     × IfOk loader (λ l. l.compressed ≡ request.compressed)
+    × IfOk loader (λ l. IsLoaded request.compressed (is_some request.sup) l.object l.context)
 
 -- what is asked of the files that a request names is printed, where there is memory for an input,
--- which isn't seen afterwards
+-- which isn't seen afterwards; where there is none, that is told
 abbrev pub RunsWith : {F I : Type 0} → (F → Option Files) → F → Request → (I → InputState)
     → Result I AllocError → StreamState → StreamState → StreamState → StreamState → Exit → Type 0
 RunsWith {F} known files request state (Ok input) oo on eo en e = (inn : InputState)

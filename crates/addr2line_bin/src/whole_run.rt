@@ -18,7 +18,7 @@ use std::process::ExitCode;
 
 // Loads the files that a request names, and prints what is asked of them with an input; or tells
 // that memory was refused for the input.
-#[tactic(auto, using(crate::proofs::CommandLemmas::deref_text))]
+#[tactic(auto, using(crate::proofs::CommandLemmas::deref_text, crate::proofs::CommandLemmas::deref_some))]
 fn run_with<F: FileSource, I: Input + Drop, W: Stream, E: Stream>(
     alloc: Global,
     files: F,

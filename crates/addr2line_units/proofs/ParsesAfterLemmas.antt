@@ -69,6 +69,7 @@ module _ {R : Type 0} (shares : Bool) (scope : Scope) (view : UnitRecord) (old n
         exact = λ k. alone_gives;
         same = λ k. ap (λ f. known_functions f) (kept (ready_were_read depths.Functions old k.1));
       };
+      kept = λ ready. kept (ready_were_read depths.Functions old ready);
       details = λ is. cache_reads_none old new kept unread;
       no_memory = λ none. of_fault (cached_fault new) alone_gives;
     }
@@ -91,6 +92,7 @@ module _ {R : Type 0} (shares : Bool) (scope : Scope) (view : UnitRecord) (old n
         exact = λ k. absurd (unread (ready_were_read depth old k.1));
         same = λ k. ap (λ f. known_functions f) same;
       };
+      kept = λ ready. same;
       details = λ is n. ap (λ f. cached_detail (cached_functions f) n) same;
       no_memory = λ none. fault_of_depth depth scope view e (fault none);
     }
@@ -110,6 +112,7 @@ module _ {R : Type 0} (shares : Bool) (scope : Scope) (view : UnitRecord) (old n
       exact = λ k. exact k.1;
       same = λ k. ap (λ f. known_functions f) (same k.1);
     };
+    kept = same;
     details = λ is. absurd cc;
     no_memory = λ none. exactly_if_none (reading_takes_memory shares scope view old) (λ y. y) result (functions_fault scope view) (reading_takes_none shares scope view old before none) gives;
   }

@@ -37,7 +37,7 @@ pub record AfterLinesOf {X : Type 0} (shares : Bool) (d : Sections) (u : UnitRec
       → IfErr result (λ e. lines_result d u ≡ Err e)
 
 -- after the ranges that lead to a unit were read, of which these are listed: its lines are cached
--- where they were asked for, and what was cached stays
+-- exactly where they are asked for, and what was cached stays; memory alone is refused
 pub record AfterLineRanges {X : Type 0} (d : Sections) (u : UnitRecord) (listed : List Range)
     (result : Result X Error) (old new : UnitLines) : Type 0 where
   pub right : AreLinesOf d u new.lines
@@ -52,7 +52,8 @@ pub record AreNewFunctionsOf {R : Type 0} (scope : Scope) (view : UnitRecord) (f
   pub read : were_read f ≡ true
   pub empty : AreUnread (cached_functions f)
 
--- memory alone is refused for the functions of a view, and where they take none it is their fault
+-- memory alone is refused for the functions of a view; where they take none it would have to be
+-- their fault, which it never is
 abbrev pub IsRefusalOf : Bool → Scope → UnitRecord → Error → Type 0
 IsRefusalOf shares scope view e = (e ≡ OutOfMemory)
     × (functions_take_memory shares scope.file.sections view ≡ false

@@ -1,7 +1,7 @@
 -- What calls leave of the units of a context (DWARF 5, sections 3.1.2, 3.3, 6.2 and 7.3.2).
 -- Own: a lookup parses only lines that it asks for, and reads nothing of a unit that it doesn't
--- ask; nothing that is known is parsed again. The first answer to a unit's load counts until the
--- unit is forgotten.
+-- ask; what is known stays known. The first answer to a unit's load counts until the unit is
+-- forgotten.
 use Rattle.std.specs.Prelude.{◌≡◌, ◌≢◌, ◌⊎◌, ◌+◌, ◌<◌, ◌≤◌, ℕ, Bool, true, false, List, length, IfErr, OnOk, is_some, slice_get, Option, Some, None, Result, Ok}
 use Rattle.std.specs.List.{AllByRecursion}
 use Rattle.addr2line_units.specs.Common.{Error, OutOfMemory, WasNotRefused, Sections}
@@ -79,8 +79,9 @@ abbrev pub WereAskedFor : Asks → (ℕ → Type 0) → ℕ → ℕ → UnitsSta
 WereAskedFor Location asked most probe = LinesWereAsked asked most
 WereAskedFor (Frames faults) asked most probe = WereAsked asked probe
 
--- after units were asked; the same lookup reads nothing more, but after OutOfMemory, and no lookup
--- is stored where this one was refused
+-- after units were asked; the same lookup reads nothing more, but after OutOfMemory, which comes
+-- only where something is left to read, or more than 16 functions are inlined; no lookup is stored
+-- where this one was refused
 pub record AfterAsking {X : Type 0} (Leaves : UnitsState → UnitsState → Type 0)
     (all few : UnitsState → Bool) (result : Result X Error) (old new : UnitsState) : Type 0 where
   pub asked : Leaves old new
@@ -102,8 +103,8 @@ abbrev pub IsFaultAlong : Asks → ℕ → UnitsState → List UnitRange → Err
 IsFaultAlong asks probe s ranges e =
     (n : ℕ) × LookupAsks (asked_by asks probe s) ranges n × IsFaultAt asks probe s n e
 
--- nothing is changed but first answers, what is known of units' entries, and that no lookup of
--- frames is stored
+-- nothing is changed but first answers, what is known of units' entries, and that no lookup is
+-- stored
 abbrev pub StayRead : UnitsState → UnitsState → Type 0
 StayRead old new = new
     ≡ record old { answers = new.answers; known = new.known; stop = FindsNothing }
@@ -153,7 +154,7 @@ pub record AfterLoad (n : ℕ) (given : Option Sections) (result : Result (Unit 
       → result ≡ load_result old.scope.file.sections old.scope.file.units old.answers n None
 
 -- after the unit of a number is forgotten nothing is changed but of that unit, and that no lookup
--- of frames is stored; of the unit nothing where it had no answer; no function becomes known
+-- is stored; of the unit nothing where it had no answer; no function becomes known
 pub record AfterForget (n : ℕ) (old new : UnitsState) : Type 0 where
   pub stays : StayRead old new
   pub answers : new.answers ≡ forgotten old.answers n
@@ -162,7 +163,7 @@ pub record AfterForget (n : ℕ) (old new : UnitsState) : Type 0 where
   pub functions : LearnsNoFunctions old.known new.known
 
 -- after the loads of units were listed nothing is changed but that more may be known of those
--- units, and no function of them, and that no lookup of frames is stored
+-- units, and no function of them, and that no lookup is stored
 pub record AfterListing (asks : ℕ → Type 0) (old new : UnitsState) : Type 0 where
   pub stays : StayRead old new
   pub answers : new.answers ≡ old.answers

@@ -441,7 +441,7 @@ impl<R: Reader> Units<R> {
         !matches!(self.stop, FramesStop::FindsNothing)
     }
 
-    // Whether it is known that no lookup finds anything in the unit of a number.
+    // Whether it is known that no lookup of frames finds anything in the unit of a number.
     fn has_nothing(&self, number: usize) -> bool
         ensures empty { result ≡ true → HasNothingAt self.now number }
     {

@@ -7,7 +7,7 @@ returns-in-Ok g c = (
   (
     refl,
     (λ _. tt),
-    looked_in_context _ _ _ c.find_location.result _ _ _ (ap of_file (sym c.in-Ok.is)) c.find_location.follows.holds-at-none.after,
+    looked_in_context _ _ _ c.find_location.result _ _ _ (ap of_file (sym c.in-Ok.is)) c.find_location.follows.holds-at-none,
   ),
   record {
     gives = ap of_file c.in-Ok.ensures.gives;
@@ -22,7 +22,7 @@ returns-in-Err g c = (
   (
     refl,
     (λ _. tt),
-    looked_in_context _ _ _ c.find_location.result _ _ _ (ap Err c.from.ensures ∙ ap of_file (sym c.in-Err.is)) c.find_location.follows.holds-at-none.after,
+    looked_in_context _ _ _ c.find_location.result _ _ _ (ap Err c.from.ensures ∙ ap of_file (sym c.in-Err.is)) c.find_location.follows.holds-at-none,
   ),
   record {
     gives = λ ne. ap of_file (c.in-Err.ensures.gives (no_oom c.in-Err.error (λ q. ne (c.from.ensures ∙ q)))) ∙ ap Err (sym c.from.ensures);

@@ -23,7 +23,7 @@ Options:
   -h, --help     Print help
   -V, --version  Print version
 
-What is checked up:
+What is looked up:
   -e, --exe <FILE>      The ELF file; it has to be named
       --sup <FILE>      Its supplementary file, from dwz -m [default: none]
       --decompress      Debug sections compressed by zlib too [default: they are refused]

@@ -50,6 +50,7 @@ module _ (compressed : CompressedSections) (files : Option ReadFiles) where
     sections = s;
     answers = subst (λ x. StayAnswered old.answers x) (sym a) (λ n given e. e);
     made = λ n sections e. inl (sym (ap (λ x. answer_of x n) a) ∙ e);
+    given = always files (λ held n answer e. inl (sym (ap (λ x. answer_of x n) a) ∙ e));
     frames = always files (λ held q. ap (λ d. frames_by_files held d new.answers q) s ∙ ap (λ x. frames_by_files held old.sections x q) a);
     ended = λ q w. same_stop q old new s a;
     parsed = parsed;
@@ -65,6 +66,10 @@ module _ (compressed : CompressedSections) (files : Option ReadFiles) where
       | inl q ↦ a.made n sections q
       | inr q ↦ inr (q.0, subst (λ d. IsLoadOf d n q.0) a.sections q.1, q.2)
     ];
+    given = if_some_both files a.given b.given (λ held p q n answer e. elim (q n answer e) [
+      | inl before ↦ p n answer before
+      | inr by ↦ inr (by.0, subst (λ d. IsLoadOf d n by.0) a.sections by.1, by.2)
+    ]);
     frames = if_some_both files a.frames b.frames (λ held p q probe. q probe ∙ p probe);
     ended = λ q w. b.ended q (ap is_waiting (a.ended q w) ∙ w) ∙ a.ended q w;
     parsed = λ n e. b.parsed n (a.parsed n e);
@@ -88,6 +93,10 @@ module _ (compressed : CompressedSections) (files : Option ReadFiles) where
         | inl q ↦ inl q
         | inr q ↦ inr (load, subst (λ i. IsLoadOf old.sections i load) (sym q.0) is, subst (λ o. IfSome o (AreOfSomeFile compressed load)) q.1 made)
       ];
+      given = if_some_map files h (λ held gives k answer e. elim (answer_before old.sections old.answers n given k answer (subst (λ x. answer_of x k ≡ Some answer) a.answers e)) [
+        | inl q ↦ inl q
+        | inr q ↦ inr (load, subst (λ i. IsLoadOf old.sections i load) (sym q.0) is, gives ∙ ap Ok q.1)
+      ]);
       frames = if_some_map files h (λ held e q. ap (λ d. frames_by_files held d new.answers q) a.sections ∙ ap (λ x. frames_by_files held old.sections x q) a.answers
           ∙ frames_stay old.sections old.answers probe n load waits is (given_by_files held) given e q);
       ended = λ q w. ap (λ d. lookup_stop Stop d new.answers q) a.sections ∙ ap (λ x. lookup_stop Stop old.sections x q) a.answers ∙ stop_stays old.sections old.answers probe n load waits is given q w;

@@ -13,7 +13,7 @@ use Rattle.addr2line.specs.FramesByFiles.{ended_frames_of, frames_by_files}
 use Rattle.addr2line.specs.History.{Given, answers_given}
 use Rattle.addr2line.specs.Lookups.{IsLoadOf, lookup_stop}
 use Rattle.addr2line.specs.AfterLookups.{IsKnown, IsKnownFew, ReadsAsked, TakesMemory}
-use Rattle.addr2line.specs.SplitFiles.{AreOfSomeFile, HasPathNotUtf8, of_file}
+use Rattle.addr2line.specs.SplitFiles.{AreOfSomeFile, HasPathNotUtf8, given_by_files, of_file}
 
 -- first answers stay
 abbrev pub StayAnswered : FirstAnswers → FirstAnswers → Type 0
@@ -26,6 +26,14 @@ AnswersAreOfFiles compressed old new = (n : ℕ) (sections : Sections)
     → answer_of new.answers n ≡ Some (Some sections)
     → (answer_of old.answers n ≡ Some (Some sections))
     ⊎ ((load : SplitLoad) × IsLoadOf old.sections n load × AreOfSomeFile compressed load sections)
+
+-- each first answer was there before, or is the one that these files give to its unit's load
+abbrev pub AnswersAreByFiles : ReadFiles → ContextState → ContextState → Type 0
+AnswersAreByFiles files old new = (n : ℕ) (answer : Option Sections)
+    → answer_of new.answers n ≡ Some answer
+    → (answer_of old.answers n ≡ Some answer)
+    ⊎ ((load : SplitLoad) × IsLoadOf old.sections n load
+    × (given_by_files files load ≡ Ok answer))
 
 -- where files answer loads, all lookups of frames give the same
 abbrev pub GivesSameFrames : ReadFiles → ContextState → ContextState → Type 0
@@ -60,15 +68,16 @@ StayEnded old new = (probe : ℕ) → WaitsForNone old probe
     ≡ lookup_stop Stop old.sections old.answers probe
 
 -- loads of a context were answered by files: the sections are the same, first answers stay, and
--- each new one is none or of some file. All lookups of frames give the same by files that are
--- known; whatever the files are, those come to the same that wait for none. What was parsed of
--- lines stays parsed, what was known of the units that weren't answered stays known, and the steps
--- don't get fewer
+-- each new one is none or of some file, by files that are known the one that they give. All lookups
+-- of frames give the same by files that are known; whatever the files are, those come to the same
+-- that wait for none. What was parsed of lines stays parsed, what was known of the units that
+-- weren't answered stays known, and the steps don't get fewer
 pub record AfterAnswers (compressed : CompressedSections) (files : Option ReadFiles)
     (old new : ContextState) : Type 0 where
   pub sections : new.sections ≡ old.sections
   pub answers : StayAnswered old.answers new.answers
   pub made : AnswersAreOfFiles compressed old new
+  pub given : IfSome files (λ held. AnswersAreByFiles held old new)
   pub frames : IfSome files (λ held. GivesSameFrames held old new)
   pub ended : StayEnded old new
   pub parsed : StaysParsed old.parsed new.parsed

@@ -95,7 +95,35 @@ fn suspended_reply<R: Reader, K: LookupKind>(next: Suspended<'_, R, K, SplitDwar
     Reply::Suspended(load.unit)
 }
 
-// `find_frames` with answers to its loads in turn; where none is left it is given up.
+// The reply of a lookup that was begun, with answers to its loads in turn; where none is left it is
+// given up. What it gives in the end is turned into a reply. A macro, since no function over any
+// kind of lookup can say which context it leaves.
+macro_rules! answer_in_turn {
+    ($begun:expr, $answers:expr, $found:ident => $reply:expr) => {{
+        let mut next = match $begun {
+            LookupResult::Load { continuation } => continuation,
+            LookupResult::Output($found) => return $reply,
+        };
+        for answer in $answers {
+            match share_given(answer) {
+                Ok(Some(input)) => {
+                    next = match next.resume(input) {
+                        LookupResult::Load { continuation } => continuation,
+                        LookupResult::Output($found) => return $reply,
+                    };
+                }
+                Ok(None) => return Ok(suspended_reply(next)),
+                Err(error) => {
+                    next.abandon();
+                    return Err(error);
+                }
+            }
+        }
+        Ok(suspended_reply(next))
+    }};
+}
+
+// `find_frames` with answers to its loads.
 fn replay_frames<R: Reader>(
     context: &mut Context<R>,
     probe: u64,
@@ -105,29 +133,10 @@ fn replay_frames<R: Reader>(
         context.new }
 {
     let alloc = context.alloc;
-    let mut next = match context.find_frames(probe) {
-        LookupResult::Load { continuation } => continuation,
-        LookupResult::Output(frames) => return frames_reply(alloc, frames),
-    };
-    for answer in answers {
-        match share_given(answer) {
-            Ok(Some(input)) => {
-                next = match next.resume(input) {
-                    LookupResult::Load { continuation } => continuation,
-                    LookupResult::Output(frames) => return frames_reply(alloc, frames),
-                };
-            }
-            Ok(None) => return Ok(suspended_reply(next)),
-            Err(error) => {
-                next.abandon();
-                return Err(error);
-            }
-        }
-    }
-    Ok(suspended_reply(next))
+    answer_in_turn!(context.find_frames(probe), answers, frames => frames_reply(alloc, frames))
 }
 
-// `find_dwarf_and_unit` with answers to its loads in turn; where none is left it is given up.
+// `find_dwarf_and_unit` with answers to its loads.
 fn replay_unit<R: Reader>(
     context: &mut Context<R>,
     probe: u64,
@@ -136,26 +145,7 @@ fn replay_unit<R: Reader>(
     ensures after { Makes (AsksUnit probe (map as_given answers.now)) result context.old
         context.new }
 {
-    let mut next = match context.find_dwarf_and_unit(probe) {
-        LookupResult::Load { continuation } => continuation,
-        LookupResult::Output(unit) => return unit_reply(unit),
-    };
-    for answer in answers {
-        match share_given(answer) {
-            Ok(Some(input)) => {
-                next = match next.resume(input) {
-                    LookupResult::Load { continuation } => continuation,
-                    LookupResult::Output(unit) => return unit_reply(unit),
-                };
-            }
-            Ok(None) => return Ok(suspended_reply(next)),
-            Err(error) => {
-                next.abandon();
-                return Err(error);
-            }
-        }
-    }
-    Ok(suspended_reply(next))
+    answer_in_turn!(context.find_dwarf_and_unit(probe), answers, unit => unit_reply(unit))
 }
 
 // `find_location` of an address.

@@ -7,11 +7,11 @@ use Rattle.gimli_read.specs.Reading as reading
 abbrev pub stored_if : {A : Type 0} → Bool → Result A Error → Costed A
 stored_if stores given = record { given = given; takes_memory = λ shares. stores }
 
--- and room after it, where it has no fault and something is stored then
+-- and room after it, where it has no fault and room is needed then
 abbrev pub then_room_if : {A : Type 0} → Bool → Costed A → Costed A
-then_room_if stores c = record {
+then_room_if needed c = record {
   given = c.given;
-  takes_memory = λ shares. c.takes_memory shares || is_ok c.given && stores;
+  takes_memory = λ shares. c.takes_memory shares || is_ok c.given && needed;
 }
 
 -- with its value made into another

@@ -48,12 +48,12 @@ pub use Rattle.addr2line_units.specs.EntriesMemory.{any_program_takes_memory, is
 unfoldable pub use Rattle.addr2line_units.specs.EntriesMemory.{functions_in_take_memory, lines_take_memory}
 pub use Rattle.addr2line_units.specs.UnitsAsked.{AfterAsk, AfterCachingAt, CountsUnits, found_stop, stop_at, row_stop}
 pub use Rattle.addr2line_units.specs.EntriesCached.{AreEntriesOf, AreFramesIn, AreFresh, AreRead, AsksNoMemoryIn, ReadsEntriesOf, StayEntries, first_answer_of, frames_of_place, has_answered, has_entries, has_entries_by}
-pub use Rattle.addr2line_units.specs.FramesCached.{AreFoundAt, IsLendable, IsStopIn, found_after_fault, frames_at_place, frames_found_at, functions_at, has_frames_at, language_at, as_stop, stop_of_found}
+pub use Rattle.addr2line_units.specs.FramesCached.{IsLendable, found_after_fault, frames_at_place, functions_at, language_at, as_stop, stop_of_found}
 pub use Rattle.addr2line_units.specs.EntriesFunctions.{AreFunctionsOf, ArePlacesIn, IsTableOf, ReadsNoDetail, ReadsNoOther, StayFunctions, cached_detail_takes_memory, cached_fault, cached_functions, cached_has_function, cached_takes_memory, details_at, find_takes_memory, function_of_place, functions_fault, has_detail, has_place, has_table, is_cached_fault, no_functions, place_takes_memory, reading_takes_memory, table_takes_memory, were_read}
 pub use Rattle.addr2line_units.specs.EntriesKnownCached.{known_answer, known_by, known_detail, known_fault, known_function, known_functions, known_in, known_table}
-pub use Rattle.addr2line_units.specs.UnitLinesCached.{AreLinesOf, CachesResult, HaveLinesOf, HaveSameEntries, StayUnits, StaysUnit, cached_files, cached_lines, cached_lines_result, cached_ranges, cached_spans, indexed_unit, indexed_units, is_parsed, is_uncached, lines_at, lines_in_cache, lines_result, lines_result_at, no_lines, parsed_units}
-pub use Rattle.addr2line_units.specs.UnitsCached.{AreFreshOf, HaveCachesOf, HaveEntriesOf, HaveSameLines, HaveViewsOf, IsCacheOf, ReadsOnly, StayAllEntries, answers_in, decided_at, has_entries_at, waits_at}
-pub use Rattle.addr2line_units.specs.UnitViewCached.{IsViewOf, answer_in, cached_verdict, is_decided, parts_or_fault, scope_by, answer_of_view, as_sections, split_file_by, split_file_in, split_unit, unboxed, verdict_in, view_by, waits, was_checked}
+pub use Rattle.addr2line_units.specs.UnitLinesCached.{AreLinesOf, CachesResult, HaveLinesOf, StaysUnit, cached_files, cached_lines, cached_lines_result, cached_ranges, cached_spans, indexed_unit, indexed_units, is_parsed, is_uncached, lines_at, lines_in_cache, lines_result, lines_result_at, no_lines, parsed_units}
+pub use Rattle.addr2line_units.specs.UnitsCached.{AreFreshOf, HaveCachesOf, IsCacheOf, answers_in, waits_at}
+pub use Rattle.addr2line_units.specs.UnitViewCached.{IsViewOf, answer_in, is_decided, parts_or_fault, answer_of_view, as_sections, split_file_by, split_file_in, split_unit, unboxed, verdict_in, view_by, waits, was_checked}
 pub use Rattle.addr2line_units.specs.Frames.{FoundFunction, FrameRecord, call_location, found_frames, found_function, frames_from, function_frame, function_from, location_frames}
 unfoldable pub use Rattle.addr2line_units.specs.Frames.{function_at}
 pub use Rattle.addr2line_units.specs.FramesLookup.{Finds, FindsNothing, LookupAsks, LookupStop, Waits, after_fault, answer_of, asked_frames, asks_lines_of, ends_lookup, frames_of_number, function_offset_of, functions_of_take_memory, holds_along, inlined_at_number, main_scope, or_stop, readable_view, stop_along, unit_found, view_of_number, with_answer, asked_of_unit, first_frame_location, found_in_unit, has_stopped, located_frames, location_found}
@@ -77,7 +77,7 @@ pub use Rattle.addr2line_units.specs.UnitView.{FirstAnswers, SplitLoad, View, an
 unfoldable pub use Rattle.addr2line_units.specs.UnitView.{load_of_unit, split_name_of}
 pub use Rattle.addr2line_units.specs.declared.entries.LazyFunctions.{LazyFunctions}
 pub use Rattle.addr2line_units.specs.declared.entries.UnitCache.{UnitCache}
-pub use Rattle.addr2line_units.specs.declared.entries.UnitEntries.{UnitEntries}
+pub use Rattle.addr2line_units.specs.declared.entries.EntriesCache.{EntriesCache}
 pub use Rattle.addr2line_units.specs.declared.frames.Asks.{Asks}
 pub use Rattle.addr2line_units.specs.declared.frames.FramesStop.{FramesStop}
 pub use Rattle.addr2line_units.specs.declared.frames.OnFault.{OnFault}
@@ -86,6 +86,7 @@ pub use Rattle.addr2line_units.specs.declared.index.UnitArange.{UnitArange}
 pub use Rattle.addr2line_units.specs.declared.index.UnitRange.{UnitRange}
 pub use Rattle.addr2line_units.specs.declared.parses.ReadingDepth.{ReadingDepth}
 pub use Rattle.addr2line_units.specs.declared.unit.LazyLines.{LazyLines}
-pub use Rattle.addr2line_units.specs.declared.unit.UnitLines.{UnitLines}
+pub use Rattle.addr2line_units.specs.declared.unit.LinesCache.{LinesCache}
 pub use Rattle.addr2line_units.specs.declared.unit.UnitView.{UnitView}
 pub use Rattle.addr2line_units.specs.declared.unit.ViewState.{ViewState}
+pub use Rattle.addr2line_units.proofs.CachedUnits.{AreFoundAt, IsStopIn, frames_found_at, has_frames_at, HaveSameEntries, StayUnits, HaveEntriesOf, HaveSameLines, HaveViewsOf, ReadsOnly, StayAllEntries, decided_at, has_entries_at}

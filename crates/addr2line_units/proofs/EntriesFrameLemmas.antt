@@ -1,5 +1,5 @@
 -- The frames in a unit by its functions and its lines (on specs/EntriesFrames.antt).
-use Rattle.addr2line_units.proofs.Common.{◌≡◌, ◌≢◌, ◌∙◌, ℕ, ap, sym, refl, subst, not, ◌&&◌, is_ok, is_none, box_value, Bool, true, false, Option, Some, None, option_map, Result, Ok, Err, if◌then◌else◌, Error, OutOfMemory, ◌>>=◌, Sections, UnitRecord, cached_detail, exceeds_inline_room, Location, location_at, location_of_row, Scope, unit_lines, LazyFunctions, LazyLines, UnitLines, UnitEntries, UnitView, ViewState, functions_in_take_memory, lines_take_memory, AreLinesOf, cached_files, is_uncached, no_lines, FoundFunction, found_frames, AreRead, AsksNoMemoryIn, ReadsEntriesOf, StayEntries, has_entries, has_entries_by, StayFunctions, cached_functions, IsViewOf, answer_in, answer_of_view, waits, was_checked, LocationResult, location_in, asks_lines_in, frames_by, frames_in, function_in, inlined_of_unit, IndexedUnit, is_open, ExactlyUnlessOom, ExactlyUnlessOomIf, IfErr, UnitCache, AreEntriesOf, first_answer_of, is_decided, find_takes_memory, function_at, false≢true, indexed_unit, frames_of_place, verdict}
+use Rattle.addr2line_units.proofs.Common.{◌≡◌, ◌≢◌, ◌∙◌, ℕ, ap, sym, refl, subst, not, ◌&&◌, is_ok, is_none, box_value, Bool, true, false, Option, Some, None, option_map, Result, Ok, Err, if◌then◌else◌, Error, OutOfMemory, ◌>>=◌, Sections, UnitRecord, cached_detail, exceeds_inline_room, Location, location_at, location_of_row, Scope, unit_lines, LazyFunctions, LazyLines, LinesCache, EntriesCache, UnitView, ViewState, functions_in_take_memory, lines_take_memory, AreLinesOf, cached_files, is_uncached, no_lines, FoundFunction, found_frames, AreRead, AsksNoMemoryIn, ReadsEntriesOf, StayEntries, has_entries, has_entries_by, StayFunctions, cached_functions, IsViewOf, answer_in, answer_of_view, waits, was_checked, LocationResult, location_in, asks_lines_in, frames_by, frames_in, function_in, inlined_of_unit, IndexedUnit, is_open, ExactlyUnlessOom, ExactlyUnlessOomIf, IfErr, UnitCache, AreEntriesOf, first_answer_of, is_decided, find_takes_memory, function_at, false≢true, indexed_unit, frames_of_place, verdict}
 use Rattle.addr2line_lines.specs.declared.row.Row.{Row}
 use Rattle.addr2line_lines.specs.Location.{LineTable as Lines}
 use Rattle.addr2line_units.specs.declared.unit.LazyLines.TheVariants as lines
@@ -91,7 +91,7 @@ module _ (scope : Scope) (x : IndexedUnit) (answer : Option (Option Sections)) (
       lines_frames (lines.Read table) row right cached k = (tt, read_frames (box_value table) row right k)
 
 -- where a lookup takes no memory in a unit, its refusal is the fault of the function
-function_alone : {R : Type 0} (shares : Bool) (scope : Scope) (u : UnitRecord) (answer : Option (Option Sections)) (probe : ℕ) (r : UnitLines) (v : UnitEntries R) (e : Error) → AsksNoMemoryIn shares scope u answer probe r v
+function_alone : {R : Type 0} (shares : Bool) (scope : Scope) (u : UnitRecord) (answer : Option (Option Sections)) (probe : ℕ) (r : LinesCache) (v : EntriesCache R) (e : Error) → AsksNoMemoryIn shares scope u answer probe r v
     → (has_entries probe v ≡ true → exceeds_inline_room (inlined_of_unit scope u answer probe) ≡ false → e ≢ OutOfMemory) → (e ≢ OutOfMemory → function_in scope u answer probe ≡ Err e)
     → (functions_in_take_memory shares scope u answer ≡ false → function_in scope u answer probe ≡ Err e) → function_in scope u answer probe ≡ Err e
 function_alone shares scope u answer probe r v e h known gives alone = by_test (functions_in_take_memory shares scope u answer) refl
@@ -101,7 +101,7 @@ function_alone shares scope u answer probe r v e h known gives alone = by_test (
     by_test false t = alone t
 
 -- or that of the lines
-lines_alone : {R : Type 0} (shares : Bool) (scope : Scope) (u : UnitRecord) (answer : Option (Option Sections)) (probe : ℕ) (r : UnitLines) (v : UnitEntries R) (e : Error) (given : LocationResult) → AsksNoMemoryIn shares scope u answer probe r v
+lines_alone : {R : Type 0} (shares : Bool) (scope : Scope) (u : UnitRecord) (answer : Option (Option Sections)) (probe : ℕ) (r : LinesCache) (v : EntriesCache R) (e : Error) (given : LocationResult) → AsksNoMemoryIn shares scope u answer probe r v
     → asks_lines_in scope u answer probe ≡ true → (is_uncached r.lines ≡ false → e ≢ OutOfMemory) → (e ≢ OutOfMemory → given ≡ Err e) → (lines_take_memory shares u ≡ false → given ≡ Err e) → given ≡ Err e
 lines_alone shares scope u answer probe r v e given h asked known gives alone = by_test (lines_take_memory shares u) refl
   where
@@ -110,8 +110,8 @@ lines_alone shares scope u answer probe r v e given h asked known gives alone = 
     by_test false t = alone t
 
 -- the function in the view of a unit that is decided
-module _ {R : Type 0} (shares : Bool) (scope : Scope) (u : UnitRecord) (probe : ℕ) (old : UnitEntries R) (h : AreEntriesOf scope u old) (decided : is_decided old.view.state ≡ true) where
-  abbrev with_functions : LazyFunctions R → UnitEntries R
+module _ {R : Type 0} (shares : Bool) (scope : Scope) (u : UnitRecord) (probe : ℕ) (old : EntriesCache R) (h : AreEntriesOf scope u old) (decided : is_decided old.view.state ≡ true) where
+  abbrev with_functions : LazyFunctions R → EntriesCache R
   with_functions fs = record { view = old.view; functions = fs }
 
   -- the view has a fault
@@ -149,7 +149,7 @@ module _ {R : Type 0} (shares : Bool) (scope : Scope) (u : UnitRecord) (probe : 
     }
 
 -- the frames of a unit that was looked at
-module _ {R : Type 0} (shares : Bool) (scope : Scope) (u : UnitRecord) (probe : ℕ) (was : UnitCache R) (own : AreLinesOf scope.file.sections u was.lines.lines) (mid : UnitEntries R) (look : AfterCheck scope u was.entries mid) where
+module _ {R : Type 0} (shares : Bool) (scope : Scope) (u : UnitRecord) (probe : ℕ) (was : UnitCache R) (own : AreLinesOf scope.file.sections u was.lines.lines) (mid : EntriesCache R) (look : AfterCheck scope u was.entries mid) where
   abbrev x : IndexedUnit
   x = indexed_unit u was.lines
 
@@ -182,7 +182,7 @@ module _ {R : Type 0} (shares : Bool) (scope : Scope) (u : UnitRecord) (probe : 
     }
 
   -- it doesn't, and the function was looked for
-  module _ (shut : waits mid.view.state ≡ false) (new : UnitEntries R) where
+  module _ (shut : waits mid.view.state ≡ false) (new : EntriesCache R) where
     closed : is_open scope.file.sections u answer ≡ false
     closed = ap (is_open scope.file.sections u) (sym look.stay.answer) ∙ not_open scope u probe mid look.right (checked_decides mid.view.state look.known shut)
 
@@ -227,7 +227,7 @@ module _ {R : Type 0} (shares : Bool) (scope : Scope) (u : UnitRecord) (probe : 
       }
 
     -- it is found, or there is none
-    module _ (p : Option FunctionPlace) (f : AfterFunctionIn shares scope u probe (Ok p) mid new) (gives : function_in scope u (first_answer_of mid) probe ≡ Ok (found_in_cache new.functions p)) (l : UnitLines) where
+    module _ (p : Option FunctionPlace) (f : AfterFunctionIn shares scope u probe (Ok p) mid new) (gives : function_in scope u (first_answer_of mid) probe ≡ Ok (found_in_cache new.functions p)) (l : LinesCache) where
       asked : asks_lines_in scope u answer probe ≡ true
       asked = closed_asks scope x answer probe closed (Ok (found_in_cache new.functions p)) (before gives)
 

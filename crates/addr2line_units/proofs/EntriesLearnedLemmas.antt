@@ -1,6 +1,6 @@
 -- Of which functions details become known where a unit is asked (on specs/EntriesKnown.antt and
 -- specs/EntriesKnownCached.antt).
-use Rattle.addr2line_units.proofs.Common.{Box, Global, ◌≡◌, ◌≢◌, ◌⊎◌, inl, inr, ◌∙◌, ap, sym, refl, subst, ℕ, ◌<◌, ◌==◌, nat_lt, cond, lt-ltb, eqb-true, Bool, true, false, List, get_or, length, position, Option, Some, None, option_and_then, option_map, slice_get, Result, Ok, Err, if◌then◌else◌, cases_eq, slice_get-map, slice_get_read, slice_get_within, set, position_or_len, Error, ◌>>=◌, Sections, UnitRecord, AreUnread, CachedFunction, FunctionTable, cached_detail, function_place_at, function_offset_at, Scope, some_at, LazyFunctions, UnitCache, UnitEntries, ViewState, AreEntriesOf, StayEntries, first_answer_of, AreFunctionsOf, ReadsNoDetail, ReadsNoOther, StayFunctions, cached_functions, has_detail, is_cached_fault, no_functions, were_read, known_answer, known_by, known_fault, known_function, known_functions, known_in, known_table, is_decided, as_sections, unboxed, verdict_in, view_by, AllKnown, FunctionsKnown, HasNoFunctions, KnownEntries, KnownFunction, LearnsNoDetails, LearnsNoFunctions, NothingKnown, is_detail_known, knows_detail, knows_detail_at, function_offset_among, function_offset_by, function_offset_in, View, verdict, view_scope}
+use Rattle.addr2line_units.proofs.Common.{Box, Global, ◌≡◌, ◌≢◌, ◌⊎◌, inl, inr, ◌∙◌, ap, sym, refl, subst, ℕ, ◌<◌, ◌==◌, nat_lt, cond, lt-ltb, eqb-true, Bool, true, false, List, get_or, length, position, Option, Some, None, option_and_then, option_map, slice_get, Result, Ok, Err, if◌then◌else◌, cases_eq, slice_get-map, slice_get_read, slice_get_within, set, position_or_len, Error, ◌>>=◌, Sections, UnitRecord, AreUnread, CachedFunction, FunctionTable, cached_detail, function_place_at, function_offset_at, Scope, some_at, LazyFunctions, UnitCache, EntriesCache, ViewState, AreEntriesOf, StayEntries, first_answer_of, AreFunctionsOf, ReadsNoDetail, ReadsNoOther, StayFunctions, cached_functions, has_detail, is_cached_fault, no_functions, were_read, known_answer, known_by, known_fault, known_function, known_functions, known_in, known_table, is_decided, as_sections, unboxed, verdict_in, view_by, AllKnown, FunctionsKnown, HasNoFunctions, KnownEntries, KnownFunction, LearnsNoDetails, LearnsNoFunctions, NothingKnown, is_detail_known, knows_detail, knows_detail_at, function_offset_among, function_offset_by, function_offset_in, View, verdict, view_scope}
 use Rattle.std.proofs.lemmas.List.Folds.{find_at}
 use Rattle.std.proofs.lemmas.List.Quantifiers.{position-Some}
 use Rattle.std.specs.Prelude.{IfOk, IfSome, is_some, unwrap_or}
@@ -131,7 +131,7 @@ decided_if_read true read h e = refl
 decided_if_read false read h e = never (sym (h refl) ∙ e)
 
 -- a unit that was asked
-module _ {R : Type 0} (scope : Scope) (u : UnitRecord) (probe offset : ℕ) (v w : UnitEntries R) (before : AreEntriesOf scope u v) (after : AreEntriesOf scope u w) (stay : StayEntries v w) where
+module _ {R : Type 0} (scope : Scope) (u : UnitRecord) (probe offset : ℕ) (v w : EntriesCache R) (before : AreEntriesOf scope u v) (after : AreEntriesOf scope u w) (stay : StayEntries v w) where
   -- the function at the probe by what is cached is that of the view
   by_view : (x : View) → verdict scope.file.sections u (first_answer_of v) ≡ Some (Ok x) → (t : Box FunctionTable Global) → w.functions ≡ lazy.Read t → function_offset_at probe t.value.ranges ≡ Some offset → function_offset_in scope u (first_answer_of v) probe ≡ Some offset
   unfolding function_offset_in
@@ -183,10 +183,10 @@ unread_has_none {R = R} s lazy.Unread e = by s
     by (states.Answered a) = of_answer a.unit
 
 -- what is known of a unit is what was, or no function of it is
-abbrev pub UnitLearnsNone : {R : Type 0} → UnitEntries R → UnitEntries R → Type 0
+abbrev pub UnitLearnsNone : {R : Type 0} → EntriesCache R → EntriesCache R → Type 0
 UnitLearnsNone v w = (known_by w.view.state w.functions ≡ known_by v.view.state v.functions) ⊎ HasNoFunctions (known_by w.view.state w.functions)
 
-decided_or_unread : {R : Type 0} (scope : Scope) (u : UnitRecord) (v w : UnitEntries R) → AreEntriesOf scope u v → w.functions ≡ v.functions → (is_decided v.view.state ≡ true → known_by w.view.state w.functions ≡ known_by v.view.state v.functions) → UnitLearnsNone v w
+decided_or_unread : {R : Type 0} (scope : Scope) (u : UnitRecord) (v w : EntriesCache R) → AreEntriesOf scope u v → w.functions ≡ v.functions → (is_decided v.view.state ≡ true → known_by w.view.state w.functions ≡ known_by v.view.state v.functions) → UnitLearnsNone v w
 decided_or_unread scope u v w before functions same = by (is_decided v.view.state) refl
   where
     by : (b : Bool) → is_decided v.view.state ≡ b → UnitLearnsNone v w
@@ -194,16 +194,16 @@ decided_or_unread scope u v w before functions same = by (is_decided v.view.stat
     by false e = inr (unread_has_none w.view.state w.functions (ap were_read functions ∙ before.unread e))
 
 -- a unit that was answered, by which nothing is changed of its functions
-pub answered_learns : {R : Type 0} (scope : Scope) (u : UnitRecord) (v w : UnitEntries R) → AreEntriesOf scope u v → w.functions ≡ v.functions → (is_decided v.view.state ≡ true → w ≡ v) → UnitLearnsNone v w
+pub answered_learns : {R : Type 0} (scope : Scope) (u : UnitRecord) (v w : EntriesCache R) → AreEntriesOf scope u v → w.functions ≡ v.functions → (is_decided v.view.state ≡ true → w ≡ v) → UnitLearnsNone v w
 answered_learns scope u v w before functions same = decided_or_unread scope u v w before functions (λ e. ap (λ y. known_by y.view.state y.functions) (same e))
 
 -- a unit that was looked at, by which nothing is changed of its functions
-pub checked_learns : {R : Type 0} (scope : Scope) (u : UnitRecord) (v w : UnitEntries R) → AreEntriesOf scope u v → StayEntries v w → w.functions ≡ v.functions → UnitLearnsNone v w
+pub checked_learns : {R : Type 0} (scope : Scope) (u : UnitRecord) (v w : EntriesCache R) → AreEntriesOf scope u v → StayEntries v w → w.functions ≡ v.functions → UnitLearnsNone v w
 checked_learns scope u v w before stay functions = decided_or_unread scope u v w before functions
     (λ e. ap (known_by w.view.state) functions ∙ ap (λ y. known_by y.state v.functions) (stay.view (decided_was_checked v.view.state e)))
 
 -- a unit that was forgotten
-pub forgotten_learns : {R : Type 0} (v w : UnitEntries R) → (first_answer_of v ≡ None → w ≡ v) → (is_some (first_answer_of v) ≡ true → were_read w.functions ≡ false) → UnitLearnsNone v w
+pub forgotten_learns : {R : Type 0} (v w : EntriesCache R) → (first_answer_of v ≡ None → w ≡ v) → (is_some (first_answer_of v) ≡ true → were_read w.functions ≡ false) → UnitLearnsNone v w
 forgotten_learns v w same unread = by (first_answer_of v) same unread
   where
     by : {X : Type 0} (a : Option X) → (a ≡ None → w ≡ v) → (is_some a ≡ true → were_read w.functions ≡ false) → UnitLearnsNone v w
@@ -216,7 +216,7 @@ none_has_no_detail offset NothingKnown h e = never e
 none_has_no_detail offset AllKnown h e = never e
 none_has_no_detail offset (FunctionsKnown ranges functions) h e = absurd h
 
-pub unit_learns_none : {R : Type 0} (offset : ℕ) (v w : UnitEntries R) → UnitLearnsNone v w → knows_detail offset (known_by w.view.state w.functions) ≡ true → knows_detail offset (known_by v.view.state v.functions) ≡ true
+pub unit_learns_none : {R : Type 0} (offset : ℕ) (v w : EntriesCache R) → UnitLearnsNone v w → knows_detail offset (known_by w.view.state w.functions) ≡ true → knows_detail offset (known_by v.view.state v.functions) ≡ true
 unit_learns_none offset v w h e = elim h [
   | inl same ↦ ap (knows_detail offset) (sym same) ∙ e
   | inr none ↦ absurd (none_has_no_detail offset (known_by w.view.state w.functions) none e)
@@ -258,7 +258,7 @@ module _ {R : Type 0} (offset : ℕ) where
   functions_keep (lazy.Faulty x) (lazy.Read u) stay none e = absurd cc
 
 -- a unit that was answered, of which functions were read then without a detail
-pub functions_learn_none : {R : Type 0} (scope : Scope) (u : UnitRecord) (offset : ℕ) (v w : UnitEntries R) (f : LazyFunctions R) → AreEntriesOf scope u v → w.functions ≡ v.functions → (is_decided v.view.state ≡ true → w ≡ v) → StayFunctions w.functions f
+pub functions_learn_none : {R : Type 0} (scope : Scope) (u : UnitRecord) (offset : ℕ) (v w : EntriesCache R) (f : LazyFunctions R) → AreEntriesOf scope u v → w.functions ≡ v.functions → (is_decided v.view.state ≡ true → w ≡ v) → StayFunctions w.functions f
     → ReadsNoDetail (cached_functions w.functions) (cached_functions f) → knows_detail offset (known_by w.view.state f) ≡ true → knows_detail offset (known_by v.view.state v.functions) ≡ true
 functions_learn_none scope u offset v w f before functions same stay none e =
     unit_learns_none offset v w (answered_learns scope u v w before functions same)

@@ -1,5 +1,5 @@
 -- What is cached of the entries of a unit (on specs/EntriesCached.antt and specs/EntriesFrames.antt).
-use Rattle.addr2line_units.proofs.Common.{◌≡◌, ◌∙◌, ℕ, ap, sym, refl, subst, Bool, true, false, Option, Some, IfOk, IfSome, is_none, Result, Ok, Err, Error, ◌>>=◌, ExactlyUnlessOom, ExactlyUnlessOomIf, Sections, UnitRecord, functions_take_memory, exceeds_inline_room, Scope, table_same, LazyFunctions, UnitEntries, UnitView, ViewState, functions_in_take_memory, view_takes_memory, function_at, AreEntriesOf, has_answered, has_entries_by, first_answer_of, AreFunctionsOf, StayFunctions, cached_has_function, is_cached_fault, were_read, is_decided, parts_or_fault, as_sections, unboxed, verdict_in, view_by, waits, was_checked, function_by, function_in, inlined_of_unit, inlined_of_found, View, is_open, parts_of, verdict, view_scope}
+use Rattle.addr2line_units.proofs.Common.{◌≡◌, ◌∙◌, ℕ, ap, sym, refl, subst, Bool, true, false, Option, Some, IfOk, IfSome, is_none, Result, Ok, Err, Error, ◌>>=◌, ExactlyUnlessOom, ExactlyUnlessOomIf, Sections, UnitRecord, functions_take_memory, exceeds_inline_room, Scope, table_same, LazyFunctions, EntriesCache, UnitView, ViewState, functions_in_take_memory, view_takes_memory, function_at, AreEntriesOf, has_answered, has_entries_by, first_answer_of, AreFunctionsOf, StayFunctions, cached_has_function, is_cached_fault, were_read, is_decided, parts_or_fault, as_sections, unboxed, verdict_in, view_by, waits, was_checked, function_by, function_in, inlined_of_unit, inlined_of_found, View, is_open, parts_of, verdict, view_scope}
 use Rattle.std.specs.Prelude.{Box}
 use Rattle.addr2line_units.specs.CacheAfter.{AfterCheck, AfterViewCheck}
 use Rattle.std.specs.declared.alloc.Global.{Global}
@@ -28,7 +28,7 @@ checked_decides states.Main h k = refl
 checked_decides (states.Unnamed e) h k = refl
 checked_decides (states.Answered a) h k = refl
 
-module _ {R : Type 0} (scope : Scope) (u : UnitRecord) (old : UnitEntries R) (view : UnitView R) (a : AfterViewCheck scope.file.sections u old.view view) where
+module _ {R : Type 0} (scope : Scope) (u : UnitRecord) (old : EntriesCache R) (view : UnitView R) (a : AfterViewCheck scope.file.sections u old.view view) where
   -- after the view was looked at
   pub check_after : AreEntriesOf scope u old → AfterCheck scope u old (record { view = view; functions = old.functions })
   check_after h = record {
@@ -53,7 +53,7 @@ pub exactly_unless_oom : {X Y : Type 0} (may : Bool) (see : X → Y) (r : Result
 exactly_unless_oom may see (Ok x) given h = h
 exactly_unless_oom may see (Err e) given h = λ ne. h (λ _. ne)
 
-module _ {R : Type 0} (scope : Scope) (u : UnitRecord) (probe : ℕ) (old : UnitEntries R) (h : AreEntriesOf scope u old) (decided : is_decided old.view.state ≡ true) where
+module _ {R : Type 0} (scope : Scope) (u : UnitRecord) (probe : ℕ) (old : EntriesCache R) (h : AreEntriesOf scope u old) (decided : is_decided old.view.state ≡ true) where
   abbrev pub here : Option (Result View Error)
   here = verdict scope.file.sections u (first_answer_of old)
 

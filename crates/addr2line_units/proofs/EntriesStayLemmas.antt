@@ -1,5 +1,5 @@
 -- What was known of units stays known (on specs/EntriesStayKnown.antt).
-use Rattle.addr2line_units.proofs.Common.{◌≡◌, ◌⊎◌, inl, inr, ℕ, zero, suc, ◌≤◌, arith, true, false, List, [], ◌∷◌, length, slice_get, Option, Some, None, option_map, Result, Ok, Err, refl, sym, ◌∙◌, subst, AllZip, Error, UnitRecord, Detail, AreCachedToFault, IsCachedToFault, IsFunctionMore, IsTableMore, CachedFunction, FunctionTable, Scope, LazyFunctions, ReadingDepth, UnitCache, UnitEntries, ViewState, IsReadyFor, StayEntries, StayFunctions, HaveEntriesOf, StayAllEntries, answers_in, decided_at, was_checked, known_answer, known_by, known_functions, known_in, known_table, KnownEntries, is_known_at, is_open_at}
+use Rattle.addr2line_units.proofs.Common.{◌≡◌, ◌⊎◌, inl, inr, ℕ, zero, suc, ◌≤◌, arith, true, false, List, [], ◌∷◌, length, slice_get, Option, Some, None, option_map, Result, Ok, Err, refl, sym, ◌∙◌, subst, AllZip, Error, UnitRecord, Detail, AreCachedToFault, IsCachedToFault, IsFunctionMore, IsTableMore, CachedFunction, FunctionTable, Scope, LazyFunctions, ReadingDepth, UnitCache, EntriesCache, ViewState, IsReadyFor, StayEntries, StayFunctions, HaveEntriesOf, StayAllEntries, answers_in, decided_at, was_checked, known_answer, known_by, known_functions, known_in, known_table, KnownEntries, is_known_at, is_open_at}
 use Rattle.std.specs.Prelude.{IfSome, unwrap_or}
 use Rattle.addr2line_units.specs.declared.entries.LazyFunctions.TheVariants as lazy
 use Rattle.addr2line_units.specs.declared.parses.ReadingDepth.TheVariants as depths
@@ -71,7 +71,7 @@ module _ {R : Type 0} where
   whole_was_checked r (states.Unnamed x) f h = refl
   whole_was_checked r (states.Answered x) f h = refl
 
-  pub entries_whole : (r : ReadingDepth) (v w : UnitEntries R) → StayEntries v w → IsReadyFor r (known_by v.view.state v.functions) → IsReadyFor r (known_by w.view.state w.functions)
+  pub entries_whole : (r : ReadingDepth) (v w : EntriesCache R) → StayEntries v w → IsReadyFor r (known_by v.view.state v.functions) → IsReadyFor r (known_by w.view.state w.functions)
   entries_whole r v w a h =
       subst (λ y. IsReadyFor r (known_by y.state w.functions)) (sym (a.view (whole_was_checked r v.view.state v.functions h)))
       (view_whole r v.view.state v.functions w.functions a.functions h)

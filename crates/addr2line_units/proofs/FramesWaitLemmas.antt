@@ -1,6 +1,6 @@
 -- The unit that a lookup of frames waits for has no answer yet (on specs/FramesLookup.antt and
 -- specs/UnitsCached.antt).
-use Rattle.addr2line_units.proofs.Common.{◌≡◌, ℕ, zero, suc, ◌<◌, arith, get_or, Bool, true, false, ◌&&◌, ◌||◌, List, [], ◌∷◌, length, slice_get, Option, Some, None, Result, Ok, Err, ap, refl, sym, subst, ◌∙◌, Error, ◌>>=◌, Sections, UnitRecord, Scope, OnFault, Stop, Skip, UnitRange, UnitCache, UnitEntries, ViewState, indexed_units, FrameRecord, LookupStop, Waits, Finds, FindsNothing, after_fault, asked_frames, ends_lookup, frames_of_number, holds_along, or_stop, stop_along, has_entries, first_answer_of, HaveEntriesOf, HaveViewsOf, answers_in, has_entries_at, waits_at, has_frames_at, IsViewOf, was_checked, waits, FramesResult, frames_by, frames_in, function_in, IndexedUnit, is_open}
+use Rattle.addr2line_units.proofs.Common.{◌≡◌, ℕ, zero, suc, ◌<◌, arith, get_or, Bool, true, false, ◌&&◌, ◌||◌, List, [], ◌∷◌, length, slice_get, Option, Some, None, Result, Ok, Err, ap, refl, sym, subst, ◌∙◌, Error, ◌>>=◌, Sections, UnitRecord, Scope, OnFault, Stop, Skip, UnitRange, UnitCache, EntriesCache, ViewState, indexed_units, FrameRecord, LookupStop, Waits, Finds, FindsNothing, after_fault, asked_frames, ends_lookup, frames_of_number, holds_along, or_stop, stop_along, has_entries, first_answer_of, HaveEntriesOf, HaveViewsOf, answers_in, has_entries_at, waits_at, has_frames_at, IsViewOf, was_checked, waits, FramesResult, frames_by, frames_in, function_in, IndexedUnit, is_open}
 use Rattle.std.specs.Prelude.{IfOk, IfSome, if◌then◌else◌}
 use Rattle.addr2line_units.specs.declared.unit.ViewState.TheVariants as states
 use Rattle.addr2line_units.proofs.LoadsAnswerLemmas.{got_unit, checked_waits}
@@ -46,7 +46,7 @@ open_of_none scope u answer probe e = of_open (is_open scope.file.sections u.uni
     of_open false (Ok x) k = absurd cc
     of_open false (Err x) k = absurd cc
 
-pub known_was_checked : {R : Type 0} (probe : ℕ) (v : UnitEntries R) → has_entries probe v ≡ true → was_checked v.view.state ≡ true
+pub known_was_checked : {R : Type 0} (probe : ℕ) (v : EntriesCache R) → has_entries probe v ≡ true → was_checked v.view.state ≡ true
 known_was_checked probe v e = by v.view.state e
   where
     by : (s : ViewState _) → has_entries probe (record { view = record { state = s }; functions = v.functions }) ≡ true → was_checked s ≡ true

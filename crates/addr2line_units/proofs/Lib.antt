@@ -30,6 +30,7 @@ pub mod FramesFoundLemmas
 pub mod FramesDecidedLemmas
 pub mod EntriesKnownTableLemmas
 pub mod EntriesKnownLemmas
+pub mod CachedUnits
 pub mod UnitsCachedLemmas
 pub mod ParsesLemmas
 pub mod ParsesCachedLemmas

@@ -1,5 +1,5 @@
 -- Answers to the loads of units, and what is cached of their entries (on specs/EntriesCached.antt).
-use Rattle.addr2line_units.proofs.Common.{◌≡◌, ◌≢◌, ℕ, zero, suc, ◌<◌, Bool, true, false, List, [], ◌∷◌, length, get_or, slice_get, arith, Option, Some, None, Result, Ok, Err, ap, refl, sym, ◌∙◌, set, set-get_or, false≢true, IfErr, OnOk, Error, OutOfMemory, Sections, UnitRecord, IsScope, Scope, LazyFunctions, UnitCache, UnitEntries, UnitView, ViewState, answer_of, with_answer, AreEntriesOf, StayEntries, first_answer_of, AreFunctionsOf, were_read, StayAllEntries, answers_in, decided_at, IsViewOf, is_decided, answer_of_view, verdict_in, waits, was_checked, FirstAnswers, View, decided_answer, is_open, verdict, view_scope}
+use Rattle.addr2line_units.proofs.Common.{◌≡◌, ◌≢◌, ℕ, zero, suc, ◌<◌, Bool, true, false, List, [], ◌∷◌, length, get_or, slice_get, arith, Option, Some, None, Result, Ok, Err, ap, refl, sym, ◌∙◌, set, set-get_or, false≢true, IfErr, OnOk, Error, OutOfMemory, Sections, UnitRecord, IsScope, Scope, LazyFunctions, UnitCache, EntriesCache, UnitView, ViewState, answer_of, with_answer, AreEntriesOf, StayEntries, first_answer_of, AreFunctionsOf, were_read, StayAllEntries, answers_in, decided_at, IsViewOf, is_decided, answer_of_view, verdict_in, waits, was_checked, FirstAnswers, View, decided_answer, is_open, verdict, view_scope}
 use Rattle.std.specs.Prelude.{IfOk, IfSome, is_none, is_some, if◌then◌else◌}
 use Rattle.addr2line_units.specs.declared.entries.LazyFunctions.TheVariants as lazy
 use Rattle.addr2line_units.specs.declared.unit.ViewState.TheVariants as states
@@ -77,13 +77,13 @@ pub open_by_check : {R : Type 0} (d : Sections) (u : UnitRecord) (v w : UnitView
 open_by_check d u v w b h l same e = ap (λ a. is_open d u a) (sym same) ∙ sym (checked_waits d u w h l) ∙ sym e
 
 -- what was decided before a check of the split file doesn't wait after it
-pub never_waits : {R : Type 0} (v w : UnitEntries R) (b : Bool) → is_decided v.view.state ≡ true → (was_checked v.view.state ≡ true → w ≡ v) → b ≡ waits w.view.state → b ≡ true → ⊥
+pub never_waits : {R : Type 0} (v w : EntriesCache R) (b : Bool) → is_decided v.view.state ≡ true → (was_checked v.view.state ≡ true → w ≡ v) → b ≡ waits w.view.state → b ≡ true → ⊥
 never_waits v w b h same e t =
     let f : waits w.view.state ≡ false = ap (λ x. waits x.view.state) (same (decided_was_checked v.view.state h)) ∙ decided_waits_not v.view.state h in
     let k : true ≡ false = sym t ∙ e ∙ f in cc
 
 -- a unit that was looked at is answered
-module _ {R : Type 0} (scope : Scope) (u : UnitRecord) (given : Option Sections) (old mid : UnitEntries R) (look : AfterCheck scope u old mid) where
+module _ {R : Type 0} (scope : Scope) (u : UnitRecord) (given : Option Sections) (old mid : EntriesCache R) (look : AfterCheck scope u old mid) where
   -- it doesn't wait
   pub shut_after : waits mid.view.state ≡ false → AfterAnswering scope u given (Ok tt) old mid
   shut_after shut = record {

@@ -1,5 +1,5 @@
 -- The lines of the unit of a number (on specs/UnitsAsked.antt and specs/UnitsStored.antt).
-use Rattle.addr2line_units.proofs.Common.{◌≡◌, inl, ℕ, ◌+◌, ◌<◌, ◌≤◌, Bool, true, false, List, length, get_or, slice_get, Option, Some, None, Result, Ok, Err, refl, sym, ap, subst, ◌∙◌, arith, set, false≢true, IfErr, Error, ExactlyUnlessOom, WasNotRefused, Sections, UnitRecord, LineTable, location_of_row, Scope, FramesStop, UnitLines, UnitCache, AfterCachingAt, lines_of_take_memory, lines_take_memory, AreLinesOf, CachesResult, StaysUnit, StayUnits, cached_files, indexed_unit, is_uncached, lines_result, lines_result_at, parsed_units, FindsNothing, LookupStop, is_found, location_in, steps_in, has_parsed, AreUnits, as_units_state, UnitsState, ◌≢◌, ◌>>=◌, LazyLines, AfterAsk, AreRead, IsLendable, IsFaultAt, takes_none_at, location_frames, Finds, as_stop, has_stopped, or_stop, parses_no_memory, row_stop, stop_at, unit_lines, location_at, IndexedUnit, LocationResult, OutOfMemory, Location}
+use Rattle.addr2line_units.proofs.Common.{◌≡◌, inl, ℕ, ◌+◌, ◌<◌, ◌≤◌, Bool, true, false, List, length, get_or, slice_get, Option, Some, None, Result, Ok, Err, refl, sym, ap, subst, ◌∙◌, arith, set, false≢true, IfErr, Error, ExactlyUnlessOom, WasNotRefused, Sections, UnitRecord, LineTable, location_of_row, Scope, FramesStop, LinesCache, UnitCache, AfterCachingAt, lines_of_take_memory, lines_take_memory, AreLinesOf, CachesResult, StaysUnit, StayUnits, cached_files, indexed_unit, is_uncached, lines_result, lines_result_at, parsed_units, FindsNothing, LookupStop, is_found, location_in, steps_in, has_parsed, AreUnits, as_units_state, UnitsState, ◌≢◌, ◌>>=◌, LazyLines, AfterAsk, AreRead, IsLendable, IsFaultAt, takes_none_at, location_frames, Finds, as_stop, has_stopped, or_stop, parses_no_memory, row_stop, stop_at, unit_lines, location_at, IndexedUnit, LocationResult, OutOfMemory, Location}
 use Rattle.std.proofs.Math.Seq.{lt-length-set}
 use Rattle.std.specs.Prelude.{option_map}
 use Rattle.addr2line_lines.specs.declared.row.Row.{Row}
@@ -69,7 +69,7 @@ module _ {R : Type 0} {scope : Scope} {cs : List (UnitCache R)} {last : FramesSt
       takes_is : (shares : Bool) → lines_of_take_memory shares old.units n ≡ lines_take_memory shares u
       takes_is shares = rw (indexed, lines_of_take_memory) refl
 
-      module _ (l : UnitLines) where
+      module _ (l : LinesCache) where
         abbrev with_lines : UnitCache R
         with_lines = record c { lines = l }
 

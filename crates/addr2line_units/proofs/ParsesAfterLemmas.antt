@@ -1,6 +1,6 @@
 -- What a parse of functions leaves of the functions of a view, and of a unit (on
 -- specs/ParsesAfter.antt).
-use Rattle.addr2line_units.proofs.Common.{◌≡◌, ◌∙◌, Bool, true, false, [], Option, Some, Result, Ok, Err, None, refl, sym, ap, subst, inr, IfErr, OnOk, AllByRecursion, Error, OutOfMemory, ExactlyUnlessOomIf, WasNotRefused, Sections, UnitRecord, HasDetail, cached_detail, functions_of, functions_take_memory, AreUnread, Scope, LazyFunctions, ReadingDepth, UnitEntries, UnitView, functions_in_take_memory, AreEntriesOf, first_answer_of, AreFunctionsOf, StayFunctions, cached_fault, cached_functions, functions_fault, is_cached_fault, reading_takes_memory, were_read, known_by, known_fault, known_functions, is_decided, answer_of_view, IsReadyFor, read_of_functions, read_of_view, View, is_open, verdict}
+use Rattle.addr2line_units.proofs.Common.{◌≡◌, ◌∙◌, Bool, true, false, [], Option, Some, Result, Ok, Err, None, refl, sym, ap, subst, inr, IfErr, OnOk, AllByRecursion, Error, OutOfMemory, ExactlyUnlessOomIf, WasNotRefused, Sections, UnitRecord, HasDetail, cached_detail, functions_of, functions_take_memory, AreUnread, Scope, LazyFunctions, ReadingDepth, EntriesCache, UnitView, functions_in_take_memory, AreEntriesOf, first_answer_of, AreFunctionsOf, StayFunctions, cached_fault, cached_functions, functions_fault, is_cached_fault, reading_takes_memory, were_read, known_by, known_fault, known_functions, is_decided, answer_of_view, IsReadyFor, read_of_functions, read_of_view, View, is_open, verdict}
 use Rattle.addr2line_units.specs.declared.entries.LazyFunctions.TheVariants as lazy
 use Rattle.addr2line_units.specs.declared.parses.ReadingDepth.TheVariants as depths
 use Rattle.addr2line_units.specs.CacheAfter.{AfterAnswering}
@@ -130,7 +130,7 @@ fault_after depth reading e is = record {
 
 -- the view of a unit that is decided
 module _ {R : Type 0} (shares : Bool) (depth : ReadingDepth) (scope : Scope) (u : UnitRecord) (view : UnitView R) (old : LazyFunctions R) (before : AreEntriesOf scope u (record { view = view; functions = old })) (decided : is_decided view.state ≡ true) where
-  abbrev entries : UnitEntries R
+  abbrev entries : EntriesCache R
   entries = record { view = view; functions = old }
 
   abbrev answered : Option (Result View Error)
@@ -171,7 +171,7 @@ module _ {R : Type 0} (shares : Bool) (depth : ReadingDepth) (scope : Scope) (u 
     }
 
 -- a unit that was decided by none where it was open, and whose functions were read then
-module _ {R : Type 0} (shares : Bool) (depth : ReadingDepth) (scope : Scope) (u : UnitRecord) (old mid : UnitEntries R) (f : LazyFunctions R) (before : AreEntriesOf scope u old) (given : AfterAnswering scope u None (Ok tt) old mid) (result : Result (Unit {0}) Error)
+module _ {R : Type 0} (shares : Bool) (depth : ReadingDepth) (scope : Scope) (u : UnitRecord) (old mid : EntriesCache R) (f : LazyFunctions R) (before : AreEntriesOf scope u old) (given : AfterAnswering scope u None (Ok tt) old mid) (result : Result (Unit {0}) Error)
     (a : AfterReadingView shares depth scope u mid.view result mid.functions f) where
   same : is_decided old.view.state ≡ true → mid ≡ old
   same h = (given.kept h).0
@@ -179,7 +179,7 @@ module _ {R : Type 0} (shares : Bool) (depth : ReadingDepth) (scope : Scope) (u 
   abbrev d : Sections
   d = scope.file.sections
 
-  abbrev new : UnitEntries R
+  abbrev new : EntriesCache R
   new = record { view = mid.view; functions = f }
 
   shut_now : is_open d u (first_answer_of new) ≡ false
@@ -192,7 +192,7 @@ module _ {R : Type 0} (shares : Bool) (depth : ReadingDepth) (scope : Scope) (u 
       checked_decides old.view.state checked (checked_waits d u old.view before.view checked ∙ k.0)
 
   still_ready : IsDecidedAndReady depth (is_open d u (first_answer_of old)) (known_by old.view.state old.functions) → IsDecidedAndReady depth false (known_by mid.view.state mid.functions)
-  still_ready k = (refl, subst (λ (v : UnitEntries R). IsReadyFor depth (known_by v.view.state v.functions)) (sym (same (was_decided k))) k.1)
+  still_ready k = (refl, subst (λ (v : EntriesCache R). IsReadyFor depth (known_by v.view.state v.functions)) (sym (same (was_decided k))) k.1)
 
   pub unit_after : AfterReadingUnit shares depth scope u result old new
   unit_after = record {
@@ -202,11 +202,11 @@ module _ {R : Type 0} (shares : Bool) (depth : ReadingDepth) (scope : Scope) (u 
     stay = λ was. entries_then old mid f (same was) a.stay;
     known = record {
       read = a.known.read;
-      whole = λ h. a.known.whole (subst (λ (v : UnitEntries R). IsReadBy depth (known_by v.view.state v.functions)) (sym (same (read_decided depth old.view.state old.functions h))) h);
+      whole = λ h. a.known.whole (subst (λ (v : EntriesCache R). IsReadBy depth (known_by v.view.state v.functions)) (sym (same (read_decided depth old.view.state old.functions h))) h);
       ready = λ ne. (shut_now, (a.known.ready ne).1);
       memory = λ k. a.known.memory (refl, k.1);
       exact = λ k. a.known.exact (still_ready k) ∙ ap (λ x. read_of_view depth scope (verdict d u x)) given.answer;
-      same = λ k. a.known.same (still_ready k) ∙ ap (λ (v : UnitEntries R). known_by v.view.state v.functions) (same (was_decided k));
+      same = λ k. a.known.same (still_ready k) ∙ ap (λ (v : EntriesCache R). known_by v.view.state v.functions) (same (was_decided k));
     };
     details = λ is offset. functions_learn_none scope u offset old mid f before given.functions same a.stay (a.details is);
     no_memory = λ none. subst (λ x. IfErr result (λ e. read_of_view depth scope (verdict d u x) ≡ Err e)) given.answer

@@ -1,6 +1,6 @@
 -- What a parse of functions leaves of the unit of a number (on specs/ParsesAfter.antt and
 -- specs/UnitsStored.antt).
-use Rattle.addr2line_units.proofs.Common.{◌≡◌, ◌∙◌, inl, inr, ℕ, zero, suc, ◌<◌, arith, Bool, true, false, List, [], ◌∷◌, length, get_or, slice_get, Option, Some, None, option_map, Result, Ok, Err, refl, sym, ap, subst, set, slice_get-map, slice_get_past, slice_get_read, IfErr, OnOk, Error, Sections, UnitRecord, Scope, FramesStop, ReadingDepth, UnitCache, UnitEntries, first_answer_of, has_entries, known_by, known_in, HaveSameLines, answers_in, is_decided, was_checked, FindsNothing, LookupStop, answer_of, IsReadyFor, parse_of_takes_memory, parse_takes_memory, read_of_number, read_of_unit, is_open_at, AreUnits, as_units_state, UnitsState, FirstAnswers, is_open}
+use Rattle.addr2line_units.proofs.Common.{◌≡◌, ◌∙◌, inl, inr, ℕ, zero, suc, ◌<◌, arith, Bool, true, false, List, [], ◌∷◌, length, get_or, slice_get, Option, Some, None, option_map, Result, Ok, Err, refl, sym, ap, subst, set, slice_get-map, slice_get_past, slice_get_read, IfErr, OnOk, Error, Sections, UnitRecord, Scope, FramesStop, ReadingDepth, UnitCache, EntriesCache, first_answer_of, has_entries, known_by, known_in, HaveSameLines, answers_in, is_decided, was_checked, FindsNothing, LookupStop, answer_of, IsReadyFor, parse_of_takes_memory, parse_takes_memory, read_of_number, read_of_unit, is_open_at, AreUnits, as_units_state, UnitsState, FirstAnswers, is_open}
 use Rattle.std.specs.Prelude.{IfSome, unwrap_or}
 use Rattle.addr2line_units.specs.ParsesAfter.{AfterReadingAt, AfterReadingUnit}
 use Rattle.addr2line_units.specs.EntriesStayKnown.{IsReadBy, StaysKnownOf}
@@ -104,8 +104,8 @@ module _ {R : Type 0} {scope : Scope} {held : List (UnitCache R)} {last : Frames
       no_memory = λ takes. tt;
     }
 
-  module _ {u : UnitRecord} (there : slice_get us n ≡ Some u) {c : UnitCache R} (at : c ≡ get_or held n c) {w : UnitEntries R} {result : Result (Unit {0}) Error} (a : AfterReadingUnit shares depth scope u result c.entries w) where
-    abbrev v : UnitEntries R
+  module _ {u : UnitRecord} (there : slice_get us n ≡ Some u) {c : UnitCache R} (at : c ≡ get_or held n c) {w : EntriesCache R} {result : Result (Unit {0}) Error} (a : AfterReadingUnit shares depth scope u result c.entries w) where
+    abbrev v : EntriesCache R
     v = c.entries
 
     abbrev with_entries : UnitCache R

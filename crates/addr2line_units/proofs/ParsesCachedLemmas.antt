@@ -1,6 +1,6 @@
 -- What is cached of the entries of a unit, and read of them, in a parse of functions (on
 -- specs/ParsesAfter.antt).
-use Rattle.addr2line_units.proofs.Common.{◌≡◌, ℕ, zero, suc, ◌<◌, Bool, true, false, not, ◌&&◌, ◌||◌, List, [], ◌∷◌, length, get_or, slice_get, Option, Some, None, Result, Ok, Err, is_ok, is_some, refl, ap, sym, subst, ◌∙◌, arith, set, OnOk, AllByRecursion, Error, ◌>>=◌, ExactlyUnlessOomIf, fault_of, UnitRecord, Detail, FunctionRange, entries_of, functions_of, CachedFunction, HasDetail, IsDetailOf, details_fault, details_take_memory, read_fault, Scope, LazyFunctions, ReadingDepth, UnitCache, UnitEntries, answer_of, parse_of_takes_memory, parse_takes_memory, read_of_functions, read_of_number, read_of_unit, read_of_view, StayEntries, first_answer_of, AreFunctionsOf, StayFunctions, details_at, functions_fault, cached_functions, is_cached_fault, reading_takes_memory, were_read, answers_in, known_functions, View, view_scope}
+use Rattle.addr2line_units.proofs.Common.{◌≡◌, ℕ, zero, suc, ◌<◌, Bool, true, false, not, ◌&&◌, ◌||◌, List, [], ◌∷◌, length, get_or, slice_get, Option, Some, None, Result, Ok, Err, is_ok, is_some, refl, ap, sym, subst, ◌∙◌, arith, set, OnOk, AllByRecursion, Error, ◌>>=◌, ExactlyUnlessOomIf, fault_of, UnitRecord, Detail, FunctionRange, entries_of, functions_of, CachedFunction, HasDetail, IsDetailOf, details_fault, details_take_memory, read_fault, Scope, LazyFunctions, ReadingDepth, UnitCache, EntriesCache, answer_of, parse_of_takes_memory, parse_takes_memory, read_of_functions, read_of_number, read_of_unit, read_of_view, StayEntries, first_answer_of, AreFunctionsOf, StayFunctions, details_at, functions_fault, cached_functions, is_cached_fault, reading_takes_memory, were_read, answers_in, known_functions, View, view_scope}
 use Rattle.addr2line_lines.specs.Details.{detail_takes_memory as takes}
 use Rattle.addr2line_units.specs.declared.entries.LazyFunctions.TheVariants as lazy
 use Rattle.addr2line_units.specs.declared.parses.ReadingDepth.TheVariants as depths
@@ -78,9 +78,9 @@ pub view_read : (r : ReadingDepth) (scope : Scope) (view : View) (inner : Scope)
 view_read r scope view inner x unit leads = ap (λ (s : Scope). read_of_functions r s view.unit) (sym leads) ∙ ap (read_of_functions r inner) unit
 
 -- entries that were decided stay where functions of their view are read
-pub entries_then : {R : Type 0} (v mid : UnitEntries R) (f : LazyFunctions R) → mid ≡ v → StayFunctions mid.functions f → StayEntries v (record { view = mid.view; functions = f })
+pub entries_then : {R : Type 0} (v mid : EntriesCache R) (f : LazyFunctions R) → mid ≡ v → StayFunctions mid.functions f → StayEntries v (record { view = mid.view; functions = f })
 entries_then {R} v mid f same stay =
-    subst (λ (x : UnitEntries R). StayEntries x (record { view = mid.view; functions = f })) same (record { answer = refl; view = λ e. refl; functions = stay })
+    subst (λ (x : EntriesCache R). StayEntries x (record { view = mid.view; functions = f })) same (record { answer = refl; view = λ e. refl; functions = stay })
 
 -- what is read of the unit of a number
 pub number_is : {R : Type 0} (r : ReadingDepth) (scope : Scope) (us : List UnitRecord) (vs : List (UnitCache R)) (n : ℕ) (u : UnitRecord) (v : UnitCache R) → n < length us → n < length vs → u ≡ get_or us n u → v ≡ get_or vs n v

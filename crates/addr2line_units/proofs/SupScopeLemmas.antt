@@ -1,6 +1,6 @@
 -- The units that references lead to in a context, and what is cached of their entries at first (on
 -- specs/UnitsIndexLaws.antt, specs/FramesLookup.antt and specs/UnitsCached.antt).
-use Rattle.addr2line_units.proofs.Common.{◌≡◌, ◌∙◌, ap, sym, refl, subst, Bool, true, false, List, [], ◌∷◌, ◌++◌, filter_map, map, Option, Some, None, option_map, is_some, IfSome, IfOk, Result, Ok, Err, if◌then◌else◌, DwLang, Error, Range, Costed, free, ◌>>=◌, result_map, UnitHeaderFields, Sections, SupSections, UnitRecord, unit_record_of, all_headers, read_all, AreInOrder, IsFileInOrder, IsScope, Scope, UnitArange, UnitCache, UnitEntries, ViewState, HaveLinesOf, indexed_units, main_scope, AreEntriesOf, AreFresh, first_answer_of, AreFunctionsOf, AreFreshOf, HaveEntriesOf, answers_in, answer_in, verdict_in, was_checked, by_abbreviations, units_of, aranges_in, indexed_of, unit_records, RangedUnit, listed_in_unit, is_type_unit, ranged_units, unit_ranges_from, unit_of_header, unless_faulty, FirstAnswers, View, verdict, view_scope}
+use Rattle.addr2line_units.proofs.Common.{◌≡◌, ◌∙◌, ap, sym, refl, subst, Bool, true, false, List, [], ◌∷◌, ◌++◌, filter_map, map, Option, Some, None, option_map, is_some, IfSome, IfOk, Result, Ok, Err, if◌then◌else◌, DwLang, Error, Range, Costed, free, ◌>>=◌, result_map, UnitHeaderFields, Sections, SupSections, UnitRecord, unit_record_of, all_headers, read_all, AreInOrder, IsFileInOrder, IsScope, Scope, UnitArange, UnitCache, EntriesCache, ViewState, HaveLinesOf, indexed_units, main_scope, AreEntriesOf, AreFresh, first_answer_of, AreFunctionsOf, AreFreshOf, HaveEntriesOf, answers_in, answer_in, verdict_in, was_checked, by_abbreviations, units_of, aranges_in, indexed_of, unit_records, RangedUnit, listed_in_unit, is_type_unit, ranged_units, unit_ranges_from, unit_of_header, unless_faulty, FirstAnswers, View, verdict, view_scope}
 use Rattle.std.specs.Prelude.{option_to_list}
 use Rattle.std.specs.Result.{result_ok}
 use Rattle.gimli.proofs.HeaderOrder.{headers_in_order}
@@ -152,7 +152,7 @@ no_verdict d u (states.Unnamed f) e = absurd cc
 no_verdict d u (states.Answered a) e = absurd cc
 
 -- what nobody has asked for is that of every unit
-fresh_are_of : {R : Type 0} (scope : Scope) (u : UnitRecord) (v : UnitEntries R) → IsScope scope → AreFresh v → AreEntriesOf scope u v
+fresh_are_of : {R : Type 0} (scope : Scope) (u : UnitRecord) (v : EntriesCache R) → IsScope scope → AreFresh v → AreEntriesOf scope u v
 fresh_are_of {R} scope u v order fresh = record {
   in_order = order;
   view = record {

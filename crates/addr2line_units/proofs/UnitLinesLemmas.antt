@@ -1,5 +1,5 @@
 -- The cached lines of a unit (on specs/UnitLinesCached.antt and specs/CacheAfter.antt).
-use Rattle.addr2line_units.proofs.Common.{◌≡◌, ◌≢◌, ◌∙◌, ℕ, ap, Bool, true, false, refl, Result, Ok, Err, Some, subst, sym, false≢true, Error, OutOfMemory, Exactly, ExactlyUnlessOom, ◌>>=◌, Sections, UnitRecord, LineTable, location_at, unit_lines, LazyLines, UnitLines, AreLinesOf, cached_lines, cached_lines_result, is_uncached, lines_result, lines_take_memory, IndexedUnit, location_in}
+use Rattle.addr2line_units.proofs.Common.{◌≡◌, ◌≢◌, ◌∙◌, ℕ, ap, Bool, true, false, refl, Result, Ok, Err, Some, subst, sym, false≢true, Error, OutOfMemory, Exactly, ExactlyUnlessOom, ◌>>=◌, Sections, UnitRecord, LineTable, location_at, unit_lines, LazyLines, LinesCache, AreLinesOf, cached_lines, cached_lines_result, is_uncached, lines_result, lines_take_memory, IndexedUnit, location_in}
 use Rattle.addr2line_units.specs.CacheAfter.{AfterLinesOf}
 use Rattle.addr2line_units.specs.declared.unit.LazyLines.TheVariants.{Unread, Absent, Read, Faulty}
 
@@ -25,7 +25,7 @@ lines_fault d probe x e h = by (unit_lines d x.unit) refl h
     by (Ok table) q k = absurd cc
     by (Err y) q k = let same : y ≡ e = cc in ap (λ (r : Result LineTable Error). r >>= λ table. Ok (location_at probe table)) q ∙ ap (λ z. Err z) same
 
-module _ {shares : Bool} {d : Sections} {u : UnitRecord} {old new : UnitLines} where
+module _ {shares : Bool} {d : Sections} {u : UnitRecord} {old new : LinesCache} where
   -- what a call leaves is left by the calls above it
   pub lines_refused : {X Y : Type 0} (e : Error) → AfterLinesOf {X = X} shares d u (Err e) old new → AfterLinesOf {X = Y} shares d u (Err e) old new
   lines_refused e a = record { right = a.right; stay = a.stay; known = a.known; memory = a.memory; no_memory = a.no_memory }
@@ -43,7 +43,7 @@ module _ {shares : Bool} {d : Sections} {u : UnitRecord} {old new : UnitLines} w
       (λ _. is, record { right = a.right; stay = a.stay; known = (λ _. a.known, λ oom. absurd (ne oom)); memory = λ _. ne; no_memory = λ _. is })
 
 -- lines that weren't cached were parsed, or memory was refused
-module _ (shares : Bool) (d : Sections) (u : UnitRecord) (old : UnitLines) where
+module _ (shares : Bool) (d : Sections) (u : UnitRecord) (old : LinesCache) where
   pub parsed_after : (l : LazyLines) → is_uncached old.lines ≡ true → AreLinesOf d u l → is_uncached l ≡ false → AfterLinesOf {X = Unit {0}} shares d u (Ok tt) old (record { lang = old.lang; lines = l })
   parsed_after l uncached right known = record {
     right = right;

@@ -1,5 +1,5 @@
 -- The views of units (on specs/UnitView.antt and specs/UnitViewCached.antt).
-use Rattle.addr2line_units.proofs.Common.{◌≡◌, ◌≢◌, ◌∙◌, ℕ, ap, sym, refl, subst, not, ⊎_elim, ◌||◌, Bool, true, false, List, [], ◌∷◌, Option, Some, None, is_some, is_none, option_map, IfSome, IfOk, Result, Ok, Err, if◌then◌else◌, Error, OutOfMemory, ◌>>=◌, fault_of, Section, Sections, UnitHeaderFields, UnitRecord, attr_string_of, unit_record_of, all_headers, IsScope, Scope, UnitView, ViewState, IsViewOf, answer_in, scope_by, answer_of_view, as_sections, split_file_by, split_file_in, split_unit, unboxed, verdict_in, view_by, waits, SplitLoad, View, answered_view, first_of, first_takes_memory, first_unit, first_unit_takes_memory, first_view, load_by, load_of_unit, main_view, split_name_of, verdict, verdict_by, view_scope, memory_or_not}
+use Rattle.addr2line_units.proofs.Common.{◌≡◌, ◌≢◌, ◌∙◌, ℕ, ap, sym, refl, subst, not, ⊎_elim, ◌||◌, Bool, true, false, List, [], ◌∷◌, Option, Some, None, is_some, is_none, option_map, IfSome, IfOk, Result, Ok, Err, if◌then◌else◌, Error, OutOfMemory, ◌>>=◌, fault_of, Section, Sections, UnitHeaderFields, UnitRecord, attr_string_of, unit_record_of, all_headers, IsScope, Scope, UnitView, ViewState, IsViewOf, answer_in, answer_of_view, as_sections, split_file_by, split_file_in, split_unit, unboxed, verdict_in, view_by, waits, SplitLoad, View, answered_view, first_of, first_takes_memory, first_unit, first_unit_takes_memory, first_view, load_by, load_of_unit, main_view, split_name_of, verdict, verdict_by, view_scope, memory_or_not}
 use Rattle.gimli_read.specs.declared.value.AttributeValue.{AttributeValue}
 use Rattle.gimli.specs.declared.unit.DwoId.{DwoId}
 use Rattle.gimli.specs.Split.{dwo_name_fault, dwo_name_of, relocated, string_fault_if}
@@ -171,6 +171,12 @@ faultless_by d n u (Err x) (Some id) e h k = cc
 pub open_has_no_fault : (d : Sections) (n : ℕ) (u : UnitRecord) (e : Error) → verdict d u None ≡ None → load_of_unit d n u ≢ Err e
 unfolding load_of_unit
 open_has_no_fault d n u e h = faultless_by d n u (split_name_of d u) u.dwo_id e h
+
+-- where references lead from a view in a split file, if it is in one
+abbrev scope_by : Scope → Option Sections → Scope
+scope_by scope None = scope
+scope_by scope (Some split) =
+    record { file = record { sections = split; units = [] }; sup = scope.sup }
 
 unanswered_scope : (scope : Scope) (d : Sections) (u : UnitRecord) (load : Result (Option SplitLoad) Error) → IfSome (verdict_by d u load None) (λ view. IfOk view (λ v. scope ≡ view_scope scope v))
 unanswered_scope scope d u (Err e) = tt

@@ -1,6 +1,6 @@
 -- The unit of a number, what is cached of it, and the units when that is put back (on
 -- specs/UnitsStored.antt).
-use Rattle.addr2line_units.proofs.Common.{◌≡◌, ℕ, ◌<◌, nat_lt, ltb-false, ltb-true, true, false, List, length, get_or, slice_get, Some, None, refl, sym, ap, subst, ◌∙◌, set, length-map, get_or_from_slice_get, slice_get_past, slice_get_read, slice_get_within, UnitRecord, Scope, FramesStop, UnitLines, UnitCache, UnitEntries, CountsUnits, AreEntriesOf, first_answer_of, IsLendable, known_by, AreLinesOf, HaveLinesOf, is_parsed, HaveEntriesOf, IsCacheOf, LookupStop, AreUnits, as_units_state}
+use Rattle.addr2line_units.proofs.Common.{◌≡◌, ℕ, ◌<◌, nat_lt, ltb-false, ltb-true, true, false, List, length, get_or, slice_get, Some, None, refl, sym, ap, subst, ◌∙◌, set, length-map, get_or_from_slice_get, slice_get_past, slice_get_read, slice_get_within, UnitRecord, Scope, FramesStop, LinesCache, UnitCache, EntriesCache, CountsUnits, AreEntriesOf, first_answer_of, IsLendable, known_by, AreLinesOf, HaveLinesOf, is_parsed, HaveEntriesOf, IsCacheOf, LookupStop, AreUnits, as_units_state}
 use Rattle.addr2line_units.specs.declared.frames.FramesStop.TheVariants as stops
 use Rattle.addr2line_units.proofs.UnitsCachedLemmas.{as_many_entries, cache_set, entries_at, entries_right, lines_right}
 use Rattle.addr2line_units.proofs.UnitsLinesLemmas.{as_many_indexed, own_at}
@@ -71,8 +71,8 @@ module _ {R : Type 0} {scope : Scope} {held : List (UnitCache R)} {last : Frames
     }
 
     module _ {c : UnitCache R} (at : c ≡ get_or held n c) where
-      pub units_with_entries : (w : UnitEntries R) → AreEntriesOf scope u w → AreUnits scope (set held n (record c { entries = w })) stops.FindsNothing
+      pub units_with_entries : (w : EntriesCache R) → AreEntriesOf scope u w → AreUnits scope (set held n (record c { entries = w })) stops.FindsNothing
       units_with_entries w entries = units_with (record c { entries = w }) {stop = stops.FindsNothing} (record { lines = its_lines at; entries = entries }) tt
 
-      pub units_with_lines : (l : UnitLines) → AreLinesOf scope.file.sections u l.lines → AreUnits scope (set held n (record c { lines = l })) stops.FindsNothing
+      pub units_with_lines : (l : LinesCache) → AreLinesOf scope.file.sections u l.lines → AreUnits scope (set held n (record c { lines = l })) stops.FindsNothing
       units_with_lines l lines = units_with (record c { lines = l }) {stop = stops.FindsNothing} (record { lines = lines; entries = its_entries at }) tt

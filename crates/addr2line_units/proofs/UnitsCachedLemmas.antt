@@ -1,6 +1,6 @@
 -- What is cached of the entries of all units, one unit after another (on specs/EntriesCached.antt
 -- and specs/UnitsCached.antt).
-use Rattle.addr2line_units.proofs.Common.{◌≡◌, ◌≢◌, ℕ, zero, suc, ◌<◌, inl, inr, true, List, [], ◌∷◌, length, get_or, slice_get, Option, Some, None, option_and_then, Result, Ok, Err, refl, ap, sym, subst, ◌∙◌, arith, set, AllZip, Error, UnitRecord, Detail, CachedFunction, FunctionTable, cached_detail, function_place_at, IsFunctionMore, IsTableMore, Scope, LazyFunctions, UnitCache, UnitEntries, ViewState, AreEntriesOf, ReadsEntriesOf, StayEntries, has_answered, has_entries, has_entries_by, first_answer_of, StayFunctions, has_detail, cached_has_function, has_place, cached_functions, no_functions, known_by, known_in, HaveLinesOf, HaveSameEntries, indexed_unit, indexed_units, is_parsed, parsed_units, HaveCachesOf, HaveEntriesOf, HaveSameLines, IsCacheOf, ReadsOnly, StayAllEntries, answers_in, has_entries_at, was_checked, functions_same}
+use Rattle.addr2line_units.proofs.Common.{◌≡◌, ◌≢◌, ℕ, zero, suc, ◌<◌, inl, inr, true, List, [], ◌∷◌, length, get_or, slice_get, Option, Some, None, option_and_then, Result, Ok, Err, refl, ap, sym, subst, ◌∙◌, arith, set, AllZip, Error, UnitRecord, Detail, CachedFunction, FunctionTable, cached_detail, function_place_at, IsFunctionMore, IsTableMore, Scope, LazyFunctions, UnitCache, EntriesCache, ViewState, AreEntriesOf, ReadsEntriesOf, StayEntries, has_answered, has_entries, has_entries_by, first_answer_of, StayFunctions, has_detail, cached_has_function, has_place, cached_functions, no_functions, known_by, known_in, HaveLinesOf, HaveSameEntries, indexed_unit, indexed_units, is_parsed, parsed_units, HaveCachesOf, HaveEntriesOf, HaveSameLines, IsCacheOf, ReadsOnly, StayAllEntries, answers_in, has_entries_at, was_checked, functions_same}
 use Rattle.std.specs.Prelude.{IfSome}
 use Rattle.addr2line_lines.proofs.NestingLemmas.{grown_not}
 use Rattle.addr2line_units.specs.declared.entries.LazyFunctions.TheVariants as lazy
@@ -34,7 +34,7 @@ module _ {R : Type 0} where
   stays_same (lazy.Read t) = record { ranges = refl; functions = functions_same t.value.functions; inlined = grown_not t.value.inlined; names = grown_not t.value.names }
   stays_same (lazy.Faulty e) = refl
 
-  pub entries_same : (v : UnitEntries R) → StayEntries v v
+  pub entries_same : (v : EntriesCache R) → StayEntries v v
   entries_same v = record { answer = refl; view = λ e. refl; functions = stays_same v.functions }
 
   pub stay_entries : (vs : List (UnitCache R)) → StayAllEntries vs vs
@@ -108,7 +108,7 @@ module _ {R : Type 0} where
   checked_by probe (states.Unnamed x) f e = refl
   checked_by probe (states.Answered x) f e = refl
 
-  pub entries_more : (probe : ℕ) (v w : UnitEntries R) → StayEntries v w → has_entries probe v ≡ true → has_entries probe w ≡ true
+  pub entries_more : (probe : ℕ) (v w : EntriesCache R) → StayEntries v w → has_entries probe v ≡ true → has_entries probe w ≡ true
   entries_more probe v w a e = ap (λ y. has_entries_by probe y.state w.functions) (a.view (checked_by probe v.view.state v.functions e)) ∙ entries_more_by probe v.view.state v.functions w.functions a.functions e
 
   pub entries_more_at : (probe : ℕ) (vs ws : List (UnitCache R)) → StayAllEntries vs ws → (n : ℕ) → has_entries_at probe vs n ≡ true → has_entries_at probe ws n ≡ true
@@ -128,7 +128,7 @@ module _ {R : Type 0} where
   place_after probe (lazy.Read t) (lazy.Faulty x) a n ne = absurd a
   place_after probe (lazy.Faulty x) g a n ne = none_at probe n
 
-  reads_on : (probe : ℕ) (v w x : UnitEntries R) → StayEntries w x → ReadsEntriesOf probe v w → ReadsEntriesOf probe w x → ReadsEntriesOf probe v x
+  reads_on : (probe : ℕ) (v w x : EntriesCache R) → StayEntries w x → ReadsEntriesOf probe v w → ReadsEntriesOf probe w x → ReadsEntriesOf probe v x
   reads_on probe v w x stay a b = record {
     alone = λ n ne. b.alone n ne ∙ a.alone n (place_after probe w.functions x.functions stay.functions n ne);
     kept = λ e. b.kept (ap (has_entries probe) (a.kept e) ∙ e) ∙ a.kept e;
@@ -247,4 +247,4 @@ module _ {R : Type 0} where
   known_by_entries [] [] a = refl
   known_by_entries [] (d ∷ ds) a = absurd a
   known_by_entries (c ∷ cs) [] a = absurd a
-  known_by_entries (c ∷ cs) (d ∷ ds) a = ap (λ (v : UnitEntries R). known_by v.view.state v.functions ∷ known_in ds) a.0 ∙ ap (λ xs. known_by c.entries.view.state c.entries.functions ∷ xs) (known_by_entries cs ds a.1)
+  known_by_entries (c ∷ cs) (d ∷ ds) a = ap (λ (v : EntriesCache R). known_by v.view.state v.functions ∷ known_in ds) a.0 ∙ ap (λ xs. known_by c.entries.view.state c.entries.functions ∷ xs) (known_by_entries cs ds a.1)

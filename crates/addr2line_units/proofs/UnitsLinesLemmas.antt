@@ -1,6 +1,6 @@
 -- The units of a context whose lines are cached one after another (on specs/UnitLinesCached.antt and
 -- specs/LocationsParsed.antt).
-use Rattle.addr2line_units.proofs.Common.{◌≡◌, ℕ, zero, suc, ◌+◌, ◌-◌, ◌≤◌, ◌<◌, Bool, true, false, not, ◌||◌, List, [], ◌∷◌, ◌++◌, length, map, drop, add-one, get_or, Option, Some, None, slice_get, Result, Ok, Err, is_ok, refl, sym, ap, subst, arith, ◌∙◌, ◌⊎◌, inl, inr, drop_of_length-le, set, Error, Range, ◌>>=◌, ExactlyUnlessOom, fault_of, result_map, WasNotRefused, Sections, UnitRecord, LineTable, read_all, unit_lines, LazyLines, UnitLines, UnitCache, UnitRange, IndexedUnit, has_lines, range_of_unit, unit_ranges, all_lines, lines_of_unit, steps_along, steps_in, lines_of_take_memory, AllAskFor, AreParsed, AreReadyForAll, ParsesOnly, StaysParsed, TakeNone, TakeNoneForAll, can_be_read, has_parsed, parses_no_memory, AreLinesOf, CachesResult, HaveLinesOf, StayUnits, StaysUnit, indexed_unit, indexed_units, is_parsed, is_uncached, lines_result, lines_result_at, lines_at, parsed_units}
+use Rattle.addr2line_units.proofs.Common.{◌≡◌, ℕ, zero, suc, ◌+◌, ◌-◌, ◌≤◌, ◌<◌, Bool, true, false, not, ◌||◌, List, [], ◌∷◌, ◌++◌, length, map, drop, add-one, get_or, Option, Some, None, slice_get, Result, Ok, Err, is_ok, refl, sym, ap, subst, arith, ◌∙◌, ◌⊎◌, inl, inr, drop_of_length-le, set, Error, Range, ◌>>=◌, ExactlyUnlessOom, fault_of, result_map, WasNotRefused, Sections, UnitRecord, LineTable, read_all, unit_lines, LazyLines, LinesCache, UnitCache, UnitRange, IndexedUnit, has_lines, range_of_unit, unit_ranges, all_lines, lines_of_unit, steps_along, steps_in, lines_of_take_memory, AllAskFor, AreParsed, AreReadyForAll, ParsesOnly, StaysParsed, TakeNone, TakeNoneForAll, can_be_read, has_parsed, parses_no_memory, AreLinesOf, CachesResult, HaveLinesOf, StayUnits, StaysUnit, indexed_unit, indexed_units, is_parsed, is_uncached, lines_result, lines_result_at, lines_at, parsed_units}
 use Rattle.std.proofs.lemmas.List.{append-nil}
 use Rattle.std.proofs.lemmas.List.Sums.{sum_by-cons}
 use Rattle.addr2line_units.specs.UnitsIndexed.{IndexState, appended, ranged_seen}
@@ -132,7 +132,7 @@ parsed_push : {R : Type 0} (rs : List (UnitCache R)) (r : UnitCache R) → parse
 parsed_push [] r = refl
 parsed_push (y ∷ rs) r = ap (λ bs. is_parsed y.lines ∷ bs) (parsed_push rs r)
 
-pub pushed : {R : Type 0} (d : Sections) (us : List UnitRecord) (rs : List (UnitCache R)) (u : UnitRecord) (old : UnitLines) (new : UnitCache R) (given : List Range) (ranges now : List UnitRange) → HaveLinesOf d us rs → new.lines.lang ≡ old.lang → is_parsed new.lines ≡ has_lines (ranged_seen u old given)
+pub pushed : {R : Type 0} (d : Sections) (us : List UnitRecord) (rs : List (UnitCache R)) (u : UnitRecord) (old : LinesCache) (new : UnitCache R) (given : List Range) (ranges now : List UnitRange) → HaveLinesOf d us rs → new.lines.lang ≡ old.lang → is_parsed new.lines ≡ has_lines (ranged_seen u old given)
     → now ≡ ranges ++ map (range_of_unit (length rs)) (unit_ranges d (ranged_seen u old given))
     → ◌≡◌ {A = IndexState} (record { units = indexed_units (us ++ u ∷ []) (rs ++ new ∷ []); ranges = now; parsed = parsed_units (rs ++ new ∷ []) })
     (appended d (record { units = indexed_units us rs; ranges = ranges; parsed = parsed_units rs }) (ranged_seen u old given ∷ []))

@@ -1,6 +1,6 @@
 -- What is answered, loaded, listed and forgotten of the unit of a number (on
 -- specs/UnitsAfter.antt and specs/UnitsStored.antt).
-use Rattle.addr2line_units.proofs.Common.{◌≡◌, inl, inr, ℕ, ◌<◌, ◌≤◌, true, false, List, length, get_or, slice_get, Option, Some, None, Result, Ok, Err, refl, sym, ap, ◌∙◌, arith, set, cases_eq, IfErr, OnOk, Error, UnknownToken, ◌>>=◌, Sections, UnitRecord, Scope, FramesStop, UnitCache, UnitEntries, first_answer_of, known_in, HaveSameLines, answers_in, decided_at, FindsNothing, LookupStop, answer_of, LearnsNoFunctions, is_open_at, load_of_number, load_result, view_fault, AreUnits, as_units_state, UnitsState, awaited_load, decided_answer, is_open, verdict, with_answer}
+use Rattle.addr2line_units.proofs.Common.{◌≡◌, inl, inr, ℕ, ◌<◌, ◌≤◌, true, false, List, length, get_or, slice_get, Option, Some, None, Result, Ok, Err, refl, sym, ap, ◌∙◌, arith, set, cases_eq, IfErr, OnOk, Error, UnknownToken, ◌>>=◌, Sections, UnitRecord, Scope, FramesStop, UnitCache, EntriesCache, first_answer_of, known_in, HaveSameLines, answers_in, decided_at, FindsNothing, LookupStop, answer_of, LearnsNoFunctions, is_open_at, load_of_number, load_result, view_fault, AreUnits, as_units_state, UnitsState, awaited_load, decided_answer, is_open, verdict, with_answer}
 use Rattle.std.specs.Prelude.{is_some}
 use Rattle.addr2line_units.specs.CacheAfter.{AfterAnswering, AfterCheck, AfterForgetting}
 use Rattle.addr2line_units.specs.UnitsAfter.{AfterAnswer, AfterForget, AfterListing, AfterLoad}
@@ -67,7 +67,7 @@ module _ {R : Type 0} {scope : Scope} {held : List (UnitCache R)} {last : Frames
 
   module _ {u : UnitRecord} (there : slice_get us n ≡ Some u) where
     module _ {c : UnitCache R} (at : c ≡ get_or held n c) where
-      abbrev v : UnitEntries R
+      abbrev v : EntriesCache R
       v = c.entries
 
       within : n < length held
@@ -92,7 +92,7 @@ module _ {R : Type 0} {scope : Scope} {held : List (UnitCache R)} {last : Frames
       refused_told given (Ok x) h = tt
       refused_told given (Err e) h = load_is given ∙ h
 
-      module _ (w : UnitEntries R) where
+      module _ (w : EntriesCache R) where
         abbrev with_entries : UnitCache R
         with_entries = record c { entries = w }
 

@@ -8,9 +8,9 @@ use Rattle.addr2line_lines.specs.FunctionDetails.{AreUnread}
 use Rattle.addr2line_units.specs.declared.entries.FunctionPlace.{FunctionPlace}
 use Rattle.addr2line_units.specs.declared.entries.LazyFunctions.{LazyFunctions}
 use Rattle.addr2line_units.specs.declared.entries.UnitCache.{UnitCache}
-use Rattle.addr2line_units.specs.declared.entries.UnitEntries.{UnitEntries}
+use Rattle.addr2line_units.specs.declared.entries.EntriesCache.{EntriesCache}
 use Rattle.addr2line_units.specs.declared.entries.UnitFrames.{UnitFrames}
-use Rattle.addr2line_units.specs.declared.unit.UnitLines.{UnitLines}
+use Rattle.addr2line_units.specs.declared.unit.LinesCache.{LinesCache}
 use Rattle.addr2line_units.specs.EntriesCached.{AreEntriesOf, AreFramesIn, AsksNoMemoryIn, HasAskedLines, ReadsEntriesOf, StayEntries, first_answer_of, has_entries}
 use Rattle.addr2line_units.specs.EntriesFrames.{HasFewInlined, asks_lines_in, frames_in, function_in, inlined_of_found}
 use Rattle.addr2line_units.specs.EntriesFunctions.{AreFunctionsOf, ArePlacesIn, ReadsNoOther, StayFunctions, cached_functions, cached_has_function, were_read}
@@ -28,7 +28,7 @@ use Rattle.addr2line_units.specs.UnitViewCached.{IsViewOf, answer_of_view, is_de
 -- refused they are cached, or their fault, and where they are, none was; where they take no memory
 -- a refusal is their fault
 pub record AfterLinesOf {X : Type 0} (shares : Bool) (d : Sections) (u : UnitRecord)
-    (result : Result X Error) (old new : UnitLines) : Type 0 where
+    (result : Result X Error) (old new : LinesCache) : Type 0 where
   pub right : AreLinesOf d u new.lines
   pub stay : StaysUnit old new
   pub known : CachesResult old.lines result new.lines
@@ -39,7 +39,7 @@ pub record AfterLinesOf {X : Type 0} (shares : Bool) (d : Sections) (u : UnitRec
 -- after the ranges that lead to a unit were read, of which these are listed: its lines are cached
 -- exactly where they are asked for, and what was cached stays; memory alone is refused
 pub record AfterLineRanges {X : Type 0} (d : Sections) (u : UnitRecord) (listed : List Range)
-    (result : Result X Error) (old new : UnitLines) : Type 0 where
+    (result : Result X Error) (old new : LinesCache) : Type 0 where
   pub right : AreLinesOf d u new.lines
   pub stay : StaysUnit old new
   pub known : OnOk result (is_parsed new ≡ has_lines (ranged_seen u old listed))
@@ -92,7 +92,7 @@ pub record AfterFunction {R : Type 0} (scope : Scope) (view : UnitRecord) (probe
 
 -- the same in the view of a unit; where the functions take no memory a refusal is the first fault
 pub record AfterFunctionIn {R : Type 0} (shares : Bool) (scope : Scope) (u : UnitRecord)
-    (probe : ℕ) (result : Result (Option FunctionPlace) Error) (old new : UnitEntries R)
+    (probe : ℕ) (result : Result (Option FunctionPlace) Error) (old new : EntriesCache R)
     : Type 0 where
   pub right : AreEntriesOf scope u new
   pub there : IfOk result (λ found. IfSome found (ArePlacesIn (cached_functions new.functions)))
@@ -131,7 +131,7 @@ pub record AfterViewForgetting {R : Type 0} (d : Sections) (u : UnitRecord) (old
 
 -- after a unit was looked at, unless that was done: what is cached is right, and stays, and no
 -- functions are read
-pub record AfterCheck {R : Type 0} (scope : Scope) (u : UnitRecord) (old new : UnitEntries R)
+pub record AfterCheck {R : Type 0} (scope : Scope) (u : UnitRecord) (old new : EntriesCache R)
     : Type 0 where
   pub right : AreEntriesOf scope u new
   pub known : was_checked new.view.state ≡ true
@@ -166,7 +166,7 @@ pub record AfterFramesIn {R : Type 0} (shares : Bool) (scope : Scope) (u : UnitR
 -- had; where memory was refused in the place of given sections, only that it was looked at may be
 -- new
 pub record AfterAnswering {R : Type 0} (scope : Scope) (u : UnitRecord) (given : Option Sections)
-    (result : Result (Unit {0}) Error) (old new : UnitEntries R) : Type 0 where
+    (result : Result (Unit {0}) Error) (old new : EntriesCache R) : Type 0 where
   pub right : AreEntriesOf scope u new
   pub answer : OnOk result (first_answer_of new
       ≡ decided_answer scope.file.sections u (first_answer_of old) given)
@@ -179,7 +179,7 @@ pub record AfterAnswering {R : Type 0} (scope : Scope) (u : UnitRecord) (given :
 
 -- after a unit was forgotten it has no answer, and where it had one, its functions weren't read;
 -- where it had none nothing is changed
-pub record AfterForgetting {R : Type 0} (scope : Scope) (u : UnitRecord) (old new : UnitEntries R)
+pub record AfterForgetting {R : Type 0} (scope : Scope) (u : UnitRecord) (old new : EntriesCache R)
     : Type 0 where
   pub right : AreEntriesOf scope u new
   pub answer : first_answer_of new ≡ None

@@ -8,8 +8,8 @@ use Rattle.addr2line_units.specs.Common.{Error, Sections, UnitRecord, location_o
 use Rattle.addr2line_units.specs.declared.entries.LazyFunctions.{LazyFunctions}
 use Rattle.addr2line_units.specs.declared.unit.LazyLines.{LazyLines}
 use Rattle.addr2line_units.specs.declared.unit.LazyLines.TheVariants as lines
-use Rattle.addr2line_units.specs.declared.unit.UnitLines.{UnitLines}
-use Rattle.addr2line_units.specs.declared.entries.UnitEntries.{UnitEntries}
+use Rattle.addr2line_units.specs.declared.unit.LinesCache.{LinesCache}
+use Rattle.addr2line_units.specs.declared.entries.EntriesCache.{EntriesCache}
 use Rattle.addr2line_units.specs.declared.entries.UnitFrames.{UnitFrames}
 use Rattle.addr2line_units.specs.declared.entries.UnitFrames.TheVariants as found
 use Rattle.addr2line_units.specs.declared.unit.ViewState.{ViewState}
@@ -23,12 +23,12 @@ use Rattle.addr2line_units.specs.EntriesFrames.{HasFewInlined, asks_lines_in}
 use Rattle.addr2line_units.specs.UnitView.{verdict, view_scope}
 
 -- the first answer of a unit
-abbrev pub first_answer_of : {R : Type 0} → UnitEntries R → Option (Option Sections)
+abbrev pub first_answer_of : {R : Type 0} → EntriesCache R → Option (Option Sections)
 first_answer_of v = answer_of_view v.view
 
 -- references lead from the unit to units in order; what is cached is the view of the unit and the
 -- functions of that view, which are read only where the view is known
-pub record AreEntriesOf {R : Type 0} (scope : Scope) (u : UnitRecord) (v : UnitEntries R)
+pub record AreEntriesOf {R : Type 0} (scope : Scope) (u : UnitRecord) (v : EntriesCache R)
     : Type 0 where
   pub in_order : IsScope scope
   pub view : IsViewOf scope.file.sections u v.view
@@ -37,12 +37,12 @@ pub record AreEntriesOf {R : Type 0} (scope : Scope) (u : UnitRecord) (v : UnitE
   pub unread : is_decided v.view.state ≡ false → were_read v.functions ≡ false
 
 -- nobody has asked for anything yet
-pub record AreFresh {R : Type 0} (v : UnitEntries R) : Type 0 where
+pub record AreFresh {R : Type 0} (v : EntriesCache R) : Type 0 where
   pub view : was_checked v.view.state ≡ false
   pub functions : were_read v.functions ≡ false
 
 -- the answer stays, and so does what is cached; more may be
-pub record StayEntries {R : Type 0} (old new : UnitEntries R) : Type 0 where
+pub record StayEntries {R : Type 0} (old new : EntriesCache R) : Type 0 where
   pub answer : first_answer_of new ≡ first_answer_of old
   pub view : was_checked old.view.state ≡ true → new.view ≡ old.view
   pub functions : StayFunctions old.functions new.functions
@@ -64,16 +64,16 @@ has_entries_by probe (states.Unnamed e) functions = is_cached_fault e
 has_entries_by probe (states.Answered a) functions = has_answered probe a.unit functions
 
 -- whether what a unit has at the probe is known by what is cached of its entries
-abbrev pub has_entries : {R : Type 0} → ℕ → UnitEntries R → Bool
+abbrev pub has_entries : {R : Type 0} → ℕ → EntriesCache R → Bool
 has_entries probe v = has_entries_by probe v.view.state v.functions
 
 -- no detail is read but that of the function at the probe, and nothing where all was cached
-pub record ReadsEntriesOf {R : Type 0} (probe : ℕ) (old new : UnitEntries R) : Type 0 where
+pub record ReadsEntriesOf {R : Type 0} (probe : ℕ) (old new : EntriesCache R) : Type 0 where
   pub alone : ReadsNoOther probe (cached_functions old.functions) (cached_functions new.functions)
   pub kept : has_entries probe old ≡ true → new ≡ old
 
 -- the frames of the function of a place and the row of an address, by what is cached
-abbrev pub frames_of_place : {R : Type 0} → UnitLines → UnitEntries R → UnitFrames
+abbrev pub frames_of_place : {R : Type 0} → LinesCache → EntriesCache R → UnitFrames
     → Option (List FrameRecord)
 frames_of_place u v found.Open = None
 frames_of_place u v (found.Here function row) =
@@ -89,7 +89,7 @@ AreRead _ = ⊥
 
 -- the places of a function and its inlined ones are among those that are cached, and the lines are
 -- read
-abbrev pub AreFramesIn : {R : Type 0} → UnitLines → UnitEntries R → UnitFrames → Type 0
+abbrev pub AreFramesIn : {R : Type 0} → LinesCache → EntriesCache R → UnitFrames → Type 0
 AreFramesIn u v found.Open = Unit {0}
 AreFramesIn u v (found.Here function row) =
     IfSome function (ArePlacesIn (cached_functions v.functions)) × AreRead u.lines
@@ -102,7 +102,7 @@ HasAskedLines scope u answer probe lines =
 -- a lookup of the probe takes no memory in a unit with this first answer: what it asks for is known
 -- by what is cached, or reading it takes none, and at most 16 inlined functions stand there
 pub record AsksNoMemoryIn {R : Type 0} (shares : Bool) (scope : Scope) (dw_unit : UnitRecord)
-    (answer : Option (Option Sections)) (probe : ℕ) (u : UnitLines) (v : UnitEntries R)
+    (answer : Option (Option Sections)) (probe : ℕ) (u : LinesCache) (v : EntriesCache R)
     : Type 0 where
   pub functions : functions_in_take_memory shares scope dw_unit answer ≡ true
       → has_entries probe v ≡ true

@@ -1,5 +1,5 @@
 -- The frames that lookups find in what is cached of units, as the private functions see them.
-use Rattle.std.specs.Prelude.{◌≡◌, ◌<◌, ℕ, Bool, true, ◌&&◌, ◌||◌, not, length, List, Option, Some, None, IfSome, option_map, slice_get, Result, Ok, Err}
+use Rattle.std.specs.Prelude.{◌≡◌, ◌<◌, ℕ, true, length, List, Option, Some, None, IfSome, option_map, slice_get, Result, Ok, Err}
 use Rattle.addr2line_units.specs.Common.{DwLang, Error, OutOfMemory, FunctionTable, location_of_row}
 use Rattle.addr2line_units.specs.declared.frames.OnFault.{OnFault}
 use Rattle.addr2line_units.specs.declared.frames.OnFault.TheVariants.{Skip}
@@ -9,13 +9,12 @@ use Rattle.addr2line_units.specs.declared.frames.FramesStop.TheVariants as stops
 use Rattle.addr2line_units.specs.declared.entries.UnitCache.{UnitCache}
 use Rattle.addr2line_units.specs.declared.entries.UnitFrames.{UnitFrames}
 use Rattle.addr2line_units.specs.declared.entries.UnitFrames.TheVariants as found
-use Rattle.addr2line_units.specs.UnitLinesCached.{cached_files, lines_at, parsed_units}
+use Rattle.addr2line_units.specs.UnitLinesCached.{cached_files, lines_at}
 use Rattle.addr2line_units.specs.Frames.{FrameRecord, found_frames}
 use Rattle.addr2line_units.specs.FramesLookup.{LookupStop, Waits, Finds, FindsNothing}
 use Rattle.addr2line_units.specs.EntriesFunctions.{ArePlacesIn, function_of_place, cached_functions, no_functions}
-use Rattle.addr2line_units.specs.LocationsParsed.{has_parsed}
 use Rattle.addr2line_units.specs.EntriesCached.{AreRead}
-use Rattle.addr2line_units.specs.UnitsCached.{has_entries_at, waits_at}
+use Rattle.addr2line_units.specs.UnitsCached.{waits_at}
 
 -- the functions that are cached of the unit of a number, none where there is no such unit
 abbrev pub functions_at : {R : Type 0} → List (UnitCache R) → ℕ → FunctionTable
@@ -47,38 +46,12 @@ pub record IsFramePlaceIn {R : Type 0} (caches : List (UnitCache R)) (p : FrameP
   pub function : IfSome p.function (ArePlacesIn (functions_at caches p.unit))
   pub lines : AreRead (lines_at caches p.unit)
 
--- the same of what a lookup comes to
-abbrev pub IsStopIn : {R : Type 0} → List (UnitCache R) → FramesStop → Type 0
-IsStopIn caches (stops.Finds p) = IsFramePlaceIn caches p
-IsStopIn caches _ = Unit {0}
-
 -- what a lookup comes to can be lent: the unit waits that it waits for, or the places of what it
 -- has found are among what is cached
 abbrev pub IsLendable : {R : Type 0} → List (UnitCache R) → FramesStop → Type 0
 IsLendable caches (stops.Waits n) = waits_at caches n ≡ true
 IsLendable caches (stops.Finds p) = IsFramePlaceIn caches p
 IsLendable caches stops.FindsNothing = Unit {0}
-
--- whether what the unit of a number has at the probe is known by what is cached of its entries, and
--- its lines too if they are asked for
-abbrev pub has_frames_at : {R : Type 0} → (ℕ → Bool) → ℕ → List (UnitCache R) → ℕ → Bool
-has_frames_at asks_lines probe caches n =
-    has_entries_at probe caches n && (not (asks_lines n) || has_parsed (parsed_units caches) n)
-
--- what the unit of a number has at an address, by what is cached
-abbrev pub frames_found_at : {R : Type 0} → List (UnitCache R) → ℕ → UnitFrames
-    → Option (List FrameRecord)
-frames_found_at caches n found.Open = None
-frames_found_at caches n (found.Here function row) = Some (frames_at_place caches
-    (record { unit = n; function = function; row = row }))
-
--- the places that were found are among what is cached of the unit, as far as something was found
-abbrev pub AreFoundAt : {R : Type 0} → List (UnitCache R) → ℕ → UnitFrames → Type 0
-AreFoundAt caches n (found.Here (Some function) row) = IsFramePlaceIn caches
-    (record { unit = n; function = Some function; row = row })
-AreFoundAt caches n (found.Here None (Some row)) = IsFramePlaceIn caches
-    (record { unit = n; function = None; row = Some row })
-AreFoundAt caches n _ = Unit {0}
 
 -- a fault as it is, or nothing in its place where a lookup passes over it
 abbrev pub found_after_fault : OnFault → Result UnitFrames Error → Result UnitFrames Error

@@ -5,7 +5,7 @@ use Rattle.addr2line_units.specs.Common.{Error, WasNotRefused, UnitRecord, funct
 use Rattle.addr2line_units.specs.declared.entries.LazyFunctions.{LazyFunctions}
 use Rattle.addr2line_units.specs.declared.parses.ReadingDepth.{ReadingDepth}
 use Rattle.addr2line_units.specs.declared.parses.ReadingDepth.TheVariants as depths
-use Rattle.addr2line_units.specs.declared.entries.UnitEntries.{UnitEntries}
+use Rattle.addr2line_units.specs.declared.entries.EntriesCache.{EntriesCache}
 use Rattle.addr2line_units.specs.declared.unit.UnitView.{UnitView}
 use Rattle.addr2line_units.specs.UnitsAfter.{StayRead}
 use Rattle.addr2line_units.specs.EntriesMemory.{functions_in_take_memory}
@@ -73,7 +73,7 @@ pub record AfterReadingView {R : Type 0} (shares : Bool) (depth : ReadingDepth)
 -- may be
 pub record AfterReadingUnit {R : Type 0} (shares : Bool) (depth : ReadingDepth)
     (scope : Scope) (u : UnitRecord) (result : Result (Unit {0}) Error)
-    (old new : UnitEntries R) : Type 0 where
+    (old new : EntriesCache R) : Type 0 where
   pub right : AreEntriesOf scope u new
   pub answer : WasNotRefused result → first_answer_of new
       ≡ decided_answer scope.file.sections u (first_answer_of old) None

@@ -11,7 +11,7 @@ use Rattle.addr2line_lines.specs.Counts.{most_steps_in}
 use Rattle.addr2line_lines.specs.Spans.{row_at}
 use Rattle.addr2line_units.specs.declared.unit.LazyLines.{LazyLines}
 use Rattle.addr2line_units.specs.declared.unit.LazyLines.TheVariants.{Unread, Absent, Read, Faulty}
-use Rattle.addr2line_units.specs.declared.unit.UnitLines.{UnitLines}
+use Rattle.addr2line_units.specs.declared.unit.LinesCache.{LinesCache}
 use Rattle.addr2line_units.specs.declared.entries.UnitCache.{UnitCache}
 use Rattle.addr2line_units.specs.UnitsRanged.{IndexedUnit}
 use Rattle.addr2line_units.specs.Locations.{all_read}
@@ -45,10 +45,6 @@ cached_lines_result (Faulty e) = Err e
 abbrev pub is_uncached : LazyLines → Bool
 is_uncached Unread = true
 is_uncached _ = false
-
--- what is cached stays as it is: a parse, and a fault too
-abbrev pub LinesStayCached : LazyLines → LazyLines → Type 0
-LinesStayCached old new = is_uncached old ≡ false → new ≡ old
 
 -- after an answer the lines are cached, or their fault; after OutOfMemory they are as before
 abbrev pub CachesResult : {X : Type 0} → LazyLines → Result X Error → LazyLines → Type 0
@@ -89,15 +85,15 @@ cached_spans range low high (Read lines) =
 cached_spans range low high (Faulty e) = Err e ∷ []
 
 -- a unit and its language
-abbrev pub indexed_unit : UnitRecord → UnitLines → IndexedUnit
+abbrev pub indexed_unit : UnitRecord → LinesCache → IndexedUnit
 indexed_unit dw_unit u = record { unit = dw_unit; language = u.lang }
 
 -- whether the lines of a unit are parsed
-abbrev pub is_parsed : UnitLines → Bool
+abbrev pub is_parsed : LinesCache → Bool
 is_parsed u = not (is_uncached u.lines)
 
 -- the lines of a unit that was just read are not parsed, unless it has no line program
-pub record IsUnparsed (d : Sections) (dw_unit : UnitRecord) (u : UnitLines) : Type 0 where
+pub record IsUnparsed (d : Sections) (dw_unit : UnitRecord) (u : LinesCache) : Type 0 where
   pub uncached : is_uncached u.lines ≡ is_some dw_unit.line_program
   pub lines : AreLinesOf d dw_unit u.lines
 
@@ -126,17 +122,9 @@ abbrev pub lines_at : {R : Type 0} → List (UnitCache R) → ℕ → LazyLines
 lines_at caches n = lines_in_cache (slice_get caches n)
 
 -- the language of a unit stays, and so do its cached lines or their fault
-pub record StaysUnit (old new : UnitLines) : Type 0 where
+pub record StaysUnit (old new : LinesCache) : Type 0 where
   pub language : new.lang ≡ old.lang
-  pub lines : LinesStayCached old.lines new.lines
-
--- the same of each unit
-abbrev pub StayUnits : {R : Type 0} → List (UnitCache R) → List (UnitCache R) → Type 0
-StayUnits old new = AllZip (λ a b. StaysUnit a.lines b.lines) old new
-
--- what is cached of the entries of each unit is the same
-abbrev pub HaveSameEntries : {R : Type 0} → List (UnitCache R) → List (UnitCache R) → Type 0
-HaveSameEntries old new = AllZip (λ a b. b.entries ≡ a.entries) old new
+  pub lines : is_uncached old.lines ≡ false → new.lines ≡ old.lines
 
 -- the fault of the lines of a unit, if there is such a unit and they have one
 abbrev pub lines_result_at : Sections → Option IndexedUnit → Result (Unit {0}) Error

@@ -1,9 +1,9 @@
 -- What is cached of a unit's view, as the private functions see it.
 -- Own: whether a unit needs an answer is cached once it was looked at. Its first answer is stored,
 -- and what it decides is cached, until the unit is forgotten. OutOfMemory is never cached.
-use Rattle.std.specs.Prelude.{◌≡◌, Bool, true, false, [], is_some, Option, Some, None, option_map, IfSome, Result, Ok, Err, Box, box_value}
+use Rattle.std.specs.Prelude.{◌≡◌, Bool, true, false, is_some, Option, Some, None, option_map, IfSome, Result, Ok, Err, Box, box_value}
 use Rattle.std.specs.declared.alloc.Global.{Global}
-use Rattle.addr2line_units.specs.Common.{Error, ◌>>=◌, result_map, Sections, UnitRecord, Scope}
+use Rattle.addr2line_units.specs.Common.{Error, ◌>>=◌, result_map, Sections, UnitRecord}
 use Rattle.gimli.specs.Split.{relocated}
 use Rattle.addr2line_units.specs.declared.unit.AnsweredLoad.{AnsweredLoad}
 use Rattle.addr2line_units.specs.declared.unit.UnitView.{UnitView}
@@ -53,11 +53,6 @@ verdict_in d u states.Main = Some (Some (Ok (main_view d u)))
 verdict_in d u (states.Unnamed e) = Some (Some (Err e))
 verdict_in d u (states.Answered a) = Some (Some (view_in d u a))
 
--- the same of a unit's view
-abbrev pub cached_verdict : {R : Type 0} → Sections → UnitRecord → UnitView R
-    → Option (Option (Result View Error))
-cached_verdict d u v = verdict_in d u v.state
-
 -- whether the unit was looked at
 abbrev pub was_checked : {R : Type 0} → ViewState R → Bool
 was_checked states.Undecided = false
@@ -77,7 +72,7 @@ is_decided _ = true
 -- what is cached is what the bytes and the first answer give, and only a unit that waited for it
 -- has a first answer
 pub record IsViewOf {R : Type 0} (d : Sections) (u : UnitRecord) (v : UnitView R) : Type 0 where
-  pub right : IfSome (cached_verdict d u v) (λ cached. cached ≡ verdict d u (answer_of_view v))
+  pub right : IfSome (verdict_in d u v.state) (λ cached. cached ≡ verdict d u (answer_of_view v))
   pub waited : is_some (answer_of_view v) ≡ true → is_open d u None ≡ true
 
 -- the sections of the split file that an answer's view is in, if it is in one
@@ -89,12 +84,6 @@ split_file_by _ _ = None
 abbrev pub split_file_in : {R : Type 0} → ViewState R → Option Sections
 split_file_in (states.Answered a) = split_file_by (as_sections a) (unboxed a.unit)
 split_file_in _ = None
-
--- where references lead from a view in a split file, if it is in one
-abbrev pub scope_by : Scope → Option Sections → Scope
-scope_by scope None = scope
-scope_by scope (Some split) =
-    record { file = record { sections = split; units = [] }; sup = scope.sup }
 
 -- the sections and the unit of a view, or the fault
 abbrev pub parts_or_fault : Result View Error → Result (Sections × UnitRecord) Error

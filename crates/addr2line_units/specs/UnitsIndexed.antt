@@ -5,7 +5,7 @@ use Rattle.addr2line_units.specs.Common.{Range, Costed, free, Section, UnitHeade
 use Rattle.gimli_read.specs.Costed.{◌>>=◌}
 use Rattle.addr2line_units.specs.declared.index.UnitArange.{UnitArange}
 use Rattle.addr2line_units.specs.declared.index.UnitRange.{UnitRange}
-use Rattle.addr2line_units.specs.declared.unit.UnitLines.{UnitLines}
+use Rattle.addr2line_units.specs.declared.unit.LinesCache.{LinesCache}
 use Rattle.addr2line_units.specs.declared.units.Index.{Index}
 use Rattle.addr2line_units.specs.declared.units.IndexedUnits.{IndexedUnits}
 use Rattle.addr2line_units.specs.UnitLinesCached.{indexed_unit, indexed_units, parsed_units}
@@ -84,7 +84,7 @@ units_seen u = record {
 }
 
 -- a unit and the ranges that are given for it
-abbrev pub ranged_seen : UnitRecord → UnitLines → List Range → RangedUnit
+abbrev pub ranged_seen : UnitRecord → LinesCache → List Range → RangedUnit
 ranged_seen dw_unit u listed = record { indexed = indexed_unit dw_unit u; listed = listed }
 
 -- whether memory may be taken for all that a context has

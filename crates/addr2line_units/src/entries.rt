@@ -14,7 +14,7 @@ ghost use Rattle.addr2line_units.specs.UnitViewCached.{answer_of_view, is_decide
 ghost use Rattle.addr2line_units.specs.CacheAfter.{AfterCachingFunctions, AfterCheck, AfterFramesIn, AfterFunction, AfterFunctionIn, AreFunctionsIn, AreNewFunctionsOf, IsRefusalOf};
 ghost use Rattle.addr2line_units.specs.declared.parses.ReadingDepth.TheVariants.{Details};
 
-use crate::unit::{LazyLines, UnitLines, UnitView};
+use crate::unit::{LazyLines, LinesCache, UnitView};
 use addr2line_lines::{Count, Functions, InlinedPlaces, Row, Scope};
 use gimli::read::{Error, Reader};
 use gimli::{Unit, UnitRef};
@@ -160,7 +160,7 @@ impl<R: Reader> LazyFunctions<R> {
 
 /// What is cached of the entries of a unit: its view, and the functions in it.
 #[derive(Drop)]
-pub(crate) struct UnitEntries<R: Reader> {
+pub(crate) struct EntriesCache<R: Reader> {
     pub(crate) view: UnitView<R>,
     pub(crate) functions: LazyFunctions<R>,
 }
@@ -168,8 +168,8 @@ pub(crate) struct UnitEntries<R: Reader> {
 /// What is cached of a unit: its lines with its language, and its entries.
 #[derive(Drop)]
 pub(crate) struct UnitCache<R: Reader> {
-    pub(crate) lines: UnitLines,
-    pub(crate) entries: UnitEntries<R>,
+    pub(crate) lines: LinesCache,
+    pub(crate) entries: EntriesCache<R>,
 }
 
 impl<R: Reader> UnitCache<R> {
@@ -196,13 +196,13 @@ pub(crate) enum UnitFrames {
     },
 }
 
-impl<R: Reader> UnitEntries<R> {
+impl<R: Reader> EntriesCache<R> {
     // Before anybody asks for something. Takes no memory.
-    pub(crate) fn new() -> UnitEntries<R>
+    pub(crate) fn new() -> EntriesCache<R>
         ensures answer { first_answer_of result ≡ None }
         ensures empty { AreFresh result }
     {
-        UnitEntries {
+        EntriesCache {
             view: UnitView::new(),
             functions: LazyFunctions::Unread,
         }
@@ -272,7 +272,7 @@ pub(crate) fn find_frames_in<'x, R: Reader>(
     if entries.view.is_open() {
         return Ok(UnitFrames::Open);
     }
-    let UnitEntries { view, functions } = entries;
+    let EntriesCache { view, functions } = entries;
     let function = find_in_view(alloc, view, functions, scope, dw_unit, probe)?;
     let row = lines.find_row(alloc, scope.file.dwarf, dw_unit, steps, probe)?;
     Ok(UnitFrames::Here { function, row })

@@ -14,7 +14,7 @@ ghost use Rattle.addr2line_units.specs.LoadsListed.{MarksLoad, MarksUnit, if_new
 ghost use Rattle.addr2line_units.specs.LocationsParsed.{LeadTo};
 ghost use Rattle.addr2line_units.specs.RangeIterLeft.{ranges_left};
 
-use crate::entries::{LazyFunctions, UnitEntries};
+use crate::entries::{EntriesCache, LazyFunctions};
 use crate::frames::FramesStop;
 use crate::range_iter::UnitRangeIter;
 use crate::unit::{SplitDwarfLoad, UnitToken};
@@ -25,7 +25,7 @@ use gimli::{Dwarf, Unit};
 use std::alloc::Global;
 use std::rc::Rc;
 
-impl<R: Reader> UnitEntries<R> {
+impl<R: Reader> EntriesCache<R> {
     // Whether the unit waits for an answer, as far as it was looked at.
     pub(crate) fn is_open(&self) -> bool
         ensures gives { result ≡ waits self.now.view.state }
@@ -88,7 +88,7 @@ impl<R: Reader> UnitEntries<R> {
     }
 }
 
-impl<R: Reader> UnitEntries<R> {
+impl<R: Reader> EntriesCache<R> {
     // The fault of the unit's view, which is decided, if it has one. Takes no memory.
     fn check_view(&self, scope: Scope<'_, R>, dw_unit: &Unit<R>) -> Result<(), Error>
         requires cached { AreEntriesOf (as_scope scope) dw_unit.now self.now }
@@ -167,7 +167,7 @@ fn mark_unit(marks: &mut Vec<bool>, count: usize, number: usize) -> Result<bool,
     Ok(fresh)
 }
 
-impl<R: Reader> UnitEntries<R> {
+impl<R: Reader> EntriesCache<R> {
     // The load of the unit of a number, if it waits for one and isn't marked, which it is then.
     // Whether it waits is read, unless that was done.
     //
@@ -221,7 +221,7 @@ fn push_if<R: Reader>(
 }
 
 impl<R: Reader> Units<R> {
-    // The load of the unit of a number, as `UnitEntries::new_load` has it; none where there is no
+    // The load of the unit of a number, as `EntriesCache::new_load` has it; none where there is no
     // such unit.
     fn new_load_at(
         &mut self,

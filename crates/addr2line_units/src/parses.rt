@@ -12,7 +12,7 @@ ghost use Rattle.addr2line_units.specs.Parses.{ReadsNoMemory, read_of_functions,
 ghost use Rattle.addr2line_units.specs.UnitView.{verdict};
 ghost use Rattle.addr2line_units.specs.UnitViewCached.{answer_of_view, is_decided};
 
-use crate::entries::{LazyFunctions, UnitEntries};
+use crate::entries::{EntriesCache, LazyFunctions};
 use crate::frames::FramesStop;
 use crate::unit::UnitView;
 use crate::units::Units;
@@ -82,7 +82,7 @@ impl<R: Reader> LazyFunctions<R> {
     }
 }
 
-// Reads the functions of a view, as `UnitEntries::read` does.
+// Reads the functions of a view, as `EntriesCache::read` does.
 fn read_in_view<'x, R: Reader>(
     alloc: Global,
     view: &'x UnitView<R>,
@@ -103,7 +103,7 @@ fn read_in_view<'x, R: Reader>(
     functions.read(alloc, view.scope_of(scope), unit.unit, depth)
 }
 
-impl<R: Reader> UnitEntries<R> {
+impl<R: Reader> EntriesCache<R> {
     // Reads the functions of the unit's view, and their details where these are asked for, unless
     // they were read, and caches them, or their faults. A unit that waits for an answer is decided
     // by none first.
@@ -126,13 +126,13 @@ impl<R: Reader> UnitEntries<R> {
             self.old self.new }
     {
         self.answer(alloc, scope, dw_unit, None)?;
-        let UnitEntries { view, functions } = self;
+        let EntriesCache { view, functions } = self;
         read_in_view(alloc, view, functions, scope, dw_unit, depth)
     }
 }
 
 impl<R: Reader> Units<R> {
-    // Reads the functions of the unit of a number, as `UnitEntries::read` does; nothing where there
+    // Reads the functions of the unit of a number, as `EntriesCache::read` does; nothing where there
     // is no such unit. No lookup is stored any more.
     fn read_functions_in(&mut self, number: usize, depth: ReadingDepth) -> Result<(), Error>
         ensures gives { IsUnlessOom result (read_of_number depth self.old.scope

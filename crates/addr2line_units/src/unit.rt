@@ -41,7 +41,7 @@ pub enum LazyLines {
 
 /// The lines of a unit, which are cached when they are first asked for, and its language.
 #[derive(Drop)]
-pub struct UnitLines {
+pub struct LinesCache {
     /// Its language.
     pub lang: Option<DwLang>,
     /// Its lines.
@@ -133,14 +133,14 @@ pub(crate) fn read_ranged_unit<R: Reader>(
     dwarf: &Dwarf<R>,
     aranges: &UnitAranges,
     dw_unit: &Unit<R>,
-) -> Result<(UnitLines, Vec<Range>), Error>
+) -> Result<(LinesCache, Vec<Range>), Error>
     ensures gives { ExactlyUnlessOom (λ x. ranged_seen dw_unit.now x.0 x.1.items) result
         (ranged_unit dwarf.now aranges.now dw_unit.now) }
     ensures empty { IfOk result (λ x. IsUnparsed dwarf.now dw_unit.now x.0) }
 {
     let (lang, ranges) = read_listed(alloc, UnitRef::new(dwarf, dw_unit), aranges)?;
     let lines = lines_at_first(dw_unit);
-    Ok((UnitLines { lang, lines }, ranges))
+    Ok((LinesCache { lang, lines }, ranges))
 }
 
 // The lines of a unit, or their fault, as they are cached. Refused `OutOfMemory` alone, and only
@@ -217,7 +217,7 @@ fn find_cached_row(lines: &LazyLines, steps: &mut Count, probe: u64) -> Option<R
     }
 }
 
-impl UnitLines {
+impl LinesCache {
     // Caches the lines of the unit, or their fault, unless they are cached. Refused `OutOfMemory`
     // alone, and only where the lines take memory.
     #[tactic(auto, using(crate::proofs::UnitLinesLemmas::cached_before))]

@@ -9,11 +9,11 @@ ghost use Rattle.addr2line_units.specs.UnitsRanged.{range_of_unit, unit_of_heade
 ghost use Rattle.addr2line_units.specs.UnitsStored.{scope_of};
 ghost use Rattle.addr2line_units.specs.UnitsState.{new_units};
 
-use crate::entries::{UnitCache, UnitEntries};
+use crate::entries::{EntriesCache, UnitCache};
 use crate::frames::FramesStop;
 use crate::index::{UnitAranges, UnitRange, UnitRanges};
 use crate::sup::SupUnits;
-use crate::unit::{UnitLines, is_type_unit, read_ranged_unit};
+use crate::unit::{LinesCache, is_type_unit, read_ranged_unit};
 use addr2line_lines::{Count, FileUnits, Scope};
 use gimli::read::{Error, Range, Reader};
 use gimli::{AbbreviationsCache, Dwarf, Unit, UnitHeader};
@@ -81,7 +81,7 @@ fn read_unit<R: Reader>(
     abbreviations: &mut AbbreviationsCache<'_, R>,
     aranges: &UnitAranges,
     header: UnitHeader<R>,
-) -> Result<Option<(Unit<R>, UnitLines, Vec<Range>)>, Error>
+) -> Result<Option<(Unit<R>, LinesCache, Vec<Range>)>, Error>
     requires same { abbreviations.old.dwarf ≡ dwarf.now }
     ensures dwarf { abbreviations.new.dwarf ≡ dwarf.now }
     ensures gives { ExactlyAtCost R.shares
@@ -137,7 +137,7 @@ impl<R: Reader> Index<R> {
         alloc: Global,
         dwarf: &Dwarf<R>,
         dw_unit: Unit<R>,
-        mut lines: UnitLines,
+        mut lines: LinesCache,
         listed: Vec<Range>,
     ) -> Result<(), Error>
         requires unparsed { IsUnparsed dwarf.now dw_unit lines }
@@ -156,7 +156,7 @@ impl<R: Reader> Index<R> {
         self.dw_units.push(dw_unit)?;
         self.caches.push(UnitCache {
             lines,
-            entries: UnitEntries::new(),
+            entries: EntriesCache::new(),
         })?;
         Ok(())
     }

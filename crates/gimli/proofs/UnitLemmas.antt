@@ -1,6 +1,6 @@
 -- A unit whose root entry is read has abbreviations, which take memory (on specs/Unit.antt).
 use Rattle.gimli.proofs.Common.{◌≡◌, ℕ, ◌==◌, ◌||◌, Bool, true, false, cond, List, [], Option, Some, None, IfOk, Result, Ok, Err, refl, ap, sym, ◌∙◌, or_right, Error, UnknownAbbreviation, Encoding, Section, Reading, ◌>>=◌, uleb128_at, Abbrev, entry_code_at, root_specifications, root_attributes, UnitHeaderFields, Sections, from_offset, UnitRecord, completed_record, unit_by, unit_record_of}
-use Rattle.gimli_read.specs.Abbrev.{abbreviation_at, table_at, takes_memory}
+use Rattle.gimli_read.specs.Abbrev.{abbreviation_at, table_at, has_front}
 use Rattle.gimli_read.proofs.AbbrevLemmas.{table_ends, table_fault, abbreviation_front}
 use Rattle.gimli.specs.Entry.{attributes_at}
 use Rattle.gimli.specs.Record.{RootValues, root_values_of}
@@ -43,14 +43,14 @@ unfolding root_values_of
 root_never e s = never_bind _ (attributes_never e s)
 
 -- abbreviations by which a root entry is read take memory
-pub read_root_takes_memory : (e : Encoding) (rest entries : Section) (table : List Abbrev) (root : RootValues) → table_at rest ≡ Ok table → root_values_of e table entries ≡ Ok root → takes_memory rest ≡ true
+pub read_root_takes_memory : (e : Encoding) (rest entries : Section) (table : List Abbrev) (root : RootValues) → table_at rest ≡ Ok table → root_values_of e table entries ≡ Ok root → has_front rest ≡ true
 read_root_takes_memory e rest entries table root h k = at (abbreviation_at [] rest) refl
   where
     empty : (r : Result RootValues Error) → NeverOk r → r ≡ Ok root → ⊥
     empty (Ok x) n q = n.by
     empty (Err d) n q = absurd cc
 
-    at : (r : Reading (Option Abbrev)) → abbreviation_at [] rest ≡ r → takes_memory rest ≡ true
+    at : (r : Reading (Option Abbrev)) → abbreviation_at [] rest ≡ r → has_front rest ≡ true
     at (Ok (None, t)) p =
         let q : Ok table ≡ Ok [] = sym h ∙ table_ends [] rest t p in
         let is : table ≡ [] = cc in
@@ -64,7 +64,7 @@ pub unit_is : (d : Sections) (header : UnitHeaderFields) (shares : Bool) (rest :
     → (unit_takes_memory shares d header ≡ true) × (unit_record_of d header ≡ (completed_record d header table root).given)
 unfolding unit_record_of unit_by
 unit_is d header shares rest table root h k l = (
-  ap (abbreviations_take_memory shares) h ∙ or_right shares (takes_memory rest) (read_root_takes_memory header.encoding rest header.entries table root k l),
+  ap (abbreviations_take_memory shares) h ∙ or_right shares (has_front rest) (read_root_takes_memory header.encoding rest header.entries table root k l),
   ap (λ (r : Result Section Error). (r >>= table_at) >>= λ t. root_values_of header.encoding t header.entries >>= λ v. (completed_record d header t v).given) h
       ∙ ap (λ (r : Result (List Abbrev) Error). r >>= λ t. root_values_of header.encoding t header.entries >>= λ v. (completed_record d header t v).given) k
       ∙ ap (λ (r : Result RootValues Error). r >>= λ v. (completed_record d header table v).given) l,

@@ -4,7 +4,7 @@ use Rattle.std.specs.Prelude.{◌||◌, Bool, false, Option, Some, None, is_some
 use Rattle.std.specs.Option.{option_map_or}
 use Rattle.gimli.specs.Common.{Error, AttributeValue, Section}
 use Rattle.gimli_read.specs.HeldBytes.{holds_bytes}
-use Rattle.gimli_read.specs.Abbrev.{takes_memory}
+use Rattle.gimli_read.specs.Abbrev.{has_front}
 use Rattle.gimli.specs.Header.{UnitHeaderFields}
 use Rattle.gimli.specs.Sections.{Sections}
 use Rattle.gimli.specs.Text.{from_offset}
@@ -26,7 +26,7 @@ if_without_bytes value = if holds_bytes value then None else Some value
 -- whether memory may be taken for the abbreviations from an offset on: for the table's own entries,
 -- or where readers share their bytes; none past the section's end
 abbrev pub abbreviations_take_memory : Bool → Result Section Error → Bool
-abbreviations_take_memory shares (Ok rest) = shares || takes_memory rest
+abbreviations_take_memory shares (Ok rest) = shares || has_front rest
 abbreviations_take_memory shares (Err e) = false
 
 -- whether memory may be taken for the unit of a header: without abbreviations it has no root entry,

@@ -1,5 +1,5 @@
 -- What is read of an abbreviation takes bytes (on specs/Abbrev.antt).
-use Rattle.gimli_read.proofs.Common.{◌≡◌, ◌≢◌, ◌⊎◌, inl, inr, is_ok, ℕ, zero, suc, ◌+◌, ◌<◌, List, [], ◌∷◌, ◌++◌, length, Option, Some, None, is_some, Result, Ok, Err, Bool, true, false, cond, IfOk, IfSome, not, ◌==◌, refl, ap, sym, ◌∙◌, arith, add-one, DW_FORM_implicit_const, Error, OutOfMemory, BadAbbreviation, Section, Reading, ◌>>=◌, refused_if, uleb128_at, Specification, Abbrev, with_code, HasDistinctCodes, constant_at, coded, is_null, has_null, tells_children, specification_at, specifications_at, declaration_head_at, declaration_at, abbreviation_at, extended, table_within, head_and_pair_at, front_at, takes_memory}
+use Rattle.gimli_read.proofs.Common.{◌≡◌, ◌≢◌, ◌⊎◌, inl, inr, is_ok, ℕ, zero, suc, ◌+◌, ◌<◌, List, [], ◌∷◌, ◌++◌, length, Option, Some, None, is_some, Result, Ok, Err, Bool, true, false, cond, IfOk, IfSome, not, ◌==◌, refl, ap, sym, ◌∙◌, arith, add-one, DW_FORM_implicit_const, Error, OutOfMemory, BadAbbreviation, Section, Reading, ◌>>=◌, refused_if, uleb128_at, Specification, Abbrev, with_code, HasDistinctCodes, constant_at, coded, is_null, has_null, tells_children, specification_at, specifications_at, declaration_head_at, declaration_at, abbreviation_at, extended, table_within, head_and_pair_at, front_at, has_front}
 use Rattle.std.proofs.lemmas.Bool.Decides.{nat_tests}
 use Rattle.gimli_read.specs.declared.constants.TheConstants.{CLOSING_CODE}
 use Rattle.gimli_read.specs.declared.constants.TheConstants.DwTag.{DW_TAG_null}
@@ -184,7 +184,7 @@ specifications_begun s x h = at (specification_at s) refl
     at (Err d) e = absurd (let k : Err d ≡ Ok x = sym (collected-fault specification_at specification_takes s d e) ∙ h in cc)
 
 -- an abbreviation that is read has a front
-pub abbreviation_front : (table : List Abbrev) (s t : Section) (a : Abbrev) → abbreviation_at table s ≡ Ok (Some a, t) → takes_memory s ≡ true
+pub abbreviation_front : (table : List Abbrev) (s t : Section) (a : Abbrev) → abbreviation_at table s ≡ Ok (Some a, t) → has_front s ≡ true
 unfolding abbreviation_at declaration_at front_at
 abbreviation_front table s t a h = at_end (length s.bytes == 0) h
   where
@@ -207,6 +207,6 @@ abbreviation_front table s t a h = at_end (length s.bytes == 0) h
     at_code (Err e) h = absurd cc
     at_code (Ok code) h = at_zero code (code.0 == CLOSING_CODE) h
 
-    at_end : (b : Bool) → cond b (Ok (None, s)) (uleb128_at s >>= after_code table) ≡ Ok (Some a, t) → takes_memory s ≡ true
+    at_end : (b : Bool) → cond b (Ok (None, s)) (uleb128_at s >>= after_code table) ≡ Ok (Some a, t) → has_front s ≡ true
     at_end true h = absurd (end_is_none a s t h)
     at_end false h = at_code (uleb128_at s) h

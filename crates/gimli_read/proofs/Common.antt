@@ -5,7 +5,7 @@ pub use Rattle.std.proofs.lemmas.Grind.{common_steps, pow_more}
 pub use Rattle.std.proofs.lemmas.List.{at_drop_all, at_drop_more, drop_at, get_or-take, get_or_append_left, length-append, take-append-drop, take_at, take_more}
 pub use Rattle.std.proofs.lemmas.Result.{IfOk-at_ok, err_from_is_err_and}
 pub use Rattle.std.specs.List.{All, AllByRecursion, filter, position, position_from, slice_get}
-pub use Rattle.gimli_read.specs.Abbrev.{coded, constant_at, extended, has_null, head_and_pair_at, is_null, specifications_at, specified, table_at, takes_memory, tells_children}
+pub use Rattle.gimli_read.specs.Abbrev.{coded, constant_at, extended, has_null, head_and_pair_at, is_null, specifications_at, specified, table_at, has_front, tells_children}
 unfoldable pub use Rattle.gimli_read.specs.Abbrev.{abbreviation_at, declaration_at, declaration_head_at, front_at, specification_at, table_within}
 pub use Rattle.gimli_read.specs.Abbreviations.{Abbrev, HasDistinctCodes, Specification, with_code}
 pub use Rattle.gimli_read.specs.EncodedValue.{address_or_offset_at, block_at, encoded_at}

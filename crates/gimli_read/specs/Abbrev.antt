@@ -87,8 +87,8 @@ front_at s = do
   head_and_pair_at code.1
 
 -- whether the front of a table is read: until then no memory is taken
-abbrev pub takes_memory : Section → Bool
-takes_memory s = is_ok (front_at s)
+abbrev pub has_front : Section → Bool
+has_front s = is_ok (front_at s)
 
 -- a code that the table hasn't, and what follows it; none at code 0 and at the end
 unfoldable pub abbreviation_at : List Abbrev → Section → Reading (Option Abbrev)

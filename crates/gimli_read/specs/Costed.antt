@@ -33,9 +33,9 @@ parts given = record { given = given; takes_memory = λ shares. shares && is_ok 
 abbrev pub parts_on_the_way : {E A : Type 0} → Result A E → CostedOr E A
 parts_on_the_way given = record { given = given; takes_memory = λ shares. shares }
 
--- room, where something is stored
+-- room, where it is needed
 abbrev pub room_if : Bool → Costed (Unit {0})
-room_if stores = record { given = Ok tt; takes_memory = λ shares. stores }
+room_if needed = record { given = Ok tt; takes_memory = λ shares. needed }
 
 -- whether memory is taken after a reading, where it has no fault
 abbrev pub takes_memory_after : {E A : Type 0} → Result A E → (A → Bool) → Bool

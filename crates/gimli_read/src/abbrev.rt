@@ -11,7 +11,7 @@ ghost use Rattle.gimli_read.specs.declared.error.Error.TheVariants.{OutOfMemory}
 ghost use Rattle.gimli_read.specs.SizedRuns.{AreRunsOf};
 ghost use Rattle.gimli_read.specs.StoredAttributes.{attributes_of};
 ghost use Rattle.gimli_read.specs.ValueSize.{value_size_of, attribute_size};
-ghost use Rattle.gimli_read.specs.Abbrev.{specification_at, specifications_at, declaration_head_at, declaration_at, head_and_pair_at, abbreviation_at, takes_memory, table_at};
+ghost use Rattle.gimli_read.specs.Abbrev.{specification_at, specifications_at, declaration_head_at, declaration_at, head_and_pair_at, abbreviation_at, has_front, table_at};
 
 use crate::constants::{CLOSING_CODE, DW_CHILDREN_no, DW_CHILDREN_yes, DwAt, DwForm, DwTag};
 use crate::endian::Encoding;
@@ -454,7 +454,7 @@ impl Abbreviations {
         input: &mut R,
         buffers: &mut Buffers,
     ) -> Result<Option<Abbreviation>, Error>
-        ensures gives { ReadsUnlessOomIf (takes_memory (R.section input.old))
+        ensures gives { ReadsUnlessOomIf (has_front (R.section input.old))
             R.section input.old input.new result (abbreviation_at self.now) }
     {
         if input.is_empty() {
@@ -477,7 +477,7 @@ impl Abbreviations {
     /// exactly one zero in a pair; `UnexpectedEof` and `BadLeb128` for its numbers; `OutOfMemory`
     /// only after the first pair of the first abbreviation.
     pub fn parse<R: Reader>(alloc: Global, input: R) -> Result<Abbreviations, Error>
-        ensures gives { ExactlyUnlessOomIf (takes_memory (R.section input)) (λ t. t) result
+        ensures gives { ExactlyUnlessOomIf (has_front (R.section input)) (λ t. t) result
             (table_at (R.section input)) }
     {
         let mut input = input;

@@ -1,4 +1,4 @@
-use Rattle.addr2line_units.proofs.Common.{◌∙◌, arith, sym, err_from_is_err_and, as_scope, UnitEntries}
+use Rattle.addr2line_units.proofs.Common.{◌∙◌, arith, sym, err_from_is_err_and, as_scope, EntriesCache}
 use Rattle.addr2line_units.proofs.EntriesLemmas.{checked_decides}
 use Rattle.addr2line_units.proofs.EntriesFrameLemmas.{here_after, here_gives, no_function_after, no_function_gives, no_lines_after, no_lines_gives, waits_after, waits_gives}
 use Rattle.addr2line_units.proofs.entries.find_frames_in.Goals as goal
@@ -30,7 +30,7 @@ returns-in_err-function g c =
     let look = c.check_split.ensures.after in
     let shut = sym c.is_open.ensures.gives ∙ c.if-is_open.false in
     let e = c.in_err-function.ensures in
-    let after : UnitEntries g.row.R.Denot = record { view = c.check_split.new.self.view; functions = c.find_in_view.new.functions } in
+    let after : EntriesCache g.row.R.Denot = record { view = c.check_split.new.self.view; functions = c.find_in_view.new.functions } in
     rw (p.1, p.2) (record {
       gives = no_function_gives g.R.Reader.shares scope c.args.dw_unit.now c.args.probe was own c.check_split.new.self look shut after c.in_err-function.field-0.0 e.after e.gives;
       after = no_function_after g.R.Reader.shares scope c.args.dw_unit.now c.args.probe was own c.check_split.new.self look shut after c.in_err-function.field-0.0 e.after e.gives;
@@ -46,7 +46,7 @@ returns-in_err-row g c =
     let look = c.check_split.ensures.after in
     let shut = sym c.is_open.ensures.gives ∙ c.if-is_open.false in
     let f = c.in_ok-function.ensures in
-    let after : UnitEntries g.row.R.Denot = record { view = c.check_split.new.self.view; functions = c.find_in_view.new.functions } in
+    let after : EntriesCache g.row.R.Denot = record { view = c.check_split.new.self.view; functions = c.find_in_view.new.functions } in
     let e = c.in_err-row.ensures in
     rw (p.1, p.2) (record {
       gives = no_lines_gives g.R.Reader.shares scope c.args.dw_unit.now c.args.probe was own c.check_split.new.self look shut after c.in_ok-function.function f.after f.gives c.find_row.new.self c.in_err-row.field-0.0 e.after e.gives;
@@ -62,7 +62,7 @@ returns g c =
     let look = c.check_split.ensures.after in
     let shut = sym c.is_open.ensures.gives ∙ c.if-is_open.false in
     let f = c.in_ok-function.ensures in
-    let after : UnitEntries g.row.R.Denot = record { view = c.check_split.new.self.view; functions = c.find_in_view.new.functions } in
+    let after : EntriesCache g.row.R.Denot = record { view = c.check_split.new.self.view; functions = c.find_in_view.new.functions } in
     let e = c.in_ok-row.ensures in
     record {
       gives = here_gives g.R.Reader.shares scope c.args.dw_unit.now c.args.probe was own c.check_split.new.self look shut after c.in_ok-function.function f.after f.gives c.find_row.new.self c.in_ok-row.row e.after e.gives;

@@ -1,4 +1,4 @@
-use Rattle.addr2line_units.proofs.Common.{err_from_is_err_and, as_scope, UnitEntries}
+use Rattle.addr2line_units.proofs.Common.{err_from_is_err_and, as_scope, EntriesCache}
 use Rattle.addr2line_units.proofs.EntriesFrameLemmas.{faulty_view, function_after, function_given}
 use Rattle.addr2line_units.proofs.EntriesLemmas.{fault_in, fault_known, functions_right, view_known}
 use Rattle.addr2line_units.proofs.entries.find_in_view.Goals as goal
@@ -8,7 +8,7 @@ returns-in_err-unit g c =
     let p = err_from_is_err_and c.from_residual.result c.from_residual.ensures.1 in
     let scope = as_scope c.args.scope in
     let u = c.args.dw_unit.now in
-    let old : UnitEntries g.row.R.Denot = record { view = c.args.view.now; functions = c.args.functions.now } in
+    let old : EntriesCache g.row.R.Denot = record { view = c.args.view.now; functions = c.args.functions.now } in
     let right = c.requires.cached in
     let is = fault_known scope u c.args.probe old right c.requires.decided c.in_err-unit.field-0.0 c.in_err-unit.ensures.gives in
     rw (p.1, p.2) (record {
@@ -20,7 +20,7 @@ pub find-requires : goal.find-requires
 find-requires g c =
     let scope = as_scope c.args.scope in
     let u = c.args.dw_unit.now in
-    let old : UnitEntries g.row.R.Denot = record { view = c.args.view.now; functions = c.args.functions.now } in
+    let old : EntriesCache g.row.R.Denot = record { view = c.args.view.now; functions = c.args.functions.now } in
     let right = c.requires.cached in
     let inner = as_scope c.scope_of.result in
     let x = c.in_ok-unit.unit.unit.now in
@@ -31,7 +31,7 @@ pub returns : goal.returns
 returns g c =
     let scope = as_scope c.args.scope in
     let u = c.args.dw_unit.now in
-    let old : UnitEntries g.row.R.Denot = record { view = c.args.view.now; functions = c.args.functions.now } in
+    let old : EntriesCache g.row.R.Denot = record { view = c.args.view.now; functions = c.args.functions.now } in
     let right = c.requires.cached in
     let inner = as_scope c.scope_of.result in
     let x = c.in_ok-unit.unit.unit.now in

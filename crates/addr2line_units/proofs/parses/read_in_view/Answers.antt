@@ -1,4 +1,4 @@
-use Rattle.addr2line_units.proofs.Common.{subst, sym, err_from_is_err_and, ExactlyUnlessOom, as_scope, UnitEntries}
+use Rattle.addr2line_units.proofs.Common.{subst, sym, err_from_is_err_and, ExactlyUnlessOom, as_scope, EntriesCache}
 use Rattle.addr2line_units.proofs.ParsesAfterLemmas.{refused_view_after, view_after, view_reads, view_refused}
 use Rattle.addr2line_units.proofs.EntriesLemmas.{fault_known, functions_right, view_known}
 use Rattle.addr2line_units.proofs.parses.read_in_view.Goals as goal
@@ -8,7 +8,7 @@ returns-in_err-unit g c =
     let p = err_from_is_err_and c.from_residual.result c.from_residual.ensures.1 in
     let scope = as_scope c.args.scope in
     let u = c.args.dw_unit.now in
-    let old : UnitEntries g.row.R.Denot = record { view = c.args.view.now; functions = c.args.functions.now } in
+    let old : EntriesCache g.row.R.Denot = record { view = c.args.view.now; functions = c.args.functions.now } in
     let x = c.in_err-unit.field-0.0 in
     let is = fault_known scope u 0 old c.requires.cached c.requires.decided x c.in_err-unit.ensures.gives in
     rw (p.1, p.2) (record {
@@ -20,7 +20,7 @@ pub read-requires : goal.read-requires
 read-requires g c =
     let scope = as_scope c.args.scope in
     let u = c.args.dw_unit.now in
-    let old : UnitEntries g.row.R.Denot = record { view = c.args.view.now; functions = c.args.functions.now } in
+    let old : EntriesCache g.row.R.Denot = record { view = c.args.view.now; functions = c.args.functions.now } in
     let inner = as_scope c.scope_of.result in
     let x = c.in_ok-unit.unit.unit.now in
     let v = view_known scope u 0 old c.requires.cached c.requires.decided c.in_ok-unit.unit.dwarf.now x inner c.in_ok-unit.ensures.gives (c.scope_of.ensures.gives scope.file.sections u c.requires.cached.view) in
@@ -30,7 +30,7 @@ pub returns : goal.returns
 returns g c =
     let scope = as_scope c.args.scope in
     let u = c.args.dw_unit.now in
-    let old : UnitEntries g.row.R.Denot = record { view = c.args.view.now; functions = c.args.functions.now } in
+    let old : EntriesCache g.row.R.Denot = record { view = c.args.view.now; functions = c.args.functions.now } in
     let inner = as_scope c.scope_of.result in
     let x = c.in_ok-unit.unit.unit.now in
     let v = view_known scope u 0 old c.requires.cached c.requires.decided c.in_ok-unit.unit.dwarf.now x inner c.in_ok-unit.ensures.gives (c.scope_of.ensures.gives scope.file.sections u c.requires.cached.view) in

@@ -1,6 +1,6 @@
 use Rattle.addr2line_units.proofs.Common.{◌≡◌, false, rules, true, err_from_is_err_and, is_uncached}
 use Rattle.addr2line_units.proofs.UnitLinesLemmas.{cached_after, parsed_after, unparsed_after}
-use Rattle.addr2line_units.proofs.unit.UnitLines.cache_lines.Goals as goal
+use Rattle.addr2line_units.proofs.unit.LinesCache.cache_lines.Goals as goal
 
 pub returns-in_err-self-clause-after : goal.returns-in_err-self-clause-after
 returns-in_err-self-clause-after g c =

@@ -2,7 +2,7 @@ use Rattle.addr2line_units.proofs.Common.{◌∙◌, Err, Result, ap, option_map
 use Rattle.addr2line_units.specs.CacheAfter.{AfterAnswering}
 use Rattle.addr2line_units.proofs.UnitViewLemmas.{verdict_of_open, waiting_is_open}
 use Rattle.addr2line_units.proofs.LoadsAnswerLemmas.{decided_after, decided_if_open, shut_after, undecided_after, was_open}
-use Rattle.addr2line_units.proofs.entries.UnitEntries.answer.Goals as goal
+use Rattle.addr2line_units.proofs.entries.EntriesCache.answer.Goals as goal
 
 pub returns-in_err-decide : goal.returns-in_err-decide
 returns-in_err-decide g c =

@@ -1,6 +1,6 @@
 use Rattle.addr2line_units.proofs.Common.{err_from_is_err_and}
 use Rattle.addr2line_units.proofs.UnitLinesLemmas.{lines_told}
-use Rattle.addr2line_units.proofs.unit.UnitLines.read_lines.Goals as goal
+use Rattle.addr2line_units.proofs.unit.LinesCache.read_lines.Goals as goal
 
 pub returns-in_err-cache_lines : goal.returns-in_err-cache_lines
 returns-in_err-cache_lines g c =

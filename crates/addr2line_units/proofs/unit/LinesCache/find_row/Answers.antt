@@ -1,6 +1,6 @@
 use Rattle.addr2line_units.proofs.Common.{err_from_is_err_and}
 use Rattle.addr2line_units.proofs.UnitLinesLemmas.{lines_given, lines_refused}
-use Rattle.addr2line_units.proofs.unit.UnitLines.find_row.Goals as goal
+use Rattle.addr2line_units.proofs.unit.LinesCache.find_row.Goals as goal
 
 pub returns-in_err-read_lines-clause-after : goal.returns-in_err-read_lines-clause-after
 returns-in_err-read_lines-clause-after g c =

@@ -1,6 +1,6 @@
 use Rattle.addr2line_units.proofs.Common.{subst, ExactlyUnlessOom, as_scope, read_of_view, verdict}
 use Rattle.addr2line_units.proofs.ParsesAfterLemmas.{unit_after}
-use Rattle.addr2line_units.proofs.entries.UnitEntries.read.Goals as goal
+use Rattle.addr2line_units.proofs.entries.EntriesCache.read.Goals as goal
 
 pub returns-in_err-answer : goal.returns-in_err-answer
 returns-in_err-answer g c = absurd (let no = c.in_err-answer.ensures.after.refused.2 in cc)

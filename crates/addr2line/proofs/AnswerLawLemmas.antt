@@ -6,9 +6,9 @@ use Rattle.addr2line_units.specs.declared.parses.ReadingDepth.{ReadingDepth}
 use Rattle.addr2line_units.specs.Parses.{answers_after_parse, read_of_unit, unless_fault}
 use Rattle.addr2line_units.specs.LoadsLaws.{IsListed}
 use Rattle.addr2line_units.specs.LoadsLaws as laws
-use Rattle.addr2line_units.proofs.LoadsAnswerLemmas.{others_stay}
 use Rattle.addr2line.specs.AnswerLaws.{FirstAnswersStay, ForgetsNone, IsAnsweredBy, WaitsForNoneAnswered, answering}
 use Rattle.addr2line.proofs.HistoryLawLemmas.{answers_are, as_many, loads_are}
+use Rattle.addr2line_units.proofs.Facts.{others_stay}
 
 -- no load is listed where none of the units that ranges lead to has one
 none_along : (load : ℕ → Option SplitLoad) (ranges : List UnitRange) → ((k : ℕ) → LeadTo ranges k → is_some (load k) ≡ true → ⊥) → loads_along load ranges ≡ []

@@ -11,24 +11,11 @@ use Rattle.addr2line.specs.SplitFiles.{AreOfSomeFile, HasPathNotUtf8}
 use Rattle.addr2line.proofs.AskedLemmas.{answer_before, reads_answered, reads_more, reads_nothing}
 use Rattle.addr2line.proofs.FilesLookupLemmas.{answer_changes, first_answers_stay, frames_ended, frames_stay, refused_frames, stop_stays}
 use Rattle.addr2line.proofs.HistoryLemmas.{HasGiven, given_all, given_more, resumed_output}
-use Rattle.addr2line.proofs.LoadingLemmas.{if_some_both, no_oom, no_path, not_told}
+use Rattle.addr2line.proofs.LoadingLemmas.{no_oom, no_path, not_told}
 use Rattle.addr2line.proofs.NoLoadLemmas.{lacks_memory}
 use Rattle.addr2line.proofs.SkippedLemmas.{waits_true}
 use Rattle.addr2line_units.proofs.EntriesStayLemmas.{known_of_twice, same_stays_known}
-
--- what is so of each value as it is seen
-pub if_seen : {X Y : Type 0} (see : X → Y) (P : Y → Type 0) (o : Option X) → IfSome o (λ x. P (see x)) → IfSome (option_map see o) P
-if_seen see P None h = tt
-if_seen see P (Some x) h = h
-
--- what holds of each files holds where they are known
-always : {X : Type 0} (o : Option X) {P : X → Type 0} → ((x : X) → P x) → IfSome o P
-always None h = tt
-always (Some x) h = h x
-
-if_some_map : {X : Type 0} (o : Option X) {P Q : X → Type 0} → IfSome o P → ((x : X) → P x → Q x) → IfSome o Q
-if_some_map None p h = tt
-if_some_map (Some x) p h = h x p
+use Rattle.addr2line.proofs.Facts.{always, if_some_both, if_some_map}
 
 -- a first answer that is the same at last was the same in between
 same_between : (old mid new : FirstAnswers) → StayAnswered old mid → StayAnswered mid new → (n : ℕ) → answer_of new n ≡ answer_of old n → answer_of mid n ≡ answer_of old n

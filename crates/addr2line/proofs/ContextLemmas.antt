@@ -10,23 +10,18 @@ use Rattle.addr2line_units.proofs.UnitsNewLemmas.{ok_is}
 use Rattle.addr2line_units.proofs.FramesLookupLemmas.{holds_both, holds_first, holds_rest}
 use Rattle.addr2line_units.proofs.LocationsWalkLemmas.{located_fault}
 use Rattle.addr2line_units.proofs.UnitsLinesLemmas.{parsed_none_along}
+use Rattle.addr2line.proofs.Facts.{same_tests}
 
 -- an answer that isn't OutOfMemory is exactly what is given
 pub exactly_told : {X Y : Type 0} (see : X → Y) (r : Result X Error) (given : Result Y Error) → ExactlyUnlessOom see r given → WasNotRefused r → Exactly see r given
 exactly_told see (Ok x) given g h = g
 exactly_told see (Err e) given g h = g h
 
--- where nothing is parsed that wasn't, the same is parsed
-parsed_both : (a b : Bool) → (a ≡ true → b ≡ true) → (b ≡ true → a ≡ true) → b ≡ a
-parsed_both true b f h = f refl
-parsed_both false true f h = sym (h refl)
-parsed_both false false f h = refl
-
 same_bools : (p q : List Bool) → length q ≡ length p → StaysParsed p q → StaysParsed q p → q ≡ p
 same_bools [] [] e f h = refl
 same_bools [] (b ∷ q) e f h = absurd (omega (arith, e))
 same_bools (a ∷ p) [] e f h = absurd (omega (arith, e))
-same_bools (a ∷ p) (b ∷ q) e f h = ap (λ x. x ∷ q) (parsed_both a b (f 0) (h 0)) ∙ ap (λ xs. a ∷ xs) (same_bools p q (omega (arith, e)) (λ n. f (suc n)) (λ n. h (suc n)))
+same_bools (a ∷ p) (b ∷ q) e f h = ap (λ x. x ∷ q) (same_tests a b (f 0) (h 0)) ∙ ap (λ xs. a ∷ xs) (same_bools p q (omega (arith, e)) (λ n. f (suc n)) (λ n. h (suc n)))
 
 pub same_if_asked : (asks : ℕ → Type 0) (old new : UnitsState) → left.AfterLines asks old new → ((n : ℕ) → asks n → has_parsed old.parsed n ≡ true) → new.parsed ≡ old.parsed
 same_if_asked asks old new a ready = same_bools old.parsed new.parsed a.many a.parsed (λ n e. elim (a.only n e) [ inl p ↦ p | inr asked ↦ ready n asked ])

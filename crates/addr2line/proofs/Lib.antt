@@ -1,4 +1,5 @@
 pub mod Common
+pub mod Facts
 pub mod ContextLemmas
 pub mod LookupLemmas
 pub mod AnsweredLemmas

@@ -30,11 +30,6 @@ pub as_loading : {X Y : Type 0} (see : X → Y) (r : Result X Error) (given : Re
 as_loading see (Ok x) given h = ap of_file h
 as_loading see (Err e) given h = λ ne. ap of_file (h (no_oom e ne))
 
--- both of two sources are known
-pub if_some_both : {X : Type 0} (o : Option X) {P Q R : X → Type 0} → IfSome o P → IfSome o Q → ((x : X) → P x → Q x → R x) → IfSome o R
-if_some_both None p q f = tt
-if_some_both (Some x) p q f = f x p q
-
 -- after a lookup of locations in its context, a loader
 pub looked_in_context : {X : Type 0} (IsAfter : Result X Error → ContextState → ContextState → Type 0) {compressed : CompressedSections} (files : Option ReadFiles) (object : ObjectFile) (r : Result X Error) (result : Loading X) (old new : ContextState) → result ≡ of_file r → IsAfter r old new
     → AfterContext IsAfter result (record { compressed = compressed; files = files; object = object; context = old }) (record { compressed = compressed; files = files; object = object; context = new })

@@ -7,17 +7,13 @@ use Rattle.addr2line.specs.LoadsByFiles.{AfterAnswers, AfterFramesByFiles, Answe
 use Rattle.addr2line.proofs.HistoryLemmas.{given_ended}
 use Rattle.addr2line_units.proofs.UnitsNewLemmas.{ok_is}
 use Rattle.addr2line.proofs.UncoveredLemmas.{uncovered_few, uncovered_stop}
-
-more : (a b c x y : Bool) → (a ≡ true → x ≡ true) → (c ≡ true → y ≡ true) → (a && (b || c)) ≡ true → (x && (b || y)) ≡ true
-more true true c x y f g e = rw (f refl) refl
-more true false c x y f g e = rw (f refl, g e) refl
-more false b c x y f g e = cc
+use Rattle.addr2line.proofs.Facts.{both_more}
 
 -- along ranges what follows of each number
 pub holds_more : (h k : ℕ → Bool) (frames : ℕ → FramesResult) (ranges : List UnitRange) → ((n : ℕ) → h n ≡ true → k n ≡ true) → holds_along h frames ranges ≡ true → holds_along k frames ranges ≡ true
 holds_more h k frames [] f e = refl
 holds_more h k frames (r ∷ ranges) f e =
-    more (h r.unit) (ends_lookup (frames r.unit)) (holds_along h frames ranges) (k r.unit) (holds_along k frames ranges) (f r.unit) (holds_more h k frames ranges f) e
+    both_more (h r.unit) (ends_lookup (frames r.unit)) (holds_along h frames ranges) (k r.unit) (holds_along k frames ranges) (f r.unit) (holds_more h k frames ranges f) e
 
 -- a number of which something doesn't hold that doesn't hold along ranges
 lacks_along : (h : ℕ → Bool) (frames : ℕ → FramesResult) (ranges : List UnitRange) → holds_along h frames ranges ≡ false → (n : ℕ) × LookupAsks frames ranges n × (h n ≡ false)
@@ -73,7 +69,7 @@ module _ (probe : ℕ) (old new : ContextState) where
           let few_there = not (exceeds_inline_room (inlined_at_number scope m.units old.answers probe n)) in
           let before = knows_at old.known probe n && (asks || has_parsed old.parsed n) in
           let after = knows_at new.known probe n && (asks || has_parsed new.parsed n) in
-          more before false few_there after few_there (more _ asks (has_parsed old.parsed n) _ (has_parsed new.parsed n) ((known n).at probe) (parsed n)) (λ q. q) e
+          both_more before false few_there after few_there (both_more _ asks (has_parsed old.parsed n) _ (has_parsed new.parsed n) ((known n).at probe) (parsed n)) (λ q. q) e
 
 -- what a lookup gives by files that waits for no answer
 module _ {compressed : CompressedSections} (files : Option ReadFiles) (probe : ℕ) (first now : ContextState) (a : AfterAnswers compressed files first now) where

@@ -87,7 +87,3 @@ module _ (first : ContextState) (all : List HistoryCall) where
             cut = λ answers h. made.cut answers (subst (λ calls. IsCutShort first.sections now.answers calls answers) (sym e) (inr (subst (λ x. IsCutShort first.sections x more answers) left_to h)));
             parsed = λ n h. a.parsed n (made.parsed n h);
           }
-
--- no call is left
-pub none_left : {A B : Type 0} (f : A → B) (xs : List A) (i : ℕ) → length xs ≤ i → drop i (map f xs) ≡ []
-none_left f xs i h = drop_of_length-le (map f xs) (subst (λ n. n ≤ i) (sym (length-map xs f)) h)

@@ -33,7 +33,3 @@ module _ (given : SectionId → Loading Section) (load : SplitLoad) where
 -- what was made stands for what was given
 pub as_made : (x y : Sections) → ◌≡◌ {A = Result Sections Error} (Ok x) (Ok y) → ◌≡◌ {A = Loading (Option Sections)} (Ok (Some x)) (Ok (Some y))
 as_made x y h = ap (λ r. of_file r >>= λ d. Ok (Some d)) h
-
--- a value is no fault
-pub never_fault : {A E P : Type 0} (x : A) (e : E) → ◌≡◌ {A = Result A E} (Ok x) (Err e) → P
-never_fault x e h = absurd cc

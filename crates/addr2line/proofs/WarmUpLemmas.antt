@@ -4,6 +4,7 @@ use Rattle.addr2line_lines.specs.InlineRoom.{exceeds_inline_room}
 use Rattle.addr2line_units.specs.ParsesLaws.{IsReached}
 use Rattle.addr2line.specs.WarmUp.{FindsAllWhenWarm, IsFewInlined, IsWarm, LocatesWhenWarm}
 use Rattle.addr2line.proofs.NoLoadLemmas.{holds_more}
+use Rattle.addr2line.proofs.Facts.{all_hold}
 
 -- what is warm stays so where nothing is forgotten
 warm_stays : (old new : ContextState) → IsWarm old → new.sections ≡ old.sections → new.answers ≡ old.answers → StaysParsed old.parsed new.parsed → IsAllKnown new → IsWarm new
@@ -21,19 +22,12 @@ reached_ends (Ok (Finds n frames)) h = refl
 reached_ends (Ok FindsNothing) h = refl
 reached_ends (Err e) h = absurd h
 
-both_known : (k l a : Bool) (b : Bool) → k ≡ true → l ≡ true → b ≡ true → ((k && (a || l)) && b) ≡ true
-both_known true true true true e f g = refl
-both_known true true false true e f g = refl
-both_known k l a false e f g = absurd cc
-both_known k false a true e f g = absurd cc
-both_known false true a true e f g = absurd cc
-
 -- all is known of a few
 known_few : (faults : OnFault) (c : ContextState) (probe : ℕ) → IsWarm c → IsFewInlined faults c probe → IsKnownFew faults c probe
 known_few faults c probe w few m e = holds_more (λ n. not (exceeds_inline_room (inlined_at_number (main_scope c.sections m) m.units c.answers probe n))) (has_few_of c probe m) (asked_of faults c.sections c.answers probe m) (cover probe m.ranges) each (few m e)
   where
     each : (n : ℕ) → not (exceeds_inline_room (inlined_at_number (main_scope c.sections m) m.units c.answers probe n)) ≡ true → has_few_of c probe m n ≡ true
-    each n h = both_known (knows_at c.known probe n) (has_parsed c.parsed n) (not (asks_lines_of (main_scope c.sections m) m.units c.answers probe n)) _ (w.known probe n) (w.parsed n) h
+    each n h = all_hold (knows_at c.known probe n) (has_parsed c.parsed n) (not (asks_lines_of (main_scope c.sections m) m.units c.answers probe n)) _ (w.known probe n) (w.parsed n) h
 
 -- the functions that are inlined at an address depend on the sections and first answers alone
 module _ (faults : OnFault) (probe : ℕ) (old new : ContextState) where

@@ -27,7 +27,8 @@ AnswersAreOfFiles compressed old new = (n : ℕ) (sections : Sections)
     → (answer_of old.answers n ≡ Some (Some sections))
     ⊎ ((load : SplitLoad) × IsLoadOf old.sections n load × AreOfSomeFile compressed load sections)
 
--- each first answer was there before, or is the one that these files give to its unit's load
+-- each first answer was there before, or is the one that these files, as they are at the call, give
+-- to its unit's load
 abbrev pub AnswersAreByFiles : ReadFiles → ContextState → ContextState → Type 0
 AnswersAreByFiles files old new = (n : ℕ) (answer : Option Sections)
     → answer_of new.answers n ≡ Some answer
@@ -68,8 +69,8 @@ StayEnded old new = (probe : ℕ) → WaitsForNone old probe
     ≡ lookup_stop Stop old.sections old.answers probe
 
 -- loads of a context were answered by files: the sections are the same, first answers stay, and
--- each new one is none or of some file, by files that are known the one that they give. All lookups
--- of frames give the same by files that are known; whatever the files are, those come to the same
+-- each new one is none or of some file, and where the files are known the one that they give. By
+-- known files all lookups of frames give the same; whatever the files are, those come to the same
 -- that wait for none. What was parsed of lines stays parsed, what was known of the units that
 -- weren't answered stays known, and the steps don't get fewer
 pub record AfterAnswers (compressed : CompressedSections) (files : Option ReadFiles)

@@ -47,7 +47,7 @@ impl<R: Reader> Context<R> {
     ///
     /// The sets of `.debug_aranges` are read, then the headers, records and range attributes of all
     /// units, then the headers and records of the supplementary file. The line program of a unit is
-    /// run here only where no range is given for it: by its range list if it has one,
+    /// run here only where no range is listed for it: by its range list if it has one,
     /// else by `.debug_aranges`, else by its other attributes.
     ///
     /// Refused by the first fault of a set's header, of a unit's header, or of the range attributes

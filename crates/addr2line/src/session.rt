@@ -96,7 +96,8 @@ fn suspended_reply<R: Reader, K: LookupKind>(next: Suspended<'_, R, K, SplitDwar
 }
 
 // The reply of a lookup that was begun, with answers to its loads in turn; where none is left it is
-// given up. What it gives in the end is turned into a reply. A macro, since no function over any
+// given up. What it gives in the end is turned into a reply. It returns from the function that
+// calls it where the lookup ends, is given up or is refused. A macro, since no function over any
 // kind of lookup can say which context it leaves.
 macro_rules! answer_in_turn {
     ($begun:expr, $answers:expr, $found:ident => $reply:expr) => {{

@@ -1,6 +1,6 @@
 -- What lemmas say of all caches at once, beside what contracts say of one (on
--- specs/UnitsCached.antt and specs/FramesCached.antt).
-use Rattle.std.specs.Prelude.{◌≡◌, ◌⊎◌, ◌&&◌, ℕ, Bool, true, false, not, List, IfSome, Option, Some, None, option_map, slice_get, unwrap_or}
+-- specs/UnitsCached.antt, UnitLinesCached, EntriesCached, UnitViewCached and FramesCached).
+use Rattle.std.specs.Prelude.{◌≡◌, ◌⊎◌, ◌&&◌, ◌||◌, ℕ, Bool, true, false, not, List, IfSome, Option, Some, None, option_map, slice_get, unwrap_or}
 use Rattle.std.specs.List.{AllZip}
 use Rattle.addr2line_units.specs.Common.{Sections, UnitRecord, Scope}
 use Rattle.addr2line_units.specs.declared.entries.UnitCache.{UnitCache}
@@ -12,7 +12,7 @@ use Rattle.addr2line_units.specs.EntriesCached.{AreEntriesOf, ReadsEntriesOf, St
 use Rattle.addr2line_units.specs.Frames.{FrameRecord}
 use Rattle.addr2line_units.specs.FramesCached.{IsFramePlaceIn, frames_at_place}
 use Rattle.addr2line_units.specs.LocationsParsed.{has_parsed}
-use Rattle.addr2line_units.specs.UnitLinesCached.{StaysUnit, parsed_units}
+use Rattle.addr2line_units.specs.UnitLinesCached.{StayLines, parsed_units}
 use Rattle.addr2line_units.specs.UnitViewCached.{IsViewOf, is_decided}
 
 -- beside each unit stands what is cached of its entries, which is its own
@@ -32,8 +32,8 @@ abbrev pub HaveSameEntries : {R : Type 0} → List (UnitCache R) → List (UnitC
 HaveSameEntries old new = AllZip (λ a b. b.entries ≡ a.entries) old new
 
 -- what is cached of the lines of each unit stays
-abbrev pub StayUnits : {R : Type 0} → List (UnitCache R) → List (UnitCache R) → Type 0
-StayUnits old new = AllZip (λ a b. StaysUnit a.lines b.lines) old new
+abbrev pub StayAllLines : {R : Type 0} → List (UnitCache R) → List (UnitCache R) → Type 0
+StayAllLines old new = AllZip (λ a b. StayLines a.lines b.lines) old new
 
 -- what is cached of the lines of each unit is the same
 abbrev pub HaveSameLines : {R : Type 0} → List (UnitCache R) → List (UnitCache R) → Type 0
@@ -52,8 +52,8 @@ abbrev pub decided_at : {R : Type 0} → List (UnitCache R) → ℕ → Bool
 decided_at caches n =
     unwrap_or (option_map (λ c. is_decided c.entries.view.state) (slice_get caches n)) false
 
--- for which units what they have at the probe is known by what is cached of their entries; a number
--- of no unit asks for none
+-- whether what the unit of a number has at the probe is known by what is cached of its entries; true
+-- where there is no such unit
 abbrev pub has_entries_at : {R : Type 0} → ℕ → List (UnitCache R) → ℕ → Bool
 has_entries_at probe caches n =
     unwrap_or (option_map (λ c. has_entries probe c.entries) (slice_get caches n)) true

@@ -1,6 +1,6 @@
 -- A unit of which it is known that it has nothing at any address is passed by a lookup, and nothing
 -- is left to read there (on specs/EntriesEmpty.antt).
-use Rattle.addr2line_units.proofs.Common.{◌≡◌, ◌∙◌, ℕ, ◌<◌, ◌&&◌, ◌||◌, true, false, not, is_none, is_ok, List, [], length, get_or, slice_get, Option, Some, None, IfSome, IfOk, Result, Ok, Err, refl, sym, ap, subst, arith, set, set-get_or, Error, ◌>>=◌, Sections, UnitRecord, functions_of, location_at, Scope, unit_lines, LazyFunctions, UnitCache, FramesStop, LazyLines, ViewState, AreEntriesOf, first_answer_of, has_answered, has_entries, has_entries_by, has_frames_at, AreFunctionsOf, AreLinesOf, indexed_unit, indexed_units, is_uncached, no_lines, parsed_units, answers_in, as_sections, unboxed, verdict_in, view_by, FindsNothing, LookupStop, after_fault, asks_lines_of, or_stop, has_parsed, AreUnits, as_units_state, FramesResult, frames_in, function_by, function_in, View, is_open, verdict, view_scope}
+use Rattle.addr2line_units.proofs.Common.{◌≡◌, ◌∙◌, ℕ, ◌<◌, ◌&&◌, ◌||◌, true, false, not, is_none, is_ok, List, [], length, get_or, slice_get, Option, Some, None, IfSome, IfOk, Result, Ok, Err, refl, sym, ap, subst, arith, set, set-get_or, Error, ◌>>=◌, Sections, UnitRecord, functions_of, location_at, Scope, unit_lines, LazyFunctions, UnitCache, FramesStop, LazyLines, ViewState, AreEntriesOf, first_answer_of, has_answered, has_entries, has_entries_by, AreFunctionsOf, AreLinesOf, indexed_unit, indexed_units, is_uncached, no_lines, parsed_units, answers_in, as_sections, unboxed, verdict_in, view_by, FindsNothing, LookupStop, after_fault, asks_lines_of, or_stop, has_parsed, AreUnits, as_units_state, FramesResult, frames_in, function_by, function_in, View, is_open, verdict, view_scope}
 use Rattle.std.specs.Prelude.{Box}
 use Rattle.std.specs.declared.alloc.Global.{Global}
 use Rattle.addr2line_units.specs.declared.entries.LazyFunctions.TheVariants as functions
@@ -12,8 +12,8 @@ use Rattle.addr2line_units.proofs.EntriesKnownLemmas.{known_is}
 use Rattle.addr2line_units.proofs.FramesNumberedLemmas.{frames_are, known_then}
 use Rattle.addr2line_units.proofs.UnitsAtLemmas.{all_entries, as_many, its_entries, its_lines, unit_is}
 use Rattle.addr2line_units.proofs.EntriesFrameLemmas.{lines_frames}
-use Rattle.addr2line_units.proofs.FramesWalkLemmas.{and_first, and_second}
-use Rattle.addr2line_units.proofs.LoadsLemmas.{slice_get_none}
+use Rattle.addr2line_units.proofs.Facts.{and_first, and_second, slice_get_none}
+use Rattle.addr2line_units.proofs.CachedUnits.{has_frames_at}
 
 -- what is absent
 functions_absent : {R : Type 0} (f : LazyFunctions R) → has_no_functions f ≡ true → f ≡ functions.Absent

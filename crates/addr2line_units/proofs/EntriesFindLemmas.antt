@@ -8,10 +8,11 @@ use Rattle.addr2line_units.specs.declared.entries.FunctionPlace.{FunctionPlace}
 use Rattle.addr2line_units.specs.declared.entries.LazyFunctions.TheVariants as lazy
 use Rattle.addr2line_units.specs.CacheAfter.{AfterCachingFunctions, AfterFunction}
 use Rattle.addr2line_units.specs.EntriesFunctions.{found_in_cache}
-use Rattle.addr2line_units.proofs.EntriesFunctionLemmas.{and_weaker, chain_found, details_before, function_is, memory_before, none_before, none_found, number_stays, reads_one, refused_chain, refused_detail, stay_faulty, stay_read, table_stays}
+use Rattle.addr2line_units.proofs.EntriesFunctionLemmas.{chain_found, details_before, function_is, memory_before, none_before, none_found, number_stays, reads_one, refused_chain, refused_detail, stay_faulty, stay_read, table_stays}
 use Rattle.addr2line_units.proofs.EntriesLearnedLemmas.{cache_reads_none}
 use Rattle.addr2line_units.proofs.EntriesPlaceLemmas.{cached_is_not_oom, cached_unless_oom, chain_fits, chain_known, known_stays, refused_fault, refused_known, same_known, table_known}
 use Rattle.addr2line_units.proofs.ParsesCachedLemmas.{cached_stay}
+use Rattle.addr2line_units.proofs.Facts.{and_weaker}
 
 -- functions that weren't read take memory, or memory is their fault
 not_read_takes : {R : Type 0} (shares : Bool) (scope : Scope) (view : UnitRecord) (old new : LazyFunctions R) (probe : ℕ) (x : Error) → (were_read old ≡ true → ⊥) → new ≡ old → x ≡ OutOfMemory

@@ -149,7 +149,7 @@ module _ {R : Type 0} (shares : Bool) (scope : Scope) (u : UnitRecord) (probe : 
     }
 
 -- the frames of a unit that was looked at
-module _ {R : Type 0} (shares : Bool) (scope : Scope) (u : UnitRecord) (probe : ℕ) (was : UnitCache R) (own : AreLinesOf scope.file.sections u was.lines.lines) (mid : EntriesCache R) (look : AfterCheck scope u was.entries mid) where
+module _ {R : Type 0} (shares : Bool) (scope : Scope) (u : UnitRecord) (probe : ℕ) (was : UnitCache R) (own : AreLinesOf scope.file.sections u was.lines.lines) (mid : EntriesCache R) (check : AfterCheck scope u was.entries mid) where
   abbrev x : IndexedUnit
   x = indexed_unit u was.lines
 
@@ -159,20 +159,20 @@ module _ {R : Type 0} (shares : Bool) (scope : Scope) (u : UnitRecord) (probe : 
   -- it waits
   module _ (waiting : waits mid.view.state ≡ true) where
     open_now : is_open scope.file.sections u answer ≡ true
-    open_now = ap (is_open scope.file.sections u) (sym look.stay.answer) ∙ waiting_stays_open scope.file.sections u mid.view waiting look.right.view
+    open_now = ap (is_open scope.file.sections u) (sym check.stay.answer) ∙ waiting_stays_open scope.file.sections u mid.view waiting check.right.view
 
     pub waits_gives : frames_in scope x answer probe ≡ Ok None
     waits_gives = open_frames scope x answer probe open_now
 
     pub waits_after : AfterFramesIn shares scope u probe (Ok found.Open) was (record { lines = was.lines; entries = mid })
     waits_after = record {
-      right = record { lines = own; entries = look.right };
+      right = record { lines = own; entries = check.right };
       there = tt;
-      unit = record { language = refl; lines = λ _. refl };
-      stay = look.stay;
+      lines = record { language = refl; lines = λ _. refl };
+      stay = check.stay;
       within = record {
-        alone = λ n ne. ap (λ (fs : LazyFunctions R). cached_detail (cached_functions fs) n) look.functions;
-        kept = λ has. look.kept (known_checks probe was.entries.view.state was.entries.functions has);
+        alone = λ n ne. ap (λ (fs : LazyFunctions R). cached_detail (cached_functions fs) n) check.functions;
+        kept = λ has. check.kept (known_checks probe was.entries.view.state was.entries.functions has);
       };
       kept = λ _. refl;
       ready = λ _. waiting_entries probe mid.view.state mid.functions waiting;
@@ -184,26 +184,26 @@ module _ {R : Type 0} (shares : Bool) (scope : Scope) (u : UnitRecord) (probe : 
   -- it doesn't, and the function was looked for
   module _ (shut : waits mid.view.state ≡ false) (new : EntriesCache R) where
     closed : is_open scope.file.sections u answer ≡ false
-    closed = ap (is_open scope.file.sections u) (sym look.stay.answer) ∙ not_open scope u probe mid look.right (checked_decides mid.view.state look.known shut)
+    closed = ap (is_open scope.file.sections u) (sym check.stay.answer) ∙ not_open scope u probe mid check.right (checked_decides mid.view.state check.known shut)
 
     before : {r : Result (Option FoundFunction) Error} → function_in scope u (first_answer_of mid) probe ≡ r → function_in scope u answer probe ≡ r
-    before h = ap (λ a. function_in scope u a probe) (sym look.stay.answer) ∙ h
+    before h = ap (λ a. function_in scope u a probe) (sym check.stay.answer) ∙ h
 
     few_then : HasFewInlined scope u answer probe → HasFewInlined scope u (first_answer_of mid) probe
-    few_then few = ap (λ a. exceeds_inline_room (inlined_of_unit scope u a probe)) look.stay.answer ∙ few
+    few_then few = ap (λ a. exceeds_inline_room (inlined_of_unit scope u a probe)) check.stay.answer ∙ few
 
     module _ {result : Result (Option FunctionPlace) Error} (f : AfterFunctionIn shares scope u probe result mid new) where
       within_now : ReadsEntriesOf probe was.entries new
       within_now = record {
-        alone = λ n ne. f.within.alone n ne ∙ ap (λ (fs : LazyFunctions R). cached_detail (cached_functions fs) n) look.functions;
-        kept = λ has. (let is = look.kept (known_checks probe was.entries.view.state was.entries.functions has) in f.within.kept (ap (has_entries probe) is ∙ has) ∙ is);
+        alone = λ n ne. f.within.alone n ne ∙ ap (λ (fs : LazyFunctions R). cached_detail (cached_functions fs) n) check.functions;
+        kept = λ has. (let is = check.kept (known_checks probe was.entries.view.state was.entries.functions has) in f.within.kept (ap (has_entries probe) is ∙ has) ∙ is);
       }
 
       stay_now : StayEntries was.entries new
       stay_now = record {
-        answer = f.stay.answer ∙ look.stay.answer;
-        view = λ checked. f.stay.view (ap (λ (v : UnitView R). was_checked v.state) (look.stay.view checked) ∙ checked) ∙ look.stay.view checked;
-        functions = subst (λ (fs : LazyFunctions R). StayFunctions fs new.functions) look.functions f.stay.functions;
+        answer = f.stay.answer ∙ check.stay.answer;
+        view = λ checked. f.stay.view (ap (λ (v : UnitView R). was_checked v.state) (check.stay.view checked) ∙ checked) ∙ check.stay.view checked;
+        functions = subst (λ (fs : LazyFunctions R). StayFunctions fs new.functions) check.functions f.stay.functions;
       }
 
     -- the function is refused
@@ -215,7 +215,7 @@ module _ {R : Type 0} (shares : Bool) (scope : Scope) (u : UnitRecord) (probe : 
       no_function_after = record {
         right = record { lines = own; entries = f.right };
         there = tt;
-        unit = record { language = refl; lines = λ _. refl };
+        lines = record { language = refl; lines = λ _. refl };
         stay = stay_now f;
         within = within_now f;
         kept = λ _. refl;
@@ -223,7 +223,7 @@ module _ {R : Type 0} (shares : Bool) (scope : Scope) (u : UnitRecord) (probe : 
         known = λ ne asks. absurd (false≢true (sym (closed_asks scope x answer probe closed (Err e) (before (gives ne))) ∙ asks));
         memory = λ has _ few. f.memory has (few_then few);
         no_memory = λ none. fault_frames scope x answer probe closed e (before
-            (function_alone shares scope u (first_answer_of mid) probe was.lines new e (subst (λ a. AsksNoMemoryIn shares scope u a probe was.lines new) (sym look.stay.answer) none) f.memory gives f.no_memory));
+            (function_alone shares scope u (first_answer_of mid) probe was.lines new e (subst (λ a. AsksNoMemoryIn shares scope u a probe was.lines new) (sym check.stay.answer) none) f.memory gives f.no_memory));
       }
 
     -- it is found, or there is none
@@ -243,7 +243,7 @@ module _ {R : Type 0} (shares : Bool) (scope : Scope) (u : UnitRecord) (probe : 
         no_lines_after = record {
           right = record { lines = r.right; entries = f.right };
           there = tt;
-          unit = r.stay;
+          lines = r.stay;
           stay = stay_now f;
           within = within_now f;
           kept = unasked;
@@ -266,7 +266,7 @@ module _ {R : Type 0} (shares : Bool) (scope : Scope) (u : UnitRecord) (probe : 
         here_after = record {
           right = record { lines = r.right; entries = f.right };
           there = (f.there, here.0);
-          unit = r.stay;
+          lines = r.stay;
           stay = stay_now f;
           within = within_now f;
           kept = unasked;

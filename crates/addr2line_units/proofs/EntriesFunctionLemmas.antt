@@ -1,5 +1,5 @@
 -- The function at an address by what is cached of a view (on specs/EntriesFunctions.antt).
-use Rattle.addr2line_units.proofs.Common.{Box, Global, ◌≡◌, ◌≢◌, ℕ, ◌+◌, ◌==◌, ◌&&◌, ◌⊎◌, inl, inr, nat_lt, not, Bool, true, false, cond, List, [], ◌∷◌, length, map, slice_get, slice_set, Option, Some, None, option_and_then, option_map, unwrap_or, Result, Ok, Err, refl, ap, sym, subst, ◌∙◌, zero, suc, OnOk, AllByRecursion, AllZip, position_or_len, DwLang, Error, OutOfMemory, ◌>>=◌, ExactlyUnlessOomIf, fault_of, Section, Sections, UnitRecord, Detail, detail_at, InlinedEntry, FunctionRange, entries_of, function_offset_at, functions_of, functions_take_memory, AreDetailsOf, AreUnread, IsDetailOf, IsFunctionMore, IsReadAt, IsReadOf, IsReadOnce, IsTableMore, IsWithDetail, details_fault, details_take_memory, AreListed, CachedFunction, FunctionTable, cached_detail, cached_inlined, cached_name, function_place_at, inlined_of_detail, name_of_detail, cached_offset_at, Location, exceeds_inline_room, Scope, all_at, get_set_other, some_at, read_more, read_right, unread_right, LazyFunctions, FrameRecord, found_frames, found_function, frames_from, function_at, function_from, ArePlacesIn, IsTableOf, ReadsNoOther, StayFunctions, cached_detail_takes_memory, cached_takes_memory, details_at, find_takes_memory, function_of_place, functions_fault, cached_functions, place_takes_memory, reading_takes_memory, table_takes_memory, were_read, memory_or_not}
+use Rattle.addr2line_units.proofs.Common.{Box, Global, ◌≡◌, ◌≢◌, ℕ, ◌+◌, ◌==◌, ◌&&◌, ◌⊎◌, inl, inr, nat_lt, not, Bool, true, false, cond, List, [], ◌∷◌, length, map, slice_get, slice_set, Option, Some, None, option_and_then, option_map, unwrap_or, Result, Ok, Err, refl, ap, sym, subst, ◌∙◌, zero, suc, AllByRecursion, AllZip, position_or_len, DwLang, Error, OutOfMemory, ◌>>=◌, ExactlyUnlessOomIf, fault_of, Section, Sections, UnitRecord, Detail, detail_at, InlinedEntry, FunctionRange, entries_of, function_offset_at, functions_of, functions_take_memory, AreDetailsOf, AreUnread, IsDetailOf, IsFunctionMore, IsReadAt, IsReadOf, IsReadOnce, IsTableMore, IsWithDetail, details_fault, details_take_memory, AreListed, CachedFunction, FunctionTable, cached_detail, cached_inlined, cached_name, function_place_at, inlined_of_detail, name_of_detail, cached_offset_at, Location, exceeds_inline_room, Scope, all_at, get_set_other, some_at, read_more, read_right, unread_right, LazyFunctions, FrameRecord, found_frames, found_function, frames_from, function_at, function_from, ArePlacesIn, IsTableOf, ReadsNoOther, StayFunctions, cached_detail_takes_memory, cached_takes_memory, details_at, find_takes_memory, function_of_place, functions_fault, cached_functions, place_takes_memory, reading_takes_memory, table_takes_memory, were_read, memory_or_not}
 use Rattle.std.specs.Prelude.{IfSome, position, reverse}
 use Rattle.addr2line_lines.specs.CachedNames.{AreNamesOf}
 use Rattle.addr2line_lines.specs.InlinedChain.{inlined_chain}
@@ -262,20 +262,10 @@ fault_is scope view t h =
 pub table_more : (scope : Scope) (view : UnitRecord) (old new : FunctionTable) → IsTableOf scope view old → IsTableMore old new → AreDetailsOf scope view new → AreNamesOf scope view new.names → IsTableOf scope view new
 table_more scope view old new h more details names = record { ranges = h.ranges ∙ ap Ok (sym more.ranges); listed = more_listed old new h.listed more; details = details; names = names }
 
--- what follows of an answer
-pub on_ok : {X E : Type 0} {P Q : Type 0} (r : Result X E) → (P → Q) → OnOk r P → OnOk r Q
-on_ok (Ok x) f h = f h
-on_ok (Err e) f h = tt
-
 -- memory may be taken more often
 pub exactly_weaker : {X Y : Type 0} (a b : Bool) (see : X → Y) (r : Result X Error) (given : Result Y Error) → (a ≡ true → b ≡ true) → ExactlyUnlessOomIf a see r given → ExactlyUnlessOomIf b see r given
 exactly_weaker a b see (Ok x) given w h = h
 exactly_weaker a b see (Err e) given w h = λ ne. h (λ t. ne (w t))
-
--- a test beside another
-pub and_weaker : (a b c : Bool) → (a ≡ true → b ≡ true) → (a && c) ≡ true → (b && c) ≡ true
-and_weaker true b c w h = ap (λ x. x && c) (w refl) ∙ h
-and_weaker false b c w h = absurd cc
 
 -- the first fault of a view without functions, which has none
 pub no_fault_of : (scope : Scope) (view : UnitRecord) → functions_of scope.file.sections view ≡ Ok [] → functions_fault scope view ≡ Ok tt

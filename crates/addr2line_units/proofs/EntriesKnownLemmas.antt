@@ -1,8 +1,9 @@
 -- What is known of the entries of units (on specs/EntriesKnown.antt and specs/EntriesKnownCached.antt).
-use Rattle.addr2line_units.proofs.Common.{◌≡◌, ◌∙◌, ap, sym, refl, ℕ, Bool, true, false, List, [], ◌∷◌, map, Option, Some, None, option_map, unwrap_or, slice_get, Result, Ok, Err, if◌then◌else◌, slice_get-map, Error, UnitRecord, LazyFunctions, UnitCache, ViewState, has_answered, has_entries, has_entries_by, cached_has_function, is_cached_fault, no_functions, AreFreshOf, has_entries_at, was_checked, known_answer, known_by, known_fault, known_functions, known_in, AllKnown, KnownEntries, NothingKnown, is_known_at, knows_at}
+use Rattle.addr2line_units.proofs.Common.{◌≡◌, ◌∙◌, ap, sym, refl, ℕ, Bool, true, false, List, [], ◌∷◌, map, Option, Some, None, option_map, unwrap_or, slice_get, Result, Ok, Err, if◌then◌else◌, slice_get-map, Error, UnitRecord, LazyFunctions, UnitCache, ViewState, has_answered, has_entries, has_entries_by, cached_has_function, is_cached_fault, no_functions, AreFreshOf, was_checked, known_answer, known_by, known_fault, known_functions, known_in, AllKnown, KnownEntries, NothingKnown, is_known_at, knows_at}
 use Rattle.addr2line_units.specs.declared.entries.LazyFunctions.TheVariants as lazy
 use Rattle.addr2line_units.specs.declared.unit.ViewState.TheVariants as states
 use Rattle.addr2line_units.proofs.EntriesKnownTableLemmas.{table_known}
+use Rattle.addr2line_units.proofs.CachedUnits.{has_entries_at}
 
 fault_known : (probe : ℕ) (e : Error) → is_known_at probe (known_fault e) ≡ is_cached_fault e
 fault_known probe e = by (is_cached_fault e)

@@ -6,11 +6,11 @@ use Rattle.std.proofs.lemmas.List.Quantifiers.{position-Some}
 use Rattle.std.specs.Prelude.{IfOk, IfSome, is_some, unwrap_or}
 use Rattle.addr2line_units.specs.declared.entries.LazyFunctions.TheVariants as lazy
 use Rattle.addr2line_units.specs.declared.unit.ViewState.TheVariants as states
-use Rattle.addr2line_units.proofs.LoadsAnswerLemmas.{others_stay, decided_was_checked}
+use Rattle.addr2line_units.proofs.LoadsAnswerLemmas.{decided_was_checked}
 use Rattle.addr2line_units.proofs.EntriesFunctionLemmas.{first_same, unread_at}
 use Rattle.addr2line_units.proofs.EntriesKnownLemmas.{known_unchanged}
 use Rattle.addr2line_units.proofs.EntriesKnownTableLemmas.{detail_known, find_known}
-use Rattle.addr2line_units.proofs.FramesNumberedLemmas.{got_set}
+use Rattle.addr2line_units.proofs.Facts.{got_set, never, others_stay}
 
 -- the place of the first function whose entry begins at an offset
 abbrev first_at : ℕ → FunctionTable → ℕ
@@ -75,9 +75,6 @@ fault_has_none offset e = by (is_cached_fault e)
     by : (b : Bool) → knows_detail offset (if b then AllKnown else NothingKnown) ≡ false
     by true = refl
     by false = refl
-
-never : {A : Type 0} → false ≡ true → A
-never e = absurd cc
 
 module _ {R : Type 0} (offset : ℕ) where
   -- the functions of a view that were read

@@ -8,16 +8,12 @@ use Rattle.addr2line_lines.specs.FileTexts.{file_texts}
 use Rattle.addr2line_units.specs.declared.entries.LazyFunctions.TheVariants as lazy
 use Rattle.addr2line_lines.proofs.FaultLemmas.{unit_lines_are}
 use Rattle.addr2line_units.proofs.EntriesFunctionMemoryLemmas.{details_take, place_takes}
+use Rattle.addr2line_units.proofs.Facts.{or_none}
 
 -- where no memory may be taken, a refusal is what is given
 pub exactly_if_none : {X Y : Type 0} (may : Bool) (see : X → Y) (r : Result X Error) (given : Result Y Error) → may ≡ false → ExactlyUnlessOomIf may see r given → IfErr r (λ e. given ≡ Err e)
 exactly_if_none may see (Ok x) given none h = tt
 exactly_if_none may see (Err e) given none h = h (λ takes. let no : false ≡ true = sym none ∙ takes in absurd cc)
-
-or_none : (a b : Bool) → (a || not b) ≡ false → (a ≡ false) × (b ≡ true)
-or_none true b e = cc
-or_none false true e = (refl, refl)
-or_none false false e = cc
 
 -- the fault that a program has at once is that of its lines
 pub at_once : (d : Sections) (u : UnitRecord) (p : Program) (e : Error) → (lines_of p).left ≡ Err e ∷ [] → program_lines d u p ≡ Err e

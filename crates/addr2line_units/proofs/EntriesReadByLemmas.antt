@@ -1,5 +1,5 @@
 -- What is known of units that were read, and of units that aren't open (on specs/EntriesStayKnown.antt).
-use Rattle.addr2line_units.proofs.Common.{◌≡◌, ◌⊎◌, inl, inr, ℕ, zero, suc, ◌≤◌, arith, Bool, true, false, List, [], ◌∷◌, length, Option, Some, refl, ◌∙◌, Sections, UnitRecord, Scope, is_open_at, LazyFunctions, ReadingDepth, UnitCache, ViewState, were_read, HaveEntriesOf, answers_in, decided_at, has_entries_at, answer_of, answer_in, is_decided, known_by, known_functions, NothingKnown, AllKnown}
+use Rattle.addr2line_units.proofs.Common.{◌≡◌, ◌⊎◌, inl, inr, ℕ, zero, suc, ◌≤◌, arith, Bool, true, false, List, [], ◌∷◌, length, Option, Some, refl, ◌∙◌, Sections, UnitRecord, Scope, is_open_at, LazyFunctions, ReadingDepth, UnitCache, ViewState, were_read, HaveEntriesOf, answers_in, answer_of, answer_in, is_decided, known_by, known_functions, NothingKnown, AllKnown}
 use Rattle.std.specs.Prelude.{if◌then◌else◌}
 use Rattle.addr2line_units.specs.declared.entries.LazyFunctions.TheVariants as lazy
 use Rattle.addr2line_units.specs.declared.unit.ViewState.TheVariants as states
@@ -7,6 +7,7 @@ use Rattle.addr2line_units.proofs.LoadsAnswerLemmas.{checked_waits}
 use Rattle.addr2line_units.proofs.FramesWaitLemmas.{known_was_checked}
 use Rattle.addr2line_units.specs.EntriesStayKnown.{IsReadBy}
 use Rattle.addr2line_units.proofs.EntriesLemmas.{checked_decides}
+use Rattle.addr2line_units.proofs.CachedUnits.{decided_at, has_entries_at}
 
 -- no fault was read
 pub never_fault : (depth : ReadingDepth) (b : Bool) → IsReadBy depth (if b then AllKnown else NothingKnown) → ⊥

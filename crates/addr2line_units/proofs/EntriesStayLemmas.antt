@@ -1,5 +1,5 @@
 -- What was known of units stays known (on specs/EntriesStayKnown.antt).
-use Rattle.addr2line_units.proofs.Common.{◌≡◌, ◌⊎◌, inl, inr, ℕ, zero, suc, ◌≤◌, arith, true, false, List, [], ◌∷◌, length, slice_get, Option, Some, None, option_map, Result, Ok, Err, refl, sym, ◌∙◌, subst, AllZip, Error, UnitRecord, Detail, AreCachedToFault, IsCachedToFault, IsFunctionMore, IsTableMore, CachedFunction, FunctionTable, Scope, LazyFunctions, ReadingDepth, UnitCache, EntriesCache, ViewState, IsReadyFor, StayEntries, StayFunctions, HaveEntriesOf, StayAllEntries, answers_in, decided_at, was_checked, known_answer, known_by, known_functions, known_in, known_table, KnownEntries, is_known_at, is_open_at}
+use Rattle.addr2line_units.proofs.Common.{◌≡◌, ◌⊎◌, inl, inr, ℕ, zero, suc, ◌≤◌, arith, true, false, List, [], ◌∷◌, length, slice_get, Option, Some, None, option_map, Result, Ok, Err, refl, sym, ◌∙◌, subst, AllZip, Error, UnitRecord, Detail, AreCachedToFault, IsCachedToFault, IsFunctionMore, IsTableMore, CachedFunction, FunctionTable, Scope, LazyFunctions, ReadingDepth, UnitCache, EntriesCache, ViewState, IsReadyFor, StayEntries, StayFunctions, HaveEntriesOf, answers_in, was_checked, known_answer, known_by, known_functions, known_in, known_table, KnownEntries, is_known_at, is_open_at}
 use Rattle.std.specs.Prelude.{IfSome, unwrap_or}
 use Rattle.addr2line_units.specs.declared.entries.LazyFunctions.TheVariants as lazy
 use Rattle.addr2line_units.specs.declared.parses.ReadingDepth.TheVariants as depths
@@ -10,6 +10,7 @@ use Rattle.addr2line_units.proofs.EntriesKnownLemmas.{known_is}
 use Rattle.addr2line_units.proofs.EntriesKnownTableLemmas.{to_fault_cached, to_fault_known}
 use Rattle.addr2line_units.specs.EntriesStayKnown.{IsReadyAt, StaysKnown, StaysKnownOf}
 use Rattle.addr2line_units.proofs.EntriesLemmas.{checked_decides}
+use Rattle.addr2line_units.proofs.CachedUnits.{StayAllEntries, decided_at}
 
 pub known_of_twice : (n : ℕ) (old mid new : List KnownEntries) → StaysKnownOf n old mid → StaysKnownOf n mid new → StaysKnownOf n old new
 known_of_twice n old mid new a b = record {

@@ -1,6 +1,6 @@
 -- What the units of a context are after one of them was asked (on specs/UnitsAfter.antt and
 -- specs/UnitsStored.antt).
-use Rattle.addr2line_units.proofs.Common.{◌≡◌, ◌≢◌, ◌⊎◌, inl, inr, ℕ, ◌<◌, ◌≤◌, ◌&&◌, ◌||◌, Bool, true, false, not, List, [], ◌∷◌, length, get_or, slice_get, Option, Some, None, Result, Ok, Err, refl, sym, ap, subst, ◌∙◌, arith, set, IfErr, Error, OutOfMemory, ◌>>=◌, ExactlyUnlessOom, WasNotRefused, Sections, UnitRecord, exceeds_inline_room, Scope, OnFault, FramesStop, UnitRange, UnitCache, AfterAsk, found_stop, stop_at, functions_in_take_memory, lines_of_take_memory, lines_take_memory, AreFramesIn, first_answer_of, frames_of_place, AreFoundAt, IsLendable, IsStopIn, found_after_fault, frames_found_at, has_frames_at, as_stop, stop_of_found, StayUnits, indexed_unit, indexed_units, parsed_units, HaveEntriesOf, StayAllEntries, answers_in, has_entries_at, FindsNothing, LookupStop, after_fault, asks_lines_of, ends_lookup, function_offset_of, functions_of_take_memory, inlined_at_number, or_stop, known_in, knows_detail_at, has_parsed, AreUnits, as_units_state, FramesResult, asks_lines_in, frames_in, inlined_of_unit, IsFaultAt, UnitsState, asked_by, takes_none_at, has_all_at, reads_no_memory_at}
+use Rattle.addr2line_units.proofs.Common.{◌≡◌, ◌≢◌, ◌⊎◌, inl, inr, ℕ, ◌<◌, ◌≤◌, ◌&&◌, ◌||◌, Bool, true, false, not, List, [], ◌∷◌, length, get_or, slice_get, Option, Some, None, Result, Ok, Err, refl, sym, ap, subst, ◌∙◌, arith, set, IfErr, Error, OutOfMemory, ◌>>=◌, ExactlyUnlessOom, WasNotRefused, Sections, UnitRecord, exceeds_inline_room, Scope, OnFault, FramesStop, UnitRange, UnitCache, AfterAsk, found_stop, stop_at, functions_in_take_memory, lines_of_take_memory, lines_take_memory, AreFramesIn, first_answer_of, frames_of_place, IsLendable, found_after_fault, as_stop, stop_of_found, indexed_unit, indexed_units, parsed_units, HaveEntriesOf, answers_in, FindsNothing, LookupStop, after_fault, asks_lines_of, ends_lookup, function_offset_of, functions_of_take_memory, inlined_at_number, or_stop, known_in, knows_detail_at, has_parsed, AreUnits, as_units_state, FramesResult, asks_lines_in, frames_in, inlined_of_unit, IsFaultAt, UnitsState, asked_by, takes_none_at, has_all_at, reads_no_memory_at}
 use Rattle.std.specs.Prelude.{IfOk, unwrap_or}
 use Rattle.addr2line_units.specs.declared.frames.Asks.TheVariants as lookups
 use Rattle.addr2line_units.specs.declared.frames.FramesStop.TheVariants as stops
@@ -15,8 +15,8 @@ use Rattle.addr2line_units.proofs.FramesNumberedLemmas.{asks_are, frames_are, fr
 use Rattle.addr2line_units.proofs.EntriesStayLemmas.{stays_known}
 use Rattle.addr2line_units.proofs.UnitsAtLemmas.{all_entries, as_many, cache_within, its_entries, unit_is}
 use Rattle.addr2line_units.proofs.UnitsLinesLemmas.{stay_indexed, stay_parsed, stay_set}
-use Rattle.addr2line_units.proofs.FramesWalkLemmas.{and_first, and_not}
-use Rattle.addr2line_units.proofs.LoadsLemmas.{slice_get_none}
+use Rattle.addr2line_units.proofs.Facts.{and_first, and_not, slice_get_none}
+use Rattle.addr2line_units.proofs.CachedUnits.{AreFoundAt, IsStopIn, StayAllEntries, StayAllLines, frames_found_at, has_entries_at, has_frames_at}
 
 -- a range of the unit of a number
 abbrev range_of : ℕ → List UnitRange
@@ -108,8 +108,8 @@ module _ {R : Type 0} {scope : Scope} {cs : List (UnitCache R)} {last : FramesSt
 
           -- what is known after it
           module _ {shares : Bool} (e : AfterFramesIn shares scope u probe result c w) where
-            stay_lines : StayUnits cs now_cs
-            stay_lines = stay_set cs n c w within at e.unit
+            stay_lines : StayAllLines cs now_cs
+            stay_lines = stay_set cs n c w within at e.lines
 
             stay_entries : StayAllEntries cs now_cs
             stay_entries = stay_entries_set cs n c w within at e.stay

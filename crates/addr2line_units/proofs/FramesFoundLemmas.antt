@@ -1,10 +1,11 @@
 -- The unit in which a lookup of frames has found something (on specs/FramesLookup.antt and
 -- specs/UnitsCached.antt).
-use Rattle.addr2line_units.proofs.Common.{◌≡◌, ℕ, Bool, true, false, ◌&&◌, ◌||◌, List, [], ◌∷◌, Option, Some, None, Result, Ok, Err, ap, refl, subst, Error, ◌>>=◌, ExactlyUnlessOom, WasNotRefused, Sections, UnitRecord, Scope, OnFault, Stop, Skip, FramesStop, UnitRange, UnitCache, indexed_units, FrameRecord, LookupStop, Waits, Finds, FindsNothing, after_fault, asked_frames, ends_lookup, holds_along, or_stop, stop_along, HaveEntriesOf, answers_in, IsLendable, IsStopIn, has_frames_at, as_stop, FramesResult, frames_by, frames_in, function_in, IndexedUnit, FirstAnswers, is_open}
+use Rattle.addr2line_units.proofs.Common.{◌≡◌, ℕ, Bool, true, false, ◌&&◌, ◌||◌, List, [], ◌∷◌, Option, Some, None, Result, Ok, Err, ap, refl, subst, Error, ◌>>=◌, ExactlyUnlessOom, WasNotRefused, Sections, UnitRecord, Scope, OnFault, Stop, Skip, FramesStop, UnitRange, UnitCache, indexed_units, FrameRecord, LookupStop, Waits, Finds, FindsNothing, after_fault, asked_frames, ends_lookup, holds_along, or_stop, stop_along, HaveEntriesOf, answers_in, IsLendable, as_stop, FramesResult, frames_by, frames_in, function_in, IndexedUnit, FirstAnswers, is_open}
 use Rattle.std.specs.Prelude.{IfOk, if◌then◌else◌}
 use Rattle.addr2line_units.specs.declared.frames.FramesStop.TheVariants as stops
 use Rattle.addr2line_units.proofs.FramesWaitLemmas.{waits_where_told}
-use Rattle.addr2line_units.proofs.FramesWalkLemmas.{and_first, and_second}
+use Rattle.addr2line_units.proofs.Facts.{and_first, and_second}
+use Rattle.addr2line_units.proofs.CachedUnits.{IsStopIn, has_frames_at}
 
 number_of : LookupStop → ℕ → ℕ
 number_of (Waits n) d = d

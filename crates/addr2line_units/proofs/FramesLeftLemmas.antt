@@ -1,15 +1,9 @@
 -- Frames by the places of inlined entries (on specs/FramesLeft.antt).
-use Rattle.addr2line_units.proofs.Common.{ℕ, ◌≡◌, ◌+◌, ◌<◌, List, [], ◌∷◌, ◌++◌, map, length, reverse, arith, ◌∙◌, ap, sym, subst, refl, AllByRecursion, length-reverse, map-append, reverse-append, slice_get-get_or, DwLang, InlinedEntry, FunctionTable, cached_name, cached_offset_at, Location, call_location, frames_from, function_frame}
+use Rattle.addr2line_units.proofs.Common.{ℕ, ◌≡◌, ◌+◌, ◌<◌, List, [], ◌∷◌, ◌++◌, map, length, reverse, arith, ◌∙◌, ap, sym, subst, refl, AllByRecursion, length-reverse, reverse-append, slice_get-get_or, DwLang, InlinedEntry, FunctionTable, cached_name, cached_offset_at, Location, call_location, frames_from, function_frame}
 use Rattle.std.specs.Prelude.{Option, Some, None, option_map, slice_get, IfSome}
 use Rattle.addr2line_lines.specs.FoundInlined.{entry_among, no_inlined}
 use Rattle.addr2line_units.specs.FramesLeft.{entry_frame, frames_inside}
-
--- a mapped list from its end is the list from its end, mapped
-map_reverse : {X Y : Type 0} (f : X → Y) (xs : List X) → map f (reverse xs) ≡ reverse (map f xs)
-map_reverse f [] = refl
-map_reverse f (x ∷ xs) =
-    ap (map f) (reverse-append (x ∷ []) xs) ∙ map-append f (reverse xs) (x ∷ [])
-    ∙ ap (λ ys. ys ++ f x ∷ []) (map_reverse f xs) ∙ sym (reverse-append (f x ∷ []) (map f xs))
+use Rattle.addr2line_units.proofs.Facts.{map_reverse}
 
 module _ {X : Type 0} (P : X → Type 0) where
   all_snoc : (xs : List X) (x : X) → AllByRecursion P xs → P x → AllByRecursion P (xs ++ x ∷ [])

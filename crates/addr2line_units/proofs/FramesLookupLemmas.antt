@@ -1,9 +1,10 @@
 -- Lookups of frames along ranges (on specs/FramesLookup.antt and specs/FramesCached.antt).
-use Rattle.addr2line_units.proofs.Common.{◌≡◌, ◌≢◌, ℕ, inl, inr, Bool, true, false, ◌&&◌, ◌||◌, List, [], ◌∷◌, Option, Some, None, Result, Ok, Err, refl, ap, sym, subst, ◌∙◌, DwLang, Error, OutOfMemory, ◌>>=◌, ExactlyUnlessOom, WasNotRefused, Section, InlinedEntry, Location, OnFault, Stop, Skip, FramesStop, UnitRange, UnitCache, FrameRecord, frames_from, LookupStop, Finds, after_fault, ends_lookup, holds_along, or_stop, stop_along, AreFoundAt, IsStopIn, found_after_fault, frames_found_at, as_stop, stop_of_found, ParsesOnly, FramesResult}
+use Rattle.addr2line_units.proofs.Common.{◌≡◌, ◌≢◌, ℕ, inl, inr, Bool, true, false, ◌&&◌, ◌||◌, List, [], ◌∷◌, Option, Some, None, Result, Ok, Err, refl, ap, sym, subst, ◌∙◌, DwLang, Error, OutOfMemory, ◌>>=◌, ExactlyUnlessOom, WasNotRefused, Section, InlinedEntry, Location, OnFault, Stop, Skip, FramesStop, UnitRange, UnitCache, FrameRecord, frames_from, LookupStop, Finds, after_fault, ends_lookup, holds_along, or_stop, stop_along, found_after_fault, as_stop, stop_of_found, ParsesOnly, FramesResult}
 use Rattle.std.specs.Prelude.{IfOk}
 use Rattle.addr2line_units.specs.declared.frames.FramesStop.TheVariants as stops
 use Rattle.addr2line_units.specs.declared.entries.UnitFrames.{UnitFrames}
 use Rattle.addr2line_units.specs.declared.entries.UnitFrames.TheVariants as found
+use Rattle.addr2line_units.proofs.CachedUnits.{AreFoundAt, IsStopIn, frames_found_at}
 
 -- a fault that a lookup passes over
 module _ (faults : OnFault) where

@@ -1,22 +1,13 @@
 -- What the unit of a number has at an address, of all units (on specs/FramesLookup.antt and
 -- specs/FramesCached.antt).
-use Rattle.addr2line_units.proofs.Common.{◌≡◌, ℕ, suc, zero, ◌<◌, ◌≤◌, ◌⊎◌, inl, inr, Bool, true, false, ◌&&◌, ◌||◌, not, List, [], ◌∷◌, length, get_or, slice_get, Option, Some, None, option_map, unwrap_or, Result, Ok, Err, refl, ap, sym, subst, ◌∙◌, arith, set, slice_get_past, Error, ExactlyUnlessOom, UnitRecord, exceeds_inline_room, Scope, UnitCache, functions_in_take_memory, lines_of_take_memory, lines_take_memory, indexed_unit, indexed_units, is_uncached, parsed_units, asks_lines_of, frames_of_number, function_offset_of, functions_of_take_memory, inlined_at_number, AreFramesIn, AsksNoMemoryIn, frames_of_place, has_entries, first_answer_of, AreFoundAt, frames_found_at, functions_at, has_frames_at, language_at, HaveEntriesOf, answers_in, has_entries_at, ParsesOnly, has_parsed, asks_lines_in, frames_in, function_offset_in, inlined_of_unit}
+use Rattle.addr2line_units.proofs.Common.{◌≡◌, ℕ, ◌<◌, ◌≤◌, ◌⊎◌, inl, inr, Bool, true, false, ◌&&◌, ◌||◌, not, List, [], length, get_or, slice_get, Option, Some, None, option_map, unwrap_or, Result, Ok, Err, refl, ap, sym, subst, ◌∙◌, set, slice_get_past, Error, ExactlyUnlessOom, UnitRecord, exceeds_inline_room, Scope, UnitCache, functions_in_take_memory, lines_of_take_memory, lines_take_memory, indexed_unit, indexed_units, is_uncached, parsed_units, asks_lines_of, frames_of_number, function_offset_of, functions_of_take_memory, inlined_at_number, AreFramesIn, AsksNoMemoryIn, frames_of_place, has_entries, first_answer_of, functions_at, language_at, HaveEntriesOf, answers_in, ParsesOnly, has_parsed, asks_lines_in, frames_in, function_offset_in, inlined_of_unit}
 use Rattle.std.specs.Prelude.{IfOk}
 use Rattle.addr2line_units.specs.declared.entries.UnitFrames.{UnitFrames}
 use Rattle.addr2line_units.specs.declared.entries.UnitFrames.TheVariants as found
 use Rattle.addr2line_units.proofs.UnitsLinesLemmas.{no_parsed, no_unit, only_set, parsed_set, set_parsed, unit_at}
 use Rattle.addr2line_units.proofs.UnitsCachedLemmas.{answer_at, as_many_entries, parsed_by_lines, same_lines_set}
-use Rattle.addr2line_units.proofs.FramesWalkLemmas.{and_first, and_second}
-
-pub got_set : {X : Type 0} (xs : List X) (n : ℕ) (x : X) → n < length xs → slice_get (set xs n x) n ≡ Some x
-got_set [] n x h = absurd (omega arith)
-got_set (y ∷ xs) zero x h = refl
-got_set (y ∷ xs) (suc n) x h = got_set xs n x (omega arith)
-
-below_set : {X : Type 0} (xs : List X) (n : ℕ) (x : X) → n < length xs → n < length (set xs n x)
-below_set [] n x h = absurd (omega arith)
-below_set (y ∷ xs) zero x h = omega arith
-below_set (y ∷ xs) (suc n) x h = let less = below_set xs n x (omega arith) in omega (arith, less)
+use Rattle.addr2line_units.proofs.Facts.{and_first, and_second, below_set, got_set}
+use Rattle.addr2line_units.proofs.CachedUnits.{AreFoundAt, frames_found_at, has_entries_at, has_frames_at}
 
 module _ {R : Type 0} (scope : Scope) (probe : ℕ) (us : List UnitRecord) (cs : List (UnitCache R)) (n : ℕ) where
   abbrev asks : ℕ → Bool

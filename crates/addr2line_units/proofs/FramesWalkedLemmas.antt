@@ -4,19 +4,23 @@ use Rattle.addr2line_units.specs.declared.frames.Asks.TheVariants as lookups
 use Rattle.addr2line_units.specs.UnitsAfter.{AfterWalk, IsFaultAlong, WereAsked, WereAskedFor}
 use Rattle.addr2line_units.proofs.FramesLookupLemmas.{faults_there, goes_on, holds_both, holds_ended, holds_first, holds_rest, parses_more}
 use Rattle.addr2line_units.proofs.EntriesStayLemmas.{known_twice}
-use Rattle.addr2line_units.proofs.FramesWalkLemmas.{asked_first}
 use Rattle.addr2line_units.proofs.LocationsWalkLemmas.{lines_first, lines_over}
 use Rattle.addr2line_units.proofs.UnitsLinesLemmas.{steps_counted, steps_first, steps_of_one, steps_raised, steps_within}
 
--- so often lines were looked at, with the most looks that are left, where a location is asked for
-abbrev pub LooksWithin : Asks → ℕ → ℕ → UnitsState → UnitsState → Type 0
-LooksWithin lookups.Location left most old now = now.steps + left ≤ old.steps + most
-LooksWithin (lookups.Frames faults) left most old now = Unit {0}
+-- the unit of the first range is asked
+asked_first : (frames : ℕ → FramesResult) (r : UnitRange) (rest ranges all : List UnitRange) → ranges ≡ r ∷ rest → ((n : ℕ) → LookupAsks frames ranges n → LookupAsks frames all n)
+    → LookupAsks frames all r.unit
+asked_first frames r rest ranges all e asked = asked r.unit (subst (λ xs. LookupAsks frames xs r.unit) (sym e) (inl refl))
+
+-- so many steps were taken in lines, with the most that are left, where a location is asked for
+abbrev pub StepsLeftWithin : Asks → ℕ → ℕ → UnitsState → UnitsState → Type 0
+StepsLeftWithin lookups.Location left most old now = now.steps + left ≤ old.steps + most
+StepsLeftWithin (lookups.Frames faults) left most old now = Unit {0}
 
 -- a walk that has gone on so far
 pub record Walked (asks : Asks) (probe : ℕ) (all rest : List UnitRange) (old now : UnitsState) : Type 0 where
   pub asked : WereAskedFor asks (LookupAsks (asked_by asks probe old) all) (steps_along old.scope.file.sections old.units all) probe old now
-  pub looks : LooksWithin asks (steps_along old.scope.file.sections old.units rest) (steps_along old.scope.file.sections old.units all) old now
+  pub steps : StepsLeftWithin asks (steps_along old.scope.file.sections old.units rest) (steps_along old.scope.file.sections old.units all) old now
   pub stop : now.stop ≡ FindsNothing
   pub rest_is : stop_of asks probe old rest ≡ stop_of asks probe old all
   pub less : (holds : ℕ → Bool) → holds_along holds (asked_by asks probe old) all ≡ true → holds_along holds (asked_by asks probe old) rest ≡ true
@@ -29,14 +33,14 @@ asked_none lookups.Location asked most probe old = record { lines = lines_first 
 asked_none (lookups.Frames faults) asked most probe old =
     record { scope = refl; units = refl; answers = refl; parsed = λ n e. e; known = λ n. record { at = λ p e. e; whole = λ k h. h }; only = λ n e. inl e; learns = λ n. inl refl; details = λ n o e. inl e; raised = omega arith }
 
-looks_none : (asks : Asks) (most : ℕ) (old : UnitsState) → LooksWithin asks most most old (record old { stop = FindsNothing })
-looks_none lookups.Location most old = omega arith
-looks_none (lookups.Frames faults) most old = tt
+steps_none : (asks : Asks) (most : ℕ) (old : UnitsState) → StepsLeftWithin asks most most old (record old { stop = FindsNothing })
+steps_none lookups.Location most old = omega arith
+steps_none (lookups.Frames faults) most old = tt
 
 pub walked_first : (asks : Asks) (probe : ℕ) (all : List UnitRange) (old : UnitsState) → Walked asks probe all all old (record old { stop = FindsNothing })
 walked_first asks probe all old = record {
   asked = asked_none asks (LookupAsks (asked_by asks probe old) all) (steps_along old.scope.file.sections old.units all) probe old;
-  looks = looks_none asks (steps_along old.scope.file.sections old.units all) old;
+  steps = steps_none asks (steps_along old.scope.file.sections old.units all) old;
   stop = refl;
   rest_is = refl;
   less = λ holds e. e;
@@ -127,8 +131,8 @@ has_more (lookups.Frames faults) asked most probe mid now a n e = has_all_more p
 
 -- one more unit was asked
 asked_over : (asks : Asks) (asked : ℕ → Type 0) (k most probe : ℕ) (old mid now : UnitsState) → WereAskedFor asks asked most probe old mid → WereAskedFor asks (λ n. n ≡ k) (steps_in mid.scope.file.sections (slice_get mid.units k)) probe mid now → asked k
-    → (left rest : ℕ) → LooksWithin asks left most old mid → left ≡ steps_in old.scope.file.sections (slice_get old.units k) + rest → WereAskedFor asks asked most probe old now × LooksWithin asks rest most old now
-asked_over lookups.Location asked k most probe old mid now w a first left rest looks is = (
+    → (left rest : ℕ) → StepsLeftWithin asks left most old mid → left ≡ steps_in old.scope.file.sections (slice_get old.units k) + rest → WereAskedFor asks asked most probe old now × StepsLeftWithin asks rest most old now
+asked_over lookups.Location asked k most probe old mid now w a first left rest bound is = (
   record {
     lines = lines_over asked k old mid now w.lines a.lines first;
     raised = steps_raised old.steps mid.steps now.steps w.raised a.raised;
@@ -140,8 +144,8 @@ asked_over lookups.Location asked k most probe old mid now w a first left rest l
   where
     within : now.steps + rest ≤ old.steps + most
     within = steps_within mid.steps now.steps (old.steps + most) (steps_in old.scope.file.sections (slice_get old.units k)) rest left
-        (subst (λ (s : UnitsState). now.steps ≤ mid.steps + steps_in s.scope.file.sections (slice_get s.units k)) w.lines.same a.cost) looks is
-asked_over (lookups.Frames faults) asked k most probe old mid now w a first left rest looks is = (
+        (subst (λ (s : UnitsState). now.steps ≤ mid.steps + steps_in s.scope.file.sections (slice_get s.units k)) w.lines.same a.cost) bound is
+asked_over (lookups.Frames faults) asked k most probe old mid now w a first left rest bound is = (
   record {
     scope = a.scope ∙ w.scope;
     units = a.units ∙ w.units;
@@ -176,9 +180,9 @@ module _ (asks : Asks) (probe : ℕ) (all : List UnitRange) (r : UnitRange) (res
   as_old = at_old mid old (scope_same asks (LookupAsks frames all) most probe old mid w.asked) (units_same asks (LookupAsks frames all) most probe old mid w.asked) (answers_same asks (LookupAsks frames all) most probe old mid w.asked)
 
   module _ {X : Type 0} (result : Result X Error) (a : AfterAsk asks r.unit probe result mid now) where
-    both : WereAskedFor asks (LookupAsks frames all) most probe old now × LooksWithin asks (steps_along old.scope.file.sections old.units rest) most old now
+    both : WereAskedFor asks (LookupAsks frames all) most probe old now × StepsLeftWithin asks (steps_along old.scope.file.sections old.units rest) most old now
     both = asked_over asks (LookupAsks frames all) r.unit most probe old mid now w.asked a.asked (asked_first frames r rest ranges all is w.comes) (steps_along old.scope.file.sections old.units ranges)
-        (steps_along old.scope.file.sections old.units rest) w.looks (ap (steps_along old.scope.file.sections old.units) is ∙ steps_first old.scope.file.sections old.units r rest)
+        (steps_along old.scope.file.sections old.units rest) w.steps (ap (steps_along old.scope.file.sections old.units) is ∙ steps_first old.scope.file.sections old.units r rest)
 
     has_more_now : (n : ℕ) → has_asked_at asks probe mid n ≡ true → has_asked_at asks probe now n ≡ true
     has_more_now = has_more asks (λ n. n ≡ r.unit) (steps_in mid.scope.file.sections (slice_get mid.units r.unit)) probe mid now a.asked
@@ -236,7 +240,7 @@ module _ (asks : Asks) (probe : ℕ) (all : List UnitRange) (r : UnitRange) (res
         let ends : ends_lookup (frames r.unit) ≡ false = ap ends_lookup on.0 in
         record {
           asked = (both (Ok x) a).0;
-          looks = (both (Ok x) a).1;
+          steps = (both (Ok x) a).1;
           stop = on.1;
           rest_is = sym (goes_on frames r rest on.0) ∙ sym (ap (stop_along frames) is) ∙ w.rest_is;
           less = λ holds h. holds_rest frames r rest holds ends (subst (λ xs. holds_along holds frames xs ≡ true) is (w.less holds h));

@@ -1,14 +1,15 @@
 -- Least begins beside ranges (on specs/IndexLeastBegins.antt).
-use Rattle.addr2line_units.proofs.Common.{ℕ, ◌≡◌, ◌-◌, ◌<◌, ◌≤◌, Bool, true, false, cond, ◌&&◌, nat_le, nat_lt, nat_cmp, leb, min, List, [], ◌∷◌, ◌++◌, Result, Ok, map, length, take, drop, reverse, arith, ◌∙◌, ap, sym, subst, refl, zero, suc, AllByRecursion, IsNonDecreasingBy, IsPartitionPoint, nat_tests, reverse-append, take_all, Error, IsInOrder, in_order, in_order_ordered, UnitRange}
+use Rattle.addr2line_units.proofs.Common.{ℕ, ◌≡◌, ◌-◌, ◌<◌, ◌≤◌, Bool, true, false, cond, ◌&&◌, nat_le, nat_lt, nat_cmp, leb, min, List, [], ◌∷◌, ◌++◌, Result, Ok, map, length, take, drop, reverse, arith, ◌∙◌, ap, sym, subst, refl, zero, suc, AllByRecursion, IsNonDecreasingBy, IsPartitionPoint, nat_tests, reverse-append, Error, IsInOrder, in_order, in_order_ordered, UnitRange}
 use Rattle.std.specs.List.{filter}
 use Rattle.std.specs.Ordering.{is_lt, ordering_then}
-use Rattle.std.proofs.lemmas.List.{append-nil, append_assoc, length-drop}
+use Rattle.std.proofs.lemmas.List.{append-nil, append_assoc}
 use Rattle.addr2line_lines.proofs.SeekLemmas.{Up, non_decreasing}
 use Rattle.addr2line_lines.specs.LastAddress.{last_address}
 use Rattle.addr2line_units.specs.declared.index.IndexedRange.{IndexedRange}
 use Rattle.addr2line_units.specs.IndexCover.{ends_sooner}
 use Rattle.addr2line_units.specs.IndexLeastBegins.{AreIndexed, AreLeastBegins, EndFits, range_begins_by, is_between, least_begin, unit_range_of, with_least_begins}
 use Rattle.addr2line_units.proofs.IndexLemmas.{ends_order}
+use Rattle.addr2line_units.proofs.Facts.{rest_is}
 
 -- the ranges that were taken from the end, and what was made of them
 pub record IsMade (all left : List UnitRange) (made : List IndexedRange) (least : ℕ) : Type 0 where
@@ -54,10 +55,6 @@ pub dropped_least : (n : ℕ) (xs : List IndexedRange) → AreLeastBegins xs →
 dropped_least zero xs h = h
 dropped_least (suc n) [] h = h
 dropped_least (suc n) (x ∷ xs) h = dropped_least n xs (later_least x xs h)
-
--- a slice from a place on is what is left from there on
-pub rest_is : {X : Type 0} (n : ℕ) (ys xs : List X) → ys ≡ xs → take (length ys - n) (drop n ys) ≡ drop n xs
-rest_is n ys xs e = let left = length-drop n ys in take_all (length ys - n) (drop n ys) (omega arith) ∙ ap (drop n) e
 
 -- where the least begin is past the last address of a search, none begins at or below it
 none_by : (last : ℕ) (ranges : List UnitRange) → last < least_begin ranges → filter (range_begins_by last) ranges ≡ []

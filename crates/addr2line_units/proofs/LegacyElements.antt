@@ -3,9 +3,9 @@ use Rattle.addr2line_units.proofs.Common.{◌≡◌, ◌∙◌, ◌<◌, ◌+◌
 use Rattle.std.specs.Prelude.{nat_lt, if◌then◌else◌}
 use Rattle.std.proofs.Math.Seq.{take-append_seam, drop-append_seam}
 use Rattle.std.proofs.lemmas.List.Folds.{length-prefix_len}
-use Rattle.addr2line_units.proofs.LegacySteps.{some_if, front_parts, elements_some, elements_none}
+use Rattle.addr2line_units.proofs.LegacySteps.{front_parts, elements_some, elements_none}
 use Rattle.addr2line_units.specs.LegacyElements.{is_first, IsElement, AreElements}
-use Rattle.addr2line_units.proofs.FramesWalkLemmas.{and_first, and_second}
+use Rattle.addr2line_units.proofs.Facts.{and_first, and_second, some_if}
 
 -- all digits that stand first, and none after them
 digits_first : (text : List ℕ) → list_all is_ascii_digit (take (prefix_len is_ascii_digit text) text) ≡ true

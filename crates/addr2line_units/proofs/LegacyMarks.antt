@@ -1,12 +1,11 @@
 -- Marks of LLVM, prefixes, hashes and suffixes: the relation and the function agree.
-use Rattle.addr2line_units.proofs.Common.{◌≡◌, ◌∙◌, ◌≤◌, ◌<◌, ℕ, zero, suc, Bool, true, false, ◌&&◌, Some, None, List, [], ◌∷◌, ◌++◌, drop, length, ap, sym, refl, arith, nat_eq, slice_index_or, Contains, list_all, starts_with, byte, All-contains, Decides-eqb, without_llvm, after_first, without_prefix, without_hash, suffix_at}
+use Rattle.addr2line_units.proofs.Common.{◌≡◌, ◌∙◌, ◌≤◌, ◌<◌, ℕ, zero, suc, true, false, ◌&&◌, Some, None, List, [], ◌∷◌, ◌++◌, drop, length, ap, sym, refl, arith, nat_eq, slice_index_or, Contains, list_all, starts_with, byte, All-contains, Decides-eqb, without_llvm, after_first, without_prefix, without_hash, suffix_at}
 use Rattle.std.specs.Prelude.{if◌then◌else◌, ◌==◌}
 use Rattle.std.proofs.lemmas.Slice.Eq.{starts_is}
 use Rattle.std.proofs.lemmas.Bool.{eqb-true}
-use Rattle.addr2line_units.proofs.LegacySteps.{some_if, some_inj}
 use Rattle.addr2line_units.specs.LegacyName.{llvm_mark, is_llvm_byte, IsFirstMark, IsKept, cut, whole, prefixes, is_suffix}
 use Rattle.addr2line_units.specs.LegacyElements.{is_hash, AreShown, hashed, all}
-use Rattle.addr2line_units.proofs.FramesWalkLemmas.{and_first, and_second}
+use Rattle.addr2line_units.proofs.Facts.{and_first, and_second, head_is, last_is, nothing_last, some_if, some_inj, tail_is, two_tests}
 
 -- a mark stands first
 mark_here : (bytes : List ℕ) → starts_with nat_eq bytes llvm_mark ≡ true → bytes ≡ llvm_mark ++ drop (length llvm_mark) bytes
@@ -18,15 +17,6 @@ mark_there bytes rest h = (starts_is Decides-eqb bytes llvm_mark _ refl).1 rest 
 -- what follows the mark
 mark_rest : (bytes rest : List ℕ) → bytes ≡ llvm_mark ++ rest → drop (length llvm_mark) bytes ≡ rest
 mark_rest bytes rest h = ap (λ s. drop (length llvm_mark) s) h
-
-two_tests : (q : Bool) → q ≡ true → q ≡ false → ⊥
-two_tests q a b = cc
-
-tail_is : (b c : ℕ) (bs cs : List ℕ) → b ∷ bs ≡ c ∷ cs → bs ≡ cs
-tail_is b c bs cs h = cc
-
-head_is : (b c : ℕ) (bs cs : List ℕ) → b ∷ bs ≡ c ∷ cs → b ≡ c
-head_is b c bs cs h = cc
 
 -- a first mark, one byte later
 first_later : (b : ℕ) (bs front rest : List ℕ) → starts_with nat_eq (b ∷ bs) llvm_mark ≡ false → IsFirstMark bs front rest
@@ -160,24 +150,10 @@ each_prefix_read rest (suc (suc (suc k))) d lt = absurd (omega arith)
 pub prefix_read : (prefix rest : List ℕ) → Contains prefixes prefix → without_prefix (prefix ++ rest) ≡ Some rest
 prefix_read prefix rest is = All-contains (λ p. without_prefix (p ++ rest) ≡ Some rest) prefixes prefix (each_prefix_read rest) is
 
-lists_tail : (e f : List ℕ) (es fs : List (List ℕ)) → e ∷ es ≡ f ∷ fs → es ≡ fs
-lists_tail e f es fs h = cc
-
-lists_head : (e f : List ℕ) (es fs : List (List ℕ)) → e ∷ es ≡ f ∷ fs → e ≡ f
-lists_head e f es fs h = cc
-
-nothing_last : (front : List (List ℕ)) (last : List ℕ) → [] ≡ front ++ (last ∷ []) → ⊥
-nothing_last [] last h = cc
-nothing_last (f ∷ fs) last h = cc
-
-last_is : (e : List ℕ) (front : List (List ℕ)) (last : List ℕ) → e ∷ [] ≡ front ++ (last ∷ []) → e ≡ last
-last_is e [] last h = lists_head e last [] [] h
-last_is e (f ∷ fs) last h = absurd (nothing_last fs last (lists_tail e f [] (fs ++ (last ∷ [])) h))
-
 last_later : (e f : List ℕ) (es : List (List ℕ)) → ((front : List (List ℕ)) (last : List ℕ) → f ∷ es ≡ front ++ (last ∷ []) → is_hash last ≡ false)
     → (front : List (List ℕ)) (last : List ℕ) → e ∷ f ∷ es ≡ front ++ (last ∷ []) → is_hash last ≡ false
-last_later e f es none [] last h = let bad : f ∷ es ≡ [] = lists_tail e last (f ∷ es) [] h in let worse : ⊥ = cc in absurd worse
-last_later e f es none (x ∷ xs) last h = none xs last (lists_tail e x (f ∷ es) (xs ++ (last ∷ [])) h)
+last_later e f es none [] last h = let bad : f ∷ es ≡ [] = tail_is e last (f ∷ es) [] h in let worse : ⊥ = cc in absurd worse
+last_later e f es none (x ∷ xs) last h = none xs last (tail_is e x (f ∷ es) (xs ++ (last ∷ [])) h)
 
 shown_later : (e f : List ℕ) (es shown : List (List ℕ)) → AreShown (f ∷ es) shown → AreShown (e ∷ f ∷ es) (e ∷ shown)
 shown_later e f es shown (hashed hash same is) = hashed hash (ap (λ s. e ∷ s) same) is

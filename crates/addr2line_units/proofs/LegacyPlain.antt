@@ -1,5 +1,5 @@
 -- The text of an element: the relation and the function agree.
-use Rattle.addr2line_units.proofs.Common.{◌≡◌, ◌≢◌, ◌∙◌, ◌≤◌, ◌<◌, ◌+◌, ℕ, zero, suc, Bool, true, false, cond, not, ◌&&◌, ◌||◌, Option, Some, None, List, [], ◌∷◌, ◌++◌, take, drop, length, length-append, length-drop, take-append-drop, get_or, ap, sym, subst, refl, arith, ltb-true, lt-ltb, nat_eq, codes, encode_utf8, IsScalar, is_control, list_all, prefix_len, position_or_len, starts_with, option_or, byte, bytes_eq, digits_value, eq-eqb, nat_tests, Decides-eqb, All-contains, shown_char, numbered_char, escape_char, escape_in, escape_text, plain_from, element_text}
+use Rattle.addr2line_units.proofs.Common.{◌≡◌, ◌∙◌, ◌≤◌, ◌<◌, ◌+◌, ℕ, zero, suc, Bool, true, false, cond, not, ◌&&◌, Option, Some, None, List, [], ◌∷◌, ◌++◌, take, drop, length, length-append, length-drop, take-append-drop, get_or, ap, sym, subst, refl, arith, ltb-true, lt-ltb, nat_eq, codes, encode_utf8, IsScalar, is_control, list_all, prefix_len, position_or_len, starts_with, option_or, byte, bytes_eq, digits_value, eq-eqb, nat_tests, Decides-eqb, All-contains, shown_char, numbered_char, escape_char, escape_in, escape_text, plain_from, element_text}
 use Rattle.std.specs.Prelude.{nat_lt, nat_le, if◌then◌else◌, ◌==◌, option_and_then, option_map, map}
 use Rattle.std.specs.List.{position}
 use Rattle.std.specs.Map.{lookup}
@@ -8,20 +8,12 @@ use Rattle.std.proofs.lemmas.Bool.{eqb-true}
 use Rattle.std.proofs.lemmas.List.Sums.{prefix_len_stops, AllPass-from_list_all}
 use Rattle.std.proofs.lemmas.Map.Views.{Contains-from_lookup}
 use Rattle.std.proofs.lemmas.Slice.Eq.{bytes_eq-Decides, starts_is}
-use Rattle.addr2line_units.proofs.LegacySteps.{some_if, some_inj, plain_skip}
+use Rattle.addr2line_units.proofs.LegacySteps.{plain_skip}
 use Rattle.addr2line_units.specs.LegacyElements.{after_code_points, after_surrogates, first_surrogate, is_scalar_value, is_lower_hex, escapes, IsEscape, NoEscape, is_first, is_dot, IsPlain, IsElementText, AreTexts, by_name, by_number, nothing, dots, escape, as_it_stands, any_other, bare, other}
-use Rattle.addr2line_units.proofs.FramesWalkLemmas.{and_first, and_second}
-
-or_cond : (a b : Bool) → (a || b) ≡ cond a true b
-or_cond true b = refl
-or_cond false b = refl
+use Rattle.addr2line_units.proofs.Facts.{and_first, and_second, equal_not, map_some, not_equal, not_false, not_is, or_cond, some_if, some_inj, then_some}
 
 scalar_is : (n : ℕ) → is_scalar_value n ≡ true → IsScalar n
 scalar_is n h = sym (or_cond (nat_lt n first_surrogate) (nat_le after_surrogates n && nat_lt n after_code_points)) ∙ h
-
-not_is : (q : Bool) → not q ≡ true → q ≡ false
-not_is true h = let bad : ⊥ = cc in absurd bad
-not_is false h = refl
 
 -- a character that is shown
 shown_is : (n c : ℕ) → shown_char n ≡ Some c → (n ≡ c) × IsScalar n × (is_control n ≡ false)
@@ -75,18 +67,6 @@ escape_known _ _ (by_number digits some hex scalar control) =
     ap (λ q. if q && list_all is_lower_hex digits then shown_char (digits_value 16 digits) else None) (lt-ltb 0 (length digits) some)
     ∙ ap (λ q. if q then shown_char (digits_value 16 digits) else None) hex
     ∙ shown_if (digits_value 16 digits) scalar control
-
-pub then_some : {A B : Type 0} (f : A → Option B) (o : Option A) (y : B) → option_and_then f o ≡ Some y → (x : A) × (o ≡ Some x) × (f x ≡ Some y)
-then_some f None y h = let bad : ⊥ = cc in absurd bad
-then_some f (Some x) y h = (x, refl, h)
-
-pub map_some : {A B : Type 0} (f : A → B) (o : Option A) (y : B) → option_map f o ≡ Some y → (x : A) × (o ≡ Some x) × (f x ≡ y)
-map_some f None y h = let bad : ⊥ = cc in absurd bad
-map_some f (Some x) y h = (x, refl, some_inj _ _ h)
-
-not_false : (q : Bool) → not q ≡ false → q ≡ true
-not_false true h = refl
-not_false false h = let bad : ⊥ = cc in absurd bad
 
 -- the first dollar
 dollar_found : (bytes : List ℕ) (k : ℕ) → position (λ b. b == byte "$") bytes ≡ Some k → bytes ≡ take k bytes ++ (byte "$" ∷ drop (suc k) bytes)
@@ -181,16 +161,6 @@ not_both b bs h =
       | true ↦ λ dot. h (eqb-true b (byte ".") dot)
       | false ↦ λ _. refl
     ] refl
-
-not_equal : (b c : ℕ) → b ≢ c → (b == c) ≡ false
-not_equal b c h =
-    elim (b == c) as (λ q. (b == c) ≡ q → q ≡ false) [
-      | true ↦ λ same. absurd (h (eqb-true b c same))
-      | false ↦ λ _. refl
-    ] refl
-
-equal_not : (b c : ℕ) → (b == c) ≡ false → b ≢ c
-equal_not b c h = λ same. let yes_equal : (b == c) ≡ true = eq-eqb b c same in let bad : ⊥ = cc in bad
 
 -- the text that the function reads, of at most so many bytes
 plain_is_within : (n : ℕ) (bytes : List ℕ) → length bytes ≤ n → IsPlain bytes (plain_from 0 bytes)

@@ -2,13 +2,14 @@
 use Rattle.addr2line_units.proofs.Common.{◌≡◌, ◌∙◌, ◌<◌, ℕ, true, Some, List, [], ◌∷◌, ◌++◌, length, ap, sym, subst, arith, Contains, byte, without_llvm, without_prefix, element_at, elements_at, without_hash, element_text, elements_text, suffix_at, spelled_text, legacy_text, demangled}
 use Rattle.std.specs.Prelude.{◌==◌, option_and_then, option_map, map}
 use Rattle.std.proofs.lemmas.Bool.{eqb-true}
-use Rattle.addr2line_units.proofs.LegacySteps.{some_if, some_inj, elements_some}
+use Rattle.addr2line_units.proofs.LegacySteps.{elements_some}
 use Rattle.addr2line_units.proofs.LegacyMarks.{kept_is, kept_only, prefix_found, prefix_read, shown_are, shown_only, suffix_found, suffix_read}
 use Rattle.addr2line_units.proofs.LegacyElements.{elements_are, elements_read, element_read}
-use Rattle.addr2line_units.proofs.LegacyPlain.{then_some, map_some, texts_are, texts_only}
+use Rattle.addr2line_units.proofs.LegacyPlain.{texts_are, texts_only}
 use Rattle.addr2line_units.specs.LegacyName.{IsLegacyName, prefixes, is_suffix, joined}
 use Rattle.addr2line_units.specs.LegacyElements.{AreElements}
 use Rattle.addr2line_units.specs.LegacyLaws.{FindsLegacyNames, FindsOnlyLegacyNames, HasOneText}
+use Rattle.addr2line_units.proofs.Facts.{map_some, some_if, some_inj, then_some}
 
 -- what the function finds is a legacy name and its text
 text_is : (name text : List ℕ) → legacy_text name ≡ Some text → IsLegacyName name text

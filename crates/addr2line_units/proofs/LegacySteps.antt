@@ -1,26 +1,18 @@
 -- The steps by which the functions of *LegacyText* go through a name.
-use Rattle.addr2line_units.proofs.Common.{◌≡◌, ◌∙◌, ◌≤◌, ◌<◌, ◌+◌, ◌*◌, ℕ, zero, suc, Bool, true, false, ◌&&◌, Option, Some, None, List, [], ◌∷◌, ◌++◌, take, drop, length, length-take, length-drop, length-append, take-append-drop, append_assoc, append-nil, get_or, map, ap, sym, refl, arith, add-one, leb-true, ltb-true, nat_eq, encode_utf8, codes, digit_value, is_ascii, is_ascii_digit, list_all, prefix_len, starts_with, nat_tests, drop_all, byte, digits_value, without_llvm, element_at, ascii_front, elements_by, elements_within, elements_at, without_hash, element_text, joint_text, escape_in, escape_text, plain_from}
+use Rattle.addr2line_units.proofs.Common.{◌≡◌, ◌∙◌, ◌≤◌, ◌<◌, ◌+◌, ◌*◌, ℕ, zero, suc, Bool, true, false, ◌&&◌, Some, None, List, [], ◌∷◌, ◌++◌, take, drop, length, length-take, length-drop, length-append, take-append-drop, append_assoc, append-nil, get_or, map, ap, sym, refl, arith, add-one, leb-true, ltb-true, nat_eq, encode_utf8, codes, digit_value, is_ascii, is_ascii_digit, list_all, prefix_len, starts_with, nat_tests, drop_all, byte, digits_value, without_llvm, element_at, ascii_front, elements_by, elements_within, elements_at, without_hash, element_text, joint_text, escape_in, escape_text, plain_from}
 use Rattle.std.specs.Prelude.{nat_lt, nat_le, is_none, if◌then◌else◌, ◌==◌}
 use Rattle.std.proofs.lemmas.List.Sums.{prefix_len-le-length}
 use Rattle.std.proofs.lemmas.Str.Parse.{digits_value-take-le}
 use Rattle.std.proofs.lemmas.Int.Digits.{digits_value_more}
 use Rattle.addr2line_units.specs.LegacyName.{llvm_mark, is_llvm_byte, is_suffix_byte, is_suffix, joined, after_colons}
 use Rattle.addr2line_units.specs.LegacyElements.{is_hash, is_first, is_dot}
-use Rattle.addr2line_units.proofs.FramesWalkLemmas.{and_first, and_second}
-
-pub some_inj : {A : Type 0} (x y : A) → Some x ≡ Some y → x ≡ y
-some_inj x y h = cc
+use Rattle.addr2line_units.proofs.Facts.{and_first, and_second, some_if, some_inj}
 
 abbrev first_of_two : List ℕ × List ℕ → List ℕ
 first_of_two p = p.0
 
 abbrev second_of_two : List ℕ × List ℕ → List ℕ
 second_of_two p = p.1
-
--- what is chosen by a test, where it is something
-pub some_if : {A : Type 0} (q : Bool) (o : Option A) (x : A) → (if q then o else None) ≡ Some x → (q ≡ true) × (o ≡ Some x)
-some_if true o x h = (refl, h)
-some_if false o x h = let bad : ⊥ = cc in absurd bad
 
 -- no mark at a place
 mark_after : (name : List ℕ) (i : ℕ) → i < length name → starts_with nat_eq (drop i name) llvm_mark ≡ false

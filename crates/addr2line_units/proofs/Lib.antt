@@ -31,6 +31,7 @@ pub mod FramesDecidedLemmas
 pub mod EntriesKnownTableLemmas
 pub mod EntriesKnownLemmas
 pub mod CachedUnits
+pub mod Facts
 pub mod UnitsCachedLemmas
 pub mod ParsesLemmas
 pub mod ParsesCachedLemmas
@@ -39,7 +40,6 @@ pub mod ParsesReachedLemmas
 pub mod UnitsNumberLemmas
 pub mod FramesNumberedLemmas
 pub mod FramesLookupLemmas
-pub mod FramesWalkLemmas
 pub mod LoadsOpenLemmas
 pub mod LoadsLemmas
 pub mod LoadsLawLemmas

@@ -1,11 +1,12 @@
 -- Answers to the loads of units, and what is cached of their entries (on specs/EntriesCached.antt).
-use Rattle.addr2line_units.proofs.Common.{◌≡◌, ◌≢◌, ℕ, zero, suc, ◌<◌, Bool, true, false, List, [], ◌∷◌, length, get_or, slice_get, arith, Option, Some, None, Result, Ok, Err, ap, refl, sym, ◌∙◌, set, set-get_or, false≢true, IfErr, OnOk, Error, OutOfMemory, Sections, UnitRecord, IsScope, Scope, LazyFunctions, UnitCache, EntriesCache, UnitView, ViewState, answer_of, with_answer, AreEntriesOf, StayEntries, first_answer_of, AreFunctionsOf, were_read, StayAllEntries, answers_in, decided_at, IsViewOf, is_decided, answer_of_view, verdict_in, waits, was_checked, FirstAnswers, View, decided_answer, is_open, verdict, view_scope}
+use Rattle.addr2line_units.proofs.Common.{◌≡◌, ℕ, zero, suc, ◌<◌, Bool, true, false, List, [], ◌∷◌, length, get_or, slice_get, arith, Option, Some, None, Result, Ok, Err, ap, refl, sym, ◌∙◌, set, false≢true, IfErr, OnOk, Error, OutOfMemory, Sections, UnitRecord, IsScope, Scope, LazyFunctions, UnitCache, EntriesCache, UnitView, ViewState, answer_of, with_answer, AreEntriesOf, StayEntries, first_answer_of, AreFunctionsOf, were_read, answers_in, IsViewOf, is_decided, answer_of_view, verdict_in, waits, was_checked, FirstAnswers, View, decided_answer, is_open, verdict, view_scope}
 use Rattle.std.specs.Prelude.{IfOk, IfSome, is_none, is_some, if◌then◌else◌}
 use Rattle.addr2line_units.specs.declared.entries.LazyFunctions.TheVariants as lazy
 use Rattle.addr2line_units.specs.declared.unit.ViewState.TheVariants as states
-use Rattle.addr2line_units.specs.CacheAfter.{AfterAnswering, AfterCheck}
+use Rattle.addr2line_units.specs.CacheAfter.{AfterAnswerIn, AfterCheck}
 use Rattle.addr2line_units.proofs.EntriesLemmas.{checked_decides}
 use Rattle.addr2line_units.proofs.UnitsCachedLemmas.{stay_entries_set}
+use Rattle.addr2line_units.proofs.CachedUnits.{StayAllEntries, decided_at}
 
 -- what waits isn't decided
 pub waiting_is_undecided : {R : Type 0} (s : ViewState R) → waits s ≡ true → is_decided s ≡ false
@@ -30,14 +31,6 @@ unread_entries {R} scope u v f order h e = record { in_order = order; view = h; 
     by None = tt
     by (Some (Ok x)) = unread_are (view_scope scope x) x.unit f e
     by (Some (Err x)) = tt
-
-pub no_answer : {X : Type 0} (o : Option X) → is_some o ≡ false → o ≡ None
-no_answer None e = refl
-no_answer (Some x) e = absurd cc
-
-pub answered_is_some : {X : Type 0} (o : Option X) → is_some o ≡ true → o ≡ None → ⊥
-answered_is_some None e h = cc
-answered_is_some (Some x) e h = cc
 
 -- what was looked at waits where the unit is open
 pub checked_waits : {R : Type 0} (d : Sections) (u : UnitRecord) (v : UnitView R) → IsViewOf d u v → was_checked v.state ≡ true → waits v.state ≡ is_open d u (answer_of_view v)
@@ -83,45 +76,45 @@ never_waits v w b h same e t =
     let k : true ≡ false = sym t ∙ e ∙ f in cc
 
 -- a unit that was looked at is answered
-module _ {R : Type 0} (scope : Scope) (u : UnitRecord) (given : Option Sections) (old mid : EntriesCache R) (look : AfterCheck scope u old mid) where
+module _ {R : Type 0} (scope : Scope) (u : UnitRecord) (given : Option Sections) (old mid : EntriesCache R) (check : AfterCheck scope u old mid) where
   -- it doesn't wait
-  pub shut_after : waits mid.view.state ≡ false → AfterAnswering scope u given (Ok tt) old mid
+  pub shut_after : waits mid.view.state ≡ false → AfterAnswerIn scope u given (Ok tt) old mid
   shut_after shut = record {
-    right = look.right;
-    answer = look.stay.answer ∙ sym (decided_if_not scope.file.sections u (first_answer_of old) given (open_by_check scope.file.sections u old.view mid.view false look.right.view look.known look.stay.answer (sym shut)));
-    known = checked_decides mid.view.state look.known shut;
+    right = check.right;
+    answer = check.stay.answer ∙ sym (decided_if_not scope.file.sections u (first_answer_of old) given (open_by_check scope.file.sections u old.view mid.view false check.right.view check.known check.stay.answer (sym shut)));
+    known = checked_decides mid.view.state check.known shut;
     refused = tt;
-    functions = look.functions;
-    kept = λ h. (look.kept (decided_was_checked old.view.state h), refl);
+    functions = check.functions;
+    kept = λ h. (check.kept (decided_was_checked old.view.state h), refl);
     none = λ _. refl;
   }
 
   -- it waits
   module _ (waiting : waits mid.view.state ≡ true) where
     never_decided : is_decided old.view.state ≡ true → ⊥
-    never_decided h = never_waits old mid true h look.kept (sym waiting) refl
+    never_decided h = never_waits old mid true h check.kept (sym waiting) refl
 
     pub was_open : is_open scope.file.sections u (first_answer_of old) ≡ true
-    was_open = open_by_check scope.file.sections u old.view mid.view true look.right.view look.known look.stay.answer (sym waiting)
+    was_open = open_by_check scope.file.sections u old.view mid.view true check.right.view check.known check.stay.answer (sym waiting)
 
-    pub decided_after : (view : UnitView R) → IsViewOf scope.file.sections u view → answer_of_view view ≡ Some given → is_decided view.state ≡ true → AfterAnswering scope u given (Ok tt) old (record { view = view; functions = mid.functions })
+    pub decided_after : (view : UnitView R) → IsViewOf scope.file.sections u view → answer_of_view view ≡ Some given → is_decided view.state ≡ true → AfterAnswerIn scope u given (Ok tt) old (record { view = view; functions = mid.functions })
     decided_after view right answer known = record {
-      right = unread_entries scope u view mid.functions look.right.in_order right (look.right.unread (waiting_is_undecided mid.view.state waiting));
+      right = unread_entries scope u view mid.functions check.right.in_order right (check.right.unread (waiting_is_undecided mid.view.state waiting));
       answer = answer ∙ sym (decided_if_open scope.file.sections u (first_answer_of old) given was_open);
       known = known;
       refused = tt;
-      functions = look.functions;
+      functions = check.functions;
       kept = λ h. absurd (never_decided h);
       none = λ shut. absurd (false≢true (sym shut ∙ was_open));
     }
 
-    pub undecided_after : (e : Error) → e ≡ OutOfMemory → is_some given ≡ true → AfterAnswering scope u given (Err e) old mid
+    pub undecided_after : (e : Error) → e ≡ OutOfMemory → is_some given ≡ true → AfterAnswerIn scope u given (Err e) old mid
     undecided_after e oom some = record {
-      right = look.right;
+      right = check.right;
       answer = tt;
       known = tt;
-      refused = (oom, look.stay, some);
-      functions = look.functions;
+      refused = (oom, check.stay, some);
+      functions = check.functions;
       kept = λ h. absurd (never_decided h);
       none = λ shut. absurd (false≢true (sym shut ∙ was_open));
     }
@@ -169,18 +162,6 @@ pub answers_if_refused : {R : Type 0} (vs : List (UnitCache R)) (n : ℕ) (v w :
     → IfErr r (λ e. (e ≡ OutOfMemory) × StayEntries v.entries w.entries × P) → IfErr r (λ e. (e ≡ OutOfMemory) × (answers_in (set vs n w) ≡ answers_in vs) × StayAllEntries vs (set vs n w) × P)
 answers_if_refused vs n v w (Ok x) P h e same = tt
 answers_if_refused vs n v w (Err x) P h e same = (same.0, answers_stay vs n v w h e same.1.answer, stay_entries_set vs n v w h e same.1, same.2)
-
--- the entries of other units are the same
-pub others_stay : {X : Type 0} (vs : List X) (n k : ℕ) (w : X) → k ≢ n → slice_get (set vs n w) k ≡ slice_get vs k
-others_stay [] n k w ne = refl
-others_stay (v ∷ vs) zero zero w ne = absurd (ne refl)
-others_stay (v ∷ vs) zero (suc k) w ne = refl
-others_stay (v ∷ vs) (suc n) zero w ne = refl
-others_stay (v ∷ vs) (suc n) (suc k) w ne = others_stay vs n k w (λ e. ne (ap suc e))
-
--- nothing is new where an element is set to what it was
-pub same_set : {X : Type 0} (vs : List X) (n : ℕ) (v w : X) → v ≡ get_or vs n v → w ≡ v → set vs n w ≡ vs
-same_set vs n v w e same = ap (set vs n) (same ∙ e) ∙ set-get_or vs n v
 
 -- whether the unit of a number is decided, by what is cached of it
 pub decided_there : {R : Type 0} (vs : List (UnitCache R)) (n : ℕ) (v : UnitCache R) → v ≡ get_or vs n v → decided_at vs n ≡ true → is_decided v.entries.view.state ≡ true

@@ -2,9 +2,10 @@
 use Rattle.addr2line_units.proofs.Common.{◌≡◌, ◌≢◌, ◌⊎◌, inl, inr, ℕ, zero, suc, ◌<◌, ◌≤◌, ◌==◌, ◌&&◌, not, cond, Bool, true, false, List, [], ◌∷◌, filter, length, slice_get, arith, subst, Option, Some, None, option_map, Result, Ok, Err, ap, refl, sym, ◌∙◌, eq-eqb, eqb_tells, set, slice_get_within, Error, ◌>>=◌, Sections, UnitRecord, Scope, UnitRange, Waits, answer_of, asked_frames, frames_of_number, or_stop, stop_along, with_answer, before_others, is_of_other, is_open_at, load_of_number, loads_along, LeadTo, FramesResult, frames_in, IndexedUnit, unit_records, FirstAnswers, SplitLoad, awaited_by, awaited_load, decided_answer, is_open, load_of_unit}
 use Rattle.std.specs.Prelude.{is_some, unwrap_or}
 use Rattle.addr2line_units.specs.LoadsLaws.{IsListed, LeaveFewer, LeaveOthers, NeedLoadsToWait, WaitForListed, loads_of}
-use Rattle.addr2line_units.proofs.LoadsAnswerLemmas.{decided_if_not, decided_if_open, no_answer, others_stay}
-use Rattle.addr2line_units.proofs.LoadsLemmas.{answer_after, awaited_unit, filter_twice, open_awaits}
+use Rattle.addr2line_units.proofs.LoadsAnswerLemmas.{decided_if_not, decided_if_open}
+use Rattle.addr2line_units.proofs.LoadsLemmas.{answer_after, awaited_unit, open_awaits}
 use Rattle.addr2line_units.proofs.FramesWaitLemmas.{open_of_none, same_number, told_by_unit}
+use Rattle.addr2line_units.proofs.Facts.{and_comm, and_same, filter_twice, no_answer, others_stay}
 
 -- whether a load is that of another unit, by the numbers
 other_not : (n : ℕ) (l : SplitLoad) → l.unit ≡ n → is_of_other n l ≡ false
@@ -41,17 +42,6 @@ module _ (load : ℕ → Option SplitLoad) (own : (k : ℕ) (l : SplitLoad) → 
   listed_there n h [] k = absurd k
   listed_there n h (r ∷ ranges) (inl e) = listed_first n r.unit (load r.unit) (loads_along load ranges) refl e h
   listed_there n h (r ∷ ranges) (inr k) = listed_before n (load r.unit) (loads_along load ranges) (listed_there n h ranges k)
-
--- the loads where one unit waits no more are those of the others
-and_comm : (a b : Bool) → (a && b) ≡ (b && a)
-and_comm true true = refl
-and_comm true false = refl
-and_comm false true = refl
-and_comm false false = refl
-
-and_same : (a : Bool) → a ≡ (a && a)
-and_same true = refl
-and_same false = refl
 
 taken_here : (n : ℕ) (o : Option SplitLoad) (loads : List SplitLoad) → ((l : SplitLoad) → o ≡ Some l → l.unit ≡ n) → filter (is_of_other n) (before_others o loads) ≡ filter (is_of_other n) loads
 taken_here n None loads own = refl

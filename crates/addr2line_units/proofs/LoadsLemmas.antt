@@ -1,12 +1,13 @@
 -- Answers to the loads of units, and the loads that are listed (on specs/Loads.antt and
 -- specs/LoadsListed.antt).
-use Rattle.addr2line_units.proofs.Common.{◌≡◌, ℕ, zero, suc, ◌<◌, ◌≤◌, ◌==◌, ◌++◌, ◌||◌, ◌&&◌, not, cond, Bool, true, false, List, [], ◌∷◌, filter, length, get_or, slice_get, arith, subst, Option, Some, None, Result, Ok, Err, ap, refl, sym, ◌∙◌, set, Error, UnknownToken, ◌>>=◌, ExactlyUnlessOom, Section, Sections, UnitRecord, UnitCache, answer_of, with_answer, first_answer_of, answers_in, parts_or_fault, before_others, forget_result, is_of_other, load_of_number, load_result, unit_of_token, view_fault, FirstAnswers, SplitLoad, View, awaited_by, awaited_load, decided_answer, is_open, load_by, load_of_unit, split_name_of, verdict, verdict_by}
+use Rattle.addr2line_units.proofs.Common.{◌≡◌, ℕ, zero, suc, ◌<◌, ◌==◌, ◌++◌, not, cond, Bool, true, false, List, [], ◌∷◌, filter, length, get_or, slice_get, arith, subst, Option, Some, None, Result, Ok, Err, ap, refl, sym, ◌∙◌, set, Error, UnknownToken, ◌>>=◌, ExactlyUnlessOom, Section, Sections, UnitRecord, UnitCache, answer_of, with_answer, first_answer_of, answers_in, parts_or_fault, before_others, forget_result, is_of_other, load_of_number, load_result, unit_of_token, view_fault, FirstAnswers, SplitLoad, View, awaited_by, awaited_load, decided_answer, is_open, load_by, load_of_unit, split_name_of, verdict, verdict_by}
 use Rattle.std.proofs.lemmas.List.{append_assoc}
 use Rattle.std.specs.Option.{option_to_list}
 use Rattle.std.specs.Prelude.{IfSome, is_none, is_some, if◌then◌else◌}
 use Rattle.gimli.specs.declared.unit.DwoId.{DwoId}
 use Rattle.addr2line_units.specs.LoadsListed.{MarksLoad, MarksUnit, if_new, is_marked, is_new}
 use Rattle.addr2line_units.proofs.LoadsAnswerLemmas.{answer_at}
+use Rattle.addr2line_units.proofs.Facts.{both_or, filter_all, filter_twice, slice_get_none}
 
 -- a view with a unit has no fault
 pub no_view_fault : (w : Option (Result View Error)) (p : Sections × UnitRecord) → IfSome w (λ r. parts_or_fault r ≡ Ok p) → view_fault w ≡ Ok tt
@@ -28,11 +29,6 @@ this_unit us n u e = by (slice_get us n) e
     by : (o : Option UnitRecord) → o ≡ Some u → ◌≡◌ {A = Result UnitRecord Error} (elim o [ None ↦ Err UnknownToken | Some x ↦ Ok x ]) (Ok u)
     by None k = absurd cc
     by (Some x) k = let same : x ≡ u = cc in ap Ok same
-
-pub slice_get_none : {X : Type 0} (xs : List X) (n : ℕ) → slice_get xs n ≡ None → length xs ≤ n
-slice_get_none [] n e = omega arith
-slice_get_none (x ∷ xs) zero e = absurd cc
-slice_get_none (x ∷ xs) (suc n) e = let k = slice_get_none xs n e in omega (arith, k)
 
 pub unknown_load : (d : Sections) (us : List UnitRecord) (answers : FirstAnswers) (n : ℕ) (given : Option Sections) → slice_get us n ≡ None → load_result d us answers n given ≡ Err UnknownToken
 unknown_load d us answers n given e = ap (λ r. r >>= λ u. view_fault (verdict d u (decided_answer d u (answer_of answers n) given))) (no_unit us n e)
@@ -56,11 +52,6 @@ unknown_answer d us answers n given e = by (slice_get us n) e
     by : (o : Option UnitRecord) → o ≡ None → elim o [ None ↦ answers | Some u ↦ set answers n (decided_answer d u (answer_of answers n) given) ] ≡ answers
     by None k = refl
     by (Some u) k = absurd cc
-
-pub past_set : {X : Type 0} (xs : List X) (n : ℕ) (x : X) → length xs ≤ n → set xs n x ≡ xs
-past_set [] n x h = refl
-past_set (y ∷ xs) zero x h = absurd (omega (arith, h))
-past_set (y ∷ xs) (suc n) x h = ap (λ z. y ∷ z) (past_set xs n x (omega (arith, h)))
 
 answer_of_set : (answers : FirstAnswers) (n : ℕ) (a : Option (Option Sections)) → n < length answers → answer_of (set answers n a) n ≡ a
 answer_of_set [] n a h = absurd (omega (arith, h))
@@ -153,24 +144,6 @@ module _ (marks : List Bool) (n : ℕ) where
 
 pub marks_none : (marks : List Bool) (o : Option SplitLoad) → o ≡ None → MarksLoad o marks marks
 marks_none marks o e = subst (λ x. MarksLoad x marks marks) (sym e) refl
-
--- one more unit is marked
-both_or : (a b : Bool) → not (a || b) ≡ (not a && not b)
-both_or true b = refl
-both_or false b = refl
-
-pub filter_twice : {X : Type 0} (p r q : X → Bool) → ((x : X) → q x ≡ (r x && p x)) → (xs : List X) → filter p (filter r xs) ≡ filter q xs
-filter_twice p r q both [] = refl
-filter_twice {X} p r q both (x ∷ xs) = by (r x) (p x) refl (both x) (filter_twice p r q both xs)
-  where
-    by : (a b : Bool) → p x ≡ b → q x ≡ (a && b) → filter p (filter r xs) ≡ filter q xs → filter p (cond a (x ∷ filter r xs) (filter r xs)) ≡ cond (q x) (x ∷ filter q xs) (filter q xs)
-    by true true e f rest = ap (λ y. cond y (x ∷ filter p (filter r xs)) (filter p (filter r xs))) e ∙ ap (λ z. x ∷ z) rest ∙ sym (ap (λ y. cond y (x ∷ filter q xs) (filter q xs)) f)
-    by true false e f rest = ap (λ y. cond y (x ∷ filter p (filter r xs)) (filter p (filter r xs))) e ∙ rest ∙ sym (ap (λ y. cond y (x ∷ filter q xs) (filter q xs)) f)
-    by false b e f rest = rest ∙ sym (ap (λ y. cond y (x ∷ filter q xs) (filter q xs)) f)
-
-filter_all : {X : Type 0} (p : X → Bool) → ((x : X) → p x ≡ true) → (xs : List X) → filter p xs ≡ xs
-filter_all p all [] = refl
-filter_all p all (x ∷ xs) = ap (λ b. cond b (x ∷ filter p xs) (filter p xs)) (all x) ∙ ap (λ z. x ∷ z) (filter_all p all xs)
 
 pub none_marked : (loads : List SplitLoad) → filter (is_new []) loads ≡ loads
 none_marked loads = filter_all (is_new []) (λ x. refl) loads

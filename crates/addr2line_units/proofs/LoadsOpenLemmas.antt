@@ -12,7 +12,7 @@ not_open_there d us vs n u v there within e not_open =
     at : Option UnitRecord → Bool
     at o = elim o [ None ↦ false | Some x ↦ is_open d x (answer_of (answers_in vs) n) ]
 
--- one that waits after a look is open
+-- one that waits after it was checked is open
 pub waits_only_open : {R : Type 0} (d : Sections) (u : UnitRecord) (v w : UnitView R) → IsViewOf d u w → was_checked w.state ≡ true → answer_of_view w ≡ answer_of_view v → true ≡ waits w.state → is_open d u (answer_of_view v) ≡ false → ⊥
 waits_only_open d u v w own checked same waiting not_open =
     let f : ◌≡◌ {A = Bool} true false = sym (open_by_check d u v w true own checked same waiting) ∙ not_open in

@@ -1,19 +1,7 @@
 -- Parses of the functions of units, one unit after another (on specs/Parses.antt).
-use Rattle.addr2line_units.proofs.Common.{◌≡◌, ℕ, zero, suc, ◌≤◌, ◌<◌, ◌⊎◌, inl, inr, Bool, true, false, List, [], ◌∷◌, length, slice_get, Option, Some, None, Result, Ok, Err, refl, ap, ◌∙◌, arith, set, Error, ◌>>=◌, Sections, UnitRecord, Scope, ReadingDepth, answer_of, with_answer, AreReadBefore, answers_after_parse, first_decided, read_of_number, read_of_unit, read_of_units, read_of_view, unless_fault, is_open_at, FirstAnswers, SplitLoad, View, decided_answer, is_open, load_of_unit, verdict, verdict_by}
+use Rattle.addr2line_units.proofs.Common.{◌≡◌, ℕ, zero, suc, ◌≤◌, ◌<◌, inl, inr, Bool, true, false, List, [], ◌∷◌, length, slice_get, Option, Some, None, Result, Ok, Err, refl, ap, ◌∙◌, arith, set, Error, ◌>>=◌, Sections, UnitRecord, Scope, ReadingDepth, answer_of, with_answer, AreReadBefore, answers_after_parse, first_decided, read_of_number, read_of_unit, read_of_units, read_of_view, unless_fault, is_open_at, FirstAnswers, SplitLoad, View, decided_answer, is_open, load_of_unit, verdict, verdict_by}
 use Rattle.std.specs.Prelude.{is_none, if◌then◌else◌}
-
--- one of two numbers is not above the other
-pub at_or_behind : (n k : ℕ) → (n ≤ k) ⊎ (k < n)
-at_or_behind zero k = inl (omega arith)
-at_or_behind (suc n) zero = inr (omega arith)
-at_or_behind (suc n) (suc k) = elim (at_or_behind n k) [ inl h ↦ inl (omega arith) | inr h ↦ inr (omega arith) ]
-
--- a number below the next one is the number itself, or below it
-pub below_next : (n k : ℕ) → n < suc k → (n < k) ⊎ (n ≡ k)
-below_next zero zero h = inr refl
-below_next zero (suc k) h = inl (omega arith)
-below_next (suc n) zero h = absurd (omega arith)
-below_next (suc n) (suc k) h = elim (below_next n k (omega arith)) [ inl l ↦ inl (omega arith) | inr e ↦ inr (ap suc e) ]
+use Rattle.addr2line_units.proofs.Facts.{below_next}
 
 -- the answers where one more is decided, of units behind the first one
 with_more : (d : Sections) (o : Option UnitRecord) (x : Option (Option Sections)) (answers : FirstAnswers) (n : ℕ)

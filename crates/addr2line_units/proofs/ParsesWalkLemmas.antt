@@ -6,9 +6,10 @@ use Rattle.addr2line_units.specs.declared.parses.ReadingDepth.TheVariants as dep
 use Rattle.addr2line_units.specs.ParsesAfter.{AfterReadingAt}
 use Rattle.addr2line_units.specs.UnitsAfter.{AfterReading, StayRead}
 use Rattle.addr2line_units.specs.EntriesStayKnown.{IsReadBy, StaysKnownOf}
-use Rattle.addr2line_units.proofs.ParsesLemmas.{after_end, after_stop, at_or_behind, before_more, below_next, decided_more, number_behind, open_behind, read_end, read_stop, shut_before}
+use Rattle.addr2line_units.proofs.ParsesLemmas.{after_end, after_stop, before_more, decided_more, number_behind, open_behind, read_end, read_stop, shut_before}
 use Rattle.addr2line_units.proofs.ParsesReadyLemmas.{before_decided, number_decided}
 use Rattle.addr2line_units.proofs.EntriesStayLemmas.{known_of_twice, same_stays_known}
+use Rattle.addr2line_units.proofs.Facts.{all_of, at_or_behind, below_next, one_of}
 
 -- functions that were read with all details are known
 details_known : (fs : List KnownFunction) → AllByRecursion (λ (f : KnownFunction). f.detail ≡ IsRead) fs → AreKnownToFault fs
@@ -48,16 +49,6 @@ all_known : (known : List KnownEntries) → AllByRecursion (IsReadBy depths.Deta
 all_known [] h probe n = refl
 all_known (k ∷ known) h probe zero = probe_known probe k h.0
 all_known (k ∷ known) h probe (suc n) = all_known known h.1 probe n
-
--- all of a list, by its numbers
-all_of : {X : Type 0} (P : X → Type 0) (xs : List X) → ((n : ℕ) → IfSome (slice_get xs n) P) → AllByRecursion P xs
-all_of P [] h = tt
-all_of P (x ∷ xs) h = (h 0, all_of P xs (λ n. h (suc n)))
-
-one_of : {X : Type 0} (P : X → Type 0) (xs : List X) → AllByRecursion P xs → (n : ℕ) → IfSome (slice_get xs n) P
-one_of P [] h n = tt
-one_of P (x ∷ xs) h zero = h.0
-one_of P (x ∷ xs) h (suc n) = one_of P xs h.1 n
 
 -- a parse that has come to the unit of a number: those before it are read, and those from it on are
 -- as they were

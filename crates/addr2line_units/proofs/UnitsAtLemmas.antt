@@ -10,16 +10,16 @@ module _ {scope seen : Scope} (is : seen ≡ scope) where
   pub sections_seen : seen.file.sections ≡ scope.file.sections
   sections_seen = ap (λ (s : Scope). s.file.sections) is
 
-  units_seen : seen.file.units ≡ scope.file.units
-  units_seen = ap (λ (s : Scope). s.file.units) is
+  as_indexed_units : seen.file.units ≡ scope.file.units
+  as_indexed_units = ap (λ (s : Scope). s.file.units) is
 
   -- the unit of a number among those, and that there is none
   module _ (n : ℕ) where
     pub unit_got : {u : UnitRecord} → true ≡ nat_lt n (length seen.file.units) → u ≡ get_or seen.file.units n u → slice_get scope.file.units n ≡ Some u
-    unit_got {u} below at = subst (λ xs. slice_get xs n ≡ Some u) units_seen (slice_get_read seen.file.units _ n u refl (ltb-true _ _ (sym below)) at)
+    unit_got {u} below at = subst (λ xs. slice_get xs n ≡ Some u) as_indexed_units (slice_get_read seen.file.units _ n u refl (ltb-true _ _ (sym below)) at)
 
     pub none_got : false ≡ nat_lt n (length seen.file.units) → slice_get scope.file.units n ≡ None
-    none_got past = subst (λ xs. slice_get xs n ≡ None) units_seen (slice_get_past seen.file.units n (ltb-false _ _ (sym past)))
+    none_got past = subst (λ xs. slice_get xs n ≡ None) as_indexed_units (slice_get_past seen.file.units n (ltb-false _ _ (sym past)))
 
 module _ {R : Type 0} {scope : Scope} {held : List (UnitCache R)} {last : FramesStop} (i : AreUnits scope held last) where
   -- what is cached of all units is their own

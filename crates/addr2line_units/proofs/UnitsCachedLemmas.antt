@@ -1,11 +1,12 @@
 -- What is cached of the entries of all units, one unit after another (on specs/EntriesCached.antt
 -- and specs/UnitsCached.antt).
-use Rattle.addr2line_units.proofs.Common.{◌≡◌, ◌≢◌, ℕ, zero, suc, ◌<◌, inl, inr, true, List, [], ◌∷◌, length, get_or, slice_get, Option, Some, None, option_and_then, Result, Ok, Err, refl, ap, sym, subst, ◌∙◌, arith, set, AllZip, Error, UnitRecord, Detail, CachedFunction, FunctionTable, cached_detail, function_place_at, IsFunctionMore, IsTableMore, Scope, LazyFunctions, UnitCache, EntriesCache, ViewState, AreEntriesOf, ReadsEntriesOf, StayEntries, has_answered, has_entries, has_entries_by, first_answer_of, StayFunctions, has_detail, cached_has_function, has_place, cached_functions, no_functions, known_by, known_in, HaveLinesOf, HaveSameEntries, indexed_unit, indexed_units, is_parsed, parsed_units, HaveCachesOf, HaveEntriesOf, HaveSameLines, IsCacheOf, ReadsOnly, StayAllEntries, answers_in, has_entries_at, was_checked, functions_same}
+use Rattle.addr2line_units.proofs.Common.{◌≡◌, ◌≢◌, ℕ, zero, suc, ◌<◌, inl, inr, true, List, [], ◌∷◌, length, get_or, slice_get, Option, Some, None, option_and_then, Result, Ok, Err, refl, ap, sym, subst, ◌∙◌, arith, set, AllZip, Error, UnitRecord, Detail, CachedFunction, FunctionTable, cached_detail, function_place_at, IsFunctionMore, IsTableMore, Scope, LazyFunctions, UnitCache, EntriesCache, ViewState, AreEntriesOf, ReadsEntriesOf, StayEntries, has_answered, has_entries, has_entries_by, first_answer_of, StayFunctions, has_detail, cached_has_function, has_place, cached_functions, no_functions, known_by, known_in, HaveLinesOf, indexed_unit, indexed_units, is_parsed, parsed_units, HaveCachesOf, HaveEntriesOf, IsCacheOf, answers_in, was_checked, functions_same}
 use Rattle.std.specs.Prelude.{IfSome}
 use Rattle.addr2line_lines.proofs.NestingLemmas.{grown_not}
 use Rattle.addr2line_units.specs.declared.entries.LazyFunctions.TheVariants as lazy
 use Rattle.addr2line_units.specs.declared.unit.ViewState.TheVariants as states
 use Rattle.addr2line_units.proofs.EntriesFunctionLemmas.{place_stays}
+use Rattle.addr2line_units.proofs.CachedUnits.{HaveSameEntries, HaveSameLines, ReadsOnly, StayAllEntries, has_entries_at}
 
 -- a detail that is cached is cached where more is
 more_detail : (a b : Option (Result Detail Error)) → ((d : Result Detail Error) → a ≡ Some d → b ≡ Some d) → has_detail a ≡ true → has_detail b ≡ true

@@ -1,6 +1,6 @@
 -- The units of a context as they are read (on specs/UnitsRanged.antt and specs/UnitsIndex.antt and
 -- specs/UnitsIndexed.antt).
-use Rattle.addr2line_units.proofs.Common.{◌≡◌, ◌≢◌, ◌+◌, ℕ, suc, Bool, true, false, is_ok, if◌then◌else◌, ◌<◌, subst, arith, List, [], ◌∷◌, ◌++◌, length, map, drop, Option, Some, None, Result, Ok, Err, refl, sym, ap, ◌∙◌, nat_lt, nat_tests, length-map, map-append, Error, OffsetOutOfBounds, OutOfMemory, Section, after, Costed, free, UnitHeaderFields, Sections, UnitRecord, unit_by, unit_record_of, UnitArange, UnitRange, IndexedUnit, indexed_of, RangedUnit, has_lines, is_type_unit, range_of_unit, ranged_unit, unit_ranges_from, unit_of_header, unit_ranges, unless_faulty, by_abbreviations, has_abbreviations}
+use Rattle.addr2line_units.proofs.Common.{◌≡◌, ◌≢◌, ◌+◌, ℕ, suc, Bool, true, false, is_ok, if◌then◌else◌, ◌<◌, subst, arith, List, [], ◌∷◌, ◌++◌, length, map, drop, Option, Some, None, Result, Ok, Err, refl, sym, ap, ◌∙◌, nat_lt, length-map, map-append, Error, OffsetOutOfBounds, OutOfMemory, Section, after, Costed, free, UnitHeaderFields, Sections, UnitRecord, unit_by, unit_record_of, UnitArange, UnitRange, IndexedUnit, indexed_of, RangedUnit, has_lines, is_type_unit, range_of_unit, ranged_unit, unit_ranges_from, unit_of_header, unit_ranges, unless_faulty, by_abbreviations, has_abbreviations}
 use Rattle.std.specs.Result.{result_ok}
 use Rattle.std.proofs.lemmas.List.{append-nil, append_assoc, length-append}
 use Rattle.gimli_read.specs.Abbrev.{table_at}
@@ -39,14 +39,6 @@ module _ {X : Type 0} where
   given_fault [] f e = cc
   given_fault (Ok y ∷ ys) f e = cc
   given_fault (Err y ∷ ys) f e = let same : y ≡ f = cc in ap (λ z. Err z ∷ ys) same
-
--- a list that isn't empty has a length
-pub some_there : {X : Type 0} (xs : List X) → (xs ≡ [] → ⊥) → nat_lt 0 (length xs) ≡ true
-some_there [] some = absurd (some refl)
-some_there (x ∷ xs) some = of_number (length xs)
-  where
-    of_number : (n : ℕ) → nat_lt 0 (suc n) ≡ true
-    of_number n = grind (arith, nat_tests)
 
 -- the ranges of units behind others
 ranges_append : (d : Sections) (n : ℕ) (us vs : List RangedUnit) → unit_ranges_from d n (us ++ vs) ≡ unit_ranges_from d n us ++ unit_ranges_from d (n + length us) vs

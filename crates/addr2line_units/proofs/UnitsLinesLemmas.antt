@@ -1,9 +1,11 @@
 -- The units of a context whose lines are cached one after another (on specs/UnitLinesCached.antt and
 -- specs/LocationsParsed.antt).
-use Rattle.addr2line_units.proofs.Common.{◌≡◌, ℕ, zero, suc, ◌+◌, ◌-◌, ◌≤◌, ◌<◌, Bool, true, false, not, ◌||◌, List, [], ◌∷◌, ◌++◌, length, map, drop, add-one, get_or, Option, Some, None, slice_get, Result, Ok, Err, is_ok, refl, sym, ap, subst, arith, ◌∙◌, ◌⊎◌, inl, inr, drop_of_length-le, set, Error, Range, ◌>>=◌, ExactlyUnlessOom, fault_of, result_map, WasNotRefused, Sections, UnitRecord, LineTable, read_all, unit_lines, LazyLines, LinesCache, UnitCache, UnitRange, IndexedUnit, has_lines, range_of_unit, unit_ranges, all_lines, lines_of_unit, steps_along, steps_in, lines_of_take_memory, AllAskFor, AreParsed, AreReadyForAll, ParsesOnly, StaysParsed, TakeNone, TakeNoneForAll, can_be_read, has_parsed, parses_no_memory, AreLinesOf, CachesResult, HaveLinesOf, StayUnits, StaysUnit, indexed_unit, indexed_units, is_parsed, is_uncached, lines_result, lines_result_at, lines_at, parsed_units}
+use Rattle.addr2line_units.proofs.Common.{◌≡◌, ℕ, zero, suc, ◌+◌, ◌-◌, ◌≤◌, ◌<◌, Bool, true, false, not, ◌||◌, List, [], ◌∷◌, ◌++◌, length, map, drop, add-one, get_or, Option, Some, None, slice_get, Result, Ok, Err, is_ok, refl, sym, ap, subst, arith, ◌∙◌, ◌⊎◌, inl, inr, drop_of_length-le, set, Error, Range, ◌>>=◌, ExactlyUnlessOom, fault_of, result_map, WasNotRefused, Sections, UnitRecord, LineTable, read_all, unit_lines, LazyLines, LinesCache, UnitCache, UnitRange, IndexedUnit, has_lines, range_of_unit, unit_ranges, all_lines, lines_of_unit, steps_along, steps_in, lines_of_take_memory, AllAskFor, AreParsed, AreReadyForAll, ParsesOnly, StaysParsed, TakeNone, TakeNoneForAll, can_be_read, has_parsed, parses_no_memory, AreLinesOf, CachesResult, HaveLinesOf, StayLines, indexed_unit, indexed_units, is_parsed, is_uncached, lines_result, lines_result_at, lines_at, parsed_units}
 use Rattle.std.proofs.lemmas.List.{append-nil}
 use Rattle.std.proofs.lemmas.List.Sums.{sum_by-cons}
-use Rattle.addr2line_units.specs.UnitsIndexed.{IndexState, appended, ranged_seen}
+use Rattle.addr2line_units.specs.UnitsIndexed.{IndexState, appended, as_ranged_unit}
+use Rattle.addr2line_units.proofs.Facts.{below_or_at, three}
+use Rattle.addr2line_units.proofs.CachedUnits.{StayAllLines}
 
 -- what is cached is no longer uncached
 parsed_is : (l : LazyLines) → not (is_uncached l) ≡ true → is_uncached l ≡ false
@@ -13,18 +15,18 @@ parsed_is l e = of_bool (is_uncached l) e
     of_bool true e = cc
     of_bool false e = refl
 
-pub stay_all : {R : Type 0} (rs : List (UnitCache R)) → StayUnits rs rs
+pub stay_all : {R : Type 0} (rs : List (UnitCache R)) → StayAllLines rs rs
 stay_all [] = tt
 stay_all (r ∷ rs) = (record { language = refl; lines = λ e. refl }, stay_all rs)
 
 -- one of them is another, which stays
-pub stay_set : {R : Type 0} (rs : List (UnitCache R)) (n : ℕ) (r s : UnitCache R) → n < length rs → r ≡ get_or rs n r → StaysUnit r.lines s.lines → StayUnits rs (set rs n s)
+pub stay_set : {R : Type 0} (rs : List (UnitCache R)) (n : ℕ) (r s : UnitCache R) → n < length rs → r ≡ get_or rs n r → StayLines r.lines s.lines → StayAllLines rs (set rs n s)
 stay_set [] n r s h e k = absurd (omega arith)
-stay_set (x ∷ rs) zero r s h e k = (subst (λ (y : UnitCache _). StaysUnit y.lines s.lines) e k, stay_all rs)
+stay_set (x ∷ rs) zero r s h e k = (subst (λ (y : UnitCache _). StayLines y.lines s.lines) e k, stay_all rs)
 stay_set (x ∷ rs) (suc n) r s h e k = (record { language = refl; lines = λ e. refl }, stay_set rs n r s (omega arith) e k)
 
 -- the units and their languages are the same
-pub stay_indexed : {R : Type 0} (us : List UnitRecord) (rs ss : List (UnitCache R)) → StayUnits rs ss → indexed_units us ss ≡ indexed_units us rs
+pub stay_indexed : {R : Type 0} (us : List UnitRecord) (rs ss : List (UnitCache R)) → StayAllLines rs ss → indexed_units us ss ≡ indexed_units us rs
 stay_indexed [] rs ss a = refl
 stay_indexed (u ∷ us) [] [] a = refl
 stay_indexed (u ∷ us) [] (s ∷ ss) a = absurd a
@@ -32,14 +34,14 @@ stay_indexed (u ∷ us) (r ∷ rs) [] a = absurd a
 stay_indexed (u ∷ us) (r ∷ rs) (s ∷ ss) a = ap (λ l. record { unit = u; language = l } ∷ indexed_units us ss) a.0.language ∙ ap (λ xs. indexed_unit u r.lines ∷ xs) (stay_indexed us rs ss a.1)
 
 -- there are as many
-pub stay_length : {R : Type 0} (rs ss : List (UnitCache R)) → StayUnits rs ss → length ss ≡ length rs
+pub stay_length : {R : Type 0} (rs ss : List (UnitCache R)) → StayAllLines rs ss → length ss ≡ length rs
 stay_length [] [] a = refl
 stay_length [] (s ∷ ss) a = absurd a
 stay_length (r ∷ rs) [] a = absurd a
 stay_length (r ∷ rs) (s ∷ ss) a = ap suc (stay_length rs ss a.1)
 
 -- what was parsed stays parsed
-pub stay_parsed : {R : Type 0} (rs ss : List (UnitCache R)) → StayUnits rs ss → StaysParsed (parsed_units rs) (parsed_units ss)
+pub stay_parsed : {R : Type 0} (rs ss : List (UnitCache R)) → StayAllLines rs ss → StaysParsed (parsed_units rs) (parsed_units ss)
 stay_parsed [] [] a n e = e
 stay_parsed [] (s ∷ ss) a n e = absurd a
 stay_parsed (r ∷ rs) [] a n e = absurd a
@@ -132,16 +134,16 @@ parsed_push : {R : Type 0} (rs : List (UnitCache R)) (r : UnitCache R) → parse
 parsed_push [] r = refl
 parsed_push (y ∷ rs) r = ap (λ bs. is_parsed y.lines ∷ bs) (parsed_push rs r)
 
-pub pushed : {R : Type 0} (d : Sections) (us : List UnitRecord) (rs : List (UnitCache R)) (u : UnitRecord) (old : LinesCache) (new : UnitCache R) (given : List Range) (ranges now : List UnitRange) → HaveLinesOf d us rs → new.lines.lang ≡ old.lang → is_parsed new.lines ≡ has_lines (ranged_seen u old given)
-    → now ≡ ranges ++ map (range_of_unit (length rs)) (unit_ranges d (ranged_seen u old given))
+pub pushed : {R : Type 0} (d : Sections) (us : List UnitRecord) (rs : List (UnitCache R)) (u : UnitRecord) (old : LinesCache) (new : UnitCache R) (given : List Range) (ranges now : List UnitRange) → HaveLinesOf d us rs → new.lines.lang ≡ old.lang → is_parsed new.lines ≡ has_lines (as_ranged_unit u old given)
+    → now ≡ ranges ++ map (range_of_unit (length rs)) (unit_ranges d (as_ranged_unit u old given))
     → ◌≡◌ {A = IndexState} (record { units = indexed_units (us ++ u ∷ []) (rs ++ new ∷ []); ranges = now; parsed = parsed_units (rs ++ new ∷ []) })
-    (appended d (record { units = indexed_units us rs; ranges = ranges; parsed = parsed_units rs }) (ranged_seen u old given ∷ []))
+    (appended d (record { units = indexed_units us rs; ranges = ranges; parsed = parsed_units rs }) (as_ranged_unit u old given ∷ []))
 pushed d us rs u old new given ranges now own lang parsed more =
     of_parts
     (indexed_push d us rs u new own ∙ ap (λ l. indexed_units us rs ++ record { unit = u; language = l } ∷ []) lang)
     (more
-    ∙ ap (λ n. ranges ++ map (range_of_unit n) (unit_ranges d (ranged_seen u old given))) (sym (as_many_indexed d us rs own))
-    ∙ ap (λ rs. ranges ++ rs) (sym (append-nil (map (range_of_unit (length (indexed_units us rs))) (unit_ranges d (ranged_seen u old given))))))
+    ∙ ap (λ n. ranges ++ map (range_of_unit n) (unit_ranges d (as_ranged_unit u old given))) (sym (as_many_indexed d us rs own))
+    ∙ ap (λ rs. ranges ++ rs) (sym (append-nil (map (range_of_unit (length (indexed_units us rs))) (unit_ranges d (as_ranged_unit u old given))))))
     (parsed_push rs new ∙ ap (λ b. parsed_units rs ++ b ∷ []) parsed)
   where
     of_parts : {a b : List IndexedUnit} {p q : List UnitRange} {v w : List Bool} → a ≡ b → p ≡ q → v ≡ w → ◌≡◌ {A = IndexState} (record { units = a; ranges = p; parsed = v }) (record { units = b; ranges = q; parsed = w })
@@ -168,25 +170,16 @@ module _ {R : Type 0} (d : Sections) (us : List UnitRecord) (rs : List (UnitCach
       given (Ok tt) a i = ap fault_of i
       given (Err x) a i = λ ne. ap fault_of (i ne)
 
--- the looks along ranges
+-- the steps along ranges
 pub steps_first : (d : Sections) (units : List IndexedUnit) (r : UnitRange) (rest : List UnitRange) → steps_along d units (r ∷ rest) ≡ steps_in d (slice_get units r.unit) + steps_along d units rest
 steps_first d units r rest = sum_by-cons (λ (x : UnitRange). steps_in d (slice_get units x.unit)) r rest
 
--- a step's looks, with those of the ranges after it
+-- the steps in one unit, with those of the ranges after it
 pub steps_within : (a b c m n t : ℕ) → b ≤ a + m → a + t ≤ c → t ≡ m + n → b + n ≤ c
 steps_within a b c m n t h k e = omega arith
 
 pub steps_of_one : (b c n : ℕ) → b + n ≤ c → b ≤ c
 steps_of_one b c n h = omega arith
-
-three : (n k : ℕ) → (n < k) ⊎ ((n ≡ k) ⊎ (k < n))
-three zero zero = inr (inl refl)
-three zero (suc k) = inl (omega arith)
-three (suc n) zero = inr (inr (omega arith))
-three (suc n) (suc k) = elim (three n k) [ inl l ↦ inl (omega arith) | inr m ↦ elim m [ inl e ↦ inr (inl (ap suc e)) | inr l ↦ inr (inr (omega arith)) ] ]
-
-below_or_at : (n k : ℕ) → n < k + 1 → (n < k) ⊎ (n ≡ k)
-below_or_at n k h = elim (three n k) [ inl l ↦ inl l | inr m ↦ elim m [ inl e ↦ inr e | inr l ↦ absurd (omega arith) ] ]
 
 -- the lines of units, one unit after another
 module _ (d : Sections) where

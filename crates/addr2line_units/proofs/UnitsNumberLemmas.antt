@@ -1,16 +1,18 @@
 -- What is answered, loaded, listed and forgotten of the unit of a number (on
 -- specs/UnitsAfter.antt and specs/UnitsStored.antt).
-use Rattle.addr2line_units.proofs.Common.{◌≡◌, inl, inr, ℕ, ◌<◌, ◌≤◌, true, false, List, length, get_or, slice_get, Option, Some, None, Result, Ok, Err, refl, sym, ap, ◌∙◌, arith, set, cases_eq, IfErr, OnOk, Error, UnknownToken, ◌>>=◌, Sections, UnitRecord, Scope, FramesStop, UnitCache, EntriesCache, first_answer_of, known_in, HaveSameLines, answers_in, decided_at, FindsNothing, LookupStop, answer_of, LearnsNoFunctions, is_open_at, load_of_number, load_result, view_fault, AreUnits, as_units_state, UnitsState, awaited_load, decided_answer, is_open, verdict, with_answer}
+use Rattle.addr2line_units.proofs.Common.{◌≡◌, inl, inr, ℕ, ◌<◌, ◌≤◌, true, false, List, length, get_or, slice_get, Option, Some, None, Result, Ok, Err, refl, sym, ap, ◌∙◌, arith, set, cases_eq, IfErr, OnOk, Error, UnknownToken, ◌>>=◌, Sections, UnitRecord, Scope, FramesStop, UnitCache, EntriesCache, first_answer_of, known_in, answers_in, FindsNothing, LookupStop, answer_of, LearnsNoFunctions, is_open_at, load_of_number, load_result, view_fault, AreUnits, as_units_state, UnitsState, awaited_load, decided_answer, is_open, verdict, with_answer}
 use Rattle.std.specs.Prelude.{is_some}
-use Rattle.addr2line_units.specs.CacheAfter.{AfterAnswering, AfterCheck, AfterForgetting}
+use Rattle.addr2line_units.specs.CacheAfter.{AfterAnswerIn, AfterCheck, AfterForgettingIn}
 use Rattle.addr2line_units.specs.UnitsAfter.{AfterAnswer, AfterForget, AfterListing, AfterLoad}
-use Rattle.addr2line_units.proofs.LoadsAnswerLemmas.{answer_at, answered_if_ok, answers_if_refused, answers_set, decided_there, others_stay, same_set}
+use Rattle.addr2line_units.proofs.LoadsAnswerLemmas.{answer_at, answered_if_ok, answers_if_refused, answers_set, decided_there}
 use Rattle.addr2line_units.proofs.UnitsCachedLemmas.{as_many_entries, entries_set, same_lines_set, stay_entries_set}
 use Rattle.addr2line_units.proofs.EntriesLearnedLemmas.{answered_learns, checked_learns, forgotten_learns, set_learns}
-use Rattle.addr2line_units.proofs.LoadsLemmas.{as_many_answers, load_there, past_set, slice_get_none, this_unit, unknown_answer, unknown_load}
+use Rattle.addr2line_units.proofs.LoadsLemmas.{as_many_answers, load_there, this_unit, unknown_answer, unknown_load}
 use Rattle.addr2line_units.proofs.LoadsOpenLemmas.{not_open_there}
 use Rattle.addr2line_units.proofs.UnitsAtLemmas.{all_entries, as_many, cache_within, its_entries, unit_is, unit_within}
 use Rattle.addr2line_units.proofs.UnitsStateLemmas.{after_answer, after_forget, after_listing, after_load}
+use Rattle.addr2line_units.proofs.Facts.{others_stay, past_set, same_set, slice_get_none}
+use Rattle.addr2line_units.proofs.CachedUnits.{HaveSameLines, decided_at}
 
 -- the unit of a number
 module _ {R : Type 0} {scope : Scope} {held : List (UnitCache R)} {last : FramesStop} (i : AreUnits scope held last) (n : ℕ) where
@@ -121,7 +123,7 @@ module _ {R : Type 0} {scope : Scope} {held : List (UnitCache R)} {last : Frames
           abbrev new : UnitsState
           new = as_units_state scope now steps FindsNothing
 
-          module _ {r : Result (Unit {0}) Error} (a : AfterAnswering scope u given r v w) where
+          module _ {r : Result (Unit {0}) Error} (a : AfterAnswerIn scope u given r v w) where
             same_decided : decided_at held n ≡ true → now ≡ held
             same_decided h = same_set held n c with_entries at (ap (λ e. record c { entries = e }) (a.kept (decided_there held n c at h)).0)
 
@@ -139,21 +141,21 @@ module _ {R : Type 0} {scope : Scope} {held : List (UnitCache R)} {last : Frames
                 answers (answers_if_refused held n c with_entries r (is_some given ≡ true) within at a.refused) learns (λ h. a.none (shut_there h))
 
           -- the answer was given
-          pub loaded_there : AfterAnswering scope u given (Ok tt) v w → (r : Result (Unit {0}) Error) → r ≡ view_fault (verdict d u (first_answer_of w)) → AfterLoad n given r old new
+          pub loaded_there : AfterAnswerIn scope u given (Ok tt) v w → (r : Result (Unit {0}) Error) → r ≡ view_fault (verdict d u (first_answer_of w)) → AfterLoad n given r old new
           loaded_there a r fault =
               let told = load_told given r a.answer fault in
               after_load scope held (all_entries i) now same_lines_now steps was n (λ k ne. others_stay held n k with_entries ne) (same_decided a) (many a) given r (λ h. answers a) (inr (answers a)) (λ ne. absurd (ne told)) (λ shut. told)
               (λ e. told ∙ ap (load_result d us (answers_in held) n) e) (learns a)
 
           -- memory was refused
-          pub refused_there : (e : Error) → AfterAnswering scope u given (Err e) v w → AfterLoad n given (Err e) old new
+          pub refused_there : (e : Error) → AfterAnswerIn scope u given (Err e) v w → AfterLoad n given (Err e) old new
           refused_there e a =
               let r = answers_if_refused held n c with_entries (Err e) (is_some given ≡ true) within at a.refused in
               after_load scope held (all_entries i) now same_lines_now steps was n (λ k ne. others_stay held n k with_entries ne) (same_decided a) (many a) given (Err e) (λ told. absurd (told a.refused.0)) (inl r.1) (λ ne. (r.1, r.2))
               (λ h. absurd (let no = a.none (shut_there h) in cc))
               (λ none. absurd (let f : false ≡ true = ap is_some (sym none) ∙ a.refused.2 in cc)) (learns a)
 
-        pub forgotten_there : (steps : ℕ) (was : LookupStop) → AfterForgetting scope u v w → AfterForget n (as_units_state scope held steps was) (as_units_state scope now steps FindsNothing)
+        pub forgotten_there : (steps : ℕ) (was : LookupStop) → AfterForgettingIn scope u v w → AfterForget n (as_units_state scope held steps was) (as_units_state scope now steps FindsNothing)
         forgotten_there steps was a = after_forget scope held (all_entries i) now same_lines_now steps was n
             (answers_set held n with_entries ∙ ap (λ o. set (answers_in held) n o) a.answer)
             (λ h. same_set held n c with_entries at (ap (λ e. record c { entries = e }) (a.kept (sym answer_is ∙ h)))) (λ k ne. others_stay held n k with_entries ne)

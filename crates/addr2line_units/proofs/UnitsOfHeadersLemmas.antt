@@ -3,14 +3,7 @@
 use Rattle.addr2line_units.proofs.Common.{◌≡◌, ◌≢◌, ◌∙◌, ◌||◌, Bool, true, false, List, [], ◌∷◌, ◌++◌, Option, option_to_list, Result, Ok, Err, refl, sym, ap, subst, Error, OutOfMemory, Costed, free, takes_memory_after, UnitHeaderFields, put_to, units_of}
 use Rattle.gimli_read.specs.Costed.{◌>>=◌}
 use Rattle.gimli_read.specs.Reading as reading
-
-or_true : (b : Bool) → (b || true) ≡ true
-or_true true = refl
-or_true false = refl
-
--- memory is taken for a step where it is for its first part, or for what comes after that
-pub first_takes : (before after : Bool) → before ≡ true → (before || after) ≡ true
-first_takes before after e = ap (λ b. b || after) e
+use Rattle.addr2line_units.proofs.Facts.{first_takes, or_true}
 
 pub then_takes : {A : Type 0} (before : Bool) (given : Result A Error) (takes : A → Bool) (x : A) → given ≡ Ok x → takes x ≡ true → (before || takes_memory_after given takes) ≡ true
 then_takes before given takes x e t = ap (λ r. before || takes_memory_after r takes) e ∙ ap (λ b. before || b) t ∙ or_true before

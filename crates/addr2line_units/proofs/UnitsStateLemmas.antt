@@ -1,6 +1,6 @@
 -- What calls leave of the units of a context, by what is cached of them (on specs/UnitsAfter.antt
 -- and specs/UnitsStored.antt).
-use Rattle.addr2line_units.proofs.Common.{◌≡◌, ◌≢◌, ◌⊎◌, inl, inr, ℕ, zero, suc, ◌<◌, ◌≤◌, ◌&&◌, ◌||◌, ◌++◌, Bool, true, false, not, List, [], ◌∷◌, length, get_or, slice_get, Option, Some, None, option_map, unwrap_or, Result, Ok, Err, refl, sym, ap, subst, ◌∙◌, eqb_tells, length-map, IfErr, OnOk, Error, OutOfMemory, WasNotRefused, Range, Sections, UnitRecord, Scope, unit_lines, FramesStop, UnitRange, ReadingDepth, LazyLines, UnitCache, has_entries, IsLendable, as_stop, AreLinesOf, HaveLinesOf, HaveSameEntries, StayUnits, cached_spans, indexed_units, is_parsed, is_uncached, lines_at, parsed_units, HaveEntriesOf, HaveSameLines, StayAllEntries, answers_in, decided_at, has_entries_at, waits_at, FindsNothing, LookupStop, Waits, answer_of, ends_lookup, holds_along, with_answer, IsReadyFor, known_in, KnownEntries, LearnsNoFunctions, forgotten, is_open_at, load_result, spans_along, spans_in, spans_or_fault, AreParsed, ParsesOnly, has_parsed, IndexedUnit, as_units_state, FramesResult, UnitsState, FirstAnswers, SplitLoad, load_of_unit}
+use Rattle.addr2line_units.proofs.Common.{◌≡◌, ◌≢◌, ◌⊎◌, inl, inr, ℕ, zero, suc, ◌<◌, ◌≤◌, ◌&&◌, ◌||◌, ◌++◌, Bool, true, false, not, List, [], ◌∷◌, length, get_or, slice_get, Option, Some, None, option_map, unwrap_or, Result, Ok, Err, refl, sym, ap, subst, ◌∙◌, eqb_tells, length-map, IfErr, OnOk, Error, OutOfMemory, WasNotRefused, Range, Sections, UnitRecord, Scope, unit_lines, FramesStop, UnitRange, ReadingDepth, LazyLines, UnitCache, has_entries, IsLendable, as_stop, AreLinesOf, HaveLinesOf, cached_spans, indexed_units, is_parsed, is_uncached, lines_at, parsed_units, HaveEntriesOf, answers_in, waits_at, FindsNothing, LookupStop, Waits, answer_of, ends_lookup, holds_along, with_answer, IsReadyFor, known_in, KnownEntries, LearnsNoFunctions, forgotten, is_open_at, load_result, spans_along, spans_in, spans_or_fault, AreParsed, ParsesOnly, has_parsed, IndexedUnit, as_units_state, FramesResult, UnitsState, FirstAnswers, SplitLoad, load_of_unit}
 use Rattle.std.specs.Prelude.{IfOk, IfSome, is_some}
 use Rattle.addr2line_units.specs.declared.frames.FramePlace.{FramePlace}
 use Rattle.addr2line_units.specs.declared.frames.FramesStop.TheVariants as stops
@@ -15,6 +15,7 @@ use Rattle.addr2line_units.proofs.LoadsLemmas.{as_many_answers}
 use Rattle.addr2line_units.proofs.EntriesReadByLemmas.{answered_is_decided, known_is_decided, none_asked}
 use Rattle.addr2line_units.proofs.EntriesStayLemmas.{none_whole, stays_known, whole_is_decided}
 use Rattle.addr2line_units.proofs.UnitsLinesLemmas.{stay_indexed, stay_length, stay_parsed}
+use Rattle.addr2line_units.proofs.CachedUnits.{HaveSameEntries, HaveSameLines, StayAllEntries, StayAllLines, decided_at, has_entries_at}
 
 -- what is stored that waits for a unit waits for one that waits
 pub waits_if_stored : {R : Type 0} (views : List (UnitCache R)) (last : FramesStop) (n : ℕ) → as_stop views last ≡ Waits n → IsLendable views last → waits_at views n ≡ true
@@ -70,7 +71,7 @@ module _ {R : Type 0} (scope : Scope) (held : List (UnitCache R)) where
   us = scope.file.units
 
   -- after lines were parsed
-  module _ (now : List (UnitCache R)) (stay : StayUnits held now) (same : HaveSameEntries held now) (steps later : ℕ) (was stop : LookupStop) where
+  module _ (now : List (UnitCache R)) (stay : StayAllLines held now) (same : HaveSameEntries held now) (steps later : ℕ) (was stop : LookupStop) where
     abbrev before : UnitsState
     before = as_units_state scope held steps was
 

@@ -16,9 +16,9 @@ use Rattle.addr2line_units.specs.EntriesFrames.{HasFewInlined, asks_lines_in, fr
 use Rattle.addr2line_units.specs.EntriesFunctions.{AreFunctionsOf, ArePlacesIn, ReadsNoOther, StayFunctions, cached_functions, cached_has_function, were_read}
 use Rattle.addr2line_units.specs.EntriesMemory.{functions_in_take_memory, lines_take_memory}
 use Rattle.addr2line_units.specs.Frames.{function_at}
-use Rattle.addr2line_units.specs.UnitLinesCached.{AreLinesOf, CachesResult, StaysUnit, indexed_unit, is_parsed, is_uncached, lines_result}
+use Rattle.addr2line_units.specs.UnitLinesCached.{AreLinesOf, CachesResult, StayLines, indexed_unit, is_parsed, is_uncached, lines_result}
 use Rattle.addr2line_units.specs.UnitsCached.{IsCacheOf}
-use Rattle.addr2line_units.specs.UnitsIndexed.{ranged_seen}
+use Rattle.addr2line_units.specs.UnitsIndexed.{as_ranged_unit}
 use Rattle.addr2line_units.specs.UnitsRanged.{has_lines}
 use Rattle.addr2line_units.specs.UnitView.{decided_answer, is_open}
 use Rattle.addr2line_units.specs.declared.unit.UnitView.{UnitView}
@@ -30,7 +30,7 @@ use Rattle.addr2line_units.specs.UnitViewCached.{IsViewOf, answer_of_view, is_de
 pub record AfterLinesOf {X : Type 0} (shares : Bool) (d : Sections) (u : UnitRecord)
     (result : Result X Error) (old new : LinesCache) : Type 0 where
   pub right : AreLinesOf d u new.lines
-  pub stay : StaysUnit old new
+  pub stay : StayLines old new
   pub known : CachesResult old.lines result new.lines
   pub memory : is_uncached new.lines ≡ false → WasNotRefused result
   pub no_memory : lines_take_memory shares u ≡ false
@@ -41,8 +41,8 @@ pub record AfterLinesOf {X : Type 0} (shares : Bool) (d : Sections) (u : UnitRec
 pub record AfterLineRanges {X : Type 0} (d : Sections) (u : UnitRecord) (listed : List Range)
     (result : Result X Error) (old new : LinesCache) : Type 0 where
   pub right : AreLinesOf d u new.lines
-  pub stay : StaysUnit old new
-  pub known : OnOk result (is_parsed new ≡ has_lines (ranged_seen u old listed))
+  pub stay : StayLines old new
+  pub known : OnOk result (is_parsed new ≡ has_lines (as_ranged_unit u old listed))
   pub refused : IfErr result (λ e. e ≡ OutOfMemory)
 
 -- functions that were just read are those of the view, or their fault, without any detail
@@ -147,7 +147,7 @@ pub record AfterFramesIn {R : Type 0} (shares : Bool) (scope : Scope) (u : UnitR
     (result : Result UnitFrames Error) (old new : UnitCache R) : Type 0 where
   pub right : IsCacheOf scope u new
   pub there : IfOk result (AreFramesIn new.lines new.entries)
-  pub unit : StaysUnit old.lines new.lines
+  pub lines : StayLines old.lines new.lines
   pub stay : StayEntries old.entries new.entries
   pub within : ReadsEntriesOf probe old.entries new.entries
   pub kept : asks_lines_in scope u (first_answer_of old.entries) probe ≡ false
@@ -165,7 +165,7 @@ pub record AfterFramesIn {R : Type 0} (shares : Bool) (scope : Scope) (u : UnitR
 -- after an answer to the load of a unit: it is decided by it if it was open, and else by what it
 -- had; where memory was refused in the place of given sections, only that it was looked at may be
 -- new
-pub record AfterAnswering {R : Type 0} (scope : Scope) (u : UnitRecord) (given : Option Sections)
+pub record AfterAnswerIn {R : Type 0} (scope : Scope) (u : UnitRecord) (given : Option Sections)
     (result : Result (Unit {0}) Error) (old new : EntriesCache R) : Type 0 where
   pub right : AreEntriesOf scope u new
   pub answer : OnOk result (first_answer_of new
@@ -179,7 +179,7 @@ pub record AfterAnswering {R : Type 0} (scope : Scope) (u : UnitRecord) (given :
 
 -- after a unit was forgotten it has no answer, and where it had one, its functions weren't read;
 -- where it had none nothing is changed
-pub record AfterForgetting {R : Type 0} (scope : Scope) (u : UnitRecord) (old new : EntriesCache R)
+pub record AfterForgettingIn {R : Type 0} (scope : Scope) (u : UnitRecord) (old new : EntriesCache R)
     : Type 0 where
   pub right : AreEntriesOf scope u new
   pub answer : first_answer_of new ≡ None

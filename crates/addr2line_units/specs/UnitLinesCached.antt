@@ -122,7 +122,7 @@ abbrev pub lines_at : {R : Type 0} → List (UnitCache R) → ℕ → LazyLines
 lines_at caches n = lines_in_cache (slice_get caches n)
 
 -- the language of a unit stays, and so do its cached lines or their fault
-pub record StaysUnit (old new : LinesCache) : Type 0 where
+pub record StayLines (old new : LinesCache) : Type 0 where
   pub language : new.lang ≡ old.lang
   pub lines : is_uncached old.lines ≡ false → new.lines ≡ old.lines
 

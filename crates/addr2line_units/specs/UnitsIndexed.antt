@@ -68,24 +68,24 @@ abbrev pub with_header : Sections → List UnitArange → IndexState → UnitHea
 with_header d aranges m h = put_to (appended d) m (unit_of_header d aranges h)
 
 -- what was read so far
-abbrev pub index_seen : {R : Type 0} → Index R → IndexState
-index_seen i = record {
+abbrev pub as_index : {R : Type 0} → Index R → IndexState
+as_index i = record {
   units = indexed_units i.dw_units.items i.caches.items;
   ranges = i.ranges.items;
   parsed = parsed_units i.caches.items;
 }
 
 -- the units of a file and their ranges
-abbrev pub units_seen : {R : Type 0} → IndexedUnits R → IndexState
-units_seen u = record {
+abbrev pub as_indexed_units : {R : Type 0} → IndexedUnits R → IndexState
+as_indexed_units u = record {
   units = indexed_units u.dw_units.items u.caches.items;
   ranges = u.ranges;
   parsed = parsed_units u.caches.items;
 }
 
--- a unit and the ranges that are given for it
-abbrev pub ranged_seen : UnitRecord → LinesCache → List Range → RangedUnit
-ranged_seen dw_unit u listed = record { indexed = indexed_unit dw_unit u; listed = listed }
+-- a unit and the ranges that are listed for it
+abbrev pub as_ranged_unit : UnitRecord → LinesCache → List Range → RangedUnit
+as_ranged_unit dw_unit u listed = record { indexed = indexed_unit dw_unit u; listed = listed }
 
 -- whether memory may be taken for all that a context has
 abbrev pub context_takes_memory : Bool → Sections → Bool

@@ -9,7 +9,7 @@ ghost use Rattle.addr2line_units.specs.LoadsMemory.{answer_takes_memory};
 ghost use Rattle.addr2line_units.specs.Loads.{view_fault, NoneOpen, forget_result, is_open_at, load_of_number, load_result, loads_along};
 ghost use Rattle.addr2line_units.specs.UnitView.{decided_answer, is_open, load_of_unit, verdict, awaited_load};
 ghost use Rattle.addr2line_units.specs.UnitsAfter.{AfterForget, AfterListing, AfterLoad};
-ghost use Rattle.addr2line_units.specs.CacheAfter.{AfterAnswering, AfterCheck, AfterForgetting};
+ghost use Rattle.addr2line_units.specs.CacheAfter.{AfterAnswerIn, AfterCheck, AfterForgettingIn};
 ghost use Rattle.addr2line_units.specs.LoadsListed.{MarksLoad, MarksUnit, if_new, is_marked};
 ghost use Rattle.addr2line_units.specs.LocationsParsed.{LeadTo};
 ghost use Rattle.addr2line_units.specs.RangeIterLeft.{ranges_left};
@@ -37,7 +37,7 @@ impl<R: Reader> EntriesCache<R> {
     // again. Takes no memory.
     pub(crate) fn forget(&mut self, scope: Scope<'_, R>, dw_unit: &Unit<R>)
         requires cached { AreEntriesOf (as_scope scope) dw_unit.now self.old }
-        ensures after { AfterForgetting (as_scope scope.entry) dw_unit.now self.old self.new }
+        ensures after { AfterForgettingIn (as_scope scope.entry) dw_unit.now self.old self.new }
     {
         if self.view.is_answered() {
             self.view.forget(scope.file.dwarf, dw_unit);
@@ -72,7 +72,7 @@ impl<R: Reader> EntriesCache<R> {
         sections: Option<Rc<Dwarf<R>>>,
     ) -> Result<(), Error>
         requires cached { AreEntriesOf (as_scope scope) dw_unit.now self.old }
-        ensures after { AfterAnswering (as_scope scope.entry) dw_unit.now
+        ensures after { AfterAnswerIn (as_scope scope.entry) dw_unit.now
             (option_map (λ d. d.value) sections) result self.old self.new }
         ensures exact { answer_takes_memory R.shares (option_map (λ d. d.value) sections) ≡ false
             → IfErr result (λ e. view_fault (verdict scope.entry.file.dwarf.now dw_unit.now

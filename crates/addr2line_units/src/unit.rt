@@ -9,7 +9,7 @@ ghost use Rattle.addr2line_units.specs.Locations.{is_found, location_in, steps_i
 ghost use Rattle.addr2line_units.specs.IndexAranges.{range_in};
 ghost use Rattle.addr2line_units.specs.UnitLinesCached.{AreLinesOf, IsUnparsed, cached_lines_result, cached_files, cached_steps, cached_ranges, cached_row, indexed_unit, lines_result, cached_lines, is_uncached};
 ghost use Rattle.addr2line_units.specs.CacheAfter.{AfterLineRanges, AfterLinesOf, AfterViewAnswer, AfterViewCheck, AfterViewForgetting};
-ghost use Rattle.addr2line_units.specs.UnitsIndexed.{ranged_seen};
+ghost use Rattle.addr2line_units.specs.UnitsIndexed.{as_ranged_unit};
 ghost use Rattle.addr2line_units.specs.LoadsMemory.{answer_takes_memory};
 ghost use Rattle.addr2line_units.specs.UnitViewCached.{IsViewOf, answer_in, is_decided, parts_or_fault, answer_of_view, as_sections, split_file_by, split_file_in, split_unit, unboxed, verdict_in, view_in, waits, was_checked};
 ghost use Rattle.addr2line_units.specs.EntriesEmpty.{has_view};
@@ -134,7 +134,7 @@ pub(crate) fn read_ranged_unit<R: Reader>(
     aranges: &UnitAranges,
     dw_unit: &Unit<R>,
 ) -> Result<(LinesCache, Vec<Range>), Error>
-    ensures gives { ExactlyUnlessOom (λ x. ranged_seen dw_unit.now x.0 x.1.items) result
+    ensures gives { ExactlyUnlessOom (λ x. as_ranged_unit dw_unit.now x.0 x.1.items) result
         (ranged_unit dwarf.now aranges.now dw_unit.now) }
     ensures empty { IfOk result (λ x. IsUnparsed dwarf.now dw_unit.now x.0) }
 {
@@ -266,8 +266,8 @@ impl LinesCache {
     ) -> Result<Vec<Range>, Error>
         requires unparsed { IsUnparsed dwarf.now dw_unit.now self.old }
         ensures gives { ExactlyUnlessOom (λ v. v.items) result (Ok (unit_ranges dwarf.now
-            (ranged_seen dw_unit.now self.old listed.items))) }
-        ensures exact { asks_lines (ranged_seen dw_unit.now self.old listed.items) ≡ false
+            (as_ranged_unit dw_unit.now self.old listed.items))) }
+        ensures exact { asks_lines (as_ranged_unit dw_unit.now self.old listed.items) ≡ false
             → IsOk result }
         ensures after { AfterLineRanges dwarf.now dw_unit.now listed.items result self.old
             self.new }

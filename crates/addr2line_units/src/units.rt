@@ -4,7 +4,7 @@ ghost use Rattle.std.specs.Prelude.{◌≡◌, ◌++◌, [], ◌∷◌, IfErr, I
 ghost use Rattle.addr2line_units.specs.Common.{OutOfMemory, ExactlyAtCost, ExactlyUnlessOomIf, as_scope};
 ghost use Rattle.addr2line_units.specs.UnitLinesCached.{HaveLinesOf, IsUnparsed};
 ghost use Rattle.addr2line_units.specs.UnitsCached.{AreFreshOf};
-ghost use Rattle.addr2line_units.specs.UnitsIndexed.{appended, context_takes_memory, index_seen, index_read, indexed_with, no_index, ranged_seen, units_seen, with_header};
+ghost use Rattle.addr2line_units.specs.UnitsIndexed.{appended, context_takes_memory, as_index, index_read, indexed_with, no_index, as_ranged_unit, as_indexed_units, with_header};
 ghost use Rattle.addr2line_units.specs.UnitsRanged.{range_of_unit, unit_of_header};
 ghost use Rattle.addr2line_units.specs.UnitsStored.{scope_of};
 ghost use Rattle.addr2line_units.specs.UnitsState.{new_units};
@@ -85,7 +85,7 @@ fn read_unit<R: Reader>(
     requires same { abbreviations.old.dwarf ≡ dwarf.now }
     ensures dwarf { abbreviations.new.dwarf ≡ dwarf.now }
     ensures gives { ExactlyAtCost R.shares
-        (option_map (λ x. ranged_seen x.0 x.1 x.2.items)) result
+        (option_map (λ x. as_ranged_unit x.0 x.1 x.2.items)) result
         (unit_of_header dwarf.now aranges.now header) }
     ensures empty { IfOk result (λ x. IfSome x (λ y. IsUnparsed dwarf.now y.0 y.1)) }
 {
@@ -121,7 +121,7 @@ fn push_ranges(unit_ranges: &mut Vec<UnitRange>, unit: usize, ranges: &[Range]) 
 impl<R: Reader> Index<R> {
     // Before the first unit.
     fn new(alloc: Global) -> Index<R>
-        ensures none { index_seen result ≡ no_index }
+        ensures none { as_index result ≡ no_index }
         ensures empty { (result.dw_units.items ≡ []) × (result.caches.items ≡ []) }
     {
         Index {
@@ -143,8 +143,8 @@ impl<R: Reader> Index<R> {
         requires unparsed { IsUnparsed dwarf.now dw_unit lines }
         requires read { HaveLinesOf dwarf.now self.old.dw_units.items self.old.caches.items }
         requires fresh { AreFreshOf self.old.dw_units.items self.old.caches.items }
-        ensures gives { OnOk result (index_seen self.new ≡ appended dwarf.now
-            (index_seen self.old) (ranged_seen dw_unit lines listed.items ∷ [])) }
+        ensures gives { OnOk result (as_index self.new ≡ appended dwarf.now
+            (as_index self.old) (as_ranged_unit dw_unit lines listed.items ∷ [])) }
         ensures read { OnOk result
             (HaveLinesOf dwarf.now self.new.dw_units.items self.new.caches.items) }
         ensures empty { OnOk result
@@ -173,8 +173,8 @@ impl<R: Reader> Index<R> {
         requires same { abbreviations.old.dwarf ≡ dwarf.now }
         requires read { HaveLinesOf dwarf.now self.old.dw_units.items self.old.caches.items }
         requires fresh { AreFreshOf self.old.dw_units.items self.old.caches.items }
-        ensures gives { ExactlyAtCost R.shares (λ _. index_seen self.new) result
-            (with_header dwarf.now aranges.now (index_seen self.old) header) }
+        ensures gives { ExactlyAtCost R.shares (λ _. as_index self.new) result
+            (with_header dwarf.now aranges.now (as_index self.old) header) }
         ensures dwarf { abbreviations.new.dwarf ≡ dwarf.now }
         ensures read { OnOk result
             (HaveLinesOf dwarf.now self.new.dw_units.items self.new.caches.items) }
@@ -195,7 +195,7 @@ fn read_units<R: Reader>(
     dwarf: &Dwarf<R>,
     aranges: &UnitAranges,
 ) -> Result<Index<R>, Error>
-    ensures gives { ExactlyAtCost R.shares index_seen result
+    ensures gives { ExactlyAtCost R.shares as_index result
         (indexed_with dwarf.now aranges.now) }
     ensures read { IfOk result (λ i. HaveLinesOf dwarf.now i.dw_units.items i.caches.items) }
     ensures empty { IfOk result (λ i. AreFreshOf i.dw_units.items i.caches.items) }
@@ -213,7 +213,7 @@ impl<R: Reader> IndexedUnits<R> {
     // The units of `.debug_info` that a context has, and the ranges that lead to them, as
     // `Units::parse` reads them.
     fn parse(alloc: Global, dwarf: &Dwarf<R>) -> Result<IndexedUnits<R>, Error>
-        ensures gives { ExactlyAtCost R.shares units_seen result (index_read dwarf.now) }
+        ensures gives { ExactlyAtCost R.shares as_indexed_units result (index_read dwarf.now) }
         ensures read { IfOk result (λ u. HaveLinesOf dwarf.now u.dw_units.items u.caches.items) }
         ensures empty { IfOk result (λ u. AreFreshOf u.dw_units.items u.caches.items) }
     {
@@ -253,7 +253,7 @@ impl<R: Reader> Units<R> {
     /// All sets of `.debug_aranges` are read first. A unit is read whole before the next header: a
     /// type unit and a unit whose record is faulty are passed over; a partial unit of version 5 has
     /// no range and no language. The line program of a unit is run here only where no range is
-    /// given for it: by its range list if it has one, else by `.debug_aranges`, else by its other
+    /// listed for it: by its range list if it has one, else by `.debug_aranges`, else by its other
     /// attributes. The units of the supplementary file come last.
     ///
     /// Refused by the first fault of a set's header, of a unit's header, or of the range attributes

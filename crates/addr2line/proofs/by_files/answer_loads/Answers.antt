@@ -1,6 +1,7 @@
 use Rattle.addr2line.proofs.Common.{◌≡◌, ◌≢◌, inl, inr, Err, Ok, ap, option_map, refl, rules, subst, true, ◌∙◌, IfSome, OutOfMemory, Stop, SuspendsAgain, as_read, as_read_if_known, given_by_files, of_file}
 use Rattle.addr2line.specs.SplitFiles.{AreOfSomeFile, RefusesAnswer}
-use Rattle.addr2line.proofs.ByFilesLemmas.{begins_waiting, ends_at_once, ends_resumed, given_up, goes_on, if_seen, waits_still}
+use Rattle.addr2line.proofs.ByFilesLemmas.{begins_waiting, ends_at_once, ends_resumed, given_up, goes_on, waits_still}
+use Rattle.addr2line.proofs.Facts.{if_seen}
 use Rattle.addr2line.proofs.by_files.answer_loads.Goals as goal
 
 pub returns-in-Output : goal.returns-in-Output

@@ -1,7 +1,8 @@
 use Rattle.addr2line.proofs.Common.{ap, drop, map, refl, rules, subst, sym, ◌+◌, ◌∙◌, map-append, err_from_is_err_and, as_call, as_reply}
 use Rattle.gimli_read.specs.declared.error.Error.TheVariants.{OutOfMemory}
 use Rattle.addr2line.proofs.HistoryLemmas.{drop_one}
-use Rattle.addr2line.proofs.RunLemmas.{HasMade, made_all, made_none, made_one, none_left, refused_after, refused_at_once, refused_in, told_all}
+use Rattle.addr2line.proofs.RunLemmas.{HasMade, made_all, made_none, made_one, refused_after, refused_at_once, refused_in, told_all}
+use Rattle.addr2line.proofs.Facts.{none_left}
 use Rattle.addr2line.proofs.session.replay.Goals as goal
 
 pub returns-in_err-replies-clause-after : goal.returns-in_err-replies-clause-after

@@ -1,7 +1,8 @@
 use Rattle.addr2line.proofs.Common.{Ok, Err, Some, refl, sym, ap, false, true, ◌∙◌, err_from_is_err_and, has_wanted_id}
 use Rattle.gimli.specs.Split.{split_sections}
 use Rattle.addr2line.proofs.LoadingLemmas.{no_oom}
-use Rattle.addr2line.proofs.SplitFileLemmas.{as_made, never_fault, split_is, split_tested, split_unread}
+use Rattle.addr2line.proofs.SplitFileLemmas.{as_made, split_is, split_tested, split_unread}
+use Rattle.addr2line.proofs.Facts.{never_fault}
 use Rattle.addr2line.proofs.split_files.read_split.Goals as goal
 
 pub returns-in_err-read_sections : goal.returns-in_err-read_sections

@@ -8,18 +8,18 @@ returns-then-is_open g c =
     let scope = as_scope c.args.scope in
     let was = c.args.cache.now in
     let own = c.requires.cached.lines in
-    let look = c.check_split.ensures.after in
+    let check = c.check_split.ensures.after in
     let waiting = sym c.is_open.ensures.gives ∙ c.if-is_open.true in
     record {
-      gives = waits_gives g.R.Reader.shares scope c.args.dw_unit.now c.args.probe was own c.check_split.new.self look waiting;
-      after = waits_after g.R.Reader.shares scope c.args.dw_unit.now c.args.probe was own c.check_split.new.self look waiting;
+      gives = waits_gives g.R.Reader.shares scope c.args.dw_unit.now c.args.probe was own c.check_split.new.self check waiting;
+      after = waits_after g.R.Reader.shares scope c.args.dw_unit.now c.args.probe was own c.check_split.new.self check waiting;
       steps = omega arith;
     }
 
 pub find_in_view-requires : goal.find_in_view-requires
 find_in_view-requires g c =
-    let look = c.check_split.ensures.after in
-    record { cached = look.right; decided = checked_decides c.check_split.new.self.view.state look.known (sym c.is_open.ensures.gives ∙ c.if-is_open.false) }
+    let check = c.check_split.ensures.after in
+    record { cached = check.right; decided = checked_decides c.check_split.new.self.view.state check.known (sym c.is_open.ensures.gives ∙ c.if-is_open.false) }
 
 pub returns-in_err-function : goal.returns-in_err-function
 returns-in_err-function g c =
@@ -27,13 +27,13 @@ returns-in_err-function g c =
     let scope = as_scope c.args.scope in
     let was = c.args.cache.now in
     let own = c.requires.cached.lines in
-    let look = c.check_split.ensures.after in
+    let check = c.check_split.ensures.after in
     let shut = sym c.is_open.ensures.gives ∙ c.if-is_open.false in
     let e = c.in_err-function.ensures in
     let after : EntriesCache g.row.R.Denot = record { view = c.check_split.new.self.view; functions = c.find_in_view.new.functions } in
     rw (p.1, p.2) (record {
-      gives = no_function_gives g.R.Reader.shares scope c.args.dw_unit.now c.args.probe was own c.check_split.new.self look shut after c.in_err-function.field-0.0 e.after e.gives;
-      after = no_function_after g.R.Reader.shares scope c.args.dw_unit.now c.args.probe was own c.check_split.new.self look shut after c.in_err-function.field-0.0 e.after e.gives;
+      gives = no_function_gives g.R.Reader.shares scope c.args.dw_unit.now c.args.probe was own c.check_split.new.self check shut after c.in_err-function.field-0.0 e.after e.gives;
+      after = no_function_after g.R.Reader.shares scope c.args.dw_unit.now c.args.probe was own c.check_split.new.self check shut after c.in_err-function.field-0.0 e.after e.gives;
       steps = omega arith;
     })
 
@@ -43,14 +43,14 @@ returns-in_err-row g c =
     let scope = as_scope c.args.scope in
     let was = c.args.cache.now in
     let own = c.requires.cached.lines in
-    let look = c.check_split.ensures.after in
+    let check = c.check_split.ensures.after in
     let shut = sym c.is_open.ensures.gives ∙ c.if-is_open.false in
     let f = c.in_ok-function.ensures in
     let after : EntriesCache g.row.R.Denot = record { view = c.check_split.new.self.view; functions = c.find_in_view.new.functions } in
     let e = c.in_err-row.ensures in
     rw (p.1, p.2) (record {
-      gives = no_lines_gives g.R.Reader.shares scope c.args.dw_unit.now c.args.probe was own c.check_split.new.self look shut after c.in_ok-function.function f.after f.gives c.find_row.new.self c.in_err-row.field-0.0 e.after e.gives;
-      after = no_lines_after g.R.Reader.shares scope c.args.dw_unit.now c.args.probe was own c.check_split.new.self look shut after c.in_ok-function.function f.after f.gives c.find_row.new.self c.in_err-row.field-0.0 e.after e.gives;
+      gives = no_lines_gives g.R.Reader.shares scope c.args.dw_unit.now c.args.probe was own c.check_split.new.self check shut after c.in_ok-function.function f.after f.gives c.find_row.new.self c.in_err-row.field-0.0 e.after e.gives;
+      after = no_lines_after g.R.Reader.shares scope c.args.dw_unit.now c.args.probe was own c.check_split.new.self check shut after c.in_ok-function.function f.after f.gives c.find_row.new.self c.in_err-row.field-0.0 e.after e.gives;
       steps = e.steps;
     })
 
@@ -59,13 +59,13 @@ returns g c =
     let scope = as_scope c.args.scope in
     let was = c.args.cache.now in
     let own = c.requires.cached.lines in
-    let look = c.check_split.ensures.after in
+    let check = c.check_split.ensures.after in
     let shut = sym c.is_open.ensures.gives ∙ c.if-is_open.false in
     let f = c.in_ok-function.ensures in
     let after : EntriesCache g.row.R.Denot = record { view = c.check_split.new.self.view; functions = c.find_in_view.new.functions } in
     let e = c.in_ok-row.ensures in
     record {
-      gives = here_gives g.R.Reader.shares scope c.args.dw_unit.now c.args.probe was own c.check_split.new.self look shut after c.in_ok-function.function f.after f.gives c.find_row.new.self c.in_ok-row.row e.after e.gives;
-      after = here_after g.R.Reader.shares scope c.args.dw_unit.now c.args.probe was own c.check_split.new.self look shut after c.in_ok-function.function f.after f.gives c.find_row.new.self c.in_ok-row.row e.after e.gives;
+      gives = here_gives g.R.Reader.shares scope c.args.dw_unit.now c.args.probe was own c.check_split.new.self check shut after c.in_ok-function.function f.after f.gives c.find_row.new.self c.in_ok-row.row e.after e.gives;
+      after = here_after g.R.Reader.shares scope c.args.dw_unit.now c.args.probe was own c.check_split.new.self check shut after c.in_ok-function.function f.after f.gives c.find_row.new.self c.in_ok-row.row e.after e.gives;
       steps = e.steps;
     }

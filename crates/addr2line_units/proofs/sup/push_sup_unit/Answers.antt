@@ -1,6 +1,6 @@
 use Rattle.addr2line_units.proofs.Common.{refl, err_from_is_err_and}
-use Rattle.addr2line_units.proofs.UnitsOfHeadersLemmas.{first_takes}
 use Rattle.addr2line_units.proofs.UnitsIndexLemmas.{where_found}
+use Rattle.addr2line_units.proofs.Facts.{first_takes}
 use Rattle.addr2line_units.proofs.sup.push_sup_unit.Goals as goal
 
 pub returns-in_err-push-clause-gives : goal.returns-in_err-push-clause-gives

@@ -1,8 +1,9 @@
 use Rattle.addr2line_units.proofs.Common.{Ok, ap, refl, rules, subst, sym, ◌∙◌, ◌≡◌, err_from_is_err_and, free, all_headers, units_of, unit_of_header}
 use Rattle.gimli_read.specs.Costed.{◌>>=◌}
-use Rattle.addr2line_units.specs.UnitsIndexed.{IndexState, appended, index_seen, indexed_with}
-use Rattle.addr2line_units.proofs.UnitsOfHeadersLemmas.{IsRestOf, fault_of_rest, first_takes, rest_of_rest, shared_take, unit_fault, unit_step}
+use Rattle.addr2line_units.specs.UnitsIndexed.{IndexState, appended, as_index, indexed_with}
+use Rattle.addr2line_units.proofs.UnitsOfHeadersLemmas.{IsRestOf, fault_of_rest, rest_of_rest, shared_take, unit_fault, unit_step}
 use Rattle.addr2line_units.proofs.UnitsIndexLemmas.{appended_more, appended_none, given_fault, given_none, given_some, shorter}
+use Rattle.addr2line_units.proofs.Facts.{first_takes}
 use Rattle.addr2line_units.proofs.units.read_units.Goals as goal
 
 pub returns-in_err-headers-clause-gives : goal.returns-in_err-headers-clause-gives
@@ -34,7 +35,7 @@ pub loop-index-preserved : goal.loop-index-preserved
 loop-index-preserved g c =
     let i = c.loop-index.invariant in
     let d = c.args.dwarf.now in
-    let m = index_seen c.loop-index.index in
+    let m = as_index c.loop-index.index in
     let left = given_some _ _ _ (rw c.in-Some.is at c.in_ok-header.ensures.gives) in
     record {
       left = rest_of_rest (unit_step g.R.Reader.shares (unit_of_header d c.args.aranges.now) (appended d) m _ _ _ left _ (appended_more d m) c.in_ok-take.ensures.gives) i.left;
@@ -48,7 +49,7 @@ returns-in_err-take-clause-gives g c =
     let p = err_from_is_err_and c.from_residual-in_err-take.result c.from_residual-in_err-take.ensures.1 in
     let d = c.args.dwarf.now in
     let left = given_some _ _ _ (rw c.in-Some.is at c.in_ok-header.ensures.gives) in
-    rw (p.1, p.2) (fault_of_rest g.R.Reader.shares _ _ _ c.loop-index.invariant.left (unit_fault g.R.Reader.shares (unit_of_header d c.args.aranges.now) (appended d) (index_seen c.loop-index.index) _ _ _ left _ c.in_err-take.ensures.gives))
+    rw (p.1, p.2) (fault_of_rest g.R.Reader.shares _ _ _ c.loop-index.invariant.left (unit_fault g.R.Reader.shares (unit_of_header d c.args.aranges.now) (appended d) (as_index c.loop-index.index) _ _ _ left _ c.in_err-take.ensures.gives))
 
 pub returns-in_err-header-clause-gives : goal.returns-in_err-header-clause-gives
 returns-in_err-header-clause-gives g c =
@@ -57,12 +58,12 @@ returns-in_err-header-clause-gives g c =
     let read = unit_of_header d c.args.aranges.now in
     rw (p.1, p.2) (λ may.
     let left = given_fault _ _ (c.in_err-header.ensures.gives (λ e _. may (first_takes _ _ (shared_take g.R.Reader.shares read (all_headers d.debug_info) e)))) in
-    sym c.loop-index.invariant.left.gives ∙ ap (λ headers. (units_of read headers >>= λ units. free (Ok (appended d (index_seen c.loop-index.index) units))).given) left)
+    sym c.loop-index.invariant.left.gives ∙ ap (λ headers. (units_of read headers >>= λ units. free (Ok (appended d (as_index c.loop-index.index) units))).given) left)
 
 pub returns-clause-gives : goal.returns-clause-gives
 returns-clause-gives g c =
     let d = c.args.dwarf.now in
-    let m = index_seen c.loop-index.index in
+    let m = as_index c.loop-index.index in
     let left = given_none _ _ (rw c.in_default.is at c.in_ok-header.ensures.gives) in
     sym c.loop-index.invariant.left.gives
     ∙ ap (λ headers. (units_of (unit_of_header d c.args.aranges.now) headers >>= λ units. free (Ok (appended d m units))).given) left

@@ -1,6 +1,6 @@
 use Rattle.addr2line.proofs.Common.{is_some, err_from_is_err_and, as_read}
 use Rattle.addr2line.proofs.LoadedLemmas.{loaded_by, loaded_fault, loader_made}
-use Rattle.addr2line.proofs.LoadingLemmas.{if_some_both}
+use Rattle.addr2line.proofs.Facts.{if_some_both}
 use Rattle.addr2line.proofs.loader.LoaderOver.over_with.Goals as goal
 
 pub returns-clause-made : goal.returns-clause-made

@@ -1,6 +1,7 @@
 use Rattle.addr2line_units.proofs.Common.{◌≡◌, ◌∙◌, false, false≢true, is_some, refl, rules, sym, true, as_scope, first_answer_of}
 use Rattle.addr2line_units.specs.declared.entries.LazyFunctions.TheVariants.{Unread}
-use Rattle.addr2line_units.proofs.LoadsAnswerLemmas.{answered_is_some, no_answer, unread_entries}
+use Rattle.addr2line_units.proofs.LoadsAnswerLemmas.{unread_entries}
+use Rattle.addr2line_units.proofs.Facts.{answered_is_some, no_answer}
 use Rattle.addr2line_units.proofs.entries.EntriesCache.forget.Goals as goal
 
 pub returns-then-is_answered : goal.returns-then-is_answered

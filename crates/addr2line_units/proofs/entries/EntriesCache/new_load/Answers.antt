@@ -1,8 +1,9 @@
 use Rattle.addr2line_units.proofs.Common.{◌≡◌, ◌∙◌, None, Some, ap, false, is_some, not, rules, subst, sym, true, first_answer_of, awaited_load, is_open}
 use Rattle.addr2line_units.specs.LoadsListed.{if_new, is_marked}
-use Rattle.addr2line_units.proofs.LoadsAnswerLemmas.{no_answer, open_by_check}
+use Rattle.addr2line_units.proofs.LoadsAnswerLemmas.{open_by_check}
 use Rattle.addr2line_units.proofs.LoadsLemmas.{awaited_unit, awaits_this, is_new_load, marks_load, marks_none, not_new, open_awaits}
 use Rattle.addr2line_units.proofs.LoadsOpenLemmas.{waits_only_open}
+use Rattle.addr2line_units.proofs.Facts.{no_answer}
 use Rattle.addr2line_units.proofs.entries.EntriesCache.new_load.Goals as goal
 
 pub returns-then-not-is_open-clause-gives : goal.returns-then-not-is_open-clause-gives

@@ -4,11 +4,12 @@ use Rattle.addr2line_lines.specs.CachedNames.{AreNamesOf}
 use Rattle.addr2line_units.specs.declared.entries.LazyFunctions.TheVariants as lazy
 use Rattle.addr2line_units.specs.declared.parses.ReadingDepth.TheVariants as depths
 use Rattle.addr2line_units.proofs.EntriesFindLemmas.{were_unread}
-use Rattle.addr2line_units.proofs.EntriesFunctionLemmas.{exactly_weaker, fault_is, no_fault_of, on_ok, reading_before, stay_faulty, stay_read, table_more}
+use Rattle.addr2line_units.proofs.EntriesFunctionLemmas.{exactly_weaker, fault_is, no_fault_of, reading_before, stay_faulty, stay_read, table_more}
 use Rattle.addr2line_units.proofs.ParsesAfterLemmas.{details_after, refused_after}
 use Rattle.addr2line_units.proofs.ParsesCachedLemmas.{cached_stay}
 use Rattle.addr2line_units.proofs.ParsesReadyLemmas.{fault_of_functions, had_not_oom, known_not_oom, not_oom, ready_fault, ready_same, ready_then}
 use Rattle.addr2line_units.proofs.EntriesKnownTableLemmas.{to_fault_cached, to_fault_known}
+use Rattle.addr2line_units.proofs.Facts.{on_ok}
 use Rattle.addr2line_units.proofs.entries.LazyFunctions.read_all.Goals as goal
 
 -- functions that weren't read take memory, or memory is their fault

@@ -1,7 +1,7 @@
 use Rattle.addr2line_units.proofs.Common.{rules, ◌≡◌, List, ap, false, drop, filter, sym, subst, ◌∙◌, AllByRecursion, IsNonDecreasingBy, IsPartitionPoint-from_clause, IsPartitionedBy-leb, IsPartitionedBy-ltb, in_order_ordered, IsInOrder, UnitArange, is_arange_of, offset_sooner}
 use Rattle.addr2line_lines.proofs.SeekLemmas.{non_decreasing}
 use Rattle.addr2line_units.proofs.IndexArangeLemmas.{dropped_up, from_point, is_below, is_up_to, none_below, offset_of, offset_order, offsets_up, same_of_unit, up_to_point}
-use Rattle.addr2line_units.proofs.IndexLeastBeginLemmas.{rest_is}
+use Rattle.addr2line_units.proofs.Facts.{rest_is}
 use Rattle.addr2line_units.proofs.index.UnitAranges.find.Goals as goal
 
 pub returns : goal.returns

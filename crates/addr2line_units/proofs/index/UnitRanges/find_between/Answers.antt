@@ -2,7 +2,8 @@ use Rattle.addr2line_units.proofs.Common.{rules, List, ap, sym, subst, ◌∙◌
 use Rattle.addr2line_units.specs.declared.index.IndexedRange.{IndexedRange}
 use Rattle.addr2line_units.specs.IndexLeastBegins.{AreLeastBegins, EndFits, is_between}
 use Rattle.addr2line_units.specs.IndexCover.{ends_sooner}
-use Rattle.addr2line_units.proofs.IndexLeastBeginLemmas.{EndsRise, dropped_least, ends_by, ends_rise, found_from, none_past_greatest, rest_is}
+use Rattle.addr2line_units.proofs.IndexLeastBeginLemmas.{EndsRise, dropped_least, ends_by, ends_rise, found_from, none_past_greatest}
+use Rattle.addr2line_units.proofs.Facts.{rest_is}
 use Rattle.addr2line_units.proofs.index.UnitRanges.find_between.Goals as goal
 
 pub invariant_of-result : goal.invariant_of-result

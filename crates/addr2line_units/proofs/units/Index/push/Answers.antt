@@ -1,5 +1,5 @@
 use Rattle.addr2line_units.proofs.Common.{◌≡◌, ◌++◌, ◌∙◌, List, Ok, Result, ap, length, map, rules, sym, Error, Range, range_of_unit, unit_ranges}
-use Rattle.addr2line_units.specs.UnitsIndexed.{ranged_seen}
+use Rattle.addr2line_units.specs.UnitsIndexed.{as_ranged_unit}
 use Rattle.addr2line_units.proofs.SupScopeLemmas.{fresh_push}
 use Rattle.addr2line_units.proofs.UnitsLinesLemmas.{own_push, pushed}
 use Rattle.addr2line_units.proofs.units.Index.push.Goals as goal
@@ -16,7 +16,7 @@ pub returns-clause-gives : goal.returns-clause-gives
 returns-clause-gives g c =
     let d = c.args.dwarf.now in
     let before = c.args.self.now.ranges.items in
-    let ranged = ranged_seen c.args.dw_unit c.args.lines c.args.listed.items in
+    let ranged = as_ranged_unit c.args.dw_unit c.args.lines c.args.listed.items in
     let count : c.len.result ≡ length c.args.self.now.caches.items = search rules in
     let read = ok_is _ _ c.in_ok-ranges.ensures.gives in
     let ranges =

@@ -1,6 +1,6 @@
 use Rattle.addr2line_units.proofs.Common.{err_from_is_err_and}
-use Rattle.addr2line_units.proofs.UnitsOfHeadersLemmas.{first_takes}
 use Rattle.addr2line_units.proofs.UnitsIndexLemmas.{where_kept}
+use Rattle.addr2line_units.proofs.Facts.{first_takes}
 use Rattle.addr2line_units.proofs.units.Index.take.Goals as goal
 
 pub returns-in_err-push-clause-gives : goal.returns-in_err-push-clause-gives

@@ -1,6 +1,7 @@
 use Rattle.addr2line_units.proofs.Common.{ap, sym, ◌∙◌, err_from_is_err_and, Sections}
 use Rattle.addr2line_units.specs.UnitsIndexed.{aranges_read}
-use Rattle.addr2line_units.proofs.UnitsOfHeadersLemmas.{first_takes, then_takes}
+use Rattle.addr2line_units.proofs.UnitsOfHeadersLemmas.{then_takes}
+use Rattle.addr2line_units.proofs.Facts.{first_takes}
 use Rattle.addr2line_units.proofs.units.IndexedUnits.parse.Goals as goal
 
 pub returns-in_err-ranges-clause-gives : goal.returns-in_err-ranges-clause-gives

@@ -1,5 +1,5 @@
 use Rattle.addr2line_units.proofs.Common.{None, arith, subst, sym, AreEntriesOf, as_stop}
-use Rattle.addr2line_units.specs.CacheAfter.{AfterForgetting}
+use Rattle.addr2line_units.specs.CacheAfter.{AfterForgettingIn}
 use Rattle.addr2line_units.proofs.LoadsLemmas.{known_forget, unknown_forget}
 use Rattle.addr2line_units.proofs.UnitsNumberLemmas.{forgotten_there, none_forgotten}
 use Rattle.addr2line_units.proofs.UnitsAtLemmas.{cache_within, its_entries, none_got, unit_got, units_with_entries}
@@ -34,7 +34,7 @@ pub returns : goal.returns
 returns g c =
     let s = c.self.inside in
     let there = unit_got c.scope-scope.ensures.gives c.args.token.number c.in-Some.ensures.lookup.0 c.in-Some.ensures.lookup.1 in
-    let a = subst (λ S. AfterForgetting S c.in-Some.dw_unit.now c.index_mut-cache.result.now.entries c.forget.new.self) c.scope-scope.ensures.gives c.forget.ensures.after in
+    let a = subst (λ S. AfterForgettingIn S c.in-Some.dw_unit.now c.index_mut-cache.result.now.entries c.forget.new.self) c.scope-scope.ensures.gives c.forget.ensures.after in
     rw (sym c.self.view_is) (record {
       gives = sym (known_forget s.sources.units.items c.args.token.number c.in-Some.dw_unit.now there);
       after = forgotten_there c.self.invariant c.args.token.number there c.index_mut-cache.ensures.value c.forget.new.self s.steps (as_stop s.caches.items s.stop) a;

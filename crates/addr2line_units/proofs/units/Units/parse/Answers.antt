@@ -1,6 +1,7 @@
 use Rattle.addr2line_units.proofs.Common.{subst, sym, ◌∙◌, err_from_is_err_and, HaveLinesOf}
-use Rattle.addr2line_units.proofs.UnitsOfHeadersLemmas.{first_takes, then_takes}
+use Rattle.addr2line_units.proofs.UnitsOfHeadersLemmas.{then_takes}
 use Rattle.addr2line_units.proofs.UnitsNewLemmas.{are_units, index_is, sup_fault, units_fault, units_made}
+use Rattle.addr2line_units.proofs.Facts.{first_takes}
 use Rattle.addr2line_units.proofs.units.Units.parse.Goals as goal
 
 pub returns-in_err-indexed : goal.returns-in_err-indexed

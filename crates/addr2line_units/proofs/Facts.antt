@@ -1,0 +1,227 @@
+-- Facts on booleans, numbers, options and lists that the proofs of this crate cite, and that std
+-- doesn't have.
+use Rattle.addr2line_units.proofs.Common.{◌≡◌, ◌≢◌, ◌∙◌, ◌+◌, ◌-◌, ◌<◌, ◌≤◌, ◌==◌, ◌&&◌, ◌||◌, ◌⊎◌, inl, inr, ℕ, zero, suc, arith, nat_lt, nat_tests, Bool, true, false, not, cond, if◌then◌else◌, List, [], ◌∷◌, ◌++◌, length, map, filter, reverse, take, drop, take_all, length-drop, get_or, slice_get, set, set-get_or, map-append, reverse-append, Option, Some, None, IfSome, is_some, option_and_then, option_map, Result, Ok, Err, OnOk, AllByRecursion, refl, sym, ap, eqb-true, eq-eqb}
+
+-- ---- of booleans
+
+pub two_tests : (q : Bool) → q ≡ true → q ≡ false → ⊥
+two_tests q a b = cc
+
+pub never : {A : Type 0} → false ≡ true → A
+never e = absurd cc
+
+pub and_first : (a b : Bool) → (a && b) ≡ true → a ≡ true
+and_first true b e = refl
+and_first false b e = cc
+
+pub and_second : (a b : Bool) → (a && b) ≡ true → b ≡ true
+and_second true b e = e
+and_second false b e = cc
+
+pub and_not : (a b : Bool) → (a && not b) ≡ true → b ≡ false
+and_not true true e = cc
+and_not true false e = refl
+and_not false b e = cc
+
+pub and_comm : (a b : Bool) → (a && b) ≡ (b && a)
+and_comm true true = refl
+and_comm true false = refl
+and_comm false true = refl
+and_comm false false = refl
+
+pub and_same : (a : Bool) → a ≡ (a && a)
+and_same true = refl
+and_same false = refl
+
+-- a test beside another
+pub and_weaker : (a b c : Bool) → (a ≡ true → b ≡ true) → (a && c) ≡ true → (b && c) ≡ true
+and_weaker true b c w h = ap (λ x. x && c) (w refl) ∙ h
+and_weaker false b c w h = absurd cc
+
+pub or_cond : (a b : Bool) → (a || b) ≡ cond a true b
+or_cond true b = refl
+or_cond false b = refl
+
+pub or_true : (b : Bool) → (b || true) ≡ true
+or_true true = refl
+or_true false = refl
+
+pub or_none : (a b : Bool) → (a || not b) ≡ false → (a ≡ false) × (b ≡ true)
+or_none true b e = cc
+or_none false true e = (refl, refl)
+or_none false false e = cc
+
+-- a test that holds, or another
+pub first_takes : (before after : Bool) → before ≡ true → (before || after) ≡ true
+first_takes before after e = ap (λ b. b || after) e
+
+pub both_or : (a b : Bool) → not (a || b) ≡ (not a && not b)
+both_or true b = refl
+both_or false b = refl
+
+pub not_is : (q : Bool) → not q ≡ true → q ≡ false
+not_is true h = let bad : ⊥ = cc in absurd bad
+not_is false h = refl
+
+pub not_false : (q : Bool) → not q ≡ false → q ≡ true
+not_false true h = refl
+not_false false h = let bad : ⊥ = cc in absurd bad
+
+-- ---- of numbers
+
+pub three : (n k : ℕ) → (n < k) ⊎ ((n ≡ k) ⊎ (k < n))
+three zero zero = inr (inl refl)
+three zero (suc k) = inl (omega arith)
+three (suc n) zero = inr (inr (omega arith))
+three (suc n) (suc k) = elim (three n k) [ inl l ↦ inl (omega arith) | inr m ↦ elim m [ inl e ↦ inr (inl (ap suc e)) | inr l ↦ inr (inr (omega arith)) ] ]
+
+pub not_equal : (b c : ℕ) → b ≢ c → (b == c) ≡ false
+not_equal b c h =
+    elim (b == c) as (λ q. (b == c) ≡ q → q ≡ false) [
+      | true ↦ λ same. absurd (h (eqb-true b c same))
+      | false ↦ λ _. refl
+    ] refl
+
+pub equal_not : (b c : ℕ) → (b == c) ≡ false → b ≢ c
+equal_not b c h = λ same. let yes_equal : (b == c) ≡ true = eq-eqb b c same in let bad : ⊥ = cc in bad
+
+-- one of two numbers is not above the other
+pub at_or_behind : (n k : ℕ) → (n ≤ k) ⊎ (k < n)
+at_or_behind zero k = inl (omega arith)
+at_or_behind (suc n) zero = inr (omega arith)
+at_or_behind (suc n) (suc k) = elim (at_or_behind n k) [ inl h ↦ inl (omega arith) | inr h ↦ inr (omega arith) ]
+
+-- a number below the next one is the number itself, or below it
+pub below_next : (n k : ℕ) → n < suc k → (n < k) ⊎ (n ≡ k)
+below_next zero zero h = inr refl
+below_next zero (suc k) h = inl (omega arith)
+below_next (suc n) zero h = absurd (omega arith)
+below_next (suc n) (suc k) h = elim (below_next n k (omega arith)) [ inl l ↦ inl (omega arith) | inr e ↦ inr (ap suc e) ]
+
+pub below_or_at : (n k : ℕ) → n < k + 1 → (n < k) ⊎ (n ≡ k)
+below_or_at n k h = below_next n k (omega (arith, h))
+
+-- ---- of options and results
+
+pub some_inj : {A : Type 0} (x y : A) → Some x ≡ Some y → x ≡ y
+some_inj x y h = cc
+
+-- what is chosen by a test, where it is something
+pub some_if : {A : Type 0} (q : Bool) (o : Option A) (x : A) → (if q then o else None) ≡ Some x → (q ≡ true) × (o ≡ Some x)
+some_if true o x h = (refl, h)
+some_if false o x h = let bad : ⊥ = cc in absurd bad
+
+pub then_some : {A B : Type 0} (f : A → Option B) (o : Option A) (y : B) → option_and_then f o ≡ Some y → (x : A) × (o ≡ Some x) × (f x ≡ Some y)
+then_some f None y h = let bad : ⊥ = cc in absurd bad
+then_some f (Some x) y h = (x, refl, h)
+
+pub map_some : {A B : Type 0} (f : A → B) (o : Option A) (y : B) → option_map f o ≡ Some y → (x : A) × (o ≡ Some x) × (f x ≡ y)
+map_some f None y h = let bad : ⊥ = cc in absurd bad
+map_some f (Some x) y h = (x, refl, some_inj _ _ h)
+
+-- an option that has nothing, and one that has something
+pub no_answer : {X : Type 0} (o : Option X) → is_some o ≡ false → o ≡ None
+no_answer None e = refl
+no_answer (Some x) e = absurd cc
+
+pub answered_is_some : {X : Type 0} (o : Option X) → is_some o ≡ true → o ≡ None → ⊥
+answered_is_some None e h = cc
+answered_is_some (Some x) e h = cc
+
+-- what follows of an answer
+pub on_ok : {X E : Type 0} {P Q : Type 0} (r : Result X E) → (P → Q) → OnOk r P → OnOk r Q
+on_ok (Ok x) f h = f h
+on_ok (Err e) f h = tt
+
+-- ---- of lists
+
+-- lists that are the same have the same parts
+pub head_is : {X : Type 0} (x y : X) (xs ys : List X) → x ∷ xs ≡ y ∷ ys → x ≡ y
+head_is x y xs ys h = cc
+
+pub tail_is : {X : Type 0} (x y : X) (xs ys : List X) → x ∷ xs ≡ y ∷ ys → xs ≡ ys
+tail_is x y xs ys h = cc
+
+pub nothing_last : {X : Type 0} (front : List X) (last : X) → [] ≡ front ++ (last ∷ []) → ⊥
+nothing_last [] last h = cc
+nothing_last (f ∷ fs) last h = cc
+
+pub last_is : {X : Type 0} (x : X) (front : List X) (last : X) → x ∷ [] ≡ front ++ (last ∷ []) → x ≡ last
+last_is x [] last h = head_is x last [] [] h
+last_is x (f ∷ fs) last h = absurd (nothing_last fs last (tail_is x f [] (fs ++ (last ∷ [])) h))
+
+-- a list that isn't empty has a length
+pub some_there : {X : Type 0} (xs : List X) → (xs ≡ [] → ⊥) → nat_lt 0 (length xs) ≡ true
+some_there [] some = absurd (some refl)
+some_there (x ∷ xs) some = of_number (length xs)
+  where
+    of_number : (n : ℕ) → nat_lt 0 (suc n) ≡ true
+    of_number n = grind (arith, nat_tests)
+
+-- a mapped list from its end is the list from its end, mapped
+pub map_reverse : {X Y : Type 0} (f : X → Y) (xs : List X) → map f (reverse xs) ≡ reverse (map f xs)
+map_reverse f [] = refl
+map_reverse f (x ∷ xs) =
+    ap (map f) (reverse-append (x ∷ []) xs) ∙ map-append f (reverse xs) (x ∷ [])
+    ∙ ap (λ ys. ys ++ f x ∷ []) (map_reverse f xs) ∙ sym (reverse-append (f x ∷ []) (map f xs))
+
+-- a slice from a place on is what is left from there on
+pub rest_is : {X : Type 0} (n : ℕ) (ys xs : List X) → ys ≡ xs → take (length ys - n) (drop n ys) ≡ drop n xs
+rest_is n ys xs e = let left = length-drop n ys in take_all (length ys - n) (drop n ys) (omega arith) ∙ ap (drop n) e
+
+pub filter_all : {X : Type 0} (p : X → Bool) → ((x : X) → p x ≡ true) → (xs : List X) → filter p xs ≡ xs
+filter_all p all [] = refl
+filter_all p all (x ∷ xs) = ap (λ b. cond b (x ∷ filter p xs) (filter p xs)) (all x) ∙ ap (λ z. x ∷ z) (filter_all p all xs)
+
+pub filter_twice : {X : Type 0} (p r q : X → Bool) → ((x : X) → q x ≡ (r x && p x)) → (xs : List X) → filter p (filter r xs) ≡ filter q xs
+filter_twice p r q both [] = refl
+filter_twice {X} p r q both (x ∷ xs) = by (r x) (p x) refl (both x) (filter_twice p r q both xs)
+  where
+    by : (a b : Bool) → p x ≡ b → q x ≡ (a && b) → filter p (filter r xs) ≡ filter q xs → filter p (cond a (x ∷ filter r xs) (filter r xs)) ≡ cond (q x) (x ∷ filter q xs) (filter q xs)
+    by true true e f rest = ap (λ y. cond y (x ∷ filter p (filter r xs)) (filter p (filter r xs))) e ∙ ap (λ z. x ∷ z) rest ∙ sym (ap (λ y. cond y (x ∷ filter q xs) (filter q xs)) f)
+    by true false e f rest = ap (λ y. cond y (x ∷ filter p (filter r xs)) (filter p (filter r xs))) e ∙ rest ∙ sym (ap (λ y. cond y (x ∷ filter q xs) (filter q xs)) f)
+    by false b e f rest = rest ∙ sym (ap (λ y. cond y (x ∷ filter q xs) (filter q xs)) f)
+
+-- all of a list, by its numbers
+pub all_of : {X : Type 0} (P : X → Type 0) (xs : List X) → ((n : ℕ) → IfSome (slice_get xs n) P) → AllByRecursion P xs
+all_of P [] h = tt
+all_of P (x ∷ xs) h = (h 0, all_of P xs (λ n. h (suc n)))
+
+pub one_of : {X : Type 0} (P : X → Type 0) (xs : List X) → AllByRecursion P xs → (n : ℕ) → IfSome (slice_get xs n) P
+one_of P [] h n = tt
+one_of P (x ∷ xs) h zero = h.0
+one_of P (x ∷ xs) h (suc n) = one_of P xs h.1 n
+
+-- ---- of places of lists
+
+pub slice_get_none : {X : Type 0} (xs : List X) (n : ℕ) → slice_get xs n ≡ None → length xs ≤ n
+slice_get_none [] n e = omega arith
+slice_get_none (x ∷ xs) zero e = absurd cc
+slice_get_none (x ∷ xs) (suc n) e = let k = slice_get_none xs n e in omega (arith, k)
+
+-- other elements are the same
+pub others_stay : {X : Type 0} (vs : List X) (n k : ℕ) (w : X) → k ≢ n → slice_get (set vs n w) k ≡ slice_get vs k
+others_stay [] n k w ne = refl
+others_stay (v ∷ vs) zero zero w ne = absurd (ne refl)
+others_stay (v ∷ vs) zero (suc k) w ne = refl
+others_stay (v ∷ vs) (suc n) zero w ne = refl
+others_stay (v ∷ vs) (suc n) (suc k) w ne = others_stay vs n k w (λ e. ne (ap suc e))
+
+pub got_set : {X : Type 0} (xs : List X) (n : ℕ) (x : X) → n < length xs → slice_get (set xs n x) n ≡ Some x
+got_set [] n x h = absurd (omega arith)
+got_set (y ∷ xs) zero x h = refl
+got_set (y ∷ xs) (suc n) x h = got_set xs n x (omega arith)
+
+pub below_set : {X : Type 0} (xs : List X) (n : ℕ) (x : X) → n < length xs → n < length (set xs n x)
+below_set [] n x h = absurd (omega arith)
+below_set (y ∷ xs) zero x h = omega arith
+below_set (y ∷ xs) (suc n) x h = let less = below_set xs n x (omega arith) in omega (arith, less)
+
+pub past_set : {X : Type 0} (xs : List X) (n : ℕ) (x : X) → length xs ≤ n → set xs n x ≡ xs
+past_set [] n x h = refl
+past_set (y ∷ xs) zero x h = absurd (omega (arith, h))
+past_set (y ∷ xs) (suc n) x h = ap (λ z. y ∷ z) (past_set xs n x (omega (arith, h)))
+
+-- nothing is new where an element is set to what it was
+pub same_set : {X : Type 0} (vs : List X) (n : ℕ) (v w : X) → v ≡ get_or vs n v → w ≡ v → set vs n w ≡ vs
+same_set vs n v w e same = ap (set vs n) (same ∙ e) ∙ set-get_or vs n v

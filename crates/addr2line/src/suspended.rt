@@ -52,13 +52,7 @@ impl<'ctx, R: Reader, K: LookupKind, B: Drop> Suspended<'ctx, R, K, B> {
     pub fn abandon(self)
         ensures kept { self.exit.0.now ≡ self.entry.ctx.now }
     {
-        let Suspended {
-            ctx: _,
-            probe: _,
-            number: _,
-            load: _,
-            kind: _,
-        } = self;
+        drop(self);
     }
 
     /// Ends the lookup, and gives its load. Takes no memory.

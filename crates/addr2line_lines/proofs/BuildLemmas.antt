@@ -8,7 +8,8 @@ use Rattle.addr2line_lines.specs.StoredRows.{fits, row_of_short, shortened}
 use Rattle.addr2line_lines.proofs.StoredRowLemmas.{short_is}
 use Rattle.addr2line_lines.proofs.PackedLemmas.{all_push, all_same, all_within, rows_in_is}
 use Rattle.addr2line_lines.proofs.SeekLemmas.{last_is}
-use Rattle.addr2line_lines.proofs.RowGroupLemmas.{IsPending, append_none, ended_is, falls_back, falls_replaced, none_open, pending_more, pending_replaced, replaced}
+use Rattle.addr2line_lines.proofs.RowGroupLemmas.{IsPending, ended_is, falls_back, falls_replaced, none_open, pending_more, pending_replaced, replaced}
+use Rattle.addr2line_lines.proofs.Facts.{same_more}
 
 -- sequences, and rows that go on
 abbrev going : List Sequence → List LineRow → Built
@@ -113,7 +114,7 @@ makes_more r rows false e again ss p h n =
     ∙ ap (λ xs. ss ++ xs) g.same
 
 makes : (rows : List LineRow) (ss : List Sequence) (p : List LineRow) → IsPending p → NeverFalls (p ++ rows) → (all_built (going ss p) rows).sequences ≡ ss ++ sequences_of (p ++ rows)
-makes [] ss p h n = sym (ap (λ xs. ss ++ xs) (none_open p h) ∙ append_none ss)
+makes [] ss p h n = sym (ap (λ xs. ss ++ xs) (none_open p h) ∙ append-nil ss)
 makes (r ∷ rows) ss p h n = makes_more r rows r.end_sequence refl (makes rows) ss p h n
 
 pub all_taken_is : (rows : List LineRow) → NeverFalls rows → (all_built nothing_built rows).sequences ≡ sequences_of rows
@@ -193,9 +194,6 @@ ends_at_is rows first n x a len l is =
     let row : (get_or (drop first rows) (length (drop first rows) - 1) none).address ≡ row_address_at rows (n - 1) =
     ap (λ (r : Row). r.address) (get_or-drop first rows (length (drop first rows) - 1) none) ∙ ap (row_address_at rows) place in
     ap (λ y. y == a) (is ∙ sym row) ∙ sym (ap (has_address a) at)
-
-same_more : (k x y : ℕ) → (x == y) ≡ (k + x == k + y)
-same_more k x y = grind (arith, nat_tests)
 
 -- the same by lower halves, of a row that fits beside the upper half
 pub ends_at_short : (upper : ℕ) (rows : List ShortRow) (first n : ℕ) (x s : ShortRow) (r : Row) → fits upper r ≡ true → s ≡ shortened r

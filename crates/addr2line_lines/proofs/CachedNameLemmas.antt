@@ -1,5 +1,5 @@
 -- Names that are cached, as more are (on specs/CachedNames.antt).
-use Rattle.addr2line_lines.proofs.Common.{◌≡◌, ℕ, List, [], ◌∷◌, ◌++◌, length, map, take, option_map, Option, Some, None, IfSome, Result, refl, ap, sym, subst, ◌∙◌, inl, inr, slice_get, AllByRecursion, slice_get-map, take-append_seam, Error, UnitOffset, UnitRecord, Section, AreNamesMore, AreNamesOf, CachedName, GrowNames, IsKnownAs, IsNameOf, IsOneMoreAtMost, as_cached_name, as_names, as_shared, referred_name, Scope}
+use Rattle.addr2line_lines.proofs.Common.{◌≡◌, ℕ, List, [], ◌∷◌, ◌++◌, length, map, take, option_map, Option, Some, None, IfSome, Result, refl, ap, sym, subst, ◌∙◌, inl, inr, slice_get, slice_get-map, take-append_seam, Error, UnitOffset, UnitRecord, Section, AreNamesMore, AreNamesOf, CachedName, GrowNames, IsKnownAs, IsNameOf, IsOneMoreAtMost, as_cached_name, as_names, as_shared, referred_name, Scope}
 use Rattle.std.specs.declared.alloc.Global.{Global}
 use Rattle.std.specs.declared.rc.Rc.{Rc}
 use Rattle.gimli_read.specs.declared.value.AttributeValue.TheVariants as values
@@ -7,7 +7,7 @@ use Rattle.gimli.specs.AttributeSinks.{IsGrowth}
 use Rattle.addr2line_lines.specs.Grown.{IsGrown}
 use Rattle.addr2line_lines.specs.declared.names.CachedName as declared_name
 use Rattle.addr2line_lines.proofs.NestingLemmas.{grown_by, grown_not, grown_on}
-use Rattle.addr2line_lines.proofs.PlaceLemmas.{all_at}
+use Rattle.addr2line_lines.proofs.Facts.{all_at, all_one_more}
 
 -- nothing more is cached
 pub names_same : (scope : Scope) (u : UnitRecord) (names : List CachedName) → AreNamesOf scope u names → AreNamesMore scope u names names
@@ -23,10 +23,6 @@ names_growth scope u see = record {
   again = λ old new h. (h.0, names_same scope u (as_names see new) h.1.right);
   on = λ old between new h k. (h.0, names_on scope u (as_names see old) (as_names see between) (as_names see new) h.1 k.1);
 }
-
-all_one_more : {X : Type 0} (P : X → Type 0) (xs : List X) (x : X) → AllByRecursion P xs → P x → AllByRecursion P (xs ++ x ∷ [])
-all_one_more P [] x all p = (p, tt)
-all_one_more P (y ∷ xs) x all p = (all.0, all_one_more P xs x all.1 p)
 
 -- one more name is cached, or none
 pub names_one_more : (scope : Scope) (u : UnitRecord) (n : CachedName) (old new : List CachedName) → AreNamesOf scope u old → IsNameOf scope u n → IsOneMoreAtMost n old new → AreNamesMore scope u old new

@@ -4,7 +4,7 @@ use Rattle.std.specs.Option.{option_map}
 use Rattle.addr2line_lines.specs.declared.functions.LazyDetail.{LazyDetail}
 use Rattle.addr2line_lines.specs.declared.functions.LazyDetail.TheVariants.{Unread, Read, Faulty}
 use Rattle.addr2line_lines.proofs.FunctionOrder.{found_is, place_found}
-use Rattle.addr2line_lines.proofs.PlaceLemmas.{all_at}
+use Rattle.addr2line_lines.proofs.Facts.{all_at}
 
 -- a cached detail, by the place of its function
 abbrev pub cached_at : List CachedFunction → ℕ → Option (Result Detail Error)

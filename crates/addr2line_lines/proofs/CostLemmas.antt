@@ -5,11 +5,7 @@ use Rattle.gimli_read.specs.Costed.{◌>>=◌}
 use Rattle.gimli_read.specs.Reading as reading
 use Rattle.gimli_read.proofs.Steps.{bind_ok}
 use Rattle.addr2line_lines.specs.CostedSteps.{map_at_cost, then_room_if}
-use Rattle.addr2line_lines.proofs.FunctionLemmas.{or_more}
-
-or_both : (a b c d : Bool) → (a ≡ true → c ≡ true) → (b ≡ true → d ≡ true) → (a || b) ≡ true → (c || d) ≡ true
-or_both true b c d h k e = or_left c d (h refl)
-or_both false b c d h k e = or_right c d (k e)
+use Rattle.addr2line_lines.proofs.Facts.{or_both, or_more}
 
 -- a reading whose fault is that of a whole, and whose memory too
 pub record IsPartOf {A B : Type 0} (part : Costed A) (whole : Costed B) : Type 0 where

@@ -6,15 +6,12 @@ use Rattle.addr2line_lines.specs.FoundDetails.{detail_found_at}
 use Rattle.addr2line_lines.specs.InlineRoom.{exceeds_inline_room, inline_room}
 use Rattle.addr2line_lines.proofs.CostLemmas.{AgreesGiven}
 use Rattle.addr2line_lines.proofs.DetailOrder.{IsFrom, detail_agrees, detail_made}
-use Rattle.addr2line_lines.proofs.DetailRanges.{among, before_more, ranges_stay}
+use Rattle.addr2line_lines.proofs.DetailRanges.{among, ranges_stay}
 use Rattle.addr2line_lines.proofs.InlinedOrder.{inlined_order, length_in_order, listed_chain}
 use Rattle.addr2line_lines.proofs.NestingLemmas.{found_same, grown_not}
 use Rattle.addr2line_lines.proofs.OrderLemmas.{All-in, in_order_all, in_order_ordered}
 use Rattle.addr2line_lines.proofs.SeekLemmas.{non_decreasing}
-
-pub last_name : {X Y : Type 0} (f : X → Y) (xs : List X) (x : X) (d : Y) → slice_index_or (map f (xs ++ x ∷ [])) (length xs) d ≡ f x
-last_name f [] x d = refl
-last_name f (y ∷ xs) x d = last_name f xs x d
+use Rattle.addr2line_lines.proofs.Facts.{before_more}
 
 -- ranges, those from a place on put in order
 abbrev pub sorted_from : ℕ → List InlinedFunctionAddress → List InlinedFunctionAddress

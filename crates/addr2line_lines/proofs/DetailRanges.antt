@@ -1,16 +1,11 @@
 -- Ranges by the places of inlined entries, where more are found (on specs/FoundInlined.antt).
-use Rattle.addr2line_lines.proofs.Common.{◌≡◌, ℕ, ◌+◌, ◌<◌, ◌≤◌, List, [], ◌∷◌, ◌++◌, drop, map, length, slice_index_or, refl, ap, sym, subst, ◌∙◌, arith, length-append, append-nil, zero, suc, All, AllByRecursion, drop-append-le, map-append, All-append, All-head, All-map, All-tail, All-weaker, recursion_from_All, drop-length, Range, InlinedFunctionAddress, InlinedEntry, InlinedRange, FoundInlined, IsPlaceAmong, inlined_address, inlined_more, range_among, no_inlined, found_ranges_from, inlined_place, IsOfEntryBetween}
+use Rattle.addr2line_lines.proofs.Common.{◌≡◌, ℕ, ◌+◌, ◌≤◌, List, [], ◌∷◌, ◌++◌, drop, map, length, slice_index_or, refl, ap, sym, subst, ◌∙◌, arith, length-append, append-nil, All, AllByRecursion, drop-append-le, map-append, All-append, All-head, All-map, All-tail, All-weaker, recursion_from_All, drop-length, Range, InlinedFunctionAddress, InlinedEntry, InlinedRange, FoundInlined, IsPlaceAmong, inlined_address, inlined_more, range_among, no_inlined, found_ranges_from, inlined_place, IsOfEntryBetween}
 use Rattle.addr2line_lines.proofs.SeekLemmas.{Up}
+use Rattle.addr2line_lines.proofs.Facts.{before_more}
 
 -- a range of an inlined entry
 abbrev pub of_entry : ℕ → InlinedEntry → Range → InlinedRange
 of_entry depth e r = record { depth = depth; range = r; entry = e }
-
--- more inlined entries change nothing of those before
-pub before_more : {X : Type 0} (xs more : List X) (k : ℕ) (d : X) → k < length xs → slice_index_or (xs ++ more) k d ≡ slice_index_or xs k d
-before_more [] more k d l = absurd (omega arith)
-before_more (x ∷ xs) more zero d l = refl
-before_more (x ∷ xs) more (suc k) d l = before_more xs more k d (omega arith)
 
 pub ranges_stay : (entries more : List InlinedEntry) (xs : List InlinedFunctionAddress) → All (IsPlaceAmong entries) xs → map (range_among (entries ++ more)) xs ≡ map (range_among entries) xs
 ranges_stay entries more [] all = refl

@@ -1,26 +1,12 @@
 -- The attributes of ranges among others (on specs/FoundRanges.antt).
-use Rattle.addr2line_lines.proofs.Common.{◌≡◌, zero, suc, ◌==◌, ◌&&◌, ◌||◌, Bool, true, false, cond, List, [], ◌∷◌, length, Some, Result, Ok, Err, refl, ap, ◌∙◌, arith, All, list_any, DW_AT_high_pc, DW_AT_low_pc, DW_AT_ranges, Error, Abbrev, Section, ◌>>=◌, Exactly, ExactlyUnlessOomIf, NamedValue, rest_of, EntryUnit, attributes_at, EntryCursor, entry_abbreviation_at, next_offset_of, Sections, UnitRecord, RangeAttributes, FoundFunctions, next_found_at, is_subprogram, no_range_attributes, range_attributes_after, with_range_attribute}
+use Rattle.addr2line_lines.proofs.Common.{◌≡◌, ◌==◌, ◌&&◌, Bool, true, false, cond, length, Some, Result, Ok, Err, refl, ap, ◌∙◌, list_any, DW_AT_high_pc, DW_AT_low_pc, DW_AT_ranges, Error, Abbrev, Section, ◌>>=◌, Exactly, ExactlyUnlessOomIf, NamedValue, rest_of, EntryUnit, attributes_at, EntryCursor, entry_abbreviation_at, next_offset_of, Sections, UnitRecord, RangeAttributes, FoundFunctions, next_found_at, is_subprogram, no_range_attributes, range_attributes_after, with_range_attribute}
 use Rattle.gimli_read.specs.declared.endian.Encoding.{Encoding}
 use Rattle.gimli.specs.WantedAttributes.{HasNoWanted}
 use Rattle.gimli.proofs.SinkLemmas.{taken_passes}
 use Rattle.gimli.proofs.WantedLemmas.{wanted_end}
 use Rattle.addr2line_lines.specs.FoundRanges.{is_function, is_range_specification, is_range_name}
 use Rattle.addr2line_lines.proofs.FunctionLemmas.{function_fault, function_found, other_found}
-use Rattle.addr2line_lines.proofs.NameLemmas.{none_of}
-
--- where no test of a list holds each fails
-none_holds : {X : Type 0} (p : X → Bool) (xs : List X) → list_any p xs ≡ false → All (λ x. p x ≡ false) xs
-none_holds p [] h k d l = absurd (omega arith)
-none_holds p (x ∷ xs) h zero d l = first (p x) h
-  where
-    first : (b : Bool) → (b || list_any p xs) ≡ false → b ≡ false
-    first true h = absurd cc
-    first false h = refl
-none_holds p (x ∷ xs) h (suc k) d l = none_holds p xs (rest (p x) h) k d (omega arith)
-  where
-    rest : (b : Bool) → (b || list_any p xs) ≡ false → list_any p xs ≡ false
-    rest true h = absurd cc
-    rest false h = h
+use Rattle.addr2line_lines.proofs.Facts.{none_holds, none_of}
 
 -- an attribute of another name says nothing of ranges
 pub rangeless : (d : Sections) (u : UnitRecord) (r : RangeAttributes) (a : NamedValue) → is_range_name a.name ≡ false → with_range_attribute d u r a ≡ Ok r

@@ -1,26 +1,14 @@
 -- The functions of a unit, one item at a time (on specs/FoundFunctions.antt).
-use Rattle.addr2line_lines.proofs.Common.{◌≡◌, ℕ, ◌<◌, ◌≤◌, ◌==◌, ◌&&◌, ◌||◌, Bool, true, false, cond, List, [], ◌∷◌, ◌++◌, map, length, Option, Some, None, Result, Ok, Err, OnOk, refl, ap, sym, ◌∙◌, arith, append-nil, append_assoc, length-append, Error, Range, Abbrev, Section, Reading, ◌>>=◌, Exactly, ExactlyUnlessOomIf, NamedValue, rest_of, Run, cons, fold_of, fold_run, EntryUnit, attributes_at, Item, EntryCursor, entry_abbreviation_at, items_left, next_item_at, next_offset_of, Sections, UnitRecord, items_end, items_fault, items_more, RangeAttributes, FunctionAddress, attribute_ranges, gives_a_range, no_range_attributes, range_attributes_after, range_attributes_of, is_subprogram, FoundFunctions, next_found_at, found_from, found_more, function_address, item_has_function, with_attributes, with_found, with_ranges}
+use Rattle.addr2line_lines.proofs.Common.{◌≡◌, ℕ, ◌<◌, ◌≤◌, ◌==◌, ◌&&◌, Bool, true, false, cond, List, [], ◌∷◌, ◌++◌, map, length, Option, Some, None, Result, Ok, Err, OnOk, refl, ap, sym, ◌∙◌, arith, append-nil, length-append, Error, Range, Abbrev, Section, Reading, ◌>>=◌, Exactly, ExactlyUnlessOomIf, NamedValue, rest_of, Run, cons, fold_of, fold_run, EntryUnit, attributes_at, Item, EntryCursor, entry_abbreviation_at, items_left, next_item_at, next_offset_of, Sections, UnitRecord, items_end, items_fault, items_more, RangeAttributes, FunctionAddress, attribute_ranges, gives_a_range, no_range_attributes, range_attributes_after, range_attributes_of, is_subprogram, FoundFunctions, next_found_at, found_from, found_more, function_address, item_has_function, with_attributes, with_found, with_ranges}
 use Rattle.gimli_read.specs.declared.endian.Encoding.{Encoding}
 use Rattle.gimli_read.proofs.SkipLemmas.{attributes_leave}
 use Rattle.gimli.proofs.CursorLemmas.{item_from, item_is, item_here}
 use Rattle.gimli.proofs.EntryLemmas.{abbreviation_takes}
 
--- lists with one more element
-pub one_read : {X Y : Type 0} (f : X → Y) (read : List X) (x : X) (rest : List Y) → map f read ++ f x ∷ rest ≡ map f (read ++ x ∷ []) ++ rest
-one_read f [] x rest = refl
-one_read f (y ∷ read) x rest = ap (λ ys. f y ∷ ys) (one_read f read x rest)
-
-pub one_added : {X Y : Type 0} (f : X → Y) (old : List Y) (read : List X) (x : X) → (old ++ map f read) ++ f x ∷ [] ≡ old ++ map f (read ++ x ∷ [])
-one_added f old read x = append_assoc old (map f read) (f x ∷ []) ∙ ap (λ ys. old ++ ys) (one_read f read x [] ∙ append-nil (map f (read ++ x ∷ [])))
-
 -- an answer, and a place beside it; memory may be taken for the part only if it may for the whole
 pub beside_if : {X Y Z : Type 0} (part may : Bool) (r : Result Z Error) (x : X) (y : Y) (given : Result X Error) (whole : Result (X × Y) Error) → (part ≡ true → may ≡ true) → whole ≡ (given >>= λ v. Ok (v, y)) → ExactlyUnlessOomIf part (λ _. x) r given → ExactlyUnlessOomIf may (λ _. (x, y)) r whole
 beside_if part may (Ok z) x y given whole m h k = h ∙ ap (λ g. g >>= λ v. Ok (v, y)) k
 beside_if part may (Err e) x y given whole m h k = λ ne. h ∙ ap (λ g. g >>= λ v. Ok (v, y)) (k (λ p. ne (m p)))
-
-pub or_more : (a b c : Bool) → (b ≡ true → c ≡ true) → (a || b) ≡ true → (a || c) ≡ true
-or_more true b c h e = refl
-or_more false b c h e = h e
 
 -- what is found, and where the entry ends
 abbrev pub ending : EntryCursor → Result FoundFunctions Error → Result (FoundFunctions × EntryCursor) Error

@@ -1,6 +1,7 @@
 -- Where memory is taken for the functions of a unit (on specs/FoundFunctions.antt).
 use Rattle.addr2line_lines.proofs.Common.{◌≡◌, ℕ, ◌<◌, ◌==◌, ◌&&◌, ◌||◌, is_ok, ◌⊎◌, inl, inr, nat_lt, Bool, true, false, cond, List, [], ◌∷◌, ◌++◌, map, length, Option, Some, None, Result, Ok, Err, refl, ap, sym, subst, ◌∙◌, arith, append-nil, nat_tests, Error, Range, ◌>>=◌, Run, fold_run, Section, EntryUnit, Entry, Item, items_of, EntryCursor, items_left, next_item_at, Sections, UnitRecord, items_more, RangeAttributes, FunctionAddress, all_ranges, attribute_ranges, begins_well, gives_a_range, range_attributes_of, range_list_of, FunctionRange, entry_gives_a_range, entry_ranges, has_function, have_function, is_subprogram, with_function, FoundFunctions, function_address, next_found_at, found_in, found_more, item_has_function, item_takes_memory, none_found, with_attributes, with_found, with_ranges, or_left, or_right}
-use Rattle.addr2line_lines.proofs.FunctionLemmas.{found_after, one_found, or_more, some_item}
+use Rattle.addr2line_lines.proofs.FunctionLemmas.{found_after, one_found, some_item}
+use Rattle.addr2line_lines.proofs.Facts.{or_more}
 
 module _ (d : Sections) (u : UnitRecord) where
   -- what is found at an entry, and the ranges of its function

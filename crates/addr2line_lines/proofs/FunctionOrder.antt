@@ -2,7 +2,7 @@
 use Rattle.addr2line_lines.proofs.Common.{◌≡◌, ℕ, ◌+◌, ◌<◌, ◌≤◌, Bool, true, false, cond, nat_lt, List, [], ◌∷◌, ◌++◌, map, length, slice_index_or, Option, Some, None, Result, Ok, Err, refl, ap, sym, subst, ◌∙◌, arith, inl, inr, length-append, append-nil, zero, suc, ℤ, pos, All, nat_tests, common_steps, map-append, All-append, All-head, All-map, All-push, All-tail, All-weaker, recursion_from_All, Error, Range, UnitOffset, ◌>>=◌, fold_run, Section, EntryUnit, entry_unit, Entry, Item, depth_after, items_of, offset_of, Sections, UnitRecord, RangeAttributes, FunctionAddress, attribute_ranges, range_attributes_of, FunctionRange, entries_of, entry_ranges, function_begin, function_end, function_offset, function_offset_at, functions_of, is_subprogram, with_function, FoundFunctions, AreFunctions, IsPlaceIn, function_address, found_in, found_more, function_range_of, none_found, with_attributes, with_found, address_begin, address_end, address_function, shortest_function_at, In, text_some}
 use Rattle.std.specs.Option.{option_map}
 use Rattle.gimli_read.specs.declared.endian.RunTimeEndian.{RunTimeEndian}
-use Rattle.gimli.specs.ItemLaws.{AreItems, IsEntryText}
+use Rattle.gimli.specs.ItemLaws.{AreItems}
 use Rattle.gimli.proofs.ItemTexts.{items_cover}
 use Rattle.addr2line_lines.specs.Shortest.{shortest, holds, IsNoLonger}
 use Rattle.addr2line_lines.proofs.CostLemmas.{AgreesGiven, given_then}

@@ -1,5 +1,5 @@
 -- Ranges of inlined entries in order (on specs/InlinedOrder.antt).
-use Rattle.addr2line_lines.proofs.Common.{ℕ, ◌≡◌, ◌+◌, ◌≤◌, Ordering, Less, Equal, Greater, Bool, true, false, cond, not, ◌&&◌, ◌==◌, max, nat_cmp, nat_le, nat_lt, List, [], ◌∷◌, length, map, get_or, Option, Some, None, arith, ◌∙◌, ap, sym, refl, zero, suc, AllByRecursion, IsNonDecreasingBy, IsPermutation, IsSortedBy, IsSortedByKey, ties, is_lt, ordering_then, nat_tests, recursion_from_All, ranks_by, sum_by-IsPermutation, length-filter, greatest, last, topmost, InlinedFunctionAddress, InlinedEntry, inlined_range_of, inlined_sooner, inlined_place, place_at, place_begin, place_end, places_chain, places_of_depth, places_within, begins_sooner, in_order, put, at_or_below, candidate, if_past, pick, filter-filter}
+use Rattle.addr2line_lines.proofs.Common.{ℕ, ◌≡◌, ◌+◌, ◌≤◌, Bool, true, false, cond, not, ◌&&◌, ◌==◌, max, nat_cmp, nat_le, nat_lt, List, [], ◌∷◌, length, map, get_or, Option, Some, None, arith, ◌∙◌, ap, sym, refl, zero, suc, AllByRecursion, IsNonDecreasingBy, IsPermutation, IsSortedBy, IsSortedByKey, ties, is_lt, ordering_then, nat_tests, recursion_from_All, ranks_by, sum_by-IsPermutation, length-filter, greatest, last, topmost, InlinedFunctionAddress, InlinedEntry, inlined_range_of, inlined_sooner, inlined_place, place_at, place_begin, place_end, places_chain, places_of_depth, places_within, begins_sooner, in_order, put, at_or_below, candidate, if_past, pick, filter-filter}
 use Rattle.std.specs.Cmp.{IsStrictWeakOrder}
 use Rattle.std.specs.List.{filter}
 use Rattle.std.specs.Option.{option_and_then, option_map}
@@ -11,6 +11,7 @@ use Rattle.addr2line_lines.proofs.OrderLemmas.{begins_order, in_order_all, in_or
 use Rattle.addr2line_lines.proofs.OrderPick.{pick_in_order}
 use Rattle.addr2line_lines.proofs.SeekLemmas.{Up}
 use Rattle.addr2line_lines.proofs.StoredRangeLemmas.{images_sorted}
+use Rattle.addr2line_lines.proofs.Facts.{from_left}
 
 -- a list in order is one where elements that tie are the same
 module _ {X : Type 0} (lt : X → X → Bool) (o : IsStrictWeakOrder lt) (one : (x y : X) → ties lt x y ≡ true → y ≡ x) where
@@ -39,15 +40,6 @@ key x = (x.depth, x.range.begin, x.range.end, x.function)
 pub inlined_order : IsStrictWeakOrder inlined_sooner
 inlined_order =
     ranks_by (then_total (on_total (λ (p : Key). p.0) nat_cmp_total) (then_total (on_total (λ (p : Key). p.1) nat_cmp_total) (then_total (on_total (λ (p : Key). p.2) nat_cmp_total) (on_total (λ (p : Key). p.3) nat_cmp_total)))) key
-
--- a tuple compares from the left
-pub ordering_then_assoc : (x y z : Ordering) → ordering_then x (ordering_then y z) ≡ ordering_then (ordering_then x y) z
-ordering_then_assoc Less y z = refl
-ordering_then_assoc Equal y z = refl
-ordering_then_assoc Greater y z = refl
-
-from_left : (x y z w : Ordering) → ordering_then x (ordering_then y (ordering_then z w)) ≡ ordering_then (ordering_then (ordering_then x y) z) w
-from_left x y z w = ordering_then_assoc x y (ordering_then z w) ∙ ordering_then_assoc (ordering_then x y) z w
 
 pub by_tuple : {X : Type 0} (f : X → InlinedFunctionAddress) (xs : List X)
     → IsSortedByKey (λ x. key (f x)) (λ (a b : Key). ordering_then (ordering_then (ordering_then (nat_cmp a.0 b.0) (nat_cmp a.1 b.1)) (nat_cmp a.2 b.2)) (nat_cmp a.3 b.3)) xs

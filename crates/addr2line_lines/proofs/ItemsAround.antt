@@ -1,5 +1,5 @@
 -- The items around an item (on specs/ItemsAround.antt).
-use Rattle.addr2line_lines.proofs.Common.{◌≡◌, ℕ, zero, suc, ◌+◌, ◌-◌, ◌<◌, ◌≤◌, ◌==◌, ◌||◌, Bool, true, false, cond, drop, filter, List, [], ◌∷◌, ◌++◌, length, Option, Some, None, Result, Ok, Err, is_ok, refl, sym, ap, subst, ◌∙◌, arith, ℤ, pos, negsuc, append-nil, append_assoc, length-append, length-drop, nat_lt, ◌&&◌, count_by, int_lt, ◌+ℤ◌, All, AllByRecursion, cons_option, nat_tests, length-filter, All-append, All-from_recursion, All-map, Error, NoEntryAtGivenOffset, OffsetOutOfBounds, UnexpectedEof, Range, Abbrev, free, Reading, ◌>>=◌, Run, cons, fold_run, Section, entry_bytes_from, entry_unit, unit_length, EntryUnit, Entry, Item, depth_after, depth_behind, item_at, items_after, items_at, items_from, items_inside, items_within, offset_of, subtree_of, UnitRecord, Detail, PlacedItem, WholeEntry, detail_at, stored_detail_at, first_whole, inlined_in, is_in_function, open_after, placed_items, whole_entry_at, with_inlined, with_inlined_entry, InlinedRange, inlined_attributes_of, inlined_entry, inlined_ranges, is_inlined, name_of, attribute_ranges, Scope, or_left, text_some}
+use Rattle.addr2line_lines.proofs.Common.{◌≡◌, ℕ, zero, suc, ◌+◌, ◌-◌, ◌<◌, ◌≤◌, ◌==◌, Bool, true, false, cond, drop, filter, List, [], ◌∷◌, ◌++◌, length, Option, Some, None, Result, Ok, Err, is_ok, refl, sym, ap, subst, ◌∙◌, arith, ℤ, pos, negsuc, append-nil, append_assoc, length-append, length-drop, nat_lt, ◌&&◌, count_by, int_lt, ◌+ℤ◌, All, AllByRecursion, cons_option, length-filter, All-append, All-from_recursion, All-map, Error, NoEntryAtGivenOffset, OffsetOutOfBounds, UnexpectedEof, Range, Abbrev, free, Reading, ◌>>=◌, Run, cons, fold_run, Section, entry_bytes_from, entry_unit, unit_length, EntryUnit, Entry, Item, depth_after, depth_behind, item_at, items_after, items_at, items_from, items_inside, items_within, offset_of, subtree_of, UnitRecord, Detail, PlacedItem, WholeEntry, detail_at, stored_detail_at, first_whole, inlined_in, is_in_function, open_after, placed_items, whole_entry_at, with_inlined, with_inlined_entry, InlinedRange, inlined_attributes_of, inlined_entry, inlined_ranges, is_inlined, name_of, attribute_ranges, Scope, or_left, text_some}
 use Rattle.std.specs.Prelude.{find}
 use Rattle.std.specs.Option.{option_map}
 use Rattle.std.proofs.lemmas.Int.{ints}
@@ -8,6 +8,7 @@ use Rattle.gimli_read.proofs.Steps.{bind_ok, same_value}
 use Rattle.gimli.proofs.ItemTexts.{item_text}
 use Rattle.addr2line_lines.specs.ItemsAround.{DepthsAreNumbers, InsideIsRead, OpenAreAround, abbreviations_of, have_item, inlined_depth, is_inlined_item, items_around, items_inside_at, nearest_inlined}
 use Rattle.addr2line_lines.proofs.WholeEntries.{detail_of}
+use Rattle.addr2line_lines.proofs.Facts.{drop_none, not_above, not_below, not_itself, or_false, same_test}
 
 -- items one after another: each lies at the depth after the one before, and begins after it
 abbrev pub IsWalk : ℕ → ℤ → List Item → Type 0
@@ -18,30 +19,6 @@ IsWalk low now (x ∷ xs) = (low ≤ x.offset) × (x.depth ≡ now) × IsWalk (x
 no_lower : (low : ℕ) (now : ℤ) (front rest : List Item) (x : Item) → IsWalk low now (front ++ x ∷ rest) → low ≤ x.offset
 no_lower low now [] rest x w = w.0
 no_lower low now (y ∷ front) rest x w = let l = no_lower (y.offset + 1) (depth_after y) front rest x w.2 in let m = w.0 in omega arith
-
-not_itself : (n : ℕ) → (n == n) ≡ true
-not_itself n = grind (arith, nat_tests)
-
-not_below : (m n : ℕ) → m < n → (m == n) ≡ false
-not_below m n l = grind (arith, nat_tests)
-
-not_above : (m n : ℕ) → n < m → (m == n) ≡ false
-not_above m n l = grind (arith, nat_tests)
-
--- two tests that mean the same
-same_test : (a b : Bool) → (a ≡ true → b ≡ true) → (b ≡ true → a ≡ true) → a ≡ b
-same_test true true f g = refl
-same_test true false f g = sym (f refl)
-same_test false true f g = g refl
-same_test false false f g = refl
-
-or_false : (a b : Bool) → a ≡ false → (a || b) ≡ b
-or_false true b e = absurd cc
-or_false false b e = refl
-
-drop_none : {X : Type 0} (n : ℕ) → drop {A = X} n [] ≡ []
-drop_none zero = refl
-drop_none (suc n) = refl
 
 -- the items of a run that are inside
 abbrev inside : {Z : Type 0} → ℤ → ℤ → List Item → Result Z Error → List Item

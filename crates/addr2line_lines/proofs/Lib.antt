@@ -1,4 +1,5 @@
 pub mod Common
+pub mod Facts
 pub mod PickLemmas
 pub mod OrderLemmas
 pub mod OrderPick
@@ -24,7 +25,6 @@ pub mod SweepLemmas
 pub mod SegmentSearch
 pub mod FunctionLemmas
 pub mod FunctionMemory
-pub mod PlaceLemmas
 pub mod FunctionCacheLemmas
 pub mod ReadLemmas
 pub mod LentLemmas

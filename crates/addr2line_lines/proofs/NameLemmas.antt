@@ -3,6 +3,7 @@ use Rattle.addr2line_lines.proofs.Common.{ℕ, ◌+◌, ◌≡◌, ◌≢◌, �
 use Rattle.std.specs.Result.{result_ok}
 use Rattle.gimli.proofs.WantedLemmas.{PassesOver}
 use Rattle.addr2line_lines.specs.declared.name.NameOrOrigin.{NameOrOrigin as NameOrOriginOf}
+use Rattle.addr2line_lines.proofs.Facts.{none_of}
 
 -- a string that can't be read is none
 pub unreadable : (s : Scope) (u : UnitRecord) (v : AttributeValue Section) (may ok : Type 0) (e : Error) → (e ≡ OutOfMemory → ⊥) → ((may → ok → e ≢ OutOfMemory) → attr_string_of s.file.sections u v ≡ Err e) → readable s u v ≡ None
@@ -29,13 +30,6 @@ linkage_taken see may s u found a (Ok x) h k =
     ∙ ap (λ o. Ok (with_linkage o (with_name_or_origin s u found a))) string
     ∙ ap (λ f. Ok (with_linkage (option_map see x) f)) (linkage_alone s u found a h)
 linkage_taken see may s u found a (Err e) h k = λ m. absurd (let q = k m in cc)
-
--- none of three
-pub none_of : (a b c : Bool) → (a || b || c) ≡ false → (a ≡ false) × (b ≡ false) × (c ≡ false)
-none_of true b c h = absurd cc
-none_of false true c h = absurd cc
-none_of false false true h = absurd cc
-none_of false false false h = (refl, refl, refl)
 
 -- an attribute that gives no name says nothing of it
 other_found : (s : Scope) (u : UnitRecord) (found : NameOrOrigin) (a : NamedValue) → is_name_attribute a.name ≡ false → with_name_or_origin s u found a ≡ found

@@ -1,5 +1,5 @@
 -- The entries that are open, one at a time (on specs/OpenEntries.antt and specs/FoundItems.antt).
-use Rattle.addr2line_lines.proofs.Common.{◌≡◌, ℕ, ◌<◌, ◌≤◌, ◌==◌, ◌&&◌, ◌||◌, Bool, true, false, is_ok, cond, List, [], ◌∷◌, ◌++◌, count_by, length, length-append, map, reverse, Option, Some, None, Result, Ok, Err, OnErr, OnOk, refl, ap, subst, sym, arith, ◌∙◌, append-nil, append_assoc, ℤ, pos, int_lt, eqb-true, ne_eqb, common_steps, reverse-append, Error, OutOfMemory, UnexpectedEof, Abbrev, with_code, NamedValue, rest_of, Costed, free, Reading, ExactlyUnlessOomIf, Run, cons, fold_run, Section, entry_bytes_from, EntryUnit, attributes_at, depth_after_closing, Item, depth_after, items_inside, EntriesLeft, EntryCursor, entries_at, entries_from, entry_abbreviation_at, items_left, next_item_at, next_offset_of, UnitRecord, items_end, items_fault, items_more, Kind, FoundInlined, IsFoundMore, inlined_address, inlined_more, with_inlined_found, with_inlined_ranges, name_after, InlinedAttributes, inlined_entry, attribute_ranges, Range, Sections, InlinedFunctionAddress, Scope}
+use Rattle.addr2line_lines.proofs.Common.{◌≡◌, ℕ, ◌<◌, ◌≤◌, ◌==◌, ◌&&◌, ◌||◌, Bool, true, false, is_ok, cond, List, [], ◌∷◌, ◌++◌, length, length-append, map, reverse, Option, Some, None, Result, Ok, Err, OnErr, OnOk, refl, ap, subst, sym, arith, ◌∙◌, append-nil, append_assoc, ℤ, pos, int_lt, ne_eqb, reverse-append, Error, OutOfMemory, UnexpectedEof, Abbrev, with_code, NamedValue, rest_of, Costed, free, Reading, ExactlyUnlessOomIf, Run, cons, fold_run, Section, entry_bytes_from, EntryUnit, attributes_at, depth_after_closing, Item, depth_after, items_inside, EntriesLeft, EntryCursor, entries_at, entries_from, entry_abbreviation_at, items_left, next_item_at, next_offset_of, UnitRecord, items_end, items_fault, items_more, Kind, FoundInlined, IsFoundMore, inlined_address, inlined_more, with_inlined_found, with_inlined_ranges, name_after, InlinedAttributes, inlined_entry, attribute_ranges, Range, Sections, InlinedFunctionAddress, Scope}
 use Rattle.gimli_read.specs.Costed.{◌>>=◌}
 use Rattle.gimli_read.specs.Reading as reading
 use Rattle.gimli.proofs.CursorLemmas.{abbreviation_is, item_from, item_is, item_here, opening_entry}
@@ -13,17 +13,7 @@ use Rattle.addr2line_lines.specs.OpenEntries.{closed_once, kind_of, opened}
 use Rattle.addr2line_lines.proofs.CostLemmas.{IsPartOf, IsRestOf, first_part, made_part, part_on, rest_map, rest_next, rest_on, rest_part}
 use Rattle.addr2line_lines.proofs.DetailLemmas.{empty_code, entry-rest}
 use Rattle.addr2line_lines.proofs.FunctionLemmas.{closing_shorter, entry_shorter}
-
-counted_last : {X : Type 0} (p : X → Bool) (xs : List X) (x : X) → count_by p (reverse xs) ≡ count_by p xs → count_by p (reverse xs ++ x ∷ []) ≡ count_by p (x ∷ xs)
-counted_last p xs x h = grind (arith, common_steps, h)
-
-pub count_reverse : {X : Type 0} (p : X → Bool) (xs : List X) → count_by p (reverse xs) ≡ count_by p xs
-count_reverse p [] = refl
-count_reverse p (x ∷ xs) = ap (λ ys. count_by p ys) (reverse-append (x ∷ []) xs) ∙ counted_last p xs x (count_reverse p xs)
-
-no_bytes : (xs : List ℕ) → (length xs == 0) ≡ true → xs ≡ []
-no_bytes [] h = refl
-no_bytes (x ∷ xs) h = let l = eqb-true (length (x ∷ xs)) 0 h in absurd (omega arith)
+use Rattle.addr2line_lines.proofs.Facts.{no_bytes}
 
 -- a code takes a byte
 pub some_bytes : (table : List Abbrev) (c t : EntryCursor) (o : Option Abbrev) → entry_abbreviation_at table c ≡ Ok (o, t) → (length c.left.bytes == 0) ≡ false

@@ -1,5 +1,5 @@
 -- Numbers among the attributes of inlined entries (on specs/FoundNumbers.antt).
-use Rattle.addr2line_lines.proofs.Common.{◌≡◌, ℕ, ◌==◌, ◌||◌, Bool, true, false, Option, Some, None, Result, Ok, refl, ap, subst, ◌∙◌, pos, negsuc, option_or, DW_AT_abstract_origin, DW_AT_high_pc, DW_AT_low_pc, DW_AT_ranges, DW_AT_specification, Error, AttributeValue, UnitOffset, NamedValue, constant_of, ◌>>=◌, Section, Sections, UnitRecord, RangeAttributes, InlinedAttributes, with_call_constant, with_inlined_attribute, is_origin, or_referred_name, with_name, attr_address, with_range_attribute, Scope, referred, or_parts}
+use Rattle.addr2line_lines.proofs.Common.{◌≡◌, ℕ, ◌==◌, ◌||◌, Bool, true, false, Option, Some, None, Result, Ok, refl, ap, subst, ◌∙◌, pos, negsuc, option_or, DW_AT_abstract_origin, DW_AT_high_pc, DW_AT_low_pc, DW_AT_ranges, DW_AT_specification, Error, AttributeValue, UnitOffset, constant_of, ◌>>=◌, Section, Sections, UnitRecord, RangeAttributes, InlinedAttributes, with_call_constant, with_inlined_attribute, is_origin, or_referred_name, with_name, attr_address, with_range_attribute, Scope, referred, or_parts}
 use Rattle.gimli_read.specs.declared.constants.DwAt.{DwAt}
 use Rattle.gimli_read.specs.declared.number_value.NumberValue.{NumberValue}
 use Rattle.gimli_read.specs.declared.number_value.NumberValue.TheVariants as numbers
@@ -11,6 +11,7 @@ use Rattle.addr2line_lines.specs.FoundRanges.{is_address_name, is_range_name}
 use Rattle.addr2line_lines.proofs.DetailLemmas.{by_one_of, by_range_name, call_taken, name_taken, ranges_taken}
 use Rattle.addr2line_lines.proofs.NameLemmas.{within_none}
 use Rattle.gimli_read.proofs.AttributeTexts.{attribute_of}
+use Rattle.addr2line_lines.proofs.Facts.{or_again}
 
 -- what holds of each value that is a number
 by_number : (P : AttributeValue Section → NumberValue → Type 0) → ((x : ℕ) → P (values.Addr x) (numbers.Address x)) → ((x : ℕ) → P (values.Data1 x) (numbers.Constant x)) → ((x : ℕ) → P (values.Data2 x) (numbers.Constant x)) → ((x : ℕ) → P (values.Data4 x) (numbers.Constant x))
@@ -70,17 +71,11 @@ as_reference scope u found v n h =
     by_number (λ w m. or_referred_name scope u found w ≡ name_by_number scope u found m) (λ x. unreferred scope u found (values.Addr x) refl) (λ x. unreferred scope u found (values.Data1 x) refl) (λ x. unreferred scope u found (values.Data2 x) refl) (λ x. unreferred scope u found (values.Data4 x) refl)
     (λ x. unreferred scope u found (values.Data8 x) refl) (λ x. unreferred scope u found (values.Udata x) refl) (λ x. unreferred scope u found (values.Sdata (pos x)) refl) (λ x. refl) v n h
 
--- of one name twice
-twice : (x y : Bool) → (x || y) ≡ true → (x || y || y) ≡ true
-twice true y h = refl
-twice false true h = refl
-twice false false h = absurd cc
-
 -- low_pc or high_pc
 pub address_number : (d : Sections) (u : UnitRecord) (r : RangeAttributes) (name : DwAt) (v : AttributeValue Section) (n : NumberValue) → number_if v ≡ Some n → is_address_name name ≡ true → with_range_attribute d u r (attribute_of name v) ≡ Ok (with_range_number r name n)
 unfolding with_range_attribute
 address_number d u r name v n h is =
-    by_one_of DW_AT_low_pc DW_AT_high_pc DW_AT_high_pc (λ k. with_range_attribute d u r (attribute_of k v) ≡ Ok (with_range_number r k n)) (ap with_low address) high high name (twice (name.0 == DW_AT_low_pc.0) (name.0 == DW_AT_high_pc.0) is)
+    by_one_of DW_AT_low_pc DW_AT_high_pc DW_AT_high_pc (λ k. with_range_attribute d u r (attribute_of k v) ≡ Ok (with_range_number r k n)) (ap with_low address) high high name (or_again (name.0 == DW_AT_low_pc.0) (name.0 == DW_AT_high_pc.0) is)
   where
     address : attr_address d u v ≡ Ok (number_address n)
     address = as_address d u v n h
@@ -114,7 +109,7 @@ origin_is name c r h =
 origin_name : (scope : Scope) (u : UnitRecord) (found : Option Section) (name : DwAt) (v : AttributeValue Section) → is_origin name ≡ true → with_name scope u found (attribute_of name v) ≡ or_referred_name scope u found v
 unfolding with_name
 origin_name scope u found name v is =
-    by_one_of DW_AT_abstract_origin DW_AT_specification DW_AT_specification (λ k. with_name scope u found (attribute_of k v) ≡ or_referred_name scope u found v) refl refl refl name (twice (name.0 == DW_AT_abstract_origin.0) (name.0 == DW_AT_specification.0) is)
+    by_one_of DW_AT_abstract_origin DW_AT_specification DW_AT_specification (λ k. with_name scope u found (attribute_of k v) ≡ or_referred_name scope u found v) refl refl refl name (or_again (name.0 == DW_AT_abstract_origin.0) (name.0 == DW_AT_specification.0) is)
 
 module _ (scope : Scope) (u : UnitRecord) (x : InlinedAttributes) (name : DwAt) (v : AttributeValue Section) (n : NumberValue) (is : number_if v ≡ Some n) where
   -- a number of a call

@@ -1,10 +1,9 @@
 -- Details that are read one after another (on specs/FunctionDetails.antt).
-use Rattle.addr2line_lines.proofs.Common.{◌≡◌, ◌≢◌, ℕ, ◌+◌, ◌<◌, ◌≤◌, ◌⊎◌, ◌&&◌, Bool, true, false, is_ok, List, [], ◌∷◌, ◌++◌, append_assoc, drop, length, slice_get, slice_set, take, Option, Some, None, Result, Ok, Err, refl, ap, sym, subst, ◌∙◌, arith, inl, inr, zero, suc, AllByRecursion, AllZip, length_all_zip, Error, OutOfMemory, ExactlyAtCost, ◌>>=◌, fault_of, UnitRecord, Detail, detail_at, CachedFunction, FunctionTable, Scope, or_left, or_right}
-use Rattle.addr2line_lines.specs.Grown.{IsGrown}
+use Rattle.addr2line_lines.proofs.Common.{◌≡◌, ◌≢◌, ℕ, ◌+◌, ◌<◌, ◌≤◌, ◌&&◌, Bool, true, false, is_ok, List, [], ◌∷◌, drop, length, slice_get, slice_set, take, Option, Some, None, Result, Ok, Err, refl, ap, sym, subst, ◌∙◌, arith, inl, inr, zero, suc, AllByRecursion, AllZip, length_all_zip, Error, OutOfMemory, ExactlyAtCost, ◌>>=◌, fault_of, UnitRecord, Detail, detail_at, CachedFunction, FunctionTable, Scope, or_left, or_right, drop_all}
 use Rattle.addr2line_lines.specs.FunctionDetails.{AreCachedToFault, AreDetailsOf, AreUnread, HasDetail, IsCachedToFault, IsDetailOf, IsFunctionMore, IsReadAt, IsReadOf, IsReadOnce, IsTableMore, IsWithDetail, details_fault, details_take_memory, read_fault, read_once}
-use Rattle.addr2line_lines.proofs.PlaceLemmas.{all_at, all_set, all_weaker, drop_at, drop_set, drop_whole, get_set_same, set_same, some_at, take_set, take_whole}
 use Rattle.gimli_read.proofs.FaultLemmas.{memory_or_not}
 use Rattle.addr2line_lines.proofs.NestingLemmas.{grown_not, grown_on}
+use Rattle.addr2line_lines.proofs.Facts.{all_at, all_set, all_weaker, before_set, drop_at, drop_set, get_set_same, set_same, some_at, take_set, take_whole}
 
 function_same : (f : CachedFunction) → IsFunctionMore f f
 function_same f = record { offset = refl; detail = λ d e. e }
@@ -185,11 +184,6 @@ record IsFault (n : ℕ) (e : Error) (old new : FunctionTable) : Type 0 where
   pub is : now.detail ≡ Some (Err e)
   pub before : AllByRecursion HasDetail (take n old.functions) → AllByRecursion HasDetail (take n new.functions)
 
-before_set : {X : Type 0} (P : X → Type 0) (xs : List X) (n : ℕ) (x : X) → AllByRecursion P (take n xs) → AllByRecursion P (take n (slice_set xs n x))
-before_set P [] n x all = all
-before_set P (y ∷ xs) zero x all = all
-before_set P (y ∷ xs) (suc n) x all = (all.0, before_set P xs n x all.1)
-
 fault_step : (scope : Scope) (u : UnitRecord) (n : ℕ) (f : CachedFunction) (old new : FunctionTable) (e : Error) → n < length old.functions → slice_get old.functions n ≡ Some f → e ≢ OutOfMemory → IsReadAt scope u n old (Err e) new → IsFault n e old new
 fault_step scope u n f old new e l at ne k = by_detail f.detail refl (subst (λ o. IsReadOf scope u n o old (Err e) new) at k)
   where
@@ -287,7 +281,7 @@ fault_kept shares scope u old now next n result h k =
 pub all_read : (shares : Bool) (scope : Scope) (u : UnitRecord) (old now : FunctionTable) (n : ℕ) → IsReadTo shares scope u old now n → length old.functions ≤ n → (AreDetailsOf scope u old → details_fault scope u old.functions ≡ Ok tt) × AllByRecursion HasDetail now.functions
 all_read shares scope u old now n h l =
     let same = same_number shares scope u old now n h in
-    (λ all. h.fault all ∙ ap (details_fault scope u) (drop_whole now.functions n (omega arith)), take_whole HasDetail now.functions n (omega arith) h.cached)
+    (λ all. h.fault all ∙ ap (details_fault scope u) (drop_all n now.functions (omega arith)), take_whole HasDetail now.functions n (omega arith) h.cached)
 
 -- all are cached up to a fault
 pub fault_ready : (shares : Bool) (scope : Scope) (u : UnitRecord) (old now next : FunctionTable) (n : ℕ) (e : Error) → IsReadTo shares scope u old now n → n < length old.functions → IsReadAt scope u n now (Err e) next → e ≢ OutOfMemory → AreCachedToFault next.functions

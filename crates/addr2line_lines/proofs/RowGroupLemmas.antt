@@ -1,5 +1,6 @@
 -- What the rows since the last end row make of the sequences (on specs/Sequences.antt).
-use Rattle.addr2line_lines.proofs.Common.{ℕ, ◌≡◌, ◌<◌, ◌≤◌, ◌||◌, ◌==◌, Bool, true, false, cond, List, [], ◌∷◌, ◌++◌, arith, ◌∙◌, ap, sym, refl, append_assoc, nat_tests, AllByRecursion, list_any, filter_map, cons_option, LineRow, RowGroup, put_first, row_groups, latest, sequence_of, sequence_in, sequences_of, NeverFalls}
+use Rattle.addr2line_lines.proofs.Common.{ℕ, ◌≡◌, ◌<◌, ◌≤◌, ◌||◌, ◌==◌, Bool, true, false, cond, List, [], ◌∷◌, ◌++◌, arith, ◌∙◌, ap, sym, refl, append_assoc, nat_tests, AllByRecursion, list_any, filter_map, cons_option, LineRow, RowGroup, put_first, row_groups, latest, sequence_of, sequence_in, sequences_of, NeverFalls, append-nil}
+use Rattle.addr2line_lines.proofs.Facts.{itself}
 
 -- no two neighbours have one address
 abbrev pub Apart : List LineRow → Type 0
@@ -15,10 +16,6 @@ Open rows = AllByRecursion (λ (r : LineRow). r.end_sequence ≡ false) rows
 pub record IsPending (rows : List LineRow) : Type 0 where
   pub open_ended : Open rows
   pub apart : Apart rows
-
-pub append_none : {X : Type 0} (xs : List X) → xs ++ [] ≡ xs
-append_none [] = refl
-append_none (x ∷ xs) = ap (λ ys. x ∷ ys) (append_none xs)
 
 -- rows before those of the first group
 abbrev put_all : List LineRow → List RowGroup → List RowGroup
@@ -53,9 +50,6 @@ same_tests m a r q e = ap (λ k. (k == m) || ((r.address == m) || list_any (at m
 any_without : (m : ℕ) (p q : List LineRow) (a r : LineRow) → a.address ≡ r.address → list_any (at m) (p ++ a ∷ r ∷ q) ≡ list_any (at m) (p ++ r ∷ q)
 any_without m [] q a r e = same_tests m a r q e
 any_without m (x ∷ p) q a r e = ap (λ b. (x.address == m) || b) (any_without m p q a r e)
-
-itself : (m n : ℕ) → m ≡ n → (n == m) ≡ true
-itself m n e = grind (arith, nat_tests)
 
 latest_without : (p q : List LineRow) (a r : LineRow) → a.address ≡ r.address → latest (p ++ a ∷ r ∷ q) ≡ latest (p ++ r ∷ q)
 latest_without [] q a r e = ap (λ b. cond b (latest (r ∷ q)) (a ∷ latest (r ∷ q))) (ap (λ b. b || list_any (at a.address) q) (itself a.address r.address e))
@@ -162,7 +156,7 @@ pub ended_is : (p left : List LineRow) (e : LineRow) → IsPending p → e.end_s
 ended_is p left e pending is n =
     ap (filter_map sequence_in) (row_groups-open p (e ∷ left) pending.open_ended)
     ∙ ap (λ b. filter_map sequence_in (put_all p (cond b (record { rows = []; last = e } ∷ row_groups left) (put_first e (row_groups left))))) is
-    ∙ ap (λ rows. cons_option (sequence_of rows e) (sequences_of left)) (ap latest (append_none p) ∙ latest_same p pending.open_ended pending.apart (falls_front p (e ∷ left) n))
+    ∙ ap (λ rows. cons_option (sequence_of rows e) (sequences_of left)) (ap latest (append-nil p) ∙ latest_same p pending.open_ended pending.apart (falls_front p (e ∷ left) n))
 
 -- rows that no end row follows are dropped
 pub none_open : (p : List LineRow) → IsPending p → sequences_of (p ++ []) ≡ []

@@ -1,13 +1,14 @@
 -- What the search found is what the definition gives (on specs/Packed.antt and specs/Spans.antt).
-use Rattle.addr2line_lines.proofs.Common.{ℕ, ◌≡◌, ◌+◌, ◌-◌, ◌<◌, ◌≤◌, Bool, true, false, cond, List, [], ◌∷◌, Option, Some, None, map, filter, length, take, drop, get_or, nat_le, nat_lt, arith, inl, inr, ◌∙◌, ap, sym, subst, refl, zero, suc, AllWithin, cases_lt, nat_tests, get_or_from_slice_get, last, Row, LineSequence, at_or_below, if_past, start_of, end_of, ArePastFrom, IsAmong, IsTable, row_address_at, packed_end, packed_sooner, packed_start, unpacked, IsInOrder, In-filter, In-last, last-cond}
+use Rattle.addr2line_lines.proofs.Common.{ℕ, ◌≡◌, ◌+◌, ◌-◌, ◌<◌, ◌≤◌, Bool, true, false, cond, List, [], ◌∷◌, Option, Some, None, map, filter, length, take, drop, get_or, nat_le, nat_lt, arith, inl, inr, ◌∙◌, ap, sym, subst, refl, zero, suc, AllWithin, cases_lt, nat_tests, last, Row, LineSequence, at_or_below, if_past, start_of, end_of, ArePastFrom, IsAmong, IsTable, row_address_at, packed_end, packed_sooner, packed_start, unpacked, IsInOrder, In-filter, In-last, last-cond}
 use Rattle.std.specs.List.{slice_get}
 use Rattle.std.specs.Option.{option_map, option_and_then}
 use Rattle.addr2line_lines.specs.Spans.{row_address, row_at, row_in}
 use Rattle.addr2line_lines.proofs.SeekLemmas.{begins_rise}
 use Rattle.addr2line_lines.proofs.OrderLemmas.{All-in}
 use Rattle.addr2line_lines.proofs.OrderPick.{candidate_ordered}
-use Rattle.addr2line_lines.proofs.SpanLemmas.{row_within, above, reached}
+use Rattle.addr2line_lines.proofs.SpanLemmas.{row_within}
 use Rattle.addr2line_lines.proofs.PackedLemmas.{SequenceRows, sequence_rows_of, ordered-map, last_below-map}
+use Rattle.addr2line_lines.proofs.Facts.{at_most_test, not_at_most, read_at}
 
 module _ {X : Type 0} (p : X → Bool) where
   filter_none : (xs : List X) → AllWithin (λ x. p x ≡ false) xs 0 (length xs) → filter p xs ≡ []
@@ -31,10 +32,10 @@ abbrev pub SequencesPast : ℕ → List LineSequence → ℕ → Type 0
 SequencesPast probe ss n = AllWithin (λ (s : LineSequence). probe < s.start) ss n (length ss)
 
 pub sequence_none : (probe : ℕ) (ss : List LineSequence) → SequencesPast probe ss 0 → last (at_or_below packed_start probe ss) ≡ None
-sequence_none probe ss h = last_none (λ s. nat_le (packed_start s) probe) ss (λ k d low high. above _ probe (h k d low high))
+sequence_none probe ss h = last_none (λ s. nat_le (packed_start s) probe) ss (λ k d low high. not_at_most _ probe (h k d low high))
 
 pub sequence_found : (probe : ℕ) (ss : List LineSequence) (i : ℕ) (s : LineSequence) → i < length ss → get_or ss i s ≡ s → s.start ≤ probe → SequencesPast probe ss (i + 1) → last (at_or_below packed_start probe ss) ≡ Some s
-sequence_found probe ss i s l e low h = last_is_at (λ t. nat_le (packed_start t) probe) ss i s l e (reached s.start probe low) (λ k d from high. above _ probe (h k d from high))
+sequence_found probe ss i s l e low h = last_is_at (λ t. nat_le (packed_start t) probe) ss i s l e (at_most_test s.start probe low) (λ k d from high. not_at_most _ probe (h k d from high))
 
 -- the row at a place is the last of the sequence at or below the probe
 pub row_found : (rows : List Row) (probe : ℕ) (s : LineSequence) (place : ℕ) (row : Row) → IsAmong rows s → s.first ≤ place → place < s.first + s.len → get_or rows place row ≡ row → row.address ≤ probe
@@ -46,8 +47,8 @@ row_found rows probe s place row among from inside is low after =
     let same : s.first + (place - s.first) ≡ place = omega arith in
     let len = z.len_is in
     let here : get_or rs (place - s.first) row ≡ row = z.at (place - s.first) row (omega arith) ∙ ap (λ n. get_or rows n row) same ∙ is in
-    last_is_at (λ r. nat_le (row_address r) probe) rs (place - s.first) row (omega arith) here (reached row.address probe low)
-    (λ k d low' high. above _ probe (later z k d (omega arith) (omega arith)))
+    last_is_at (λ r. nat_le (row_address r) probe) rs (place - s.first) row (omega arith) here (at_most_test row.address probe low)
+    (λ k d low' high. not_at_most _ probe (later z k d (omega arith) (omega arith)))
   where
     later : SequenceRows rows s → (k : ℕ) (d : Row) → place < s.first + k → k < s.len → probe < (get_or (take s.len (drop s.first rows)) k d).address
     later z k d l h =
@@ -89,10 +90,6 @@ module _ (rows : List Row) (ss : List LineSequence) (t : IsTable ss rows) (probe
 
   pub row_is : (s : LineSequence) (row : Row) → Some s ≡ last (at_or_below packed_start probe ss) → probe < s.end → Some row ≡ last (at_or_below row_address probe (unpacked rows s).rows) → row_at probe (map (unpacked rows) ss) ≡ Some row
   row_is s row e l f = row_at_found (Some s) e ∙ row_within probe (unpacked rows s) (found_among s e).rising l ∙ sym f
-
--- the element that was read, whatever the default
-pub read_at : {X : Type 0} (xs ys : List X) (i j : ℕ) (x d : X) → slice_get ys i ≡ Some x → ys ≡ xs → j ≡ i → get_or xs j d ≡ x
-read_at xs ys i j x d h e near = ap (λ k. get_or xs k d) near ∙ get_or_from_slice_get xs i x d (ap (λ zs. slice_get zs i) (sym e) ∙ h)
 
 -- from a row past the probe on all are
 pub past_from : (rows : List Row) (s : LineSequence) (i probe : ℕ) → SequenceRows rows s → s.first ≤ i → probe < row_address_at rows i → ArePastFrom probe rows s i

@@ -3,6 +3,7 @@ use Rattle.addr2line_lines.proofs.Common.{ℕ, ◌≡◌, ◌-◌, ◌<◌, ◌�
 use Rattle.std.specs.BinaryHeap.{IsHeap, IsUpperBound}
 use Rattle.addr2line_lines.specs.Shortest.{IsNoLonger}
 use Rattle.addr2line_lines.specs.Sweep.{running_cmp, IsBegunFrom, IsSwept}
+use Rattle.addr2line_lines.proofs.Facts.{from_inside, inside}
 
 module _ {X : Type 0} where
   pub has_first : (xs : List X) (x : X) → Contains (x ∷ xs) x
@@ -24,19 +25,6 @@ module _ {X : Type 0} where
   all_before P (x ∷ xs) y all =
       let rest = all_before P xs y (All-tail P x (xs ++ y ∷ []) all) in
       (All-cons P x xs (all 0 x (omega arith)) rest.0, rest.1)
-
--- the probe is in a range
-pub inside : (a b p : ℕ) → a ≤ p → p < b → (nat_le a p && nat_lt p b) ≡ true
-inside a b p l h = grind (arith, nat_tests)
-
-pub from_inside : (a b p : ℕ) → (nat_le a p && nat_lt p b) ≡ true → (a ≤ p) × (p < b)
-from_inside a b p h = (grind (arith, nat_tests), grind (arith, nat_tests))
-
-pub outside : (a b p : ℕ) → (p < a) ⊎ (b ≤ p) → (nat_le a p && nat_lt p b) ≡ false
-outside a b p h = grind (arith, nat_tests)
-
-pub not_inside : (a b p : ℕ) → a ≤ p → (nat_le a p && nat_lt p b) ≡ false → b ≤ p
-not_inside a b p l h = grind (arith, nat_tests)
 
 -- before anything is met
 pub none_swept : (addresses : List FunctionAddress) → IsHeap running_cmp [] → IsSwept addresses 0 0 [] []

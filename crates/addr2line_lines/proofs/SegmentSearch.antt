@@ -3,7 +3,7 @@ use Rattle.addr2line_lines.proofs.Common.{ℕ, ◌≡◌, ◌-◌, ◌<◌, ◌�
 use Rattle.std.specs.Option.{option_map}
 use Rattle.addr2line_lines.specs.Shortest.{IsNoLonger}
 use Rattle.addr2line_lines.proofs.ShortestLemmas.{none_is_shorter, none_is_shortest}
-use Rattle.addr2line_lines.proofs.SegmentLemmas.{inside, outside}
+use Rattle.addr2line_lines.proofs.Facts.{inside, outside}
 
 -- the segments of ranges are those of the same ranges in another order
 pub permuted_segments : (listed addresses segments : List FunctionAddress) → IsPermutation listed addresses → AreSegments addresses segments → AreSegments listed segments

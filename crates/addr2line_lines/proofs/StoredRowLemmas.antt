@@ -1,14 +1,7 @@
 -- Rows as they are stored (on specs/StoredRows.antt).
-use Rattle.addr2line_lines.proofs.Common.{ℕ, ◌≡◌, ◌+◌, ◌*◌, ◌^◌, ◌%◌, ◌==◌, ◌&&◌, Bool, true, false, List, [], ◌∷◌, ◌++◌, length, take, set, arith, ◌∙◌, ap, sym, refl, suc, nat_tests, set_split, drop_all, Row, and_parts}
+use Rattle.addr2line_lines.proofs.Common.{ℕ, ◌≡◌, ◌+◌, ◌*◌, ◌^◌, ◌%◌, ◌==◌, true, ◌∙◌, ap, sym, Row, and_parts, eqb-true}
 use Rattle.std.proofs.lemmas.Nat.{div-add-mod'}
 use Rattle.addr2line_lines.specs.StoredRows.{are_narrow, fits, row_of_short, shortened, upper_of}
-
--- the last element is another one
-pub set_last : {X : Type 0} (xs : List X) (i : ℕ) (x : X) → i + 1 ≡ length xs → set xs i x ≡ take i xs ++ x ∷ []
-set_last xs i x e = set_split xs i x (omega arith) ∙ ap (λ rest. take i xs ++ x ∷ rest) (drop_all (suc i) xs (omega arith))
-
-same_number : (x y : ℕ) → (x == y) ≡ true → x ≡ y
-same_number x y e = grind (arith, nat_tests)
 
 -- what fits is narrow, and its twelve bytes stand for it
 pub fits_narrow : (upper : ℕ) (r : Row) → fits upper r ≡ true → are_narrow r ≡ true
@@ -16,7 +9,7 @@ fits_narrow upper r e = (and_parts (upper_of r == upper) (are_narrow r) e).1
 
 pub short_is : (upper : ℕ) (r : Row) → fits upper r ≡ true → row_of_short upper (shortened r) ≡ r
 short_is upper r e =
-    let same = same_number (upper_of r) upper (and_parts (upper_of r == upper) (are_narrow r) e).0 in
+    let same = eqb-true (upper_of r) upper (and_parts (upper_of r == upper) (are_narrow r) e).0 in
     ap (λ (a : ℕ). row_at a) (ap (λ u. u * 2 ^ 32 + r.address % 2 ^ 32) (sym same) ∙ div-add-mod' r.address (2 ^ 32))
   where
     row_at : ℕ → Row

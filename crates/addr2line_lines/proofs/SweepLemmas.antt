@@ -5,7 +5,8 @@ use Rattle.std.specs.Option.{IfSome}
 use Rattle.std.proofs.lemmas.List.{append-nil, length-append}
 use Rattle.addr2line_lines.specs.Sweep.{running_cmp, is_outdone, IsBegunFrom, IsGreatestFirst, IsRunningRange, IsSwept, SomeIsNoLonger}
 use Rattle.addr2line_lines.specs.Shortest.{IsNoLonger}
-use Rattle.addr2line_lines.proofs.SegmentLemmas.{has_first, has_later, first_or_later, from_inside, cut_more, segment_of}
+use Rattle.addr2line_lines.proofs.SegmentLemmas.{has_first, has_later, first_or_later, cut_more, segment_of}
+use Rattle.addr2line_lines.proofs.Facts.{from_inside}
 
 -- the walk goes on to an address
 module _ (addresses : List FunctionAddress) (next at until : ℕ) (segments : List FunctionAddress) where

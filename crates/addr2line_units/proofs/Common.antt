@@ -29,7 +29,6 @@ pub use Rattle.gimli.specs.Unit.{UnitRecord, attr_string_of}
 unfoldable pub use Rattle.gimli.specs.Unit.{unit_by, unit_record_of}
 pub use Rattle.gimli.specs.UnitsLeft.{all_headers}
 pub use Rattle.addr2line_lines.proofs.OrderLemmas.{in_order_ordered, in_order_ties, one_order, sorted_is}
-pub use Rattle.addr2line_lines.proofs.PlaceLemmas.{all_at, get_set_other, some_at}
 pub use Rattle.addr2line_lines.proofs.ReadLemmas.{functions_same, read_more, read_right, table_same, unread_right}
 pub use Rattle.addr2line_lines.specs.Details.{Detail, detail_at}
 pub use Rattle.addr2line_lines.specs.FunctionDetails.{AreCachedToFault, AreDetailsOf, AreUnread, HasDetail, IsCachedToFault, IsDetailOf, IsFunctionMore, IsReadAt, IsReadOf, IsReadOnce, IsTableMore, IsWithDetail, details_fault, details_take_memory, read_fault}
@@ -90,3 +89,4 @@ pub use Rattle.addr2line_units.specs.declared.unit.LinesCache.{LinesCache}
 pub use Rattle.addr2line_units.specs.declared.unit.UnitView.{UnitView}
 pub use Rattle.addr2line_units.specs.declared.unit.ViewState.{ViewState}
 pub use Rattle.addr2line_units.proofs.CachedUnits.{HaveEntriesOf}
+use Rattle.addr2line_lines.proofs.Facts.{all_at, get_set_other, some_at}

@@ -4,9 +4,9 @@ use Rattle.std.specs.Cmp.{IsStrictWeakOrder}
 use Rattle.std.specs.List.{filter}
 use Rattle.std.specs.Ordering.{is_lt, ordering_then}
 use Rattle.std.proofs.lemmas.Cmp.{on_total, then_total, nat_cmp_total}
-use Rattle.addr2line_lines.proofs.InlinedOrder.{ordering_then_assoc}
 use Rattle.addr2line_units.specs.IndexCover.{cover, cover_range, ends_sooner, range_covers, range_overlaps}
 use Rattle.addr2line_units.specs.IndexLeastBegins.{is_between}
+use Rattle.addr2line_lines.proofs.Facts.{ordering_then_assoc}
 
 -- what passes a test, in order, is what of the ordered list passes it
 module _ {X : Type 0} (lt : X → X → Bool) (o : IsStrictWeakOrder lt) (p : X → Bool) where

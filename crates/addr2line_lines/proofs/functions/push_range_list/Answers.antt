@@ -1,8 +1,8 @@
 use Rattle.addr2line_lines.proofs.Common.{ℕ, List, [], ◌∷◌, map, ◌++◌, Result, Ok, ap, sym, ◌∙◌, append-nil, refl, err_from_is_err_and, ◌>>=◌, result_map, Range, FunctionAddress, function_address, read_all, all_ranges, begins_well}
 use Rattle.gimli_read.specs.declared.error.Error.{Error as Fault}
-use Rattle.addr2line_lines.proofs.FunctionLemmas.{one_added, one_read}
 use Rattle.addr2line_lines.proofs.RangeLemmas.{begins_with_one, fault_left, none_left, one_left, read_after}
 use Rattle.addr2line_lines.proofs.functions.push_range_list.Goals as goal
+use Rattle.addr2line_lines.proofs.Facts.{one_added, one_read}
 
 abbrev with_front : List Range → Result (List Range) Fault → Result (List Range) Fault
 with_front items = result_map (λ rest. items ++ rest)

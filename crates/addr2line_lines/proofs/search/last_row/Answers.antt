@@ -1,7 +1,8 @@
 use Rattle.addr2line_lines.proofs.Common.{◌≡◌, ◌+◌, ◌-◌, arith, ◌∙◌, ap, sym, refl, row_address_at, Row}
 use Rattle.addr2line_lines.proofs.PackedLemmas.{sequence_rows_of}
-use Rattle.addr2line_lines.proofs.SearchLemmas.{past_from, read_at, row_found}
+use Rattle.addr2line_lines.proofs.SearchLemmas.{past_from, row_found}
 use Rattle.addr2line_lines.proofs.search.last_row.Goals as goal
+use Rattle.addr2line_lines.proofs.Facts.{read_at}
 
 pub returns-then-row-probe-clause-found : goal.returns-then-row-probe-clause-found
 returns-then-row-probe-clause-found g c =

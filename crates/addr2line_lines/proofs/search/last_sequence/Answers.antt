@@ -1,7 +1,8 @@
 use Rattle.addr2line_lines.proofs.Common.{◌+◌, ◌-◌, ◌/◌, arith, ◌∙◌}
 use Rattle.addr2line_lines.proofs.DigitLemmas.{digits_half}
-use Rattle.addr2line_lines.proofs.SearchLemmas.{read_at, last_before_is, sequences_past_from}
+use Rattle.addr2line_lines.proofs.SearchLemmas.{last_before_is, sequences_past_from}
 use Rattle.addr2line_lines.proofs.search.last_sequence.Goals as goal
+use Rattle.addr2line_lines.proofs.Facts.{read_at}
 
 pub loop-low-preserved-then-sequence-probe : goal.loop-low-preserved-then-sequence-probe
 loop-low-preserved-then-sequence-probe g c =

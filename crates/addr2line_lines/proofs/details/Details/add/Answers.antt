@@ -3,10 +3,11 @@ use Rattle.addr2line_lines.specs.Grown.{IsGrown}
 use Rattle.addr2line_lines.proofs.CostLemmas.{refused_part}
 use Rattle.addr2line_lines.proofs.DetailMemory.{found_takes}
 use Rattle.addr2line_lines.proofs.DetailOrder.{detail_part}
-use Rattle.addr2line_lines.proofs.DetailPlaces.{AreCachedAt, detail_cached, last_name, place_cached, sorted_more}
+use Rattle.addr2line_lines.proofs.DetailPlaces.{AreCachedAt, detail_cached, place_cached, sorted_more}
 use Rattle.addr2line_lines.proofs.NestingLemmas.{grown_by, grown_not}
 use Rattle.addr2line_lines.proofs.details.Details.add.Given.{Over}
 use Rattle.addr2line_lines.proofs.details.Details.add.Goals as goal
+use Rattle.addr2line_lines.proofs.Facts.{last_name}
 
 pub returns-in_err-read-clause-gives : goal.returns-in_err-read-clause-gives
 returns-in_err-read-clause-gives g c =

@@ -1,7 +1,7 @@
 use Rattle.addr2line_lines.proofs.Common.{Some, ap, option_map, subst, ◌∙◌, as_details, as_function, CachedFunction, cached_offset_at}
 use Rattle.std.specs.Slice.{IsItemAt}
-use Rattle.addr2line_lines.proofs.LentLemmas.{lent_is}
 use Rattle.addr2line_lines.proofs.functions.Functions.offset.Goals as goal
+use Rattle.addr2line_lines.proofs.Facts.{lent_is}
 
 pub returns : goal.returns
 returns g c =

@@ -1,4 +1,4 @@
-use Rattle.addr2line_lines.proofs.Common.{◌≡◌, true, false, List, [], ◌∷◌, Err, length, map, suc, refl, ap, sym, ◌∙◌, arith, err_from_is_err_and, OutOfMemory, FunctionTable, as_function, as_details, as_scope, length-map}
+use Rattle.addr2line_lines.proofs.Common.{◌≡◌, true, false, Err, length, map, ap, sym, ◌∙◌, arith, err_from_is_err_and, OutOfMemory, FunctionTable, as_function, as_details, as_scope, length-map}
 use Rattle.addr2line_lines.proofs.ReadLemmas.{all_read, all_ready, fault_kept, fault_read, fault_ready, had_memory, no_memory_to_fault, none_read, one_read, reads_nothing}
 use Rattle.addr2line_lines.proofs.functions.Functions.read_all.Goals as goal
 

@@ -2,9 +2,9 @@ use Rattle.addr2line_lines.proofs.Common.{◌≡◌, Option, Some, None, map, op
 use Rattle.std.specs.Slice.{IsItemAt}
 use Rattle.addr2line_lines.specs.LentInlined.{as_inlined}
 use Rattle.addr2line_lines.specs.StoredInlined.{StoredInlined, stored_name}
-use Rattle.addr2line_lines.proofs.LentLemmas.{lent_copied, lent_is}
 use Rattle.addr2line_lines.proofs.StoredInlinedLemmas.{entry_at, no_call_at, no_name_at}
 use Rattle.addr2line_lines.proofs.inlined_functions.InlinedFunctions.get.Goals as goal
+use Rattle.addr2line_lines.proofs.Facts.{lent_copied, lent_is}
 
 pub returns-in_err-name : goal.returns-in_err-name
 returns-in_err-name g c =

@@ -1,7 +1,7 @@
 use Rattle.addr2line_lines.proofs.Common.{◌==◌, ap, sym, ◌∙◌, count_by, Kind}
 use Rattle.addr2line_lines.specs.OpenEntries.{is_listed, is_subprogram_kind}
-use Rattle.addr2line_lines.proofs.NestingLemmas.{count_reverse}
 use Rattle.addr2line_lines.proofs.nesting.Nesting.lists.Goals as goal
+use Rattle.addr2line_lines.proofs.Facts.{count_reverse}
 
 pub returns-in-Inlined : goal.returns-in-Inlined
 returns-in-Inlined c =

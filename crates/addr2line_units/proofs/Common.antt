@@ -89,4 +89,4 @@ pub use Rattle.addr2line_units.specs.declared.unit.LinesCache.{LinesCache}
 pub use Rattle.addr2line_units.specs.declared.unit.UnitView.{UnitView}
 pub use Rattle.addr2line_units.specs.declared.unit.ViewState.{ViewState}
 pub use Rattle.addr2line_units.proofs.CachedUnits.{HaveEntriesOf}
-use Rattle.addr2line_lines.proofs.Facts.{all_at, get_set_other, some_at}
+pub use Rattle.addr2line_lines.proofs.Facts.{all_at, get_set_other, some_at}

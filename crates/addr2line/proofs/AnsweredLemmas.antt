@@ -1,6 +1,6 @@
 -- What an answer to the load of a unit makes of a context, and of a lookup that waits for it (on
 -- specs/Answers.antt and specs/Lookups.antt).
-use Rattle.addr2line.proofs.Common.{◌≡◌, ℕ, ◌<◌, [], length, List, Option, Result, Ok, Err, sym, ap, subst, ◌∙◌, true, IfErr, OnOk, Error, ◌>>=◌, Sections, Scope, OnFault, UnitRange, cover, LookupStop, Waits, Finds, FindsNothing, main_scope, with_answer, load_result, UnitIndex, UnitsState, FirstAnswers, fewer_left, waits_listed, AfterAnswering, answered, load_reply, IsContext, as_context, loads_at, lookup_stop, stop_in, waits_for}
+use Rattle.addr2line.proofs.Common.{◌≡◌, ℕ, ◌<◌, [], length, List, Option, Result, Ok, Err, sym, ap, subst, ◌∙◌, true, IfErr, OnOk, Error, ◌>>=◌, Sections, Scope, OnFault, UnitRange, cover, LookupStop, Waits, Finds, FindsNothing, main_scope, with_answer, load_result, UnitIndex, UnitsState, FirstAnswers, fewer_left, waits_listed, AfterAnswering, answered, load_reply, IsContext, as_context, loads_at, lookup_stop, stop_in, waits_for, Bool}
 use Rattle.std.proofs.lemmas.Bool.{eqb-true}
 use Rattle.addr2line_units.specs.UnitsAfter as left
 use Rattle.addr2line_units.specs.LoadsLaws.{IsListed}
@@ -40,7 +40,7 @@ module _ (ranges : List UnitRange) (u : UnitsState) (i : IsContext ranges u) whe
     pub read_context : IsContext ranges now
     read_context = still_context ranges u i now scope_same units_same
 
-  module _ (n : ℕ) (given : Option Sections) (r : Result (Unit {0}) Error) (now : UnitsState) (a : left.AfterAnswer n given r u now) where
+  module _ {shares : Bool} (n : ℕ) (given : Option Sections) (r : Result (Unit {0}) Error) (now : UnitsState) (a : left.AfterAnswer shares n given r u now) where
     -- fewer loads are left after an answer to one that a lookup waits for
     fewer_after : (faults : OnFault) (probe : ℕ) → waits_for n (lookup_stop faults d u.answers probe) ≡ true → OnOk r (length (loads_at now.scope.file.sections now.answers probe) < length (loads_at d u.answers probe))
     fewer_after faults probe w = of_ok r a.answers

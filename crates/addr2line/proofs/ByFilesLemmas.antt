@@ -1,6 +1,6 @@
 -- Loads that files answer, one after another (on specs/LoadsByFiles.antt, specs/Loader.antt and
 -- specs/FramesByFiles.antt).
-use Rattle.addr2line.proofs.Common.{◌≡◌, ◌≢◌, ◌⊎◌, ◌<◌, ◌≤◌, inl, inr, ℕ, Bool, List, [], ◌∷◌, ◌++◌, length, Option, Some, None, option_map, Result, Ok, Err, arith, true, refl, sym, ap, subst, ◌∙◌, eqb_tells, IfErr, IfSome, Error, Sections, LoaderError, OutOfMemory, PathNotUtf8, Loading, LoadsUnlessOom, LookupResult, Output, Stop, FrameRecord, Waits, answer_of, is_waiting, result_map, StaysParsed, has_parsed, StaysKnown, IfOutput, FirstAnswers, SplitLoad, AfterAnswering, AfterResume, SuspendsAgain, answered, ContextState, ReadFiles, Given, Answered, AfterFrames, AfterFramesOver, IsKnownFew, ReadsAsked, Suspends, IsLoadOf, loads_at, lookup_stop, given_by_files, of_file}
+use Rattle.addr2line.proofs.Common.{◌≡◌, ◌≢◌, ◌⊎◌, ◌<◌, ◌≤◌, inl, inr, ℕ, Bool, List, [], ◌∷◌, ◌++◌, length, Option, Some, None, Result, Ok, Err, arith, true, refl, sym, ap, subst, ◌∙◌, eqb_tells, IfErr, IfSome, Error, Sections, LoaderError, OutOfMemory, PathNotUtf8, Loading, LoadsUnlessOom, LookupResult, Output, Stop, FrameRecord, Waits, answer_of, is_waiting, result_map, StaysParsed, has_parsed, StaysKnown, IfOutput, FirstAnswers, SplitLoad, AfterAnswering, AfterResume, SuspendsAgain, answered, ContextState, ReadFiles, Given, Answered, AfterFrames, AfterFramesOver, IsKnownFew, ReadsAsked, Suspends, IsLoadOf, loads_at, lookup_stop, given_by_files, of_file}
 use Rattle.std.proofs.lemmas.List.{append_assoc}
 use Rattle.gimli_read.specs.declared.error.Error.TheVariants as reading
 use Rattle.elf.specs.Text.{loader_error_of}

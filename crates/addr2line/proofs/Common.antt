@@ -41,7 +41,8 @@ pub use Rattle.addr2line_units.specs.declared.frames.OnFault.{OnFault}
 pub use Rattle.addr2line_units.specs.declared.frames.OnFault.TheVariants.{Skip, Stop}
 pub use Rattle.addr2line_units.specs.declared.index.UnitRange.{UnitRange}
 pub use Rattle.addr2line.specs.AfterLookups.{AfterFrames, AfterFramesOver, IsKnown, IsKnownFew, IsLent, IsStored, NeedsNoMemory, ReadsAsked, Suspends, TakesMemory, has_few_of}
-pub use Rattle.addr2line.specs.Answers.{AfterAnswering, AfterResume, SuspendsAgain, answered, load_reply}
+pub use Rattle.addr2line.specs.AfterAnswering.{AfterAnswering, AfterResume, SuspendsAgain}
+pub use Rattle.addr2line.specs.Answers.{answered, load_reply}
 pub use Rattle.addr2line.specs.Context.{AfterLookup, AfterRangeLookup, ContextState, IsContext, IsReady, IsReadyForRange, IsUncovered, LocatesNoMemory, Stays, lines_of_all, new_context, as_context, location_stop}
 pub use Rattle.addr2line.specs.Files.{Files, ReadFiles, as_read, as_read_if_known, listed_files, as_named_file}
 pub use Rattle.addr2line.specs.History.{Abandoned, AfterCall, AfterCalls, Answered, AnswersLoad, AsksFrames, AsksLoads, AsksLocation, AsksRange, AsksUnit, Forgets, Given, HasBegun, HistoryCall, IsCutShort, Leaves, ParsesFunctions, ParsesLines, answers_after, answers_given, answers_left, frames_replied, replies_to, reply_to, unit_replied, where_waiting}

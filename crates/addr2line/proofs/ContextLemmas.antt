@@ -1,5 +1,5 @@
 -- What a context has and what its sections give (on specs/Context.antt).
-use Rattle.addr2line.proofs.Common.{◌≡◌, ℕ, zero, suc, ◌≤◌, ◌&&◌, ◌||◌, inl, inr, Bool, true, false, List, [], ◌∷◌, length, map, slice_get, Option, Some, None, option_map, Result, Ok, Err, refl, sym, ap, subst, ◌∙◌, arith, ◌+◌, IfErr, OnOk, Error, ◌>>=◌, Exactly, ExactlyUnlessOom, fault_of, result_map, WasNotRefused, Sections, UnitRecord, Scope, UnitRange, cover, cover_range, FindsNothing, main_scope, LocationResult, first_location, all_lines, is_found, lines_of_unit, location_in, location_of, steps_along, or_first_location, spans_along, spans_of, AreAllParsed, AreParsed, AsksFor, LeadTo, ParsesOnly, StaysParsed, has_parsed, ready_along, NothingKnown, IndexedUnit, RangedUnit, has_lines, indexed_of, ranged_units, unit_ranges_from, UnitIndex, index_units, sup_units, UnitsState, first_state, new_units, AfterLookup, AfterRangeLookup, ContextState, IsContext, IsReady, IsUncovered, IsReadyForRange, LocatesNoMemory, Stays, lines_of_all, new_context, as_context, has_stopped, ends_lookup, located_frames, location_stop, stop_along, stop_of, asked_by, holds_along, takes_none_at, OutOfMemory, LookupStop, Waits, Finds, location_found}
+use Rattle.addr2line.proofs.Common.{◌≡◌, ℕ, zero, suc, ◌≤◌, ◌&&◌, ◌||◌, inl, inr, Bool, true, false, List, [], ◌∷◌, length, map, slice_get, Option, Some, None, option_map, Result, Ok, Err, refl, sym, ap, subst, ◌∙◌, arith, ◌+◌, IfErr, OnOk, Error, ◌>>=◌, Exactly, ExactlyUnlessOom, fault_of, result_map, WasNotRefused, Sections, UnitRecord, Scope, UnitRange, cover, cover_range, FindsNothing, main_scope, LocationResult, first_location, all_lines, is_found, lines_of_unit, location_in, location_of, steps_along, or_first_location, spans_along, spans_of, AreAllParsed, AreParsed, AsksFor, LeadTo, ParsesOnly, StaysParsed, has_parsed, ready_along, NothingKnown, IndexedUnit, RangedUnit, has_lines, indexed_of, ranged_units, unit_ranges_from, UnitIndex, index_units, sup_units, UnitsState, first_state, new_units, AfterLookup, AfterRangeLookup, ContextState, IsContext, IsReady, IsUncovered, IsReadyForRange, LocatesNoMemory, Stays, lines_of_all, new_context, as_context, has_stopped, ends_lookup, located_frames, location_stop, stop_along, stop_of, holds_along, LookupStop, Waits, Finds, location_found}
 use Rattle.std.specs.Prelude.{is_ok}
 use Rattle.addr2line_lines.specs.Location.{LineTable, Location, location_at}
 use Rattle.addr2line_lines.specs.Rows.{read_all}
@@ -131,7 +131,7 @@ module _ (ranges : List UnitRange) (u : UnitsState) (i : IsContext ranges u) whe
   location_stop_is probe = by_made (λ s xs rs. stop_along (located_frames s.file.sections xs probe) (cover probe rs))
 
   -- after a lookup of a location
-  module _ {Y : Type 0} (probe : ℕ) (r : Result Y Error) (now : UnitsState) (a : left.AfterWalk lookups.Location probe (cover probe ranges) r u now) where
+  module _ {Y : Type 0} (shares : Bool) (probe : ℕ) (r : Result Y Error) (now : UnitsState) (a : left.AfterWalk shares lookups.Location probe (cover probe ranges) r u now) where
     abbrev asked : ℕ → Type 0
     asked = AsksFor d u.units probe (cover probe ranges)
 
@@ -171,9 +171,8 @@ module _ (ranges : List UnitRange) (u : UnitsState) (i : IsContext ranges u) whe
     stored_now = ap (λ (x : UnitsState). location_stop x.scope.file.sections probe) a.asked.lines.same ∙ location_stop_is probe
 
     -- where the lookup takes no memory, a refusal is the fault of lines
-    pub located_alone : (shares : Bool) → (holds_along (takes_none_at shares lookups.Location probe now) (asked_by lookups.Location probe u) (cover probe ranges) ≡ true → IfErr r (left.IsFaultAlong lookups.Location probe u (cover probe ranges)))
-        → LocatesNoMemory shares (as_context now) probe → IfErr r (λ e. location_of d probe ≡ Err e)
-    located_alone shares alone none = of_units r (alone (subst (λ (xs : List IndexedUnit). takes_none_by xs d u.units (cover probe ranges)) (sym (ap (λ (x : UnitsState). x.units) a.asked.lines.same)) given))
+    pub located_alone : LocatesNoMemory shares (as_context now) probe → IfErr r (λ e. location_of d probe ≡ Err e)
+    located_alone none = of_units r (a.no_memory (subst (λ (xs : List IndexedUnit). takes_none_by xs d u.units (cover probe ranges)) (sym (ap (λ (x : UnitsState). x.units) a.asked.lines.same)) given))
       where
         takes_none_by : List IndexedUnit → Sections → List IndexedUnit → List UnitRange → Type 0
         takes_none_by xs s us rs = holds_along (parses_no_memory shares xs now.parsed) (located_frames s us probe) rs ≡ true
@@ -266,9 +265,6 @@ all_parsed_along p all (r ∷ rs) = (all r.unit, all_parsed_along p all rs)
 pub ready_if_ok : (result : Result (Unit {0}) Error) (c : ContextState) → OnOk result (AreAllParsed c.parsed) → OnOk result (((probe : ℕ) → IsReady c probe) × ((low high : ℕ) → IsReadyForRange c low high))
 ready_if_ok (Ok tt) c all = (λ probe m is. all_ready c.sections m.units c.parsed all probe (cover probe m.ranges), λ low high m is. all_parsed_along c.parsed all (cover_range low high m.ranges))
 ready_if_ok (Err e) c all = tt
-
-pub err_is_not_ok : {X : Type 0} (e : Error) (x : X) → ◌≡◌ {A = Result X Error} (Err e) (Ok x) → ⊥
-err_is_not_ok e x k = cc
 
 -- a context that is made
 module _ (d : Sections) where

@@ -1,5 +1,6 @@
 -- Answers to loads outside a lookup, in a context (on specs/Loads.antt).
-use Rattle.addr2line.proofs.Common.{◌≡◌, ◌⊎◌, inl, inr, ℕ, Bool, false, true, List, [], length, slice_get, Option, Result, Ok, Err, sym, ap, subst, ◌∙◌, length-map, IfErr, IfOk, IsOk, IsOkAnd, OnOk, Error, ◌>>=◌, ExactlyUnlessOom, fault_of, Sections, UnitRecord, Scope, OnFault, UnitRange, cover, asked_frames, main_scope, stop_along, knows_at, NoneOpen, forget_result, is_open_at, load_result, loads_along, all_lines, LeadTo, IndexedUnit, IsReadyAt, StaysKnown, UnitIndex, index_units, UnitsState, SplitLoad, IsContext, lines_of_all, as_context, AfterForgetting, AfterLoading, AfterParse, AfterPreload, IsAllKnown, IsNotOpen, NoneOpenAt, ReachesAllOf, ReadsFunctionsNoMemory, StaysRead, forget_reply, parse_reply, parsed_answers, lookup_stop}
+use Rattle.addr2line.proofs.Common.{◌≡◌, ◌⊎◌, inl, inr, ℕ, Bool, false, true, List, [], length, slice_get, Option, Result, Ok, Err, sym, ap, subst, ◌∙◌, length-map, IfErr, IfOk, IsOk, OnOk, Error, ◌>>=◌, ExactlyUnlessOom, fault_of, Sections, UnitRecord, Scope, OnFault, UnitRange, cover, asked_frames, main_scope, stop_along, knows_at, NoneOpen, forget_result, is_open_at, load_result, loads_along, all_lines, LeadTo, IndexedUnit, IsReadyAt, StaysKnown, UnitIndex, index_units, UnitsState, SplitLoad, IsContext, lines_of_all, as_context, AfterForgetting, AfterLoading, AfterParse, AfterPreload, IsAllKnown, IsNotOpen, NoneOpenAt, ReachesAllOf, ReadsFunctionsNoMemory, StaysRead, forget_reply, parse_reply, parsed_answers, lookup_stop, result_map}
+use Rattle.addr2line.specs.Common.{OutOfMemory}
 use Rattle.addr2line_units.specs.declared.parses.ReadingDepth.{ReadingDepth}
 use Rattle.addr2line_units.specs.declared.parses.ReadingDepth.TheVariants as depths
 use Rattle.addr2line_units.specs.UnitsAfter as left
@@ -11,9 +12,18 @@ use Rattle.addr2line.proofs.AnsweredLemmas.{answers_are, scope_same, units_same}
 use Rattle.addr2line.proofs.ContextLemmas.{at_made, at_now, by_made, of_made, of_now, or_made}
 
 -- along no ranges no loads are listed
-pub none_listed : {X : Type 0} (items : X → List SplitLoad) (load : ℕ → Option SplitLoad) (ranges : List UnitRange) (r : Result X Error) → ranges ≡ [] → IsOk r → IfOk r (λ x. items x ≡ loads_along load ranges) → IsOkAnd r (λ x. items x ≡ [])
-none_listed items load ranges (Ok x) none ok h = h ∙ ap (loads_along load) none
+pub none_listed : {X : Type 0} (items : X → List SplitLoad) (load : ℕ → Option SplitLoad) (ranges : List UnitRange) (r : Result X Error) → ranges ≡ [] → IsOk r → IfOk r (λ x. items x ≡ loads_along load ranges) → result_map items r ≡ Ok []
+none_listed items load ranges (Ok x) none ok h = ap (λ l. Ok l) (h ∙ ap (loads_along load) none)
 none_listed items load ranges (Err e) none ok h = absurd cc
+
+-- what a result gives changes nothing of whether it is refused
+pub listed_ok : {X Y : Type 0} (f : X → Y) (r : Result X Error) → IsOk r → IsOk (result_map f r)
+listed_ok f (Ok x) h = h
+listed_ok f (Err e) h = h
+
+pub listed_refused : {X Y : Type 0} (f : X → Y) (r : Result X Error) → IfErr r (λ e. e ≡ OutOfMemory) → IfErr (result_map f r) (λ e. e ≡ OutOfMemory)
+listed_refused f (Ok x) h = tt
+listed_refused f (Err e) h = h
 
 module _ (ranges : List UnitRange) (u : UnitsState) (i : IsContext ranges u) where
   abbrev d : Sections
@@ -47,7 +57,7 @@ module _ (ranges : List UnitRange) (u : UnitsState) (i : IsContext ranges u) whe
     steps = ap (λ (x : UnitsState). x.steps) stays;
   }
 
-  pub after_load : (n : ℕ) (given : Option Sections) (r : Result (Unit {0}) Error) (now : UnitsState) → left.AfterLoad n given r u now → AfterLoading n given r (as_context u) (as_context now)
+  pub after_load : {shares : Bool} (n : ℕ) (given : Option Sections) (r : Result (Unit {0}) Error) (now : UnitsState) → left.AfterLoad shares n given r u now → AfterLoading n given r (as_context u) (as_context now)
   after_load n given r now a = record {
     stays = stays_read now a.stays;
     answers = λ told. a.answers told ∙ sym (answers_are ranges u i n given);
@@ -71,7 +81,7 @@ module _ (ranges : List UnitRange) (u : UnitsState) (i : IsContext ranges u) whe
     functions = a.functions;
   }
 
-  module _ (depth : ReadingDepth) (r : Result (Unit {0}) Error) (now : UnitsState) (a : left.AfterReading depth r u now) where
+  module _ {shares : Bool} (depth : ReadingDepth) (r : Result (Unit {0}) Error) (now : UnitsState) (a : left.AfterReading shares depth r u now) where
     pub after_parse : AfterParse depth r (as_context u) (as_context now)
     after_parse = record {
       stays = stays_read now a.stays;
@@ -90,10 +100,9 @@ module _ (ranges : List UnitRange) (u : UnitsState) (i : IsContext ranges u) whe
     }
 
     -- where the parse takes no memory, a refusal is the fault of functions
-    pub parsed_alone : (shares : Bool) → (ReadsNoMemory shares depth u.scope us now.answers now.known → IfErr r (λ e. read_of_units depth u.scope us u.answers ≡ Err e))
-        → ReadsFunctionsNoMemory shares depth (as_context now) → IfErr r (λ e. parse_reply depth d u.answers ≡ Err e)
-    parsed_alone shares alone none = subst (λ given. IfErr r (λ e. given ≡ Err e)) (sym (parse_is depth))
-        (alone (at_now ranges u i now (scope_same ranges u i now a.stays) (units_same ranges u i now a.stays) (λ s xs rs. ReadsNoMemory shares depth s s.file.units now.answers now.known) none))
+    pub parsed_alone : ReadsFunctionsNoMemory shares depth (as_context now) → IfErr r (λ e. parse_reply depth d u.answers ≡ Err e)
+    parsed_alone none = subst (λ given. IfErr r (λ e. given ≡ Err e)) (sym (parse_is depth))
+        (a.no_memory (at_now ranges u i now (scope_same ranges u i now a.stays) (units_same ranges u i now a.stays) (λ s xs rs. ReadsNoMemory shares depth s s.file.units now.answers now.known) none))
 
     -- no lookup waits or has a fault after a parse of all details
     module _ (e : depth ≡ depths.Details) (gives : read_of_units depth u.scope us u.answers ≡ Ok tt) (told : now.answers ≡ answers_after_parse depth u.scope us u.answers) (lines : lines_of_all d ≡ Ok tt) (faults : OnFault) (probe : ℕ) where
@@ -124,7 +133,7 @@ module _ (ranges : List UnitRange) (u : UnitsState) (i : IsContext ranges u) whe
     pub all_known : depth ≡ depths.Details → OnOk r (IsAllKnown (as_context now))
     all_known = a.all
 
-  pub all_reached : (depth : ReadingDepth) (r : Result (Unit {0}) Error) (now : UnitsState) → left.AfterReading depth r u now → ExactlyUnlessOom (λ x. x) r (read_of_units depth u.scope us u.answers) → depth ≡ depths.Details → OnOk r (ReachesAllOf (as_context now))
+  pub all_reached : {shares : Bool} (depth : ReadingDepth) (r : Result (Unit {0}) Error) (now : UnitsState) → left.AfterReading shares depth r u now → ExactlyUnlessOom (λ x. x) r (read_of_units depth u.scope us u.answers) → depth ≡ depths.Details → OnOk r (ReachesAllOf (as_context now))
   all_reached depth (Err f) now a gives e = tt
   all_reached depth (Ok x) now a gives e = λ lines faults probe.
       reached_now depth (Ok x) now a e gives (a.answers tt) (subst (λ (s : Scope). lines_of_all s.file.sections ≡ Ok tt) (scope_same ranges u i now a.stays) lines) faults probe

@@ -1,6 +1,6 @@
 -- Answers about a file, by what its bytes give (on specs/Loading.antt of elf, specs/SplitFiles.antt
 -- and specs/Loaded.antt).
-use Rattle.addr2line.proofs.Common.{◌≡◌, ◌≢◌, Bool, Option, Some, None, Result, Ok, Err, ap, refl, IfSome, Error, ExactlyUnlessOom, OutOfMemory, PathNotUtf8, Loading, LoadsUnlessOom, LoadsUnlessOomFor, ObjectFile, ContextState, ReadFiles, of_file}
+use Rattle.addr2line.proofs.Common.{◌≡◌, ◌≢◌, Bool, Option, Result, Ok, Err, ap, refl, Error, ExactlyUnlessOom, OutOfMemory, PathNotUtf8, Loading, LoadsUnlessOom, LoadsUnlessOomFor, ObjectFile, ContextState, ReadFiles, of_file}
 use Rattle.gimli_read.specs.declared.error.Error.TheVariants as reading
 use Rattle.elf.specs.Text.{loader_error_of}
 use Rattle.addr2line.specs.declared.compressed.CompressedSections.{CompressedSections}

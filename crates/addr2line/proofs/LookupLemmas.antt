@@ -1,5 +1,5 @@
 -- What a lookup of frames comes to in a context (on specs/Lookups.antt and specs/AfterLookups.antt).
-use Rattle.addr2line.proofs.Common.{◌≡◌, ◌≢◌, ◌⊎◌, ℕ, ◌&&◌, ◌||◌, Bool, true, not, List, [], ◌∷◌, slice_get, Some, None, option_map, Result, Ok, Err, refl, sym, ap, subst, ◌∙◌, IfErr, IfOk, Error, ◌>>=◌, ExactlyUnlessOom, WasNotRefused, Scope, OnFault, Skip, UnitRange, cover, LookupAsks, LookupStop, after_fault, asked_frames, asks_lines_of, frames_of_number, function_offset_of, inlined_at_number, holds_along, or_stop, stop_along, LearnsDetailsAt, knows_at, ParsesOnly, has_parsed, IndexedUnit, FramesResult, UnitsState, asked_by, asks_no_memory_at, has_all_at, has_few_at, stop_of, FirstAnswers, SplitLoad, load_of_unit, IsContext, as_context, AfterFrames, IsKnownFew, NeedsNoMemory, IsFaultOfAsked, IsLoadOf, lookup_stop, takes_none_at}
+use Rattle.addr2line.proofs.Common.{◌≡◌, ◌≢◌, ◌⊎◌, ℕ, ◌&&◌, ◌||◌, Bool, true, not, List, [], ◌∷◌, slice_get, Some, None, option_map, Result, Ok, Err, refl, sym, ap, subst, ◌∙◌, IfErr, IfOk, Error, ◌>>=◌, ExactlyUnlessOom, WasNotRefused, Scope, OnFault, Skip, UnitRange, cover, LookupAsks, LookupStop, after_fault, asked_frames, asks_lines_of, frames_of_number, function_offset_of, inlined_at_number, holds_along, or_stop, stop_along, LearnsDetailsAt, knows_at, ParsesOnly, has_parsed, IndexedUnit, FramesResult, UnitsState, asks_no_memory_at, has_all_at, has_few_at, stop_of, FirstAnswers, SplitLoad, load_of_unit, IsContext, as_context, AfterFrames, IsKnownFew, NeedsNoMemory, IsFaultOfAsked, IsLoadOf, lookup_stop}
 use Rattle.gimli_read.specs.declared.error.Error.TheVariants.{OutOfMemory}
 use Rattle.addr2line_lines.specs.InlineRoom.{exceeds_inline_room}
 use Rattle.addr2line_units.specs.declared.frames.Asks.TheVariants as lookups
@@ -38,7 +38,7 @@ module _ (ranges : List UnitRange) (u : UnitsState) (i : IsContext ranges u) (fa
   pub stop_is : (answers : FirstAnswers) → lookup_stop faults u.scope.file.sections answers probe ≡ stop_along (asked_frames faults u.scope u.units answers probe) (cover probe ranges)
   stop_is answers = by_made ranges u i (λ s xs rs. stop_along (asked_frames faults s xs answers probe) (cover probe rs))
 
-  module _ (now : UnitsState) {X : Type 0} (r : Result X Error) (w : left.AfterWalk (lookups.Frames faults) probe (cover probe ranges) r u now) where
+  module _ (now : UnitsState) {X : Type 0} (shares : Bool) (r : Result X Error) (w : left.AfterWalk shares (lookups.Frames faults) probe (cover probe ranges) r u now) where
     pub walked_context : IsContext ranges now
     walked_context = still_context ranges u i now w.asked.scope w.asked.units
 
@@ -63,18 +63,17 @@ module _ (ranges : List UnitRange) (u : UnitsState) (i : IsContext ranges u) (fa
     walk_memory few = w.memory (as_before (λ s xs a. holds_along (has_few_at probe now) (asked_frames faults s xs a probe) (cover probe ranges) ≡ true)
         (at_made ranges now walked_context (λ s xs rs. holds_along (few_by s xs) (asked_frames faults s xs now.answers probe) (cover probe rs) ≡ true) few))
 
-    abbrev none_by : Bool → Scope → List IndexedUnit → ℕ → Bool
-    none_by shares s xs n = asks_no_memory_at shares probe (record now { scope = s; units = xs }) n
+    abbrev none_by : Scope → List IndexedUnit → ℕ → Bool
+    none_by s xs n = asks_no_memory_at shares probe (record now { scope = s; units = xs }) n
 
     of_units : (q : Result X Error) → IfErr q (left.IsFaultAlong (lookups.Frames faults) probe u (cover probe ranges)) → IfErr q (IsFaultOfAsked faults u.scope.file.sections u.answers probe)
     of_units (Ok x) h = tt
     of_units (Err e) h = (i.made, i.indexed, of_made ranges u i (λ s xs rs. (n : ℕ) × LookupAsks (asked_frames faults s xs u.answers probe) (cover probe rs) n × (frames_of_number s xs u.answers probe n ≡ Err e)) h i.made i.indexed)
 
     -- where the lookup takes no memory, a refusal is the fault of a unit that it asks
-    pub walk_alone : (shares : Bool) → (holds_along (takes_none_at shares (lookups.Frames faults) probe now) (asked_by (lookups.Frames faults) probe u) (cover probe ranges) ≡ true → IfErr r (left.IsFaultAlong (lookups.Frames faults) probe u (cover probe ranges)))
-        → NeedsNoMemory shares faults (as_context now) probe → IfErr r (IsFaultOfAsked faults u.scope.file.sections u.answers probe)
-    walk_alone shares alone none = of_units r (alone (as_before (λ s xs a. holds_along (asks_no_memory_at shares probe now) (asked_frames faults s xs a probe) (cover probe ranges) ≡ true)
-        (at_made ranges now walked_context (λ s xs rs. holds_along (none_by shares s xs) (asked_frames faults s xs now.answers probe) (cover probe rs) ≡ true) none)))
+    pub walk_alone : NeedsNoMemory shares faults (as_context now) probe → IfErr r (IsFaultOfAsked faults u.scope.file.sections u.answers probe)
+    walk_alone none = of_units r (w.no_memory (as_before (λ s xs a. holds_along (asks_no_memory_at shares probe now) (asked_frames faults s xs a probe) (cover probe ranges) ≡ true)
+        (at_made ranges now walked_context (λ s xs rs. holds_along (none_by s xs) (asked_frames faults s xs now.answers probe) (cover probe rs) ≡ true) none)))
 
     pub after_frames : AfterFrames faults probe r (as_context u) (as_context now)
     after_frames = record {

@@ -1,5 +1,5 @@
 -- Calls made one after another (on specs/History.antt).
-use Rattle.addr2line.proofs.Common.{◌≡◌, inl, inr, ℕ, ◌≤◌, arith, List, [], ◌∷◌, ◌++◌, append_assoc, drop, length, map, Ok, Err, refl, sym, ap, subst, ◌∙◌, drop_of_length-le, append-nil, length-map, Error, Sections, StaysParsed, ContextState, AfterCall, AfterCalls, AnswersLoad, AsksFrames, AsksLoads, AsksLocation, AsksRange, AsksUnit, Forgets, HasBegun, HistoryCall, IsCutShort, ParsesFunctions, ParsesLines, answers_after, answers_left, replies_to, reply_to, CopiedReply, FirstAnswers}
+use Rattle.addr2line.proofs.Common.{◌≡◌, inl, inr, arith, List, [], ◌∷◌, ◌++◌, append_assoc, Ok, Err, refl, sym, ap, subst, ◌∙◌, append-nil, Error, Sections, StaysParsed, ContextState, AfterCall, AfterCalls, AnswersLoad, AsksFrames, AsksLoads, AsksLocation, AsksRange, AsksUnit, Forgets, HasBegun, HistoryCall, IsCutShort, ParsesFunctions, ParsesLines, answers_after, answers_left, replies_to, reply_to, CopiedReply, FirstAnswers}
 use Rattle.gimli_read.specs.declared.error.Error.TheVariants.{OutOfMemory}
 
 -- nothing was done of a call

@@ -3,9 +3,10 @@
 -- Own: a lookup parses only lines that it asks for, and reads nothing of a unit that it doesn't
 -- ask; what is parsed or known stays so.
 use Rattle.std.specs.Prelude.{◌≡◌, ◌⊎◌, ℕ, ◌≤◌, Bool, true, false, slice_get, IfErr, Result, Ok, Err}
-use Rattle.addr2line.specs.Common.{Error, OutOfMemory, ExactlyUnlessOom, WasNotRefused, OnFault, cover, LookupStop, Waits, LookupAsks, asks_lines_of, function_offset_of, holds_along, is_waiting, main_scope, LearnsDetailsAt, ParsesOnly, StaysParsed, StaysKnown, UnitIndex, index_units, UnitsState, asks_no_memory_at, has_all_at, has_few_at, SplitLoad}
-use Rattle.addr2line.specs.Context.{ContextState}
+use Rattle.addr2line.specs.Common.{Error, OutOfMemory, ExactlyUnlessOom, WasNotRefused, OnFault, cover, LookupStop, Waits, LookupAsks, asks_lines_of, function_offset_of, holds_along, is_waiting, main_scope, LearnsDetailsAt, ParsesOnly, StaysParsed, StaysKnown, UnitIndex, index_units, UnitsState, asks_no_memory_at, has_all_at, has_few_at, SplitLoad, Skip}
+use Rattle.addr2line.specs.Context.{ContextState, IsUncovered}
 use Rattle.addr2line.specs.Lookups.{IsFaultOfAsked, asked_of, lookup_stop, IsLoadOf}
+use Rattle.addr2line_lines.specs.LastAddress.{last_address}
 
 -- the units of a context
 abbrev pub units_in : ContextState → UnitIndex → UnitsState
@@ -98,6 +99,19 @@ pub record AfterFrames {X : Type 0} (faults : OnFault) (probe : ℕ) (result : R
   pub memory : IsKnownFew faults new probe
       → is_waiting (lookup_stop faults old.sections old.answers probe) ≡ false
       → WasNotRefused result
+
+-- after a walk along the units that cover the probe, over readers that share their bytes or don't:
+-- where all is known that it asks for, and at most 16 inlined functions stand there, memory isn't
+-- refused, nor where nothing of it takes memory; a lookup that passes over faults is refused for
+-- memory alone; no unit covers 2^64 - 1
+pub record AfterWalk {X : Type 0} (shares : Bool) (faults : OnFault) (probe : ℕ)
+    (result : Result X Error) (old new : ContextState) : Type 0 where
+  pub frames : AfterFrames faults probe result old new
+  pub refused : faults ≡ Skip → IfErr result (λ e. e ≡ OutOfMemory)
+  pub memory : IsKnownFew faults new probe → WasNotRefused result
+  pub no_memory : NeedsNoMemory shares faults new probe
+      → IfErr result (IsFaultOfAsked faults old.sections old.answers probe)
+  pub last : probe ≡ last_address → IsUncovered old probe
 
 -- a context has stored what a lookup of the probe comes to, or the lookup was refused
 abbrev pub IsStored : {X : Type 0} → OnFault → ℕ → Result X Error → ContextState → Type 0

@@ -5,8 +5,8 @@
 -- parsed; a context that is made has parsed them only where they give a unit its ranges, and a unit
 -- without a line program has its lines, which are none.
 -- Own: of a unit the first answer to its load counts: the sections of a split file, or none.
-use Rattle.std.specs.Prelude.{◌≡◌, ℕ, ◌+◌, ◌<◌, ◌≤◌, Bool, true, List, [], map, Option, None, IfErr, Result, Ok, Err}
-use Rattle.addr2line.specs.Common.{Error, ◌>>=◌, ExactlyUnlessOom, fault_of, WasNotRefused, Section, Sections, FindsNothing, LookupStop, located_frames, main_scope, stop_along, KnownEntries, NothingKnown, all_lines, is_found, location_of, steps_along, UnitIndex, index_units, sup_units, has_lines, ranged_units, AllAskFor, AreParsed, AreReadyForAll, AsksFor, LeadTo, ParsesOnly, StaysParsed, TakeNone, TakeNoneForAll, ready_along, takes_none_along, cover, cover_range, UnitsState, FirstAnswers}
+use Rattle.std.specs.Prelude.{◌≡◌, ℕ, ◌+◌, ◌<◌, ◌≤◌, Bool, true, List, [], map, Option, None, IfErr, Result, Ok, Err, OnOk, is_ok}
+use Rattle.addr2line.specs.Common.{Error, ◌>>=◌, ExactlyUnlessOom, fault_of, WasNotRefused, Section, Sections, FindsNothing, LookupStop, located_frames, main_scope, stop_along, KnownEntries, NothingKnown, all_lines, is_found, location_of, steps_along, UnitIndex, index_units, sup_units, has_lines, ranged_units, AllAskFor, AreParsed, AreReadyForAll, AsksFor, LeadTo, ParsesOnly, StaysParsed, TakeNone, TakeNoneForAll, ready_along, takes_none_along, cover, cover_range, UnitsState, FirstAnswers, Exactly, AreAllParsed}
 use Rattle.gimli.specs.declared.dwarf.DwarfFileType.TheVariants.{Main}
 use Rattle.addr2line_units.specs.declared.index.UnitRange.{UnitRange}
 
@@ -178,3 +178,22 @@ pub record IsContext (listed : List UnitRange) (u : UnitsState) : Type 0 where
   pub scope : u.scope ≡ main_scope u.scope.file.sections made
   pub units : u.units ≡ made.units
   pub ranges : listed ≡ made.ranges
+
+-- after a parse of all lines: they are parsed up to the first fault, unless memory was refused, and
+-- none are behind it, nor any where they were; memory is refused only where some are left that take
+-- it, over readers that share their bytes or don't; without a fault all are parsed, and lookups of
+-- locations and ranges parse nothing more and have no fault
+pub record AfterParsingLines (shares : Bool) (result : Result (Unit {0}) Error)
+    (old new : ContextState) : Type 0 where
+  pub stays : Stays old new
+  pub steps : new.steps ≡ old.steps
+  pub only : ParsesToFault old new
+  pub same : IsReadyForAll old → new.parsed ≡ old.parsed
+  pub ready : WasNotRefused result → IsReadyForAll new
+  pub memory : ParsesNoMemory shares new → WasNotRefused result
+  pub exact : ParsesNoMemory shares old
+      → Exactly (λ x. x) result (lines_of_all old.sections)
+  pub parsed : OnOk result (AreAllParsed new.parsed)
+  pub reads : OnOk result (((probe : ℕ) → IsReady new probe)
+      × ((low high : ℕ) → IsReadyForRange new low high))
+  pub found : OnOk result ((probe : ℕ) → is_ok (location_of new.sections probe) ≡ true)

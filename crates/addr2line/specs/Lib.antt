@@ -4,6 +4,7 @@ pub mod Borrowed
 pub mod AfterLookups
 pub mod Lookups
 pub mod Answers
+pub mod AfterAnswering
 pub mod Loads
 pub mod Replies
 pub mod History

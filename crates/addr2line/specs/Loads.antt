@@ -2,17 +2,19 @@
 -- context (DWARF 5, sections 3.1.2, 3.3 and 7.3.2).
 -- Own: an answer to a unit that is decided changes nothing; a parse of all functions answers none
 -- to each load.
-use Rattle.std.specs.Prelude.{◌≡◌, ◌≢◌, ◌⊎◌, ℕ, Bool, false, true, slice_get, Option, Some, None, OnOk, Result, Ok, Err}
+use Rattle.std.specs.Prelude.{◌≡◌, ◌≢◌, ◌⊎◌, ℕ, Bool, false, true, slice_get, Option, Some, None, OnOk, Result, Ok, Err, List, [], IfErr, IsOk}
 use Rattle.std.specs.List.{AllByRecursion}
-use Rattle.addr2line.specs.Common.{Error, ◌>>=◌, WasNotRefused, Sections, OnFault, cover, answer_of, main_scope, LearnsNoDetails, LearnsNoFunctions, knows_at, NoneOpen, forget_result, forgotten, is_open_at, LeadTo, UnitIndex, index_units, unit_records, IsReadBy, IsReadyAt, StaysKnown, FirstAnswers}
+use Rattle.addr2line.specs.Common.{Error, ◌>>=◌, WasNotRefused, Sections, OnFault, cover, answer_of, main_scope, LearnsNoDetails, LearnsNoFunctions, knows_at, NoneOpen, forget_result, forgotten, is_open_at, LeadTo, UnitIndex, index_units, unit_records, IsReadBy, IsReadyAt, StaysKnown, FirstAnswers, OutOfMemory, SplitLoad}
 use Rattle.addr2line_units.specs.declared.parses.ReadingDepth.{ReadingDepth}
 use Rattle.addr2line_units.specs.declared.parses.ReadingDepth.TheVariants as depths
 use Rattle.addr2line_units.specs.ParsesLaws.{IsReached}
 use Rattle.addr2line_units.specs.Parses.{AreFirstDecided, AreReadBefore, AreReadyFor, ReadsNoMemory, answers_after_parse, read_of_units}
 use Rattle.addr2line.specs.Answers.{answered}
 pub use Rattle.addr2line.specs.Answers.{load_reply}
-use Rattle.addr2line.specs.Context.{ContextState, lines_of_all}
+use Rattle.addr2line.specs.Context.{ContextState, lines_of_all, IsUncovered}
 use Rattle.addr2line.specs.Lookups.{lookup_stop}
+use Rattle.addr2line_lines.specs.LastAddress.{last_address}
+use Rattle.addr2line_units.specs.LoadsMemory.{answer_takes_memory}
 
 -- what it gives to forget the answer of the unit of a number
 abbrev pub forget_reply : Sections → ℕ → Result (Unit {0}) Error
@@ -66,6 +68,15 @@ pub record AfterLoading (n : ℕ) (given : Option Sections) (result : Result (Un
   pub others : (k : ℕ) → k ≢ n → slice_get new.known k ≡ slice_get old.known k
   pub functions : LearnsNoFunctions old.known new.known
 
+-- the same over readers that share their bytes or don't: memory is refused only where the unit is
+-- open and the answer takes memory
+pub record AfterLoadingOver (shares : Bool) (n : ℕ) (given : Option Sections)
+    (result : Result (Unit {0}) Error) (old new : ContextState) : Type 0 where
+  pub after : AfterLoading n given result old new
+  pub not_open : IsNotOpen old n → result ≡ load_reply old.sections old.answers n given
+  pub exact : answer_takes_memory shares given ≡ false
+      → result ≡ load_reply old.sections old.answers n given
+
 -- after the unit of a number is forgotten nothing is changed but of that unit, and nothing at all
 -- where it had no answer; no function becomes known
 pub record AfterForgetting (n : ℕ) (old new : ContextState) : Type 0 where
@@ -84,6 +95,16 @@ pub record AfterPreload (probe : ℕ) (old new : ContextState) : Type 0 where
   pub learns : (m : UnitIndex) → index_units old.sections ≡ Ok m → (n : ℕ)
       → (slice_get new.known n ≡ slice_get old.known n) ⊎ LeadTo (cover probe m.ranges) n
   pub functions : LearnsNoFunctions old.known new.known
+
+-- the same with what the listing gives: none where no unit covers the probe; memory alone is
+-- refused, and only where a unit that covers it is open
+pub record AfterPreloadCall (probe : ℕ) (loads : Result (List SplitLoad) Error)
+    (old new : ContextState) : Type 0 where
+  pub after : AfterPreload probe old new
+  pub refused : IfErr loads (λ e. e ≡ OutOfMemory)
+  pub memory : NoneOpenAt old probe → IsOk loads
+  pub none : IsUncovered old probe → loads ≡ Ok []
+  pub last : probe ≡ last_address → loads ≡ Ok []
 
 -- all is known that a parse of functions reads of all units
 abbrev pub AreReadBy : ReadingDepth → ContextState → Type 0
@@ -138,3 +159,15 @@ IsAllKnown c = (probe n : ℕ) → knows_at c.known probe n ≡ true
 abbrev pub ReachesAllOf : ContextState → Type 0
 ReachesAllOf c = lines_of_all c.sections ≡ Ok tt → (faults : OnFault) (probe : ℕ)
     → IsReached (lookup_stop faults c.sections c.answers probe)
+
+-- after a parse of all functions over readers that share their bytes or don't: where nothing that
+-- is read takes memory a refusal is the first fault; without a fault, where the details were read
+-- too, all is known that lookups ask of units' entries, and none waits or has a fault, if all lines
+-- can be read
+pub record AfterParseOver (shares : Bool) (depth : ReadingDepth) (result : Result (Unit {0}) Error)
+    (old new : ContextState) : Type 0 where
+  pub after : AfterParse depth result old new
+  pub no_memory : ReadsFunctionsNoMemory shares depth new
+      → IfErr result (λ e. parse_reply depth old.sections old.answers ≡ Err e)
+  pub known : depth ≡ depths.Details → OnOk result (IsAllKnown new)
+  pub reached : depth ≡ depths.Details → OnOk result (ReachesAllOf new)

@@ -1,7 +1,7 @@
 -- Lookups where each load is answered None (DWARF 5, section 7.3.2).
 -- Own: a unit that waits is decided by none then, and stays so until it is forgotten.
-use Rattle.std.specs.Prelude.{◌≡◌, ℕ, ◌≤◌, Bool, length, replicate, List, None, IfErr, Result}
-use Rattle.addr2line.specs.Common.{Error, Sections, OnFault, WasNotRefused, StaysParsed, StaysKnownOf, FirstAnswers}
+use Rattle.std.specs.Prelude.{◌≡◌, ℕ, ◌≤◌, Bool, length, replicate, List, None, IfErr, OnOk, Result}
+use Rattle.addr2line.specs.Common.{Error, OutOfMemory, Sections, OnFault, Skip, WasNotRefused, StaysParsed, StaysKnownOf, FirstAnswers, waiting_unit}
 use Rattle.addr2line.specs.Context.{ContextState}
 use Rattle.addr2line.specs.Loads.{IsNotOpen}
 use Rattle.addr2line.specs.History.{Given, Answered, answers_given}
@@ -37,3 +37,11 @@ pub record AfterSkip {X : Type 0} (shares : Bool) (faults : OnFault) (probe : �
   pub memory : IsKnownFew faults new probe → WasNotRefused result
   pub no_memory : NeedsNoMemory shares faults new probe
       → IfErr result (IsFaultOfAsked faults new.sections new.answers probe)
+
+-- the same of a lookup that lends nothing: one that passes over faults is refused for memory alone,
+-- and what isn't refused waits for no unit
+pub record AfterSkippingLoads (shares : Bool) (faults : OnFault) (probe : ℕ)
+    (result : Result (Unit {0}) Error) (old new : ContextState) : Type 0 where
+  pub skip : AfterSkip shares faults probe result old new
+  pub refused : faults ≡ Skip → IfErr result (λ e. e ≡ OutOfMemory)
+  pub none : OnOk result (waiting_unit new.stop ≡ None)

@@ -3,7 +3,8 @@ use Rattle.std.specs.Prelude.{◌≡◌, ℕ, length, Option, IfErr, Result, Ok}
 use Rattle.std.specs.Borrow.{MutBor}
 use Rattle.addr2line.specs.Common.{Error, OutOfMemory, Sections, OnFault, Stop, Skip, LookupStop, Waits, IfOutput, SplitLoad, View, FramesResult}
 use Rattle.addr2line_units.specs.declared.continuation.LookupResult.{LookupResult}
-use Rattle.addr2line.specs.Answers.{SuspendsAgain, answered}
+use Rattle.addr2line.specs.AfterAnswering.{SuspendsAgain}
+use Rattle.addr2line.specs.Answers.{answered}
 use Rattle.addr2line.specs.Context.{ContextState}
 use Rattle.addr2line.specs.AfterLookups.{Suspends}
 use Rattle.addr2line.specs.Lookups.{IsLoadOf, UnitResult, found_at, frames_value, loads_at, unit_value, with_none}

@@ -1,11 +1,9 @@
 //! Answers to the loads of units.
 
-ghost use Rattle.std.specs.Prelude.{◌≡◌, Err, IfErr, None, OnOk, false, option_map};
-ghost use Rattle.addr2line.specs.Common.{OutOfMemory, Skip, waiting_unit};
-ghost use Rattle.addr2line_units.specs.LoadsMemory.{answer_takes_memory};
+ghost use Rattle.std.specs.Prelude.{option_map};
 ghost use Rattle.addr2line.specs.AfterLookups.{IsStored};
-ghost use Rattle.addr2line.specs.Answers.{AfterAnswering, load_reply};
-ghost use Rattle.addr2line.specs.Skips.{AfterSkip};
+ghost use Rattle.addr2line.specs.Skips.{AfterSkippingLoads};
+ghost use Rattle.addr2line.specs.AfterAnswering.{AfterAnsweringOver};
 
 use crate::context::Context;
 use addr2line_units::frames::OnFault;
@@ -21,11 +19,8 @@ impl<R: Reader> Context<R> {
         number: usize,
         sections: Option<Rc<Dwarf<R>>>,
     ) -> Result<(), Error>
-        ensures after { AfterAnswering number (option_map (λ d. d.value) sections) result self.old
-            self.new }
-        ensures no_memory { answer_takes_memory R.shares (option_map (λ d. d.value) sections)
-            ≡ false → IfErr result (λ e. load_reply self.old.sections self.old.answers number
-            (option_map (λ d. d.value) sections) ≡ Err e) }
+        ensures after { AfterAnsweringOver R.shares number (option_map (λ d. d.value) sections)
+            result self.old self.new }
     {
         self.units.answer(number, sections)
     }
@@ -34,9 +29,7 @@ impl<R: Reader> Context<R> {
     // asks for is read and cached.
     pub(crate) fn skip_loads(&mut self, probe: u64, faults: OnFault) -> Result<(), Error>
         ensures gives { IsStored faults probe result self.new }
-        ensures refused { faults ≡ Skip → IfErr result (λ e. e ≡ OutOfMemory) }
-        ensures none { OnOk result (waiting_unit self.new.stop ≡ None) }
-        ensures after { AfterSkip R.shares faults probe result self.old self.new }
+        ensures after { AfterSkippingLoads R.shares faults probe result self.old self.new }
     {
         loop {
             self.walk(probe, faults)?;

@@ -1,11 +1,11 @@
 //! Contexts: what lookups are made in.
 
-ghost use Rattle.std.specs.Prelude.{◌≡◌, ℕ, None, IfErr, IfOk, IsOk, Ok, OnOk, is_ok, option_map, true};
-ghost use Rattle.addr2line.specs.Common.{OutOfMemory, Exactly, ExactlyUnlessOom, IsUnlessOom, ExactlyUnlessOomIf, WasNotRefused, last_address, location_of, spans_of, AreAllParsed};
+ghost use Rattle.std.specs.Prelude.{◌≡◌, None, IfErr, IfOk, IsOk, Ok, option_map};
+ghost use Rattle.addr2line.specs.Common.{OutOfMemory, Exactly, ExactlyUnlessOom, IsUnlessOom, ExactlyUnlessOomIf, last_address, location_of, spans_of};
 ghost use Rattle.addr2line_lines.specs.LentLocation.{as_location};
 ghost use Rattle.addr2line_units.specs.UnitsIndexed.{context_takes_memory};
 ghost use Rattle.addr2line_units.specs.LocationsLeft.{locations_left};
-ghost use Rattle.addr2line.specs.Context.{main_sections, new_context, lines_of_all, AfterLookupOver, AfterRangeLookup, IsReady, IsUncovered, IsReadyForAll, IsReadyForRange, LocatesRangeNoMemory, ParsesNoMemory, ParsesToFault, Stays};
+ghost use Rattle.addr2line.specs.Context.{main_sections, new_context, lines_of_all, AfterLookupOver, AfterRangeLookup, IsReady, IsUncovered, IsReadyForRange, LocatesRangeNoMemory, AfterParsingLines};
 
 use addr2line_lines::Location;
 use addr2line_units::frames::Asks;
@@ -197,19 +197,7 @@ impl<R: Reader> Context<R> {
     /// fault.
     pub fn parse_lines(&mut self) -> Result<(), Error>
         ensures gives { IsUnlessOom result (lines_of_all self.old.sections) }
-        ensures exact { ParsesNoMemory R.shares self.old
-            → Exactly (λ x. x) result (lines_of_all self.old.sections) }
-        ensures after { Stays self.old self.new }
-        ensures steps { self.new.steps ≡ self.old.steps }
-        ensures whole { WasNotRefused result → IsReadyForAll self.new }
-        ensures memory { ParsesNoMemory R.shares self.new → WasNotRefused result }
-        ensures within { ParsesToFault self.old self.new }
-        ensures kept { IsReadyForAll self.old → self.new.parsed ≡ self.old.parsed }
-        ensures known { OnOk result (AreAllParsed self.new.parsed) }
-        ensures ready { OnOk result (((probe : ℕ) → IsReady self.new probe)
-            × ((low high : ℕ) → IsReadyForRange self.new low high)) }
-        ensures found { OnOk result ((probe : ℕ) → is_ok
-            (location_of self.new.sections probe) ≡ true) }
+        ensures after { AfterParsingLines R.shares result self.old self.new }
     {
         self.units.parse_lines()
     }

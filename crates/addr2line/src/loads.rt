@@ -1,10 +1,8 @@
 //! Answers to loads outside a lookup, and what forgets them.
 
-ghost use Rattle.std.specs.Prelude.{◌≡◌, [], IfErr, IfOk, IsOk, IsOkAnd, None, false, option_map};
-ghost use Rattle.addr2line.specs.Common.{OutOfMemory, IsUnlessOom, last_address, token_number};
-ghost use Rattle.addr2line_units.specs.LoadsMemory.{answer_takes_memory};
-ghost use Rattle.addr2line.specs.Context.{IsUncovered};
-ghost use Rattle.addr2line.specs.Loads.{AfterForgetting, AfterLoading, AfterPreload, IsNotOpen, NoneOpenAt, forget_reply, load_reply};
+ghost use Rattle.std.specs.Prelude.{◌≡◌, IfOk, option_map};
+ghost use Rattle.addr2line.specs.Common.{IsUnlessOom, token_number, result_map};
+ghost use Rattle.addr2line.specs.Loads.{AfterForgetting, forget_reply, load_reply, AfterLoadingOver, AfterPreloadCall};
 ghost use Rattle.addr2line.specs.Lookups.{loads_at};
 
 use crate::context::Context;
@@ -25,12 +23,8 @@ impl<R: Reader> Context<R> {
     pub fn preload_units(&mut self, probe: u64) -> Result<Vec<SplitDwarfLoad<R>>, Error>
         ensures gives { IfOk result (λ loads. loads.items
             ≡ loads_at self.old.sections self.old.answers probe) }
-        ensures refused { IfErr result (λ e. e ≡ OutOfMemory) }
-        ensures memory { NoneOpenAt self.old probe → IsOk result }
-        ensures last { probe ≡ last_address → IsOkAnd result (λ loads. loads.items ≡ []) }
-        ensures none { IsUncovered self.old probe
-            → IsOkAnd result (λ loads. loads.items ≡ []) }
-        ensures after { AfterPreload probe self.old self.new }
+        ensures after { AfterPreloadCall probe (result_map (λ loads. loads.items) result)
+            self.old self.new }
     {
         self.units.preload(self.ranges.find(probe))
     }
@@ -53,16 +47,8 @@ impl<R: Reader> Context<R> {
     ) -> Result<(), Error>
         ensures gives { IsUnlessOom result (load_reply self.old.sections
             self.old.answers (token_number unit) (option_map (λ d. d.value) sections)) }
-        ensures memory { IsNotOpen self.old (token_number unit) → result ≡ load_reply
-            self.old.sections self.old.answers (token_number unit)
-            (option_map (λ d. d.value) sections) }
-        ensures none { sections ≡ None → result ≡ load_reply self.old.sections
-            self.old.answers (token_number unit) None }
-        ensures exact { answer_takes_memory R.shares (option_map (λ d. d.value) sections) ≡ false
-            → result ≡ load_reply self.old.sections self.old.answers (token_number unit)
-            (option_map (λ d. d.value) sections) }
-        ensures after { AfterLoading (token_number unit) (option_map (λ d. d.value) sections) result
-            self.old self.new }
+        ensures after { AfterLoadingOver R.shares (token_number unit)
+            (option_map (λ d. d.value) sections) result self.old self.new }
     {
         self.units.load_unit(unit, sections)
     }

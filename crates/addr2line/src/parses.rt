@@ -1,9 +1,8 @@
 //! Parses of the functions of all units.
 
-ghost use Rattle.std.specs.Prelude.{◌≡◌, Err, IfErr, OnOk};
 ghost use Rattle.addr2line.specs.Common.{IsUnlessOom};
 ghost use Rattle.addr2line_units.specs.declared.parses.ReadingDepth.TheVariants as depths;
-ghost use Rattle.addr2line.specs.Loads.{AfterParse, IsAllKnown, ReachesAllOf, ReadsFunctionsNoMemory, parse_reply};
+ghost use Rattle.addr2line.specs.Loads.{parse_reply, AfterParseOver};
 
 use crate::context::Context;
 use addr2line_units::parses::ReadingDepth;
@@ -14,11 +13,7 @@ impl<R: Reader> Context<R> {
     fn read_functions(&mut self, depth: ReadingDepth) -> Result<(), Error>
         ensures gives { IsUnlessOom result
             (parse_reply depth self.old.sections self.old.answers) }
-        ensures after { AfterParse depth result self.old self.new }
-        ensures no_memory { ReadsFunctionsNoMemory R.shares depth self.new → IfErr result
-            (λ e. parse_reply depth self.old.sections self.old.answers ≡ Err e) }
-        ensures known { depth ≡ depths.Details → OnOk result (IsAllKnown self.new) }
-        ensures whole { depth ≡ depths.Details → OnOk result (ReachesAllOf self.new) }
+        ensures after { AfterParseOver R.shares depth result self.old self.new }
     {
         self.units.read_functions(depth)
     }
@@ -37,9 +32,7 @@ impl<R: Reader> Context<R> {
     pub fn parse_functions(&mut self) -> Result<(), Error>
         ensures gives { IsUnlessOom result
             (parse_reply depths.Functions self.old.sections self.old.answers) }
-        ensures after { AfterParse depths.Functions result self.old self.new }
-        ensures no_memory { ReadsFunctionsNoMemory R.shares depths.Functions self.new → IfErr result
-            (λ e. parse_reply depths.Functions self.old.sections self.old.answers ≡ Err e) }
+        ensures after { AfterParseOver R.shares depths.Functions result self.old self.new }
     {
         self.read_functions(ReadingDepth::Functions)
     }
@@ -58,11 +51,7 @@ impl<R: Reader> Context<R> {
     pub fn parse_inlined_functions(&mut self) -> Result<(), Error>
         ensures gives { IsUnlessOom result
             (parse_reply depths.Details self.old.sections self.old.answers) }
-        ensures after { AfterParse depths.Details result self.old self.new }
-        ensures no_memory { ReadsFunctionsNoMemory R.shares depths.Details self.new → IfErr result
-            (λ e. parse_reply depths.Details self.old.sections self.old.answers ≡ Err e) }
-        ensures known { OnOk result (IsAllKnown self.new) }
-        ensures whole { OnOk result (ReachesAllOf self.new) }
+        ensures after { AfterParseOver R.shares depths.Details result self.old self.new }
     {
         self.read_functions(ReadingDepth::Details)
     }

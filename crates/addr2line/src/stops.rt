@@ -1,11 +1,10 @@
 //! What the last lookup has come to, and what is lent of it.
 
 ghost use Rattle.std.specs.Prelude.{◌≡◌, IfErr, IfOk};
-ghost use Rattle.addr2line.specs.Common.{OutOfMemory, WasNotRefused, last_address, Skip, frames_left, Waits, frames_found, waiting_unit};
+ghost use Rattle.addr2line.specs.Common.{OutOfMemory, frames_left, Waits, frames_found, waiting_unit};
 ghost use Rattle.addr2line_units.specs.SupScope.{as_unit};
-ghost use Rattle.addr2line.specs.Context.{IsUncovered};
-ghost use Rattle.addr2line.specs.AfterLookups.{AfterFrames, IsKnownFew, IsStored, NeedsNoMemory};
-ghost use Rattle.addr2line.specs.Lookups.{IsFaultOfAsked, IsLoadOf, unit_value, view_found};
+ghost use Rattle.addr2line.specs.AfterLookups.{IsStored, AfterWalk};
+ghost use Rattle.addr2line.specs.Lookups.{IsLoadOf, unit_value, view_found};
 ghost use Rattle.std.specs.Prelude.{option_map};
 
 use crate::context::Context;
@@ -19,12 +18,7 @@ impl<R: Reader> Context<R> {
     // Stores what a lookup of frames or of a unit comes to. What it asks for is read and cached.
     pub(crate) fn walk(&mut self, probe: u64, faults: OnFault) -> Result<(), Error>
         ensures gives { IsStored faults probe result self.new }
-        ensures refused { faults ≡ Skip → IfErr result (λ e. e ≡ OutOfMemory) }
-        ensures last { probe ≡ last_address → IsUncovered self.old probe }
-        ensures after { AfterFrames faults probe result self.old self.new }
-        ensures memory { IsKnownFew faults self.new probe → WasNotRefused result }
-        ensures no_memory { NeedsNoMemory R.shares faults self.new probe → IfErr result
-            (IsFaultOfAsked faults self.old.sections self.old.answers probe) }
+        ensures after { AfterWalk R.shares faults probe result self.old self.new }
     {
         let ranges = self.ranges.find(probe);
         self.units.walk(ranges, probe, Asks::Frames(faults))

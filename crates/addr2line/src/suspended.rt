@@ -2,7 +2,7 @@
 
 ghost use Rattle.std.specs.Prelude.{◌≡◌, ◌<◌, None, Some, IfErr, option_map, true};
 ghost use Rattle.addr2line.specs.Common.{OutOfMemory, ExactlyUnlessOom, Skip, last_address, IfLoad, IfOutput, SkipsTo};
-ghost use Rattle.addr2line.specs.Answers.{AfterResume};
+ghost use Rattle.addr2line.specs.AfterAnswering.{AfterResume};
 ghost use Rattle.addr2line.specs.Borrowed.{RestsAs};
 ghost use Rattle.addr2line.specs.Context.{IsUncovered};
 ghost use Rattle.addr2line.specs.AfterLookups.{AfterFramesOver, IsLent, IsStored};

@@ -51,7 +51,7 @@ pub use Rattle.addr2line_units.specs.FramesCached.{IsLendable, found_after_fault
 pub use Rattle.addr2line_units.specs.EntriesFunctions.{AreFunctionsOf, ArePlacesIn, IsTableOf, ReadsNoDetail, ReadsNoOther, StayFunctions, cached_detail_takes_memory, cached_fault, cached_functions, cached_has_function, cached_takes_memory, details_at, find_takes_memory, function_of_place, functions_fault, has_detail, has_place, has_table, is_cached_fault, no_functions, place_takes_memory, reading_takes_memory, table_takes_memory, were_read}
 pub use Rattle.addr2line_units.specs.EntriesKnownCached.{known_answer, known_by, known_detail, known_fault, known_function, known_functions, known_in, known_table}
 pub use Rattle.addr2line_units.specs.UnitLinesCached.{AreLinesOf, CachesResult, HaveLinesOf, StayLines, cached_files, cached_lines, cached_lines_result, cached_ranges, cached_spans, indexed_unit, indexed_units, is_parsed, is_uncached, lines_at, lines_in_cache, lines_result, lines_result_at, no_lines, parsed_units}
-pub use Rattle.addr2line_units.specs.UnitsCached.{AreFreshOf, HaveCachesOf, IsCacheOf, answers_in, waits_at}
+pub use Rattle.addr2line_units.specs.UnitsCached.{AreFreshOf, HaveCachesOf, HaveNewCaches, IsCacheOf, answers_in, waits_at}
 pub use Rattle.addr2line_units.specs.UnitViewCached.{IsViewOf, answer_in, is_decided, parts_or_fault, answer_of_view, as_sections, split_file_by, split_file_in, split_unit, unboxed, verdict_in, view_by, waits, was_checked}
 pub use Rattle.addr2line_units.specs.Frames.{FoundFunction, FrameRecord, call_location, found_frames, found_function, frames_from, function_frame, function_from, location_frames}
 unfoldable pub use Rattle.addr2line_units.specs.Frames.{function_at}

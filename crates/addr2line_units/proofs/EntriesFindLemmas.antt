@@ -49,6 +49,14 @@ unread_has_none (lazy.Faulty x) e = cc
 read_not_refused : (x : Error) → ◌≡◌ {A = Result (Unit {0}) Error} (Err x) (Ok tt) → ⊥
 read_not_refused x e = cc
 
+-- functions are right after they were cached
+pub cached_right : {R : Type 0} (shares : Bool) (scope : Scope) (view : UnitRecord) (r : Result (Unit {0}) Error) (old new : LazyFunctions R) → AreFunctionsOf scope view old → AfterCachingFunctions shares scope view r old new → AreFunctionsOf scope view new
+cached_right shares scope view r old new before cache = by (were_read old) refl
+  where
+    by : (b : Bool) → were_read old ≡ b → AreFunctionsOf scope view new
+    by true e = subst (AreFunctionsOf scope view) (sym (cache.kept e).0) before
+    by false e = cache.right e
+
 module _ {R : Type 0} (shares : Bool) (scope : Scope) (view : UnitRecord) (probe : ℕ) (old mid : LazyFunctions R) where
   -- memory was refused for the functions
   module _ (x : Error) (cache : AfterCachingFunctions shares scope view (Err x) old mid) where
@@ -58,9 +66,9 @@ module _ {R : Type 0} (shares : Bool) (scope : Scope) (view : UnitRecord) (probe
     pub uncached_gives : ExactlyUnlessOomIf (find_takes_memory shares scope view probe old && find_takes_memory shares scope view probe mid) (found_in_cache mid) (Err x) (function_at scope view probe)
     uncached_gives = λ may. function_is scope view probe (Err x) (not_read_takes shares scope view old mid probe x were_unread cache.refused.1 cache.refused.0.0 cache.refused.0.1 may)
 
-    pub uncached_after : AfterFunction scope view probe (Err x) old mid
-    uncached_after = record {
-      right = cache.right;
+    pub uncached_after : AreFunctionsOf scope view old → AfterFunction scope view probe (Err x) old mid
+    uncached_after before = record {
+      right = cached_right shares scope view (Err x) old mid before cache;
       there = tt;
       stay = not_read_stay old mid were_unread;
       within = λ n ne. ap (λ f. cached_detail (cached_functions f) n) cache.refused.1;
@@ -69,18 +77,21 @@ module _ {R : Type 0} (shares : Bool) (scope : Scope) (view : UnitRecord) (probe
       memory = λ has few. absurd (not_read_unknown old probe were_unread (ap (cached_has_function probe) (sym cache.refused.1) ∙ has));
     }
 
-  module _ (cache : AfterCachingFunctions shares scope view (Ok tt) old mid) where
+  module _ (was_right : AreFunctionsOf scope view old) (cache : AfterCachingFunctions shares scope view (Ok tt) old mid) where
+    now_right : AreFunctionsOf scope view mid
+    now_right = cached_right shares scope view (Ok tt) old mid was_right cache
+
     kept : were_read old ≡ true → mid ≡ old
     kept read = (cache.kept read).0
 
     -- the view has none
     module _ (is : mid ≡ lazy.Absent) where
       pub absent_gives : function_at scope view probe ≡ Ok None
-      absent_gives = function_is scope view probe (Ok []) (subst (AreFunctionsOf scope view) is cache.right)
+      absent_gives = function_is scope view probe (Ok []) (subst (AreFunctionsOf scope view) is now_right)
 
       pub absent_after : AfterFunction scope view probe (Ok None) old mid
       absent_after = record {
-        right = cache.right;
+        right = now_right;
         there = tt;
         stay = cached_stay scope view old mid kept;
         within = λ n ne. cache_reads_none old mid kept cache.empty n;
@@ -92,11 +103,11 @@ module _ {R : Type 0} (shares : Bool) (scope : Scope) (view : UnitRecord) (probe
     -- they have a fault
     module _ (x : Error) (is : mid ≡ lazy.Faulty x) where
       pub faulty_gives : function_at scope view probe ≡ Err x
-      faulty_gives = function_is scope view probe (Err x) (subst (AreFunctionsOf scope view) is cache.right)
+      faulty_gives = function_is scope view probe (Err x) (subst (AreFunctionsOf scope view) is now_right)
 
       pub faulty_after : AfterFunction scope view probe (Err x) old (lazy.Faulty x)
       faulty_after = record {
-        right = subst (AreFunctionsOf scope view) is cache.right;
+        right = subst (AreFunctionsOf scope view) is now_right;
         there = tt;
         stay = stay_faulty old mid kept x is;
         within = λ n ne. none_before old mid kept x is n;
@@ -108,7 +119,7 @@ module _ {R : Type 0} (shares : Bool) (scope : Scope) (view : UnitRecord) (probe
     -- they were read
     module _ (t : Box FunctionTable Global) (is : mid ≡ lazy.Read t) where
       table : IsTableOf scope view t.value
-      table = subst (AreFunctionsOf scope view) is cache.right
+      table = subst (AreFunctionsOf scope view) is now_right
 
       -- no function is at the address
       pub nowhere_gives : None ≡ function_offset_at probe t.value.ranges → function_at scope view probe ≡ Ok None

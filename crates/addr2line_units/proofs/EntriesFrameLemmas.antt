@@ -6,13 +6,15 @@ use Rattle.addr2line_units.specs.declared.unit.LazyLines.TheVariants as lines
 use Rattle.addr2line_units.specs.declared.unit.ViewState.TheVariants as states
 use Rattle.addr2line_units.specs.declared.entries.FunctionPlace.{FunctionPlace}
 use Rattle.addr2line_units.specs.declared.entries.UnitFrames.TheVariants as found
-use Rattle.addr2line_units.specs.CacheAfter.{AfterCheck, AfterFramesIn, AfterFunction, AfterFunctionIn, AfterLinesOf}
+use Rattle.addr2line_units.specs.CacheAfter.{AfterFramesIn, AfterFunction, AfterFunctionIn, AfterLinesOf}
 use Rattle.addr2line_units.specs.EntriesFrames.{HasFewInlined}
 use Rattle.addr2line_units.specs.EntriesFunctions.{found_in_cache}
+use Rattle.addr2line_units.proofs.KeptEntries.{KeepsChecked}
+use Rattle.addr2line_units.specs.UnitLinesCached.{location_or}
 use Rattle.addr2line_units.proofs.EntriesLemmas.{IsView, checked_decides, exactly_unless_oom, fault_entries, fault_in, few_in, function_entries, function_is_in, functions_keep, functions_right, functions_stay, functions_take_in, not_open}
 use Rattle.addr2line_units.proofs.EntriesMemoryLemmas.{exactly_if_none, find_takes_none}
 use Rattle.addr2line_units.proofs.EntriesPlaceLemmas.{cached_is_not_oom, cached_unless_oom}
-use Rattle.addr2line_units.proofs.UnitLinesLemmas.{lines_fault}
+use Rattle.addr2line_units.proofs.UnitLinesLemmas.{lines_fault, location_is, memory_after, no_memory_after, own_after}
 use Rattle.addr2line_units.proofs.UnitViewLemmas.{waiting_is_open}
 
 open_by : {R : Type 0} (d : Sections) (u : UnitRecord) (s : ViewState R) → waits s ≡ true → IsViewOf d u (record { state = s }) → is_open d u (answer_in s) ≡ true
@@ -149,7 +151,7 @@ module _ {R : Type 0} (shares : Bool) (scope : Scope) (u : UnitRecord) (probe : 
     }
 
 -- the frames of a unit that was looked at
-module _ {R : Type 0} (shares : Bool) (scope : Scope) (u : UnitRecord) (probe : ℕ) (was : UnitCache R) (own : AreLinesOf scope.file.sections u was.lines.lines) (mid : EntriesCache R) (check : AfterCheck scope u was.entries mid) where
+module _ {R : Type 0} (shares : Bool) (scope : Scope) (u : UnitRecord) (probe : ℕ) (was : UnitCache R) (own : AreLinesOf scope.file.sections u was.lines.lines) (mid : EntriesCache R) (check : KeepsChecked scope u was.entries mid) where
   abbrev x : IndexedUnit
   x = indexed_unit u was.lines
 
@@ -235,13 +237,16 @@ module _ {R : Type 0} (shares : Bool) (scope : Scope) (u : UnitRecord) (probe : 
       unasked none = absurd (false≢true (sym none ∙ asked))
 
       -- the lines are refused
-      module _ (e : Error) (r : AfterLinesOf {X = Option Row} shares scope.file.sections u (Err e) was.lines l) (located : e ≢ OutOfMemory → location_in scope.file.sections probe (Some x) ≡ Err e) where
+      module _ (e : Error) (r : AfterLinesOf {X = Option Row} shares scope.file.sections u (Err e) was.lines l) (located : e ≢ OutOfMemory → location_or scope.file.sections u probe was.lines.lines ≡ Err e) where
+        in_unit : e ≢ OutOfMemory → location_in scope.file.sections probe (Some x) ≡ Err e
+        in_unit ne = sym (location_is scope.file.sections x was.lines.lines own probe) ∙ located ne
+
         pub no_lines_gives : e ≢ OutOfMemory → frames_in scope x answer probe ≡ Err e
-        no_lines_gives ne = lines_fault_frames scope x answer probe closed (found_in_cache new.functions p) (before gives) e (located ne)
+        no_lines_gives ne = lines_fault_frames scope x answer probe closed (found_in_cache new.functions p) (before gives) e (in_unit ne)
 
         pub no_lines_after : AfterFramesIn shares scope u probe (Err e) was (record { lines = l; entries = new })
         no_lines_after = record {
-          right = record { lines = r.right; entries = f.right };
+          right = record { lines = own_after own r; entries = f.right };
           there = tt;
           lines = r.stay;
           stay = stay_now f;
@@ -249,22 +254,22 @@ module _ {R : Type 0} (shares : Bool) (scope : Scope) (u : UnitRecord) (probe : 
           kept = unasked;
           ready = λ ne. f.ready tt;
           known = λ ne asks. r.known.0 ne;
-          memory = λ has parsed few. r.memory (parsed asked);
+          memory = λ has parsed few. memory_after own r (parsed asked);
           no_memory = λ none. lines_fault_frames scope x answer probe closed (found_in_cache new.functions p) (before gives) e
-              (lines_alone shares scope u answer probe l new e (location_in scope.file.sections probe (Some x)) none asked r.memory located (λ takes. lines_fault scope.file.sections probe x e (r.no_memory takes)));
+              (lines_alone shares scope u answer probe l new e (location_in scope.file.sections probe (Some x)) none asked (memory_after own r) in_unit (λ takes. lines_fault scope.file.sections probe x e (no_memory_after own r takes)));
         }
 
       -- the row is found, or there is none
-      module _ (row : Option Row) (r : AfterLinesOf shares scope.file.sections u (Ok row) was.lines l) (located : location_in scope.file.sections probe (Some x) ≡ Ok (option_map (location_of_row (cached_files l.lines)) row)) where
+      module _ (row : Option Row) (r : AfterLinesOf shares scope.file.sections u (Ok row) was.lines l) (located : location_or scope.file.sections u probe was.lines.lines ≡ Ok (option_map (location_of_row (cached_files l.lines)) row)) where
         here : (AreRead l.lines) × (frames_in scope x answer probe ≡ Ok (Some (found_frames (cached_files l.lines) x.language (found_in_cache new.functions p) (option_map (location_of_row (cached_files l.lines)) row))))
-        here = lines_frames scope x answer probe closed (found_in_cache new.functions p) (before gives) l.lines row r.right r.known located
+        here = lines_frames scope x answer probe closed (found_in_cache new.functions p) (before gives) l.lines row (own_after own r) r.known (sym (location_is scope.file.sections x was.lines.lines own probe) ∙ located)
 
         pub here_gives : frames_in scope x answer probe ≡ Ok (frames_of_place l new (found.Here p row))
         here_gives = here.1 ∙ ap (λ language. Ok (Some (found_frames (cached_files l.lines) language (found_in_cache new.functions p) (option_map (location_of_row (cached_files l.lines)) row)))) (sym r.stay.language)
 
         pub here_after : AfterFramesIn shares scope u probe (Ok (found.Here p row)) was (record { lines = l; entries = new })
         here_after = record {
-          right = record { lines = r.right; entries = f.right };
+          right = record { lines = own_after own r; entries = f.right };
           there = (f.there, here.0);
           lines = r.stay;
           stay = stay_now f;

@@ -1,7 +1,9 @@
 -- What is cached of the entries of a unit (on specs/EntriesCached.antt and specs/EntriesFrames.antt).
 use Rattle.addr2line_units.proofs.Common.{◌≡◌, ◌∙◌, ℕ, ap, sym, refl, subst, Bool, true, false, Option, Some, IfOk, IfSome, is_none, Result, Ok, Err, Error, ◌>>=◌, ExactlyUnlessOom, ExactlyUnlessOomIf, Sections, UnitRecord, functions_take_memory, exceeds_inline_room, Scope, table_same, LazyFunctions, EntriesCache, UnitView, ViewState, functions_in_take_memory, view_takes_memory, function_at, AreEntriesOf, has_answered, has_entries_by, first_answer_of, AreFunctionsOf, StayFunctions, cached_has_function, is_cached_fault, were_read, is_decided, parts_or_fault, as_sections, unboxed, verdict_in, view_by, waits, was_checked, function_by, function_in, inlined_of_unit, inlined_of_found, View, is_open, parts_of, verdict, view_scope}
 use Rattle.std.specs.Prelude.{Box}
-use Rattle.addr2line_units.specs.CacheAfter.{AfterCheck, AfterViewCheck}
+use Rattle.addr2line_units.specs.CacheAfter.{AfterCheck}
+use Rattle.addr2line_units.proofs.KeptEntries.{KeepsChecked}
+use Rattle.addr2line_units.proofs.UnitViewLemmas.{checked_is_right}
 use Rattle.std.specs.declared.alloc.Global.{Global}
 use Rattle.addr2line_units.specs.declared.entries.LazyFunctions.TheVariants as lazy
 use Rattle.addr2line_units.specs.declared.unit.ViewState.TheVariants as states
@@ -28,25 +30,29 @@ checked_decides states.Main h k = refl
 checked_decides (states.Unnamed e) h k = refl
 checked_decides (states.Answered a) h k = refl
 
-module _ {R : Type 0} (scope : Scope) (u : UnitRecord) (old : EntriesCache R) (view : UnitView R) (a : AfterViewCheck scope.file.sections u old.view view) where
-  -- after the view was looked at
-  pub check_after : AreEntriesOf scope u old → AfterCheck scope u old (record { view = view; functions = old.functions })
-  check_after h = record {
-    right = record {
-      in_order = h.in_order;
-      view = a.right;
-      functions = subst (λ o. IfSome (verdict scope.file.sections u o) (λ r. IfOk r (λ x. AreFunctionsOf (view_scope scope x) x.unit old.functions))) (sym a.answer) h.functions;
-      unread = by_check (was_checked old.view.state) refl;
-    };
-    known = a.known;
-    stay = record { answer = a.answer; view = a.kept; functions = functions_stay scope u old.functions };
-    functions = refl;
-    kept = λ checked. ap (λ v. record { view = v; functions = old.functions }) (a.kept checked);
-  }
-    where
-      by_check : (b : Bool) → was_checked old.view.state ≡ b → is_decided view.state ≡ false → were_read old.functions ≡ false
-      by_check true e waiting = h.unread (ap (λ (v : UnitView R). is_decided v.state) (sym (a.kept e)) ∙ waiting)
-      by_check false e waiting = h.unread (undecided old.view.state e)
+-- what is cached of a unit, by its view and its functions
+pub same_entries : {R : Type 0} {v w : UnitView R} {f g : LazyFunctions R} → v ≡ w → f ≡ g → ◌≡◌ {A = EntriesCache R} (record { view = v; functions = f }) (record { view = w; functions = g })
+same_entries {v = v} {g = g} e k = ap (λ y. record { view = v; functions = y }) k ∙ ap (λ y. record { view = y; functions = g }) e
+
+-- after the view was looked at
+pub keeps_checked : {R : Type 0} (scope : Scope) (u : UnitRecord) (old new : EntriesCache R) → AreEntriesOf scope u old → AfterCheck scope.file.sections u old new → KeepsChecked scope u old new
+keeps_checked {R} scope u old new h a = record {
+  right = record {
+    in_order = h.in_order;
+    view = checked_is_right scope.file.sections u old.view new.view h.view a.view;
+    functions = subst (λ f. IfSome (verdict scope.file.sections u (first_answer_of new)) (λ r. IfOk r (λ x. AreFunctionsOf (view_scope scope x) x.unit f))) (sym a.functions)
+        (subst (λ o. IfSome (verdict scope.file.sections u o) (λ r. IfOk r (λ x. AreFunctionsOf (view_scope scope x) x.unit old.functions))) (sym a.view.answer) h.functions);
+    unread = λ waiting. ap were_read a.functions ∙ by_check (was_checked old.view.state) refl waiting;
+  };
+  known = a.view.known;
+  stay = record { answer = a.view.answer; view = a.view.kept; functions = subst (λ f. StayFunctions old.functions f) (sym a.functions) (functions_stay scope u old.functions) };
+  functions = a.functions;
+  kept = λ checked. same_entries (a.view.kept checked) a.functions;
+}
+  where
+    by_check : (b : Bool) → was_checked old.view.state ≡ b → is_decided new.view.state ≡ false → were_read old.functions ≡ false
+    by_check true e waiting = h.unread (ap (λ (v : UnitView R). is_decided v.state) (sym (a.view.kept e)) ∙ waiting)
+    by_check false e waiting = h.unread (undecided old.view.state e)
 
 -- memory may be taken at any time
 pub exactly_unless_oom : {X Y : Type 0} (may : Bool) (see : X → Y) (r : Result X Error) (given : Result Y Error) → ExactlyUnlessOomIf may see r given → ExactlyUnlessOom see r given

@@ -119,14 +119,10 @@ pub map_some : {A B : Type 0} (f : A → B) (o : Option A) (y : B) → option_ma
 map_some f None y h = let bad : ⊥ = cc in absurd bad
 map_some f (Some x) y h = (x, refl, some_inj _ _ h)
 
--- an option that has nothing, and one that has something
+-- an option that has nothing
 pub no_answer : {X : Type 0} (o : Option X) → is_some o ≡ false → o ≡ None
 no_answer None e = refl
 no_answer (Some x) e = absurd cc
-
-pub answered_is_some : {X : Type 0} (o : Option X) → is_some o ≡ true → o ≡ None → ⊥
-answered_is_some None e h = cc
-answered_is_some (Some x) e h = cc
 
 -- what follows of an answer
 pub on_ok : {X E : Type 0} {P Q : Type 0} (r : Result X E) → (P → Q) → OnOk r P → OnOk r Q

@@ -51,11 +51,12 @@ module _ {R : Type 0} {scope : Scope} {cs : List (UnitCache R)} {last : FramesSt
     pub none_gives : (faults : OnFault) → stop_at (lookups.Frames faults) probe old n ≡ Ok FindsNothing
     none_gives faults = of_faults faults _ (nothing_at scope probe us cs n past)
 
-    pub none_after : (faults : OnFault) → AfterAsk {X = Unit {0}} (lookups.Frames faults) n probe (Ok tt) old (as_units_state scope cs steps FindsNothing)
-    none_after faults = record {
+    pub none_after : (shares : Bool) (faults : OnFault) → AfterAsk {X = Unit {0}} shares (lookups.Frames faults) n probe (Ok tt) old (as_units_state scope cs steps FindsNothing)
+    none_after shares faults = record {
       asked = record { scope = refl; units = refl; answers = refl; parsed = λ m e. e; known = λ m. record { at = λ p e. e; whole = λ k h. h }; only = λ m e. inl e; learns = λ m. inl refl; details = λ m o e. inl e; raised = omega arith };
       ready = λ h. ap (λ b. b && (not (asks_lines_of scope (indexed_units us cs) (answers_in cs) probe n) || has_parsed (parsed_units cs) n)) (known_is probe cs n) ∙ none_known scope probe us cs n past;
       memory = λ h. tt;
+      no_memory = λ h. tt;
       stop = tt;
     }
 
@@ -172,8 +173,9 @@ module _ {R : Type 0} {scope : Scope} {cs : List (UnitCache R)} {last : FramesSt
                 | inr h ↦ inr (ap (function_offset_of scope (indexed_units us cs) (answers_in cs) probe) is ∙ offset_is scope probe us cs n own within u c w unit at ∙ h)
               ]
 
-              pub after_asked : {X : Type 0} (q : Result X Error) → (WasNotRefused q → WasNotRefused result) → (WasNotRefused result → WasNotRefused q) → IfErr q (λ _. stop ≡ FindsNothing) → AfterAsk (lookups.Frames faults) n probe q old new
-              after_asked q before then stored = record {
+              pub after_asked : {X : Type 0} (q : Result X Error) → (WasNotRefused q → WasNotRefused result) → (WasNotRefused result → WasNotRefused q) → IfErr q (λ _. stop ≡ FindsNothing)
+                  → (takes_none_at shares (lookups.Frames faults) probe new n ≡ true → IfErr q (IsFaultAt (lookups.Frames faults) probe old n)) → AfterAsk shares (lookups.Frames faults) n probe q old new
+              after_asked q before then stored alone = record {
                 asked = record {
                   scope = refl;
                   units = units_same;
@@ -196,4 +198,5 @@ module _ {R : Type 0} {scope : Scope} {cs : List (UnitCache R)} {last : FramesSt
                 memory = λ few.
                     let both = then_known scope probe us cs n own within u c w unit at (sym all_is ∙ and_first _ _ few) in
                     then (e.memory both.0 both.1 (sym many_is ∙ and_not _ _ few));
+                no_memory = alone;
               }

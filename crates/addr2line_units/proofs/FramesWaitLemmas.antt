@@ -1,9 +1,10 @@
 -- The unit that a lookup of frames waits for has no answer yet (on specs/FramesLookup.antt and
 -- specs/UnitsCached.antt).
-use Rattle.addr2line_units.proofs.Common.{◌≡◌, ℕ, zero, suc, ◌<◌, arith, get_or, Bool, true, false, ◌&&◌, ◌||◌, List, [], ◌∷◌, length, slice_get, Option, Some, None, Result, Ok, Err, ap, refl, sym, subst, ◌∙◌, Error, ◌>>=◌, Sections, UnitRecord, Scope, OnFault, Stop, Skip, UnitRange, UnitCache, EntriesCache, ViewState, indexed_units, FrameRecord, LookupStop, Waits, Finds, FindsNothing, after_fault, asked_frames, ends_lookup, frames_of_number, holds_along, or_stop, stop_along, has_entries, first_answer_of, HaveEntriesOf, answers_in, waits_at, IsViewOf, was_checked, waits, FramesResult, frames_by, frames_in, function_in, IndexedUnit, is_open}
+use Rattle.addr2line_units.proofs.Common.{◌≡◌, ℕ, zero, suc, ◌<◌, arith, get_or, Bool, true, false, ◌&&◌, ◌||◌, List, [], ◌∷◌, length, slice_get, Option, Some, None, Result, Ok, Err, ap, refl, sym, subst, ◌∙◌, Error, ◌>>=◌, Sections, UnitRecord, Scope, OnFault, Stop, Skip, UnitRange, UnitCache, EntriesCache, ViewState, indexed_units, FrameRecord, LookupStop, Waits, Finds, FindsNothing, after_fault, asked_frames, ends_lookup, frames_of_number, holds_along, or_stop, stop_along, has_entries, first_answer_of, HaveEntriesOf, answers_in, waits_at, was_checked, FramesResult, frames_by, frames_in, function_in, IndexedUnit, is_open, verdict}
 use Rattle.std.specs.Prelude.{IfOk, IfSome, if◌then◌else◌}
 use Rattle.addr2line_units.specs.declared.unit.ViewState.TheVariants as states
 use Rattle.addr2line_units.proofs.LoadsAnswerLemmas.{got_unit, checked_waits}
+use Rattle.addr2line_units.proofs.UnitViewLemmas.{waiting_is_open}
 use Rattle.addr2line_units.proofs.Facts.{and_first, and_second}
 use Rattle.addr2line_units.proofs.CachedUnits.{HaveViewsOf, has_entries_at, has_frames_at}
 
@@ -96,14 +97,12 @@ as_many_views d [] (v ∷ vs) h = absurd h
 as_many_views d (u ∷ us) [] h = absurd h
 as_many_views d (u ∷ us) (v ∷ vs) h = ap suc (as_many_views d us vs h.1)
 
--- the view of a unit that waits
-pub waiting_view : {R : Type 0} (d : Sections) (us : List UnitRecord) (vs : List (UnitCache R)) (n : ℕ) (u : UnitRecord) (v : UnitCache R) → HaveViewsOf d us vs → waits_at vs n ≡ true
-    → u ≡ get_or us n u → v ≡ get_or vs n v → IsViewOf d u v.entries.view × (waits v.entries.view.state ≡ true)
-waiting_view d us [] n u v own w e f = absurd cc
-waiting_view d [] (y ∷ vs) n u v own w e f = absurd own
-waiting_view {R} d (x ∷ us) (y ∷ vs) zero u v own w e f =
-    (subst (λ (z : UnitCache R). IsViewOf d u z.entries.view) (sym f) (subst (λ z. IsViewOf {R = R} d z y.entries.view) (sym e) own.0), ap (λ (z : UnitCache R). waits z.entries.view.state) f ∙ w)
-waiting_view d (x ∷ us) (y ∷ vs) (suc n) u v own w e f = waiting_view d us vs n u v own.1 w e f
+-- a unit that waits is open
+pub waiting_there : {R : Type 0} (d : Sections) (us : List UnitRecord) (vs : List (UnitCache R)) (n : ℕ) (u : UnitRecord) → HaveViewsOf d us vs → waits_at vs n ≡ true → u ≡ get_or us n u → verdict d u None ≡ None
+waiting_there d us [] n u own w e = absurd cc
+waiting_there d [] (y ∷ vs) n u own w e = absurd own
+waiting_there d (x ∷ us) (y ∷ vs) zero u own w e = subst (λ z. verdict d z None ≡ None) (sym e) (waiting_is_open d x y.entries.view.state w own.0)
+waiting_there d (x ∷ us) (y ∷ vs) (suc n) u own w e = waiting_there d us vs n u own.1 w e
 
 -- what holds of the unit of a number, where a call answers
 pub of_unit_at : {X : Type 0} (us : List UnitRecord) (n : ℕ) (u : UnitRecord) (r : Result X Error) (P : X → UnitRecord → Type 0) → n < length us → u ≡ get_or us n u → IfOk r (λ x. P x u)

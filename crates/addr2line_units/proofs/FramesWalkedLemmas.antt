@@ -1,5 +1,5 @@
 -- Walks over the units of a context, one unit after another (on specs/UnitsAfter.antt).
-use Rattle.addr2line_units.proofs.Common.{◌≡◌, ◌≢◌, inl, inr, ℕ, ◌+◌, ◌≤◌, ◌&&◌, ◌||◌, Bool, true, false, not, List, [], ◌∷◌, slice_get, Some, None, Result, Ok, Err, refl, sym, ap, subst, ◌∙◌, arith, false≢true, ⊤, Error, OutOfMemory, ◌>>=◌, Scope, Asks, UnitRange, FindsNothing, Finds, LookupAsks, LookupStop, Waits, asked_of_unit, asks_lines_of, ends_lookup, found_in_unit, function_offset_of, has_stopped, holds_along, or_stop, stop_along, LearnsDetailsAt, knows_at, steps_along, steps_in, ParsesOnly, has_parsed, IndexedUnit, FramesResult, AfterAsk, stop_at, IsFaultAt, UnitsState, asked_by, has_all_at, has_asked_at, has_asked_few_at, stop_of, takes_none_at, FirstAnswers}
+use Rattle.addr2line_units.proofs.Common.{◌≡◌, ◌≢◌, inl, inr, ℕ, ◌+◌, ◌≤◌, ◌&&◌, ◌||◌, Bool, true, false, not, List, [], ◌∷◌, slice_get, Some, None, Result, Ok, Err, refl, sym, ap, subst, ◌∙◌, arith, false≢true, ⊤, IfErr, Error, OutOfMemory, ◌>>=◌, Scope, Asks, UnitRange, FindsNothing, Finds, LookupAsks, LookupStop, Waits, asked_of_unit, asks_lines_of, ends_lookup, found_in_unit, function_offset_of, has_stopped, holds_along, or_stop, stop_along, LearnsDetailsAt, knows_at, steps_along, steps_in, ParsesOnly, has_parsed, IndexedUnit, FramesResult, AfterAsk, stop_at, IsFaultAt, UnitsState, asked_by, has_all_at, has_asked_at, has_asked_few_at, stop_of, takes_none_at, FirstAnswers}
 use Rattle.addr2line_units.specs.declared.frames.Asks.TheVariants as lookups
 use Rattle.addr2line_units.specs.UnitsAfter.{AfterWalk, IsFaultAlong, WereAsked, WereAskedFor}
 use Rattle.addr2line_units.proofs.FramesLookupLemmas.{faults_there, goes_on, holds_both, holds_ended, holds_first, holds_rest, parses_more}
@@ -168,7 +168,7 @@ asked_over (lookups.Frames faults) asked k most probe old mid now w a first left
   tt,
 )
 
-module _ (asks : Asks) (probe : ℕ) (all : List UnitRange) (r : UnitRange) (rest ranges : List UnitRange) (is : ranges ≡ r ∷ rest) (old mid now : UnitsState) (w : Walked asks probe all ranges old mid) where
+module _ (shares : Bool) (asks : Asks) (probe : ℕ) (all : List UnitRange) (r : UnitRange) (rest ranges : List UnitRange) (is : ranges ≡ r ∷ rest) (old mid now : UnitsState) (w : Walked asks probe all ranges old mid) where
   abbrev frames : ℕ → FramesResult
   frames = asked_by asks probe old
 
@@ -179,7 +179,7 @@ module _ (asks : Asks) (probe : ℕ) (all : List UnitRange) (r : UnitRange) (res
   as_old : (P : Scope → List IndexedUnit → FirstAnswers → Type 0) → P mid.scope mid.units mid.answers → P old.scope old.units old.answers
   as_old = at_old mid old (scope_same asks (LookupAsks frames all) most probe old mid w.asked) (units_same asks (LookupAsks frames all) most probe old mid w.asked) (answers_same asks (LookupAsks frames all) most probe old mid w.asked)
 
-  module _ {X : Type 0} (result : Result X Error) (a : AfterAsk asks r.unit probe result mid now) where
+  module _ {X : Type 0} (result : Result X Error) (a : AfterAsk shares asks r.unit probe result mid now) where
     both : WereAskedFor asks (LookupAsks frames all) most probe old now × StepsLeftWithin asks (steps_along old.scope.file.sections old.units rest) most old now
     both = asked_over asks (LookupAsks frames all) r.unit most probe old mid now w.asked a.asked (asked_first frames r rest ranges all is w.comes) (steps_along old.scope.file.sections old.units ranges)
         (steps_along old.scope.file.sections old.units rest) w.steps (ap (steps_along old.scope.file.sections old.units) is ∙ steps_first old.scope.file.sections old.units r rest)
@@ -187,51 +187,52 @@ module _ (asks : Asks) (probe : ℕ) (all : List UnitRange) (r : UnitRange) (res
     has_more_now : (n : ℕ) → has_asked_at asks probe mid n ≡ true → has_asked_at asks probe now n ≡ true
     has_more_now = has_more asks (λ n. n ≡ r.unit) (steps_in mid.scope.file.sections (slice_get mid.units r.unit)) probe mid now a.asked
 
+    -- where the walk takes no memory, a refusal is the fault of a unit that it asks
+    alone : holds_along (takes_none_at shares asks probe now) frames all ≡ true → IfErr result (IsFaultAlong asks probe old all)
+    alone none = by result (a.no_memory (holds_first frames r rest (takes_none_at shares asks probe now) (subst (λ xs. holds_along (takes_none_at shares asks probe now) frames xs ≡ true) is (w.less (takes_none_at shares asks probe now) none))))
+      where
+        by : (q : Result X Error) → IfErr q (IsFaultAt asks probe mid r.unit) → IfErr q (IsFaultAlong asks probe old all)
+        by (Ok x) h = tt
+        by (Err e) h = (r.unit, asked_first frames r rest ranges all is w.comes, as_old (λ s us xs. found_in_unit asks s us xs probe r.unit ≡ Err e) h)
+
     -- the walk ends there
-    ended : ends_lookup (frames r.unit) ≡ true → AfterWalk asks probe all result old now
+    ended : ends_lookup (frames r.unit) ≡ true → AfterWalk shares asks probe all result old now
     ended ends = record {
       asked = both.0;
       stop = a.stop;
       ready = λ told. w.more (has_asked_at asks probe now) has_more_now (subst (λ xs. holds_along (has_asked_at asks probe now) frames xs ≡ true) (sym is) (holds_ended frames r rest (has_asked_at asks probe now) (a.ready told) ends));
       memory = λ few. a.memory (holds_first frames r rest (has_asked_few_at asks probe now) (subst (λ xs. holds_along (has_asked_few_at asks probe now) frames xs ≡ true) is (w.less (has_asked_few_at asks probe now) few)));
+      no_memory = alone;
     }
 
   here : (P : FramesResult → Type 0) → P (asked_by asks probe mid r.unit) → P (frames r.unit)
   here P h = as_old (λ s us xs. P (asked_of_unit asks s us xs probe r.unit)) h
 
   -- a fault ends it
-  module _ {X : Type 0} (e : Error) (a : AfterAsk {X = X} asks r.unit probe (Err e) mid now) (gives : e ≢ OutOfMemory → stop_at asks probe mid r.unit ≡ Err e) where
+  module _ {X : Type 0} (e : Error) (a : AfterAsk {X = X} shares asks r.unit probe (Err e) mid now) (gives : e ≢ OutOfMemory → stop_at asks probe mid r.unit ≡ Err e) where
     frames_err : e ≢ OutOfMemory → frames r.unit ≡ Err e
     frames_err ne = step_err r.unit e (frames r.unit) (here (λ x. (x >>= or_stop r.unit (Ok FindsNothing)) ≡ Err e) (gives ne))
 
     pub fault_gives : e ≢ OutOfMemory → stop_of asks probe old all ≡ Err e
     fault_gives ne = sym w.rest_is ∙ ap (stop_along frames) is ∙ faults_there frames r rest e (frames_err ne)
 
-    -- where the walk takes no memory, the refusal is the fault of a unit that it asks
-    pub fault_alone : (shares : Bool) → (takes_none_at shares asks probe now r.unit ≡ true → IsFaultAt asks probe mid r.unit e) → holds_along (takes_none_at shares asks probe now) frames all ≡ true → IsFaultAlong asks probe old all e
-    fault_alone shares alone none = (
-      r.unit,
-      asked_first frames r rest ranges all is w.comes,
-      as_old (λ s us xs. found_in_unit asks s us xs probe r.unit ≡ Err e)
-          (alone (holds_first frames r rest (takes_none_at shares asks probe now) (subst (λ xs. holds_along (takes_none_at shares asks probe now) frames xs ≡ true) is (w.less (takes_none_at shares asks probe now) none)))),
-    )
-
-    pub fault_after : AfterWalk {X = X} asks probe all (Err e) old now
+    pub fault_after : AfterWalk {X = X} shares asks probe all (Err e) old now
     fault_after = record {
       asked = (both (Err e) a).0;
       stop = a.stop;
       ready = λ told. (ended (Err e) a (ap ends_lookup (frames_err told))).ready told;
       memory = λ few. a.memory (holds_first frames r rest (has_asked_few_at asks probe now) (subst (λ xs. holds_along (has_asked_few_at asks probe now) frames xs ≡ true) is (w.less (has_asked_few_at asks probe now) few)));
+      no_memory = alone (Err e) a;
     }
 
-  module _ {X : Type 0} (x : X) (a : AfterAsk {X = X} asks r.unit probe (Ok x) mid now) (gives : stop_at asks probe mid r.unit ≡ Ok now.stop) where
+  module _ {X : Type 0} (x : X) (a : AfterAsk {X = X} shares asks r.unit probe (Ok x) mid now) (gives : stop_at asks probe mid r.unit ≡ Ok now.stop) where
     gave : (frames r.unit >>= or_stop r.unit (Ok FindsNothing)) ≡ Ok now.stop
     gave = here (λ y. (y >>= or_stop r.unit (Ok FindsNothing)) ≡ Ok now.stop) gives
 
     pub stop_gives : has_stopped now.stop ≡ true → stop_of asks probe old all ≡ Ok now.stop
     stop_gives k = sym w.rest_is ∙ ap (stop_along frames) is ∙ (step_stop r.unit now.stop (frames r.unit) gave k).1 (stop_along frames rest)
 
-    pub stop_after : has_stopped now.stop ≡ true → AfterWalk {X = X} asks probe all (Ok x) old now
+    pub stop_after : has_stopped now.stop ≡ true → AfterWalk {X = X} shares asks probe all (Ok x) old now
     stop_after k = ended (Ok x) a (step_stop r.unit now.stop (frames r.unit) gave k).0
 
     pub walked_on : has_stopped now.stop ≡ false → Walked asks probe all rest old now
@@ -252,11 +253,3 @@ module _ (asks : Asks) (probe : ℕ) (all : List UnitRange) (r : UnitRange) (res
 module _ (asks : Asks) (probe : ℕ) (all ranges : List UnitRange) (is : ranges ≡ []) (old now : UnitsState) (w : Walked asks probe all ranges old now) where
   pub end_gives : stop_of asks probe old all ≡ Ok now.stop
   end_gives = sym w.rest_is ∙ ap (stop_along (asked_by asks probe old)) is ∙ ap (λ s. Ok s) (sym w.stop)
-
-  pub end_after : AfterWalk {X = Unit {0}} asks probe all (Ok tt) old now
-  end_after = record {
-    asked = w.asked;
-    stop = tt;
-    ready = λ told. w.more (has_asked_at asks probe now) (λ n e. e) (ap (holds_along (has_asked_at asks probe now) (asked_by asks probe old)) is);
-    memory = λ few. tt;
-  }

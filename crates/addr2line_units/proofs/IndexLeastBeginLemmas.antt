@@ -1,8 +1,7 @@
 -- Least begins beside ranges (on specs/IndexLeastBegins.antt).
-use Rattle.addr2line_units.proofs.Common.{ℕ, ◌≡◌, ◌-◌, ◌<◌, ◌≤◌, Bool, true, false, cond, ◌&&◌, nat_le, nat_lt, nat_cmp, leb, min, List, [], ◌∷◌, ◌++◌, Result, Ok, map, length, take, drop, reverse, arith, ◌∙◌, ap, sym, subst, refl, zero, suc, AllByRecursion, IsNonDecreasingBy, IsPartitionPoint, nat_tests, reverse-append, Error, IsInOrder, in_order, in_order_ordered, UnitRange}
+use Rattle.addr2line_units.proofs.Common.{ℕ, ◌≡◌, ◌-◌, ◌<◌, ◌≤◌, Bool, true, false, cond, ◌&&◌, nat_le, nat_lt, nat_cmp, leb, min, List, [], ◌∷◌, ◌++◌, Result, Ok, map, length, take, drop, reverse, arith, ◌∙◌, ap, sym, subst, refl, zero, suc, AllByRecursion, IsNonDecreasingBy, IsPartitionPoint, nat_tests, Error, IsInOrder, in_order, in_order_ordered, UnitRange}
 use Rattle.std.specs.List.{filter}
 use Rattle.std.specs.Ordering.{is_lt, ordering_then}
-use Rattle.std.proofs.lemmas.List.{append-nil, append_assoc}
 use Rattle.addr2line_lines.proofs.SeekLemmas.{Up, non_decreasing}
 use Rattle.addr2line_lines.specs.LastAddress.{last_address}
 use Rattle.addr2line_units.specs.declared.index.IndexedRange.{IndexedRange}
@@ -18,29 +17,6 @@ pub record IsMade (all left : List UnitRange) (made : List IndexedRange) (least 
   pub made_are : made ≡ reverse (with_least_begins taken)
   pub least_is : least ≡ least_begin taken
   pub fit : AllByRecursion EndFits taken
-
-pub none_made : (all : List UnitRange) → IsMade all all [] last_address
-none_made all = record { taken = []; all_are = append-nil all; made_are = refl; least_is = refl; fit = tt }
-
-pub one_made : (all left rest : List UnitRange) (made : List IndexedRange) (least : ℕ) (x : UnitRange) → IsMade all left made least → left ≡ rest ++ x ∷ []
-    → (y : IndexedRange) → y.unit_range ≡ x → y.least_begin ≡ min least x.range.begin → EndFits x → IsMade all rest (made ++ y ∷ []) y.least_begin
-one_made all left rest made least x h e y same is small =
-    let now : y.least_begin ≡ min (least_begin h.taken) x.range.begin = is ∙ ap (λ m. min m x.range.begin) h.least_is in
-    let last : IndexedRange = record { unit_range = x; least_begin = min (least_begin h.taken) x.range.begin } in
-    record {
-      taken = x ∷ h.taken;
-      all_are = sym (append_assoc rest (x ∷ []) h.taken) ∙ ap (λ xs. xs ++ h.taken) (sym e) ∙ h.all_are;
-      made_are = ap (λ z. made ++ z ∷ []) (parts_are y last same now) ∙ ap (λ xs. xs ++ last ∷ []) h.made_are ∙ sym (reverse-append (last ∷ []) (with_least_begins h.taken));
-      least_is = now;
-      fit = (small, h.fit);
-    }
-  where
-    parts_are : (y z : IndexedRange) → y.unit_range ≡ z.unit_range → y.least_begin ≡ z.least_begin → y ≡ z
-    parts_are y z e f = ap (λ (r : UnitRange). record { unit_range = r; least_begin = y.least_begin }) e ∙ ap (λ n. record { unit_range = z.unit_range; least_begin = n }) f
-
--- once none is left, all were taken
-pub all_fit : (all left : List UnitRange) (made : List IndexedRange) (least : ℕ) → left ≡ [] → IsMade all left made least → AllByRecursion EndFits all
-all_fit all left made least e h = subst (AllByRecursion EndFits) (sym (ap (λ xs. xs ++ h.taken) e) ∙ h.all_are) h.fit
 
 -- what stands beside ranges with their least begins
 pub ranges_beside : (ranges : List UnitRange) → map unit_range_of (with_least_begins ranges) ≡ ranges

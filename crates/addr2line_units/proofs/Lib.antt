@@ -31,6 +31,7 @@ pub mod FramesDecidedLemmas
 pub mod EntriesKnownTableLemmas
 pub mod EntriesKnownLemmas
 pub mod CachedUnits
+pub mod KeptEntries
 pub mod Facts
 pub mod UnitsCachedLemmas
 pub mod ParsesLemmas

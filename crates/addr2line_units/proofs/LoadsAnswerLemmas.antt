@@ -1,15 +1,19 @@
 -- Answers to the loads of units, and what is cached of their entries (on specs/EntriesCached.antt).
-use Rattle.addr2line_units.proofs.Common.{◌≡◌, ℕ, zero, suc, ◌<◌, Bool, true, false, List, [], ◌∷◌, length, get_or, slice_get, arith, Option, Some, None, Result, Ok, Err, ap, refl, sym, ◌∙◌, set, false≢true, IfErr, OnOk, Error, OutOfMemory, Sections, UnitRecord, IsScope, Scope, LazyFunctions, UnitCache, EntriesCache, UnitView, ViewState, answer_of, with_answer, AreEntriesOf, StayEntries, first_answer_of, AreFunctionsOf, were_read, answers_in, IsViewOf, is_decided, answer_of_view, verdict_in, waits, was_checked, FirstAnswers, View, decided_answer, is_open, verdict, view_scope}
+use Rattle.addr2line_units.proofs.Common.{◌≡◌, ℕ, zero, suc, ◌<◌, Bool, true, false, List, [], ◌∷◌, length, get_or, slice_get, arith, Option, Some, None, Result, Ok, Err, ap, refl, sym, subst, ◌∙◌, set, false≢true, IfErr, OnOk, Error, OutOfMemory, Sections, UnitRecord, IsScope, Scope, LazyFunctions, UnitCache, EntriesCache, UnitView, ViewState, answer_of, with_answer, AreEntriesOf, StayEntries, first_answer_of, AreFunctionsOf, were_read, answers_in, IsViewOf, is_decided, answer_of_view, verdict_in, waits, was_checked, FirstAnswers, View, decided_answer, is_open, verdict, view_scope, fault_of, view_fault}
 use Rattle.std.specs.Prelude.{IfOk, IfSome, is_none, is_some, if◌then◌else◌}
 use Rattle.addr2line_units.specs.declared.entries.LazyFunctions.TheVariants as lazy
 use Rattle.addr2line_units.specs.declared.unit.ViewState.TheVariants as states
-use Rattle.addr2line_units.specs.CacheAfter.{AfterAnswerIn, AfterCheck}
-use Rattle.addr2line_units.proofs.EntriesLemmas.{checked_decides}
+use Rattle.addr2line_units.specs.CacheAfter.{AfterAnswerIn, AfterForgettingIn, AfterViewAnswer}
+use Rattle.addr2line_units.proofs.KeptEntries.{KeepsAnswered, KeepsChecked, KeepsForgotten}
+use Rattle.addr2line_units.specs.LoadsMemory.{answer_takes_memory}
+use Rattle.addr2line_units.specs.UnitView.{answered_view}
+use Rattle.addr2line_units.proofs.EntriesLemmas.{checked_decides, keeps_checked}
+use Rattle.addr2line_units.proofs.UnitViewLemmas.{answered_is_right, decided_by_verdict, verdict_of_open, waiting_is_open, waiting_is_right}
 use Rattle.addr2line_units.proofs.UnitsCachedLemmas.{stay_entries_set}
 use Rattle.addr2line_units.proofs.CachedUnits.{StayAllEntries, decided_at}
 
 -- what waits isn't decided
-pub waiting_is_undecided : {R : Type 0} (s : ViewState R) → waits s ≡ true → is_decided s ≡ false
+waiting_is_undecided : {R : Type 0} (s : ViewState R) → waits s ≡ true → is_decided s ≡ false
 waiting_is_undecided states.Undecided e = refl
 waiting_is_undecided states.Open e = refl
 waiting_is_undecided states.Main e = absurd cc
@@ -23,7 +27,7 @@ unread_are scope u (lazy.Read t) e = absurd cc
 unread_are scope u (lazy.Faulty x) e = absurd cc
 
 -- where no functions were read the view is all that is cached
-pub unread_entries : {R : Type 0} (scope : Scope) (u : UnitRecord) (v : UnitView R) (f : LazyFunctions R) → IsScope scope → IsViewOf scope.file.sections u v → were_read f ≡ false
+unread_entries : {R : Type 0} (scope : Scope) (u : UnitRecord) (v : UnitView R) (f : LazyFunctions R) → IsScope scope → IsViewOf scope.file.sections u v → were_read f ≡ false
     → AreEntriesOf scope u (record { view = v; functions = f })
 unread_entries {R} scope u v f order h e = record { in_order = order; view = h; functions = by (verdict scope.file.sections u (answer_of_view v)); unread = λ k. e }
   where
@@ -76,9 +80,9 @@ never_waits v w b h same e t =
     let k : true ≡ false = sym t ∙ e ∙ f in cc
 
 -- a unit that was looked at is answered
-module _ {R : Type 0} (scope : Scope) (u : UnitRecord) (given : Option Sections) (old mid : EntriesCache R) (check : AfterCheck scope u old mid) where
+module _ {R : Type 0} (shares : Bool) (scope : Scope) (u : UnitRecord) (given : Option Sections) (old mid : EntriesCache R) (check : KeepsChecked scope u old mid) where
   -- it doesn't wait
-  pub shut_after : waits mid.view.state ≡ false → AfterAnswerIn scope u given (Ok tt) old mid
+  shut_after : waits mid.view.state ≡ false → KeepsAnswered shares scope u given (Ok tt) old mid
   shut_after shut = record {
     right = check.right;
     answer = check.stay.answer ∙ sym (decided_if_not scope.file.sections u (first_answer_of old) given (open_by_check scope.file.sections u old.view mid.view false check.right.view check.known check.stay.answer (sym shut)));
@@ -87,6 +91,7 @@ module _ {R : Type 0} (scope : Scope) (u : UnitRecord) (given : Option Sections)
     functions = check.functions;
     kept = λ h. (check.kept (decided_was_checked old.view.state h), refl);
     none = λ _. refl;
+    no_memory = λ takes. tt;
   }
 
   -- it waits
@@ -94,10 +99,10 @@ module _ {R : Type 0} (scope : Scope) (u : UnitRecord) (given : Option Sections)
     never_decided : is_decided old.view.state ≡ true → ⊥
     never_decided h = never_waits old mid true h check.kept (sym waiting) refl
 
-    pub was_open : is_open scope.file.sections u (first_answer_of old) ≡ true
+    was_open : is_open scope.file.sections u (first_answer_of old) ≡ true
     was_open = open_by_check scope.file.sections u old.view mid.view true check.right.view check.known check.stay.answer (sym waiting)
 
-    pub decided_after : (view : UnitView R) → IsViewOf scope.file.sections u view → answer_of_view view ≡ Some given → is_decided view.state ≡ true → AfterAnswerIn scope u given (Ok tt) old (record { view = view; functions = mid.functions })
+    decided_after : (view : UnitView R) → IsViewOf scope.file.sections u view → answer_of_view view ≡ Some given → is_decided view.state ≡ true → KeepsAnswered shares scope u given (Ok tt) old (record { view = view; functions = mid.functions })
     decided_after view right answer known = record {
       right = unread_entries scope u view mid.functions check.right.in_order right (check.right.unread (waiting_is_undecided mid.view.state waiting));
       answer = answer ∙ sym (decided_if_open scope.file.sections u (first_answer_of old) given was_open);
@@ -106,10 +111,11 @@ module _ {R : Type 0} (scope : Scope) (u : UnitRecord) (given : Option Sections)
       functions = check.functions;
       kept = λ h. absurd (never_decided h);
       none = λ shut. absurd (false≢true (sym shut ∙ was_open));
+      no_memory = λ takes. tt;
     }
 
-    pub undecided_after : (e : Error) → e ≡ OutOfMemory → is_some given ≡ true → AfterAnswerIn scope u given (Err e) old mid
-    undecided_after e oom some = record {
+    undecided_after : (e : Error) → e ≡ OutOfMemory → is_some given ≡ true → (answer_takes_memory shares given ≡ false → answered_view scope.file.sections u given ≡ Err e) → KeepsAnswered shares scope u given (Err e) old mid
+    undecided_after e oom some fault = record {
       right = check.right;
       answer = tt;
       known = tt;
@@ -117,7 +123,41 @@ module _ {R : Type 0} (scope : Scope) (u : UnitRecord) (given : Option Sections)
       functions = check.functions;
       kept = λ h. absurd (never_decided h);
       none = λ shut. absurd (false≢true (sym shut ∙ was_open));
+      no_memory = λ takes. ap (λ a. view_fault (verdict scope.file.sections u a)) (decided_if_open scope.file.sections u (first_answer_of old) given was_open)
+          ∙ ap view_fault (verdict_of_open scope.file.sections u given (waiting_is_open scope.file.sections u mid.view.state waiting check.right.view)) ∙ ap (λ (r : Result View Error). fault_of r) (fault takes);
     }
+
+    answered_after : (result : Result (Unit {0}) Error) (view : UnitView R) → AfterViewAnswer shares scope.file.sections u given result mid.view view → KeepsAnswered shares scope u given result old (record { view = view; functions = mid.functions })
+    answered_after (Ok tt) view a = decided_after view (answered_is_right scope.file.sections u given view (waiting_is_open scope.file.sections u mid.view.state waiting check.right.view) a.answer a.read) a.answer
+        (decided_by_verdict scope.file.sections u view.state (answered_view scope.file.sections u given) a.read)
+    answered_after (Err e) view a = subst (λ v. KeepsAnswered shares scope u given (Err e) old (record { view = v; functions = mid.functions })) (sym a.refused.1) (undecided_after e a.refused.0 a.refused.2 a.no_memory)
+
+-- after an answer
+pub keeps_answered : {R : Type 0} (shares : Bool) (scope : Scope) (u : UnitRecord) (given : Option Sections) (result : Result (Unit {0}) Error) (old new : EntriesCache R) → AreEntriesOf scope u old → AfterAnswerIn shares scope.file.sections u given result old new → KeepsAnswered shares scope u given result old new
+keeps_answered {R} shares scope u given result old new h a = subst (λ f. KeepsAnswered shares scope u given result old (record { view = new.view; functions = f })) (sym a.functions) (by (waits a.between.state) refl)
+  where
+    mid : EntriesCache R
+    mid = record { view = a.between; functions = old.functions }
+
+    check : KeepsChecked scope u old mid
+    check = keeps_checked scope u old mid h (record { view = a.check; functions = refl })
+
+    by : (b : Bool) → waits a.between.state ≡ b → KeepsAnswered shares scope u given result old (record { view = new.view; functions = old.functions })
+    by true e = answered_after shares scope u given old mid check e result new.view (a.answer e)
+    by false e =
+        let none = a.none e in
+        subst (λ r. KeepsAnswered shares scope u given r old (record { view = new.view; functions = old.functions })) (sym none.1)
+        (subst (λ v. KeepsAnswered shares scope u given (Ok tt) old (record { view = v; functions = old.functions })) (sym none.0) (shut_after shares scope u given old mid check e))
+
+-- after the answer was forgotten
+pub keeps_forgotten : {R : Type 0} (scope : Scope) (u : UnitRecord) (old new : EntriesCache R) → AreEntriesOf scope u old → AfterForgettingIn old new → KeepsForgotten scope u old new
+keeps_forgotten {R} scope u old new h a = record { right = by (first_answer_of old) refl; answer = a.view.answer; kept = a.kept; empty = a.empty }
+  where
+    by : (o : Option (Option Sections)) → first_answer_of old ≡ o → AreEntriesOf scope u new
+    by None e = subst (AreEntriesOf scope u) (sym (a.kept e)) h
+    by (Some x) e =
+        let some : is_some (first_answer_of old) ≡ true = ap is_some e in
+        unread_entries scope u new.view new.functions h.in_order (waiting_is_right scope.file.sections u new.view (a.view.opens some) a.view.answer (h.view.waited some)) (a.empty some)
 
 -- the first answer of the unit of a number
 pub answer_at : {R : Type 0} (vs : List (UnitCache R)) (n : ℕ) (v : UnitCache R) → n < length vs → v ≡ get_or vs n v → answer_of (answers_in vs) n ≡ first_answer_of v.entries

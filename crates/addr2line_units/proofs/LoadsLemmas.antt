@@ -1,13 +1,17 @@
 -- Answers to the loads of units, and the loads that are listed (on specs/Loads.antt and
 -- specs/LoadsListed.antt).
-use Rattle.addr2line_units.proofs.Common.{◌≡◌, ℕ, zero, suc, ◌<◌, ◌==◌, ◌++◌, not, cond, Bool, true, false, List, [], ◌∷◌, filter, length, get_or, slice_get, arith, subst, Option, Some, None, Result, Ok, Err, ap, refl, sym, ◌∙◌, set, Error, UnknownToken, ◌>>=◌, ExactlyUnlessOom, Section, Sections, UnitRecord, UnitCache, answer_of, with_answer, first_answer_of, answers_in, parts_or_fault, before_others, forget_result, is_of_other, load_of_number, load_result, unit_of_token, view_fault, FirstAnswers, SplitLoad, View, awaited_by, awaited_load, decided_answer, is_open, load_by, load_of_unit, split_name_of, verdict, verdict_by}
+use Rattle.addr2line_units.proofs.Common.{◌≡◌, ℕ, zero, suc, ◌<◌, ◌==◌, ◌++◌, not, cond, Bool, true, false, List, [], ◌∷◌, filter, length, get_or, slice_get, arith, subst, Option, Some, None, Result, Ok, Err, ap, refl, sym, ◌∙◌, set, Error, UnknownToken, ◌>>=◌, ExactlyUnlessOom, Section, Sections, UnitRecord, UnitCache, answer_of, with_answer, first_answer_of, answers_in, parts_or_fault, before_others, forget_result, is_of_other, load_of_number, load_result, unit_of_token, view_fault, FirstAnswers, SplitLoad, View, awaited_by, awaited_load, decided_answer, is_open, load_by, load_of_unit, split_name_of, verdict, verdict_by, AreEntriesOf, EntriesCache, OnOk, Scope, false≢true, waits, ⊎_elim, memory_or_not}
 use Rattle.std.proofs.lemmas.List.{append_assoc}
 use Rattle.std.specs.Option.{option_to_list}
 use Rattle.std.specs.Prelude.{IfSome, is_none, is_some, if◌then◌else◌}
 use Rattle.gimli.specs.declared.unit.DwoId.{DwoId}
 use Rattle.addr2line_units.specs.LoadsListed.{MarksLoad, MarksUnit, if_new, is_marked, is_new}
-use Rattle.addr2line_units.proofs.LoadsAnswerLemmas.{answer_at}
-use Rattle.addr2line_units.proofs.Facts.{both_or, filter_all, filter_twice, slice_get_none}
+use Rattle.addr2line_units.specs.CacheAfter.{AfterCheck, AfterNewLoadIn, load_unless_marked}
+use Rattle.addr2line_units.proofs.KeptEntries.{KeepsChecked, KeepsListed}
+use Rattle.addr2line_units.proofs.EntriesLemmas.{keeps_checked}
+use Rattle.addr2line_units.proofs.UnitViewLemmas.{open_has_load, open_has_no_fault, waiting_is_open}
+use Rattle.addr2line_units.proofs.LoadsAnswerLemmas.{answer_at, open_by_check}
+use Rattle.addr2line_units.proofs.Facts.{both_or, filter_all, filter_twice, no_answer}
 
 -- a view with a unit has no fault
 pub no_view_fault : (w : Option (Result View Error)) (p : Sections × UnitRecord) → IfSome w (λ r. parts_or_fault r ≡ Ok p) → view_fault w ≡ Ok tt
@@ -33,18 +37,8 @@ this_unit us n u e = by (slice_get us n) e
 pub unknown_load : (d : Sections) (us : List UnitRecord) (answers : FirstAnswers) (n : ℕ) (given : Option Sections) → slice_get us n ≡ None → load_result d us answers n given ≡ Err UnknownToken
 unknown_load d us answers n given e = ap (λ r. r >>= λ u. view_fault (verdict d u (decided_answer d u (answer_of answers n) given))) (no_unit us n e)
 
-pub unknown_forget : (us : List UnitRecord) (n : ℕ) → slice_get us n ≡ None → forget_result us n ≡ Err UnknownToken
-unknown_forget us n e = ap (λ r. r >>= λ _. Ok tt) (no_unit us n e)
-
 pub known_forget : (us : List UnitRecord) (n : ℕ) (u : UnitRecord) → slice_get us n ≡ Some u → forget_result us n ≡ Ok tt
 known_forget us n u e = ap (λ r. r >>= λ _. Ok tt) (this_unit us n u e)
-
-pub known_forget_within : (us : List UnitRecord) (n : ℕ) → n < length us → forget_result us n ≡ Ok tt
-known_forget_within us n h = by (slice_get us n) refl
-  where
-    by : (o : Option UnitRecord) → slice_get us n ≡ o → forget_result us n ≡ Ok tt
-    by None e = absurd (let k = slice_get_none us n e in omega (arith, h, k))
-    by (Some u) e = known_forget us n u e
 
 pub unknown_answer : (d : Sections) (us : List UnitRecord) (answers : FirstAnswers) (n : ℕ) (given : Option Sections) → slice_get us n ≡ None → with_answer d us answers n given ≡ answers
 unknown_answer d us answers n given e = by (slice_get us n) e
@@ -77,17 +71,6 @@ load_gives d us answers after n given u e h same =
 pub as_many_answers : {R : Type 0} (vs : List (UnitCache R)) → length (answers_in vs) ≡ length vs
 as_many_answers [] = refl
 as_many_answers (v ∷ vs) = ap suc (as_many_answers vs)
-
--- the same by a call that gives the fault
-pub load_gives_within : {R : Type 0} (d : Sections) (us later : List UnitRecord) (vs ws : List (UnitCache R)) (n : ℕ) (given : Option Sections) (r : Result (Unit {0}) Error) → n < length us → length us ≡ length vs → later ≡ us
-    → answers_in ws ≡ with_answer d us (answers_in vs) n given → ((u : UnitRecord) → slice_get later n ≡ Some u → r ≡ view_fault (verdict d u (answer_of (answers_in ws) n))) → r ≡ load_result d us (answers_in vs) n given
-load_gives_within d us later vs ws n given r h many e same gives = by (slice_get us n) refl
-  where
-    by : (o : Option UnitRecord) → slice_get us n ≡ o → r ≡ load_result d us (answers_in vs) n given
-    by None k = absurd (let l = slice_get_none us n k in omega (arith, h, l))
-    by (Some u) k =
-        let m = as_many_answers vs in
-        gives u (ap (λ xs. slice_get xs n) e ∙ k) ∙ sym (load_gives d us (answers_in vs) (answers_in ws) n given u k (omega (arith, h, many, m)) same)
 
 pub exactly_this : {X : Type 0} (r given : Result X Error) → r ≡ given → ExactlyUnlessOom (λ x. x) r given
 exactly_this (Ok x) given e = sym e
@@ -144,6 +127,74 @@ module _ (marks : List Bool) (n : ℕ) where
 
 pub marks_none : (marks : List Bool) (o : Option SplitLoad) → o ≡ None → MarksLoad o marks marks
 marks_none marks o e = subst (λ x. MarksLoad x marks marks) (sym e) refl
+
+-- after the load of the unit of a number was looked for
+module _ {R : Type 0} (scope : Scope) (n : ℕ) (u : UnitRecord) (marks marked : List Bool) (old new : EntriesCache R) (h : AreEntriesOf scope u old) where
+  abbrev d : Sections
+  d = scope.file.sections
+
+  abbrev awaited : Option SplitLoad
+  awaited = awaited_load d n u (first_answer_of old)
+
+  module _ (check : AfterCheck d u old new) where
+    checked : KeepsChecked scope u old new
+    checked = keeps_checked scope u old new h check
+
+    -- it doesn't wait
+    not_listed : waits new.view.state ≡ false → KeepsListed scope n u marks marks (Ok None) old new
+    not_listed shut =
+        let was = open_by_check d u old.view new.view false checked.right.view checked.known checked.stay.answer (sym shut) in
+        let none : awaited ≡ None = no_answer awaited (sym (open_awaits d n u (first_answer_of old)) ∙ was) in
+        record { checked = checked; gives = sym (ap (if_new marks) none); marks_load = marks_none marks awaited none; none = λ _. refl; refused = tt }
+
+    -- it waits
+    module _ (waiting : waits new.view.state ≡ true) where
+      was_open : is_open d u (first_answer_of old) ≡ true
+      was_open = open_by_check d u old.view new.view true checked.right.view checked.known checked.stay.answer (sym waiting)
+
+      some : is_some awaited ≡ true
+      some = sym (open_awaits d n u (first_answer_of old)) ∙ was_open
+
+      no_verdict : verdict d u None ≡ None
+      no_verdict = waiting_is_open d u new.view.state waiting checked.right.view
+
+      given : (b : Bool) (l : Option SplitLoad) → is_marked marks n ≡ b → (if b then Ok None else load_of_unit d n u) ≡ Ok l → l ≡ if_new marks awaited
+      given true l m e =
+          let none : l ≡ None = cc in
+          none ∙ sym (not_new marks n awaited some (awaited_unit d n u (first_answer_of old)) (ap not m))
+      given false None m e = absurd (open_has_load d n u no_verdict e)
+      given false (Some l) m e =
+          let this : awaited ≡ Some l = awaits_this d n u (first_answer_of old) l e some in
+          sym (ap (if_new marks) this ∙ is_new_load marks n l (awaited_unit d n u (first_answer_of old) l this) (ap not m))
+
+      never_faulty : (b : Bool) (e : Error) → (if b then Ok None else load_of_unit d n u) ≡ Err e → ⊥
+      never_faulty true e k = cc
+      never_faulty false e k = open_has_no_fault d n u e no_verdict k
+
+      listed : (r : Result (Option SplitLoad) Error) → ExactlyUnlessOom (λ l. l) r (load_unless_marked d n u marks) → OnOk r (MarksUnit n marks marked) → KeepsListed scope n u marks marked r old new
+      listed (Ok l) e m = record {
+        checked = checked;
+        gives = given (is_marked marks n) l refl e;
+        marks_load = marks_load marks n marked awaited some (awaited_unit d n u (first_answer_of old)) m;
+        none = λ shut. absurd (false≢true (sym shut ∙ was_open));
+        refused = tt;
+      }
+      listed (Err x) e m = record {
+        checked = checked;
+        gives = tt;
+        marks_load = tt;
+        none = λ shut. absurd (false≢true (sym shut ∙ was_open));
+        refused = ⊎_elim (λ p. p) (λ q. absurd (never_faulty (is_marked marks n) x (e q))) (memory_or_not x);
+      }
+
+  pub keeps_listed : (r : Result (Option SplitLoad) Error) → AfterNewLoadIn d n u marks marked r old new → KeepsListed scope n u marks marked r old new
+  keeps_listed r a = by (waits new.view.state) refl
+    where
+      by : (b : Bool) → waits new.view.state ≡ b → KeepsListed scope n u marks marked r old new
+      by true e = listed a.check e r (a.load e) (a.marks_unit e)
+      by false e =
+          let none = a.none e in
+          subst (λ x. KeepsListed scope n u marks marked x old new) (sym none.0) (subst (λ m. KeepsListed scope n u marks m (Ok None) old new) (sym none.1) (not_listed a.check e))
 
 pub none_marked : (loads : List SplitLoad) → filter (is_new []) loads ≡ loads
 none_marked loads = filter_all (is_new []) (λ x. refl) loads

@@ -1,7 +1,6 @@
 -- Units that aren't open (on specs/Loads.antt).
-use Rattle.addr2line_units.proofs.Common.{◌≡◌, ℕ, get_or, Bool, true, false, List, length, ◌<◌, slice_get, Option, Some, None, sym, ap, ◌∙◌, Sections, UnitRecord, UnitCache, UnitView, answer_of, first_answer_of, answers_in, IsViewOf, answer_of_view, waits, was_checked, is_open_at, is_open}
+use Rattle.addr2line_units.proofs.Common.{◌≡◌, ℕ, get_or, Bool, false, List, length, ◌<◌, slice_get, Option, Some, None, sym, ap, ◌∙◌, Sections, UnitRecord, UnitCache, answer_of, first_answer_of, answers_in, is_open_at, is_open}
 use Rattle.std.specs.Prelude.{unwrap_or}
-use Rattle.addr2line_units.proofs.LoadsAnswerLemmas.{open_by_check}
 use Rattle.addr2line_units.proofs.UnitsCachedLemmas.{answer_at}
 
 -- the unit of a number among those of the context
@@ -11,9 +10,3 @@ not_open_there d us vs n u v there within e not_open =
   where
     at : Option UnitRecord → Bool
     at o = elim o [ None ↦ false | Some x ↦ is_open d x (answer_of (answers_in vs) n) ]
-
--- one that waits after it was checked is open
-pub waits_only_open : {R : Type 0} (d : Sections) (u : UnitRecord) (v w : UnitView R) → IsViewOf d u w → was_checked w.state ≡ true → answer_of_view w ≡ answer_of_view v → true ≡ waits w.state → is_open d u (answer_of_view v) ≡ false → ⊥
-waits_only_open d u v w own checked same waiting not_open =
-    let f : ◌≡◌ {A = Bool} true false = sym (open_by_check d u v w true own checked same waiting) ∙ not_open in
-    cc

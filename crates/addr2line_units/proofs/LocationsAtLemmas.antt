@@ -5,6 +5,7 @@ use Rattle.std.specs.Prelude.{option_map}
 use Rattle.addr2line_lines.specs.declared.row.Row.{Row}
 use Rattle.addr2line_units.specs.declared.frames.Asks.TheVariants as lookups
 use Rattle.addr2line_units.specs.declared.unit.LazyLines.TheVariants.{Absent, Faulty, Read, Unread}
+use Rattle.addr2line_units.specs.CacheAfter.{CountsSteps}
 use Rattle.addr2line_units.specs.UnitsAfter.{AfterLines}
 use Rattle.addr2line_units.proofs.EntriesMemoryLemmas.{either_none, none_refused, alone_if_none}
 use Rattle.addr2line_units.proofs.UnitsCachedLemmas.{same_entries_set}
@@ -48,11 +49,12 @@ module _ {R : Type 0} {scope : Scope} {cs : List (UnitCache R)} {last : FramesSt
     none_lines : AfterLines (λ k. k ≡ n) old (as_units_state scope cs steps FindsNothing)
     none_lines = record { same = refl; many = refl; parsed = λ k e. e; only = λ k e. inl e }
 
-    pub none_after_row : (probe : ℕ) → AfterAsk {X = Unit {0}} lookups.Location n probe (Ok tt) old (as_units_state scope cs steps FindsNothing)
-    none_after_row probe = record {
+    pub none_after_row : (shares : Bool) (probe : ℕ) → AfterAsk {X = Unit {0}} shares lookups.Location n probe (Ok tt) old (as_units_state scope cs steps FindsNothing)
+    none_after_row shares probe = record {
       asked = record { lines = none_lines; raised = omega arith; counted = λ found. absurd (false≢true found); cost = omega arith };
       ready = λ told. no_parsed cs n past;
       memory = λ parsed. tt;
+      no_memory = λ none. tt;
       stop = tt;
     }
 
@@ -114,30 +116,8 @@ module _ {R : Type 0} {scope : Scope} {cs : List (UnitCache R)} {last : FramesSt
           stopped_row None e = absurd (false≢true e)
           stopped_row (Some row) e = refl
 
-          module _ (result : Result (Option Row) Error) (later : ℕ) (caches : CachesResult c.lines.lines result l.lines) (memory : is_uncached l.lines ≡ false → WasNotRefused result) (raised : steps ≤ later) (counted : is_found result ≡ true → steps < later)
-              (cost : later ≤ steps + steps_in d (Some (indexed_unit u c.lines))) where
-            after : {X : Type 0} (probe : ℕ) (q : Result X Error) (stop : LookupStop) → (has_stopped stop ≡ true → is_found result ≡ true) → (WasNotRefused q → WasNotRefused result) → (WasNotRefused result → WasNotRefused q) → IfErr q (λ _. stop ≡ FindsNothing)
-                → AfterAsk lookups.Location n probe q old (as_units_state scope now later stop)
-            after probe q stop found before then stored = record {
-              asked = record {
-                lines = lines_after later stop;
-                raised = raised;
-                counted = λ stopped. counted (found stopped);
-                cost = subst (λ o. later ≤ steps + steps_in d o) (sym indexed) cost;
-              };
-              ready = λ told. parsed_set cs n with_lines within (answer_cached c.lines.lines result l.lines caches (before told));
-              memory = λ parsed. then (memory (set_parsed cs n with_lines within parsed));
-              stop = stored;
-            }
-
-            pub row_after : (probe : ℕ) (row : Option Row) → result ≡ Ok row → AfterAsk {X = Unit {0}} lookups.Location n probe (Ok tt) old (as_units_state scope now later (as_stop now (row_stop n row)))
-            row_after probe row is = after probe (Ok tt) (as_stop now (row_stop n row)) (λ stopped. ap is_found is ∙ stopped_row row stopped) (λ told. subst WasNotRefused (sym is) tt) (λ told. tt) tt
-
-            pub fault_after : (probe : ℕ) (e : Error) → result ≡ Err e → AfterAsk {X = Unit {0}} lookups.Location n probe (Err e) old (as_units_state scope now later FindsNothing)
-            fault_after probe e is = after probe (Err e) FindsNothing (λ stopped. absurd (false≢true stopped)) (λ told. subst WasNotRefused (sym is) told) (λ told. subst WasNotRefused is told) refl
-
           -- where the lookup takes no memory there, a refusal is the fault of the lines
-          pub row_alone : (shares : Bool) (probe : ℕ) (e : Error) (later : ℕ) (stop : LookupStop) → (is_uncached l.lines ≡ false → e ≢ OutOfMemory) → (e ≢ OutOfMemory → location_in d probe (Some (indexed_unit u c.lines)) ≡ Err e)
+          row_alone : (shares : Bool) (probe : ℕ) (e : Error) (later : ℕ) (stop : LookupStop) → (is_uncached l.lines ≡ false → e ≢ OutOfMemory) → (e ≢ OutOfMemory → location_in d probe (Some (indexed_unit u c.lines)) ≡ Err e)
               → (lines_take_memory shares u ≡ false → location_in d probe (Some (indexed_unit u c.lines)) ≡ Err e) → takes_none_at shares lookups.Location probe (as_units_state scope now later stop) n ≡ true → IsFaultAt lookups.Location probe old n e
           row_alone shares probe e later stop memory gives alone none =
               ap (λ (o : Option IndexedUnit). location_in d probe o >>= λ location. Ok (Some (location_frames location))) indexed
@@ -145,6 +125,30 @@ module _ {R : Type 0} {scope : Scope} {cs : List (UnitCache R)} {last : FramesSt
               (alone_if_none (has_parsed (parsed_units now) n) (lines_of_take_memory shares old.units n) e (location_in d probe (Some (indexed_unit u c.lines)))
               (subst (λ xs. parses_no_memory shares xs (parsed_units now) n ≡ true) (stay_indexed us cs now stay) none)
               (λ parsed. memory (set_parsed cs n with_lines within parsed)) gives (λ takes. alone (sym (takes_is shares) ∙ takes)))
+
+          module _ (shares : Bool) (result : Result (Option Row) Error) (later : ℕ) (caches : CachesResult c.lines.lines result l.lines) (memory : is_uncached l.lines ≡ false → WasNotRefused result) (counts : CountsSteps (steps_in d (Some (indexed_unit u c.lines))) (is_found result) steps later) where
+            after : {X : Type 0} (probe : ℕ) (q : Result X Error) (stop : LookupStop) → (has_stopped stop ≡ true → is_found result ≡ true) → (WasNotRefused q → WasNotRefused result) → (WasNotRefused result → WasNotRefused q) → IfErr q (λ _. stop ≡ FindsNothing)
+                → (takes_none_at shares lookups.Location probe (as_units_state scope now later stop) n ≡ true → IfErr q (IsFaultAt lookups.Location probe old n)) → AfterAsk shares lookups.Location n probe q old (as_units_state scope now later stop)
+            after probe q stop found before then stored alone = record {
+              asked = record {
+                lines = lines_after later stop;
+                raised = counts.raised;
+                counted = λ stopped. counts.counted (found stopped);
+                cost = subst (λ o. later ≤ steps + steps_in d o) (sym indexed) counts.cost;
+              };
+              ready = λ told. parsed_set cs n with_lines within (answer_cached c.lines.lines result l.lines caches (before told));
+              memory = λ parsed. then (memory (set_parsed cs n with_lines within parsed));
+              no_memory = alone;
+              stop = stored;
+            }
+
+            pub row_after : (probe : ℕ) (row : Option Row) → result ≡ Ok row → AfterAsk {X = Unit {0}} shares lookups.Location n probe (Ok tt) old (as_units_state scope now later (as_stop now (row_stop n row)))
+            row_after probe row is = after probe (Ok tt) (as_stop now (row_stop n row)) (λ stopped. ap is_found is ∙ stopped_row row stopped) (λ told. subst WasNotRefused (sym is) tt) (λ told. tt) tt (λ none. tt)
+
+            pub fault_after : (probe : ℕ) (e : Error) → result ≡ Err e → (e ≢ OutOfMemory → location_in d probe (Some (indexed_unit u c.lines)) ≡ Err e) → (lines_take_memory shares u ≡ false → location_in d probe (Some (indexed_unit u c.lines)) ≡ Err e)
+                → AfterAsk {X = Unit {0}} shares lookups.Location n probe (Err e) old (as_units_state scope now later FindsNothing)
+            fault_after probe e is gives alone = after probe (Err e) FindsNothing (λ stopped. absurd (false≢true stopped)) (λ told. subst WasNotRefused (sym is) told) (λ told. subst WasNotRefused is told) refl
+                (row_alone shares probe e later FindsNothing (λ cached. subst WasNotRefused is (memory cached)) gives alone)
 
           -- the lines alone
           pub read_there : (lines : Option LineTable) (result : Result (Unit {0}) Error) → ExactlyUnlessOom (λ _. lines) result (lines_result d u) → ExactlyUnlessOom (λ x. x) result (lines_result_at d (slice_get old.units n))

@@ -1,6 +1,6 @@
 -- Lookups of locations and parses of lines, one unit after another (on specs/UnitsAfter.antt and
 -- specs/UnitsAsked.antt).
-use Rattle.addr2line_units.proofs.Common.{◌≡◌, ◌≢◌, inl, inr, ℕ, ◌+◌, ◌<◌, ◌≤◌, Bool, true, false, List, [], ◌∷◌, drop, length, slice_get, Some, None, Result, Ok, Err, refl, sym, ap, subst, ◌∙◌, arith, AllByRecursion, Error, OutOfMemory, ◌>>=◌, ExactlyUnlessOom, fault_of, Sections, Asks, UnitRange, AfterCachingAt, lines_result_at, location_frames, FindsNothing, LookupStop, ends_lookup, located_frames, location_found, or_stop, stop_along, LocationResult, all_lines, first_location, location_in, or_first_location, AllAskFor, AreAllParsed, AreParsed, AsksFor, LeadTo, StaysParsed, has_parsed, parses_no_memory, IndexedUnit, FramesResult, UnitsState, stop_of, Option, reverse, DwLang, InlinedEntry, Location, FoundFunction, found_frames, frames_from, first_frame_location}
+use Rattle.addr2line_units.proofs.Common.{◌≡◌, ◌≢◌, inl, inr, ℕ, ◌+◌, ◌<◌, ◌≤◌, Bool, true, false, List, [], ◌∷◌, drop, length, slice_get, Some, None, Result, Ok, Err, refl, sym, ap, subst, ◌∙◌, arith, AllByRecursion, Error, OutOfMemory, ◌>>=◌, ExactlyUnlessOom, fault_of, Sections, UnitRange, AfterCachingAt, lines_result_at, location_frames, FindsNothing, LookupStop, ends_lookup, located_frames, location_found, or_stop, stop_along, LocationResult, all_lines, first_location, location_in, or_first_location, AllAskFor, AreAllParsed, AreParsed, AsksFor, LeadTo, StaysParsed, has_parsed, parses_no_memory, IndexedUnit, FramesResult, UnitsState, stop_of, Option, reverse, DwLang, InlinedEntry, Location, FoundFunction, found_frames, frames_from, first_frame_location}
 use Rattle.addr2line_units.specs.declared.frames.Asks.TheVariants as lookups
 use Rattle.addr2line_units.specs.UnitsAfter.{AfterCaching, AfterLineParse, AfterLines}
 use Rattle.addr2line_units.proofs.UnitsLinesLemmas.{all_parsed, asks_more, lines_end, lines_more, lines_stop, only_more, parsed_below, readable, ready_at_fault}
@@ -40,14 +40,13 @@ first_found files language (Some f) location = of_entries (reverse f.inlined)
     of_entries [] = refl
     of_entries (e ∷ es) = refl
 
--- what is told of a lookup is told of the location that it has found
-pub location_told : {X : Type 0} (asks : Asks) (probe : ℕ) (ranges : List UnitRange) (old : UnitsState) (result : Result X Error) (stop : LookupStop) → ExactlyUnlessOom (λ _. stop) result (stop_of asks probe old ranges) → asks ≡ lookups.Location
+-- what is told of a lookup of a location is told of the location that it has found
+pub location_told : {X : Type 0} (probe : ℕ) (ranges : List UnitRange) (old : UnitsState) (result : Result X Error) (stop : LookupStop) → ExactlyUnlessOom (λ _. stop) result (stop_of lookups.Location probe old ranges)
     → ExactlyUnlessOom (λ _. location_found stop) result (first_location old.scope.file.sections old.units probe ranges)
-location_told lookups.Location probe ranges old (Ok x) stop e is =
+location_told probe ranges old (Ok x) stop e =
     sym (located_is old.scope.file.sections old.units probe ranges) ∙ ap (λ (r : Result LookupStop Error). r >>= λ s. Ok (location_found s)) e
-location_told lookups.Location probe ranges old (Err x) stop e is =
+location_told probe ranges old (Err x) stop e =
     λ ne. sym (located_is old.scope.file.sections old.units probe ranges) ∙ ap (λ (r : Result LookupStop Error). r >>= λ s. Ok (location_found s)) (e ne)
-location_told (lookups.Frames faults) probe ranges old result stop e is = absurd cc
 
 -- a fault of a unit that is asked for a location is the first one along ranges
 pub located_fault : (d : Sections) (units : List IndexedUnit) (probe : ℕ) (ranges : List UnitRange) (n : ℕ) (e : Error) → AsksFor d units probe ranges n → located_frames d units probe n ≡ Err e → first_location d units probe ranges ≡ Err e

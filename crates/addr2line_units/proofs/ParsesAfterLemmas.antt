@@ -3,7 +3,7 @@
 use Rattle.addr2line_units.proofs.Common.{◌≡◌, ◌∙◌, Bool, true, false, [], Option, Some, Result, Ok, Err, None, refl, sym, ap, subst, inr, IfErr, OnOk, AllByRecursion, Error, OutOfMemory, ExactlyUnlessOomIf, WasNotRefused, Sections, UnitRecord, HasDetail, cached_detail, functions_of, functions_take_memory, AreUnread, Scope, LazyFunctions, ReadingDepth, EntriesCache, UnitView, functions_in_take_memory, AreEntriesOf, first_answer_of, AreFunctionsOf, StayFunctions, cached_fault, cached_functions, functions_fault, is_cached_fault, reading_takes_memory, were_read, known_by, known_fault, known_functions, is_decided, answer_of_view, IsReadyFor, read_of_functions, read_of_view, View, is_open, verdict}
 use Rattle.addr2line_units.specs.declared.entries.LazyFunctions.TheVariants as lazy
 use Rattle.addr2line_units.specs.declared.parses.ReadingDepth.TheVariants as depths
-use Rattle.addr2line_units.specs.CacheAfter.{AfterAnswerIn}
+use Rattle.addr2line_units.proofs.KeptEntries.{KeepsAnswered}
 use Rattle.addr2line_units.specs.ParsesAfter.{AfterReadingFunctions, AfterReadingOf, AfterReadingUnit, AfterReadingView, IsDecidedAndReady}
 use Rattle.addr2line_units.specs.EntriesStayKnown.{IsReadBy}
 use Rattle.addr2line_units.proofs.LoadsAnswerLemmas.{decided_if_not, checked_waits}
@@ -171,7 +171,7 @@ module _ {R : Type 0} (shares : Bool) (depth : ReadingDepth) (scope : Scope) (u 
     }
 
 -- a unit that was decided by none where it was open, and whose functions were read then
-module _ {R : Type 0} (shares : Bool) (depth : ReadingDepth) (scope : Scope) (u : UnitRecord) (old mid : EntriesCache R) (f : LazyFunctions R) (before : AreEntriesOf scope u old) (given : AfterAnswerIn scope u None (Ok tt) old mid) (result : Result (Unit {0}) Error)
+module _ {R : Type 0} (shares : Bool) (depth : ReadingDepth) (scope : Scope) (u : UnitRecord) (old mid : EntriesCache R) (f : LazyFunctions R) (before : AreEntriesOf scope u old) (given : KeepsAnswered shares scope u None (Ok tt) old mid) (result : Result (Unit {0}) Error)
     (a : AfterReadingView shares depth scope u mid.view result mid.functions f) where
   same : is_decided old.view.state ≡ true → mid ≡ old
   same h = (given.kept h).0

@@ -1,6 +1,6 @@
 -- What is cached of the entries of a unit, and read of them, in a parse of functions (on
 -- specs/ParsesAfter.antt).
-use Rattle.addr2line_units.proofs.Common.{◌≡◌, ℕ, zero, suc, ◌<◌, Bool, true, false, not, ◌&&◌, ◌||◌, List, [], ◌∷◌, length, get_or, slice_get, Option, Some, None, Result, Ok, Err, is_ok, is_some, refl, ap, sym, subst, ◌∙◌, arith, set, OnOk, AllByRecursion, Error, ◌>>=◌, ExactlyUnlessOomIf, fault_of, UnitRecord, Detail, FunctionRange, entries_of, functions_of, CachedFunction, HasDetail, IsDetailOf, details_fault, details_take_memory, read_fault, Scope, LazyFunctions, ReadingDepth, UnitCache, EntriesCache, answer_of, parse_of_takes_memory, parse_takes_memory, read_of_functions, read_of_number, read_of_unit, read_of_view, StayEntries, first_answer_of, AreFunctionsOf, StayFunctions, details_at, functions_fault, cached_functions, is_cached_fault, reading_takes_memory, were_read, answers_in, known_functions, View, view_scope}
+use Rattle.addr2line_units.proofs.Common.{◌≡◌, ℕ, zero, suc, ◌<◌, Bool, true, false, not, ◌&&◌, ◌||◌, List, [], ◌∷◌, length, get_or, slice_get, Option, Some, None, Result, Ok, Err, is_ok, is_some, refl, ap, sym, subst, ◌∙◌, arith, set, OnOk, AllByRecursion, Error, ◌>>=◌, ExactlyUnlessOomIf, fault_of, UnitRecord, Detail, FunctionRange, entries_of, functions_of, CachedFunction, HasDetail, IsDetailOf, details_fault, details_take_memory, read_fault, Scope, LazyFunctions, ReadingDepth, UnitCache, EntriesCache, answer_of, read_of_functions, read_of_number, read_of_unit, read_of_view, StayEntries, first_answer_of, AreFunctionsOf, StayFunctions, details_at, functions_fault, cached_functions, is_cached_fault, reading_takes_memory, were_read, answers_in, known_functions, View, view_scope}
 use Rattle.addr2line_lines.specs.Details.{detail_takes_memory as takes}
 use Rattle.addr2line_units.specs.declared.entries.LazyFunctions.TheVariants as lazy
 use Rattle.addr2line_units.specs.declared.parses.ReadingDepth.TheVariants as depths
@@ -90,17 +90,3 @@ number_is r scope us vs n u v h k e f =
   where
     by_unit : Option UnitRecord → Result (Unit {0}) Error
     by_unit o = elim o [ None ↦ Ok tt | Some x ↦ read_of_unit r scope x (answer_of (answers_in vs) n) ]
-
--- whether memory may be taken for the functions of the unit of a number that was put back
-pub takes_of_set : {R : Type 0} (shares : Bool) (scope : Scope) (us : List UnitRecord) (vs : List (UnitCache R)) (n : ℕ) (u : UnitRecord) (w : UnitCache R) → n < length us → n < length vs → u ≡ get_or us n u
-    → parse_of_takes_memory shares scope us (answers_in (set vs n w)) n ≡ parse_takes_memory shares scope u (first_answer_of w.entries)
-takes_of_set {R} shares scope us vs n u w h k e =
-    ap (λ (o : Option UnitRecord). by_unit o) (got_unit us n u h e) ∙ ap (parse_takes_memory shares scope u) (answer_set vs n k)
-  where
-    by_unit : Option UnitRecord → Bool
-    by_unit o = elim o [ None ↦ false | Some x ↦ parse_takes_memory shares scope x (answer_of (answers_in (set vs n w)) n) ]
-
-    answer_set : (xs : List (UnitCache R)) (m : ℕ) → m < length xs → answer_of (answers_in (set xs m w)) m ≡ first_answer_of w.entries
-    answer_set [] m l = absurd (omega arith)
-    answer_set (x ∷ xs) zero l = refl
-    answer_set (x ∷ xs) (suc m) l = answer_set xs m (omega arith)

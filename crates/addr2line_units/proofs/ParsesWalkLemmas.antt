@@ -163,7 +163,13 @@ module _ (shares : Bool) (depth : ReadingDepth) (k : ℕ) (old mid now : UnitsSt
         is : now.answers ≡ first_decided d (suc k) us old.answers
         is = one_more ((a given).answers ne)
 
-    pub read_fault_after : AfterReading depth (Err e) old now
+    read_fault_alone : ReadsNoMemory shares depth old.scope us now.answers now.known → read_of_units depth old.scope us old.answers ≡ Err e
+    read_fault_alone none = read_stop depth old.scope us old.answers k e many w.before (elim (none k (before_now given)) [
+      | inl ready ↦ fault_there (gives ((a given).memory ready))
+      | inr takes ↦ fault_there (given.no_memory (subst (λ (s : UnitsState). parse_of_takes_memory shares s.scope s.scope.file.units now.answers k ≡ false) (sym w.stays) takes))
+    ])
+
+    pub read_fault_after : AfterReading shares depth (Err e) old now
     read_fault_after = record {
       stays = (a given).stays;
       answers = λ ne. one_more ((a given).answers ne) ∙ sym (after_stop depth old.scope us old.answers k e many w.before (fault_there (gives ne)));
@@ -176,18 +182,13 @@ module _ (shares : Bool) (depth : ReadingDepth) (k : ℕ) (old mid now : UnitsSt
       whole_known = λ all. (a given).whole (subst (λ o. IfSome o (IsReadBy depth)) (sym (w.behind k (omega arith))) (one_of (IsReadBy depth) old.known all k));
       ready = ready_now;
       memory = λ ready. (a given).memory (ready k (before_now given));
+      no_memory = read_fault_alone;
       exact = λ ready. sym (read_stop depth old.scope us old.answers k e many w.before
           (sym (ap (λ x. read_of_number depth old.scope us x k) w.answers ∙ number_behind depth old.scope us old.answers k) ∙ sym ((a given).exact (still_ready (ready k w.before)))));
       same = same_now given;
       all = λ is. tt;
       beside = many;
     }
-
-    pub read_fault_alone : ReadsNoMemory shares depth old.scope us now.answers now.known → read_of_units depth old.scope us old.answers ≡ Err e
-    read_fault_alone none = read_stop depth old.scope us old.answers k e many w.before (elim (none k (before_now given)) [
-      | inl ready ↦ fault_there (gives ((a given).memory ready))
-      | inr takes ↦ fault_there (given.no_memory (subst (λ (s : UnitsState). parse_of_takes_memory shares s.scope s.scope.file.units now.answers k ≡ false) (sym w.stays) takes))
-    ])
 
   -- else it goes on
   module _ (given : AfterReadingAt shares depth k (Ok tt) mid now) (gives : read_of_number depth mid.scope mid.scope.file.units mid.answers k ≡ Ok tt) where
@@ -249,7 +250,7 @@ module _ (depth : ReadingDepth) (k : ℕ) (old now : UnitsState) (w : ReadSoFar 
       none_open : slice_get records n ≡ None → is_open_at sections records now.answers n ≡ false
       none_open none = ap (λ o. of_unit o) none
 
-  pub read_last_after : AfterReading depth (Ok tt) old now
+  pub read_last_after : {shares : Bool} → AfterReading shares depth (Ok tt) old now
   read_last_after = record {
     stays = w.stays;
     answers = λ _. w.answers ∙ sym (after_end depth old.scope records old.answers k beside past w.before);
@@ -262,6 +263,7 @@ module _ (depth : ReadingDepth) (k : ℕ) (old now : UnitsState) (w : ReadSoFar 
     whole_known = λ all. refl;
     ready = λ _ n before. (all_shut n, some_known depth (slice_get now.known n) (read_all n));
     memory = λ ready. tt;
+    no_memory = λ none. tt;
     exact = λ ready. sym read_last;
     same = w.same;
     all = λ is. all_known now.known (subst (λ r. AllByRecursion (IsReadBy r) now.known) is (all_of (IsReadBy depth) now.known read_all));

@@ -1,23 +1,49 @@
 -- The cached lines of a unit (on specs/UnitLinesCached.antt and specs/CacheAfter.antt).
-use Rattle.addr2line_units.proofs.Common.{◌≡◌, ◌≢◌, ◌∙◌, ℕ, ap, Bool, true, false, refl, Result, Ok, Err, Some, subst, sym, false≢true, Error, OutOfMemory, Exactly, ExactlyUnlessOom, ◌>>=◌, Sections, UnitRecord, LineTable, location_at, unit_lines, LazyLines, LinesCache, AreLinesOf, cached_lines, cached_lines_result, is_uncached, lines_result, lines_take_memory, IndexedUnit, location_in}
-use Rattle.addr2line_units.specs.CacheAfter.{AfterLinesOf}
+use Rattle.addr2line_units.proofs.Common.{◌≡◌, ◌⊎◌, ◌∙◌, ◌≤◌, inl, inr, ℕ, ap, arith, if◌then◌else◌, option_and_then, Bool, true, false, refl, IfErr, Result, Ok, Err, Some, subst, sym, false≢true, Error, OutOfMemory, Exactly, ExactlyUnlessOom, WasNotRefused, ◌>>=◌, Sections, UnitRecord, LineTable, location_at, unit_lines, LazyLines, LinesCache, AreLinesOf, cached_lines, cached_lines_result, is_uncached, lines_result, lines_take_memory, IndexedUnit, location_in, steps_in}
+use Rattle.addr2line_units.specs.CacheAfter.{AfterLinesOf, CountsSteps}
+use Rattle.addr2line_units.specs.UnitLinesCached.{cached_steps, lines_or, location_or}
 use Rattle.addr2line_units.specs.declared.unit.LazyLines.TheVariants.{Unread, Absent, Read, Faulty}
 
--- lines that were read before are those of the unit
-pub cached_before : (d : Sections) (u : UnitRecord) (l : LazyLines) → AreLinesOf d u l → is_uncached l ≡ false → cached_lines_result l ≡ lines_result d u
-cached_before d u Unread h e = cc
-cached_before d u Absent h e = ap (λ r. r >>= λ x. Ok (Some x)) (sym h)
-cached_before d u (Read lines) h e = ap (λ r. r >>= λ x. Ok (Some x)) (sym h)
-cached_before d u (Faulty x) h e = ap (λ r. r >>= λ x. Ok (Some x)) (sym h.0)
+-- cached lines that are those of the unit, or their fault
+module _ (d : Sections) (u : UnitRecord) where
+  pub lines_are : (l : LazyLines) → AreLinesOf d u l → lines_or d u l ≡ lines_result d u
+  lines_are Unread h = refl
+  lines_are Absent h = ap (λ r. r >>= λ x. Ok (Some x)) (sym h)
+  lines_are (Read lines) h = ap (λ r. r >>= λ x. Ok (Some x)) (sym h)
+  lines_are (Faulty x) h = ap (λ r. r >>= λ x. Ok (Some x)) (sym h.0)
 
--- their fault is never OutOfMemory
-cached_fault_is : (d : Sections) (u : UnitRecord) (l : LazyLines) (e : Error) → AreLinesOf d u l → cached_lines_result l ≡ Err e → e ≢ OutOfMemory
-cached_fault_is d u Unread e h k = absurd cc
-cached_fault_is d u Absent e h k = absurd cc
-cached_fault_is d u (Read lines) e h k = absurd cc
-cached_fault_is d u (Faulty x) e h k = let same : x ≡ e = cc in subst (λ y. y ≢ OutOfMemory) same h.1
+  -- the fault is never OutOfMemory
+  not_refused_lines : (l : LazyLines) → AreLinesOf d u l → WasNotRefused (cached_lines_result l)
+  not_refused_lines Unread h = tt
+  not_refused_lines Absent h = tt
+  not_refused_lines (Read lines) h = tt
+  not_refused_lines (Faulty x) h = h.1
 
--- it is that of a location in them
+  uncached_are : (l : LazyLines) → is_uncached l ≡ true → lines_or d u l ≡ lines_result d u
+  uncached_are l uncached = ap (λ b. if b then lines_result d u else cached_lines_result l) uncached
+
+-- the location in them is that in the unit, and so are the steps to it
+module _ (d : Sections) (x : IndexedUnit) (l : LazyLines) (own : AreLinesOf d x.unit l) where
+  pub location_is : (probe : ℕ) → location_or d x.unit probe l ≡ location_in d probe (Some x)
+  location_is probe = ap (λ r. r >>= λ found. Ok (option_and_then (location_at probe) found)) (lines_are d x.unit l own) ∙ joined (unit_lines d x.unit)
+    where
+      joined : (r : Result LineTable Error) → ((r >>= λ table. Ok (Some table)) >>= λ found. Ok (option_and_then (location_at probe) found)) ≡ (r >>= λ table. Ok (location_at probe table))
+      joined (Ok table) = refl
+      joined (Err e) = refl
+
+  pub steps_are : {found : Bool} {before after : ℕ} → CountsSteps (cached_steps l) found before after → CountsSteps (steps_in d (Some x)) found before after
+  steps_are {before} {after} counts =
+      let most = most_of l own in
+      let cost = counts.cost in
+      record { raised = counts.raised; counted = counts.counted; cost = omega (arith, most, cost) }
+    where
+      most_of : (k : LazyLines) → AreLinesOf d x.unit k → cached_steps k ≤ steps_in d (Some x)
+      most_of Unread h = omega arith
+      most_of Absent h = omega arith
+      most_of (Read lines) h = rw h (omega arith)
+      most_of (Faulty e) h = omega arith
+
+-- the fault of the lines is that of a location in them
 pub lines_fault : (d : Sections) (probe : ℕ) (x : IndexedUnit) (e : Error) → lines_result d x.unit ≡ Err e → location_in d probe (Some x) ≡ Err e
 lines_fault d probe x e h = by (unit_lines d x.unit) refl h
   where
@@ -28,46 +54,68 @@ lines_fault d probe x e h = by (unit_lines d x.unit) refl h
 module _ {shares : Bool} {d : Sections} {u : UnitRecord} {old new : LinesCache} where
   -- what a call leaves is left by the calls above it
   pub lines_refused : {X Y : Type 0} (e : Error) → AfterLinesOf {X = X} shares d u (Err e) old new → AfterLinesOf {X = Y} shares d u (Err e) old new
-  lines_refused e a = record { right = a.right; stay = a.stay; known = a.known; memory = a.memory; no_memory = a.no_memory }
+  lines_refused e a = record { read = a.read; stay = a.stay; known = a.known; memory = a.memory; no_memory = a.no_memory }
 
   pub lines_given : {X Y : Type 0} (x : X) (y : Y) → AfterLinesOf shares d u (Ok x) old new → AfterLinesOf shares d u (Ok y) old new
-  lines_given x y a = record { right = a.right; stay = a.stay; known = a.known; memory = a.memory; no_memory = a.no_memory }
+  lines_given x y a = record { read = a.read; stay = a.stay; known = a.known; memory = a.memory; no_memory = a.no_memory }
 
   -- their fault is told, if they have one
-  pub lines_told : (r : Result (Unit {0}) Error) → AfterLinesOf {X = Unit {0}} shares d u (Ok tt) old new → Exactly (λ _. cached_lines new.lines) r (cached_lines_result new.lines)
-      → ExactlyUnlessOom (λ _. cached_lines new.lines) r (lines_result d u) × AfterLinesOf shares d u r old new
-  lines_told (Ok x) a told = (sym (cached_before d u new.lines a.right a.known) ∙ told, lines_given tt x a)
-  lines_told (Err e) a told =
-      let is = sym (cached_before d u new.lines a.right a.known) ∙ told in
-      let ne = cached_fault_is d u new.lines e a.right told in
-      (λ _. is, record { right = a.right; stay = a.stay; known = (λ _. a.known, λ oom. absurd (ne oom)); memory = λ _. ne; no_memory = λ _. is })
+  pub lines_told : (r : Result (Unit {0}) Error) → AfterLinesOf {X = Unit {0}} shares d u (Ok tt) old new → cached_lines_result new.lines ≡ lines_or d u old.lines → Exactly (λ _. cached_lines new.lines) r (cached_lines_result new.lines)
+      → ExactlyUnlessOom (λ _. cached_lines new.lines) r (lines_or d u old.lines) × AfterLinesOf shares d u r old new
+  lines_told (Ok x) a is told = (sym is ∙ told, lines_given tt x a)
+  lines_told (Err e) a is told =
+      let fault = sym is ∙ told in (
+        λ _. fault,
+        record {
+          read = a.read;
+          stay = a.stay;
+          known = (λ _. a.known, λ oom. as_before oom a.read);
+          memory = λ _ not_oom. subst WasNotRefused told not_oom;
+          no_memory = λ _. fault;
+        },
+      )
+    where
+      as_before : e ≡ OutOfMemory → ◌⊎◌ (new.lines ≡ old.lines) (AreLinesOf d u new.lines) → new.lines ≡ old.lines
+      as_before oom (inl same) = same
+      as_before oom (inr own) = absurd (subst WasNotRefused told (not_refused_lines d u new.lines own) oom)
+
+  -- where what was cached is the unit's own, so is what is cached then
+  module _ {X : Type 0} {result : Result X Error} (own : AreLinesOf d u old.lines) (a : AfterLinesOf shares d u result old new) where
+    pub own_after : AreLinesOf d u new.lines
+    own_after = elim a.read [ inl same ↦ subst (AreLinesOf d u) (sym same) own | inr read ↦ read ]
+
+    pub memory_after : is_uncached new.lines ≡ false → WasNotRefused result
+    memory_after cached = a.memory cached (not_refused_lines d u new.lines own_after)
+
+    pub no_memory_after : lines_take_memory shares u ≡ false → IfErr result (λ e. lines_result d u ≡ Err e)
+    no_memory_after none = subst (λ given. IfErr result (λ e. given ≡ Err e)) (lines_are d u old.lines own) (a.no_memory none)
 
 -- lines that weren't cached were parsed, or memory was refused
 module _ (shares : Bool) (d : Sections) (u : UnitRecord) (old : LinesCache) where
   pub parsed_after : (l : LazyLines) → is_uncached old.lines ≡ true → AreLinesOf d u l → is_uncached l ≡ false → AfterLinesOf {X = Unit {0}} shares d u (Ok tt) old (record { lang = old.lang; lines = l })
-  parsed_after l uncached right known = record {
-    right = right;
+  parsed_after l uncached own known = record {
+    read = inr own;
     stay = record { language = refl; lines = λ cached. absurd (false≢true (sym cached ∙ uncached)) };
     known = known;
-    memory = λ _. tt;
+    memory = λ _ _. tt;
     no_memory = λ _. tt;
   }
 
-  pub unparsed_after : (e : Error) → is_uncached old.lines ≡ true → e ≡ OutOfMemory → AreLinesOf d u old.lines → (lines_take_memory shares u ≡ false → lines_result d u ≡ Err e) → AfterLinesOf {X = Unit {0}} shares d u (Err e) old old
-  unparsed_after e uncached oom right alone = record {
-    right = right;
+  pub unparsed_after : (e : Error) → is_uncached old.lines ≡ true → e ≡ OutOfMemory → (lines_take_memory shares u ≡ false → lines_result d u ≡ Err e) → AfterLinesOf {X = Unit {0}} shares d u (Err e) old old
+  unparsed_after e uncached oom alone = record {
+    read = inl refl;
     stay = record { language = refl; lines = λ _. refl };
     known = (λ ne. absurd (ne oom), λ _. refl);
     memory = λ cached. absurd (false≢true (sym cached ∙ uncached));
-    no_memory = alone;
+    no_memory = λ none. uncached_are d u old.lines uncached ∙ alone none;
   }
 
   -- lines that were cached stay
-  pub cached_after : is_uncached old.lines ≡ false → AreLinesOf d u old.lines → AfterLinesOf {X = Unit {0}} shares d u (Ok tt) old old
-  cached_after cached right = record {
-    right = right;
+  pub cached_after : is_uncached old.lines ≡ false → AfterLinesOf {X = Unit {0}} shares d u (Ok tt) old old
+  cached_after cached = record {
+    read = inl refl;
     stay = record { language = refl; lines = λ _. refl };
     known = cached;
-    memory = λ _. tt;
+    memory = λ _ _. tt;
     no_memory = λ _. tt;
   }

@@ -1,5 +1,5 @@
 -- The views of units (on specs/UnitView.antt and specs/UnitViewCached.antt).
-use Rattle.addr2line_units.proofs.Common.{◌≡◌, ◌≢◌, ◌∙◌, ℕ, ap, sym, refl, subst, not, ⊎_elim, ◌||◌, Bool, true, false, List, [], ◌∷◌, Option, Some, None, is_some, is_none, option_map, IfSome, IfOk, Result, Ok, Err, if◌then◌else◌, Error, OutOfMemory, ◌>>=◌, fault_of, Section, Sections, UnitHeaderFields, UnitRecord, attr_string_of, unit_record_of, all_headers, IsScope, Scope, UnitView, ViewState, IsViewOf, answer_in, answer_of_view, as_sections, split_file_by, split_file_in, split_unit, unboxed, verdict_in, view_by, waits, SplitLoad, View, answered_view, first_of, first_takes_memory, first_unit, first_unit_takes_memory, first_view, load_by, load_of_unit, main_view, split_name_of, verdict, verdict_by, view_scope, memory_or_not}
+use Rattle.addr2line_units.proofs.Common.{◌≡◌, ◌≢◌, ◌∙◌, ℕ, ap, sym, refl, subst, not, ⊎_elim, ◌||◌, Bool, true, false, List, [], ◌∷◌, Option, Some, None, is_some, is_none, option_map, IfSome, IfOk, Result, Ok, Err, if◌then◌else◌, Error, OutOfMemory, ◌>>=◌, fault_of, Section, Sections, UnitHeaderFields, UnitRecord, attr_string_of, unit_record_of, all_headers, IsScope, Scope, UnitView, ViewState, IsViewOf, answer_in, answer_of_view, as_sections, split_file_by, split_file_in, split_unit, unboxed, verdict_in, view_by, waits, SplitLoad, View, answered_view, first_of, first_takes_memory, first_unit, first_unit_takes_memory, first_view, load_by, load_of_unit, main_view, split_name_of, verdict, verdict_by, view_scope, memory_or_not, is_decided, is_open, view_fault, was_checked}
 use Rattle.gimli_read.specs.declared.value.AttributeValue.{AttributeValue}
 use Rattle.gimli.specs.declared.unit.DwoId.{DwoId}
 use Rattle.gimli.specs.Split.{dwo_name_fault, dwo_name_of, relocated, string_fault_if}
@@ -8,6 +8,8 @@ use Rattle.gimli.proofs.UnitLemmas.{read_takes_memory}
 use Rattle.addr2line_lines.specs.FileTexts.{optional_string}
 use Rattle.addr2line_units.specs.declared.unit.AnsweredLoad.{AnsweredLoad}
 use Rattle.addr2line_units.specs.declared.unit.ViewState.TheVariants as states
+use Rattle.addr2line_units.specs.CacheAfter.{AfterViewCheck}
+use Rattle.addr2line_units.specs.UnitViewCached.{verdict_or}
 
 decided_by : (d : Sections) (u : UnitRecord) (load : Result (Option SplitLoad) Error) (r : Result View Error) (answer : Option (Option Sections)) → verdict_by d u load None ≡ Some r → verdict_by d u load answer ≡ Some r
 decided_by d u (Err e) r answer h = h
@@ -136,26 +138,14 @@ module _ (shares : Bool) (d : Sections) where
   pub first_faulty : (header : UnitHeaderFields) (rest : List (Result UnitHeaderFields Error)) (f : Error) → all_headers d.debug_info ≡ Ok header ∷ rest → unit_record_of d header ≡ Err f → first_unit d ≡ Err f
   first_faulty header rest f e h = ap (first_of d) e ∙ ap (λ r. r >>= λ (u : UnitRecord). Ok (Some u)) h
 
--- an answer with its split unit is the view of a unit that was open
-pub answered_is_right : {R : Type 0} (d : Sections) (u : UnitRecord) (a : AnsweredLoad R) → verdict d u None ≡ None → unboxed a.unit ≡ split_unit u (as_sections a) → IsViewOf {R = R} d u (record { state = states.Answered a })
-answered_is_right d u a waiting h = record {
-  right = ap Some (ap (λ r. r >>= λ x. Ok (view_by d u (as_sections a) x)) h ∙ view_by_split_unit d u (as_sections a)) ∙ sym (verdict_of_open d u (as_sections a) waiting);
-  waited = λ _. ap is_none waiting;
-}
+-- an answer with its split unit has the view that the answer decides for
+pub answered_verdict : {R : Type 0} (d : Sections) (u : UnitRecord) (a : AnsweredLoad R) → unboxed a.unit ≡ split_unit u (as_sections a) → verdict_in d u (states.Answered a) ≡ Some (Some (answered_view d u (as_sections a)))
+answered_verdict d u a h = ap (λ w. Some (Some w)) (ap (λ r. r >>= λ x. Ok (view_by d u (as_sections a) x)) h ∙ view_by_split_unit d u (as_sections a))
 
 waited_by : (d : Sections) (n : ℕ) (u : UnitRecord) (name : Result (Option Section) Error) (id : Option DwoId) → verdict_by d u (load_by d 0 u name id) None ≡ None → load_by d n u name id ≢ Ok None
 waited_by d n u name None h e = cc
 waited_by d n u (Ok path) (Some id) h e = cc
 waited_by d n u (Err x) (Some id) h e = cc
-
--- the fault of the split unit of an answer is that of its view
-pub split_fault : (d : Sections) (u : UnitRecord) (answer : Option Sections) (e : Error) → split_unit u answer ≡ Err e → answered_view d u answer ≡ Err e
-split_fault d u None e h = absurd cc
-split_fault d u (Some split) e h = by (first_unit split) h
-  where
-    by : (r : Result (Option UnitRecord) Error) → (r >>= λ x. Ok (option_map (λ y. relocated y u) x)) ≡ Err e → (r >>= λ x. Ok (first_view d u split x)) ≡ Err e
-    by (Ok x) k = absurd cc
-    by (Err f) k = let same : f ≡ e = cc in ap (λ x. Err x) same
 
 -- a unit that waits has a load
 pub open_has_load : (d : Sections) (n : ℕ) (u : UnitRecord) → verdict d u None ≡ None → load_of_unit d n u ≢ Ok None
@@ -178,11 +168,6 @@ scope_by scope None = scope
 scope_by scope (Some split) =
     record { file = record { sections = split; units = [] }; sup = scope.sup }
 
-unanswered_scope : (scope : Scope) (d : Sections) (u : UnitRecord) (load : Result (Option SplitLoad) Error) → IfSome (verdict_by d u load None) (λ view. IfOk view (λ v. scope ≡ view_scope scope v))
-unanswered_scope scope d u (Err e) = tt
-unanswered_scope scope d u (Ok None) = refl
-unanswered_scope scope d u (Ok (Some load)) = tt
-
 answered_scope : (scope : Scope) (d : Sections) (u : UnitRecord) (answer : Option Sections) (unit : Result (Option UnitRecord) Error) → IfOk (unit >>= λ x. Ok (view_by d u answer x)) (λ v. scope_by scope (split_file_by answer unit) ≡ view_scope scope v)
 answered_scope scope d u None (Err e) = tt
 answered_scope scope d u None (Ok None) = refl
@@ -191,16 +176,97 @@ answered_scope scope d u (Some split) (Err e) = tt
 answered_scope scope d u (Some split) (Ok None) = refl
 answered_scope scope d u (Some split) (Ok (Some x)) = refl
 
-scope_in : {R : Type 0} (scope : Scope) (d : Sections) (u : UnitRecord) (s : ViewState R) → IfSome (verdict_in d u s) (λ cached. cached ≡ verdict d u (answer_in s)) → IfSome (verdict d u (answer_in s)) (λ view. IfOk view (λ v. scope_by scope (split_file_in s) ≡ view_scope scope v))
-scope_in scope d u states.Undecided h = unanswered_scope scope d u (load_of_unit d 0 u)
-scope_in scope d u states.Open h = unanswered_scope scope d u (load_of_unit d 0 u)
-scope_in scope d u states.Main h = unanswered_scope scope d u (load_of_unit d 0 u)
-scope_in scope d u (states.Unnamed e) h = unanswered_scope scope d u (load_of_unit d 0 u)
-scope_in scope d u (states.Answered a) h = subst (λ w. IfSome w (λ view. IfOk view (λ v. scope_by scope (split_file_by (as_sections a) (unboxed a.unit)) ≡ view_scope scope v))) h (answered_scope scope d u (as_sections a) (unboxed a.unit))
+scope_in : {R : Type 0} (scope : Scope) (d : Sections) (u : UnitRecord) (s : ViewState R) → IfSome (verdict_in d u s) (λ known. IfSome known (λ view. IfOk view (λ v. scope_by scope (split_file_in s) ≡ view_scope scope v)))
+scope_in scope d u states.Undecided = tt
+scope_in scope d u states.Open = tt
+scope_in scope d u states.Main = refl
+scope_in scope d u (states.Unnamed e) = tt
+scope_in scope d u (states.Answered a) = answered_scope scope d u (as_sections a) (unboxed a.unit)
 
 -- references lead from a view as its split file says, if it is in one
-pub scope_of_split : {R : Type 0} (scope : Scope) (split : Option Sections) (v : UnitView R) → split ≡ split_file_in v.state → (d : Sections) (u : UnitRecord) → IsViewOf d u v → IfSome (verdict d u (answer_of_view v)) (λ view. IfOk view (λ x. scope_by scope split ≡ view_scope scope x))
-scope_of_split scope split v e d u h = subst (λ p. IfSome (verdict d u (answer_of_view v)) (λ view. IfOk view (λ x. scope_by scope p ≡ view_scope scope x))) (sym e) (scope_in scope d u v.state h.right)
+pub scope_of_split : {R : Type 0} (scope : Scope) (split : Option Sections) (v : UnitView R) → split ≡ split_file_in v.state → (d : Sections) (u : UnitRecord) → IfSome (verdict_in d u v.state) (λ known. IfSome known (λ view. IfOk view (λ x. scope_by scope split ≡ view_scope scope x)))
+scope_of_split scope split v e d u = subst (λ p. IfSome (verdict_in d u v.state) (λ known. IfSome known (λ view. IfOk view (λ x. scope_by scope p ≡ view_scope scope x)))) (sym e) (scope_in scope d u v.state)
+
+-- what holds of the view that is cached of a unit holds of its view, where it is decided
+pub of_cached_view : {R : Type 0} (d : Sections) (u : UnitRecord) (v : UnitView R) (P : Result View Error → Type 0) → IsViewOf d u v → is_decided v.state ≡ true → IfSome (verdict_in d u v.state) (λ known. IfSome known P) → IfSome (verdict d u (answer_of_view v)) P
+of_cached_view {R} d u v P h decided p = by v.state (verdict d u (answer_of_view v)) decided h.right p
+  where
+    by : (s : ViewState R) (w : Option (Result View Error)) → is_decided s ≡ true → IfSome (verdict_in d u s) (λ cached. cached ≡ w) → IfSome (verdict_in d u s) (λ known. IfSome known P) → IfSome w P
+    by states.Undecided w k e q = absurd cc
+    by states.Open w k e q = absurd cc
+    by states.Main w k e q = subst (λ o. IfSome o P) e q
+    by (states.Unnamed x) w k e q = subst (λ o. IfSome o P) e q
+    by (states.Answered a) w k e q = subst (λ o. IfSome o P) e q
+
+-- and its fault is that of its view
+pub cached_fault : {R : Type 0} (d : Sections) (u : UnitRecord) (v : UnitView R) (r : Result (Unit {0}) Error) → IsViewOf d u v → is_decided v.state ≡ true → IfSome (verdict_in d u v.state) (λ known. IfSome known (λ view. r ≡ fault_of view)) → r ≡ view_fault (verdict d u (answer_of_view v))
+cached_fault {R} d u v r h decided p = by v.state (verdict d u (answer_of_view v)) decided h.right p
+  where
+    by : (s : ViewState R) (w : Option (Result View Error)) → is_decided s ≡ true → IfSome (verdict_in d u s) (λ cached. cached ≡ w) → IfSome (verdict_in d u s) (λ known. IfSome known (λ view. r ≡ fault_of view)) → r ≡ view_fault w
+    by states.Undecided w k e q = absurd cc
+    by states.Open w k e q = absurd cc
+    by states.Main w k e q = q ∙ ap view_fault e
+    by (states.Unnamed x) w k e q = q ∙ ap view_fault e
+    by (states.Answered a) w k e q = q ∙ ap view_fault e
+
+-- what is cached of the verdict of a unit, or the bytes say, is its verdict
+pub verdict_or_is : {R : Type 0} (d : Sections) (u : UnitRecord) (v : UnitView R) → IsViewOf d u v → verdict_or d u v.state ≡ verdict d u (answer_of_view v)
+verdict_or_is {R} d u v h = by v.state h.right
+  where
+    by : (s : ViewState R) → IfSome (verdict_in d u s) (λ cached. cached ≡ verdict d u (answer_in s)) → verdict_or d u s ≡ verdict d u (answer_in s)
+    by states.Undecided e = refl
+    by states.Open e = e
+    by states.Main e = e
+    by (states.Unnamed x) e = e
+    by (states.Answered a) e = e
+
+unchecked_has_none : {R : Type 0} (s : ViewState R) → was_checked s ≡ false → answer_in s ≡ None
+unchecked_has_none states.Undecided e = refl
+unchecked_has_none states.Open e = refl
+unchecked_has_none states.Main e = refl
+unchecked_has_none (states.Unnamed x) e = refl
+unchecked_has_none (states.Answered a) e = absurd cc
+
+-- the view of a unit is right after it was looked at
+pub checked_is_right : {R : Type 0} (d : Sections) (u : UnitRecord) (old new : UnitView R) → IsViewOf d u old → AfterViewCheck d u old new → IsViewOf d u new
+checked_is_right d u old new h a = by (was_checked old.state) refl
+  where
+    by : (b : Bool) → was_checked old.state ≡ b → IsViewOf d u new
+    by true e = subst (IsViewOf d u) (sym (a.kept e)) h
+    by false e = record {
+      right = subst (λ o. IfSome o (λ cached. cached ≡ verdict d u (answer_of_view new))) (sym (a.read e)) (ap (verdict d u) (sym (a.answer ∙ unchecked_has_none old.state e)));
+      waited = λ some. h.waited (sym (ap is_some a.answer) ∙ some);
+    }
+
+-- and after it was answered, where it waited
+pub answered_is_right : {R : Type 0} (d : Sections) (u : UnitRecord) (given : Option Sections) (v : UnitView R) → verdict d u None ≡ None → answer_of_view v ≡ Some given → verdict_in d u v.state ≡ Some (Some (answered_view d u given)) → IsViewOf d u v
+answered_is_right d u given v waiting answer read = record {
+  right = subst (λ o. IfSome o (λ cached. cached ≡ verdict d u (answer_of_view v))) (sym read) (sym (ap (verdict d u) answer ∙ verdict_of_open d u given waiting));
+  waited = λ _. ap is_none waiting;
+}
+
+-- where a verdict is cached the unit is decided
+pub decided_by_verdict : {R : Type 0} (d : Sections) (u : UnitRecord) (s : ViewState R) (r : Result View Error) → verdict_in d u s ≡ Some (Some r) → is_decided s ≡ true
+decided_by_verdict d u states.Undecided r e = absurd cc
+decided_by_verdict d u states.Open r e = absurd cc
+decided_by_verdict d u states.Main r e = refl
+decided_by_verdict d u (states.Unnamed x) r e = refl
+decided_by_verdict d u (states.Answered a) r e = refl
+
+-- a unit that waits without an answer is right where it is open
+pub waiting_is_right : {R : Type 0} (d : Sections) (u : UnitRecord) (v : UnitView R) → waits v.state ≡ true → answer_of_view v ≡ None → is_open d u None ≡ true → IsViewOf d u v
+waiting_is_right {R} d u v w none open_is = record { right = by v.state w none; waited = λ _. open_is }
+  where
+    no_verdict : (o : Option (Result View Error)) → is_none o ≡ true → o ≡ None
+    no_verdict None e = refl
+    no_verdict (Some r) e = absurd cc
+
+    by : (s : ViewState R) → waits s ≡ true → answer_in s ≡ None → IfSome (verdict_in d u s) (λ cached. cached ≡ verdict d u (answer_in s))
+    by states.Undecided k e = absurd cc
+    by states.Open k e = sym (no_verdict (verdict d u None) open_is)
+    by states.Main k e = absurd cc
+    by (states.Unnamed x) k e = absurd cc
+    by (states.Answered a) k e = absurd cc
 
 -- the load of a unit that waits is refused OutOfMemory alone
 pub refused_load : (d : Sections) (n : ℕ) (u : UnitRecord) (may : Bool) (e : Error) → verdict d u None ≡ None → ((may ≡ true → e ≢ OutOfMemory) → load_of_unit d n u ≡ Err e) → e ≡ OutOfMemory

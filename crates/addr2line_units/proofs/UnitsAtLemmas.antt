@@ -35,7 +35,7 @@ module _ {R : Type 0} {scope : Scope} {held : List (UnitCache R)} {last : Frames
   pub counts : {n : ℕ} (steps : ℕ) (was : LookupStop) → n ≡ length held → CountsUnits n (as_units_state scope held steps was)
   counts steps was many = record {
     records = many ∙ sym as_many;
-    units = many ∙ sym (as_many_indexed scope.file.sections scope.file.units held all_lines);
+    units = many ∙ sym (as_many_indexed scope.file.units held as_many);
     answers = many ∙ sym (length-map held (λ (c : UnitCache R). first_answer_of c.entries));
     parsed = many ∙ sym (length-map held (λ (c : UnitCache R). is_parsed c.lines));
     known = many ∙ sym (length-map held (λ (c : UnitCache R). known_by c.entries.view.state c.entries.functions));

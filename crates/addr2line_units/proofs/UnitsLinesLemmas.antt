@@ -1,6 +1,6 @@
 -- The units of a context whose lines are cached one after another (on specs/UnitLinesCached.antt and
 -- specs/LocationsParsed.antt).
-use Rattle.addr2line_units.proofs.Common.{◌≡◌, ℕ, zero, suc, ◌+◌, ◌-◌, ◌≤◌, ◌<◌, Bool, true, false, not, ◌||◌, List, [], ◌∷◌, ◌++◌, length, map, drop, add-one, get_or, Option, Some, None, slice_get, Result, Ok, Err, is_ok, refl, sym, ap, subst, arith, ◌∙◌, ◌⊎◌, inl, inr, drop_of_length-le, set, Error, Range, ◌>>=◌, ExactlyUnlessOom, fault_of, result_map, WasNotRefused, Sections, UnitRecord, LineTable, read_all, unit_lines, LazyLines, LinesCache, UnitCache, UnitRange, IndexedUnit, has_lines, range_of_unit, unit_ranges, all_lines, lines_of_unit, steps_along, steps_in, lines_of_take_memory, AllAskFor, AreParsed, AreReadyForAll, ParsesOnly, StaysParsed, TakeNone, TakeNoneForAll, can_be_read, has_parsed, parses_no_memory, AreLinesOf, CachesResult, HaveLinesOf, StayLines, indexed_unit, indexed_units, is_parsed, is_uncached, lines_result, lines_result_at, lines_at, parsed_units}
+use Rattle.addr2line_units.proofs.Common.{◌≡◌, ℕ, zero, suc, ◌+◌, ◌-◌, ◌≤◌, ◌<◌, Bool, true, false, not, ◌||◌, List, [], ◌∷◌, ◌++◌, length, map, drop, add-one, get_or, Option, Some, None, slice_get, Result, Ok, Err, is_ok, refl, sym, ap, subst, arith, ◌∙◌, ◌⊎◌, inl, inr, drop_of_length-le, set, Error, Range, ◌>>=◌, ExactlyUnlessOom, fault_of, result_map, WasNotRefused, DwLang, Sections, UnitRecord, LineTable, read_all, unit_lines, LazyLines, UnitCache, UnitRange, IndexedUnit, has_lines, range_of_unit, unit_ranges, all_lines, lines_of_unit, steps_along, steps_in, lines_of_take_memory, AllAskFor, AreParsed, AreReadyForAll, ParsesOnly, StaysParsed, TakeNone, TakeNoneForAll, can_be_read, has_parsed, parses_no_memory, AreLinesOf, CachesResult, HaveLinesOf, StayLines, indexed_unit, indexed_units, is_parsed, is_uncached, lines_result, lines_result_at, lines_at, parsed_units}
 use Rattle.std.proofs.lemmas.List.{append-nil}
 use Rattle.std.proofs.lemmas.List.Sums.{sum_by-cons}
 use Rattle.addr2line_units.specs.UnitsIndexed.{IndexState, appended, as_ranged_unit}
@@ -55,11 +55,11 @@ as_many d [] (r ∷ rs) own = absurd own
 as_many d (u ∷ us) [] own = absurd own
 as_many d (u ∷ us) (r ∷ rs) own = ap suc (as_many d us rs own.1)
 
-pub as_many_indexed : {R : Type 0} (d : Sections) (us : List UnitRecord) (rs : List (UnitCache R)) → HaveLinesOf d us rs → length (indexed_units us rs) ≡ length rs
-as_many_indexed d [] [] own = refl
-as_many_indexed d [] (r ∷ rs) own = absurd own
-as_many_indexed d (u ∷ us) [] own = absurd own
-as_many_indexed d (u ∷ us) (r ∷ rs) own = ap suc (as_many_indexed d us rs own.1)
+pub as_many_indexed : {R : Type 0} (us : List UnitRecord) (rs : List (UnitCache R)) → length us ≡ length rs → length (indexed_units us rs) ≡ length rs
+as_many_indexed [] [] many = refl
+as_many_indexed [] (r ∷ rs) many = cc
+as_many_indexed (u ∷ us) [] many = cc
+as_many_indexed (u ∷ us) (r ∷ rs) many = ap suc (as_many_indexed us rs cc)
 
 -- the unit of a number
 pub unit_at : {R : Type 0} (us : List UnitRecord) (rs : List (UnitCache R)) (n : ℕ) (u : UnitRecord) (r : UnitCache R) → n < length us → n < length rs → u ≡ get_or us n u → r ≡ get_or rs n r → slice_get (indexed_units us rs) n ≡ Some (indexed_unit u r.lines)
@@ -124,26 +124,26 @@ own_push d [] (y ∷ rs) u r own h = absurd own
 own_push d (x ∷ us) [] u r own h = absurd own
 own_push d (x ∷ us) (y ∷ rs) u r own h = (own.0, own_push d us rs u r own.1 h)
 
-pub indexed_push : {R : Type 0} (d : Sections) (us : List UnitRecord) (rs : List (UnitCache R)) (u : UnitRecord) (r : UnitCache R) → HaveLinesOf d us rs → indexed_units (us ++ u ∷ []) (rs ++ r ∷ []) ≡ indexed_units us rs ++ indexed_unit u r.lines ∷ []
-indexed_push d [] [] u r own = refl
-indexed_push d [] (y ∷ rs) u r own = absurd own
-indexed_push d (x ∷ us) [] u r own = absurd own
-indexed_push d (x ∷ us) (y ∷ rs) u r own = ap (λ is. indexed_unit x y.lines ∷ is) (indexed_push d us rs u r own.1)
+indexed_push : {R : Type 0} (us : List UnitRecord) (rs : List (UnitCache R)) (u : UnitRecord) (r : UnitCache R) → length us ≡ length rs → indexed_units (us ++ u ∷ []) (rs ++ r ∷ []) ≡ indexed_units us rs ++ indexed_unit u r.lines ∷ []
+indexed_push [] [] u r many = refl
+indexed_push [] (y ∷ rs) u r many = cc
+indexed_push (x ∷ us) [] u r many = cc
+indexed_push (x ∷ us) (y ∷ rs) u r many = ap (λ is. indexed_unit x y.lines ∷ is) (indexed_push us rs u r cc)
 
 parsed_push : {R : Type 0} (rs : List (UnitCache R)) (r : UnitCache R) → parsed_units (rs ++ r ∷ []) ≡ parsed_units rs ++ is_parsed r.lines ∷ []
 parsed_push [] r = refl
 parsed_push (y ∷ rs) r = ap (λ bs. is_parsed y.lines ∷ bs) (parsed_push rs r)
 
-pub pushed : {R : Type 0} (d : Sections) (us : List UnitRecord) (rs : List (UnitCache R)) (u : UnitRecord) (old : LinesCache) (new : UnitCache R) (given : List Range) (ranges now : List UnitRange) → HaveLinesOf d us rs → new.lines.lang ≡ old.lang → is_parsed new.lines ≡ has_lines (as_ranged_unit u old given)
-    → now ≡ ranges ++ map (range_of_unit (length rs)) (unit_ranges d (as_ranged_unit u old given))
+pub pushed : {R : Type 0} (d : Sections) (us : List UnitRecord) (rs : List (UnitCache R)) (u : UnitRecord) (lang : Option DwLang) (new : UnitCache R) (given : List Range) (ranges now : List UnitRange) → length us ≡ length rs → new.lines.lang ≡ lang → is_parsed new.lines ≡ has_lines (as_ranged_unit u lang given)
+    → now ≡ ranges ++ map (range_of_unit (length rs)) (unit_ranges d (as_ranged_unit u lang given))
     → ◌≡◌ {A = IndexState} (record { units = indexed_units (us ++ u ∷ []) (rs ++ new ∷ []); ranges = now; parsed = parsed_units (rs ++ new ∷ []) })
-    (appended d (record { units = indexed_units us rs; ranges = ranges; parsed = parsed_units rs }) (as_ranged_unit u old given ∷ []))
-pushed d us rs u old new given ranges now own lang parsed more =
+    (appended d (record { units = indexed_units us rs; ranges = ranges; parsed = parsed_units rs }) (as_ranged_unit u lang given ∷ []))
+pushed d us rs u lang new given ranges now many same parsed more =
     of_parts
-    (indexed_push d us rs u new own ∙ ap (λ l. indexed_units us rs ++ record { unit = u; language = l } ∷ []) lang)
+    (indexed_push us rs u new many ∙ ap (λ l. indexed_units us rs ++ record { unit = u; language = l } ∷ []) same)
     (more
-    ∙ ap (λ n. ranges ++ map (range_of_unit n) (unit_ranges d (as_ranged_unit u old given))) (sym (as_many_indexed d us rs own))
-    ∙ ap (λ rs. ranges ++ rs) (sym (append-nil (map (range_of_unit (length (indexed_units us rs))) (unit_ranges d (as_ranged_unit u old given))))))
+    ∙ ap (λ n. ranges ++ map (range_of_unit n) (unit_ranges d (as_ranged_unit u lang given))) (sym (as_many_indexed us rs many))
+    ∙ ap (λ rs. ranges ++ rs) (sym (append-nil (map (range_of_unit (length (indexed_units us rs))) (unit_ranges d (as_ranged_unit u lang given))))))
     (parsed_push rs new ∙ ap (λ b. parsed_units rs ++ b ∷ []) parsed)
   where
     of_parts : {a b : List IndexedUnit} {p q : List UnitRange} {v w : List Bool} → a ≡ b → p ≡ q → v ≡ w → ◌≡◌ {A = IndexState} (record { units = a; ranges = p; parsed = v }) (record { units = b; ranges = q; parsed = w })

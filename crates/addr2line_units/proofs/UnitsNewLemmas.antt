@@ -1,13 +1,16 @@
 -- The units of a context as they are read (on specs/UnitsState.antt and specs/UnitsStored.antt).
-use Rattle.addr2line_units.proofs.Common.{◌≡◌, List, [], ◌∷◌, map, Option, Some, None, option_map, Result, Ok, Err, refl, sym, ap, subst, ◌∙◌, Error, ◌>>=◌, Sections, SupSections, UnitRecord, all_headers, FileRecord, IsScope, Scope, UnitArange, UnitRange, UnitCache, HaveLinesOf, indexed_units, parsed_units, AreFreshOf, answers_in, FindsNothing, main_scope, units_of, known_in, KnownEntries, NothingKnown, IndexedUnit, RangedUnit, indexed_of, ranged_units, unit_of_header, unit_ranges_from, unit_records, AreUnits, as_units_state, aranges_in, UnitsState, first_state, new_units, FirstAnswers}
+use Rattle.addr2line_units.proofs.Common.{◌≡◌, List, [], ◌∷◌, map, Option, Some, None, option_map, option_to_list, IfOk, Result, Ok, Err, refl, sym, ap, subst, ◌∙◌, Error, ◌>>=◌, Sections, SupSections, UnitRecord, UnitHeaderFields, all_headers, FileRecord, IsScope, Scope, UnitArange, UnitRange, UnitCache, indexed_units, parsed_units, HaveNewCaches, answers_in, FindsNothing, main_scope, units_of, known_in, KnownEntries, NothingKnown, IndexedUnit, RangedUnit, indexed_of, ranged_units, unit_of_header, unit_ranges_from, unit_records, AreUnits, as_units_state, aranges_in, UnitsState, first_state, new_units, FirstAnswers}
 use Rattle.addr2line_units.specs.declared.frames.FramesStop.TheVariants as stops
 use Rattle.addr2line_units.specs.declared.sup.SupUnits.{SupUnits}
-use Rattle.addr2line_units.specs.UnitsIndexed.{IndexState, index_of, index_read}
+use Rattle.addr2line_units.specs.declared.units.Index.{Index}
+use Rattle.addr2line_units.specs.UnitsCached.{AddsUnitIf}
+use Rattle.addr2line_units.specs.UnitsIndexed.{IndexState, appended, as_index, index_of, index_read, with_header}
 use Rattle.addr2line_units.specs.SupScope.{scope_in}
 use Rattle.addr2line_units.specs.UnitsIndex.{UnitIndex, index_units, sup_sections, sup_units}
 use Rattle.addr2line_units.proofs.UnitsCachedLemmas.{caches_right}
+use Rattle.addr2line_units.proofs.UnitsLinesLemmas.{own_push}
 use Rattle.addr2line_units.proofs.EntriesKnownLemmas.{nothing_known}
-use Rattle.addr2line_units.proofs.SupScopeLemmas.{fresh_entries, main_scope_in_order, no_answers, records_beside}
+use Rattle.addr2line_units.proofs.SupScopeLemmas.{fresh_entries, fresh_push, main_scope_in_order, no_answers, records_beside}
 
 pub ok_is : {X : Type 0} (x y : X) → ◌≡◌ {A = Result X Error} (Ok x) (Ok y) → x ≡ y
 ok_is x y e = cc
@@ -28,10 +31,30 @@ no_more_known : (units : List RangedUnit) → nothing_known_of units ≡ nothing
 no_more_known [] = refl
 no_more_known (u ∷ units) = ap (λ (xs : List KnownEntries). NothingKnown ∷ xs) (no_more_known units)
 
+-- a unit more, and beside it its cache
+one_more : {R : Type 0} (d : Sections) (unit : Option RangedUnit) (old new : Index R) → HaveNewCaches d old.dw_units.items old.caches.items → AddsUnitIf d unit old new → HaveNewCaches d new.dw_units.items new.caches.items
+one_more d None old new before same = subst (λ (i : Index _). HaveNewCaches d i.dw_units.items i.caches.items) (sym same) before
+one_more d (Some u) old new before adds =
+    let us = old.dw_units.items in
+    let cs = old.caches.items in
+    rw (adds.units, adds.caches) (record {
+      lines = own_push d us cs u.indexed.unit adds.cache before.lines adds.lines;
+      fresh = fresh_push us cs u.indexed.unit adds.cache before.fresh adds.fresh;
+    })
+
+-- those of one more header
+pub header_more : {R : Type 0} (d : Sections) (aranges : List UnitArange) (h : UnitHeaderFields) (m : IndexState) (old new : Index R) → (with_header d aranges m h).given ≡ Ok (as_index new) → IfOk (unit_of_header d aranges h).given (λ unit. AddsUnitIf d unit old new)
+    → HaveNewCaches d old.dw_units.items old.caches.items → HaveNewCaches d new.dw_units.items new.caches.items
+header_more d aranges h m old new read adds before = of_unit (unit_of_header d aranges h).given read adds
+  where
+    of_unit : (r : Result (Option RangedUnit) Error) → (r >>= λ unit. Ok (appended d m (option_to_list unit))) ≡ Ok (as_index new) → IfOk r (λ unit. AddsUnitIf d unit old new) → HaveNewCaches d new.dw_units.items new.caches.items
+    of_unit (Ok unit) k a = one_more d unit old new before a
+    of_unit (Err e) k a = absurd cc
+
 -- units that are made
 module _ {R : Type 0} (d : Sections) (us : List UnitRecord) (cs : List (UnitCache R)) (ranges : List UnitRange) (sup : SupUnits R)
     (e : (ranged_units d >>= λ units. Ok (index_of d units)) ≡ Ok (record { units = indexed_units us cs; ranges = ranges; parsed = parsed_units cs })) (f : sup_units d.sup ≡ Ok sup.units.items) (sup_is : sup.dwarf ≡ option_map sup_sections d.sup)
-    (own : HaveLinesOf d us cs) (fresh : AreFreshOf us cs) where
+    (new : HaveNewCaches d us cs) where
   abbrev index : IndexState
   index = record { units = indexed_units us cs; ranges = ranges; parsed = parsed_units cs }
 
@@ -41,7 +64,7 @@ module _ {R : Type 0} (d : Sections) (us : List UnitRecord) (cs : List (UnitCach
   -- where references lead
   scope_is : scope_in d us sup ≡ main_scope d made
   scope_is =
-      ap (λ (xs : List UnitRecord). scope_at xs (option_map (λ s. file_at s) sup.dwarf)) (sym (records_beside d us cs own))
+      ap (λ (xs : List UnitRecord). scope_at xs (option_map (λ s. file_at s) sup.dwarf)) (sym (records_beside d us cs new.lines))
       ∙ ap (λ (o : Option FileRecord). scope_at (unit_records made.units) o) of_sup
     where
       file_at : Sections → FileRecord
@@ -76,7 +99,7 @@ module _ {R : Type 0} (d : Sections) (us : List UnitRecord) (cs : List (UnitCach
   pub are_units : AreUnits (scope_in d us sup) cs stops.FindsNothing
   are_units = record {
     in_order = scope_in_order;
-    caches = caches_right (scope_in d us sup) us cs own (fresh_entries (scope_in d us sup) us cs scope_in_order fresh);
+    caches = caches_right (scope_in d us sup) us cs new.lines (fresh_entries (scope_in d us sup) us cs scope_in_order new.fresh);
     stop = tt;
   }
 
@@ -97,10 +120,10 @@ module _ {R : Type 0} (d : Sections) (us : List UnitRecord) (cs : List (UnitCach
       ∙ ap (λ s. state s index (answers_in cs) (known_in cs)) (sym scope_is)
     where
       none : answers_in cs ≡ no_answers_of (unit_records (indexed_units us cs))
-      none = no_answers us cs fresh ∙ ap (λ (xs : List UnitRecord). no_answers_of xs) (sym (records_beside d us cs own))
+      none = no_answers us cs new.fresh ∙ ap (λ (xs : List UnitRecord). no_answers_of xs) (sym (records_beside d us cs new.lines))
 
       not_known : known_in cs ≡ nothing_known_of (unit_records (indexed_units us cs))
-      not_known = nothing_known us cs fresh ∙ ap (λ (xs : List UnitRecord). nothing_known_of xs) (sym (records_beside d us cs own))
+      not_known = nothing_known us cs new.fresh ∙ ap (λ (xs : List UnitRecord). nothing_known_of xs) (sym (records_beside d us cs new.lines))
 
       of_units : (r : Result (List RangedUnit) Error) → (r >>= λ units. Ok (index_of d units)) ≡ Ok index
           → (r >>= λ units. sup_units d.sup >>= λ s. Ok (first_state d units s, unit_ranges_from d 0 units)) ≡ of_index index

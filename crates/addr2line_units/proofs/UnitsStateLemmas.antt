@@ -1,11 +1,12 @@
 -- What calls leave of the units of a context, by what is cached of them (on specs/UnitsAfter.antt
 -- and specs/UnitsStored.antt).
 use Rattle.addr2line_units.proofs.Common.{◌≡◌, ◌≢◌, ◌⊎◌, inl, inr, ℕ, zero, suc, ◌<◌, ◌≤◌, ◌&&◌, ◌||◌, ◌++◌, Bool, true, false, not, List, [], ◌∷◌, length, get_or, slice_get, Option, Some, None, option_map, unwrap_or, Result, Ok, Err, refl, sym, ap, subst, ◌∙◌, eqb_tells, length-map, IfErr, OnOk, Error, OutOfMemory, WasNotRefused, Range, Sections, UnitRecord, Scope, unit_lines, FramesStop, UnitRange, ReadingDepth, LazyLines, UnitCache, has_entries, IsLendable, as_stop, AreLinesOf, HaveLinesOf, cached_spans, indexed_units, is_parsed, is_uncached, lines_at, parsed_units, HaveEntriesOf, answers_in, waits_at, FindsNothing, LookupStop, Waits, answer_of, ends_lookup, holds_along, with_answer, IsReadyFor, known_in, KnownEntries, LearnsNoFunctions, forgotten, is_open_at, load_result, spans_along, spans_in, spans_or_fault, AreParsed, ParsesOnly, has_parsed, IndexedUnit, as_units_state, FramesResult, UnitsState, FirstAnswers, SplitLoad, load_of_unit}
-use Rattle.std.specs.Prelude.{IfOk, IfSome, is_some}
+use Rattle.std.specs.Prelude.{IfSome, is_some}
 use Rattle.addr2line_units.specs.declared.frames.FramePlace.{FramePlace}
 use Rattle.addr2line_units.specs.declared.frames.FramesStop.TheVariants as stops
 use Rattle.addr2line_units.specs.declared.unit.LazyLines.TheVariants.{Absent, Faulty, Read, Unread}
 use Rattle.addr2line_units.specs.UnitsAfter.{AfterAnswer, AfterForget, AfterLines, AfterListing, AfterLoad}
+use Rattle.addr2line_units.specs.LoadsMemory.{answer_takes_memory}
 use Rattle.addr2line_units.specs.LocationsRange.{cached_along}
 use Rattle.addr2line_units.specs.EntriesStayKnown.{IsReadyAt, StaysKnown}
 use Rattle.addr2line_units.proofs.LoadsAnswerLemmas.{got_unit}
@@ -31,9 +32,8 @@ pub place_if_stored : {R : Type 0} (views : List (UnitCache R)) (last : FramesSt
 place_if_stored views last p e h = subst (IsLendable views) e h
 
 -- the load of the unit of a number
-pub load_there : (d : Sections) (us : List UnitRecord) (n : ℕ) (u : UnitRecord) → n < length us → u ≡ get_or us n u → (r : Result SplitLoad Error) → IfOk r (λ l. load_of_unit d n u ≡ Ok (Some l)) → IfOk r (λ l. option_map (load_of_unit d n) (slice_get us n) ≡ Some (Ok (Some l)))
-load_there d us n u h e (Ok l) told = ap (option_map (load_of_unit d n)) (got_unit us n u h e) ∙ ap Some told
-load_there d us n u h e (Err x) told = tt
+pub load_there : (d : Sections) (us : List UnitRecord) (n : ℕ) (u : UnitRecord) → n < length us → u ≡ get_or us n u → (l : SplitLoad) → load_of_unit d n u ≡ Ok (Some l) → option_map (load_of_unit d n) (slice_get us n) ≡ Some (Ok (Some l))
+load_there d us n u h e l told = ap (option_map (load_of_unit d n)) (got_unit us n u h e) ∙ ap Some told
 
 -- what cached lines have in ranges is what the lines of the units have
 module _ {R : Type 0} (d : Sections) (low high : ℕ) where
@@ -133,9 +133,10 @@ module _ {R : Type 0} (scope : Scope) (held : List (UnitCache R)) where
         whole = λ kind q. shut_whole kind k shut (same_or n k) q;
       }
 
-      pub after_answer : (given : Option Sections) (result : Result (Unit {0}) Error) → OnOk result (answers_in entries ≡ with_answer d us (answers_in held) n given)
-          → IfErr result (λ e. (e ≡ OutOfMemory) × (answers_in entries ≡ answers_in held) × StayAllEntries held entries × (is_some given ≡ true)) → LearnsNoFunctions (known_in held) (known_in entries) → (is_open_at d us (answers_in held) n ≡ false → result ≡ Ok tt) → AfterAnswer n given result old new
-      after_answer given result answers refused functions not_open = record {
+      pub after_answer : (shares : Bool) (given : Option Sections) (result : Result (Unit {0}) Error) → OnOk result (answers_in entries ≡ with_answer d us (answers_in held) n given)
+          → IfErr result (λ e. (e ≡ OutOfMemory) × (answers_in entries ≡ answers_in held) × StayAllEntries held entries × (is_some given ≡ true)) → LearnsNoFunctions (known_in held) (known_in entries) → (is_open_at d us (answers_in held) n ≡ false → result ≡ Ok tt)
+          → (answer_takes_memory shares given ≡ false → IfErr result (λ e. load_result d us (answers_in held) n given ≡ Err e)) → AfterAnswer shares n given result old new
+      after_answer shares given result answers refused functions not_open no_memory = record {
         stays = only_entries;
         answers = answers;
         refused = of_err result refused;
@@ -144,6 +145,7 @@ module _ {R : Type 0} (scope : Scope) (held : List (UnitCache R)) where
         known = stays_shut;
         same = λ one e. ap known_in (same_decided (answered_is_decided held n one e));
         not_open = not_open;
+        no_memory = no_memory;
         beside = beside;
       }
         where
@@ -152,11 +154,11 @@ module _ {R : Type 0} (scope : Scope) (held : List (UnitCache R)) where
           of_err (Ok x) h = tt
           of_err (Err e) h = (h.0, h.1, stays_known held entries h.2, h.3)
 
-      pub after_load : (given : Option Sections) (result : Result (Unit {0}) Error) → (WasNotRefused result → answers_in entries ≡ with_answer d us (answers_in held) n given)
+      pub after_load : (shares : Bool) (given : Option Sections) (result : Result (Unit {0}) Error) → (WasNotRefused result → answers_in entries ≡ with_answer d us (answers_in held) n given)
           → (answers_in entries ≡ answers_in held) ⊎ (answers_in entries ≡ with_answer d us (answers_in held) n given)
           → (result ≢ load_result d us (answers_in held) n given → (answers_in entries ≡ answers_in held) × StayAllEntries held entries)
-          → (is_open_at d us (answers_in held) n ≡ false → result ≡ load_result d us (answers_in held) n given) → (given ≡ None → result ≡ load_result d us (answers_in held) n None) → LearnsNoFunctions (known_in held) (known_in entries) → AfterLoad n given result old new
-      after_load given result answers begun refused not_open none functions = record {
+          → (is_open_at d us (answers_in held) n ≡ false → result ≡ load_result d us (answers_in held) n given) → (answer_takes_memory shares given ≡ false → result ≡ load_result d us (answers_in held) n given) → LearnsNoFunctions (known_in held) (known_in entries) → AfterLoad shares n given result old new
+      after_load shares given result answers begun refused not_open exact functions = record {
         stays = only_entries;
         answers = answers;
         begun = begun;
@@ -166,7 +168,7 @@ module _ {R : Type 0} (scope : Scope) (held : List (UnitCache R)) where
         others = λ k ne. known_unchanged held entries k (others k ne);
         functions = functions;
         not_open = not_open;
-        none = none;
+        exact = exact;
       }
 
     pub after_forget : (n : ℕ) → answers_in entries ≡ forgotten (answers_in held) n → (answer_of (answers_in held) n ≡ None → entries ≡ held) → ((k : ℕ) → k ≢ n → slice_get entries k ≡ slice_get held k) → LearnsNoFunctions (known_in held) (known_in entries) → AfterForget n old new

@@ -2,8 +2,8 @@
 -- sections 3.1.2, 3.3, 6.2 and 7.3.2).
 -- Own: what is cached stays, until the unit is forgotten, and nothing is read that isn't asked for.
 -- OutOfMemory is never cached.
-use Rattle.std.specs.Prelude.{◌≡◌, ℕ, Bool, true, false, List, Option, None, Some, Result, Ok, Err, IfOk, IfErr, IfSome, OnOk, is_some}
-use Rattle.addr2line_units.specs.Common.{Error, OutOfMemory, Range, WasNotRefused, Sections, UnitRecord, Scope, IsScope, functions_of, functions_take_memory, exceeds_inline_room}
+use Rattle.std.specs.Prelude.{◌≡◌, ◌+◌, ◌<◌, ◌≤◌, ℕ, Bool, true, false, List, Option, None, Some, Result, Ok, Err, IfOk, IfErr, IfSome, OnOk, is_some, if◌then◌else◌, ◌⊎◌}
+use Rattle.addr2line_units.specs.Common.{Error, OutOfMemory, WasNotRefused, Sections, UnitRecord, Scope, IsScope, functions_of, functions_take_memory, exceeds_inline_room, ExactlyUnlessOom}
 use Rattle.addr2line_lines.specs.FunctionDetails.{AreUnread}
 use Rattle.addr2line_units.specs.declared.entries.FunctionPlace.{FunctionPlace}
 use Rattle.addr2line_units.specs.declared.entries.LazyFunctions.{LazyFunctions}
@@ -16,34 +16,33 @@ use Rattle.addr2line_units.specs.EntriesFrames.{HasFewInlined, asks_lines_in, fr
 use Rattle.addr2line_units.specs.EntriesFunctions.{AreFunctionsOf, ArePlacesIn, ReadsNoOther, StayFunctions, cached_functions, cached_has_function, were_read}
 use Rattle.addr2line_units.specs.EntriesMemory.{functions_in_take_memory, lines_take_memory}
 use Rattle.addr2line_units.specs.Frames.{function_at}
-use Rattle.addr2line_units.specs.UnitLinesCached.{AreLinesOf, CachesResult, StayLines, indexed_unit, is_parsed, is_uncached, lines_result}
+use Rattle.addr2line_units.specs.UnitLinesCached.{AreLinesOf, CachesResult, StayLines, cached_lines_result, indexed_unit, is_uncached, lines_or}
 use Rattle.addr2line_units.specs.UnitsCached.{IsCacheOf}
-use Rattle.addr2line_units.specs.UnitsIndexed.{as_ranged_unit}
-use Rattle.addr2line_units.specs.UnitsRanged.{has_lines}
-use Rattle.addr2line_units.specs.UnitView.{decided_answer, is_open}
+use Rattle.addr2line_units.specs.UnitView.{answered_view, verdict, SplitLoad, load_of_unit}
+use Rattle.addr2line_units.specs.LoadsListed.{MarksUnit, is_marked}
+use Rattle.addr2line_units.specs.LoadsMemory.{answer_takes_memory}
 use Rattle.addr2line_units.specs.declared.unit.UnitView.{UnitView}
-use Rattle.addr2line_units.specs.UnitViewCached.{IsViewOf, answer_of_view, is_decided, was_checked}
+use Rattle.addr2line_units.specs.UnitViewCached.{answer_of_view, was_checked, verdict_in, waits}
 
--- after the lines of a unit were asked for: what is cached is right, and stays; unless memory was
--- refused they are cached, or their fault, and where they are, none was; where they take no memory
--- a refusal is their fault
+-- after the lines of a unit were asked for: what is cached is as it was, or was read of this unit
+-- now, and what was cached stays; unless memory was refused the lines are cached, or their fault,
+-- and where they are, none was, if that fault isn't OutOfMemory; where they take no memory a
+-- refusal is the fault that was cached, or where nothing was that of the unit's lines
 pub record AfterLinesOf {X : Type 0} (shares : Bool) (d : Sections) (u : UnitRecord)
     (result : Result X Error) (old new : LinesCache) : Type 0 where
-  pub right : AreLinesOf d u new.lines
+  pub read : (new.lines ≡ old.lines) ⊎ AreLinesOf d u new.lines
   pub stay : StayLines old new
   pub known : CachesResult old.lines result new.lines
-  pub memory : is_uncached new.lines ≡ false → WasNotRefused result
+  pub memory : is_uncached new.lines ≡ false → WasNotRefused (cached_lines_result new.lines)
+      → WasNotRefused result
   pub no_memory : lines_take_memory shares u ≡ false
-      → IfErr result (λ e. lines_result d u ≡ Err e)
+      → IfErr result (λ e. lines_or d u old.lines ≡ Err e)
 
--- after the ranges that lead to a unit were read, of which these are listed: its lines are cached
--- exactly where they are asked for, and what was cached stays; memory alone is refused
-pub record AfterLineRanges {X : Type 0} (d : Sections) (u : UnitRecord) (listed : List Range)
-    (result : Result X Error) (old new : LinesCache) : Type 0 where
-  pub right : AreLinesOf d u new.lines
-  pub stay : StayLines old new
-  pub known : OnOk result (is_parsed new ≡ has_lines (as_ranged_unit u old listed))
-  pub refused : IfErr result (λ e. e ≡ OutOfMemory)
+-- lines were looked at so often at most, and once at least where something was found
+pub record CountsSteps (most : ℕ) (found : Bool) (old new : ℕ) : Type 0 where
+  pub raised : old ≤ new
+  pub counted : found ≡ true → old < new
+  pub cost : new ≤ old + most
 
 -- functions that were just read are those of the view, or their fault, without any detail
 pub record AreNewFunctionsOf {R : Type 0} (scope : Scope) (view : UnitRecord) (f : LazyFunctions R)
@@ -63,7 +62,7 @@ IsRefusalOf shares scope view e = (e ≡ OutOfMemory)
 -- detail yet; where memory was refused nothing is changed
 pub record AfterCachingFunctions {R : Type 0} (shares : Bool) (scope : Scope) (view : UnitRecord)
     (result : Result (Unit {0}) Error) (old new : LazyFunctions R) : Type 0 where
-  pub right : AreFunctionsOf scope view new
+  pub right : were_read old ≡ false → AreFunctionsOf scope view new
   pub read : OnOk result (were_read new ≡ true)
   pub empty : were_read old ≡ false → AreUnread (cached_functions new)
   pub kept : were_read old ≡ true → (new ≡ old) × (result ≡ Ok tt)
@@ -105,39 +104,36 @@ pub record AfterFunctionIn {R : Type 0} (shares : Bool) (scope : Scope) (u : Uni
       → IfErr result (λ e. function_in scope u (first_answer_of old) probe ≡ Err e)
 
 -- after the view of a unit was looked at, unless that was done: it is known whether the unit waits,
--- and its answer is as it was
+-- and where it wasn't, by its bytes; its answer is as it was
 pub record AfterViewCheck {R : Type 0} (d : Sections) (u : UnitRecord) (old new : UnitView R)
     : Type 0 where
-  pub right : IsViewOf d u new
   pub known : was_checked new.state ≡ true
+  pub read : was_checked old.state ≡ false → verdict_in d u new.state ≡ Some (verdict d u None)
   pub answer : answer_of_view new ≡ answer_of_view old
   pub kept : was_checked old.state ≡ true → new ≡ old
 
--- after an answer was given to a unit that waits: it is decided by it, or memory was refused in the
--- place of given sections, and nothing is changed
-pub record AfterViewAnswer {R : Type 0} (d : Sections) (u : UnitRecord) (given : Option Sections)
-    (result : Result (Unit {0}) Error) (old new : UnitView R) : Type 0 where
-  pub right : IsViewOf d u new
-  pub answer : OnOk result (answer_of_view new ≡ Some given)
-  pub known : OnOk result (is_decided new.state ≡ true)
-  pub refused : IfErr result (λ e. (e ≡ OutOfMemory) × (new ≡ old) × (is_some given ≡ true))
-
--- after the answer of a unit was forgotten, if it had one
-pub record AfterViewForgetting {R : Type 0} (d : Sections) (u : UnitRecord) (old new : UnitView R)
+-- after a unit was decided by an answer, or memory was refused in the place of given sections, and
+-- nothing is changed; where the answer takes no memory a refusal would have to be its fault
+pub record AfterViewAnswer {R : Type 0} (shares : Bool) (d : Sections) (u : UnitRecord)
+    (given : Option Sections) (result : Result (Unit {0}) Error) (old new : UnitView R)
     : Type 0 where
-  pub right : IsViewOf d u new
+  pub answer : OnOk result (answer_of_view new ≡ Some given)
+  pub read : OnOk result (verdict_in d u new.state ≡ Some (Some (answered_view d u given)))
+  pub refused : IfErr result (λ e. (e ≡ OutOfMemory) × (new ≡ old) × (is_some given ≡ true))
+  pub no_memory : answer_takes_memory shares given ≡ false
+      → IfErr result (λ e. answered_view d u given ≡ Err e)
+
+-- after the answer of a unit was forgotten, if it had one: then it waits for one again
+pub record AfterViewForgetting {R : Type 0} (old new : UnitView R) : Type 0 where
   pub answer : answer_of_view new ≡ None
+  pub opens : is_some (answer_of_view old) ≡ true → waits new.state ≡ true
   pub kept : answer_of_view old ≡ None → new ≡ old
 
--- after a unit was looked at, unless that was done: what is cached is right, and stays, and no
--- functions are read
-pub record AfterCheck {R : Type 0} (scope : Scope) (u : UnitRecord) (old new : EntriesCache R)
+-- after a unit was looked at, unless that was done: no functions are read
+pub record AfterCheck {R : Type 0} (d : Sections) (u : UnitRecord) (old new : EntriesCache R)
     : Type 0 where
-  pub right : AreEntriesOf scope u new
-  pub known : was_checked new.view.state ≡ true
-  pub stay : StayEntries old new
+  pub view : AfterViewCheck d u old.view new.view
   pub functions : new.functions ≡ old.functions
-  pub kept : was_checked old.view.state ≡ true → new ≡ old
 
 -- after the frames at the probe were looked for: what is cached is right, and stays; no other
 -- detail is read, and lines only where they are asked for; unless memory was refused all that is
@@ -162,26 +158,38 @@ pub record AfterFramesIn {R : Type 0} (shares : Bool) (scope : Scope) (u : UnitR
       new.entries → IfErr result (λ e. frames_in scope (indexed_unit u old.lines)
       (first_answer_of old.entries) probe ≡ Err e)
 
--- after an answer to the load of a unit: it is decided by it if it was open, and else by what it
--- had; where memory was refused in the place of given sections, only that it was looked at may be
--- new
-pub record AfterAnswerIn {R : Type 0} (scope : Scope) (u : UnitRecord) (given : Option Sections)
-    (result : Result (Unit {0}) Error) (old new : EntriesCache R) : Type 0 where
-  pub right : AreEntriesOf scope u new
-  pub answer : OnOk result (first_answer_of new
-      ≡ decided_answer scope.file.sections u (first_answer_of old) given)
-  pub known : OnOk result (is_decided new.view.state ≡ true)
-  pub refused : IfErr result (λ e. (e ≡ OutOfMemory) × StayEntries old new
-      × (is_some given ≡ true))
-  pub functions : new.functions ≡ old.functions
-  pub kept : is_decided old.view.state ≡ true → (new ≡ old) × (result ≡ Ok tt)
-  pub none : is_open scope.file.sections u (first_answer_of old) ≡ false → result ≡ Ok tt
-
--- after a unit was forgotten it has no answer, and where it had one, its functions weren't read;
--- where it had none nothing is changed
-pub record AfterForgettingIn {R : Type 0} (scope : Scope) (u : UnitRecord) (old new : EntriesCache R)
+-- after an answer to the load of a unit: it was looked at first, and where it waits then, it is
+-- decided by the answer; no functions are read
+pub record AfterAnswerIn {R : Type 0} (shares : Bool) (d : Sections) (u : UnitRecord)
+    (given : Option Sections) (result : Result (Unit {0}) Error) (old new : EntriesCache R)
     : Type 0 where
-  pub right : AreEntriesOf scope u new
-  pub answer : first_answer_of new ≡ None
-  pub kept : first_answer_of old ≡ None → new ≡ old
+  pub between : UnitView R
+  pub check : AfterViewCheck d u old.view between
+  pub answer : waits between.state ≡ true
+      → AfterViewAnswer shares d u given result between new.view
+  pub none : waits between.state ≡ false → (new.view ≡ between) × (result ≡ Ok tt)
+  pub functions : new.functions ≡ old.functions
+
+-- the load of the unit of a number, none where it is marked
+abbrev pub load_unless_marked : Sections → ℕ → UnitRecord → List Bool
+    → Result (Option SplitLoad) Error
+load_unless_marked d number u marks =
+    if is_marked marks number then Ok None else load_of_unit d number u
+
+-- after a unit was looked at for its load: where it waits, the load is given unless the unit was
+-- marked, which it is then; else nothing is marked, and there is none
+pub record AfterNewLoadIn {R : Type 0} (d : Sections) (number : ℕ) (u : UnitRecord)
+    (marks marked : List Bool) (result : Result (Option SplitLoad) Error)
+    (old new : EntriesCache R) : Type 0 where
+  pub check : AfterCheck d u old new
+  pub load : waits new.view.state ≡ true
+      → ExactlyUnlessOom (λ l. l) result (load_unless_marked d number u marks)
+  pub marks_unit : waits new.view.state ≡ true → OnOk result (MarksUnit number marks marked)
+  pub none : waits new.view.state ≡ false → (result ≡ Ok None) × (marked ≡ marks)
+
+-- after a unit was forgotten: where it had an answer, its functions weren't read; where it had none
+-- nothing is changed
+pub record AfterForgettingIn {R : Type 0} (old new : EntriesCache R) : Type 0 where
+  pub view : AfterViewForgetting old.view new.view
   pub empty : is_some (first_answer_of old) ≡ true → were_read new.functions ≡ false
+  pub kept : first_answer_of old ≡ None → new ≡ old

@@ -39,8 +39,8 @@ pub record AfterReadingOf (depth : ReadingDepth) (reading result : Result (Unit 
   pub same : IsDecidedAndReady depth waited old → new ≡ old
 
 -- after the functions of a view were read, over readers that share their bytes or don't: what is
--- cached is right, and stays, and where all that is read was cached nothing is changed; no detail is
--- read where functions alone are; where functions take no memory, a refusal is their first fault
+-- cached is right, and stays, and where all that is read was cached nothing is changed; no detail
+-- is read where functions alone are; where functions take no memory, a refusal is their first fault
 pub record AfterReadingFunctions {R : Type 0} (shares : Bool) (depth : ReadingDepth)
     (scope : Scope) (view : UnitRecord) (result : Result (Unit {0}) Error)
     (old new : LazyFunctions R) : Type 0 where

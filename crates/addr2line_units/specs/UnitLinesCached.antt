@@ -2,9 +2,9 @@
 -- Own: lines are read when they are first asked for, and cached then, their fault too. OutOfMemory
 -- is never cached. Lines are absent where the unit has no rows and no files, as where it has no
 -- line program.
-use Rattle.std.specs.Prelude.{◌≡◌, ◌≢◌, ℕ, Bool, true, false, not, List, [], ◌∷◌, map, Option, Some, None, is_some, slice_get, Result, Ok, Err, box_value}
+use Rattle.std.specs.Prelude.{◌≡◌, ◌≢◌, ℕ, Bool, true, false, not, List, [], ◌∷◌, map, Option, Some, None, option_and_then, slice_get, Result, Ok, Err, if◌then◌else◌, box_value}
 use Rattle.std.specs.List.{AllZip}
-use Rattle.addr2line_units.specs.Common.{Error, OutOfMemory, Range, ◌>>=◌, fault_of, Sections, UnitRecord, LocatedSpan, locations_in_range, sequence_ranges, unit_lines}
+use Rattle.addr2line_units.specs.Common.{Error, OutOfMemory, Range, ◌>>=◌, fault_of, Sections, UnitRecord, LocatedSpan, location_at, locations_in_range, sequence_ranges, unit_lines}
 use Rattle.addr2line_lines.specs.declared.row.Row.{Row}
 use Rattle.addr2line_lines.specs.Location.{LineTable as Lines}
 use Rattle.addr2line_lines.specs.Counts.{most_steps_in}
@@ -14,7 +14,7 @@ use Rattle.addr2line_units.specs.declared.unit.LazyLines.TheVariants.{Unread, Ab
 use Rattle.addr2line_units.specs.declared.unit.LinesCache.{LinesCache}
 use Rattle.addr2line_units.specs.declared.entries.UnitCache.{UnitCache}
 use Rattle.addr2line_units.specs.UnitsRanged.{IndexedUnit}
-use Rattle.addr2line_units.specs.Locations.{all_read}
+use Rattle.addr2line_units.specs.Locations.{LocationResult, all_read}
 
 -- no lines
 abbrev pub no_lines : Lines
@@ -56,6 +56,15 @@ CachesResult old (Err e) new =
 abbrev pub lines_result : Sections → UnitRecord → Result (Option Lines) Error
 lines_result d u = unit_lines d u >>= λ lines. Ok (Some lines)
 
+-- the cached lines or their cached fault, or where nothing is cached what the unit's bytes give
+abbrev pub lines_or : Sections → UnitRecord → LazyLines → Result (Option Lines) Error
+lines_or d u lines = if is_uncached lines then lines_result d u else cached_lines_result lines
+
+-- the location of the probe in these, or the fault
+abbrev pub location_or : Sections → UnitRecord → ℕ → LazyLines → LocationResult
+location_or d u probe lines =
+    lines_or d u lines >>= λ found. Ok (option_and_then (location_at probe) found)
+
 -- the texts of the files of cached lines
 abbrev pub cached_files : LazyLines → List (List ℕ)
 cached_files (Read lines) = (box_value lines).files
@@ -91,11 +100,6 @@ indexed_unit dw_unit u = record { unit = dw_unit; language = u.lang }
 -- whether the lines of a unit are parsed
 abbrev pub is_parsed : LinesCache → Bool
 is_parsed u = not (is_uncached u.lines)
-
--- the lines of a unit that was just read are not parsed, unless it has no line program
-pub record IsUnparsed (d : Sections) (dw_unit : UnitRecord) (u : LinesCache) : Type 0 where
-  pub uncached : is_uncached u.lines ≡ is_some dw_unit.line_program
-  pub lines : AreLinesOf d dw_unit u.lines
 
 -- the units and their languages, which are cached beside them
 abbrev pub indexed_units : {R : Type 0} → List UnitRecord → List (UnitCache R) → List IndexedUnit

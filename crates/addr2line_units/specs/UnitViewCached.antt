@@ -1,7 +1,7 @@
 -- What is cached of a unit's view, as the private functions see it.
 -- Own: whether a unit needs an answer is cached once it was looked at. Its first answer is stored,
 -- and what it decides is cached, until the unit is forgotten. OutOfMemory is never cached.
-use Rattle.std.specs.Prelude.{◌≡◌, Bool, true, false, is_some, Option, Some, None, option_map, IfSome, Result, Ok, Err, Box, box_value}
+use Rattle.std.specs.Prelude.{◌≡◌, Bool, true, false, is_some, Option, Some, None, option_map, unwrap_or, IfSome, Result, Ok, Err, Box, box_value}
 use Rattle.std.specs.declared.alloc.Global.{Global}
 use Rattle.addr2line_units.specs.Common.{Error, ◌>>=◌, result_map, Sections, UnitRecord}
 use Rattle.gimli.specs.Split.{relocated}
@@ -52,6 +52,11 @@ verdict_in d u states.Open = Some None
 verdict_in d u states.Main = Some (Some (Ok (main_view d u)))
 verdict_in d u (states.Unnamed e) = Some (Some (Err e))
 verdict_in d u (states.Answered a) = Some (Some (view_in d u a))
+
+-- what is cached of the verdict, or what the bytes say before the unit was looked at
+abbrev pub verdict_or : {R : Type 0} → Sections → UnitRecord → ViewState R
+    → Option (Result View Error)
+verdict_or d u s = unwrap_or (verdict_in d u s) (verdict d u None)
 
 -- whether the unit was looked at
 abbrev pub was_checked : {R : Type 0} → ViewState R → Bool

@@ -2,7 +2,7 @@
 -- Own: a lookup parses only lines that it asks for, and reads nothing of a unit that it doesn't
 -- ask; what is known stays known. The first answer to a unit's load counts until the unit is
 -- forgotten.
-use Rattle.std.specs.Prelude.{◌≡◌, ◌≢◌, ◌⊎◌, ◌+◌, ◌<◌, ◌≤◌, ℕ, Bool, true, false, List, length, IfErr, OnOk, is_some, slice_get, Option, Some, None, Result, Ok}
+use Rattle.std.specs.Prelude.{◌≡◌, ◌≢◌, ◌⊎◌, ◌+◌, ◌<◌, ◌≤◌, ℕ, Bool, true, false, List, length, IfErr, IsOk, OnOk, is_some, slice_get, Option, Some, None, Result, Ok, Err}
 use Rattle.std.specs.List.{AllByRecursion}
 use Rattle.addr2line_units.specs.Common.{Error, OutOfMemory, WasNotRefused, Sections}
 use Rattle.addr2line_units.specs.declared.frames.Asks.{Asks}
@@ -11,13 +11,14 @@ use Rattle.addr2line_units.specs.declared.index.UnitRange.{UnitRange}
 use Rattle.addr2line_units.specs.declared.parses.ReadingDepth.{ReadingDepth}
 use Rattle.addr2line_units.specs.declared.parses.ReadingDepth.TheVariants as depths
 use Rattle.addr2line_units.specs.FramesLookup.{FindsNothing, LookupAsks, answer_of, asks_lines_of, has_stopped, holds_along, function_offset_of, with_answer}
-use Rattle.addr2line_units.specs.Parses.{AreFirstDecided, AreReadBefore, AreReadyFor, answers_after_parse, read_of_units}
+use Rattle.addr2line_units.specs.Parses.{AreFirstDecided, AreReadBefore, AreReadyFor, ReadsNoMemory, answers_after_parse, read_of_units}
 use Rattle.addr2line_units.specs.EntriesKnown.{LearnsDetailsAt, LearnsNoDetails, LearnsNoFunctions, knows_at}
-use Rattle.addr2line_units.specs.Loads.{forgotten, is_open_at, load_result}
+use Rattle.addr2line_units.specs.Loads.{NoneOpen, forgotten, is_open_at, load_result}
+use Rattle.addr2line_units.specs.LoadsMemory.{answer_takes_memory}
 use Rattle.addr2line_units.specs.Locations.{steps_along}
 use Rattle.addr2line_units.specs.LocationsParsed.{AllAskFor, AreAllParsed, AreParsed, AreReadyForAll, LeadTo, ParsesOnly, StaysParsed, TakeNone, TakeNoneForAll}
 use Rattle.addr2line_units.specs.EntriesStayKnown.{IsReadBy, IsReadyAt, StaysKnown}
-use Rattle.addr2line_units.specs.UnitsState.{IsFaultAt, UnitsState, asked_by, has_asked_at, has_asked_few_at}
+use Rattle.addr2line_units.specs.UnitsState.{IsFaultAt, UnitsState, asked_by, has_asked_at, has_asked_few_at, takes_none_at}
 
 -- nothing is changed but which lines are parsed, how often they were looked at, and what is stored
 -- of the last lookup: those stay parsed that were, and no others are but those that are asked for
@@ -80,28 +81,33 @@ WereAskedFor Location asked most probe = LinesWereAsked asked most
 WereAskedFor (Frames faults) asked most probe = WereAsked asked probe
 
 -- after units were asked; the same lookup reads nothing more, but after OutOfMemory, which comes
--- only where something is left to read, or more than 16 functions are inlined; no lookup is stored
--- where this one was refused
+-- only where something is left to read, or more than 16 functions are inlined; where nothing that
+-- it asks for takes memory a refusal is a fault that they have; no lookup is stored where this one
+-- was refused
 pub record AfterAsking {X : Type 0} (Leaves : UnitsState → UnitsState → Type 0)
-    (all few : UnitsState → Bool) (result : Result X Error) (old new : UnitsState) : Type 0 where
+    (all few none : UnitsState → Bool) (IsFault : Error → Type 0) (result : Result X Error)
+    (old new : UnitsState) : Type 0 where
   pub asked : Leaves old new
   pub ready : WasNotRefused result → all new ≡ true
   pub memory : few new ≡ true → WasNotRefused result
+  pub no_memory : none new ≡ true → IfErr result IsFault
   pub stop : IfErr result (λ _. new.stop ≡ FindsNothing)
-
--- after a lookup along ranges
-abbrev pub AfterWalk : {X : Type 0} → Asks → ℕ → List UnitRange → Result X Error → UnitsState
-    → UnitsState → Type 0
-AfterWalk asks probe ranges result old = AfterAsking
-    (WereAskedFor asks (LookupAsks (asked_by asks probe old) ranges)
-    (steps_along old.scope.file.sections old.units ranges) probe)
-    (λ s. holds_along (has_asked_at asks probe s) (asked_by asks probe old) ranges)
-    (λ s. holds_along (has_asked_few_at asks probe s) (asked_by asks probe old) ranges) result old
 
 -- a unit that a lookup asks along ranges has this fault
 abbrev pub IsFaultAlong : Asks → ℕ → UnitsState → List UnitRange → Error → Type 0
 IsFaultAlong asks probe s ranges e =
     (n : ℕ) × LookupAsks (asked_by asks probe s) ranges n × IsFaultAt asks probe s n e
+
+-- after a lookup along ranges, over readers that share their bytes or don't
+abbrev pub AfterWalk : {X : Type 0} → Bool → Asks → ℕ → List UnitRange → Result X Error
+    → UnitsState → UnitsState → Type 0
+AfterWalk shares asks probe ranges result old = AfterAsking
+    (WereAskedFor asks (LookupAsks (asked_by asks probe old) ranges)
+    (steps_along old.scope.file.sections old.units ranges) probe)
+    (λ s. holds_along (has_asked_at asks probe s) (asked_by asks probe old) ranges)
+    (λ s. holds_along (has_asked_few_at asks probe s) (asked_by asks probe old) ranges)
+    (λ s. holds_along (takes_none_at shares asks probe s) (asked_by asks probe old) ranges)
+    (IsFaultAlong asks probe old ranges) result old
 
 -- nothing is changed but first answers, what is known of units' entries, and that no lookup is
 -- stored
@@ -112,9 +118,10 @@ StayRead old new = new
 -- after an answer to the load of the unit of a number nothing is changed but of that unit, of which
 -- what was known stays unless it was open, and nothing is changed where it had an answer; no
 -- function becomes known; after OutOfMemory in the place of given sections all first answers are as
--- before, and what was known stays known
-pub record AfterAnswer (n : ℕ) (given : Option Sections) (result : Result (Unit {0}) Error)
-    (old new : UnitsState) : Type 0 where
+-- before, and what was known stays known; where the answer takes no memory, over readers that share
+-- their bytes or don't, there is none
+pub record AfterAnswer (shares : Bool) (n : ℕ) (given : Option Sections)
+    (result : Result (Unit {0}) Error) (old new : UnitsState) : Type 0 where
   pub stays : StayRead old new
   pub answers : OnOk result (new.answers
       ≡ with_answer old.scope.file.sections old.scope.file.units old.answers n given)
@@ -128,12 +135,15 @@ pub record AfterAnswer (n : ℕ) (given : Option Sections) (result : Result (Uni
       → new.known ≡ old.known
   pub not_open : is_open_at old.scope.file.sections old.scope.file.units old.answers n ≡ false
       → result ≡ Ok tt
+  pub no_memory : answer_takes_memory shares given ≡ false → IfErr result (λ e.
+      load_result old.scope.file.sections old.scope.file.units old.answers n given ≡ Err e)
   pub beside : length old.scope.file.units ≡ length old.answers
 
 -- the same outside a lookup, where the fault of the unit's view refuses too: nothing is changed of
--- a unit that had an answer, and of one that wasn't open what was known stays
-pub record AfterLoad (n : ℕ) (given : Option Sections) (result : Result (Unit {0}) Error)
-    (old new : UnitsState) : Type 0 where
+-- a unit that had an answer, and of one that wasn't open what was known stays; where the unit isn't
+-- open, or the answer takes no memory, the result is exactly that fault, or none
+pub record AfterLoad (shares : Bool) (n : ℕ) (given : Option Sections)
+    (result : Result (Unit {0}) Error) (old new : UnitsState) : Type 0 where
   pub stays : StayRead old new
   pub answers : WasNotRefused result → new.answers
       ≡ with_answer old.scope.file.sections old.scope.file.units old.answers n given
@@ -150,8 +160,8 @@ pub record AfterLoad (n : ℕ) (given : Option Sections) (result : Result (Unit 
   pub functions : LearnsNoFunctions old.known new.known
   pub not_open : is_open_at old.scope.file.sections old.scope.file.units old.answers n ≡ false
       → result ≡ load_result old.scope.file.sections old.scope.file.units old.answers n given
-  pub none : given ≡ None
-      → result ≡ load_result old.scope.file.sections old.scope.file.units old.answers n None
+  pub exact : answer_takes_memory shares given ≡ false
+      → result ≡ load_result old.scope.file.sections old.scope.file.units old.answers n given
 
 -- after the unit of a number is forgotten nothing is changed but of that unit, and that no lookup
 -- is stored; of the unit nothing where it had no answer; no function becomes known
@@ -162,7 +172,7 @@ pub record AfterForget (n : ℕ) (old new : UnitsState) : Type 0 where
   pub others : (k : ℕ) → k ≢ n → slice_get new.known k ≡ slice_get old.known k
   pub functions : LearnsNoFunctions old.known new.known
 
--- after the loads of units were listed nothing is changed but that more may be known of those
+-- after the loads of units were looked for nothing is changed but that more may be known of those
 -- units, and no function of them, and that no lookup is stored
 pub record AfterListing (asks : ℕ → Type 0) (old new : UnitsState) : Type 0 where
   pub stays : StayRead old new
@@ -171,13 +181,23 @@ pub record AfterListing (asks : ℕ → Type 0) (old new : UnitsState) : Type 0 
   pub learns : (n : ℕ) → (slice_get new.known n ≡ slice_get old.known n) ⊎ asks n
   pub functions : LearnsNoFunctions old.known new.known
 
+-- after the loads of the units that ranges lead to were listed; memory alone is refused, and none
+-- where none of these is open
+pub record AfterPreload {X : Type 0} (ranges : List UnitRange) (result : Result X Error)
+    (old new : UnitsState) : Type 0 where
+  pub listing : AfterListing (LeadTo ranges) old new
+  pub memory : NoneOpen old.scope.file.sections old.scope.file.units old.answers ranges
+      → IsOk result
+  pub refused : IfErr result (λ e. e ≡ OutOfMemory)
+
 -- after a parse of all functions open units are decided by none, up to the first fault; where
 -- memory was refused, some of the first ones. What was known of the others stays, and where
 -- functions alone are read no detail becomes known. Unless memory was refused all is known that the
 -- parse reads, and where it is, none was refused; where it was before, the result is that of the
--- reading, and nothing is changed of what is known and answered. Without a fault all is read; of
--- units behind the first fault nothing becomes known
-pub record AfterReading (depth : ReadingDepth) (result : Result (Unit {0}) Error)
+-- reading, and nothing is changed of what is known and answered; where nothing that is read takes
+-- memory, over readers that share their bytes or don't, a refusal is the first fault. Without a
+-- fault all is read; of units behind the first fault nothing becomes known
+pub record AfterReading (shares : Bool) (depth : ReadingDepth) (result : Result (Unit {0}) Error)
     (old new : UnitsState) : Type 0 where
   pub stays : StayRead old new
   pub answers : WasNotRefused result → new.answers
@@ -198,6 +218,9 @@ pub record AfterReading (depth : ReadingDepth) (result : Result (Unit {0}) Error
       → AreReadyFor depth old.scope old.scope.file.units new.answers new.known
   pub memory : AreReadyFor depth old.scope old.scope.file.units new.answers new.known
       → WasNotRefused result
+  pub no_memory : ReadsNoMemory shares depth old.scope old.scope.file.units new.answers new.known
+      → IfErr result
+      (λ e. read_of_units depth old.scope old.scope.file.units old.answers ≡ Err e)
   pub exact : AreReadyFor depth old.scope old.scope.file.units old.answers old.known
       → result ≡ read_of_units depth old.scope old.scope.file.units old.answers
   pub same : AreReadyFor depth old.scope old.scope.file.units old.answers old.known

@@ -1,13 +1,15 @@
 -- What is cached of all units of a context, as the private functions see it: a cache beside each
 -- unit, their first answers, and which units wait.
-use Rattle.std.specs.Prelude.{ℕ, Bool, false, List, map, option_map, slice_get, unwrap_or}
+use Rattle.std.specs.Prelude.{◌≡◌, ℕ, Bool, false, List, [], ◌∷◌, ◌++◌, map, Option, Some, None, option_map, slice_get, unwrap_or}
 use Rattle.std.specs.List.{AllZip}
-use Rattle.addr2line_units.specs.Common.{UnitRecord, Scope}
+use Rattle.addr2line_units.specs.Common.{Sections, UnitRecord, Scope}
 use Rattle.addr2line_units.specs.declared.entries.UnitCache.{UnitCache}
+use Rattle.addr2line_units.specs.declared.units.Index.{Index}
 use Rattle.addr2line_units.specs.UnitViewCached.{waits}
-use Rattle.addr2line_units.specs.UnitLinesCached.{AreLinesOf}
+use Rattle.addr2line_units.specs.UnitLinesCached.{AreLinesOf, HaveLinesOf}
 use Rattle.addr2line_units.specs.EntriesCached.{AreEntriesOf, AreFresh, first_answer_of}
 use Rattle.addr2line_units.specs.UnitView.{FirstAnswers}
+use Rattle.addr2line_units.specs.UnitsRanged.{RangedUnit}
 
 -- the lines and the entries that are cached of a unit are its own
 pub record IsCacheOf {R : Type 0} (scope : Scope) (u : UnitRecord) (c : UnitCache R) : Type 0 where
@@ -21,6 +23,26 @@ HaveCachesOf scope us caches = AllZip (IsCacheOf scope) us caches
 -- nobody has asked for any entries yet
 abbrev pub AreFreshOf : {R : Type 0} → List UnitRecord → List (UnitCache R) → Type 0
 AreFreshOf us caches = AllZip (λ _ c. AreFresh c.entries) us caches
+
+-- beside each unit stands its cache: its lines, and nobody has asked for any of its entries yet
+pub record HaveNewCaches {R : Type 0} (d : Sections) (us : List UnitRecord)
+    (cs : List (UnitCache R)) : Type 0 where
+  pub lines : HaveLinesOf d us cs
+  pub fresh : AreFreshOf us cs
+
+-- a unit is added, and beside it its cache: its lines, and nobody has asked for any of its entries
+-- yet
+pub record AddsUnit {R : Type 0} (d : Sections) (u : UnitRecord) (old new : Index R) : Type 0 where
+  pub cache : UnitCache R
+  pub units : new.dw_units.items ≡ old.dw_units.items ++ u ∷ []
+  pub caches : new.caches.items ≡ old.caches.items ++ cache ∷ []
+  pub lines : AreLinesOf d u cache.lines.lines
+  pub fresh : AreFresh cache.entries
+
+-- a unit is added, and nothing where it is passed over
+abbrev pub AddsUnitIf : {R : Type 0} → Sections → Option RangedUnit → Index R → Index R → Type 0
+AddsUnitIf d None old new = new ≡ old
+AddsUnitIf d (Some u) old new = AddsUnit d u.indexed.unit old new
 
 -- the first answers of units
 abbrev pub answers_in : {R : Type 0} → List (UnitCache R) → FirstAnswers

@@ -1,14 +1,13 @@
 -- The units of a context and their ranges as they are read, one after another, as the private
 -- functions see them.
-use Rattle.std.specs.Prelude.{Bool, List, [], ◌++◌, length, map, nat_lt, Ok}
-use Rattle.addr2line_units.specs.Common.{Range, Costed, free, Section, UnitHeaderFields, Sections, UnitRecord, all_headers}
+use Rattle.std.specs.Prelude.{Bool, List, [], ◌++◌, length, map, nat_lt, Option, Ok}
+use Rattle.addr2line_units.specs.Common.{DwLang, Range, Costed, free, Section, UnitHeaderFields, Sections, UnitRecord, all_headers}
 use Rattle.gimli_read.specs.Costed.{◌>>=◌}
 use Rattle.addr2line_units.specs.declared.index.UnitArange.{UnitArange}
 use Rattle.addr2line_units.specs.declared.index.UnitRange.{UnitRange}
-use Rattle.addr2line_units.specs.declared.unit.LinesCache.{LinesCache}
 use Rattle.addr2line_units.specs.declared.units.Index.{Index}
 use Rattle.addr2line_units.specs.declared.units.IndexedUnits.{IndexedUnits}
-use Rattle.addr2line_units.specs.UnitLinesCached.{indexed_unit, indexed_units, parsed_units}
+use Rattle.addr2line_units.specs.UnitLinesCached.{indexed_units, parsed_units}
 use Rattle.addr2line_units.specs.UnitsOfHeaders.{put_to, units_of}
 use Rattle.addr2line_units.specs.UnitsRanged.{IndexedUnit, indexed_of, RangedUnit, has_lines, unit_ranges_from, unit_of_header}
 use Rattle.addr2line_units.specs.IndexAranges.{aranges_in, lists_aranges}
@@ -83,9 +82,10 @@ as_indexed_units u = record {
   parsed = parsed_units u.caches.items;
 }
 
--- a unit and the ranges that are listed for it
-abbrev pub as_ranged_unit : UnitRecord → LinesCache → List Range → RangedUnit
-as_ranged_unit dw_unit u listed = record { indexed = indexed_unit dw_unit u; listed = listed }
+-- a unit with its language, and the ranges that are listed for it
+abbrev pub as_ranged_unit : UnitRecord → Option DwLang → List Range → RangedUnit
+as_ranged_unit dw_unit lang listed =
+    record { indexed = record { unit = dw_unit; language = lang }; listed = listed }
 
 -- whether memory may be taken for all that a context has
 abbrev pub context_takes_memory : Bool → Sections → Bool

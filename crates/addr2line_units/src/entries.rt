@@ -4,7 +4,7 @@ ghost use Rattle.std.specs.Prelude.{◌≡◌, ◌&&◌, IfErr, IfOk, true, ◌�
 ghost use Rattle.addr2line_units.specs.Common.{ExactlyUnlessOomIf, ExactlyUnlessOom, as_scope};
 ghost use Rattle.addr2line_units.specs.Frames.{function_at};
 ghost use Rattle.addr2line_units.specs.ParsesAfter.{AfterReadingFunctions};
-ghost use Rattle.addr2line_units.specs.EntriesFunctions.{AreFunctionsOf, find_takes_memory, found_in_cache, functions_fault, reading_takes_memory, were_read};
+ghost use Rattle.addr2line_units.specs.EntriesFunctions.{find_takes_memory, found_in_cache, functions_fault, reading_takes_memory, were_read};
 ghost use Rattle.addr2line_units.specs.EntriesFrames.{frames_in, function_in};
 ghost use Rattle.addr2line_units.specs.UnitLinesCached.{indexed_unit};
 ghost use Rattle.addr2line_units.specs.UnitsCached.{IsCacheOf};
@@ -17,7 +17,7 @@ ghost use Rattle.addr2line_units.specs.declared.parses.ReadingDepth.TheVariants.
 use crate::unit::{LazyLines, LinesCache, UnitView};
 use addr2line_lines::{Count, Functions, InlinedPlaces, Row, Scope};
 use gimli::read::{Error, Reader};
-use gimli::{Unit, UnitRef};
+use gimli::{Dwarf, Unit, UnitRef};
 use std::alloc::Global;
 
 // What is cached of the functions of a view. They stand in a box, so that what is cached of a unit
@@ -80,7 +80,6 @@ impl<R: Reader> LazyFunctions<R> {
         scope: Scope<'_, R>,
         view: &Unit<R>,
     ) -> Result<(), Error>
-        requires cached { AreFunctionsOf (as_scope scope) view.now self.old }
         ensures after { AfterCachingFunctions R.shares (as_scope scope.entry) view.now result
             self.old self.new }
     {
@@ -209,11 +208,10 @@ impl<R: Reader> EntriesCache<R> {
     }
 
     // Looks whether the unit waits for an answer, unless that was done. Takes no memory.
-    pub(crate) fn check_split(&mut self, scope: Scope<'_, R>, dw_unit: &Unit<R>)
-        requires cached { AreEntriesOf (as_scope scope) dw_unit.now self.old }
-        ensures after { AfterCheck (as_scope scope.entry) dw_unit.now self.old self.new }
+    pub(crate) fn check_split(&mut self, dwarf: &Dwarf<R>, dw_unit: &Unit<R>)
+        ensures after { AfterCheck dwarf.now dw_unit.now self.old self.new }
     {
-        self.view.check_split(scope.file.dwarf, dw_unit);
+        self.view.check_split(dwarf, dw_unit);
     }
 }
 
@@ -268,7 +266,7 @@ pub(crate) fn find_frames_in<'x, R: Reader>(
     ensures steps { steps.old ≤ steps.new }
 {
     let UnitCache { lines, entries } = cache;
-    entries.check_split(scope, dw_unit);
+    entries.check_split(scope.file.dwarf, dw_unit);
     if entries.view.is_open() {
         return Ok(UnitFrames::Open);
     }

@@ -14,19 +14,16 @@ ghost use Rattle.addr2line_units.specs.Frames.{call_location, found_frames, fram
 ghost use Rattle.addr2line_units.specs.FramesLeft.{entry_frame, files_if, frames_left, place_frame};
 ghost use Rattle.addr2line_units.specs.EntriesFunctions.{ArePlacesIn, function_of_place, cached_functions};
 ghost use Rattle.addr2line_units.specs.FramesLent.{YieldsFrame, language_text, name_text, raw_text, as_frame, as_name};
-ghost use Rattle.addr2line_units.specs.UnitsAfter.{AfterWalk, IsFaultAlong, AfterAnswer};
+ghost use Rattle.addr2line_units.specs.UnitsAfter.{AfterWalk, AfterAnswer};
 ghost use Rattle.addr2line_units.specs.UnitsAsked.{AfterAsk, found_stop, row_stop, stop_at};
 ghost use Rattle.addr2line_units.specs.EntriesEmpty.{HasNothingAt};
 ghost use Rattle.addr2line_units.specs.FramesCached.{found_after_fault};
-ghost use Rattle.addr2line_units.specs.FramesLookup.{FindsNothing, has_stopped, holds_along, Waits, frames_found, location_found, unit_found};
-ghost use Rattle.addr2line_units.specs.Locations.{first_location};
+ghost use Rattle.addr2line_units.specs.FramesLookup.{FindsNothing, has_stopped, Waits, frames_found, unit_found};
 ghost use Rattle.addr2line_units.specs.declared.frames.Asks.TheVariants as lookups;
 ghost use Rattle.addr2line_units.specs.RangeIterLeft.{ranges_left};
-ghost use Rattle.addr2line_units.specs.UnitsState.{IsFaultAt, asked_by, stop_of, takes_none_at, waiting_unit};
-ghost use Rattle.addr2line_units.specs.LoadsMemory.{answer_takes_memory};
+ghost use Rattle.addr2line_units.specs.UnitsState.{stop_of, waiting_unit};
 ghost use Rattle.addr2line_units.specs.EntriesCached.{AreRead};
 ghost use Rattle.addr2line_units.specs.UnitLinesCached.{cached_files};
-ghost use Rattle.addr2line_units.specs.Loads.{load_result};
 ghost use Rattle.addr2line_units.specs.SupScope.{as_unit, sup_file};
 ghost use Rattle.addr2line_units.specs.UnitView.{load_of_unit};
 
@@ -35,7 +32,7 @@ use crate::legacy::demangle_auto;
 use crate::locations::location_of;
 use crate::range_iter::UnitRangeIter;
 use crate::sup::SupUnits;
-use crate::unit::{LazyLines, SplitDwarfLoad};
+use crate::unit::{LazyLines, SplitDwarfLoad, read_load};
 use crate::units::Units;
 use addr2line_lines::{FileUnits, Functions, InlinedFunction, Lines, Location, Row, Scope};
 use gimli::read::{DwLang, Error, Reader, UnitOffset};
@@ -457,9 +454,8 @@ impl<R: Reader> Units<R> {
     fn ask_frames(&mut self, number: usize, probe: u64, faults: OnFault) -> Result<(), Error>
         ensures gives { ExactlyUnlessOom (λ _. self.new.stop) result
             (stop_at (lookups.Frames faults) probe self.old number) }
-        ensures after { AfterAsk (lookups.Frames faults) number probe result self.old self.new }
-        ensures no_memory { takes_none_at R.shares (lookups.Frames faults) probe self.new number
-            ≡ true → IfErr result (IsFaultAt (lookups.Frames faults) probe self.old number) }
+        ensures after { AfterAsk R.shares (lookups.Frames faults) number probe result self.old
+            self.new }
     {
         if self.has_nothing(number) {
             self.reset();
@@ -474,9 +470,8 @@ impl<R: Reader> Units<R> {
     fn ask_unit(&mut self, number: usize, probe: u64, faults: OnFault) -> Result<(), Error>
         ensures gives { ExactlyUnlessOom (λ _. self.new.stop) result
             (stop_at (lookups.Frames faults) probe self.old number) }
-        ensures after { AfterAsk (lookups.Frames faults) number probe result self.old self.new }
-        ensures no_memory { takes_none_at R.shares (lookups.Frames faults) probe self.new number
-            ≡ true → IfErr result (IsFaultAt (lookups.Frames faults) probe self.old number) }
+        ensures after { AfterAsk R.shares (lookups.Frames faults) number probe result self.old
+            self.new }
     {
         self.stop = FramesStop::FindsNothing;
         let scope = self.sources.scope();
@@ -495,9 +490,7 @@ impl<R: Reader> Units<R> {
     fn ask(&mut self, number: usize, probe: u64, asks: Asks) -> Result<(), Error>
         ensures gives { ExactlyUnlessOom (λ _. self.new.stop) result
             (stop_at asks probe self.old number) }
-        ensures after { AfterAsk asks number probe result self.old self.new }
-        ensures no_memory { takes_none_at R.shares asks probe self.new number ≡ true
-            → IfErr result (IsFaultAt asks probe self.old number) }
+        ensures after { AfterAsk R.shares asks number probe result self.old self.new }
     {
         match asks {
             Asks::Location => self.ask_lines(number, probe),
@@ -522,13 +515,8 @@ impl<R: Reader> Units<R> {
     ) -> Result<(), Error>
         ensures gives { ExactlyUnlessOom (λ _. self.new.stop) result
             (stop_of asks probe self.old (ranges_left ranges.entry)) }
-        ensures found { asks ≡ lookups.Location
-            → ExactlyUnlessOom (λ _. location_found self.new.stop) result (first_location
-            self.old.scope.file.sections self.old.units probe (ranges_left ranges.entry)) }
-        ensures after { AfterWalk asks probe (ranges_left ranges.entry) result self.old self.new }
-        ensures no_memory { holds_along (takes_none_at R.shares asks probe self.new)
-            (asked_by asks probe self.old) (ranges_left ranges.entry) ≡ true
-            → IfErr result (IsFaultAlong asks probe self.old (ranges_left ranges.entry)) }
+        ensures after { AfterWalk R.shares asks probe (ranges_left ranges.entry) result self.old
+            self.new }
     {
         self.reset();
         while let Some(range) = ranges.next() {
@@ -609,8 +597,10 @@ impl<R: Reader> Units<R> {
         ensures refused { IfErr result (λ e. e ≡ OutOfMemory) }
     {
         let dw_unit = &self.sources.units[number];
-        let cache = &self.caches[number];
-        cache.entries.load(&self.sources.dwarf, dw_unit, number)
+        match read_load(&self.sources.dwarf, number, dw_unit)? {
+            Some(load) => Ok(load),
+            None => unreachable!(),
+        }
     }
 
     /// The frames that the last lookup has found, none where it waits or has found nothing. Takes
@@ -645,12 +635,8 @@ impl<R: Reader> Units<R> {
     /// Refused `OutOfMemory` alone, and only where sections are given, whose bytes are shared or
     /// the header of whose first unit can be read.
     pub fn answer(&mut self, number: usize, sections: Option<Rc<Dwarf<R>>>) -> Result<(), Error>
-        ensures after { AfterAnswer number (option_map (λ d. d.value) sections) result self.old
-            self.new }
-        ensures no_memory { answer_takes_memory R.shares (option_map (λ d. d.value) sections)
-            ≡ false → IfErr result (λ e. load_result self.old.scope.file.sections
-            self.old.scope.file.units self.old.answers number (option_map (λ d. d.value) sections)
-            ≡ Err e) }
+        ensures after { AfterAnswer R.shares number (option_map (λ d. d.value) sections) result
+            self.old self.new }
     {
         self.stop = FramesStop::FindsNothing;
         let scope = self.sources.scope();
@@ -658,6 +644,7 @@ impl<R: Reader> Units<R> {
             return Ok(());
         };
         let cache = &mut self.caches[number];
-        cache.entries.answer(self.alloc, scope, dw_unit, sections)
+        let dwarf = scope.file.dwarf;
+        cache.entries.answer(self.alloc, dwarf, dw_unit, sections)
     }
 }

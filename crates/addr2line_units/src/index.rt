@@ -9,7 +9,7 @@ ghost use Rattle.addr2line_units.specs.UnitsIndexed.{aranges_read};
 ghost use Rattle.addr2line_lines.specs.InOrder.{in_order};
 ghost use Rattle.addr2line_lines.specs.LastAddress.{last_address};
 ghost use Rattle.addr2line_units.specs.IndexAranges.{aranges_in, lists_aranges, is_arange_of, offset_sooner, set_aranges};
-ghost use Rattle.addr2line_units.specs.IndexLeastBegins.{EndFits, is_between, with_least_begins, AreLeastBegins};
+ghost use Rattle.addr2line_units.specs.IndexLeastBegins.{EndFits, is_between, with_least_begins};
 ghost use Rattle.addr2line_units.specs.IndexCover.{cover, cover_range, ends_sooner};
 ghost use Rattle.addr2line_units.specs.RangeIterLeft.{ranges_left};
 

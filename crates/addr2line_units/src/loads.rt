@@ -1,23 +1,21 @@
 //! The answers to the loads of units, and the loads that an address waits for.
 
-ghost use Rattle.std.specs.Prelude.{◌≡◌, Err, IfErr, IfOk, None, OnOk, Ok, Some, false, option_map, true, ◌++◌, ◌<◌, IsOk, length, not};
+ghost use Rattle.std.specs.Prelude.{◌≡◌, Err, IfErr, IfOk, None, OnOk, Ok, Some, false, option_map, true, ◌++◌, ◌<◌, not, IfSome};
 ghost use Rattle.std.specs.Option.{option_to_list};
-ghost use Rattle.addr2line_units.specs.Common.{OutOfMemory, IsUnlessOom, as_scope};
-ghost use Rattle.addr2line_units.specs.EntriesCached.{AreEntriesOf, first_answer_of};
-ghost use Rattle.addr2line_units.specs.UnitViewCached.{IsViewOf, is_decided, waits};
-ghost use Rattle.addr2line_units.specs.LoadsMemory.{answer_takes_memory};
-ghost use Rattle.addr2line_units.specs.Loads.{view_fault, NoneOpen, forget_result, is_open_at, load_of_number, load_result, loads_along};
-ghost use Rattle.addr2line_units.specs.UnitView.{decided_answer, is_open, load_of_unit, verdict, awaited_load};
-ghost use Rattle.addr2line_units.specs.UnitsAfter.{AfterForget, AfterListing, AfterLoad};
-ghost use Rattle.addr2line_units.specs.CacheAfter.{AfterAnswerIn, AfterCheck, AfterForgettingIn};
-ghost use Rattle.addr2line_units.specs.LoadsListed.{MarksLoad, MarksUnit, if_new, is_marked};
-ghost use Rattle.addr2line_units.specs.LocationsParsed.{LeadTo};
+ghost use Rattle.addr2line_units.specs.Common.{OutOfMemory, IsUnlessOom, fault_of};
+ghost use Rattle.addr2line_units.specs.UnitViewCached.{waits, verdict_in};
+ghost use Rattle.addr2line_units.specs.Loads.{forget_result, load_of_number, load_result, loads_along};
+ghost use Rattle.addr2line_units.specs.UnitView.{is_open};
+ghost use Rattle.addr2line_units.specs.UnitsAfter.{AfterForget, AfterLoad, AfterPreload};
+ghost use Rattle.addr2line_units.specs.UnitsAsked.{AfterNewLoad};
+ghost use Rattle.addr2line_units.specs.CacheAfter.{AfterAnswerIn, AfterForgettingIn, AfterNewLoadIn};
+ghost use Rattle.addr2line_units.specs.LoadsListed.{MarksUnit, if_new, is_marked};
 ghost use Rattle.addr2line_units.specs.RangeIterLeft.{ranges_left};
 
 use crate::entries::{EntriesCache, LazyFunctions};
 use crate::frames::FramesStop;
 use crate::range_iter::UnitRangeIter;
-use crate::unit::{SplitDwarfLoad, UnitToken};
+use crate::unit::{SplitDwarfLoad, UnitToken, read_load};
 use crate::units::Units;
 use addr2line_lines::Scope;
 use gimli::read::{Error, Reader};
@@ -35,30 +33,13 @@ impl<R: Reader> EntriesCache<R> {
 
     // Forgets the answer, if there is one, and what was read of its view: the unit waits for one
     // again. Takes no memory.
-    pub(crate) fn forget(&mut self, scope: Scope<'_, R>, dw_unit: &Unit<R>)
-        requires cached { AreEntriesOf (as_scope scope) dw_unit.now self.old }
-        ensures after { AfterForgettingIn (as_scope scope.entry) dw_unit.now self.old self.new }
+    pub(crate) fn forget(&mut self)
+        ensures after { AfterForgettingIn self.old self.new }
     {
         if self.view.is_answered() {
-            self.view.forget(scope.file.dwarf, dw_unit);
+            self.view.forget();
             self.functions = LazyFunctions::Unread;
         }
-    }
-
-    // The load of the unit of a number, which waits for an answer. Refused `OutOfMemory` alone.
-    pub(crate) fn load(
-        &self,
-        dwarf: &Rc<Dwarf<R>>,
-        dw_unit: &Unit<R>,
-        number: usize,
-    ) -> Result<SplitDwarfLoad<R>, Error>
-        requires view { IsViewOf dwarf.now.value dw_unit.now self.now.view }
-        requires waits { waits self.now.view.state ≡ true }
-        ensures gives { IfOk result (λ l. load_of_unit dwarf.now.value number dw_unit.now
-            ≡ Ok (Some l)) }
-        ensures refused { IfErr result (λ e. e ≡ OutOfMemory) }
-    {
-        self.view.load(dwarf, dw_unit, number)
     }
 
     // Decides the unit by an answer if it is open, and else leaves it as it is. Refused
@@ -67,22 +48,16 @@ impl<R: Reader> EntriesCache<R> {
     pub(crate) fn answer(
         &mut self,
         alloc: Global,
-        scope: Scope<'_, R>,
+        dwarf: &Dwarf<R>,
         dw_unit: &Unit<R>,
         sections: Option<Rc<Dwarf<R>>>,
     ) -> Result<(), Error>
-        requires cached { AreEntriesOf (as_scope scope) dw_unit.now self.old }
-        ensures after { AfterAnswerIn (as_scope scope.entry) dw_unit.now
+        ensures after { AfterAnswerIn R.shares dwarf.now dw_unit.now
             (option_map (λ d. d.value) sections) result self.old self.new }
-        ensures exact { answer_takes_memory R.shares (option_map (λ d. d.value) sections) ≡ false
-            → IfErr result (λ e. view_fault (verdict scope.entry.file.dwarf.now dw_unit.now
-            (decided_answer scope.entry.file.dwarf.now dw_unit.now (first_answer_of self.old)
-            (option_map (λ d. d.value) sections))) ≡ Err e) }
     {
-        self.check_split(scope, dw_unit);
+        self.check_split(dwarf, dw_unit);
         if self.is_open() {
-            self.view
-                .decide(alloc, scope.file.dwarf, dw_unit, sections)?;
+            self.view.decide(alloc, dwarf, dw_unit, sections)?;
         }
         Ok(())
     }
@@ -90,13 +65,11 @@ impl<R: Reader> EntriesCache<R> {
 
 impl<R: Reader> EntriesCache<R> {
     // The fault of the unit's view, which is decided, if it has one. Takes no memory.
-    fn check_view(&self, scope: Scope<'_, R>, dw_unit: &Unit<R>) -> Result<(), Error>
-        requires cached { AreEntriesOf (as_scope scope) dw_unit.now self.now }
-        requires decided { is_decided self.now.view.state ≡ true }
-        ensures gives { result ≡ view_fault
-            (verdict scope.entry.file.dwarf.now dw_unit.now (first_answer_of self.now)) }
+    fn check_view(&self, dwarf: &Dwarf<R>, dw_unit: &Unit<R>) -> Result<(), Error>
+        ensures gives { IfSome (verdict_in dwarf.now dw_unit.now self.now.view.state) (λ known.
+            IfSome known (λ view. result ≡ fault_of view)) }
     {
-        self.view.unit_ref(scope.file.dwarf, dw_unit)?;
+        self.view.unit_ref(dwarf, dw_unit)?;
         Ok(())
     }
 }
@@ -116,11 +89,8 @@ impl<R: Reader> Units<R> {
         ensures gives { IsUnlessOom result (load_result self.old.scope.file.sections
             self.old.scope.file.units self.old.answers token.number
             (option_map (λ d. d.value) sections)) }
-        ensures exact { answer_takes_memory R.shares (option_map (λ d. d.value) sections) ≡ false
-            → result ≡ load_result self.old.scope.file.sections self.old.scope.file.units
-            self.old.answers token.number (option_map (λ d. d.value) sections) }
-        ensures after { AfterLoad token.number (option_map (λ d. d.value) sections) result self.old
-            self.new }
+        ensures after { AfterLoad R.shares token.number (option_map (λ d. d.value) sections) result
+            self.old self.new }
     {
         self.stop = FramesStop::FindsNothing;
         let scope = self.sources.scope();
@@ -128,8 +98,9 @@ impl<R: Reader> Units<R> {
             return Err(Error::UnknownToken);
         };
         let cache = &mut self.caches[token.number];
-        cache.entries.answer(self.alloc, scope, dw_unit, sections)?;
-        cache.entries.check_view(scope, dw_unit)
+        let dwarf = scope.file.dwarf;
+        cache.entries.answer(self.alloc, dwarf, dw_unit, sections)?;
+        cache.entries.check_view(dwarf, dw_unit)
     }
 
     /// Takes the answer to the load of a unit back, if there is one, with what was read of its
@@ -141,12 +112,10 @@ impl<R: Reader> Units<R> {
         ensures after { AfterForget token.number self.old self.new }
     {
         self.stop = FramesStop::FindsNothing;
-        let scope = self.sources.scope();
-        let Some(dw_unit) = scope.file.units.get(token.number) else {
+        if token.number >= self.len() {
             return Err(Error::UnknownToken);
-        };
-        let cache = &mut self.caches[token.number];
-        cache.entries.forget(scope, dw_unit);
+        }
+        self.caches[token.number].entries.forget();
         Ok(())
     }
 }
@@ -169,39 +138,27 @@ fn mark_unit(marks: &mut Vec<bool>, count: usize, number: usize) -> Result<bool,
 
 impl<R: Reader> EntriesCache<R> {
     // The load of the unit of a number, if it waits for one and isn't marked, which it is then.
-    // Whether it waits is read, unless that was done.
-    //
-    // Refused `OutOfMemory` alone, and only of an open unit.
+    // Whether it waits is read, unless that was done. There are `count` units.
     fn new_load(
         &mut self,
         dwarf: &Rc<Dwarf<R>>,
-        scope: Scope<'_, R>,
         dw_unit: &Unit<R>,
         marks: &mut Vec<bool>,
+        count: usize,
         number: usize,
     ) -> Result<Option<SplitDwarfLoad<R>>, Error>
-        requires same { scope.file.dwarf.now ≡ dwarf.now.value }
-        requires within { number < length scope.file.units.now }
-        requires cached { AreEntriesOf (as_scope scope) dw_unit.now self.old }
-        ensures gives { IfOk result (λ load. load ≡ if_new marks.old.items
-            (awaited_load dwarf.now.value number dw_unit.now (first_answer_of self.old))) }
-        ensures left { OnOk result (MarksLoad
-            (awaited_load dwarf.now.value number dw_unit.now (first_answer_of self.old))
-            marks.old.items marks.new.items) }
-        ensures none { is_open dwarf.now.value dw_unit.now (first_answer_of self.old) ≡ false
-            → result ≡ Ok None }
-        ensures refused { IfErr result (λ e. e ≡ OutOfMemory) }
-        ensures after { AfterCheck (as_scope scope.entry) dw_unit.now self.old self.new }
+        requires within { number < count }
+        ensures after { AfterNewLoadIn dwarf.now.value number dw_unit.now marks.old.items
+            marks.new.items result self.old self.new }
     {
-        self.check_split(scope, dw_unit);
+        self.check_split(dwarf, dw_unit);
         if !self.is_open() {
             return Ok(None);
         }
-        let count = scope.file.units.len();
         if !mark_unit(marks, count, number)? {
             return Ok(None);
         }
-        Ok(Some(self.load(dwarf, dw_unit, number)?))
+        read_load(dwarf, number, dw_unit)
     }
 }
 
@@ -230,12 +187,8 @@ impl<R: Reader> Units<R> {
     ) -> Result<Option<SplitDwarfLoad<R>>, Error>
         ensures gives { IfOk result (λ load. load ≡ if_new marks.old.items (load_of_number
             self.old.scope.file.sections self.old.scope.file.units self.old.answers number)) }
-        ensures left { OnOk result (MarksLoad (load_of_number self.old.scope.file.sections
-            self.old.scope.file.units self.old.answers number) marks.old.items marks.new.items) }
-        ensures none { is_open_at self.old.scope.file.sections self.old.scope.file.units
-            self.old.answers number ≡ false → result ≡ Ok None }
-        ensures refused { IfErr result (λ e. e ≡ OutOfMemory) }
-        ensures after { AfterListing (λ n. n ≡ number) self.old self.new }
+        ensures after { AfterNewLoad number marks.old.items marks.new.items result self.old
+            self.new }
     {
         self.stop = FramesStop::FindsNothing;
         let sources = &self.sources;
@@ -244,9 +197,10 @@ impl<R: Reader> Units<R> {
             return Ok(None);
         };
         let cache = &mut self.caches[number];
+        let count = scope.file.units.len();
         cache
             .entries
-            .new_load(&sources.dwarf, scope, dw_unit, marks, number)
+            .new_load(&sources.dwarf, dw_unit, marks, count, number)
     }
 
     /// The loads of the open units that ranges lead to, each once, in the order of its first range.
@@ -260,10 +214,7 @@ impl<R: Reader> Units<R> {
         ensures gives { IfOk result (λ loads. loads.items ≡ loads_along (load_of_number
             self.old.scope.file.sections self.old.scope.file.units self.old.answers)
             (ranges_left ranges.entry)) }
-        ensures refused { IfErr result (λ e. e ≡ OutOfMemory) }
-        ensures memory { NoneOpen self.old.scope.file.sections self.old.scope.file.units
-            self.old.answers (ranges_left ranges.entry) → IsOk result }
-        ensures after { AfterListing (LeadTo (ranges_left ranges.entry)) self.old self.new }
+        ensures after { AfterPreload (ranges_left ranges.entry) result self.old self.new }
     {
         self.reset();
         let mut loads = Vec::new(self.alloc);

@@ -1,7 +1,7 @@
 //! Lookups of locations among units, by their lines alone: what one unit is asked for, and the
 //! location that the last lookup has found; the rows that a range of addresses meets.
 
-ghost use Rattle.std.specs.Prelude.{◌≡◌, true, IfErr, option_map, slice_get};
+ghost use Rattle.std.specs.Prelude.{◌≡◌, IfErr, option_map, slice_get};
 ghost use Rattle.addr2line_units.specs.Common.{OutOfMemory, ExactlyUnlessOom, IsUnlessOom, fault_of, result_map, location_of_row, as_location};
 ghost use Rattle.addr2line_lines.specs.RangesLeft.{located_rows_left, as_located};
 ghost use Rattle.addr2line_units.specs.declared.frames.Asks.TheVariants as lookups;
@@ -13,7 +13,6 @@ ghost use Rattle.addr2line_units.specs.Locations.{all_lines, spans_along};
 ghost use Rattle.addr2line_units.specs.LocationsLeft.{locations_left};
 ghost use Rattle.addr2line_units.specs.LocationsParsed.{AreParsed};
 ghost use Rattle.addr2line_units.specs.RangeIterLeft.{ranges_left};
-ghost use Rattle.addr2line_units.specs.UnitsState.{IsFaultAt, takes_none_at};
 ghost use Rattle.addr2line_units.specs.LocationsRange.{YieldsOn, YieldsRow, cached_along, rows_or_fault};
 
 use crate::entries::UnitCache;
@@ -158,9 +157,7 @@ impl<R: Reader> Units<R> {
     pub(crate) fn ask_lines(&mut self, number: usize, probe: u64) -> Result<(), Error>
         ensures gives { ExactlyUnlessOom (λ _. self.new.stop) result
             (stop_at lookups.Location probe self.old number) }
-        ensures after { AfterAsk lookups.Location number probe result self.old self.new }
-        ensures no_memory { takes_none_at R.shares lookups.Location probe self.new number ≡ true
-            → IfErr result (IsFaultAt lookups.Location probe self.old number) }
+        ensures after { AfterAsk R.shares lookups.Location number probe result self.old self.new }
     {
         self.stop = FramesStop::FindsNothing;
         let scope = self.sources.scope();

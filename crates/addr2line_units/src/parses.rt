@@ -1,6 +1,6 @@
 //! Parses of the functions of all units.
 
-ghost use Rattle.std.specs.Prelude.{◌≡◌, Err, IfErr, Ok, true};
+ghost use Rattle.std.specs.Prelude.{◌≡◌, Err, Ok, true};
 ghost use Rattle.addr2line_units.specs.Common.{IsUnlessOom, as_scope};
 ghost use Rattle.addr2line_units.specs.declared.parses.ReadingDepth.TheVariants.{Functions};
 ghost use Rattle.addr2line_units.specs.CacheAfter.{AreFunctionsIn};
@@ -8,7 +8,7 @@ ghost use Rattle.addr2line_units.specs.ParsesAfter.{AfterReadingAt, AfterReading
 ghost use Rattle.addr2line_units.specs.UnitsAfter.{AfterReading};
 ghost use Rattle.addr2line_units.specs.EntriesCached.{AreEntriesOf, first_answer_of};
 ghost use Rattle.addr2line_units.specs.EntriesFunctions.{AreFunctionsOf, cached_fault};
-ghost use Rattle.addr2line_units.specs.Parses.{ReadsNoMemory, read_of_functions, read_of_number, read_of_unit, read_of_units, read_of_view};
+ghost use Rattle.addr2line_units.specs.Parses.{read_of_functions, read_of_number, read_of_unit, read_of_units, read_of_view};
 ghost use Rattle.addr2line_units.specs.UnitView.{verdict};
 ghost use Rattle.addr2line_units.specs.UnitViewCached.{answer_of_view, is_decided};
 
@@ -125,15 +125,15 @@ impl<R: Reader> EntriesCache<R> {
         ensures after { AfterReadingUnit R.shares depth (as_scope scope.entry) dw_unit.now result
             self.old self.new }
     {
-        self.answer(alloc, scope, dw_unit, None)?;
+        self.answer(alloc, scope.file.dwarf, dw_unit, None)?;
         let EntriesCache { view, functions } = self;
         read_in_view(alloc, view, functions, scope, dw_unit, depth)
     }
 }
 
 impl<R: Reader> Units<R> {
-    // Reads the functions of the unit of a number, as `EntriesCache::read` does; nothing where there
-    // is no such unit. No lookup is stored any more.
+    // Reads the functions of the unit of a number, as `EntriesCache::read` does; nothing where
+    // there is no such unit. No lookup is stored any more.
     fn read_functions_in(&mut self, number: usize, depth: ReadingDepth) -> Result<(), Error>
         ensures gives { IsUnlessOom result (read_of_number depth self.old.scope
             self.old.scope.file.units self.old.answers number) }
@@ -161,10 +161,7 @@ impl<R: Reader> Units<R> {
     pub fn read_functions(&mut self, depth: ReadingDepth) -> Result<(), Error>
         ensures gives { IsUnlessOom result (read_of_units depth self.old.scope
             self.old.scope.file.units self.old.answers) }
-        ensures after { AfterReading depth result self.old self.new }
-        ensures no_memory { ReadsNoMemory R.shares depth self.old.scope self.old.scope.file.units
-            self.new.answers self.new.known → IfErr result (λ e. read_of_units depth
-            self.old.scope self.old.scope.file.units self.old.answers ≡ Err e) }
+        ensures after { AfterReading R.shares depth result self.old self.new }
     {
         self.reset();
         let count = self.len();

@@ -1,19 +1,19 @@
 //! What is cached of one unit but its functions: its lines, and its view, which is where its
 //! entries are read that say what stands at an address.
 
-ghost use Rattle.std.specs.Prelude.{◌≡◌, ◌≢◌, ◌+◌, ◌<◌, ◌≤◌, true, false, not, map, Ok, Err, OnOk, IfOk, IfErr, IfSome, IsOk, is_some, length, nat_lt, option_map, None, Some};
+ghost use Rattle.std.specs.Prelude.{◌≡◌, ◌≢◌, true, false, not, map, Ok, Err, OnOk, IfOk, IfErr, IfSome, IsOk, is_some, length, nat_lt, option_map, None, Some};
 ghost use Rattle.addr2line_units.specs.Common.{Exactly, ExactlyUnlessOom, ExactlyUnlessOomIf, OutOfMemory, Sections, UnitRecord, location_of_row, IsScope, as_scope};
-ghost use Rattle.addr2line_units.specs.UnitsRanged.{is_partial, is_type_unit, listed_in_unit, listed_unit_ranges, asks_lines, ranged_unit, unit_ranges};
+ghost use Rattle.addr2line_units.specs.UnitsRanged.{is_partial, is_type_unit, listed_unit_ranges, asks_lines, has_lines, ranged_unit, unit_ranges};
 ghost use Rattle.addr2line_units.specs.EntriesMemory.{lines_take_memory};
-ghost use Rattle.addr2line_units.specs.Locations.{is_found, location_in, steps_in};
+ghost use Rattle.addr2line_units.specs.Locations.{is_found};
 ghost use Rattle.addr2line_units.specs.IndexAranges.{range_in};
-ghost use Rattle.addr2line_units.specs.UnitLinesCached.{AreLinesOf, IsUnparsed, cached_lines_result, cached_files, cached_steps, cached_ranges, cached_row, indexed_unit, lines_result, cached_lines, is_uncached};
-ghost use Rattle.addr2line_units.specs.CacheAfter.{AfterLineRanges, AfterLinesOf, AfterViewAnswer, AfterViewCheck, AfterViewForgetting};
+ghost use Rattle.addr2line_units.specs.UnitLinesCached.{AreLinesOf, cached_lines_result, cached_files, cached_steps, cached_ranges, cached_row, is_parsed, lines_or, lines_result, location_or, cached_lines, is_uncached};
+ghost use Rattle.addr2line_units.specs.CacheAfter.{AfterLinesOf, AfterViewAnswer, AfterViewCheck, AfterViewForgetting, CountsSteps};
 ghost use Rattle.addr2line_units.specs.UnitsIndexed.{as_ranged_unit};
 ghost use Rattle.addr2line_units.specs.LoadsMemory.{answer_takes_memory};
-ghost use Rattle.addr2line_units.specs.UnitViewCached.{IsViewOf, answer_in, is_decided, parts_or_fault, answer_of_view, as_sections, split_file_by, split_file_in, split_unit, unboxed, verdict_in, view_in, waits, was_checked};
+ghost use Rattle.addr2line_units.specs.UnitViewCached.{answer_in, parts_or_fault, answer_of_view, as_sections, split_file_by, split_file_in, split_unit, unboxed, verdict_in, view_in, waits, was_checked, verdict_or};
 ghost use Rattle.addr2line_units.specs.EntriesEmpty.{has_view};
-ghost use Rattle.addr2line_units.specs.UnitView.{answered_view, first_unit, first_unit_takes_memory, load_of_unit, parts_of, split_name_of, verdict, view_scope};
+ghost use Rattle.addr2line_units.specs.UnitView.{first_unit, first_unit_takes_memory, load_of_unit, parts_of, split_name_of, verdict, view_scope};
 ghost use Rattle.addr2line_units.specs.FramesLookup.{readable_view};
 
 use crate::attributes::read_unit_attributes;
@@ -94,16 +94,17 @@ fn read_listed_ranges<R: Reader>(
     read_ranges(alloc, unit, attributes)
 }
 
-// The language of a unit, and the ranges that `.debug_aranges` or its attributes give.
+// The language of a unit whose record was read, and the ranges that `.debug_aranges` or its
+// attributes give.
 #[tactic(auto, unfolding(crate::specs::UnitsRanged::listed_in_unit))]
-fn read_listed<R: Reader>(
+pub(crate) fn read_ranged_unit<R: Reader>(
     alloc: Global,
     unit: UnitRef<'_, R>,
     aranges: &UnitAranges,
 ) -> Result<(Option<DwLang>, Vec<Range>), Error>
     ensures gives { ExactlyUnlessOomIf (not (is_partial unit.entry.unit.now.header.unit_type))
-        (λ x. (x.0, x.1.items)) result
-        (listed_in_unit unit.entry.dwarf.now aranges.now unit.entry.unit.now) }
+        (λ x. as_ranged_unit unit.entry.unit.now x.0 x.1.items) result
+        (ranged_unit unit.entry.dwarf.now aranges.now unit.entry.unit.now) }
 {
     let record = unit.unit;
     if is_partial(record.header.type_()) {
@@ -124,23 +125,6 @@ fn lines_at_first<R: Reader>(unit: &Unit<R>) -> LazyLines
         Some(_) => LazyLines::Unread,
         None => LazyLines::Absent,
     }
-}
-
-// The language of a unit whose record was read, its lines before they are asked for, and its listed
-// ranges.
-pub(crate) fn read_ranged_unit<R: Reader>(
-    alloc: Global,
-    dwarf: &Dwarf<R>,
-    aranges: &UnitAranges,
-    dw_unit: &Unit<R>,
-) -> Result<(LinesCache, Vec<Range>), Error>
-    ensures gives { ExactlyUnlessOom (λ x. as_ranged_unit dw_unit.now x.0 x.1.items) result
-        (ranged_unit dwarf.now aranges.now dw_unit.now) }
-    ensures empty { IfOk result (λ x. IsUnparsed dwarf.now dw_unit.now x.0) }
-{
-    let (lang, ranges) = read_listed(alloc, UnitRef::new(dwarf, dw_unit), aranges)?;
-    let lines = lines_at_first(dw_unit);
-    Ok((LinesCache { lang, lines }, ranges))
 }
 
 // The lines of a unit, or their fault, as they are cached. Refused `OutOfMemory` alone, and only
@@ -204,12 +188,39 @@ fn sequence_ranges(alloc: Global, lines: &LazyLines) -> Result<Vec<Range>, Error
     Ok(ranges)
 }
 
+// The lines of a unit as they are cached from the start, and the ranges that lead to it: those that
+// are listed, or where there are none those of its line sequences; its lines are parsed only then,
+// and cached, their fault too. Refused `OutOfMemory` alone, and only then.
+pub(crate) fn lines_and_ranges<R: Reader>(
+    alloc: Global,
+    dwarf: &Dwarf<R>,
+    dw_unit: &Unit<R>,
+    lang: Option<DwLang>,
+    listed: Vec<Range>,
+) -> Result<(LinesCache, Vec<Range>), Error>
+    ensures gives { ExactlyUnlessOom (λ x. x.1.items) result (Ok (unit_ranges dwarf.now
+        (as_ranged_unit dw_unit.now lang listed.items))) }
+    ensures kept { IfOk result (λ x. x.0.lang ≡ lang) }
+    ensures read { IfOk result (λ x. AreLinesOf dwarf.now dw_unit.now x.0.lines) }
+    ensures known { IfOk result (λ x. is_parsed x.0
+        ≡ has_lines (as_ranged_unit dw_unit.now lang listed.items)) }
+    ensures refused { IfErr result (λ e. e ≡ OutOfMemory) }
+    ensures exact { asks_lines (as_ranged_unit dw_unit.now lang listed.items) ≡ false
+        → IsOk result }
+{
+    if !listed.is_empty() || is_partial(dw_unit.header.type_()) {
+        let lines = lines_at_first(dw_unit);
+        return Ok((LinesCache { lang, lines }, listed));
+    }
+    let lines = parse_lines(alloc, dwarf, dw_unit)?;
+    let ranges = sequence_ranges(alloc, &lines)?;
+    Ok((LinesCache { lang, lines }, ranges))
+}
+
 // The row of an address in cached lines.
 fn find_cached_row(lines: &LazyLines, steps: &mut Count, probe: u64) -> Option<Row>
-    ensures found { result ≡ cached_row probe lines.now }
-    ensures bound { steps.new ≤ steps.old + cached_steps lines.now }
-    ensures steps { steps.old ≤ steps.new }
-    ensures some { IfSome result (λ row. steps.old < steps.new) }
+    ensures gives { result ≡ cached_row probe lines.now }
+    ensures steps { CountsSteps (cached_steps lines.now) (is_some result) steps.old steps.new }
 {
     match lines {
         LazyLines::Read(lines) => lines.find_row(steps, probe),
@@ -220,16 +231,14 @@ fn find_cached_row(lines: &LazyLines, steps: &mut Count, probe: u64) -> Option<R
 impl LinesCache {
     // Caches the lines of the unit, or their fault, unless they are cached. Refused `OutOfMemory`
     // alone, and only where the lines take memory.
-    #[tactic(auto, using(crate::proofs::UnitLinesLemmas::cached_before))]
     pub(crate) fn cache_lines<R: Reader>(
         &mut self,
         alloc: Global,
         dwarf: &Dwarf<R>,
         dw_unit: &Unit<R>,
     ) -> Result<(), Error>
-        requires cached { AreLinesOf dwarf.now dw_unit.now self.old.lines }
         ensures gives { OnOk result (cached_lines_result self.new.lines
-            ≡ lines_result dwarf.now dw_unit.now) }
+            ≡ lines_or dwarf.now dw_unit.now self.old.lines) }
         ensures after { AfterLinesOf R.shares dwarf.now dw_unit.now result self.old self.new }
         ensures refused { IfErr result (λ e. e ≡ OutOfMemory) }
     {
@@ -246,37 +255,12 @@ impl LinesCache {
         dwarf: &Dwarf<R>,
         dw_unit: &Unit<R>,
     ) -> Result<(), Error>
-        requires cached { AreLinesOf dwarf.now dw_unit.now self.old.lines }
         ensures gives { ExactlyUnlessOom (λ _. cached_lines self.new.lines) result
-            (lines_result dwarf.now dw_unit.now) }
+            (lines_or dwarf.now dw_unit.now self.old.lines) }
         ensures after { AfterLinesOf R.shares dwarf.now dw_unit.now result self.old self.new }
     {
         self.cache_lines(alloc, dwarf, dw_unit)?;
         check_lines(&self.lines)
-    }
-
-    // The ranges that lead to the unit: those that are listed, or where there are none those of its
-    // line sequences; its lines are cached then, their fault too. Refused `OutOfMemory` alone.
-    pub(crate) fn or_line_ranges<R: Reader>(
-        &mut self,
-        alloc: Global,
-        dwarf: &Dwarf<R>,
-        dw_unit: &Unit<R>,
-        listed: Vec<Range>,
-    ) -> Result<Vec<Range>, Error>
-        requires unparsed { IsUnparsed dwarf.now dw_unit.now self.old }
-        ensures gives { ExactlyUnlessOom (λ v. v.items) result (Ok (unit_ranges dwarf.now
-            (as_ranged_unit dw_unit.now self.old listed.items))) }
-        ensures exact { asks_lines (as_ranged_unit dw_unit.now self.old listed.items) ≡ false
-            → IsOk result }
-        ensures after { AfterLineRanges dwarf.now dw_unit.now listed.items result self.old
-            self.new }
-    {
-        if !listed.is_empty() || is_partial(dw_unit.header.type_()) {
-            return Ok(listed);
-        }
-        self.cache_lines(alloc, dwarf, dw_unit)?;
-        sequence_ranges(alloc, &self.lines)
     }
 
     // The row of an address in the unit, whose lines are read and cached, unless they are.
@@ -288,15 +272,12 @@ impl LinesCache {
         steps: &mut Count,
         probe: u64,
     ) -> Result<Option<Row>, Error>
-        requires cached { AreLinesOf dwarf.now dw_unit.now self.old.lines }
         ensures gives { ExactlyUnlessOom (option_map (location_of_row (cached_files
             self.new.lines))) result
-            (location_in dwarf.now probe (Some (indexed_unit dw_unit.now self.old))) }
+            (location_or dwarf.now dw_unit.now probe self.old.lines) }
         ensures after { AfterLinesOf R.shares dwarf.now dw_unit.now result self.old self.new }
-        ensures bound { steps.new ≤ steps.old
-            + steps_in dwarf.now (Some (indexed_unit dw_unit.now self.old)) }
-        ensures steps { steps.old ≤ steps.new }
-        ensures some { is_found result ≡ true → steps.old < steps.new }
+        ensures steps { CountsSteps (cached_steps self.new.lines) (is_found result) steps.old
+            steps.new }
     {
         self.read_lines(alloc, dwarf, dw_unit)?;
         Ok(find_cached_row(&self.lines, steps, probe))
@@ -394,7 +375,7 @@ fn duplicate_if<R: Reader>(reader: &Option<R>) -> Result<Option<R>, Error>
 // The load of a unit of a number, none where it needs no answer. `OutOfMemory` only where it has
 // the identifier of a split unit.
 #[tactic(auto, unfolding(crate::specs::UnitView::load_of_unit))]
-fn read_load<R: Reader>(
+pub(crate) fn read_load<R: Reader>(
     dwarf: &Rc<Dwarf<R>>,
     number: usize,
     unit: &Unit<R>,
@@ -511,7 +492,6 @@ impl<R: Reader> UnitView<R> {
 
     // Looks whether the unit needs an answer, unless that was done. Takes no memory.
     pub(crate) fn check_split(&mut self, dwarf: &Dwarf<R>, dw_unit: &Unit<R>)
-        requires cached { IsViewOf dwarf.now dw_unit.now self.old }
         ensures after { AfterViewCheck dwarf.now dw_unit.now self.old self.new }
     {
         if matches!(self.state, ViewState::Undecided) {
@@ -544,26 +524,7 @@ impl<R: Reader> UnitView<R> {
         matches!(self.state, ViewState::Answered(_))
     }
 
-    // The load of a unit of a number, which waits for an answer. Refused `OutOfMemory` alone.
-    pub(crate) fn load(
-        &self,
-        dwarf: &Rc<Dwarf<R>>,
-        dw_unit: &Unit<R>,
-        number: usize,
-    ) -> Result<SplitDwarfLoad<R>, Error>
-        requires view { IsViewOf dwarf.now.value dw_unit.now self.now }
-        requires waits { waits self.now.state ≡ true }
-        ensures gives { IfOk result (λ l. load_of_unit dwarf.now.value number dw_unit.now
-            ≡ Ok (Some l)) }
-        ensures refused { IfErr result (λ e. e ≡ OutOfMemory) }
-    {
-        match read_load(dwarf, number, dw_unit)? {
-            Some(load) => Ok(load),
-            None => unreachable!(),
-        }
-    }
-
-    // Decides the unit, which waits for an answer, by one. Refused `OutOfMemory` alone, and only
+    // Decides the unit by an answer. Refused `OutOfMemory` alone, and only
     // where it has sections; then nothing is changed.
     pub(crate) fn decide(
         &mut self,
@@ -572,16 +533,8 @@ impl<R: Reader> UnitView<R> {
         dw_unit: &Unit<R>,
         sections: Option<Rc<Dwarf<R>>>,
     ) -> Result<(), Error>
-        requires cached { IsViewOf dwarf.now dw_unit.now self.old }
-        requires waits { waits self.old.state ≡ true }
-        ensures gives { OnOk result (verdict dwarf.now dw_unit.now (answer_of_view self.new)
-            ≡ Some (answered_view dwarf.now dw_unit.now
-            (option_map (λ d. d.value) sections))) }
-        ensures after { AfterViewAnswer dwarf.now dw_unit.now (option_map (λ d. d.value) sections)
-            result self.old self.new }
-        ensures exact { answer_takes_memory R.shares (option_map (λ d. d.value) sections) ≡ false
-            → IfErr result (λ e. answered_view dwarf.now dw_unit.now
-            (option_map (λ d. d.value) sections) ≡ Err e) }
+        ensures after { AfterViewAnswer R.shares dwarf.now dw_unit.now
+            (option_map (λ d. d.value) sections) result self.old self.new }
     {
         let unit = match read_split_unit(alloc, dw_unit, &sections) {
             Ok(unit) => Ok(unit),
@@ -593,9 +546,8 @@ impl<R: Reader> UnitView<R> {
     }
 
     // Forgets the answer, if there is one: the unit waits for one again. Takes no memory.
-    pub(crate) fn forget(&mut self, dwarf: &Dwarf<R>, dw_unit: &Unit<R>)
-        requires cached { IsViewOf dwarf.now dw_unit.now self.old }
-        ensures after { AfterViewForgetting dwarf.now dw_unit.now self.old self.new }
+    pub(crate) fn forget(&mut self)
+        ensures after { AfterViewForgetting self.old self.new }
     {
         if matches!(self.state, ViewState::Answered(_)) {
             self.state = ViewState::Open;
@@ -609,11 +561,9 @@ impl<R: Reader> UnitView<R> {
         dwarf: &'x Dwarf<R>,
         dw_unit: &'x Unit<R>,
     ) -> Result<UnitRef<'x, R>, Error>
-        requires view { IsViewOf dwarf.now dw_unit.now self.now }
-        requires decided { is_decided self.now.state ≡ true }
-        ensures gives { IfSome (verdict dwarf.now dw_unit.now (answer_of_view self.now)) (λ view.
-            Exactly (λ r. (r.dwarf.now, r.unit.now)) result
-            (parts_or_fault view)) }
+        ensures gives { IfSome (verdict_in dwarf.now dw_unit.now self.now.state) (λ known.
+            IfSome known (λ view. Exactly (λ r. (r.dwarf.now, r.unit.now)) result
+            (parts_or_fault view))) }
     {
         match &self.state {
             ViewState::Undecided | ViewState::Open | ViewState::Main => {
@@ -631,10 +581,9 @@ impl<R: Reader> UnitView<R> {
         dwarf: &'x Dwarf<R>,
         dw_unit: &'x Unit<R>,
     ) -> Option<UnitRef<'x, R>>
-        requires view { IsViewOf dwarf.now dw_unit.now self.now }
         ensures gives { option_map (λ r. (r.dwarf.now, r.unit.now)) result
-            ≡ option_map parts_of (readable_view (verdict dwarf.now dw_unit.now
-            (answer_of_view self.now))) }
+            ≡ option_map parts_of (readable_view (verdict_or dwarf.now dw_unit.now
+            self.now.state)) }
     {
         match &self.state {
             ViewState::Undecided => match first_state(dwarf, dw_unit) {
@@ -661,9 +610,9 @@ impl<R: Reader> UnitView<R> {
 
     // Where references lead from the view, from the main unit where `scope` says. Takes no memory.
     pub(crate) fn scope_of<'x>(&'x self, scope: Scope<'x, R>) -> Scope<'x, R>
-        ensures gives { (d : Sections) (u : UnitRecord) → IsViewOf d u self.now
-            → IfSome (verdict d u (answer_of_view self.now)) (λ view. IfOk view (λ v.
-            as_scope result ≡ view_scope (as_scope scope.entry) v)) }
+        ensures gives { (d : Sections) (u : UnitRecord) → IfSome (verdict_in d u self.now.state)
+            (λ known. IfSome known (λ view. IfOk view (λ v.
+            as_scope result ≡ view_scope (as_scope scope.entry) v))) }
         ensures kept { IsScope (as_scope scope.entry) → IsScope (as_scope result) }
     {
         match self.split_file() {

@@ -1,9 +1,8 @@
 //! The units of a context, and the ranges that lead to them.
 
-ghost use Rattle.std.specs.Prelude.{◌≡◌, ◌++◌, [], ◌∷◌, IfErr, IfOk, IfSome, IsOk, OnOk, map, option_map};
+ghost use Rattle.std.specs.Prelude.{◌≡◌, ◌++◌, [], ◌∷◌, IfErr, IfOk, IsOk, OnOk, length, map, option_map};
 ghost use Rattle.addr2line_units.specs.Common.{OutOfMemory, ExactlyAtCost, ExactlyUnlessOomIf, as_scope};
-ghost use Rattle.addr2line_units.specs.UnitLinesCached.{HaveLinesOf, IsUnparsed};
-ghost use Rattle.addr2line_units.specs.UnitsCached.{AreFreshOf};
+ghost use Rattle.addr2line_units.specs.UnitsCached.{AddsUnit, AddsUnitIf, HaveNewCaches};
 ghost use Rattle.addr2line_units.specs.UnitsIndexed.{appended, context_takes_memory, as_index, index_read, indexed_with, no_index, as_ranged_unit, as_indexed_units, with_header};
 ghost use Rattle.addr2line_units.specs.UnitsRanged.{range_of_unit, unit_of_header};
 ghost use Rattle.addr2line_units.specs.UnitsStored.{scope_of};
@@ -13,10 +12,10 @@ use crate::entries::{EntriesCache, UnitCache};
 use crate::frames::FramesStop;
 use crate::index::{UnitAranges, UnitRange, UnitRanges};
 use crate::sup::SupUnits;
-use crate::unit::{LinesCache, is_type_unit, read_ranged_unit};
+use crate::unit::{is_type_unit, lines_and_ranges, read_ranged_unit};
 use addr2line_lines::{Count, FileUnits, Scope};
-use gimli::read::{Error, Range, Reader};
-use gimli::{AbbreviationsCache, Dwarf, Unit, UnitHeader};
+use gimli::read::{DwLang, Error, Range, Reader};
+use gimli::{AbbreviationsCache, Dwarf, Unit, UnitHeader, UnitRef};
 use std::alloc::Global;
 use std::marker::Model;
 use std::rc::Rc;
@@ -72,8 +71,7 @@ struct Index<R: Reader> {
     ranges: Vec<UnitRange>,
 }
 
-// The unit of a header, its language and lines, and its listed ranges; none where it is passed
-// over.
+// The unit of a header, its language, and its listed ranges; none where it is passed over.
 #[tactic(auto, unfolding(crate::specs::UnitsRanged::unit_of_header))]
 fn read_unit<R: Reader>(
     alloc: Global,
@@ -81,21 +79,21 @@ fn read_unit<R: Reader>(
     abbreviations: &mut AbbreviationsCache<'_, R>,
     aranges: &UnitAranges,
     header: UnitHeader<R>,
-) -> Result<Option<(Unit<R>, LinesCache, Vec<Range>)>, Error>
+) -> Result<Option<(Unit<R>, Option<DwLang>, Vec<Range>)>, Error>
     requires same { abbreviations.old.dwarf ≡ dwarf.now }
     ensures dwarf { abbreviations.new.dwarf ≡ dwarf.now }
     ensures gives { ExactlyAtCost R.shares
         (option_map (λ x. as_ranged_unit x.0 x.1 x.2.items)) result
         (unit_of_header dwarf.now aranges.now header) }
-    ensures empty { IfOk result (λ x. IfSome x (λ y. IsUnparsed dwarf.now y.0 y.1)) }
 {
     if is_type_unit(header.type_()) {
         return Ok(None);
     }
     match abbreviations.unit(alloc, header) {
         Ok(dw_unit) => {
-            let (lines, listed) = read_ranged_unit(alloc, dwarf, aranges, &dw_unit)?;
-            Ok(Some((dw_unit, lines, listed)))
+            let unit = UnitRef::new(dwarf, &dw_unit);
+            let (lang, listed) = read_ranged_unit(alloc, unit, aranges)?;
+            Ok(Some((dw_unit, lang, listed)))
         }
         Err(Error::OutOfMemory) => Err(Error::OutOfMemory),
         Err(_) => Ok(None),
@@ -131,27 +129,23 @@ impl<R: Reader> Index<R> {
         }
     }
 
-    // Adds a unit with the ranges that lead to it. Refused `OutOfMemory` alone.
+    // Adds a unit, what is cached of it from the start, and the ranges that lead to it. Refused
+    // `OutOfMemory` alone.
     fn push(
         &mut self,
         alloc: Global,
         dwarf: &Dwarf<R>,
         dw_unit: Unit<R>,
-        mut lines: LinesCache,
+        lang: Option<DwLang>,
         listed: Vec<Range>,
     ) -> Result<(), Error>
-        requires unparsed { IsUnparsed dwarf.now dw_unit lines }
-        requires read { HaveLinesOf dwarf.now self.old.dw_units.items self.old.caches.items }
-        requires fresh { AreFreshOf self.old.dw_units.items self.old.caches.items }
+        requires beside { length self.old.dw_units.items ≡ length self.old.caches.items }
         ensures gives { OnOk result (as_index self.new ≡ appended dwarf.now
-            (as_index self.old) (as_ranged_unit dw_unit lines listed.items ∷ [])) }
-        ensures read { OnOk result
-            (HaveLinesOf dwarf.now self.new.dw_units.items self.new.caches.items) }
-        ensures empty { OnOk result
-            (AreFreshOf self.new.dw_units.items self.new.caches.items) }
+            (as_index self.old) (as_ranged_unit dw_unit lang listed.items ∷ [])) }
+        ensures read { OnOk result (AddsUnit dwarf.now dw_unit self.old self.new) }
         ensures refused { IfErr result (λ e. e ≡ OutOfMemory) }
     {
-        let ranges = lines.or_line_ranges(alloc, dwarf, &dw_unit, listed)?;
+        let (lines, ranges) = lines_and_ranges(alloc, dwarf, &dw_unit, lang, listed)?;
         push_ranges(&mut self.ranges, self.caches.len(), &ranges)?;
         self.dw_units.push(dw_unit)?;
         self.caches.push(UnitCache {
@@ -171,19 +165,16 @@ impl<R: Reader> Index<R> {
         header: UnitHeader<R>,
     ) -> Result<(), Error>
         requires same { abbreviations.old.dwarf ≡ dwarf.now }
-        requires read { HaveLinesOf dwarf.now self.old.dw_units.items self.old.caches.items }
-        requires fresh { AreFreshOf self.old.dw_units.items self.old.caches.items }
+        requires beside { length self.old.dw_units.items ≡ length self.old.caches.items }
         ensures gives { ExactlyAtCost R.shares (λ _. as_index self.new) result
             (with_header dwarf.now aranges.now (as_index self.old) header) }
         ensures dwarf { abbreviations.new.dwarf ≡ dwarf.now }
-        ensures read { OnOk result
-            (HaveLinesOf dwarf.now self.new.dw_units.items self.new.caches.items) }
-        ensures empty { OnOk result
-            (AreFreshOf self.new.dw_units.items self.new.caches.items) }
+        ensures read { OnOk result (IfOk (unit_of_header dwarf.now aranges.now header).given
+            (λ unit. AddsUnitIf dwarf.now unit self.old self.new)) }
     {
         let read = read_unit(alloc, dwarf, abbreviations, aranges, header)?;
-        if let Some((dw_unit, lines, listed)) = read {
-            self.push(alloc, dwarf, dw_unit, lines, listed)?;
+        if let Some((dw_unit, lang, listed)) = read {
+            self.push(alloc, dwarf, dw_unit, lang, listed)?;
         }
         Ok(())
     }
@@ -197,8 +188,7 @@ fn read_units<R: Reader>(
 ) -> Result<Index<R>, Error>
     ensures gives { ExactlyAtCost R.shares as_index result
         (indexed_with dwarf.now aranges.now) }
-    ensures read { IfOk result (λ i. HaveLinesOf dwarf.now i.dw_units.items i.caches.items) }
-    ensures empty { IfOk result (λ i. AreFreshOf i.dw_units.items i.caches.items) }
+    ensures read { IfOk result (λ i. HaveNewCaches dwarf.now i.dw_units.items i.caches.items) }
 {
     let mut headers = dwarf.units()?;
     let mut abbreviations = AbbreviationsCache::new(alloc, dwarf);
@@ -214,8 +204,7 @@ impl<R: Reader> IndexedUnits<R> {
     // `Units::parse` reads them.
     fn parse(alloc: Global, dwarf: &Dwarf<R>) -> Result<IndexedUnits<R>, Error>
         ensures gives { ExactlyAtCost R.shares as_indexed_units result (index_read dwarf.now) }
-        ensures read { IfOk result (λ u. HaveLinesOf dwarf.now u.dw_units.items u.caches.items) }
-        ensures empty { IfOk result (λ u. AreFreshOf u.dw_units.items u.caches.items) }
+        ensures read { IfOk result (λ u. HaveNewCaches dwarf.now u.dw_units.items u.caches.items) }
     {
         let aranges = UnitAranges::parse(alloc, &dwarf.debug_aranges)?;
         let Index {

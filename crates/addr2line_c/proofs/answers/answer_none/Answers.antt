@@ -12,5 +12,5 @@ returns-then-is_out_of_memory g c = record {
 pub returns : goal.returns
 returns g c = record {
   gives = λ given told. none_given c.args.has_file given (token_number c.args.unit) c.args.refusal c.after_reply.result (Refused c.args.refusal) c.args.context.now c.load_unit.new.self c.load_unit.result refl
-      (sym c.is_out_of_memory.ensures.gives ∙ c.if-is_out_of_memory.false) told c.load_unit.ensures.gives c.after_reply.ensures.gives c.load_unit.ensures.after;
+      (sym c.is_out_of_memory.ensures.gives ∙ c.if-is_out_of_memory.false) told c.load_unit.ensures.gives c.after_reply.ensures.gives c.load_unit.ensures.after.after;
 }

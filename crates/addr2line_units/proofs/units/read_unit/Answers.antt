@@ -2,15 +2,15 @@ use Rattle.addr2line_units.proofs.Common.{◌≡◌, false, refl, rules, subst, 
 use Rattle.addr2line_units.proofs.UnitsIndexLemmas.{kept_fault, takes_unit, where_read, where_taken}
 use Rattle.addr2line_units.proofs.units.read_unit.Goals as goal
 
-pub returns-in_err-lines-in-Ok-clause-gives :
-    goal.returns-in_err-lines-in-Ok-clause-gives
-returns-in_err-lines-in-Ok-clause-gives g c =
+pub returns-in_err-lang-in-Ok-clause-gives : goal.returns-in_err-lang-in-Ok-clause-gives
+returns-in_err-lang-in-Ok-clause-gives g c =
     let d = c.args.dwarf.now in
     let h = c.args.header in
     let p = err_from_is_err_and c.from_residual.result c.from_residual.ensures.1 in
     let kind : is_type_unit h.unit_type ≡ false = search rules in
     let record_is = rw c.requires.same at c.in-Ok.ensures.gives in
-    rw (p.1, p.2) (λ may. kept_fault d h c.args.aranges.now _ _ kind record_is (c.in_err-lines-in-Ok.ensures.gives (may (takes_unit d h g.R.Reader.shares c.args.aranges.now kind (where_read d h _ record_is)))))
+    let gives = rw (c.new-unit.ensures.dwarf, c.new-unit.ensures.unit) at c.in_err-lang-in-Ok.ensures.gives in
+    rw (p.1, p.2) (λ may. kept_fault d h c.args.aranges.now _ _ kind record_is (gives (λ _. may (takes_unit d h g.R.Reader.shares c.args.aranges.now kind (where_read d h _ record_is)))))
 
 pub returns-in-Err-OutOfMemory-clause-gives : goal.returns-in-Err-OutOfMemory-clause-gives
 returns-in-Err-OutOfMemory-clause-gives g c =

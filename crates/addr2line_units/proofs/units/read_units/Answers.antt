@@ -3,6 +3,8 @@ use Rattle.gimli_read.specs.Costed.{◌>>=◌}
 use Rattle.addr2line_units.specs.UnitsIndexed.{IndexState, appended, as_index, indexed_with}
 use Rattle.addr2line_units.proofs.UnitsOfHeadersLemmas.{IsRestOf, fault_of_rest, rest_of_rest, shared_take, unit_fault, unit_step}
 use Rattle.addr2line_units.proofs.UnitsIndexLemmas.{appended_more, appended_none, given_fault, given_none, given_some, shorter}
+use Rattle.addr2line_units.proofs.UnitsLinesLemmas.{as_many}
+use Rattle.addr2line_units.proofs.UnitsNewLemmas.{header_more}
 use Rattle.addr2line_units.proofs.Facts.{first_takes}
 use Rattle.addr2line_units.proofs.units.read_units.Goals as goal
 
@@ -22,14 +24,16 @@ loop-index-init g c =
       left = subst (λ (m : IndexState). IsRestOf g.R.Reader.shares (units_of (unit_of_header d aranges) c.in_ok-headers.headers >>= λ units. free (Ok (appended d m units))) (indexed_with d aranges))
           (sym c.new-index.ensures.none) (rw all (record { gives = refl; takes = λ t. t }));
       same = search rules;
-      read = rw (c.new-index.ensures.empty.0, c.new-index.ensures.empty.1) tt;
-      fresh = rw (c.new-index.ensures.empty.0, c.new-index.ensures.empty.1) tt;
+      read = rw (c.new-index.ensures.empty.0, c.new-index.ensures.empty.1) (record { lines = tt; fresh = tt });
     }
 
 pub loop-index-smaller : goal.loop-index-smaller
 loop-index-smaller g c =
     let left = given_some _ _ _ (rw c.in-Some.is at c.in_ok-header.ensures.gives) in
     shorter _ _ _ left
+
+pub take-requires-clause-beside : goal.take-requires-clause-beside
+take-requires-clause-beside g c = as_many c.args.dwarf.now _ _ c.loop-index.invariant.read.lines
 
 pub loop-index-preserved : goal.loop-index-preserved
 loop-index-preserved g c =
@@ -40,8 +44,7 @@ loop-index-preserved g c =
     record {
       left = rest_of_rest (unit_step g.R.Reader.shares (unit_of_header d c.args.aranges.now) (appended d) m _ _ _ left _ (appended_more d m) c.in_ok-take.ensures.gives) i.left;
       same = c.in_ok-take.ensures.dwarf;
-      read = c.in_ok-take.ensures.read;
-      fresh = c.in_ok-take.ensures.empty;
+      read = header_more d c.args.aranges.now _ m c.loop-index.index _ c.in_ok-take.ensures.gives c.in_ok-take.ensures.read i.read;
     }
 
 pub returns-in_err-take-clause-gives : goal.returns-in_err-take-clause-gives

@@ -1,4 +1,4 @@
-use Rattle.addr2line_units.proofs.Common.{◌≡◌, Ok, length, free, HaveLinesOf, AreFreshOf, units_of, unit_of_header}
+use Rattle.addr2line_units.proofs.Common.{◌≡◌, Ok, length, free, HaveNewCaches, units_of, unit_of_header}
 use Rattle.gimli_read.specs.Costed.{◌>>=◌}
 use Rattle.addr2line_units.specs.UnitsIndexed.{appended, as_index, indexed_with}
 use Rattle.addr2line_units.proofs.UnitsOfHeadersLemmas.{IsRestOf}
@@ -10,8 +10,7 @@ invariant-loop-index g l =
     record {
       left : IsRestOf g.R.Reader.shares (units_of (unit_of_header d l.aranges) l.headers >>= λ units. free (Ok (appended d (as_index l.index) units))) (indexed_with d l.aranges);
       same : l.abbreviations.dwarf ≡ d;
-      read : HaveLinesOf d l.index.dw_units.items l.index.caches.items;
-      fresh : AreFreshOf l.index.dw_units.items l.index.caches.items;
+      read : HaveNewCaches d l.index.dw_units.items l.index.caches.items;
     }
 
 abbrev pub decreases-loop-index : goal.decreases-loop-index

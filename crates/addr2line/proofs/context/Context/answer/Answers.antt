@@ -7,12 +7,16 @@ invariant_of-self g c =
     let s = c.self.inside in
     read_context s.ranges s.units c.self.invariant c.answer.new.self c.answer.ensures.after.stays
 
-pub returns-clause-after : goal.returns-clause-after
-returns-clause-after g c =
+pub returns : goal.returns
+returns g c =
     let s = c.self.inside in
-    rw (sym c.self.view_is) (after_answer s.ranges s.units c.self.invariant c.args.number (option_map (λ d. d.value) c.args.sections) c.answer.result c.answer.new.self c.answer.ensures.after)
-
-pub returns-clause-no_memory : goal.returns-clause-no_memory
-returns-clause-no_memory g c =
-    let s = c.self.inside in
-    rw (sym c.self.view_is) (λ none. reply_alone s.ranges s.units c.self.invariant c.args.number (option_map (λ d. d.value) c.args.sections) c.answer.result (c.answer.ensures.no_memory none))
+    let i = c.self.invariant in
+    let n = c.args.number in
+    let given = option_map (λ d. d.value) c.args.sections in
+    let a = c.answer.ensures.after in
+    record {
+      after = rw (sym c.self.view_is) (record {
+        after = after_answer s.ranges s.units i n given c.answer.result c.answer.new.self a;
+        no_memory = λ none. reply_alone s.ranges s.units i n given c.answer.result (a.no_memory none);
+      });
+    }

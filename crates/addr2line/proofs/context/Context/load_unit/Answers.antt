@@ -1,4 +1,4 @@
-use Rattle.addr2line.proofs.Common.{None, option_map, refl, subst, sym, ◌∙◌, ExactlyUnlessOom}
+use Rattle.addr2line.proofs.Common.{option_map, subst, sym, ◌∙◌, ExactlyUnlessOom}
 use Rattle.addr2line.proofs.AnsweredLemmas.{read_context}
 use Rattle.addr2line.proofs.LoadLemmas.{after_load, load_is, not_open_is}
 use Rattle.addr2line.proofs.context.Context.load_unit.Goals as goal
@@ -16,23 +16,12 @@ returns-clause-gives g c =
 pub returns-clause-after : goal.returns-clause-after
 returns-clause-after g c =
     let s = c.self.inside in
-    rw (sym c.self.view_is) (after_load s.ranges s.units c.self.invariant c.args.unit.number (option_map (λ x. x.value) c.args.sections) c.load_unit.result c.load_unit.new.self c.load_unit.ensures.after)
-
-pub returns-clause-memory : goal.returns-clause-memory
-returns-clause-memory g c =
-    let s = c.self.inside in
+    let i = c.self.invariant in
     let n = c.args.unit.number in
     let given = option_map (λ x. x.value) c.args.sections in
-    rw (sym c.self.view_is) (λ h. c.load_unit.ensures.after.not_open (not_open_is s.ranges s.units c.self.invariant n h) ∙ sym (load_is s.ranges s.units c.self.invariant n given))
-
-pub returns-clause-none : goal.returns-clause-none
-returns-clause-none g c =
-    let s = c.self.inside in
-    let n = c.args.unit.number in
-    rw (sym c.self.view_is) (λ h. c.load_unit.ensures.after.none (rw h refl) ∙ sym (load_is s.ranges s.units c.self.invariant n None))
-
-pub returns-clause-exact : goal.returns-clause-exact
-returns-clause-exact g c =
-    let s = c.self.inside in
-    let given = option_map (λ x. x.value) c.args.sections in
-    rw (sym c.self.view_is) (λ takes. c.load_unit.ensures.exact takes ∙ sym (load_is s.ranges s.units c.self.invariant c.args.unit.number given))
+    let a = c.load_unit.ensures.after in
+    rw (sym c.self.view_is) (record {
+      after = after_load s.ranges s.units i n given c.load_unit.result c.load_unit.new.self a;
+      not_open = λ h. a.not_open (not_open_is s.ranges s.units i n h) ∙ sym (load_is s.ranges s.units i n given);
+      exact = λ takes. a.exact takes ∙ sym (load_is s.ranges s.units i n given);
+    })

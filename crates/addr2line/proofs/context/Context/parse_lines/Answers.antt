@@ -17,53 +17,23 @@ returns-clause-gives g c =
 pub returns-clause-after : goal.returns-clause-after
 returns-clause-after g c =
     let s = c.self.inside in
-    rw (sym c.self.view_is) (lines_stay s.ranges s.units c.self.invariant _ c.parse_lines.new.self c.parse_lines.ensures.after.lines)
-
-pub returns-clause-steps : goal.returns-clause-steps
-returns-clause-steps g c = rw (sym c.self.view_is) c.parse_lines.ensures.after.steps
-
-pub returns-clause-ready : goal.returns-clause-ready
-returns-clause-ready g c = ready_if_ok _ (as_context c.parse_lines.new.self) c.parse_lines.ensures.after.parsed
-
-pub returns-clause-found : goal.returns-clause-found
-returns-clause-found g c =
-    let s = c.self.inside in
-    let i = c.self.invariant in
-    let same = ap (λ (x : UnitsState). x.scope.file.sections) c.parse_lines.ensures.after.lines.same in
-    when_ok _ _ c.parse_lines.ensures.gives (λ read probe. rw same (ap is_ok (location_is s.ranges s.units i probe) ∙ along_ok s.units.scope.file.sections s.units.units probe (cover probe s.ranges) read))
-
-pub returns-clause-exact : goal.returns-clause-exact
-returns-clause-exact g c =
-    let s = c.self.inside in
     let i = c.self.invariant in
     let a = c.parse_lines.ensures.after in
+    let now = c.parse_lines.new.self in
     let shares = g.R.Reader.shares in
-    rw (sym c.self.view_is) (λ none. exactly_told (λ x. x) c.parse_lines.result _ (subst (ExactlyUnlessOom (λ x. x) c.parse_lines.result) (sym (lines_are s.ranges s.units i)) c.parse_lines.ensures.gives)
-    (a.memory (none_more_for_all shares s.units.units s.units.scope.file.sections s.units.parsed c.parse_lines.new.self.parsed a.lines.parsed
-    (at_made s.ranges s.units i (λ x xs rs. TakeNoneForAll shares x.file.sections xs s.units.parsed) none))))
-
-pub returns-clause-whole : goal.returns-clause-whole
-returns-clause-whole g c =
-    let s = c.self.inside in
-    let a = c.parse_lines.ensures.after in
-    let now = c.parse_lines.new.self in
-    λ told. of_lines s.ranges s.units c.self.invariant _ now a.lines (λ x xs rs. AreReadyForAll x.file.sections xs now.parsed) (a.ready told)
-
-pub returns-clause-memory : goal.returns-clause-memory
-returns-clause-memory g c =
-    let s = c.self.inside in
-    let a = c.parse_lines.ensures.after in
-    let now = c.parse_lines.new.self in
-    λ none. a.memory (at_lines s.ranges s.units c.self.invariant _ now a.lines (λ x xs rs. TakeNoneForAll g.R.Reader.shares x.file.sections xs now.parsed) none)
-
-pub returns-clause-within : goal.returns-clause-within
-returns-clause-within g c =
-    let s = c.self.inside in
-    let a = c.parse_lines.ensures.after in
-    rw (sym c.self.view_is) (of_made s.ranges s.units c.self.invariant (λ x xs rs. ParsesOnly (AllAskFor x.file.sections xs) s.units.parsed c.parse_lines.new.self.parsed) a.lines.only)
-
-pub returns-clause-kept : goal.returns-clause-kept
-returns-clause-kept g c =
-    let s = c.self.inside in
-    let a = c.parse_lines.ensures.after in
-    rw (sym c.self.view_is) (λ ready. same_if_asked _ s.units c.parse_lines.new.self a.lines (at_made s.ranges s.units c.self.invariant (λ x xs rs. AreReadyForAll x.file.sections xs s.units.parsed) ready))
+    let same = ap (λ (x : UnitsState). x.scope.file.sections) a.lines.same in
+    let gives = subst (ExactlyUnlessOom (λ x. x) c.parse_lines.result) (sym (lines_are s.ranges s.units i)) c.parse_lines.ensures.gives in
+    rw (sym c.self.view_is) (record {
+      stays = lines_stay s.ranges s.units i _ now a.lines;
+      steps = a.steps;
+      only = of_made s.ranges s.units i (λ x xs rs. ParsesOnly (AllAskFor x.file.sections xs) s.units.parsed now.parsed) a.lines.only;
+      same = λ ready. same_if_asked _ s.units now a.lines (at_made s.ranges s.units i (λ x xs rs. AreReadyForAll x.file.sections xs s.units.parsed) ready);
+      ready = λ told. of_lines s.ranges s.units i _ now a.lines (λ x xs rs. AreReadyForAll x.file.sections xs now.parsed) (a.ready told);
+      memory = λ none. a.memory (at_lines s.ranges s.units i _ now a.lines (λ x xs rs. TakeNoneForAll shares x.file.sections xs now.parsed) none);
+      exact = λ none. exactly_told (λ x. x) c.parse_lines.result _ gives
+          (a.memory (none_more_for_all shares s.units.units s.units.scope.file.sections s.units.parsed now.parsed a.lines.parsed
+          (at_made s.ranges s.units i (λ x xs rs. TakeNoneForAll shares x.file.sections xs s.units.parsed) none)));
+      parsed = a.parsed;
+      reads = ready_if_ok _ (as_context now) a.parsed;
+      found = when_ok _ _ c.parse_lines.ensures.gives (λ read probe. rw same (ap is_ok (location_is s.ranges s.units i probe) ∙ along_ok s.units.scope.file.sections s.units.units probe (cover probe s.ranges) read));
+    })

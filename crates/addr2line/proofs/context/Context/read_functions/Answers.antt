@@ -16,19 +16,13 @@ returns-clause-gives g c =
 pub returns-clause-after : goal.returns-clause-after
 returns-clause-after g c =
     let s = c.self.inside in
-    rw (sym c.self.view_is) (after_parse s.ranges s.units c.self.invariant c.args.depth c.read_functions.result c.read_functions.new.self c.read_functions.ensures.after)
-
-pub returns-clause-known : goal.returns-clause-known
-returns-clause-known g c =
-    let s = c.self.inside in
-    all_known s.ranges s.units c.self.invariant c.args.depth c.read_functions.result c.read_functions.new.self c.read_functions.ensures.after
-
-pub returns-clause-whole : goal.returns-clause-whole
-returns-clause-whole g c =
-    let s = c.self.inside in
-    all_reached s.ranges s.units c.self.invariant c.args.depth c.read_functions.result c.read_functions.new.self c.read_functions.ensures.after c.read_functions.ensures.gives
-
-pub returns-clause-no_memory : goal.returns-clause-no_memory
-returns-clause-no_memory g c =
-    let s = c.self.inside in
-    rw (sym c.self.view_is) (parsed_alone s.ranges s.units c.self.invariant c.args.depth c.read_functions.result c.read_functions.new.self c.read_functions.ensures.after g.R.Reader.shares c.read_functions.ensures.no_memory)
+    let i = c.self.invariant in
+    let e = c.read_functions.ensures in
+    let r = c.read_functions.result in
+    let now = c.read_functions.new.self in
+    rw (sym c.self.view_is) (record {
+      after = after_parse s.ranges s.units i c.args.depth r now e.after;
+      no_memory = parsed_alone s.ranges s.units i c.args.depth r now e.after;
+      known = all_known s.ranges s.units i c.args.depth r now e.after;
+      reached = all_reached s.ranges s.units i c.args.depth r now e.after e.gives;
+    })

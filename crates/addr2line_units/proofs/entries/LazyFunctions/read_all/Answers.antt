@@ -3,7 +3,7 @@ use Rattle.std.specs.Box.{with_value}
 use Rattle.addr2line_lines.specs.CachedNames.{AreNamesOf}
 use Rattle.addr2line_units.specs.declared.entries.LazyFunctions.TheVariants as lazy
 use Rattle.addr2line_units.specs.declared.parses.ReadingDepth.TheVariants as depths
-use Rattle.addr2line_units.proofs.EntriesFindLemmas.{were_unread}
+use Rattle.addr2line_units.proofs.EntriesFindLemmas.{cached_right, were_unread}
 use Rattle.addr2line_units.proofs.EntriesFunctionLemmas.{exactly_weaker, fault_is, no_fault_of, reading_before, stay_faulty, stay_read, table_more}
 use Rattle.addr2line_units.proofs.ParsesAfterLemmas.{details_after, refused_after}
 use Rattle.addr2line_units.proofs.ParsesCachedLemmas.{cached_stay}
@@ -34,10 +34,11 @@ returns-in_err-cache g c =
     let old = c.args.self.now in
     let x = c.in_err-cache.field-0.0 in
     let a = c.in_err-cache.ensures.after in
+    let right = cached_right shares scope view (Err x) old c.cache.new.self c.requires.cached.functions a in
     let unread = were_unread shares scope view 0 old c.cache.new.self x a in
     rw (p.1, p.2) (record {
       gives = λ may. fault_of_functions scope view x (unread_takes shares scope view old x unread a.refused.0.0 a.refused.0.1 may);
-      after = refused_after shares scope view old c.cache.new.self a.right depths.Details x a.refused.0.0 a.refused.1 unread a.refused.0.1;
+      after = refused_after shares scope view old c.cache.new.self right depths.Details x a.refused.0.0 a.refused.1 unread a.refused.0.1;
     })
 
 pub returns-in-Absent : goal.returns-in-Absent
@@ -47,11 +48,12 @@ returns-in-Absent g c =
     let old = c.args.self.now in
     let new = c.cache.new.self in
     let a = c.in_ok-cache.ensures.after in
+    let now = cached_right g.R.Reader.shares scope view (Ok tt) old c.cache.new.self c.requires.cached.functions a in
     let kept : were_read old ≡ true → new ≡ old = λ read. (a.kept read).0 in
-    let gives = no_fault_of scope view (subst (AreFunctionsOf scope view) c.in-Absent.is a.right) in
+    let gives = no_fault_of scope view (subst (AreFunctionsOf scope view) c.in-Absent.is now) in
     record {
       gives = gives;
-      after = details_after g.R.Reader.shares scope view old new a.right (Ok tt) c.requires.cached.functions gives (cached_stay scope view old new kept) a.read
+      after = details_after g.R.Reader.shares scope view old new now (Ok tt) c.requires.cached.functions gives (cached_stay scope view old new kept) a.read
           (subst (λ f. AllByRecursion HasDetail (cached_functions f).functions) (sym c.in-Absent.is) tt)
           (λ ne. subst (λ f. IsReadyFor depths.Details (known_functions f)) (sym c.in-Absent.is) tt) (λ ready. tt) (λ ready. sym gives) (λ ready. ready_same depths.Details old new kept ready);
     }
@@ -64,11 +66,12 @@ returns-in-Read g c =
     let old = c.args.self.now in
     let mid = c.cache.new.self in
     let a = c.in_ok-cache.ensures.after in
+    let now = cached_right g.R.Reader.shares scope view (Ok tt) old c.cache.new.self c.requires.cached.functions a in
     let kept : were_read old ≡ true → mid ≡ old = λ read. (a.kept read).0 in
     let t = c.in-Read.functions in
     let new = c.read_all.new.self in
     let result = c.read_all.result in
-    let table = subst (λ x. AreFunctionsOf scope view x) c.in-Read.is a.right in
+    let table = subst (λ x. AreFunctionsOf scope view x) c.in-Read.is now in
     let e = rw c.deref_mut.ensures.value at c.read_all.ensures in
     let may = details_take_memory shares scope view t.value.functions in
     let gives = exactly_weaker may (reading_takes_memory shares scope view old) (λ x. x) result (functions_fault scope view)
@@ -90,9 +93,10 @@ returns-in-Faulty g c =
     let old = c.args.self.now in
     let mid = c.cache.new.self in
     let a = c.in_ok-cache.ensures.after in
+    let now = cached_right g.R.Reader.shares scope view (Ok tt) old c.cache.new.self c.requires.cached.functions a in
     let kept : were_read old ≡ true → mid ≡ old = λ read. (a.kept read).0 in
     let x = c.in-Faulty.error in
-    let right = subst (λ f. AreFunctionsOf scope view f) c.in-Faulty.is a.right in
+    let right = subst (λ f. AreFunctionsOf scope view f) c.in-Faulty.is now in
     let fault = fault_of_functions scope view x right in
     record {
       gives = λ _. fault;
@@ -103,7 +107,7 @@ returns-in-Faulty g c =
 pub read_all-requires-clause-names : goal.read_all-requires-clause-names
 read_all-requires-clause-names g c =
     subst (λ (t : FunctionTable). AreNamesOf (as_scope c.args.scope) c.args.view.now t.names) (sym c.deref_mut.ensures.value)
-    (subst (λ x. AreFunctionsOf (as_scope c.args.scope) c.args.view.now x) c.in-Read.is c.cache.ensures.after.right).names
+    (subst (λ x. AreFunctionsOf (as_scope c.args.scope) c.args.view.now x) c.in-Read.is (cached_right g.R.Reader.shares (as_scope c.args.scope) c.args.view.now c.cache.result c.args.self.now c.cache.new.self c.requires.cached.functions c.cache.ensures.after)).names
 
 pub returns-in-Unread : goal.returns-in-Unread
 returns-in-Unread g c = absurd (false≢true (sym (ap were_read c.in-Unread.is) ∙ c.in_ok-cache.ensures.after.read))

@@ -7,7 +7,7 @@ returns-in_err-self-clause-after g c =
     let p = err_from_is_err_and c.from_residual.result c.from_residual.ensures.1 in
     let e = c.in_err-self.ensures in
     let uncached : is_uncached c.args.self.now.lines ≡ true = search rules in
-    rw (p.1, p.2) (unparsed_after g.R.Reader.shares c.args.dwarf.now c.args.dw_unit.now c.args.self.now c.in_err-self.field-0.0 uncached e.refused c.requires.cached e.no_memory)
+    rw (p.1, p.2) (unparsed_after g.R.Reader.shares c.args.dwarf.now c.args.dw_unit.now c.args.self.now c.in_err-self.field-0.0 uncached e.refused e.no_memory)
 
 pub returns-in_ok-self-clause-after : goal.returns-in_ok-self-clause-after
 returns-in_ok-self-clause-after g c =
@@ -18,4 +18,4 @@ returns-in_ok-self-clause-after g c =
 pub returns-else-is_uncached-clause-after : goal.returns-else-is_uncached-clause-after
 returns-else-is_uncached-clause-after g c =
     let cached : is_uncached c.args.self.now.lines ≡ false = search rules in
-    cached_after g.R.Reader.shares c.args.dwarf.now c.args.dw_unit.now c.args.self.now cached c.requires.cached
+    cached_after g.R.Reader.shares c.args.dwarf.now c.args.dw_unit.now c.args.self.now cached

@@ -9,5 +9,5 @@ returns-in_err-cache_lines g c =
 
 pub returns : goal.returns
 returns g c =
-    let told = lines_told c.check_lines.result c.in_ok-cache_lines.ensures.after c.check_lines.ensures.gives in
+    let told = lines_told c.check_lines.result c.in_ok-cache_lines.ensures.after c.in_ok-cache_lines.ensures.gives c.check_lines.ensures.gives in
     record { gives = told.0; after = told.1 }

@@ -1,32 +1,30 @@
 use Rattle.addr2line_units.proofs.Common.{◌≡◌, ◌++◌, ◌∙◌, List, Ok, Result, ap, length, map, rules, sym, Error, Range, range_of_unit, unit_ranges}
 use Rattle.addr2line_units.specs.UnitsIndexed.{as_ranged_unit}
-use Rattle.addr2line_units.proofs.SupScopeLemmas.{fresh_push}
-use Rattle.addr2line_units.proofs.UnitsLinesLemmas.{own_push, pushed}
+use Rattle.addr2line_units.proofs.UnitsLinesLemmas.{pushed}
 use Rattle.addr2line_units.proofs.units.Index.push.Goals as goal
 
 ok_is : (a b : List Range) → ◌≡◌ {A = Result (List Range) Error} (Ok a) (Ok b) → a ≡ b
 ok_is a b e = cc
 
 pub returns-clause-read : goal.returns-clause-read
-returns-clause-read g c =
-    let own = own_push c.args.dwarf.now c.args.self.now.dw_units.items c.args.self.now.caches.items c.args.dw_unit (record { lines = c.or_line_ranges.new.self; entries = c.new.result }) c.requires.read c.or_line_ranges.ensures.after.right in
-    rw (c.in_ok-push.ensures.items, c.in_ok-push-2.ensures.items) own
+returns-clause-read g c = record {
+  cache = record { lines = c.in_ok-lines.lines; entries = c.new.result };
+  units = c.in_ok-push.ensures.items;
+  caches = c.in_ok-push-2.ensures.items;
+  lines = c.in_ok-lines.ensures.read;
+  fresh = c.new.ensures.empty;
+}
 
 pub returns-clause-gives : goal.returns-clause-gives
 returns-clause-gives g c =
     let d = c.args.dwarf.now in
     let before = c.args.self.now.ranges.items in
-    let ranged = as_ranged_unit c.args.dw_unit c.args.lines c.args.listed.items in
+    let ranged = as_ranged_unit c.args.dw_unit c.args.lang c.args.listed.items in
     let count : c.len.result ≡ length c.args.self.now.caches.items = search rules in
-    let read = ok_is _ _ c.in_ok-ranges.ensures.gives in
+    let read = ok_is _ _ c.in_ok-lines.ensures.gives in
     let ranges =
     c.in_ok-push_ranges.ensures.gives
     ∙ ap (λ rs. before ++ map (range_of_unit c.len.result) rs) (c.deref.ensures.value ∙ sym read)
     ∙ ap (λ n. before ++ map (range_of_unit n) (unit_ranges d ranged)) count in
-    let more = pushed d c.args.self.now.dw_units.items c.args.self.now.caches.items c.args.dw_unit c.args.lines (record { lines = c.or_line_ranges.new.self; entries = c.new.result }) c.args.listed.items before c.push_ranges.new.unit_ranges.items c.requires.read c.in_ok-ranges.ensures.after.stay.language c.in_ok-ranges.ensures.after.known ranges in
+    let more = pushed d c.args.self.now.dw_units.items c.args.self.now.caches.items c.args.dw_unit c.args.lang (record { lines = c.in_ok-lines.lines; entries = c.new.result }) c.args.listed.items before c.push_ranges.new.unit_ranges.items c.requires.beside c.in_ok-lines.ensures.kept c.in_ok-lines.ensures.known ranges in
     rw (c.in_ok-push.ensures.items, c.in_ok-push-2.ensures.items) more
-
-pub returns-clause-empty : goal.returns-clause-empty
-returns-clause-empty g c =
-    let fresh = fresh_push c.args.self.now.dw_units.items c.args.self.now.caches.items c.args.dw_unit (record { lines = c.or_line_ranges.new.self; entries = c.new.result }) c.requires.fresh c.new.ensures.empty in
-    rw (c.in_ok-push.ensures.items, c.in_ok-push-2.ensures.items) fresh

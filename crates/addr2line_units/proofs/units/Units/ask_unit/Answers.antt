@@ -1,4 +1,4 @@
-use Rattle.addr2line_units.proofs.Common.{Err, Ok, arith, refl, subst, sym, ◌≡◌, err_from_is_err_and, set, WasNotRefused, IsCacheOf, as_stop, FindsNothing, found_stop, stop_at, IsFaultAt}
+use Rattle.addr2line_units.proofs.Common.{Err, Ok, arith, refl, subst, sym, ◌≡◌, err_from_is_err_and, set, WasNotRefused, IsCacheOf, as_stop, FindsNothing, found_stop, stop_at}
 use Rattle.addr2line_units.specs.declared.frames.Asks.TheVariants as lookups
 use Rattle.addr2line_units.proofs.FramesAskLemmas.{after_asked, asked_err, asked_ok, none_after, none_gives, refused_alone, stop_lendable}
 use Rattle.addr2line_units.proofs.FramesLookupLemmas.{oom_after, oom_before}
@@ -15,7 +15,7 @@ pub returns-in_default-clause-after : goal.returns-in_default-clause-after
 returns-in_default-clause-after g c =
     let s = c.self.inside in
     let none = none_got c.scope-scope.ensures.gives c.args.number c.in_default.ensures.lookup.0 in
-    rw (sym c.self.view_is) (none_after c.self.invariant c.args.probe c.args.number s.steps (as_stop s.caches.items s.stop) none c.args.faults)
+    rw (sym c.self.view_is) (none_after c.self.invariant c.args.probe c.args.number s.steps (as_stop s.caches.items s.stop) none g.R.Reader.shares c.args.faults)
 
 pub index_mut-cache-requires : goal.index_mut-cache-requires
 index_mut-cache-requires g c =
@@ -49,9 +49,8 @@ returns-in_err-found g c =
       gives = λ ne. subst (λ y. stop_at (lookups.Frames c.args.faults) c.args.probe y c.args.number ≡ Err c.in_err-found.field-0.0) c.self.view_is
           (asked_err i c.args.probe c.args.number s.steps was there at w c.args.faults found.result e.gives _ (sym is) ne);
       after = rw (sym c.self.view_is) (after_asked i c.args.probe c.args.number s.steps was there at w c.args.faults found.result e.gives e.after found.new.steps e.steps FindsNothing _
-          (λ told. oom_before c.args.faults found.result (subst WasNotRefused is told)) (λ told. subst WasNotRefused (sym is) (oom_after c.args.faults found.result told)) refl);
-      no_memory = λ none. subst (λ y. IsFaultAt (lookups.Frames c.args.faults) c.args.probe y c.args.number c.in_err-found.field-0.0) c.self.view_is
-          (refused_alone i c.args.probe c.args.number s.steps was there at w c.args.faults found.result e.gives e.after found.new.steps e.steps FindsNothing c.in_err-found.field-0.0 (sym is) none);
+          (λ told. oom_before c.args.faults found.result (subst WasNotRefused is told)) (λ told. subst WasNotRefused (sym is) (oom_after c.args.faults found.result told)) refl
+          (refused_alone i c.args.probe c.args.number s.steps was there at w c.args.faults found.result e.gives e.after found.new.steps e.steps FindsNothing c.in_err-found.field-0.0 (sym is)));
     })
 
 pub invariant_of-self-2 : goal.invariant_of-self-2
@@ -79,6 +78,5 @@ returns g c =
       gives = rw c.stop_at.ensures.gives (subst (λ y. stop_at (lookups.Frames c.args.faults) c.args.probe y c.args.number ≡ Ok (as_stop (set s.caches.items c.args.number w) (found_stop c.args.number c.in_ok-found.found))) c.self.view_is
           (asked_ok i c.args.probe c.args.number s.steps was there at w c.args.faults found.result e.gives _ (sym is)));
       after = rw (sym c.self.view_is) (after_asked i c.args.probe c.args.number s.steps was there at w c.args.faults found.result e.gives e.after found.new.steps e.steps _ _
-          (λ told. oom_before c.args.faults found.result (subst WasNotRefused is told)) (λ told. subst WasNotRefused (sym is) (oom_after c.args.faults found.result told)) tt);
-      no_memory = λ none. tt;
+          (λ told. oom_before c.args.faults found.result (subst WasNotRefused is told)) (λ told. subst WasNotRefused (sym is) (oom_after c.args.faults found.result told)) tt (λ none. tt));
     }

@@ -1,7 +1,9 @@
-use Rattle.addr2line_units.proofs.Common.{arith, rules, sym, scope_of}
+use Rattle.addr2line_units.proofs.Common.{◌≡◌, arith, rules, sym, OutOfMemory, scope_of}
+use Rattle.std.proofs.lemmas.Grind.{common_steps}
 use Rattle.addr2line_units.proofs.UnitsCachedLemmas.{entries_right}
 use Rattle.addr2line_units.proofs.UnitsStateLemmas.{load_there, waits_if_stored}
-use Rattle.addr2line_units.proofs.FramesWaitLemmas.{as_many_views, views_of_entries, waiting_view, waits_within}
+use Rattle.addr2line_units.proofs.UnitViewLemmas.{open_has_load, refused_load}
+use Rattle.addr2line_units.proofs.FramesWaitLemmas.{as_many_views, views_of_entries, waiting_there, waits_within}
 use Rattle.addr2line_units.proofs.units.Units.load.Goals as goal
 
 pub index-dw_unit-requires : goal.index-dw_unit-requires
@@ -14,29 +16,25 @@ index-dw_unit-requires g c =
     let within = waits_within s.caches.items c.args.number waits in
     omega (arith, many, within)
 
-pub index-cache-requires : goal.index-cache-requires
-index-cache-requires g c =
-    let s = c.self.inside in
-    let i = c.self.invariant in
-    let waits = waits_if_stored s.caches.items s.stop c.args.number (rw (sym c.self.view_is) at c.requires.waits) i.stop in
-    let within = waits_within s.caches.items c.args.number waits in
-    omega (arith, within)
-
-pub load-requires-clause-view : goal.load-requires-clause-view
-load-requires-clause-view g c =
+pub returns-in_err-load-clause-refused : goal.returns-in_err-load-clause-refused
+returns-in_err-load-clause-refused g c =
     let s = c.self.inside in
     let i = c.self.invariant in
     let views = views_of_entries (scope_of s.sources) s.sources.units.items s.caches.items (entries_right (scope_of s.sources) s.sources.units.items s.caches.items i.caches) in
     let waits = waits_if_stored s.caches.items s.stop c.args.number (rw (sym c.self.view_is) at c.requires.waits) i.stop in
-    (waiting_view s.sources.dwarf.value s.sources.units.items s.caches.items c.args.number c.index-dw_unit.result.now c.index-cache.result.now views waits (search rules) (search rules)).0
+    let waiting = waiting_there s.sources.dwarf.value s.sources.units.items s.caches.items c.args.number c.index-dw_unit.result.now views waits (search rules) in
+    let memory : c.in_err-load.field-0.0 ≡ OutOfMemory = refused_load _ _ _ _ _ waiting c.in_err-load.ensures.gives in
+    grind (arith, common_steps)
 
-pub load-requires-clause-waits : goal.load-requires-clause-waits
-load-requires-clause-waits g c =
+pub unreachable-requires : goal.unreachable-requires
+unreachable-requires g c =
     let s = c.self.inside in
     let i = c.self.invariant in
     let views = views_of_entries (scope_of s.sources) s.sources.units.items s.caches.items (entries_right (scope_of s.sources) s.sources.units.items s.caches.items i.caches) in
     let waits = waits_if_stored s.caches.items s.stop c.args.number (rw (sym c.self.view_is) at c.requires.waits) i.stop in
-    (waiting_view s.sources.dwarf.value s.sources.units.items s.caches.items c.args.number c.index-dw_unit.result.now c.index-cache.result.now views waits (search rules) (search rules)).1
+    let waiting = waiting_there s.sources.dwarf.value s.sources.units.items s.caches.items c.args.number c.index-dw_unit.result.now views waits (search rules) in
+    let gives = rw c.in-None.is at c.in_ok-load.ensures.gives in
+    open_has_load s.sources.dwarf.value c.args.number c.index-dw_unit.result.now waiting gives
 
 pub returns-clause-gives : goal.returns-clause-gives
 returns-clause-gives g c =
@@ -46,4 +44,5 @@ returns-clause-gives g c =
     let waits = waits_if_stored s.caches.items s.stop c.args.number (rw (sym c.self.view_is) at c.requires.waits) i.stop in
     let many = as_many_views s.sources.dwarf.value s.sources.units.items s.caches.items views in
     let within = waits_within s.caches.items c.args.number waits in
-    rw (sym c.self.view_is) (load_there s.sources.dwarf.value s.sources.units.items c.args.number c.index-dw_unit.result.now (omega (arith, many, within)) (search rules) c.load.result c.load.ensures.gives)
+    let gives = rw c.in-Some.is at c.in_ok-load.ensures.gives in
+    rw (sym c.self.view_is) (load_there s.sources.dwarf.value s.sources.units.items c.args.number c.index-dw_unit.result.now (omega (arith, many, within)) (search rules) c.in-Some.load gives)

@@ -1,4 +1,4 @@
-use Rattle.addr2line_units.proofs.Common.{subst, sym, ◌∙◌, err_from_is_err_and, HaveLinesOf}
+use Rattle.addr2line_units.proofs.Common.{subst, sym, ◌∙◌, err_from_is_err_and, HaveNewCaches}
 use Rattle.addr2line_units.proofs.UnitsOfHeadersLemmas.{then_takes}
 use Rattle.addr2line_units.proofs.UnitsNewLemmas.{are_units, index_is, sup_fault, units_fault, units_made}
 use Rattle.addr2line_units.proofs.Facts.{first_takes}
@@ -24,17 +24,17 @@ invariant_of-units g c =
     let d = c.args.dwarf.value in
     let made = c.in_ok-indexed.indexed in
     let units = rw c.deref.ensures at c.in_ok-indexed.ensures.gives in
-    let lines = subst (λ d. HaveLinesOf d made.dw_units.items made.caches.items) c.deref.ensures c.in_ok-indexed.ensures.read in
+    let read = subst (λ d. HaveNewCaches d made.dw_units.items made.caches.items) c.deref.ensures c.in_ok-indexed.ensures.read in
     let sup = rw c.deref-2.ensures at c.in_ok-sup.ensures.gives in
     let sup_is = rw c.deref-2.ensures at c.in_ok-sup.ensures.dwarf in
-    are_units d made.dw_units.items made.caches.items made.ranges c.in_ok-sup.sup (sym (index_is d) ∙ units) sup sup_is lines c.in_ok-indexed.ensures.empty
+    are_units d made.dw_units.items made.caches.items made.ranges c.in_ok-sup.sup (sym (index_is d) ∙ units) sup sup_is read
 
 pub returns : goal.returns
 returns g c =
     let d = c.args.dwarf.value in
     let made = c.in_ok-indexed.indexed in
     let units = rw c.deref.ensures at c.in_ok-indexed.ensures.gives in
-    let lines = subst (λ d. HaveLinesOf d made.dw_units.items made.caches.items) c.deref.ensures c.in_ok-indexed.ensures.read in
+    let read = subst (λ d. HaveNewCaches d made.dw_units.items made.caches.items) c.deref.ensures c.in_ok-indexed.ensures.read in
     let sup = rw c.deref-2.ensures at c.in_ok-sup.ensures.gives in
     let sup_is = rw c.deref-2.ensures at c.in_ok-sup.ensures.dwarf in
-    record { gives = rw c.new.ensures.gives (units_made d made.dw_units.items made.caches.items made.ranges c.in_ok-sup.sup (sym (index_is d) ∙ units) sup sup_is lines c.in_ok-indexed.ensures.empty) }
+    record { gives = rw c.new.ensures.gives (units_made d made.dw_units.items made.caches.items made.ranges c.in_ok-sup.sup (sym (index_is d) ∙ units) sup sup_is read) }

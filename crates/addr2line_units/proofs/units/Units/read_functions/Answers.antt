@@ -1,5 +1,5 @@
 use Rattle.addr2line_units.proofs.Common.{subst, err_from_is_err_and, CountsUnits}
-use Rattle.addr2line_units.proofs.ParsesWalkLemmas.{read_fault, read_fault_after, read_fault_alone, read_first, read_last, read_last_after, read_on}
+use Rattle.addr2line_units.proofs.ParsesWalkLemmas.{read_fault, read_fault_after, read_first, read_last, read_last_after, read_on}
 use Rattle.addr2line_units.proofs.units.Units.read_functions.Goals as goal
 
 pub loop-number-init : goal.loop-number-init
@@ -17,7 +17,6 @@ returns-in_err-read_functions_in g c =
     rw (p.1, p.2) (record {
       gives = read_fault shares c.args.depth l.number c.args.self.now l.self c.read_functions_in.new.self l.invariant.so_far l.invariant.counts c.loop-number-test.true e.after e.gives;
       after = read_fault_after shares c.args.depth l.number c.args.self.now l.self c.read_functions_in.new.self l.invariant.so_far l.invariant.counts c.loop-number-test.true e.after e.gives;
-      no_memory = read_fault_alone shares c.args.depth l.number c.args.self.now l.self c.read_functions_in.new.self l.invariant.so_far l.invariant.counts c.loop-number-test.true e.after e.gives;
     })
 
 pub loop-number-preserved : goal.loop-number-preserved
@@ -35,5 +34,4 @@ returns g c =
     record {
       gives = read_last c.args.depth l.number c.args.self.now l.self l.invariant.so_far l.invariant.counts c.loop-number-test.false;
       after = read_last_after c.args.depth l.number c.args.self.now l.self l.invariant.so_far l.invariant.counts c.loop-number-test.false;
-      no_memory = λ none. tt;
     }

@@ -131,7 +131,7 @@ module _ (ranges : List UnitRange) (u : UnitsState) (i : IsContext ranges u) whe
   location_stop_is probe = by_made (λ s xs rs. stop_along (located_frames s.file.sections xs probe) (cover probe rs))
 
   -- after a lookup of a location
-  module _ {Y : Type 0} (shares : Bool) (probe : ℕ) (r : Result Y Error) (now : UnitsState) (a : left.AfterWalk shares lookups.Location probe (cover probe ranges) r u now) where
+  module _ {Y : Type 0} (shares : Bool) (probe : ℕ) (r : Result Y Error) (now : UnitsState) (a : left.AfterWalkAlong shares lookups.Location probe (cover probe ranges) r u now) where
     abbrev asked : ℕ → Type 0
     asked = AsksFor d u.units probe (cover probe ranges)
 

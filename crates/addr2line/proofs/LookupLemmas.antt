@@ -38,7 +38,7 @@ module _ (ranges : List UnitRange) (u : UnitsState) (i : IsContext ranges u) (fa
   pub stop_is : (answers : FirstAnswers) → lookup_stop faults u.scope.file.sections answers probe ≡ stop_along (asked_frames faults u.scope u.units answers probe) (cover probe ranges)
   stop_is answers = by_made ranges u i (λ s xs rs. stop_along (asked_frames faults s xs answers probe) (cover probe rs))
 
-  module _ (now : UnitsState) {X : Type 0} (shares : Bool) (r : Result X Error) (w : left.AfterWalk shares (lookups.Frames faults) probe (cover probe ranges) r u now) where
+  module _ (now : UnitsState) {X : Type 0} (shares : Bool) (r : Result X Error) (w : left.AfterWalkAlong shares (lookups.Frames faults) probe (cover probe ranges) r u now) where
     pub walked_context : IsContext ranges now
     walked_context = still_context ranges u i now w.asked.scope w.asked.units
 

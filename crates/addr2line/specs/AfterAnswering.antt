@@ -10,9 +10,9 @@ use Rattle.addr2line.specs.AfterLookups.{AfterFramesOver, Suspends}
 use Rattle.addr2line.specs.Lookups.{loads_at, lookup_stop, waits_for}
 
 -- after an answer to the load of the unit of a number, or after OutOfMemory in the place of given
--- sections, nothing is changed but of that unit, and no function becomes known; fewer loads are
--- left for a lookup that waited for the unit; after OutOfMemory all first answers are as before,
--- and what was known stays known
+-- sections, nothing is changed but of that unit, and what is stored of the last lookup, and no
+-- function becomes known; fewer loads are left for a lookup that waited for the unit; after
+-- OutOfMemory all first answers are as before, and what was known stays known
 pub record AfterAnswering (n : ℕ) (given : Option Sections)
     (result : Result (Unit {0}) Error) (old new : ContextState) : Type 0 where
   pub sections : new.sections ≡ old.sections

@@ -181,8 +181,8 @@ pub record IsContext (listed : List UnitRange) (u : UnitsState) : Type 0 where
 
 -- after a parse of all lines: they are parsed up to the first fault, unless memory was refused, and
 -- none are behind it, nor any where they were; memory is refused only where some are left that take
--- it, over readers that share their bytes or don't; without a fault all are parsed, and lookups of
--- locations and ranges parse nothing more and have no fault
+-- it, over readers that share their bytes or don't; without a fault all are parsed, lookups of
+-- locations and ranges parse nothing more, and those of locations have no fault
 pub record AfterParsingLines (shares : Bool) (result : Result (Unit {0}) Error)
     (old new : ContextState) : Type 0 where
   pub stays : Stays old new

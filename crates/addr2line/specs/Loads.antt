@@ -42,16 +42,17 @@ abbrev pub NoneOpenAt : ContextState → ℕ → Type 0
 NoneOpenAt c probe = (m : UnitIndex) → index_units c.sections ≡ Ok m
     → NoneOpen c.sections (unit_records m.units) c.answers (cover probe m.ranges)
 
--- nothing is changed but what is known of units' entries, and first answers
+-- nothing is changed but what is known of units' entries, first answers, and what is stored of the
+-- last lookup
 pub record StaysRead (old new : ContextState) : Type 0 where
   pub sections : new.sections ≡ old.sections
   pub parsed : new.parsed ≡ old.parsed
   pub steps : new.steps ≡ old.steps
 
 -- after an answer to the load of the unit of a number nothing is changed but of that unit, of which
--- what was known stays unless it was open, and nothing is changed where it had an answer; no
--- function becomes known; where memory was refused in place of it, all first answers are as before,
--- and what was known stays
+-- what was known stays unless it was open, and of what is stored of the last lookup; nothing is
+-- changed of a unit that had an answer; no function becomes known; where memory was refused in
+-- place of it, all first answers are as before, and what was known stays
 pub record AfterLoading (n : ℕ) (given : Option Sections) (result : Result (Unit {0}) Error)
     (old new : ContextState) : Type 0 where
   pub stays : StaysRead old new
@@ -77,8 +78,8 @@ pub record AfterLoadingOver (shares : Bool) (n : ℕ) (given : Option Sections)
   pub exact : answer_takes_memory shares given ≡ false
       → result ≡ load_reply old.sections old.answers n given
 
--- after the unit of a number is forgotten nothing is changed but of that unit, and nothing at all
--- where it had no answer; no function becomes known
+-- after the unit of a number is forgotten nothing is changed but of that unit, and of what is
+-- stored of the last lookup; nothing of the unit where it had no answer; no function becomes known
 pub record AfterForgetting (n : ℕ) (old new : ContextState) : Type 0 where
   pub stays : StaysRead old new
   pub answers : new.answers ≡ forgotten old.answers n
@@ -87,7 +88,7 @@ pub record AfterForgetting (n : ℕ) (old new : ContextState) : Type 0 where
   pub functions : LearnsNoFunctions old.known new.known
 
 -- after the loads of an address were listed nothing is changed but that more may be known of units
--- that cover it, and no function of them
+-- that cover it, and no function of them, and what is stored of the last lookup
 pub record AfterPreload (probe : ℕ) (old new : ContextState) : Type 0 where
   pub stays : StaysRead old new
   pub answers : new.answers ≡ old.answers
@@ -96,8 +97,8 @@ pub record AfterPreload (probe : ℕ) (old new : ContextState) : Type 0 where
       → (slice_get new.known n ≡ slice_get old.known n) ⊎ LeadTo (cover probe m.ranges) n
   pub functions : LearnsNoFunctions old.known new.known
 
--- the same with what the listing gives: none where no unit covers the probe; memory alone is
--- refused, and only where a unit that covers it is open
+-- the same with what the listing gives: none where no unit covers the probe, as at 2^64 - 1; memory
+-- alone is refused, and only where a unit that covers it is open
 pub record AfterPreloadCall (probe : ℕ) (loads : Result (List SplitLoad) Error)
     (old new : ContextState) : Type 0 where
   pub after : AfterPreload probe old new

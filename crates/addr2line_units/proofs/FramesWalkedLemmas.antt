@@ -1,7 +1,7 @@
 -- Walks over the units of a context, one unit after another (on specs/UnitsAfter.antt).
 use Rattle.addr2line_units.proofs.Common.{◌≡◌, ◌≢◌, inl, inr, ℕ, ◌+◌, ◌≤◌, ◌&&◌, ◌||◌, Bool, true, false, not, List, [], ◌∷◌, slice_get, Some, None, Result, Ok, Err, refl, sym, ap, subst, ◌∙◌, arith, false≢true, ⊤, IfErr, Error, OutOfMemory, ◌>>=◌, Scope, Asks, UnitRange, FindsNothing, Finds, LookupAsks, LookupStop, Waits, asked_of_unit, asks_lines_of, ends_lookup, found_in_unit, function_offset_of, has_stopped, holds_along, or_stop, stop_along, LearnsDetailsAt, knows_at, steps_along, steps_in, ParsesOnly, has_parsed, IndexedUnit, FramesResult, AfterAsk, stop_at, IsFaultAt, UnitsState, asked_by, has_all_at, has_asked_at, has_asked_few_at, stop_of, takes_none_at, FirstAnswers}
 use Rattle.addr2line_units.specs.declared.frames.Asks.TheVariants as lookups
-use Rattle.addr2line_units.specs.UnitsAfter.{AfterWalk, IsFaultAlong, WereAsked, WereAskedFor}
+use Rattle.addr2line_units.specs.UnitsAfter.{AfterWalkAlong, IsFaultAlong, WereAsked, WereAskedFor}
 use Rattle.addr2line_units.proofs.FramesLookupLemmas.{faults_there, goes_on, holds_both, holds_ended, holds_first, holds_rest, parses_more}
 use Rattle.addr2line_units.proofs.EntriesStayLemmas.{known_twice}
 use Rattle.addr2line_units.proofs.LocationsWalkLemmas.{lines_first, lines_over}
@@ -196,7 +196,7 @@ module _ (shares : Bool) (asks : Asks) (probe : ℕ) (all : List UnitRange) (r :
         by (Err e) h = (r.unit, asked_first frames r rest ranges all is w.comes, as_old (λ s us xs. found_in_unit asks s us xs probe r.unit ≡ Err e) h)
 
     -- the walk ends there
-    ended : ends_lookup (frames r.unit) ≡ true → AfterWalk shares asks probe all result old now
+    ended : ends_lookup (frames r.unit) ≡ true → AfterWalkAlong shares asks probe all result old now
     ended ends = record {
       asked = both.0;
       stop = a.stop;
@@ -216,7 +216,7 @@ module _ (shares : Bool) (asks : Asks) (probe : ℕ) (all : List UnitRange) (r :
     pub fault_gives : e ≢ OutOfMemory → stop_of asks probe old all ≡ Err e
     fault_gives ne = sym w.rest_is ∙ ap (stop_along frames) is ∙ faults_there frames r rest e (frames_err ne)
 
-    pub fault_after : AfterWalk {X = X} shares asks probe all (Err e) old now
+    pub fault_after : AfterWalkAlong {X = X} shares asks probe all (Err e) old now
     fault_after = record {
       asked = (both (Err e) a).0;
       stop = a.stop;
@@ -232,7 +232,7 @@ module _ (shares : Bool) (asks : Asks) (probe : ℕ) (all : List UnitRange) (r :
     pub stop_gives : has_stopped now.stop ≡ true → stop_of asks probe old all ≡ Ok now.stop
     stop_gives k = sym w.rest_is ∙ ap (stop_along frames) is ∙ (step_stop r.unit now.stop (frames r.unit) gave k).1 (stop_along frames rest)
 
-    pub stop_after : has_stopped now.stop ≡ true → AfterWalk {X = X} shares asks probe all (Ok x) old now
+    pub stop_after : has_stopped now.stop ≡ true → AfterWalkAlong {X = X} shares asks probe all (Ok x) old now
     stop_after k = ended (Ok x) a (step_stop r.unit now.stop (frames r.unit) gave k).0
 
     pub walked_on : has_stopped now.stop ≡ false → Walked asks probe all rest old now

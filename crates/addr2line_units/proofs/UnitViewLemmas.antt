@@ -183,9 +183,25 @@ scope_in scope d u states.Main = refl
 scope_in scope d u (states.Unnamed e) = tt
 scope_in scope d u (states.Answered a) = answered_scope scope d u (as_sections a) (unboxed a.unit)
 
+-- a unit that wasn't looked at, and needs no answer, has the main view
+first_scope : (scope : Scope) (d : Sections) (u : UnitRecord) → IfSome (verdict d u None) (λ view. IfOk view (λ x. scope ≡ view_scope scope x))
+first_scope scope d u = by (load_of_unit d 0 u)
+  where
+    by : (load : Result (Option SplitLoad) Error) → IfSome (verdict_by d u load None) (λ view. IfOk view (λ x. scope ≡ view_scope scope x))
+    by (Ok None) = refl
+    by (Ok (Some load)) = tt
+    by (Err e) = tt
+
 -- references lead from a view as its split file says, if it is in one
-pub scope_of_split : {R : Type 0} (scope : Scope) (split : Option Sections) (v : UnitView R) → split ≡ split_file_in v.state → (d : Sections) (u : UnitRecord) → IfSome (verdict_in d u v.state) (λ known. IfSome known (λ view. IfOk view (λ x. scope_by scope split ≡ view_scope scope x)))
-scope_of_split scope split v e d u = subst (λ p. IfSome (verdict_in d u v.state) (λ known. IfSome known (λ view. IfOk view (λ x. scope_by scope p ≡ view_scope scope x)))) (sym e) (scope_in scope d u v.state)
+pub scope_of_split : {R : Type 0} (scope : Scope) (split : Option Sections) (v : UnitView R) → split ≡ split_file_in v.state → (d : Sections) (u : UnitRecord) → IfSome (verdict_or d u v.state) (λ view. IfOk view (λ x. scope_by scope split ≡ view_scope scope x))
+scope_of_split {R} scope split v e d u = subst (λ p. IfSome (verdict_or d u v.state) (λ view. IfOk view (λ x. scope_by scope p ≡ view_scope scope x))) (sym e) (by v.state (scope_in scope d u v.state))
+  where
+    by : (s : ViewState R) → IfSome (verdict_in d u s) (λ known. IfSome known (λ view. IfOk view (λ x. scope_by scope (split_file_in s) ≡ view_scope scope x))) → IfSome (verdict_or d u s) (λ view. IfOk view (λ x. scope_by scope (split_file_in s) ≡ view_scope scope x))
+    by states.Undecided h = first_scope scope d u
+    by states.Open h = h
+    by states.Main h = h
+    by (states.Unnamed x) h = h
+    by (states.Answered a) h = h
 
 -- what holds of the view that is cached of a unit holds of its view, where it is decided
 pub of_cached_view : {R : Type 0} (d : Sections) (u : UnitRecord) (v : UnitView R) (P : Result View Error → Type 0) → IsViewOf d u v → is_decided v.state ≡ true → IfSome (verdict_in d u v.state) (λ known. IfSome known P) → IfSome (verdict d u (answer_of_view v)) P

@@ -99,9 +99,9 @@ IsFaultAlong asks probe s ranges e =
     (n : ℕ) × LookupAsks (asked_by asks probe s) ranges n × IsFaultAt asks probe s n e
 
 -- after a lookup along ranges, over readers that share their bytes or don't
-abbrev pub AfterWalk : {X : Type 0} → Bool → Asks → ℕ → List UnitRange → Result X Error
+abbrev pub AfterWalkAlong : {X : Type 0} → Bool → Asks → ℕ → List UnitRange → Result X Error
     → UnitsState → UnitsState → Type 0
-AfterWalk shares asks probe ranges result old = AfterAsking
+AfterWalkAlong shares asks probe ranges result old = AfterAsking
     (WereAskedFor asks (LookupAsks (asked_by asks probe old) ranges)
     (steps_along old.scope.file.sections old.units ranges) probe)
     (λ s. holds_along (has_asked_at asks probe s) (asked_by asks probe old) ranges)
@@ -183,7 +183,7 @@ pub record AfterListing (asks : ℕ → Type 0) (old new : UnitsState) : Type 0 
 
 -- after the loads of the units that ranges lead to were listed; memory alone is refused, and none
 -- where none of these is open
-pub record AfterPreload {X : Type 0} (ranges : List UnitRange) (result : Result X Error)
+pub record AfterPreloadAlong {X : Type 0} (ranges : List UnitRange) (result : Result X Error)
     (old new : UnitsState) : Type 0 where
   pub listing : AfterListing (LeadTo ranges) old new
   pub memory : NoneOpen old.scope.file.sections old.scope.file.units old.answers ranges

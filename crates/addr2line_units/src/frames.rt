@@ -14,7 +14,7 @@ ghost use Rattle.addr2line_units.specs.Frames.{call_location, found_frames, fram
 ghost use Rattle.addr2line_units.specs.FramesLeft.{entry_frame, files_if, frames_left, place_frame};
 ghost use Rattle.addr2line_units.specs.EntriesFunctions.{ArePlacesIn, function_of_place, cached_functions};
 ghost use Rattle.addr2line_units.specs.FramesLent.{YieldsFrame, language_text, name_text, raw_text, as_frame, as_name};
-ghost use Rattle.addr2line_units.specs.UnitsAfter.{AfterWalk, AfterAnswer};
+ghost use Rattle.addr2line_units.specs.UnitsAfter.{AfterWalkAlong, AfterAnswer};
 ghost use Rattle.addr2line_units.specs.UnitsAsked.{AfterAsk, found_stop, row_stop, stop_at};
 ghost use Rattle.addr2line_units.specs.EntriesEmpty.{HasNothingAt};
 ghost use Rattle.addr2line_units.specs.FramesCached.{found_after_fault};
@@ -515,8 +515,8 @@ impl<R: Reader> Units<R> {
     ) -> Result<(), Error>
         ensures gives { ExactlyUnlessOom (λ _. self.new.stop) result
             (stop_of asks probe self.old (ranges_left ranges.entry)) }
-        ensures after { AfterWalk R.shares asks probe (ranges_left ranges.entry) result self.old
-            self.new }
+        ensures after { AfterWalkAlong R.shares asks probe (ranges_left ranges.entry) result
+            self.old self.new }
     {
         self.reset();
         while let Some(range) = ranges.next() {

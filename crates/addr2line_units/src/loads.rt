@@ -6,7 +6,7 @@ ghost use Rattle.addr2line_units.specs.Common.{OutOfMemory, IsUnlessOom, fault_o
 ghost use Rattle.addr2line_units.specs.UnitViewCached.{waits, verdict_in};
 ghost use Rattle.addr2line_units.specs.Loads.{forget_result, load_of_number, load_result, loads_along};
 ghost use Rattle.addr2line_units.specs.UnitView.{is_open};
-ghost use Rattle.addr2line_units.specs.UnitsAfter.{AfterForget, AfterLoad, AfterPreload};
+ghost use Rattle.addr2line_units.specs.UnitsAfter.{AfterForget, AfterLoad, AfterPreloadAlong};
 ghost use Rattle.addr2line_units.specs.UnitsAsked.{AfterNewLoad};
 ghost use Rattle.addr2line_units.specs.CacheAfter.{AfterAnswerIn, AfterForgettingIn, AfterNewLoadIn};
 ghost use Rattle.addr2line_units.specs.LoadsListed.{MarksUnit, if_new, is_marked};
@@ -75,12 +75,13 @@ impl<R: Reader> EntriesCache<R> {
 }
 
 impl<R: Reader> Units<R> {
-    /// Answers the load of a unit: decides it if it is open, and else leaves it as it is.
+    /// Answers the load of a unit: decides it if it is open, and else leaves it as it is. No lookup
+    /// is stored any more.
     ///
-    /// Refused `UnknownToken` where there is no such unit; then nothing is changed. Refused by the
-    /// fault of the view that the unit has then; the unit is decided all the same. May fail with
-    /// `OutOfMemory` instead, only of an open unit that is given sections, and where bytes are
-    /// shared or the header of their first unit can be read.
+    /// Refused `UnknownToken` where there is no such unit; then nothing of any unit is changed.
+    /// Refused by the fault of the view that the unit has then; the unit is decided all the same.
+    /// May fail with `OutOfMemory` instead, only of an open unit that is given sections, and where
+    /// bytes are shared or the header of their first unit can be read.
     pub fn load_unit(
         &mut self,
         token: UnitToken,
@@ -104,9 +105,9 @@ impl<R: Reader> Units<R> {
     }
 
     /// Takes the answer to the load of a unit back, if there is one, with what was read of its
-    /// view; its lines stay. Takes no memory.
+    /// view; its lines stay. No lookup is stored any more. Takes no memory.
     ///
-    /// Refused `UnknownToken` where there is no such unit; then nothing is changed.
+    /// Refused `UnknownToken` where there is no such unit; then nothing of any unit is changed.
     pub fn forget(&mut self, token: UnitToken) -> Result<(), Error>
         ensures gives { result ≡ forget_result self.old.scope.file.units token.number }
         ensures after { AfterForget token.number self.old self.new }
@@ -214,7 +215,7 @@ impl<R: Reader> Units<R> {
         ensures gives { IfOk result (λ loads. loads.items ≡ loads_along (load_of_number
             self.old.scope.file.sections self.old.scope.file.units self.old.answers)
             (ranges_left ranges.entry)) }
-        ensures after { AfterPreload (ranges_left ranges.entry) result self.old self.new }
+        ensures after { AfterPreloadAlong (ranges_left ranges.entry) result self.old self.new }
     {
         self.reset();
         let mut loads = Vec::new(self.alloc);

@@ -189,8 +189,9 @@ fn sequence_ranges(alloc: Global, lines: &LazyLines) -> Result<Vec<Range>, Error
 }
 
 // The lines of a unit as they are cached from the start, and the ranges that lead to it: those that
-// are listed, or where there are none those of its line sequences; its lines are parsed only then,
-// and cached, their fault too. Refused `OutOfMemory` alone, and only then.
+// are listed, or where there are none those of its line sequences, and none of a partial unit; its
+// lines are parsed only for these, and cached, their fault too. Refused `OutOfMemory` alone, and
+// only then.
 pub(crate) fn lines_and_ranges<R: Reader>(
     alloc: Global,
     dwarf: &Dwarf<R>,
@@ -554,8 +555,8 @@ impl<R: Reader> UnitView<R> {
         }
     }
 
-    // The sections and the unit of the view, or the fault; of a unit that is open the main ones.
-    // Takes no memory.
+    // The sections and the unit of the view of a unit that is decided, or the fault. Takes no
+    // memory.
     pub(crate) fn unit_ref<'x>(
         &'x self,
         dwarf: &'x Dwarf<R>,
@@ -610,9 +611,9 @@ impl<R: Reader> UnitView<R> {
 
     // Where references lead from the view, from the main unit where `scope` says. Takes no memory.
     pub(crate) fn scope_of<'x>(&'x self, scope: Scope<'x, R>) -> Scope<'x, R>
-        ensures gives { (d : Sections) (u : UnitRecord) → IfSome (verdict_in d u self.now.state)
-            (λ known. IfSome known (λ view. IfOk view (λ v.
-            as_scope result ≡ view_scope (as_scope scope.entry) v))) }
+        ensures gives { (d : Sections) (u : UnitRecord) → IfSome (verdict_or d u self.now.state)
+            (λ view. IfOk view (λ v.
+            as_scope result ≡ view_scope (as_scope scope.entry) v)) }
         ensures kept { IsScope (as_scope scope.entry) → IsScope (as_scope result) }
     {
         match self.split_file() {

@@ -1,7 +1,7 @@
-use Rattle.addr2line_units.proofs.Common.{◌≡◌, Ok, Err, IfOk, parts_or_fault, view_scope, subst, sym, err_from_is_err_and, ExactlyUnlessOom, as_scope, EntriesCache}
+use Rattle.addr2line_units.proofs.Common.{◌≡◌, Ok, Err, IfOk, IfSome, parts_or_fault, view_scope, subst, sym, err_from_is_err_and, ExactlyUnlessOom, as_scope, EntriesCache}
 use Rattle.addr2line_units.proofs.ParsesAfterLemmas.{refused_view_after, view_after, view_reads, view_refused}
 use Rattle.addr2line_units.proofs.EntriesLemmas.{fault_known, functions_right, view_known}
-use Rattle.addr2line_units.proofs.UnitViewLemmas.{of_cached_view}
+use Rattle.addr2line_units.proofs.UnitViewLemmas.{of_cached_view, verdict_or_is}
 use Rattle.addr2line_units.proofs.parses.read_in_view.Goals as goal
 
 pub returns-in_err-unit : goal.returns-in_err-unit
@@ -26,7 +26,7 @@ read-requires g c =
     let x = c.in_ok-unit.unit.unit.now in
     let v = view_known scope u 0 old c.requires.cached c.requires.decided c.in_ok-unit.unit.dwarf.now x inner
     (of_cached_view scope.file.sections u old.view (λ r. parts_or_fault r ≡ Ok (c.in_ok-unit.unit.dwarf.now, x)) c.requires.cached.view c.requires.decided c.in_ok-unit.ensures.gives)
-    (of_cached_view scope.file.sections u old.view (λ r. IfOk r (λ v. inner ≡ view_scope scope v)) c.requires.cached.view c.requires.decided (c.scope_of.ensures.gives scope.file.sections u)) in
+    (subst (λ w. IfSome w (λ r. IfOk r (λ v. inner ≡ view_scope scope v))) (verdict_or_is scope.file.sections u old.view c.requires.cached.view) (c.scope_of.ensures.gives scope.file.sections u)) in
     record { cached = record { in_order = c.scope_of.ensures.kept c.requires.cached.in_order; functions = functions_right scope u 0 old c.requires.cached c.requires.decided inner x v } }
 
 pub returns : goal.returns
@@ -38,7 +38,7 @@ returns g c =
     let x = c.in_ok-unit.unit.unit.now in
     let v = view_known scope u 0 old c.requires.cached c.requires.decided c.in_ok-unit.unit.dwarf.now x inner
     (of_cached_view scope.file.sections u old.view (λ r. parts_or_fault r ≡ Ok (c.in_ok-unit.unit.dwarf.now, x)) c.requires.cached.view c.requires.decided c.in_ok-unit.ensures.gives)
-    (of_cached_view scope.file.sections u old.view (λ r. IfOk r (λ v. inner ≡ view_scope scope v)) c.requires.cached.view c.requires.decided (c.scope_of.ensures.gives scope.file.sections u)) in
+    (subst (λ w. IfSome w (λ r. IfOk r (λ v. inner ≡ view_scope scope v))) (verdict_or_is scope.file.sections u old.view c.requires.cached.view) (c.scope_of.ensures.gives scope.file.sections u)) in
     record {
       gives = subst (ExactlyUnlessOom (λ y. y) c.read.result) (sym (view_reads g.R.Reader.shares c.args.depth scope u c.args.view.now c.args.functions.now c.requires.cached c.requires.decided inner x v)) c.read.ensures.gives;
       after = view_after g.R.Reader.shares c.args.depth scope u c.args.view.now c.args.functions.now c.requires.cached c.requires.decided inner x v c.read.result c.read.new.self c.read.ensures.after;

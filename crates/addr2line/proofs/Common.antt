@@ -29,8 +29,8 @@ pub use Rattle.addr2line_units.specs.LocationsParsed.{AllAskFor, AreAllParsed, A
 pub use Rattle.addr2line_units.specs.UnitsRanged.{IndexedUnit, RangedUnit, has_lines, indexed_of, ranged_units, unit_ranges_from, unit_records}
 pub use Rattle.addr2line_units.specs.EntriesStayKnown.{IsReadyAt, StaysKnown, StaysKnownOf}
 pub use Rattle.addr2line_units.specs.Continuation.{IfLoad, IfOutput, IsOkOutput, SkipsTo}
-pub use Rattle.addr2line_units.specs.EntriesFrames.{FramesResult, frames_by, function_by, function_in, function_offset_by}
-unfoldable pub use Rattle.addr2line_units.specs.EntriesFrames.{asks_lines_in, frames_in, function_offset_in}
+pub use Rattle.addr2line_units.specs.EntriesFrames.{FramesResult, frames_by, frames_in, function_by, function_in, function_offset_by}
+unfoldable pub use Rattle.addr2line_units.specs.EntriesFrames.{asks_lines_in, frames_by_lines, function_offset_in}
 pub use Rattle.addr2line_units.specs.UnitsIndex.{UnitIndex, index_units, sup_units}
 pub use Rattle.addr2line_units.specs.UnitsState.{UnitsState, asked_by, asks_no_memory_at, first_state, has_all_at, has_few_at, new_units, stop_of, waiting_unit, takes_none_at}
 pub use Rattle.addr2line_units.specs.UnitView.{FirstAnswers, SplitLoad, View, awaited_by, awaited_load, decided_answer, first_unit, is_open, load_by, parts_of, verdict, verdict_by}

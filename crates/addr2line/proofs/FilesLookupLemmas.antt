@@ -1,6 +1,6 @@
 -- Lookups of frames where files answer loads (on specs/FramesByFiles.antt and
 -- specs/LoadsByFiles.antt).
-use Rattle.addr2line.proofs.Common.{◌≡◌, ◌≢◌, ◌⊎◌, inl, inr, ℕ, zero, suc, ◌<◌, arith, Bool, true, false, List, [], ◌∷◌, length, slice_get, Option, Some, None, option_map, Result, Ok, Err, refl, sym, ap, subst, ◌∙◌, eqb_tells, slice_get-map, set, is_none, Error, ◌>>=◌, Sections, UnitRecord, LoaderError, Loading, Scope, before_others, is_open_at, load_of_number, loads_along, Stop, UnitRange, cover, FrameRecord, LookupStop, Waits, after_fault, answer_of, asked_frames, frames_of_number, is_waiting, main_scope, or_stop, stop_along, with_answer, FramesResult, frames_in, UnitIndex, index_units, IndexedUnit, unit_records, FirstAnswers, SplitLoad, awaited_by, awaited_load, decided_answer, is_open, load_of_unit, verdict_by, waits_listed, answered, IsLoadOf, loads_at, lookup_stop, stop_in, of_file}
+use Rattle.addr2line.proofs.Common.{◌≡◌, ◌≢◌, ◌⊎◌, inl, inr, ℕ, zero, suc, ◌<◌, arith, Bool, true, false, List, [], ◌∷◌, length, slice_get, Option, Some, None, option_map, Result, Ok, Err, refl, sym, ap, subst, ◌∙◌, eqb_tells, slice_get-map, set, is_none, Error, ◌>>=◌, Sections, UnitRecord, LoaderError, Loading, Scope, before_others, is_open_at, load_of_number, loads_along, Stop, UnitRange, cover, FrameRecord, LookupStop, Waits, after_fault, answer_of, asked_frames, frames_of_number, is_waiting, main_scope, or_stop, stop_along, with_answer, FramesResult, frames_in, UnitIndex, index_units, IndexedUnit, unit_records, FirstAnswers, SplitLoad, awaited_by, awaited_load, decided_answer, is_open, load_of_unit, verdict_by, waits_listed, answered, IsLoadOf, loads_at, lookup_stop, stop_in, of_file, frames_by_lines}
 use Rattle.std.specs.Prelude.{if◌then◌else◌, is_some, unwrap_or}
 use Rattle.addr2line_units.proofs.LoadsAnswerLemmas.{decided_if_open}
 use Rattle.addr2line_units.proofs.LoadsLemmas.{open_awaits}
@@ -11,7 +11,7 @@ use Rattle.addr2line.specs.LoadsByFiles.{StayAnswered}
 use Rattle.addr2line_units.proofs.Facts.{no_answer, others_stay}
 
 pub none_if_open : (scope : Scope) (u : IndexedUnit) (answer : Option (Option Sections)) (probe : ℕ) → is_open scope.file.sections u.unit answer ≡ true → frames_in scope u answer probe ≡ Ok None
-unfolding frames_in
+unfolding frames_by_lines
 none_if_open scope u answer probe e = by (is_open scope.file.sections u.unit answer) _ e
   where
     by : (b : Bool) (r : FramesResult) → b ≡ true → (if b then Ok None else r) ≡ Ok None

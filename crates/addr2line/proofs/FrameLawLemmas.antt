@@ -1,5 +1,5 @@
 -- How many frames a lookup finds (on specs/FrameLaws.antt).
-use Rattle.addr2line.proofs.Common.{◌≡◌, ℕ, suc, Bool, true, false, List, [], ◌∷◌, length, reverse, slice_get, Option, Some, None, Result, Ok, Err, refl, sym, ap, subst, ◌∙◌, length-reverse, Error, ◌>>=◌, Section, Scope, OnFault, Stop, Skip, UnitRange, Sections, cover, FoundFunction, FrameRecord, found_frames, frames_from, LookupStop, Waits, Finds, FindsNothing, after_fault, answer_of, frames_of_number, main_scope, or_stop, stop_along, IndexedUnit, FramesResult, frames_by, frames_in, function_in, UnitIndex, FirstAnswers, is_open, stop_in}
+use Rattle.addr2line.proofs.Common.{◌≡◌, ℕ, suc, Bool, true, false, List, [], ◌∷◌, length, reverse, slice_get, Option, Some, None, Result, Ok, Err, refl, sym, ap, subst, ◌∙◌, length-reverse, Error, ◌>>=◌, Section, Scope, OnFault, Stop, Skip, UnitRange, Sections, cover, FoundFunction, FrameRecord, found_frames, frames_from, LookupStop, Waits, Finds, FindsNothing, after_fault, answer_of, frames_of_number, main_scope, or_stop, stop_along, IndexedUnit, FramesResult, frames_by, frames_in, function_in, UnitIndex, FirstAnswers, is_open, stop_in, frames_by_lines}
 use Rattle.std.specs.Prelude.{if◌then◌else◌}
 use Rattle.gimli_read.specs.declared.constants.DwLang.{DwLang}
 use Rattle.addr2line_lines.specs.InlinedEntries.{InlinedEntry}
@@ -24,13 +24,13 @@ HasFound function frames = (found : Option FoundFunction) × (function ≡ Ok fo
 
 -- in one unit
 in_unit : (scope : Scope) (u : IndexedUnit) (answer : Option (Option Sections)) (probe : ℕ) (f : FrameRecord) (fs : List FrameRecord) → frames_in scope u answer probe ≡ Ok (Some (f ∷ fs)) → HasFound (function_in scope u.unit answer probe) (f ∷ fs)
-unfolding frames_in
+unfolding frames_by_lines
 in_unit scope u answer probe f fs is = by (is_open scope.file.sections u.unit answer) is
   where
     told : FramesResult
-    told = frames_by scope u probe (function_in scope u.unit answer probe) >>= λ frames. Ok (Some frames)
+    told = frames_by u.language (unit_lines scope.file.sections u.unit) probe (function_in scope u.unit answer probe) >>= λ frames. Ok (Some frames)
 
-    of_function : (r : Result (Option FoundFunction) Error) → (frames_by scope u probe r >>= λ frames. Ok (Some frames)) ≡ Ok (Some (f ∷ fs)) → HasFound r (f ∷ fs)
+    of_function : (r : Result (Option FoundFunction) Error) → (frames_by u.language (unit_lines scope.file.sections u.unit) probe r >>= λ frames. Ok (Some frames)) ≡ Ok (Some (f ∷ fs)) → HasFound r (f ∷ fs)
     of_function (Err x) e = absurd cc
     of_function (Ok found) e = of_lines (unit_lines scope.file.sections u.unit) e
       where

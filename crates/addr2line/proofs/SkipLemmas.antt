@@ -1,7 +1,8 @@
 -- A lookup that doesn't wait, where each unit that has no answer is answered none (on
 -- specs/Lookups.antt).
-use Rattle.addr2line.proofs.Common.{◌≡◌, ◌≢◌, ℕ, zero, suc, get_or, Bool, true, false, List, [], ◌∷◌, slice_get, Option, Some, None, option_and_then, option_map, unwrap_or, Result, Ok, Err, refl, sym, ap, subst, ◌∙◌, if◌then◌else◌, set, slice_get-map, is_none, Error, ◌>>=◌, ExactlyUnlessOom, Sections, UnitRecord, Scope, LookupResult, Load, Output, OnFault, UnitRange, cover, FrameRecord, LookupStop, Waits, Finds, FindsNothing, after_fault, answer_of, asked_frames, frames_of_number, is_waiting, main_scope, or_stop, readable_view, stop_along, view_of_number, with_answer, IfLoad, IfOutput, SkipsTo, FramesResult, frames_by, frames_in, function_by, UnitIndex, index_units, IndexedUnit, unit_records, FirstAnswers, SplitLoad, View, decided_answer, is_open, load_of_unit, verdict, verdict_by, answered, ended_with, found_at, lookup_stop, stop_in, view_found, with_none}
+use Rattle.addr2line.proofs.Common.{◌≡◌, ◌≢◌, ℕ, zero, suc, get_or, Bool, true, false, List, [], ◌∷◌, slice_get, Option, Some, None, option_and_then, option_map, unwrap_or, Result, Ok, Err, refl, sym, ap, subst, ◌∙◌, if◌then◌else◌, set, slice_get-map, is_none, Error, ◌>>=◌, ExactlyUnlessOom, Sections, UnitRecord, Scope, LookupResult, Load, Output, OnFault, UnitRange, cover, FrameRecord, LookupStop, Waits, Finds, FindsNothing, after_fault, answer_of, asked_frames, frames_of_number, is_waiting, main_scope, or_stop, readable_view, stop_along, view_of_number, with_answer, IfLoad, IfOutput, SkipsTo, FramesResult, frames_by, frames_in, function_by, UnitIndex, index_units, IndexedUnit, unit_records, FirstAnswers, SplitLoad, View, decided_answer, is_open, load_of_unit, verdict, verdict_by, answered, ended_with, found_at, lookup_stop, stop_in, view_found, with_none, frames_by_lines}
 use Rattle.std.proofs.Math.Seq.{map-set_same}
+use Rattle.addr2line_lines.specs.UnitLines.{unit_lines}
 use Rattle.addr2line_units.proofs.FramesFoundLemmas.{always_along, decided_by_frames, found_along, found_by_unit, has_frames}
 
 -- a unit that is decided has its verdict where none is answered to the others
@@ -12,11 +13,11 @@ decided_by d u (Ok None) None v e = e
 decided_by d u (Ok (Some load)) None v e = absurd cc
 
 decided_unit : (scope : Scope) (probe : ℕ) (u : IndexedUnit) (a : Option (Option Sections)) → frames_in scope u a probe ≢ Ok None → frames_in scope u (Some (unwrap_or a None)) probe ≡ frames_in scope u a probe
-unfolding frames_in
+unfolding frames_by_lines
 decided_unit scope probe u a ne = by (verdict scope.file.sections u.unit a) refl
   where
     frames_at : Option (Result View Error) → FramesResult
-    frames_at w = if is_none w then Ok None else (frames_by scope u probe (function_by scope probe w) >>= λ frames. Ok (Some frames))
+    frames_at w = if is_none w then Ok None else (frames_by u.language (unit_lines scope.file.sections u.unit) probe (function_by scope probe w) >>= λ frames. Ok (Some frames))
 
     by : (w : Option (Result View Error)) → verdict scope.file.sections u.unit a ≡ w → frames_at (verdict scope.file.sections u.unit (Some (unwrap_or a None))) ≡ frames_at (verdict scope.file.sections u.unit a)
     by None e = absurd (ne (ap frames_at e))

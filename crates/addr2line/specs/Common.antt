@@ -21,8 +21,8 @@ pub use Rattle.addr2line_units.specs.LocationsParsed.{AllAskFor, AreAllParsed, A
 pub use Rattle.addr2line_units.specs.UnitsRanged.{IndexedUnit, has_lines, ranged_units, unit_records}
 pub use Rattle.addr2line_units.specs.EntriesStayKnown.{IsReadBy, IsReadyAt, StaysKnown, StaysKnownOf}
 pub use Rattle.addr2line_units.specs.Continuation.{IfLoad, IfOutput, IsOkOutput, SkipsTo, rests}
-pub use Rattle.addr2line_units.specs.EntriesFrames.{FramesResult, function_in}
-unfoldable pub use Rattle.addr2line_units.specs.EntriesFrames.{frames_in}
+pub use Rattle.addr2line_units.specs.EntriesFrames.{FramesResult, frames_in, function_in}
+unfoldable pub use Rattle.addr2line_units.specs.EntriesFrames.{frames_by_lines}
 pub use Rattle.addr2line_units.specs.UnitsIndex.{UnitIndex, index_units, sup_sections, sup_units}
 pub use Rattle.addr2line_units.specs.UnitsState.{UnitsState, asks_no_memory_at, has_all_at, has_few_at, waiting_unit}
 pub use Rattle.addr2line_units.specs.UnitView.{FirstAnswers, SplitLoad, View, awaited_load, first_unit, parts_of}

@@ -46,7 +46,8 @@ unfoldable pub use Rattle.addr2line_lines.specs.UnitLines.{program_lines}
 pub use Rattle.addr2line_units.specs.EntriesMemory.{any_program_takes_memory, is_fault_at_once, lines_of_take_memory, view_takes_memory}
 unfoldable pub use Rattle.addr2line_units.specs.EntriesMemory.{functions_in_take_memory, lines_take_memory}
 pub use Rattle.addr2line_units.specs.UnitsAsked.{AfterAsk, AfterCachingAt, CountsUnits, found_stop, stop_at, row_stop}
-pub use Rattle.addr2line_units.specs.EntriesCached.{AreEntriesOf, AreFramesIn, AreFresh, AreRead, AsksNoMemoryIn, ReadsEntriesOf, StayEntries, first_answer_of, frames_of_place, has_answered, has_entries, has_entries_by}
+pub use Rattle.addr2line_units.specs.EntriesCached.{AreFramesIn, AreRead, AsksNoMemoryIn, ReadsEntriesOf, StayEntries, frames_of_place, has_answered, has_entries, has_entries_by}
+pub use Rattle.addr2line_units.specs.EntriesOwn.{AreEntriesOf, AreFresh, first_answer_of}
 pub use Rattle.addr2line_units.specs.FramesCached.{IsLendable, found_after_fault, frames_at_place, functions_at, language_at, as_stop, stop_of_found}
 pub use Rattle.addr2line_units.specs.EntriesFunctions.{AreFunctionsOf, ArePlacesIn, IsTableOf, ReadsNoDetail, ReadsNoOther, StayFunctions, cached_detail_takes_memory, cached_fault, cached_functions, cached_has_function, cached_takes_memory, details_at, find_takes_memory, function_of_place, functions_fault, has_detail, has_place, has_table, is_cached_fault, no_functions, place_takes_memory, reading_takes_memory, table_takes_memory, were_read}
 pub use Rattle.addr2line_units.specs.EntriesKnownCached.{known_answer, known_by, known_detail, known_fault, known_function, known_functions, known_in, known_table}
@@ -66,16 +67,17 @@ pub use Rattle.addr2line_units.specs.Locations.{LocationResult, all_lines, all_r
 pub use Rattle.addr2line_units.specs.LocationsParsed.{AllAskFor, AreAllParsed, AreParsed, AreReadyForAll, AsksFor, LeadTo, ParsesOnly, StaysParsed, TakeNone, TakeNoneForAll, can_be_read, has_parsed, parses_no_memory, ready_along, takes_none_along}
 pub use Rattle.addr2line_units.specs.UnitsRanged.{IndexedUnit, RangedUnit, has_lines, indexed_of, is_partial, is_type_unit, listed_unit_ranges, or_attribute_ranges, range_of_unit, ranged_unit, ranged_units, unit_ranges, unit_ranges_from, unit_records, unless_faulty}
 unfoldable pub use Rattle.addr2line_units.specs.UnitsRanged.{listed_in_unit, unit_of_header}
-pub use Rattle.addr2line_units.specs.UnitsStored.{AreUnits, scope_of, as_units_state}
+pub use Rattle.addr2line_units.specs.UnitsStored.{AreUnits, as_units_state}
+pub use Rattle.addr2line_units.specs.SupScope.{scope_of}
 pub use Rattle.addr2line_units.specs.IndexAranges.{aranges_at, aranges_in, is_arange_of, lists_aranges, offset_sooner, range_in, set_aranges, some_lists, unit_arange}
-pub use Rattle.addr2line_units.specs.EntriesFrames.{FramesResult, frames_by, function_by, function_in, function_offset_among, function_offset_by, inlined_of_found}
-unfoldable pub use Rattle.addr2line_units.specs.EntriesFrames.{asks_lines_in, frames_in, function_offset_in, inlined_of_unit}
+pub use Rattle.addr2line_units.specs.EntriesFrames.{FramesResult, frames_in, frames_by, function_by, function_in, function_offset_among, function_offset_by, inlined_of_found}
+unfoldable pub use Rattle.addr2line_units.specs.EntriesFrames.{asks_lines_in, frames_by_lines, function_offset_in, inlined_of_unit}
 pub use Rattle.addr2line_units.specs.RangeIterLeft.{ranges_left}
 pub use Rattle.addr2line_units.specs.UnitsState.{IsFaultAt, UnitsState, asked_by, asks_no_memory_at, first_state, has_all_at, has_few_at, new_units, reads_no_memory_at, stop_of, has_asked_at, has_asked_few_at, takes_none_at}
 pub use Rattle.addr2line_units.specs.UnitView.{FirstAnswers, SplitLoad, View, answered_view, awaited_by, awaited_load, decided_answer, first_of, first_takes_memory, first_unit, first_unit_takes_memory, first_view, is_open, load_by, main_view, parts_of, verdict, verdict_by, view_scope}
 unfoldable pub use Rattle.addr2line_units.specs.UnitView.{load_of_unit, split_name_of}
 pub use Rattle.addr2line_units.specs.declared.entries.LazyFunctions.{LazyFunctions}
-pub use Rattle.addr2line_units.specs.declared.entries.UnitCache.{UnitCache}
+pub use Rattle.addr2line_units.specs.EntriesOwn.{CachedUnit}
 pub use Rattle.addr2line_units.specs.declared.entries.EntriesCache.{EntriesCache}
 pub use Rattle.addr2line_units.specs.declared.frames.Asks.{Asks}
 pub use Rattle.addr2line_units.specs.declared.frames.FramesStop.{FramesStop}

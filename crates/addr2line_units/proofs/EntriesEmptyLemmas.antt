@@ -1,6 +1,6 @@
 -- A unit of which it is known that it has nothing at any address is passed by a lookup, and nothing
 -- is left to read there (on specs/EntriesEmpty.antt).
-use Rattle.addr2line_units.proofs.Common.{◌≡◌, ◌∙◌, ℕ, ◌<◌, ◌&&◌, ◌||◌, true, false, not, is_none, is_ok, List, [], length, get_or, slice_get, Option, Some, None, IfSome, IfOk, Result, Ok, Err, refl, sym, ap, subst, arith, set, set-get_or, Error, ◌>>=◌, Sections, UnitRecord, functions_of, location_at, Scope, unit_lines, LazyFunctions, UnitCache, FramesStop, LazyLines, ViewState, AreEntriesOf, first_answer_of, has_answered, has_entries, has_entries_by, AreFunctionsOf, AreLinesOf, indexed_unit, indexed_units, is_uncached, no_lines, parsed_units, answers_in, as_sections, unboxed, verdict_in, view_by, FindsNothing, LookupStop, after_fault, asks_lines_of, or_stop, has_parsed, AreUnits, as_units_state, FramesResult, frames_in, function_by, function_in, View, is_open, verdict, view_scope}
+use Rattle.addr2line_units.proofs.Common.{◌≡◌, ◌∙◌, ℕ, ◌<◌, ◌&&◌, ◌||◌, true, false, not, is_none, is_ok, List, [], length, get_or, slice_get, Option, Some, None, IfSome, IfOk, Result, Ok, Err, refl, sym, ap, subst, arith, set, set-get_or, Error, ◌>>=◌, Sections, UnitRecord, functions_of, location_at, Scope, unit_lines, LazyFunctions, CachedUnit, FramesStop, LazyLines, ViewState, AreEntriesOf, first_answer_of, has_answered, has_entries, has_entries_by, AreFunctionsOf, AreLinesOf, indexed_unit, indexed_units, is_uncached, no_lines, parsed_units, answers_in, as_sections, unboxed, verdict_in, view_by, FindsNothing, LookupStop, after_fault, asks_lines_of, or_stop, has_parsed, AreUnits, as_units_state, FramesResult, frames_in, function_by, function_in, View, is_open, verdict, view_scope}
 use Rattle.std.specs.Prelude.{Box}
 use Rattle.std.specs.declared.alloc.Global.{Global}
 use Rattle.addr2line_units.specs.declared.entries.LazyFunctions.TheVariants as functions
@@ -52,7 +52,7 @@ known_by_view {R} probe (states.Answered a) e = by_unit a.unit e
     by_unit (Ok y) e = refl
     by_unit (Err y) e = cc
 
-module _ {R : Type 0} (scope : Scope) (u : UnitRecord) (c : UnitCache R) (none : has_nothing c ≡ true) (probe : ℕ) where
+module _ {R : Type 0} (scope : Scope) (u : UnitRecord) (c : CachedUnit R) (none : has_nothing c ≡ true) (probe : ℕ) where
   no_functions : c.entries.functions ≡ functions.Absent
   no_functions = functions_absent c.entries.functions (and_first _ _ none)
 
@@ -90,10 +90,10 @@ module _ {R : Type 0} (scope : Scope) (u : UnitRecord) (c : UnitCache R) (none :
 
     -- the unit has no frames
     frames_none : frames_in scope (indexed_unit u c.lines) (first_answer_of c.entries) probe ≡ Ok (Some [])
-    frames_none = (lines_frames scope (indexed_unit u c.lines) (first_answer_of c.entries) probe closed None function_none lines.Absent None lines_none refl
+    frames_none = (lines_frames scope u c.lines.lang (unit_lines scope.file.sections u) (first_answer_of c.entries) probe closed None function_none lines.Absent None lines_none refl
         (ap (λ r. r >>= λ table. Ok (location_at probe table)) lines_none)).1
 
-module _ {R : Type 0} {scope : Scope} {cs : List (UnitCache R)} {last : FramesStop} (i : AreUnits scope cs last) (n steps : ℕ) (was : LookupStop) {c : UnitCache R} (within : n < length cs) (at : c ≡ get_or cs n c) (none : has_nothing c ≡ true) where
+module _ {R : Type 0} {scope : Scope} {cs : List (CachedUnit R)} {last : FramesStop} (i : AreUnits scope cs last) (n steps : ℕ) (was : LookupStop) {c : CachedUnit R} (within : n < length cs) (at : c ≡ get_or cs n c) (none : has_nothing c ≡ true) where
   abbrev us : List UnitRecord
   us = scope.file.units
 

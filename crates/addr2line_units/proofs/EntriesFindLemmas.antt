@@ -6,7 +6,8 @@ use Rattle.addr2line_lines.specs.FoundInlined.{entry_among}
 use Rattle.addr2line_lines.specs.InlinedChain.{inlined_chain}
 use Rattle.addr2line_units.specs.declared.entries.FunctionPlace.{FunctionPlace}
 use Rattle.addr2line_units.specs.declared.entries.LazyFunctions.TheVariants as lazy
-use Rattle.addr2line_units.specs.CacheAfter.{AfterCachingFunctions, AfterFunction}
+use Rattle.addr2line_units.specs.CacheAfter.{AfterCachingFunctions}
+use Rattle.addr2line_units.proofs.KeptEntries.{KeepsFunction}
 use Rattle.addr2line_units.specs.EntriesFunctions.{found_in_cache}
 use Rattle.addr2line_units.proofs.EntriesFunctionLemmas.{chain_found, details_before, function_is, memory_before, none_before, none_found, number_stays, reads_one, refused_chain, refused_detail, stay_faulty, stay_read, table_stays}
 use Rattle.addr2line_units.proofs.EntriesLearnedLemmas.{cache_reads_none}
@@ -66,7 +67,7 @@ module _ {R : Type 0} (shares : Bool) (scope : Scope) (view : UnitRecord) (probe
     pub uncached_gives : ExactlyUnlessOomIf (find_takes_memory shares scope view probe old && find_takes_memory shares scope view probe mid) (found_in_cache mid) (Err x) (function_at scope view probe)
     uncached_gives = λ may. function_is scope view probe (Err x) (not_read_takes shares scope view old mid probe x were_unread cache.refused.1 cache.refused.0.0 cache.refused.0.1 may)
 
-    pub uncached_after : AreFunctionsOf scope view old → AfterFunction scope view probe (Err x) old mid
+    pub uncached_after : AreFunctionsOf scope view old → KeepsFunction scope view probe (Err x) old mid
     uncached_after before = record {
       right = cached_right shares scope view (Err x) old mid before cache;
       there = tt;
@@ -89,7 +90,7 @@ module _ {R : Type 0} (shares : Bool) (scope : Scope) (view : UnitRecord) (probe
       pub absent_gives : function_at scope view probe ≡ Ok None
       absent_gives = function_is scope view probe (Ok []) (subst (AreFunctionsOf scope view) is now_right)
 
-      pub absent_after : AfterFunction scope view probe (Ok None) old mid
+      pub absent_after : KeepsFunction scope view probe (Ok None) old mid
       absent_after = record {
         right = now_right;
         there = tt;
@@ -105,7 +106,7 @@ module _ {R : Type 0} (shares : Bool) (scope : Scope) (view : UnitRecord) (probe
       pub faulty_gives : function_at scope view probe ≡ Err x
       faulty_gives = function_is scope view probe (Err x) (subst (AreFunctionsOf scope view) is now_right)
 
-      pub faulty_after : AfterFunction scope view probe (Err x) old (lazy.Faulty x)
+      pub faulty_after : KeepsFunction scope view probe (Err x) old (lazy.Faulty x)
       faulty_after = record {
         right = subst (AreFunctionsOf scope view) is now_right;
         there = tt;
@@ -125,7 +126,7 @@ module _ {R : Type 0} (shares : Bool) (scope : Scope) (view : UnitRecord) (probe
       pub nowhere_gives : None ≡ function_offset_at probe t.value.ranges → function_at scope view probe ≡ Ok None
       nowhere_gives none = none_found scope view probe t.value table none
 
-      pub nowhere_after : None ≡ function_place_at probe t.value → AfterFunction scope view probe (Ok None) old (lazy.Read t)
+      pub nowhere_after : None ≡ function_place_at probe t.value → KeepsFunction scope view probe (Ok None) old (lazy.Read t)
       nowhere_after none = record {
         right = table;
         there = tt;
@@ -160,7 +161,7 @@ module _ {R : Type 0} (shares : Bool) (scope : Scope) (view : UnitRecord) (probe
           detail_gives = let at = some_at t.value.functions n within in
               λ lacks. refused_detail scope view probe n t.value new at.0 at.1 table place offset x read (λ takes. lacks (before takes))
 
-          pub detail_after : AreNamesOf scope view new.names → AfterFunction scope view probe (Err x) old put
+          pub detail_after : AreNamesOf scope view new.names → KeepsFunction scope view probe (Err x) old put
           detail_after names = let at = some_at t.value.functions n within in record {
             right = table_stays scope view n t.value new (Err x) table read names;
             there = tt;
@@ -178,7 +179,7 @@ module _ {R : Type 0} (shares : Bool) (scope : Scope) (view : UnitRecord) (probe
             chain_gives = let at = some_at t.value.functions n within in
                 λ lacks. absurd (refused_chain scope view probe n t.value new at.0 at.1 table place read x chain (λ takes. lacks (before takes)))
 
-            pub chain_after : AreNamesOf scope view new.names → AfterFunction scope view probe (Err x) old put
+            pub chain_after : AreNamesOf scope view new.names → KeepsFunction scope view probe (Err x) old put
             chain_after names = let at = some_at t.value.functions n within in record {
               right = table_stays scope view n t.value new (Ok tt) table read names;
               there = tt;
@@ -194,7 +195,7 @@ module _ {R : Type 0} (shares : Bool) (scope : Scope) (view : UnitRecord) (probe
             pub place_gives : function_at scope view probe ≡ Ok (Some (function_of_place new p))
             place_gives = let at = some_at t.value.functions n within in chain_found scope view probe n t.value new at.0 at.1 table offset read p at_place chain
 
-            pub place_after : AreNamesOf scope view new.names → AllByRecursion (λ m. m < length new.inlined) p.inlined.items → AfterFunction scope view probe (Ok (Some p)) old put
+            pub place_after : AreNamesOf scope view new.names → AllByRecursion (λ m. m < length new.inlined) p.inlined.items → KeepsFunction scope view probe (Ok (Some p)) old put
             place_after names inlined = let at = some_at t.value.functions n within in record {
               right = table_stays scope view n t.value new (Ok tt) table read names;
               there = record { function = below; inlined = inlined };

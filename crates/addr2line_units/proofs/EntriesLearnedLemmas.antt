@@ -1,6 +1,6 @@
 -- Of which functions details become known where a unit is asked (on specs/EntriesKnown.antt and
 -- specs/EntriesKnownCached.antt).
-use Rattle.addr2line_units.proofs.Common.{Box, Global, ◌≡◌, ◌≢◌, ◌⊎◌, inl, inr, ◌∙◌, ap, sym, refl, subst, ℕ, ◌<◌, ◌==◌, nat_lt, cond, lt-ltb, eqb-true, Bool, true, false, List, get_or, length, position, Option, Some, None, option_and_then, option_map, slice_get, Result, Ok, Err, if◌then◌else◌, cases_eq, slice_get-map, slice_get_read, slice_get_within, set, position_or_len, Error, ◌>>=◌, Sections, UnitRecord, AreUnread, CachedFunction, FunctionTable, cached_detail, function_place_at, function_offset_at, Scope, some_at, LazyFunctions, UnitCache, EntriesCache, ViewState, AreEntriesOf, StayEntries, first_answer_of, AreFunctionsOf, ReadsNoDetail, ReadsNoOther, StayFunctions, cached_functions, has_detail, is_cached_fault, no_functions, were_read, known_answer, known_by, known_fault, known_function, known_functions, known_in, known_table, is_decided, as_sections, unboxed, verdict_in, view_by, AllKnown, FunctionsKnown, HasNoFunctions, KnownEntries, KnownFunction, LearnsNoDetails, LearnsNoFunctions, NothingKnown, is_detail_known, knows_detail, knows_detail_at, function_offset_among, function_offset_by, function_offset_in, View, verdict, view_scope}
+use Rattle.addr2line_units.proofs.Common.{Box, Global, ◌≡◌, ◌≢◌, ◌⊎◌, inl, inr, ◌∙◌, ap, sym, refl, subst, ℕ, ◌<◌, ◌==◌, nat_lt, cond, lt-ltb, eqb-true, Bool, true, false, List, get_or, length, position, Option, Some, None, option_and_then, option_map, slice_get, Result, Ok, Err, if◌then◌else◌, cases_eq, slice_get-map, slice_get_read, slice_get_within, set, position_or_len, Error, ◌>>=◌, Sections, UnitRecord, AreUnread, CachedFunction, FunctionTable, cached_detail, function_place_at, function_offset_at, Scope, some_at, LazyFunctions, CachedUnit, EntriesCache, ViewState, AreEntriesOf, StayEntries, first_answer_of, AreFunctionsOf, ReadsNoDetail, ReadsNoOther, StayFunctions, cached_functions, has_detail, is_cached_fault, no_functions, were_read, known_answer, known_by, known_fault, known_function, known_functions, known_in, known_table, is_decided, as_sections, unboxed, verdict_in, view_by, AllKnown, FunctionsKnown, HasNoFunctions, KnownEntries, KnownFunction, LearnsNoDetails, LearnsNoFunctions, NothingKnown, is_detail_known, knows_detail, knows_detail_at, function_offset_among, function_offset_by, function_offset_in, View, verdict, view_scope}
 use Rattle.std.proofs.lemmas.List.Folds.{find_at}
 use Rattle.std.proofs.lemmas.List.Quantifiers.{position-Some}
 use Rattle.std.specs.Prelude.{IfOk, IfSome, is_some, unwrap_or}
@@ -262,20 +262,20 @@ functions_learn_none scope u offset v w f before functions same stay none e =
     (same_known offset w.view.state w.functions f e ∙ functions_keep offset w.functions f stay none (sym (same_known offset w.view.state f f e) ∙ e))
 
 -- what is known of a unit of which nothing is changed
-pub detail_unchanged : {R : Type 0} (old new : List (UnitCache R)) (offset n : ℕ) → slice_get new n ≡ slice_get old n → knows_detail_at (known_in new) offset n ≡ true → knows_detail_at (known_in old) offset n ≡ true
+pub detail_unchanged : {R : Type 0} (old new : List (CachedUnit R)) (offset n : ℕ) → slice_get new n ≡ slice_get old n → knows_detail_at (known_in new) offset n ≡ true → knows_detail_at (known_in old) offset n ≡ true
 detail_unchanged old new offset n same e = ap (λ o. unwrap_or (option_map (knows_detail offset) o) false) (sym (known_unchanged old new n same)) ∙ e
 
 -- what is known of the unit of a number, of which another is put in its place
-module _ {R : Type 0} (vs : List (UnitCache R)) (n : ℕ) (v w : UnitCache R) (within : n < length vs) (at : v ≡ get_or vs n v) (offset : ℕ) where
+module _ {R : Type 0} (vs : List (CachedUnit R)) (n : ℕ) (v w : CachedUnit R) (within : n < length vs) (at : v ≡ get_or vs n v) (offset : ℕ) where
   pub detail_set : (k : ℕ) → k ≡ n → knows_detail_at (known_in (set vs n w)) offset k ≡ knows_detail offset (known_by w.entries.view.state w.entries.functions)
   detail_set k e =
       ap (λ j. unwrap_or (option_map (knows_detail offset) (slice_get (known_in (set vs n w)) j)) false) e
-      ∙ ap (λ o. unwrap_or (option_map (knows_detail offset) o) false) (slice_get-map (λ (x : UnitCache R). known_by x.entries.view.state x.entries.functions) (set vs n w) n ∙ ap (option_map (λ (x : UnitCache R). known_by x.entries.view.state x.entries.functions)) (got_set vs n w within))
+      ∙ ap (λ o. unwrap_or (option_map (knows_detail offset) o) false) (slice_get-map (λ (x : CachedUnit R). known_by x.entries.view.state x.entries.functions) (set vs n w) n ∙ ap (option_map (λ (x : CachedUnit R). known_by x.entries.view.state x.entries.functions)) (got_set vs n w within))
 
   pub detail_at : (k : ℕ) → k ≡ n → knows_detail_at (known_in vs) offset k ≡ knows_detail offset (known_by v.entries.view.state v.entries.functions)
   detail_at k e =
       ap (λ j. unwrap_or (option_map (knows_detail offset) (slice_get (known_in vs) j)) false) e
-      ∙ ap (λ o. unwrap_or (option_map (knows_detail offset) o) false) (slice_get-map (λ (x : UnitCache R). known_by x.entries.view.state x.entries.functions) vs n ∙ ap (option_map (λ (x : UnitCache R). known_by x.entries.view.state x.entries.functions)) (slice_get_read vs (length vs) n v refl within at))
+      ∙ ap (λ o. unwrap_or (option_map (knows_detail offset) o) false) (slice_get-map (λ (x : CachedUnit R). known_by x.entries.view.state x.entries.functions) vs n ∙ ap (option_map (λ (x : CachedUnit R). known_by x.entries.view.state x.entries.functions)) (slice_get_read vs (length vs) n v refl within at))
 
   -- what becomes known of it alone becomes known
   pub set_details : (knows_detail offset (known_by w.entries.view.state w.entries.functions) ≡ true → knows_detail offset (known_by v.entries.view.state v.entries.functions) ≡ true) → (k : ℕ) → knows_detail_at (known_in (set vs n w)) offset k ≡ true → knows_detail_at (known_in vs) offset k ≡ true
@@ -285,7 +285,7 @@ module _ {R : Type 0} (vs : List (UnitCache R)) (n : ℕ) (v w : UnitCache R) (w
   ]
 
 -- of the unit of a number alone no function becomes known
-pub set_learns : {R : Type 0} (vs : List (UnitCache R)) (n : ℕ) (v w : UnitCache R) → n < length vs → v ≡ get_or vs n v → UnitLearnsNone v.entries w.entries → LearnsNoFunctions (known_in vs) (known_in (set vs n w))
+pub set_learns : {R : Type 0} (vs : List (CachedUnit R)) (n : ℕ) (v w : CachedUnit R) → n < length vs → v ≡ get_or vs n v → UnitLearnsNone v.entries w.entries → LearnsNoFunctions (known_in vs) (known_in (set vs n w))
 set_learns {R} vs n v w within at none k = elim (cases_eq k n) [
   | inl is ↦ elim none [
     | inl same ↦ inl (now is ∙ ap Some same ∙ sym (was is))
@@ -295,7 +295,7 @@ set_learns {R} vs n v w within at none k = elim (cases_eq k n) [
 ]
   where
     now : k ≡ n → slice_get (known_in (set vs n w)) k ≡ Some (known_by w.entries.view.state w.entries.functions)
-    now e = ap (slice_get (known_in (set vs n w))) e ∙ slice_get-map (λ (x : UnitCache R). known_by x.entries.view.state x.entries.functions) (set vs n w) n ∙ ap (option_map (λ (x : UnitCache R). known_by x.entries.view.state x.entries.functions)) (got_set vs n w within)
+    now e = ap (slice_get (known_in (set vs n w))) e ∙ slice_get-map (λ (x : CachedUnit R). known_by x.entries.view.state x.entries.functions) (set vs n w) n ∙ ap (option_map (λ (x : CachedUnit R). known_by x.entries.view.state x.entries.functions)) (got_set vs n w within)
 
     was : k ≡ n → slice_get (known_in vs) k ≡ Some (known_by v.entries.view.state v.entries.functions)
-    was e = ap (slice_get (known_in vs)) e ∙ slice_get-map (λ (x : UnitCache R). known_by x.entries.view.state x.entries.functions) vs n ∙ ap (option_map (λ (x : UnitCache R). known_by x.entries.view.state x.entries.functions)) (slice_get_read vs (length vs) n v refl within at)
+    was e = ap (slice_get (known_in vs)) e ∙ slice_get-map (λ (x : CachedUnit R). known_by x.entries.view.state x.entries.functions) vs n ∙ ap (option_map (λ (x : CachedUnit R). known_by x.entries.view.state x.entries.functions)) (slice_get_read vs (length vs) n v refl within at)

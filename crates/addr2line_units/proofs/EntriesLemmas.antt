@@ -35,20 +35,23 @@ pub same_entries : {R : Type 0} {v w : UnitView R} {f g : LazyFunctions R} → v
 same_entries {v = v} {g = g} e k = ap (λ y. record { view = v; functions = y }) k ∙ ap (λ y. record { view = y; functions = g }) e
 
 -- after the view was looked at
-pub keeps_checked : {R : Type 0} (scope : Scope) (u : UnitRecord) (old new : EntriesCache R) → AreEntriesOf scope u old → AfterCheck scope.file.sections u old new → KeepsChecked scope u old new
-keeps_checked {R} scope u old new h a = record {
-  right = record {
-    in_order = h.in_order;
-    view = checked_is_right scope.file.sections u old.view new.view h.view a.view;
-    functions = subst (λ f. IfSome (verdict scope.file.sections u (first_answer_of new)) (λ r. IfOk r (λ x. AreFunctionsOf (view_scope scope x) x.unit f))) (sym a.functions)
-        (subst (λ o. IfSome (verdict scope.file.sections u o) (λ r. IfOk r (λ x. AreFunctionsOf (view_scope scope x) x.unit old.functions))) (sym a.view.answer) h.functions);
-    unread = λ waiting. ap were_read a.functions ∙ by_check (was_checked old.view.state) refl waiting;
-  };
+pub checked_keeps : {R : Type 0} (scope : Scope) (u : UnitRecord) (old new : EntriesCache R) → AreEntriesOf scope u new → AfterCheck scope.file.sections u old new → KeepsChecked scope u old new
+checked_keeps scope u old new right a = record {
+  right = right;
   known = a.view.known;
   stay = record { answer = a.view.answer; view = a.view.kept; functions = subst (λ f. StayFunctions old.functions f) (sym a.functions) (functions_stay scope u old.functions) };
   functions = a.functions;
   kept = λ checked. same_entries (a.view.kept checked) a.functions;
 }
+
+pub keeps_checked : {R : Type 0} (scope : Scope) (u : UnitRecord) (old new : EntriesCache R) → AreEntriesOf scope u old → AfterCheck scope.file.sections u old new → KeepsChecked scope u old new
+keeps_checked {R} scope u old new h a = checked_keeps scope u old new (record {
+  in_order = h.in_order;
+  view = checked_is_right scope.file.sections u old.view new.view h.view a.view;
+  functions = subst (λ f. IfSome (verdict scope.file.sections u (first_answer_of new)) (λ r. IfOk r (λ x. AreFunctionsOf (view_scope scope x) x.unit f))) (sym a.functions)
+      (subst (λ o. IfSome (verdict scope.file.sections u o) (λ r. IfOk r (λ x. AreFunctionsOf (view_scope scope x) x.unit old.functions))) (sym a.view.answer) h.functions);
+  unread = λ waiting. ap were_read a.functions ∙ by_check (was_checked old.view.state) refl waiting;
+}) a
   where
     by_check : (b : Bool) → was_checked old.view.state ≡ b → is_decided new.view.state ≡ false → were_read old.functions ≡ false
     by_check true e waiting = h.unread (ap (λ (v : UnitView R). is_decided v.state) (sym (a.view.kept e)) ∙ waiting)

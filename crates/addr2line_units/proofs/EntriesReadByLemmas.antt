@@ -1,5 +1,5 @@
 -- What is known of units that were read, and of units that aren't open (on specs/EntriesStayKnown.antt).
-use Rattle.addr2line_units.proofs.Common.{◌≡◌, ◌⊎◌, inl, inr, ℕ, zero, suc, ◌≤◌, arith, Bool, true, false, List, [], ◌∷◌, length, Option, Some, refl, ◌∙◌, Sections, UnitRecord, Scope, is_open_at, LazyFunctions, ReadingDepth, UnitCache, ViewState, were_read, HaveEntriesOf, answers_in, answer_of, answer_in, is_decided, known_by, known_functions, NothingKnown, AllKnown}
+use Rattle.addr2line_units.proofs.Common.{◌≡◌, ◌⊎◌, inl, inr, ℕ, zero, suc, ◌≤◌, arith, Bool, true, false, List, [], ◌∷◌, length, Option, Some, refl, ◌∙◌, Sections, UnitRecord, Scope, is_open_at, LazyFunctions, ReadingDepth, CachedUnit, ViewState, were_read, HaveEntriesOf, answers_in, answer_of, answer_in, is_decided, known_by, known_functions, NothingKnown, AllKnown}
 use Rattle.std.specs.Prelude.{if◌then◌else◌}
 use Rattle.addr2line_units.specs.declared.entries.LazyFunctions.TheVariants as lazy
 use Rattle.addr2line_units.specs.declared.unit.ViewState.TheVariants as states
@@ -30,7 +30,7 @@ module _ {R : Type 0} where
   read_decided depth (states.Answered a) f h = refl
 
   -- the view of a unit that isn't open and of which something is known
-  pub known_is_decided : (scope : Scope) (probe : ℕ) (us : List UnitRecord) (vs : List (UnitCache R)) (n : ℕ) → HaveEntriesOf scope us vs → is_open_at scope.file.sections us (answers_in vs) n ≡ false
+  pub known_is_decided : (scope : Scope) (probe : ℕ) (us : List UnitRecord) (vs : List (CachedUnit R)) (n : ℕ) → HaveEntriesOf scope us vs → is_open_at scope.file.sections us (answers_in vs) n ≡ false
       → has_entries_at probe vs n ≡ true → (decided_at vs n ≡ true) ⊎ (length us ≤ n)
   known_is_decided scope probe [] [] n own shut e = inr (omega arith)
   known_is_decided scope probe [] (v ∷ vs) n own shut e = absurd own
@@ -41,7 +41,7 @@ module _ {R : Type 0} where
   known_is_decided scope probe (u ∷ us) (v ∷ vs) (suc n) own shut e = elim (known_is_decided scope probe us vs n own.1 shut e) [ inl d ↦ inl d | inr m ↦ inr (omega (arith, m)) ]
 
   -- nothing is asked of a unit that there isn't
-  pub none_asked : (probe : ℕ) (vs : List (UnitCache R)) (n : ℕ) → length vs ≤ n → has_entries_at probe vs n ≡ true
+  pub none_asked : (probe : ℕ) (vs : List (CachedUnit R)) (n : ℕ) → length vs ≤ n → has_entries_at probe vs n ≡ true
   none_asked probe [] n h = refl
   none_asked probe (v ∷ vs) zero h = absurd (omega (arith, h))
   none_asked probe (v ∷ vs) (suc n) h = none_asked probe vs n (omega (arith, h))
@@ -54,7 +54,7 @@ module _ {R : Type 0} where
   answered_state (states.Answered a) first e = refl
 
   -- a unit that has an answer is decided
-  pub answered_is_decided : (vs : List (UnitCache R)) (n : ℕ) (first : Option Sections) → answer_of (answers_in vs) n ≡ Some first → decided_at vs n ≡ true
+  pub answered_is_decided : (vs : List (CachedUnit R)) (n : ℕ) (first : Option Sections) → answer_of (answers_in vs) n ≡ Some first → decided_at vs n ≡ true
   answered_is_decided [] n first e = absurd cc
   answered_is_decided (v ∷ vs) zero first e = answered_state v.entries.view.state first e
   answered_is_decided (v ∷ vs) (suc n) first e = answered_is_decided vs n first e

@@ -1,5 +1,5 @@
 -- What was known of units stays known (on specs/EntriesStayKnown.antt).
-use Rattle.addr2line_units.proofs.Common.{◌≡◌, ◌⊎◌, inl, inr, ℕ, zero, suc, ◌≤◌, arith, true, false, List, [], ◌∷◌, length, slice_get, Option, Some, None, option_map, Result, Ok, Err, refl, sym, ◌∙◌, subst, AllZip, Error, UnitRecord, Detail, AreCachedToFault, IsCachedToFault, IsFunctionMore, IsTableMore, CachedFunction, FunctionTable, Scope, LazyFunctions, ReadingDepth, UnitCache, EntriesCache, ViewState, IsReadyFor, StayEntries, StayFunctions, HaveEntriesOf, answers_in, was_checked, known_answer, known_by, known_functions, known_in, known_table, KnownEntries, is_known_at, is_open_at}
+use Rattle.addr2line_units.proofs.Common.{◌≡◌, ◌⊎◌, inl, inr, ℕ, zero, suc, ◌≤◌, arith, true, false, List, [], ◌∷◌, length, slice_get, Option, Some, None, option_map, Result, Ok, Err, refl, sym, ◌∙◌, subst, AllZip, Error, UnitRecord, Detail, AreCachedToFault, IsCachedToFault, IsFunctionMore, IsTableMore, CachedFunction, FunctionTable, Scope, LazyFunctions, ReadingDepth, CachedUnit, EntriesCache, ViewState, IsReadyFor, StayEntries, StayFunctions, HaveEntriesOf, answers_in, was_checked, known_answer, known_by, known_functions, known_in, known_table, KnownEntries, is_known_at, is_open_at}
 use Rattle.std.specs.Prelude.{IfSome, unwrap_or}
 use Rattle.addr2line_units.specs.declared.entries.LazyFunctions.TheVariants as lazy
 use Rattle.addr2line_units.specs.declared.parses.ReadingDepth.TheVariants as depths
@@ -77,7 +77,7 @@ module _ {R : Type 0} where
       subst (λ y. IsReadyFor r (known_by y.state w.functions)) (sym (a.view (whole_was_checked r v.view.state v.functions h)))
       (view_whole r v.view.state v.functions w.functions a.functions h)
 
-  all_whole : (r : ReadingDepth) (vs ws : List (UnitCache R)) → StayAllEntries vs ws → (n : ℕ) → IsReadyAt r (known_in vs) n → IsReadyAt r (known_in ws) n
+  all_whole : (r : ReadingDepth) (vs ws : List (CachedUnit R)) → StayAllEntries vs ws → (n : ℕ) → IsReadyAt r (known_in vs) n → IsReadyAt r (known_in ws) n
   all_whole r [] [] a n h = h
   all_whole r [] (w ∷ ws) a n h = absurd a
   all_whole r (v ∷ vs) [] a n h = absurd a
@@ -85,14 +85,14 @@ module _ {R : Type 0} where
   all_whole r (v ∷ vs) (w ∷ ws) a (suc n) h = all_whole r vs ws a.1 n h
 
   -- where what is cached stays, so does what is known
-  pub stays_known : (vs ws : List (UnitCache R)) → StayAllEntries vs ws → StaysKnown (known_in vs) (known_in ws)
+  pub stays_known : (vs ws : List (CachedUnit R)) → StayAllEntries vs ws → StaysKnown (known_in vs) (known_in ws)
   stays_known vs ws a n = record {
     at = λ probe e. known_is probe ws n ∙ entries_more_at probe vs ws a n (sym (known_is probe vs n) ∙ e);
     whole = λ r h. all_whole r vs ws a n h;
   }
 
   -- a unit that isn't open, and of which all is known, is decided
-  pub whole_is_decided : (r : ReadingDepth) (scope : Scope) (us : List UnitRecord) (vs : List (UnitCache R)) (n : ℕ) → HaveEntriesOf scope us vs → is_open_at scope.file.sections us (answers_in vs) n ≡ false
+  pub whole_is_decided : (r : ReadingDepth) (scope : Scope) (us : List UnitRecord) (vs : List (CachedUnit R)) (n : ℕ) → HaveEntriesOf scope us vs → is_open_at scope.file.sections us (answers_in vs) n ≡ false
       → IsReadyAt r (known_in vs) n → (decided_at vs n ≡ true) ⊎ (length us ≤ n)
   whole_is_decided r scope [] [] n own shut h = inr (omega arith)
   whole_is_decided r scope [] (v ∷ vs) n own shut h = absurd own
@@ -103,7 +103,7 @@ module _ {R : Type 0} where
   whole_is_decided r scope (u ∷ us) (v ∷ vs) (suc n) own shut h = elim (whole_is_decided r scope us vs n own.1 shut h) [ inl d ↦ inl d | inr m ↦ inr (omega (arith, m)) ]
 
   -- nothing is read of a unit that there isn't
-  pub none_whole : (r : ReadingDepth) (vs : List (UnitCache R)) (n : ℕ) → length vs ≤ n → IsReadyAt r (known_in vs) n
+  pub none_whole : (r : ReadingDepth) (vs : List (CachedUnit R)) (n : ℕ) → length vs ≤ n → IsReadyAt r (known_in vs) n
   none_whole r [] n h = tt
   none_whole r (v ∷ vs) zero h = absurd (omega (arith, h))
   none_whole r (v ∷ vs) (suc n) h = none_whole r vs n (omega (arith, h))

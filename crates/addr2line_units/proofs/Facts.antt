@@ -1,6 +1,6 @@
 -- Facts on booleans, numbers, options and lists that the proofs of this crate cite, and that std
 -- doesn't have.
-use Rattle.addr2line_units.proofs.Common.{◌≡◌, ◌≢◌, ◌∙◌, ◌+◌, ◌-◌, ◌<◌, ◌≤◌, ◌==◌, ◌&&◌, ◌||◌, ◌⊎◌, inl, inr, ℕ, zero, suc, arith, nat_lt, nat_tests, Bool, true, false, not, cond, if◌then◌else◌, List, [], ◌∷◌, ◌++◌, length, map, filter, reverse, take, drop, take_all, length-drop, get_or, slice_get, set, set-get_or, map-append, reverse-append, Option, Some, None, IfSome, is_some, option_and_then, option_map, Result, Ok, Err, OnOk, AllByRecursion, refl, sym, ap, eqb-true, eq-eqb}
+use Rattle.addr2line_units.proofs.Common.{◌≡◌, ◌≢◌, ◌∙◌, ◌+◌, ◌-◌, ◌<◌, ◌≤◌, ◌==◌, ◌&&◌, ◌||◌, ◌⊎◌, inl, inr, ℕ, zero, suc, arith, nat_lt, nat_tests, Bool, true, false, not, cond, if◌then◌else◌, List, [], ◌∷◌, ◌++◌, length, map, filter, reverse, take, drop, take_all, length-drop, slice_get, set, map-append, reverse-append, Option, Some, None, IfSome, is_some, option_and_then, option_map, Result, Ok, Err, OnOk, AllByRecursion, refl, sym, ap, eqb-true, eq-eqb}
 
 -- ---- of booleans
 
@@ -217,7 +217,3 @@ pub past_set : {X : Type 0} (xs : List X) (n : ℕ) (x : X) → length xs ≤ n 
 past_set [] n x h = refl
 past_set (y ∷ xs) zero x h = absurd (omega (arith, h))
 past_set (y ∷ xs) (suc n) x h = ap (λ z. y ∷ z) (past_set xs n x (omega (arith, h)))
-
--- nothing is new where an element is set to what it was
-pub same_set : {X : Type 0} (vs : List X) (n : ℕ) (v w : X) → v ≡ get_or vs n v → w ≡ v → set vs n w ≡ vs
-same_set vs n v w e same = ap (set vs n) (same ∙ e) ∙ set-get_or vs n v

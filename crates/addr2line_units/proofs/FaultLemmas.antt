@@ -1,5 +1,5 @@
 -- Nothing that units, their views, lines and functions give is OutOfMemory (on the specs of this crate).
-use Rattle.addr2line_units.proofs.Common.{ℕ, Bool, true, false, if◌then◌else◌, List, [], ◌∷◌, map, is_some, slice_get, Option, Some, None, IfSome, IfOk, Result, Ok, Err, Error, UnknownToken, Range, Costed, free, ◌>>=◌, WasNotRefused, Section, IsByBytes, AreByBytes, step, either, value, fault, moved_fault, fault_of_is, are_joined, not_refused, none_refused, UnitHeaderFields, Sections, SupSections, UnitRecord, unit_record_of, all_headers, entries_of, function_offset_at, LineTable, Location, Scope, UnitArange, OnFault, Stop, Skip, UnitRange, ReadingDepth, aranges_at, aranges_in, by_abbreviations, units_of, IndexedUnit, is_type_unit, is_partial, or_attribute_ranges, listed_unit_ranges, listed_in_unit, unless_faulty, unit_of_header, ranged_units, UnitsState, new_units, asked_by, stop_of, FirstAnswers, View, SplitLoad, split_name_of, first_of, first_unit, answered_view, load_by, load_of_unit, verdict_by, verdict, is_open, decided_answer, view_scope, FoundFunction, FrameRecord, function_from, function_at, FramesResult, function_by, function_in, frames_by, frames_in, LookupStop, FindsNothing, answer_of, frames_of_number, after_fault, asked_frames, or_stop, stop_along, stop_at, details_at, functions_fault, read_of_functions, read_of_view, read_of_unit, read_of_number, read_of_units, unit_of_token, view_fault, load_result, forget_result, LocationResult, lines_of_unit, location_in, or_first_location, first_location, location_of, all_read, spans_or_fault, spans_in, spans_along, spans_of, all_lines, Asks, asked_of_unit, located_frames}
+use Rattle.addr2line_units.proofs.Common.{ℕ, Bool, true, false, if◌then◌else◌, List, [], ◌∷◌, map, is_some, slice_get, Option, Some, None, IfSome, IfOk, Result, Ok, Err, Error, UnknownToken, Range, Costed, free, ◌>>=◌, WasNotRefused, Section, IsByBytes, AreByBytes, step, either, value, fault, moved_fault, fault_of_is, are_joined, not_refused, none_refused, UnitHeaderFields, Sections, SupSections, UnitRecord, unit_record_of, all_headers, entries_of, function_offset_at, LineTable, Location, Scope, UnitArange, OnFault, Stop, Skip, UnitRange, ReadingDepth, aranges_at, aranges_in, by_abbreviations, units_of, IndexedUnit, is_type_unit, is_partial, or_attribute_ranges, listed_unit_ranges, listed_in_unit, unless_faulty, unit_of_header, ranged_units, UnitsState, new_units, asked_by, stop_of, FirstAnswers, View, SplitLoad, split_name_of, first_of, first_unit, answered_view, load_by, load_of_unit, verdict_by, verdict, is_open, decided_answer, view_scope, FoundFunction, FrameRecord, function_from, function_at, FramesResult, function_by, function_in, frames_by, frames_in, LookupStop, FindsNothing, answer_of, frames_of_number, after_fault, asked_frames, or_stop, stop_along, stop_at, details_at, functions_fault, read_of_functions, read_of_view, read_of_unit, read_of_number, read_of_units, unit_of_token, view_fault, load_result, forget_result, LocationResult, lines_of_unit, location_in, or_first_location, first_location, location_of, all_read, spans_or_fault, spans_in, spans_along, spans_of, all_lines, Asks, asked_of_unit, located_frames, frames_by_lines, unit_lines}
 use Rattle.gimli_read.specs.FaultLaws.{NoneWasRefused}
 use Rattle.gimli_read.specs.Form.{NamedValue}
 use Rattle.gimli.specs.declared.unit.DwoId.{DwoId}
@@ -187,11 +187,11 @@ function_by_is scope probe (Some view) h = step h (λ v. function_at_is (view_sc
 pub function_in_is : (scope : Scope) (u : UnitRecord) (answer : Option (Option Sections)) (probe : ℕ) → IsByBytes (function_in scope u answer probe)
 function_in_is scope u answer probe = function_by_is scope probe (verdict scope.file.sections u answer) (verdict_is scope.file.sections u answer)
 
-frames_by_are : (scope : Scope) (u : IndexedUnit) (probe : ℕ) (found : Result (Option FoundFunction) Error) → IsByBytes found → IsByBytes (frames_by scope u probe found)
+frames_by_are : (scope : Scope) (u : IndexedUnit) (probe : ℕ) (found : Result (Option FoundFunction) Error) → IsByBytes found → IsByBytes (frames_by u.language (unit_lines scope.file.sections u.unit) probe found)
 frames_by_are scope u probe found h = step h (λ function. step (unit_lines_are scope.file.sections u.unit) (λ lines. value))
 
 pub frames_in_are : (scope : Scope) (u : IndexedUnit) (answer : Option (Option Sections)) (probe : ℕ) → IsByBytes (frames_in scope u answer probe)
-unfolding frames_in
+unfolding frames_by_lines
 frames_in_are scope u answer probe =
     either (is_open scope.file.sections u.unit answer) value
     (step (frames_by_are scope u probe (function_in scope u.unit answer probe) (function_in_is scope u.unit answer probe)) (λ frames. value))
@@ -270,13 +270,6 @@ read_of_view_is depth scope (Some view) h = step h (λ v. read_of_functions_is d
 
 pub read_of_unit_is : (depth : ReadingDepth) (scope : Scope) (u : UnitRecord) (answer : Option (Option Sections)) → IsByBytes (read_of_unit depth scope u answer)
 read_of_unit_is depth scope u answer = read_of_view_is depth scope _ (verdict_is scope.file.sections u (decided_answer scope.file.sections u answer None))
-
-read_if_is : (depth : ReadingDepth) (scope : Scope) (answer : Option (Option Sections)) (u : Option UnitRecord) → IsByBytes {A = Unit {0}} (elim u [ None ↦ Ok tt | Some u ↦ read_of_unit depth scope u answer ])
-read_if_is depth scope answer None = value
-read_if_is depth scope answer (Some u) = read_of_unit_is depth scope u answer
-
-pub read_of_number_is : (depth : ReadingDepth) (scope : Scope) (us : List UnitRecord) (answers : FirstAnswers) (n : ℕ) → IsByBytes (read_of_number depth scope us answers n)
-read_of_number_is depth scope us answers n = read_if_is depth scope (answer_of answers n) (slice_get us n)
 
 pub read_of_units_is : (depth : ReadingDepth) (scope : Scope) (us : List UnitRecord) (answers : FirstAnswers) → IsByBytes (read_of_units depth scope us answers)
 read_of_units_is depth scope [] answers = value

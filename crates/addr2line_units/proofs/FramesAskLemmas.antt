@@ -1,22 +1,27 @@
 -- What the units of a context are after one of them was asked (on specs/UnitsAfter.antt and
 -- specs/UnitsStored.antt).
-use Rattle.addr2line_units.proofs.Common.{◌≡◌, ◌≢◌, ◌⊎◌, inl, inr, ℕ, ◌<◌, ◌≤◌, ◌&&◌, ◌||◌, Bool, true, false, not, List, [], ◌∷◌, length, get_or, slice_get, Option, Some, None, Result, Ok, Err, refl, sym, ap, subst, ◌∙◌, arith, set, IfErr, Error, OutOfMemory, ◌>>=◌, ExactlyUnlessOom, WasNotRefused, Sections, UnitRecord, exceeds_inline_room, Scope, OnFault, FramesStop, UnitRange, UnitCache, AfterAsk, found_stop, stop_at, functions_in_take_memory, lines_of_take_memory, lines_take_memory, AreFramesIn, first_answer_of, frames_of_place, IsLendable, found_after_fault, as_stop, stop_of_found, indexed_unit, indexed_units, parsed_units, HaveEntriesOf, answers_in, FindsNothing, LookupStop, after_fault, asks_lines_of, ends_lookup, function_offset_of, functions_of_take_memory, inlined_at_number, or_stop, known_in, knows_detail_at, has_parsed, AreUnits, as_units_state, FramesResult, asks_lines_in, frames_in, inlined_of_unit, IsFaultAt, UnitsState, asked_by, takes_none_at, has_all_at, reads_no_memory_at}
+use Rattle.addr2line_units.proofs.Common.{◌≡◌, ◌≢◌, ◌⊎◌, inl, inr, ℕ, ◌<◌, ◌≤◌, ◌&&◌, ◌||◌, Bool, true, false, not, List, [], ◌∷◌, length, get_or, slice_get, Option, Some, None, Result, Ok, Err, refl, sym, ap, subst, ◌∙◌, arith, set, IfErr, Error, OutOfMemory, ◌>>=◌, ExactlyUnlessOom, WasNotRefused, Sections, UnitRecord, exceeds_inline_room, Scope, OnFault, FramesStop, UnitRange, CachedUnit, AfterAsk, found_stop, stop_at, functions_in_take_memory, lines_of_take_memory, lines_take_memory, AreFramesIn, first_answer_of, frames_of_place, IsLendable, found_after_fault, as_stop, stop_of_found, indexed_unit, indexed_units, parsed_units, HaveEntriesOf, answers_in, FindsNothing, LookupStop, after_fault, asks_lines_of, ends_lookup, function_offset_of, functions_of_take_memory, inlined_at_number, or_stop, known_in, knows_detail_at, has_parsed, AreUnits, as_units_state, FramesResult, asks_lines_in, frames_in, inlined_of_unit, IsFaultAt, UnitsState, asked_by, takes_none_at, has_all_at, reads_no_memory_at, AreLinesOf, AsksNoMemoryIn, IsCacheOf, cached_lines_result}
 use Rattle.std.specs.Prelude.{IfOk, unwrap_or}
 use Rattle.addr2line_units.specs.declared.frames.Asks.TheVariants as lookups
 use Rattle.addr2line_units.specs.declared.frames.FramesStop.TheVariants as stops
 use Rattle.addr2line_units.specs.declared.entries.UnitFrames.{UnitFrames}
 use Rattle.addr2line_units.specs.CacheAfter.{AfterFramesIn}
+use Rattle.addr2line_units.specs.EntriesOwn.{AreOwnEntries}
 use Rattle.addr2line_units.proofs.UnitsCachedLemmas.{entries_set, reads_set, same_answers, stay_entries_set}
 use Rattle.addr2line_units.proofs.FramesFoundLemmas.{lendable_if_told}
 use Rattle.addr2line_units.proofs.FramesLookupLemmas.{gives_after, no_stop, oom_before, refused_before, stop_is, stop_there, there_after}
 use Rattle.addr2line_units.proofs.EntriesKnownLemmas.{known_is, known_unchanged}
 use Rattle.addr2line_units.proofs.EntriesLearnedLemmas.{detail_at, detail_set, detail_unchanged, entries_learn}
 use Rattle.addr2line_units.proofs.FramesNumberedLemmas.{asks_are, frames_are, frames_given, functions_take, known_then, lines_only, lines_take, many_are, none_known, nothing_at, offset_is, places_there, then_known, then_no_memory}
+use Rattle.addr2line_units.proofs.EntriesFrameLemmas.{frames_are_in}
+use Rattle.addr2line_units.proofs.EntriesOwnLemmas.{looked_at_is_cache}
 use Rattle.addr2line_units.proofs.EntriesStayLemmas.{stays_known}
-use Rattle.addr2line_units.proofs.UnitsAtLemmas.{all_entries, as_many, cache_within, its_entries, unit_is}
+use Rattle.addr2line_units.proofs.UnitLinesLemmas.{not_refused_lines}
+use Rattle.addr2line_units.proofs.UnitsAtLemmas.{all_entries, as_many, cache_within, its_entries, its_lines, unit_is}
 use Rattle.addr2line_units.proofs.UnitsLinesLemmas.{stay_indexed, stay_parsed, stay_set}
 use Rattle.addr2line_units.proofs.Facts.{and_first, and_not, slice_get_none}
 use Rattle.addr2line_units.proofs.CachedUnits.{AreFoundAt, IsStopIn, StayAllEntries, StayAllLines, frames_found_at, has_entries_at, has_frames_at}
+use Rattle.addr2line_units.specs.EntriesCached.{frames_or}
 
 -- a range of the unit of a number
 abbrev range_of : ℕ → List UnitRange
@@ -30,7 +35,7 @@ holds_alone h x e = by (ends_lookup x) h e
     by false true e = refl
     by b false e = cc
 
-module _ {R : Type 0} {scope : Scope} {cs : List (UnitCache R)} {last : FramesStop} (i : AreUnits scope cs last) (probe n : ℕ) (steps : ℕ) (was : LookupStop) where
+module _ {R : Type 0} {scope : Scope} {cs : List (CachedUnit R)} {last : FramesStop} (i : AreUnits scope cs last) (probe n : ℕ) (steps : ℕ) (was : LookupStop) where
   abbrev us : List UnitRecord
   us = scope.file.units
 
@@ -61,7 +66,7 @@ module _ {R : Type 0} {scope : Scope} {cs : List (UnitCache R)} {last : FramesSt
     }
 
   module _ {u : UnitRecord} (there : slice_get us n ≡ Some u) where
-    module _ {c : UnitCache R} (at : c ≡ get_or cs n c) where
+    module _ {c : CachedUnit R} (at : c ≡ get_or cs n c) where
       within : n < length cs
       within = cache_within i n there
 
@@ -71,8 +76,13 @@ module _ {R : Type 0} {scope : Scope} {cs : List (UnitCache R)} {last : FramesSt
       own : HaveEntriesOf scope us cs
       own = all_entries i
 
-      module _ (w : UnitCache R) where
-        abbrev now_cs : List (UnitCache R)
+      -- its frames by what is cached of its lines are its frames
+      pub gives_in : (w : CachedUnit R) (result : Result UnitFrames Error) → ExactlyUnlessOom (frames_of_place w.lines w.entries) result (frames_or scope u probe c)
+          → ExactlyUnlessOom (frames_of_place w.lines w.entries) result (frames_in scope (indexed_unit u c.lines) (first_answer_of c.entries) probe)
+      gives_in w result gives = subst (ExactlyUnlessOom (frames_of_place w.lines w.entries) result) (frames_are_in scope u probe c (its_lines i n there at)) gives
+
+      module _ (w : CachedUnit R) where
+        abbrev now_cs : List (CachedUnit R)
         now_cs = set cs n w
 
         module _ (faults : OnFault) (result : Result UnitFrames Error) (gives : ExactlyUnlessOom (frames_of_place w.lines w.entries) result (frames_in scope (indexed_unit u c.lines) (first_answer_of c.entries) probe)) where
@@ -108,7 +118,20 @@ module _ {R : Type 0} {scope : Scope} {cs : List (UnitCache R)} {last : FramesSt
               by (Some stop) q = stop_there now_cs n f stop q found
 
           -- what is known after it
-          module _ {shares : Bool} (e : AfterFramesIn shares scope u probe result c w) where
+          module _ {shares : Bool} (e : AfterFramesIn shares scope u probe result c w) (own_entries_now : AreOwnEntries w.unit w.entries) where
+            lines_now : AreLinesOf d u w.lines.lines
+            lines_now = elim e.read [ inl same ↦ subst (AreLinesOf d u) (sym same) (its_lines i n there at) | inr read ↦ read ]
+
+            -- it is its own
+            pub cache_now : IsCacheOf scope u w
+            cache_now = looked_at_is_cache scope u w e.unit own_entries_now lines_now
+
+            not_oom : WasNotRefused (cached_lines_result w.lines.lines)
+            not_oom = not_refused_lines d u w.lines.lines lines_now
+
+            refused_frames : AsksNoMemoryIn shares scope u (first_answer_of c.entries) probe w.lines w.entries → IfErr result (λ y. frames_in scope (indexed_unit u c.lines) (first_answer_of c.entries) probe ≡ Err y)
+            refused_frames takes = subst (λ given. IfErr result (λ y. given ≡ Err y)) (frames_are_in scope u probe c (its_lines i n there at)) (e.no_memory takes not_oom)
+
             stay_lines : StayAllLines cs now_cs
             stay_lines = stay_set cs n c w within at e.lines
 
@@ -130,7 +153,7 @@ module _ {R : Type 0} {scope : Scope} {cs : List (UnitCache R)} {last : FramesSt
             -- what is stored can be lent
             pub stop_lendable : (f : UnitFrames) → found_after_fault faults result ≡ Ok f → IsLendable now_cs (found_stop n f)
             stop_lendable f is =
-                lendable_if_told scope probe faults us now_cs (indexed_units us cs) (answers_in cs) asks (range_of n) (Ok (found_stop n f)) (entries_set scope us cs n u w unit own e.right.entries)
+                lendable_if_told scope probe faults us now_cs (indexed_units us cs) (answers_in cs) asks (range_of n) (Ok (found_stop n f)) (entries_set scope us cs n u w unit own cache_now.entries)
                 (sym units_same) (sym answers_same) (stop_right e.there f is) (asked_ok f is)
                 (λ _. holds_alone (has_frames_at asks probe now_cs n) (asked_by (lookups.Frames faults) probe old n) (known_there (oom_before faults result (subst WasNotRefused (sym is) tt))))
 
@@ -155,7 +178,7 @@ module _ {R : Type 0} {scope : Scope} {cs : List (UnitCache R)} {last : FramesSt
               refused_alone x is none =
                   frames_are scope probe us cs n own within u c w unit at
                   ∙ subst (λ q. IfErr q (λ y. frames_in scope (indexed_unit u c.lines) (first_answer_of c.entries) probe ≡ Err y)) (refused_before faults result x is)
-                  (e.no_memory (then_no_memory scope probe us cs n own within u c w unit at shares (sym none_is ∙ and_first _ _ none) (sym many_is ∙ and_not _ _ none)))
+                  (refused_frames (then_no_memory scope probe us cs n own within u c w unit at shares (sym none_is ∙ and_first _ _ none) (sym many_is ∙ and_not _ _ none)))
                 where
                   none_is : reads_no_memory_at shares probe new n ≡ ((has_entries_at probe now_cs n || not (functions_in_take_memory shares scope u (first_answer_of c.entries)))
                       && (not (asks_lines_in scope u (first_answer_of c.entries) probe) || (has_parsed (parsed_units now_cs) n || not (lines_take_memory shares u))))
@@ -168,7 +191,7 @@ module _ {R : Type 0} {scope : Scope} {cs : List (UnitCache R)} {last : FramesSt
                       ∙ ap (λ b. (has_entries_at probe now_cs n || not (functions_in_take_memory shares scope u (first_answer_of c.entries))) && (not (asks_lines_in scope u (first_answer_of c.entries) probe) || (has_parsed (parsed_units now_cs) n || not b))) (lines_take scope probe us cs n own within u c w unit at shares)
 
               details_there : (m : ℕ) → m ≡ n → (offset : ℕ) → knows_detail_at (known_in now_cs) offset m ≡ true → (knows_detail_at (known_in cs) offset m ≡ true) ⊎ (function_offset_of scope (indexed_units us cs) (answers_in cs) probe m ≡ Some offset)
-              details_there m is offset known = elim (entries_learn scope u probe offset c.entries w.entries (its_entries i n there at) e.right.entries e.stay e.within.alone (sym (detail_set cs n c w within at offset m is) ∙ known)) [
+              details_there m is offset known = elim (entries_learn scope u probe offset c.entries w.entries (its_entries i n there at) cache_now.entries e.stay e.within.alone (sym (detail_set cs n c w within at offset m is) ∙ known)) [
                 | inl h ↦ inl (detail_at cs n c w within at offset m is ∙ h)
                 | inr h ↦ inr (ap (function_offset_of scope (indexed_units us cs) (answers_in cs) probe) is ∙ offset_is scope probe us cs n own within u c w unit at ∙ h)
               ]
@@ -197,6 +220,6 @@ module _ {R : Type 0} {scope : Scope} {cs : List (UnitCache R)} {last : FramesSt
                 ready = λ told. all_is ∙ known_there (before told);
                 memory = λ few.
                     let both = then_known scope probe us cs n own within u c w unit at (sym all_is ∙ and_first _ _ few) in
-                    then (e.memory both.0 both.1 (sym many_is ∙ and_not _ _ few));
+                    then (e.memory both.0 both.1 (sym many_is ∙ and_not _ _ few) not_oom);
                 no_memory = alone;
               }

@@ -1,6 +1,6 @@
 -- The unit in which a lookup of frames has found something (on specs/FramesLookup.antt and
 -- specs/UnitsCached.antt).
-use Rattle.addr2line_units.proofs.Common.{◌≡◌, ℕ, Bool, true, false, ◌&&◌, ◌||◌, List, [], ◌∷◌, Option, Some, None, Result, Ok, Err, ap, refl, subst, Error, ◌>>=◌, ExactlyUnlessOom, WasNotRefused, Sections, UnitRecord, Scope, OnFault, Stop, Skip, FramesStop, UnitRange, UnitCache, indexed_units, FrameRecord, LookupStop, Waits, Finds, FindsNothing, after_fault, asked_frames, ends_lookup, holds_along, or_stop, stop_along, HaveEntriesOf, answers_in, IsLendable, as_stop, FramesResult, frames_by, frames_in, function_in, IndexedUnit, FirstAnswers, is_open}
+use Rattle.addr2line_units.proofs.Common.{◌≡◌, ℕ, Bool, true, false, ◌&&◌, ◌||◌, List, [], ◌∷◌, Option, Some, None, Result, Ok, Err, ap, refl, subst, Error, ◌>>=◌, ExactlyUnlessOom, WasNotRefused, Sections, UnitRecord, Scope, OnFault, Stop, Skip, FramesStop, UnitRange, CachedUnit, indexed_units, FrameRecord, LookupStop, Waits, Finds, FindsNothing, after_fault, asked_frames, ends_lookup, holds_along, or_stop, stop_along, HaveEntriesOf, answers_in, IsLendable, as_stop, FramesResult, frames_by, frames_in, function_in, IndexedUnit, FirstAnswers, is_open, frames_by_lines, unit_lines}
 use Rattle.std.specs.Prelude.{IfOk, if◌then◌else◌}
 use Rattle.addr2line_units.specs.declared.frames.FramesStop.TheVariants as stops
 use Rattle.addr2line_units.proofs.FramesWaitLemmas.{waits_where_told}
@@ -57,8 +57,8 @@ found_by_unit Skip (Err x) e = absurd cc
 
 -- only a unit that is decided has frames
 pub decided_by_frames : (scope : Scope) (u : IndexedUnit) (answer : Option (Option Sections)) (probe : ℕ) → has_frames (frames_in scope u answer probe) ≡ true → is_open scope.file.sections u.unit answer ≡ false
-unfolding frames_in has_frames
-decided_by_frames scope u answer probe e = of_open (is_open scope.file.sections u.unit answer) (frames_by scope u probe (function_in scope u.unit answer probe)) e
+unfolding frames_by_lines has_frames
+decided_by_frames scope u answer probe e = of_open (is_open scope.file.sections u.unit answer) (frames_by u.language (unit_lines scope.file.sections u.unit) probe (function_in scope u.unit answer probe)) e
   where
     of_open : (b : Bool) (r : Result (List FrameRecord) Error) → has_frames (if b then Ok None else (r >>= λ frames. Ok (Some frames))) ≡ true → b ≡ false
     of_open true r k = absurd cc
@@ -66,7 +66,7 @@ decided_by_frames scope u answer probe e = of_open (is_open scope.file.sections 
 
 -- what a lookup has come to can be lent, where all is known that it asks for
 module _ {R : Type 0} (scope : Scope) (probe : ℕ) where
-  pub lendable_if_told : (faults : OnFault) (us : List UnitRecord) (vs : List (UnitCache R)) (units : List IndexedUnit) (answers : FirstAnswers) (asks_lines : ℕ → Bool)
+  pub lendable_if_told : (faults : OnFault) (us : List UnitRecord) (vs : List (CachedUnit R)) (units : List IndexedUnit) (answers : FirstAnswers) (asks_lines : ℕ → Bool)
       (ranges : List UnitRange) (r : Result FramesStop Error) → HaveEntriesOf scope us vs → units ≡ indexed_units us vs → answers ≡ answers_in vs → IfOk r (IsStopIn vs)
       → ExactlyUnlessOom (as_stop vs) r (stop_along (asked_frames faults scope units answers probe) ranges)
       → (WasNotRefused r → holds_along (has_frames_at asks_lines probe vs) (asked_frames faults scope units answers probe) ranges ≡ true) → IfOk r (IsLendable vs)

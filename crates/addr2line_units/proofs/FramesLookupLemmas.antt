@@ -1,5 +1,5 @@
 -- Lookups of frames along ranges (on specs/FramesLookup.antt and specs/FramesCached.antt).
-use Rattle.addr2line_units.proofs.Common.{◌≡◌, ◌≢◌, ℕ, inl, inr, Bool, true, false, ◌&&◌, ◌||◌, List, [], ◌∷◌, Option, Some, None, Result, Ok, Err, refl, ap, sym, subst, ◌∙◌, DwLang, Error, OutOfMemory, ◌>>=◌, ExactlyUnlessOom, WasNotRefused, Section, InlinedEntry, Location, OnFault, Stop, Skip, FramesStop, UnitRange, UnitCache, FrameRecord, frames_from, LookupStop, Finds, after_fault, ends_lookup, holds_along, or_stop, stop_along, found_after_fault, as_stop, stop_of_found, ParsesOnly, FramesResult}
+use Rattle.addr2line_units.proofs.Common.{◌≡◌, ◌≢◌, ℕ, inl, inr, Bool, true, false, ◌&&◌, ◌||◌, List, [], ◌∷◌, Option, Some, None, Result, Ok, Err, refl, ap, sym, subst, ◌∙◌, DwLang, Error, OutOfMemory, ◌>>=◌, ExactlyUnlessOom, WasNotRefused, Section, InlinedEntry, Location, OnFault, Stop, Skip, FramesStop, UnitRange, CachedUnit, FrameRecord, frames_from, LookupStop, Finds, after_fault, ends_lookup, holds_along, or_stop, stop_along, found_after_fault, as_stop, stop_of_found, ParsesOnly, FramesResult}
 use Rattle.std.specs.Prelude.{IfOk}
 use Rattle.addr2line_units.specs.declared.frames.FramesStop.TheVariants as stops
 use Rattle.addr2line_units.specs.declared.entries.UnitFrames.{UnitFrames}
@@ -62,7 +62,7 @@ module _ (faults : OnFault) where
       of_faults Skip (Ok y) h = h
       of_faults Skip (Err e) h = passed e h
 
-  pub there_after : {R : Type 0} (cs : List (UnitCache R)) (n : ℕ) (r : Result UnitFrames Error) → IfOk r (AreFoundAt cs n) → IfOk (found_after_fault faults r) (AreFoundAt cs n)
+  pub there_after : {R : Type 0} (cs : List (CachedUnit R)) (n : ℕ) (r : Result UnitFrames Error) → IfOk r (AreFoundAt cs n) → IfOk (found_after_fault faults r) (AreFoundAt cs n)
   there_after cs n r h = of_faults faults r h
     where
       passed : (e : Error) → IfOk (found_after_fault Skip (Err e)) (AreFoundAt cs n)
@@ -126,7 +126,7 @@ frame_ends files language offset name [] location = refl
 frame_ends files language offset name (e ∷ es) location = refl
 
 -- what a lookup comes to in the unit of a number
-module _ {R : Type 0} (cs : List (UnitCache R)) (n : ℕ) where
+module _ {R : Type 0} (cs : List (CachedUnit R)) (n : ℕ) where
   pub stop_there : (f : UnitFrames) (stop : FramesStop) → stop_of_found n f ≡ Some stop → AreFoundAt cs n f → IsStopIn cs stop
   stop_there found.Open stop e h = let same : stops.Waits n ≡ stop = cc in subst (IsStopIn cs) same tt
   stop_there (found.Here None None) stop e h = cc

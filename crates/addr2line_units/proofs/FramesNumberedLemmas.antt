@@ -1,6 +1,6 @@
 -- What the unit of a number has at an address, of all units (on specs/FramesLookup.antt and
 -- specs/FramesCached.antt).
-use Rattle.addr2line_units.proofs.Common.{◌≡◌, ℕ, ◌<◌, ◌≤◌, ◌⊎◌, inl, inr, Bool, true, false, ◌&&◌, ◌||◌, not, List, [], length, get_or, slice_get, Option, Some, None, option_map, unwrap_or, Result, Ok, Err, refl, ap, sym, subst, ◌∙◌, set, slice_get_past, Error, ExactlyUnlessOom, UnitRecord, exceeds_inline_room, Scope, UnitCache, functions_in_take_memory, lines_of_take_memory, lines_take_memory, indexed_unit, indexed_units, is_uncached, parsed_units, asks_lines_of, frames_of_number, function_offset_of, functions_of_take_memory, inlined_at_number, AreFramesIn, AsksNoMemoryIn, frames_of_place, has_entries, first_answer_of, functions_at, language_at, HaveEntriesOf, answers_in, ParsesOnly, has_parsed, asks_lines_in, frames_in, function_offset_in, inlined_of_unit}
+use Rattle.addr2line_units.proofs.Common.{◌≡◌, ℕ, ◌<◌, ◌≤◌, ◌⊎◌, inl, inr, Bool, true, false, ◌&&◌, ◌||◌, not, List, [], length, get_or, slice_get, Option, Some, None, option_map, unwrap_or, Result, Ok, Err, refl, ap, sym, subst, ◌∙◌, set, slice_get_past, Error, ExactlyUnlessOom, UnitRecord, exceeds_inline_room, Scope, CachedUnit, functions_in_take_memory, lines_of_take_memory, lines_take_memory, indexed_unit, indexed_units, is_uncached, parsed_units, asks_lines_of, frames_of_number, function_offset_of, functions_of_take_memory, inlined_at_number, AreFramesIn, AsksNoMemoryIn, frames_of_place, has_entries, first_answer_of, functions_at, language_at, HaveEntriesOf, answers_in, ParsesOnly, has_parsed, asks_lines_in, frames_in, function_offset_in, inlined_of_unit}
 use Rattle.std.specs.Prelude.{IfOk}
 use Rattle.addr2line_units.specs.declared.entries.UnitFrames.{UnitFrames}
 use Rattle.addr2line_units.specs.declared.entries.UnitFrames.TheVariants as found
@@ -9,7 +9,7 @@ use Rattle.addr2line_units.proofs.UnitsCachedLemmas.{answer_at, as_many_entries,
 use Rattle.addr2line_units.proofs.Facts.{and_first, and_second, below_set, got_set}
 use Rattle.addr2line_units.proofs.CachedUnits.{AreFoundAt, frames_found_at, has_entries_at, has_frames_at}
 
-module _ {R : Type 0} (scope : Scope) (probe : ℕ) (us : List UnitRecord) (cs : List (UnitCache R)) (n : ℕ) where
+module _ {R : Type 0} (scope : Scope) (probe : ℕ) (us : List UnitRecord) (cs : List (CachedUnit R)) (n : ℕ) where
   abbrev asks : ℕ → Bool
   asks = asks_lines_of scope (indexed_units us cs) (answers_in cs) probe
 
@@ -18,7 +18,7 @@ module _ {R : Type 0} (scope : Scope) (probe : ℕ) (us : List UnitRecord) (cs :
   nothing_at h = rw (no_unit us cs n h, frames_of_number) refl
 
   pub none_known : length cs ≤ n → has_frames_at asks probe cs n ≡ true
-  none_known h = of_bools (has_entries_at probe cs n) (asks n) (has_parsed (parsed_units cs) n) (ap (λ (o : Option (UnitCache R)). unwrap_or (option_map (λ x. has_entries probe x.entries) o) true) (slice_get_past cs n h)) (no_parsed cs n h)
+  none_known h = of_bools (has_entries_at probe cs n) (asks n) (has_parsed (parsed_units cs) n) (ap (λ (o : Option (CachedUnit R)). unwrap_or (option_map (λ x. has_entries probe x.entries) o) true) (slice_get_past cs n h)) (no_parsed cs n h)
     where
       of_bools : (a b c : Bool) → a ≡ true → c ≡ true → (a && (not b || c)) ≡ true
       of_bools true true true e k = refl
@@ -26,7 +26,7 @@ module _ {R : Type 0} (scope : Scope) (probe : ℕ) (us : List UnitRecord) (cs :
       of_bools true false c e k = refl
       of_bools false b c e k = cc
 
-  module _ (own : HaveEntriesOf scope us cs) (h : n < length cs) (u : UnitRecord) (c w : UnitCache R) (unit : u ≡ get_or us n u) (at : c ≡ get_or cs n c) where
+  module _ (own : HaveEntriesOf scope us cs) (h : n < length cs) (u : UnitRecord) (c w : CachedUnit R) (unit : u ≡ get_or us n u) (at : c ≡ get_or cs n c) where
     unit_is : slice_get (indexed_units us cs) n ≡ Some (indexed_unit u c.lines)
     unit_is = unit_at us cs n u c (subst (λ m. n < m) (sym (as_many_entries scope us cs own)) h) h unit at
 
@@ -55,7 +55,7 @@ module _ {R : Type 0} (scope : Scope) (probe : ℕ) (us : List UnitRecord) (cs :
     there = got_set cs n w h
 
     entries_there : has_entries_at probe (set cs n w) n ≡ has_entries probe w.entries
-    entries_there = ap (λ (o : Option (UnitCache R)). unwrap_or (option_map (λ x. has_entries probe x.entries) o) true) there
+    entries_there = ap (λ (o : Option (CachedUnit R)). unwrap_or (option_map (λ x. has_entries probe x.entries) o) true) there
 
     found_at : (f : UnitFrames) → frames_of_place w.lines w.entries f ≡ frames_found_at (set cs n w) n f
     found_at found.Open = refl

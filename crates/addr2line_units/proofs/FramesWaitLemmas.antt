@@ -1,6 +1,6 @@
 -- The unit that a lookup of frames waits for has no answer yet (on specs/FramesLookup.antt and
 -- specs/UnitsCached.antt).
-use Rattle.addr2line_units.proofs.Common.{◌≡◌, ℕ, zero, suc, ◌<◌, arith, get_or, Bool, true, false, ◌&&◌, ◌||◌, List, [], ◌∷◌, length, slice_get, Option, Some, None, Result, Ok, Err, ap, refl, sym, subst, ◌∙◌, Error, ◌>>=◌, Sections, UnitRecord, Scope, OnFault, Stop, Skip, UnitRange, UnitCache, EntriesCache, ViewState, indexed_units, FrameRecord, LookupStop, Waits, Finds, FindsNothing, after_fault, asked_frames, ends_lookup, frames_of_number, holds_along, or_stop, stop_along, has_entries, first_answer_of, HaveEntriesOf, answers_in, waits_at, was_checked, FramesResult, frames_by, frames_in, function_in, IndexedUnit, is_open, verdict}
+use Rattle.addr2line_units.proofs.Common.{◌≡◌, ℕ, zero, suc, ◌<◌, arith, get_or, Bool, true, false, ◌&&◌, ◌||◌, List, [], ◌∷◌, length, slice_get, Option, Some, None, Result, Ok, Err, ap, refl, sym, subst, ◌∙◌, Error, ◌>>=◌, Sections, UnitRecord, Scope, OnFault, Stop, Skip, UnitRange, CachedUnit, EntriesCache, ViewState, indexed_units, FrameRecord, LookupStop, Waits, Finds, FindsNothing, after_fault, asked_frames, ends_lookup, frames_of_number, holds_along, or_stop, stop_along, has_entries, first_answer_of, HaveEntriesOf, answers_in, waits_at, was_checked, FramesResult, frames_by, frames_in, frames_by_lines, unit_lines, function_in, IndexedUnit, is_open, verdict}
 use Rattle.std.specs.Prelude.{IfOk, IfSome, if◌then◌else◌}
 use Rattle.addr2line_units.specs.declared.unit.ViewState.TheVariants as states
 use Rattle.addr2line_units.proofs.LoadsAnswerLemmas.{got_unit, checked_waits}
@@ -40,8 +40,8 @@ told_by_unit Skip (Err x) e = absurd cc
 
 -- only a unit that is open has no frames yet
 pub open_of_none : (scope : Scope) (u : IndexedUnit) (answer : Option (Option Sections)) (probe : ℕ) → frames_in scope u answer probe ≡ Ok None → is_open scope.file.sections u.unit answer ≡ true
-unfolding frames_in
-open_of_none scope u answer probe e = of_open (is_open scope.file.sections u.unit answer) (frames_by scope u probe (function_in scope u.unit answer probe)) e
+unfolding frames_by_lines
+open_of_none scope u answer probe e = of_open (is_open scope.file.sections u.unit answer) (frames_by u.language (unit_lines scope.file.sections u.unit) probe (function_in scope u.unit answer probe)) e
   where
     of_open : (b : Bool) (r : Result (List FrameRecord) Error) → (if b then Ok None else (r >>= λ frames. Ok (Some frames))) ≡ Ok None → b ≡ true
     of_open true r k = refl
@@ -60,7 +60,7 @@ known_was_checked probe v e = by v.view.state e
 
 -- of a unit that is open and was looked at the view waits
 module _ {R : Type 0} (scope : Scope) (probe : ℕ) where
-  pub waits_there : (us : List UnitRecord) (vs : List (UnitCache R)) (n : ℕ) → HaveEntriesOf scope us vs
+  pub waits_there : (us : List UnitRecord) (vs : List (CachedUnit R)) (n : ℕ) → HaveEntriesOf scope us vs
       → frames_of_number scope (indexed_units us vs) (answers_in vs) probe n ≡ Ok None → has_entries_at probe vs n ≡ true → waits_at vs n ≡ true
   waits_there [] vs n own e h = absurd cc
   waits_there (u ∷ us) [] n own e h = absurd cc
@@ -70,7 +70,7 @@ module _ {R : Type 0} (scope : Scope) (probe : ℕ) where
   waits_there (u ∷ us) (v ∷ vs) (suc n) own e h = waits_there us vs n own.1 e h
 
   -- so it is where a lookup waits
-  pub waits_where_told : (faults : OnFault) (us : List UnitRecord) (vs : List (UnitCache R)) (asks_lines : ℕ → Bool) (ranges : List UnitRange) (n : ℕ) → HaveEntriesOf scope us vs
+  pub waits_where_told : (faults : OnFault) (us : List UnitRecord) (vs : List (CachedUnit R)) (asks_lines : ℕ → Bool) (ranges : List UnitRange) (n : ℕ) → HaveEntriesOf scope us vs
       → holds_along (has_frames_at asks_lines probe vs) (asked_frames faults scope (indexed_units us vs) (answers_in vs) probe) ranges ≡ true
       → stop_along (asked_frames faults scope (indexed_units us vs) (answers_in vs) probe) ranges ≡ Ok (Waits n) → waits_at vs n ≡ true
   waits_where_told faults us vs asks_lines ranges n own h w =
@@ -79,26 +79,26 @@ module _ {R : Type 0} (scope : Scope) (probe : ℕ) where
       (and_first (has_entries_at probe vs n) _ t.1)
 
 -- beside each unit stands its view
-pub views_of_entries : {R : Type 0} (scope : Scope) (us : List UnitRecord) (vs : List (UnitCache R)) → HaveEntriesOf scope us vs → HaveViewsOf scope.file.sections us vs
+pub views_of_entries : {R : Type 0} (scope : Scope) (us : List UnitRecord) (vs : List (CachedUnit R)) → HaveEntriesOf scope us vs → HaveViewsOf scope.file.sections us vs
 views_of_entries scope [] [] h = tt
 views_of_entries scope [] (v ∷ vs) h = absurd h
 views_of_entries scope (u ∷ us) [] h = absurd h
 views_of_entries scope (u ∷ us) (v ∷ vs) h = (h.0.view, views_of_entries scope us vs h.1)
 
 -- the number of a unit that waits is one of a unit
-pub waits_within : {R : Type 0} (vs : List (UnitCache R)) (n : ℕ) → waits_at vs n ≡ true → n < length vs
+pub waits_within : {R : Type 0} (vs : List (CachedUnit R)) (n : ℕ) → waits_at vs n ≡ true → n < length vs
 waits_within [] n h = absurd cc
 waits_within (v ∷ vs) zero h = omega arith
 waits_within (v ∷ vs) (suc n) h = let k = waits_within vs n h in omega (arith, k)
 
-pub as_many_views : {R : Type 0} (d : Sections) (us : List UnitRecord) (vs : List (UnitCache R)) → HaveViewsOf d us vs → length us ≡ length vs
+pub as_many_views : {R : Type 0} (d : Sections) (us : List UnitRecord) (vs : List (CachedUnit R)) → HaveViewsOf d us vs → length us ≡ length vs
 as_many_views d [] [] h = refl
 as_many_views d [] (v ∷ vs) h = absurd h
 as_many_views d (u ∷ us) [] h = absurd h
 as_many_views d (u ∷ us) (v ∷ vs) h = ap suc (as_many_views d us vs h.1)
 
 -- a unit that waits is open
-pub waiting_there : {R : Type 0} (d : Sections) (us : List UnitRecord) (vs : List (UnitCache R)) (n : ℕ) (u : UnitRecord) → HaveViewsOf d us vs → waits_at vs n ≡ true → u ≡ get_or us n u → verdict d u None ≡ None
+pub waiting_there : {R : Type 0} (d : Sections) (us : List UnitRecord) (vs : List (CachedUnit R)) (n : ℕ) (u : UnitRecord) → HaveViewsOf d us vs → waits_at vs n ≡ true → u ≡ get_or us n u → verdict d u None ≡ None
 waiting_there d us [] n u own w e = absurd cc
 waiting_there d [] (y ∷ vs) n u own w e = absurd own
 waiting_there d (x ∷ us) (y ∷ vs) zero u own w e = subst (λ z. verdict d z None ≡ None) (sym e) (waiting_is_open d x y.entries.view.state w own.0)

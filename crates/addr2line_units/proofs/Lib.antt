@@ -18,10 +18,12 @@ pub mod FramesLeftLemmas
 pub mod EntriesFunctionMemoryLemmas
 pub mod EntriesFunctionLemmas
 pub mod EntriesPlaceLemmas
+pub mod EntriesOwnLemmas
 pub mod EntriesLemmas
 pub mod EntriesMemoryLemmas
 pub mod EntriesFrameLemmas
 pub mod EntriesFindLemmas
+pub mod EntriesViewedLemmas
 pub mod UnitViewLemmas
 pub mod LoadsAnswerLemmas
 pub mod SupScopeLemmas
@@ -55,6 +57,7 @@ pub mod FramesAskLemmas
 pub mod EntriesEmptyLemmas
 pub mod FramesWalkedLemmas
 pub mod ParsesAfterLemmas
+pub mod ParsesViewLemmas
 pub mod ParsesAtLemmas
 pub mod ParsesWalkLemmas
 pub mod UnitsAtLemmas

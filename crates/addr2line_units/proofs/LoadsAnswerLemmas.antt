@@ -1,5 +1,5 @@
 -- Answers to the loads of units, and what is cached of their entries (on specs/EntriesCached.antt).
-use Rattle.addr2line_units.proofs.Common.{◌≡◌, ℕ, zero, suc, ◌<◌, Bool, true, false, List, [], ◌∷◌, length, get_or, slice_get, arith, Option, Some, None, Result, Ok, Err, ap, refl, sym, subst, ◌∙◌, set, false≢true, IfErr, OnOk, Error, OutOfMemory, Sections, UnitRecord, IsScope, Scope, LazyFunctions, UnitCache, EntriesCache, UnitView, ViewState, answer_of, with_answer, AreEntriesOf, StayEntries, first_answer_of, AreFunctionsOf, were_read, answers_in, IsViewOf, is_decided, answer_of_view, verdict_in, waits, was_checked, FirstAnswers, View, decided_answer, is_open, verdict, view_scope, fault_of, view_fault}
+use Rattle.addr2line_units.proofs.Common.{◌≡◌, ℕ, zero, suc, ◌<◌, Bool, true, false, List, [], ◌∷◌, length, get_or, slice_get, arith, Option, Some, None, Result, Ok, Err, ap, refl, sym, subst, ◌∙◌, set, false≢true, IfErr, OnOk, Error, OutOfMemory, Sections, UnitRecord, IsScope, Scope, LazyFunctions, CachedUnit, EntriesCache, UnitView, ViewState, answer_of, with_answer, AreEntriesOf, StayEntries, first_answer_of, AreFunctionsOf, were_read, answers_in, IsViewOf, is_decided, answer_of_view, verdict_in, waits, was_checked, FirstAnswers, View, decided_answer, is_open, verdict, view_scope, fault_of, view_fault}
 use Rattle.std.specs.Prelude.{IfOk, IfSome, is_none, is_some, if◌then◌else◌}
 use Rattle.addr2line_units.specs.declared.entries.LazyFunctions.TheVariants as lazy
 use Rattle.addr2line_units.specs.declared.unit.ViewState.TheVariants as states
@@ -150,30 +150,30 @@ keeps_answered {R} shares scope u given result old new h a = subst (λ f. KeepsA
         (subst (λ v. KeepsAnswered shares scope u given (Ok tt) old (record { view = v; functions = old.functions })) (sym none.0) (shut_after shares scope u given old mid check e))
 
 -- after the answer was forgotten
-pub keeps_forgotten : {R : Type 0} (scope : Scope) (u : UnitRecord) (old new : EntriesCache R) → AreEntriesOf scope u old → AfterForgettingIn old new → KeepsForgotten scope u old new
-keeps_forgotten {R} scope u old new h a = record { right = by (first_answer_of old) refl; answer = a.view.answer; kept = a.kept; empty = a.empty }
+pub keeps_forgotten : {R : Type 0} (scope : Scope) (u : UnitRecord) (old new : CachedUnit R) → AreEntriesOf scope u old.entries → AfterForgettingIn old new → KeepsForgotten scope u old.entries new.entries
+keeps_forgotten {R} scope u old new h a = record { right = by (first_answer_of old.entries) refl; answer = a.view.answer; kept = a.kept; empty = a.empty }
   where
-    by : (o : Option (Option Sections)) → first_answer_of old ≡ o → AreEntriesOf scope u new
+    by : (o : Option (Option Sections)) → first_answer_of old.entries ≡ o → AreEntriesOf scope u new.entries
     by None e = subst (AreEntriesOf scope u) (sym (a.kept e)) h
     by (Some x) e =
-        let some : is_some (first_answer_of old) ≡ true = ap is_some e in
-        unread_entries scope u new.view new.functions h.in_order (waiting_is_right scope.file.sections u new.view (a.view.opens some) a.view.answer (h.view.waited some)) (a.empty some)
+        let some : is_some (first_answer_of old.entries) ≡ true = ap is_some e in
+        unread_entries scope u new.entries.view new.entries.functions h.in_order (waiting_is_right scope.file.sections u new.entries.view (a.view.opens some) a.view.answer (h.view.waited some)) (a.empty some)
 
 -- the first answer of the unit of a number
-pub answer_at : {R : Type 0} (vs : List (UnitCache R)) (n : ℕ) (v : UnitCache R) → n < length vs → v ≡ get_or vs n v → answer_of (answers_in vs) n ≡ first_answer_of v.entries
+pub answer_at : {R : Type 0} (vs : List (CachedUnit R)) (n : ℕ) (v : CachedUnit R) → n < length vs → v ≡ get_or vs n v → answer_of (answers_in vs) n ≡ first_answer_of v.entries
 answer_at [] n v h e = absurd (omega arith)
-answer_at (y ∷ vs) zero v h e = ap (λ (x : UnitCache _). first_answer_of x.entries) (sym e)
+answer_at (y ∷ vs) zero v h e = ap (λ (x : CachedUnit _). first_answer_of x.entries) (sym e)
 answer_at (y ∷ vs) (suc n) v h e = answer_at vs n v (omega arith) e
 
-pub answers_set : {R : Type 0} (vs : List (UnitCache R)) (n : ℕ) (w : UnitCache R) → answers_in (set vs n w) ≡ set (answers_in vs) n (first_answer_of w.entries)
+pub answers_set : {R : Type 0} (vs : List (CachedUnit R)) (n : ℕ) (w : CachedUnit R) → answers_in (set vs n w) ≡ set (answers_in vs) n (first_answer_of w.entries)
 answers_set [] n w = refl
 answers_set (y ∷ vs) zero w = refl
 answers_set (y ∷ vs) (suc n) w = ap (λ xs. first_answer_of y.entries ∷ xs) (answers_set vs n w)
 
 -- answers stay where that of one unit is set to what it was
-pub answers_stay : {R : Type 0} (vs : List (UnitCache R)) (n : ℕ) (v w : UnitCache R) → n < length vs → v ≡ get_or vs n v → first_answer_of w.entries ≡ first_answer_of v.entries → answers_in (set vs n w) ≡ answers_in vs
+pub answers_stay : {R : Type 0} (vs : List (CachedUnit R)) (n : ℕ) (v w : CachedUnit R) → n < length vs → v ≡ get_or vs n v → first_answer_of w.entries ≡ first_answer_of v.entries → answers_in (set vs n w) ≡ answers_in vs
 answers_stay [] n v w h e k = absurd (omega arith)
-answers_stay (y ∷ vs) zero v w h e k = ap (λ x. x ∷ answers_in vs) (k ∙ ap (λ (z : UnitCache _). first_answer_of z.entries) e)
+answers_stay (y ∷ vs) zero v w h e k = ap (λ x. x ∷ answers_in vs) (k ∙ ap (λ (z : CachedUnit _). first_answer_of z.entries) e)
 answers_stay (y ∷ vs) (suc n) v w h e k = ap (λ xs. first_answer_of y.entries ∷ xs) (answers_stay vs n v w (omega arith) e k)
 
 pub got_unit : (us : List UnitRecord) (n : ℕ) (u : UnitRecord) → n < length us → u ≡ get_or us n u → slice_get us n ≡ Some u
@@ -182,7 +182,7 @@ got_unit (x ∷ us) zero u h e = ap Some (sym e)
 got_unit (x ∷ us) (suc n) u h e = got_unit us n u (omega arith) e
 
 -- the answers of all units after one more of one unit
-pub answered_all : {R : Type 0} (d : Sections) (us : List UnitRecord) (vs : List (UnitCache R)) (n : ℕ) (u : UnitRecord) (v w : UnitCache R) (given : Option Sections) → n < length us → n < length vs
+pub answered_all : {R : Type 0} (d : Sections) (us : List UnitRecord) (vs : List (CachedUnit R)) (n : ℕ) (u : UnitRecord) (v w : CachedUnit R) (given : Option Sections) → n < length us → n < length vs
     → u ≡ get_or us n u → v ≡ get_or vs n v → first_answer_of w.entries ≡ decided_answer d u (first_answer_of v.entries) given → answers_in (set vs n w) ≡ with_answer d us (answers_in vs) n given
 answered_all d us vs n u v w given h k e f new =
     answers_set vs n w
@@ -193,23 +193,23 @@ answered_all d us vs n u v w given h k e f new =
     answers_by o = elim o [ None ↦ answers_in vs | Some x ↦ set (answers_in vs) n (decided_answer d x (answer_of (answers_in vs) n) given) ]
 
 -- the same after a call that may be refused
-pub answered_if_ok : {R : Type 0} (d : Sections) (us : List UnitRecord) (vs : List (UnitCache R)) (n : ℕ) (u : UnitRecord) (v w : UnitCache R) (given : Option Sections) (r : Result (Unit {0}) Error)
+pub answered_if_ok : {R : Type 0} (d : Sections) (us : List UnitRecord) (vs : List (CachedUnit R)) (n : ℕ) (u : UnitRecord) (v w : CachedUnit R) (given : Option Sections) (r : Result (Unit {0}) Error)
     → n < length us → n < length vs → u ≡ get_or us n u → v ≡ get_or vs n v → OnOk r (first_answer_of w.entries ≡ decided_answer d u (first_answer_of v.entries) given) → OnOk r (answers_in (set vs n w) ≡ with_answer d us (answers_in vs) n given)
 answered_if_ok d us vs n u v w given (Ok x) h k e f new = answered_all d us vs n u v w given h k e f new
 answered_if_ok d us vs n u v w given (Err x) h k e f new = tt
 
-pub answers_if_refused : {R : Type 0} (vs : List (UnitCache R)) (n : ℕ) (v w : UnitCache R) (r : Result (Unit {0}) Error) (P : Type 0) → n < length vs → v ≡ get_or vs n v
+pub answers_if_refused : {R : Type 0} (vs : List (CachedUnit R)) (n : ℕ) (v w : CachedUnit R) (r : Result (Unit {0}) Error) (P : Type 0) → n < length vs → v ≡ get_or vs n v
     → IfErr r (λ e. (e ≡ OutOfMemory) × StayEntries v.entries w.entries × P) → IfErr r (λ e. (e ≡ OutOfMemory) × (answers_in (set vs n w) ≡ answers_in vs) × StayAllEntries vs (set vs n w) × P)
 answers_if_refused vs n v w (Ok x) P h e same = tt
 answers_if_refused vs n v w (Err x) P h e same = (same.0, answers_stay vs n v w h e same.1.answer, stay_entries_set vs n v w h e same.1, same.2)
 
 -- whether the unit of a number is decided, by what is cached of it
-pub decided_there : {R : Type 0} (vs : List (UnitCache R)) (n : ℕ) (v : UnitCache R) → v ≡ get_or vs n v → decided_at vs n ≡ true → is_decided v.entries.view.state ≡ true
+pub decided_there : {R : Type 0} (vs : List (CachedUnit R)) (n : ℕ) (v : CachedUnit R) → v ≡ get_or vs n v → decided_at vs n ≡ true → is_decided v.entries.view.state ≡ true
 decided_there [] n v e h = absurd cc
-decided_there (y ∷ vs) zero v e h = ap (λ (x : UnitCache _). is_decided x.entries.view.state) e ∙ h
+decided_there (y ∷ vs) zero v e h = ap (λ (x : CachedUnit _). is_decided x.entries.view.state) e ∙ h
 decided_there (y ∷ vs) (suc n) v e h = decided_there vs n v e h
 
-pub decided_within : {R : Type 0} (vs : List (UnitCache R)) (n : ℕ) → decided_at vs n ≡ true → n < length vs
+pub decided_within : {R : Type 0} (vs : List (CachedUnit R)) (n : ℕ) → decided_at vs n ≡ true → n < length vs
 decided_within [] n h = absurd cc
 decided_within (v ∷ vs) zero h = omega arith
 decided_within (v ∷ vs) (suc n) h = let k = decided_within vs n h in omega (arith, k)

@@ -1,6 +1,6 @@
 -- Answers to the loads of units, and the loads that are listed (on specs/Loads.antt and
 -- specs/LoadsListed.antt).
-use Rattle.addr2line_units.proofs.Common.{◌≡◌, ℕ, zero, suc, ◌<◌, ◌==◌, ◌++◌, not, cond, Bool, true, false, List, [], ◌∷◌, filter, length, get_or, slice_get, arith, subst, Option, Some, None, Result, Ok, Err, ap, refl, sym, ◌∙◌, set, Error, UnknownToken, ◌>>=◌, ExactlyUnlessOom, Section, Sections, UnitRecord, UnitCache, answer_of, with_answer, first_answer_of, answers_in, parts_or_fault, before_others, forget_result, is_of_other, load_of_number, load_result, unit_of_token, view_fault, FirstAnswers, SplitLoad, View, awaited_by, awaited_load, decided_answer, is_open, load_by, load_of_unit, split_name_of, verdict, verdict_by, AreEntriesOf, EntriesCache, OnOk, Scope, false≢true, waits, ⊎_elim, memory_or_not}
+use Rattle.addr2line_units.proofs.Common.{◌≡◌, ℕ, zero, suc, ◌<◌, ◌==◌, ◌++◌, not, cond, Bool, true, false, List, [], ◌∷◌, filter, length, get_or, slice_get, arith, subst, Option, Some, None, Result, Ok, Err, ap, refl, sym, ◌∙◌, set, Error, UnknownToken, ◌>>=◌, ExactlyUnlessOom, Section, Sections, UnitRecord, CachedUnit, answer_of, with_answer, first_answer_of, answers_in, parts_or_fault, before_others, forget_result, is_of_other, load_of_number, load_result, unit_of_token, view_fault, FirstAnswers, SplitLoad, View, awaited_by, awaited_load, decided_answer, is_open, load_by, load_of_unit, split_name_of, verdict, verdict_by, AreEntriesOf, EntriesCache, OnOk, Scope, false≢true, waits, ⊎_elim, memory_or_not}
 use Rattle.std.proofs.lemmas.List.{append_assoc}
 use Rattle.std.specs.Option.{option_to_list}
 use Rattle.std.specs.Prelude.{IfSome, is_none, is_some, if◌then◌else◌}
@@ -61,14 +61,7 @@ answer_after d us answers n given u e h = by (slice_get us n) e
     by None k = absurd cc
     by (Some x) k = let same : x ≡ u = cc in answer_of_set answers n _ h ∙ ap (λ y. decided_answer d y (answer_of answers n) given) same
 
--- what an answer gives, by the fault of the view after it
-pub load_gives : (d : Sections) (us : List UnitRecord) (answers after : FirstAnswers) (n : ℕ) (given : Option Sections) (u : UnitRecord) → slice_get us n ≡ Some u → n < length answers
-    → after ≡ with_answer d us answers n given → load_result d us answers n given ≡ view_fault (verdict d u (answer_of after n))
-load_gives d us answers after n given u e h same =
-    ap (λ r. r >>= λ x. view_fault (verdict d x (decided_answer d x (answer_of answers n) given))) (this_unit us n u e)
-    ∙ ap (λ a. view_fault (verdict d u a)) (sym (ap (λ xs. answer_of xs n) same ∙ answer_after d us answers n given u e h))
-
-pub as_many_answers : {R : Type 0} (vs : List (UnitCache R)) → length (answers_in vs) ≡ length vs
+pub as_many_answers : {R : Type 0} (vs : List (CachedUnit R)) → length (answers_in vs) ≡ length vs
 as_many_answers [] = refl
 as_many_answers (v ∷ vs) = ap suc (as_many_answers vs)
 
@@ -217,7 +210,7 @@ module _ (listed : List SplitLoad) (o : Option SplitLoad) (old now : List Bool) 
       ∙ ap (λ z. listed ++ z) (ap (λ z. option_to_list z ++ filter (is_new now) loads) f ∙ sym (next_listed o old now loads m)) ∙ h
 
 -- the load of the unit of a number, by what is cached of it
-pub load_there : {R : Type 0} (d : Sections) (us : List UnitRecord) (vs : List (UnitCache R)) (n : ℕ) (u : UnitRecord) (v : UnitCache R) → slice_get us n ≡ Some u → n < length vs → v ≡ get_or vs n v
+pub load_there : {R : Type 0} (d : Sections) (us : List UnitRecord) (vs : List (CachedUnit R)) (n : ℕ) (u : UnitRecord) (v : CachedUnit R) → slice_get us n ≡ Some u → n < length vs → v ≡ get_or vs n v
     → load_of_number d us (answers_in vs) n ≡ awaited_load d n u (first_answer_of v.entries)
 load_there d us vs n u v e h at = by (slice_get us n) e
   where

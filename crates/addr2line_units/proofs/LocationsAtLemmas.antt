@@ -1,5 +1,5 @@
 -- The lines of the unit of a number (on specs/UnitsAsked.antt and specs/UnitsStored.antt).
-use Rattle.addr2line_units.proofs.Common.{◌≡◌, inl, ℕ, ◌+◌, ◌<◌, ◌≤◌, Bool, true, false, List, length, get_or, slice_get, Option, Some, None, Result, Ok, Err, refl, sym, ap, subst, ◌∙◌, arith, set, false≢true, IfErr, Error, ExactlyUnlessOom, WasNotRefused, Sections, UnitRecord, LineTable, location_of_row, Scope, FramesStop, LinesCache, UnitCache, AfterCachingAt, lines_of_take_memory, lines_take_memory, AreLinesOf, CachesResult, StayLines, cached_files, indexed_unit, is_uncached, lines_result, lines_result_at, parsed_units, FindsNothing, LookupStop, is_found, location_in, steps_in, has_parsed, AreUnits, as_units_state, UnitsState, ◌≢◌, ◌>>=◌, LazyLines, AfterAsk, AreRead, IsLendable, IsFaultAt, takes_none_at, location_frames, Finds, as_stop, has_stopped, or_stop, parses_no_memory, row_stop, stop_at, unit_lines, location_at, IndexedUnit, LocationResult, OutOfMemory, Location}
+use Rattle.addr2line_units.proofs.Common.{◌≡◌, inl, ℕ, ◌+◌, ◌<◌, ◌≤◌, Bool, true, false, List, length, get_or, slice_get, Option, Some, None, Result, Ok, Err, refl, sym, ap, subst, ◌∙◌, arith, set, false≢true, IfErr, Error, ExactlyUnlessOom, WasNotRefused, Sections, UnitRecord, LineTable, location_of_row, Scope, FramesStop, LinesCache, CachedUnit, AfterCachingAt, lines_of_take_memory, lines_take_memory, AreLinesOf, CachesResult, StayLines, cached_files, indexed_unit, is_uncached, lines_result, lines_result_at, parsed_units, FindsNothing, LookupStop, is_found, location_in, steps_in, has_parsed, AreUnits, as_units_state, UnitsState, ◌≢◌, ◌>>=◌, LazyLines, AfterAsk, AreRead, IsLendable, IsFaultAt, takes_none_at, location_frames, Finds, as_stop, has_stopped, or_stop, parses_no_memory, row_stop, stop_at, unit_lines, location_at, IndexedUnit, LocationResult, OutOfMemory, Location}
 use Rattle.std.proofs.Math.Seq.{lt-length-set}
 use Rattle.std.specs.Prelude.{option_map}
 use Rattle.addr2line_lines.specs.declared.row.Row.{Row}
@@ -25,7 +25,7 @@ read_if_found d u probe (Faulty f) found own cached e = absurd (no (sym (ap (λ 
     no : ◌≡◌ {A = LocationResult} (Err f) (Ok found) → ⊥
     no h = cc
 
-module _ {R : Type 0} {scope : Scope} {cs : List (UnitCache R)} {last : FramesStop} (i : AreUnits scope cs last) (n : ℕ) (steps : ℕ) (was : LookupStop) where
+module _ {R : Type 0} {scope : Scope} {cs : List (CachedUnit R)} {last : FramesStop} (i : AreUnits scope cs last) (n : ℕ) (steps : ℕ) (was : LookupStop) where
   abbrev d : Sections
   d = scope.file.sections
 
@@ -62,7 +62,7 @@ module _ {R : Type 0} {scope : Scope} {cs : List (UnitCache R)} {last : FramesSt
     none_after_caching shares = record { lines = none_lines; stop = refl; steps = refl; ready = λ told. no_parsed cs n past; memory = λ none. tt }
 
   module _ {u : UnitRecord} (there : slice_get us n ≡ Some u) where
-    module _ {c : UnitCache R} (at : c ≡ get_or cs n c) where
+    module _ {c : CachedUnit R} (at : c ≡ get_or cs n c) where
       within : n < length cs
       within = cache_within i n there
 
@@ -73,10 +73,10 @@ module _ {R : Type 0} {scope : Scope} {cs : List (UnitCache R)} {last : FramesSt
       takes_is shares = rw (indexed, lines_of_take_memory) refl
 
       module _ (l : LinesCache) where
-        abbrev with_lines : UnitCache R
+        abbrev with_lines : CachedUnit R
         with_lines = record c { lines = l }
 
-        abbrev now : List (UnitCache R)
+        abbrev now : List (CachedUnit R)
         now = set cs n with_lines
 
         module _ (stays : StayLines c.lines l) where

@@ -1,15 +1,15 @@
 -- What a parse of functions leaves of the functions of a view, and of a unit (on
 -- specs/ParsesAfter.antt).
-use Rattle.addr2line_units.proofs.Common.{◌≡◌, ◌∙◌, Bool, true, false, [], Option, Some, Result, Ok, Err, None, refl, sym, ap, subst, inr, IfErr, OnOk, AllByRecursion, Error, OutOfMemory, ExactlyUnlessOomIf, WasNotRefused, Sections, UnitRecord, HasDetail, cached_detail, functions_of, functions_take_memory, AreUnread, Scope, LazyFunctions, ReadingDepth, EntriesCache, UnitView, functions_in_take_memory, AreEntriesOf, first_answer_of, AreFunctionsOf, StayFunctions, cached_fault, cached_functions, functions_fault, is_cached_fault, reading_takes_memory, were_read, known_by, known_fault, known_functions, is_decided, answer_of_view, IsReadyFor, read_of_functions, read_of_view, View, is_open, verdict}
+use Rattle.addr2line_units.proofs.Common.{◌≡◌, ◌∙◌, Bool, true, false, [], Option, Some, Result, Ok, Err, None, refl, sym, ap, subst, inr, IfErr, OnOk, AllByRecursion, Error, OutOfMemory, ExactlyUnlessOomIf, WasNotRefused, Sections, UnitRecord, HasDetail, cached_detail, functions_of, functions_take_memory, AreUnread, Scope, LazyFunctions, ReadingDepth, EntriesCache, functions_in_take_memory, AreEntriesOf, first_answer_of, AreFunctionsOf, StayFunctions, cached_fault, cached_functions, functions_fault, is_cached_fault, reading_takes_memory, were_read, known_by, known_fault, known_functions, is_decided, answer_of_view, IsReadyFor, read_of_functions, read_of_view, View, is_open, verdict, ExactlyUnlessOom, StayEntries, knows_detail}
 use Rattle.addr2line_units.specs.declared.entries.LazyFunctions.TheVariants as lazy
 use Rattle.addr2line_units.specs.declared.parses.ReadingDepth.TheVariants as depths
-use Rattle.addr2line_units.proofs.KeptEntries.{KeepsAnswered}
-use Rattle.addr2line_units.specs.ParsesAfter.{AfterReadingFunctions, AfterReadingOf, AfterReadingUnit, AfterReadingView, IsDecidedAndReady}
+use Rattle.addr2line_units.proofs.KeptEntries.{KeepsAnswered, KeepsReadFunctions}
+use Rattle.addr2line_units.specs.ParsesAfter.{AfterReadingOf, AfterReadingUnit, AfterReadingView, IsDecidedAndReady}
 use Rattle.addr2line_units.specs.EntriesStayKnown.{IsReadBy}
 use Rattle.addr2line_units.proofs.LoadsAnswerLemmas.{decided_if_not, checked_waits}
 use Rattle.addr2line_units.proofs.EntriesMemoryLemmas.{exactly_if_none, reading_takes_none}
 use Rattle.addr2line_units.proofs.ParsesCachedLemmas.{alone_fault, alone_read, cached_stay, details_cached, details_read, entries_then, view_read}
-use Rattle.addr2line_units.proofs.EntriesLemmas.{IsView, functions_keep, functions_stay, functions_take_in, not_open, checked_decides}
+use Rattle.addr2line_units.proofs.EntriesLemmas.{IsView, functions_stay, functions_take_in, not_open, checked_decides}
 use Rattle.addr2line_units.proofs.EntriesLearnedLemmas.{cache_reads_none, functions_learn_none}
 use Rattle.addr2line_units.proofs.EntriesReadByLemmas.{never_fault, read_decided, read_were_read}
 use Rattle.addr2line_units.proofs.ParsesReadyLemmas.{fault_by_view, fault_of_functions, functions_by_view, known_not_oom, ready_fault, ready_were_read}
@@ -47,7 +47,7 @@ ready_unrefused (lazy.Read t) h = tt
 ready_unrefused (lazy.Faulty e) h = known_not_oom depths.Functions e h
 
 -- the fault of functions, however they are read
-fault_of_depth : (depth : ReadingDepth) (scope : Scope) (view : UnitRecord) (e : Error) → functions_of scope.file.sections view ≡ Err e → read_of_functions depth scope view ≡ Err e
+pub fault_of_depth : (depth : ReadingDepth) (scope : Scope) (view : UnitRecord) (e : Error) → functions_of scope.file.sections view ≡ Err e → read_of_functions depth scope view ≡ Err e
 fault_of_depth depths.Functions scope view e h = alone_fault scope view e h
 fault_of_depth depths.Details scope view e h = fault_of_functions scope view e h
 
@@ -57,7 +57,7 @@ module _ {R : Type 0} (shares : Bool) (scope : Scope) (view : UnitRecord) (old n
     pub alone_gives : cached_fault new ≡ read_of_functions depths.Functions scope view
     alone_gives = fault_is scope view new right read
 
-    pub alone_after : AfterReadingFunctions shares depths.Functions scope view (cached_fault new) old new
+    pub alone_after : KeepsReadFunctions shares depths.Functions scope view (cached_fault new) old new
     alone_after = record {
       right = right;
       stay = cached_stay scope view old new kept;
@@ -80,7 +80,7 @@ module _ {R : Type 0} (shares : Bool) (scope : Scope) (view : UnitRecord) (old n
 
   -- memory was refused
   module _ (depth : ReadingDepth) (e : Error) (oom : e ≡ OutOfMemory) (same : new ≡ old) (unread : were_read old ≡ true → ⊥) (fault : functions_take_memory shares scope.file.sections view ≡ false → functions_of scope.file.sections view ≡ Err e) where
-    pub refused_after : AfterReadingFunctions shares depth scope view (Err e) old new
+    pub refused_after : KeepsReadFunctions shares depth scope view (Err e) old new
     refused_after = record {
       right = right;
       stay = cached_stay scope view old new (λ read. same);
@@ -100,7 +100,7 @@ module _ {R : Type 0} (shares : Bool) (scope : Scope) (view : UnitRecord) (old n
   -- functions that are read with their details
   pub details_after : (result : Result (Unit {0}) Error) → AreFunctionsOf scope view old → ExactlyUnlessOomIf (reading_takes_memory shares scope view old) (λ x. x) result (functions_fault scope view) → StayFunctions old new
       → OnOk result (were_read new ≡ true) → OnOk result (AllByRecursion HasDetail (cached_functions new).functions) → (WasNotRefused result → IsReadyFor depths.Details (known_functions new)) → (IsReadyFor depths.Details (known_functions new) → WasNotRefused result)
-      → (IsReadyFor depths.Details (known_functions old) → result ≡ functions_fault scope view) → (IsReadyFor depths.Details (known_functions old) → new ≡ old) → AfterReadingFunctions shares depths.Details scope view result old new
+      → (IsReadyFor depths.Details (known_functions old) → result ≡ functions_fault scope view) → (IsReadyFor depths.Details (known_functions old) → new ≡ old) → KeepsReadFunctions shares depths.Details scope view result old new
   details_after result before gives stay read details ready memory exact same = record {
     right = right;
     stay = stay;
@@ -129,61 +129,64 @@ fault_after depth reading e is = record {
 }
 
 -- the view of a unit that is decided
-module _ {R : Type 0} (shares : Bool) (depth : ReadingDepth) (scope : Scope) (u : UnitRecord) (view : UnitView R) (old : LazyFunctions R) (before : AreEntriesOf scope u (record { view = view; functions = old })) (decided : is_decided view.state ≡ true) where
-  abbrev entries : EntriesCache R
-  entries = record { view = view; functions = old }
-
+module _ {R : Type 0} (shares : Bool) (depth : ReadingDepth) (scope : Scope) (u : UnitRecord) (old : EntriesCache R) (before : AreEntriesOf scope u old) (decided : is_decided old.view.state ≡ true) where
   abbrev answered : Option (Result View Error)
-  answered = verdict scope.file.sections u (answer_of_view view)
+  answered = verdict scope.file.sections u (first_answer_of old)
 
   abbrev reading : Result (Unit {0}) Error
   reading = read_of_view depth scope answered
+
+  abbrev with_functions : LazyFunctions R → EntriesCache R
+  with_functions f = record { view = old.view; functions = f }
 
   module _ (x : Error) (is : answered ≡ Some (Err x)) where
     pub view_refused : reading ≡ Err x
     view_refused = ap (read_of_view depth scope) is
 
-    pub refused_view_after : AfterReadingView shares depth scope u view (Err x) old old
+    pub refused_view_after : AfterReadingView shares depth scope u (Err x) old old
     refused_view_after = record {
-      right = before;
-      stay = functions_stay scope u old;
-      known = subst (λ k. AfterReadingOf depth reading (Err x) false k false k) (sym (fault_by_view scope.file.sections u answered x view.state old decided before.view.right is)) (fault_after depth reading x view_refused);
+      view = refl;
+      stay = functions_stay scope u old.functions;
+      known = subst (λ k. AfterReadingOf depth reading (Err x) false k false k) (sym (fault_by_view scope.file.sections u answered x old.view.state old.functions decided before.view.right is)) (fault_after depth reading x view_refused);
       details = λ _ n. refl;
       no_memory = λ none. view_refused;
     }
 
-  module _ (inner : Scope) (x : UnitRecord) (v : IsView scope u 0 entries before decided inner x) where
-    pub view_reads : reading ≡ read_of_functions depth inner x
+  module _ (inner : Scope) (x : UnitRecord) (v : IsView scope u 0 old before decided inner x) where
+    view_reads : reading ≡ read_of_functions depth inner x
     view_reads = ap (read_of_view depth scope) v.is ∙ view_read depth scope v.view inner x v.unit v.leads
 
-    known_is : (f : LazyFunctions R) → known_by view.state f ≡ known_functions f
-    known_is f = functions_by_view scope.file.sections u answered v.view view.state f decided before.view.right v.is
+    known_is : (f : LazyFunctions R) → known_by old.view.state f ≡ known_functions f
+    known_is f = functions_by_view scope.file.sections u answered v.view old.view.state f decided before.view.right v.is
 
-    pub view_after : (result : Result (Unit {0}) Error) (new : LazyFunctions R) → AfterReadingFunctions shares depth inner x result old new → AfterReadingView shares depth scope u view result old new
-    view_after result new a = record {
-      right = functions_keep scope u 0 entries before decided inner x v new a.right;
+    pub view_gives : (result : Result (Unit {0}) Error) → ExactlyUnlessOom (λ y. y) result (read_of_functions depth inner x) → ExactlyUnlessOom (λ y. y) result reading
+    view_gives result gives = subst (ExactlyUnlessOom (λ y. y) result) (sym view_reads) gives
+
+    pub view_after : {result : Result (Unit {0}) Error} {new : LazyFunctions R} → KeepsReadFunctions shares depth inner x result old.functions new → AfterReadingView shares depth scope u result old (with_functions new)
+    view_after {result} {new} a = record {
+      view = refl;
       stay = a.stay;
-      known = subst (λ r. AfterReadingOf depth r result false (known_by view.state old) false (known_by view.state new)) (sym view_reads)
-          (subst (λ k. AfterReadingOf depth (read_of_functions depth inner x) result false k false (known_by view.state new)) (sym (known_is old))
-          (subst (λ k. AfterReadingOf depth (read_of_functions depth inner x) result false (known_functions old) false k) (sym (known_is new)) a.known));
+      known = subst (λ r. AfterReadingOf depth r result false (known_by old.view.state old.functions) false (known_by old.view.state new)) (sym view_reads)
+          (subst (λ k. AfterReadingOf depth (read_of_functions depth inner x) result false k false (known_by old.view.state new)) (sym (known_is old.functions))
+          (subst (λ k. AfterReadingOf depth (read_of_functions depth inner x) result false (known_functions old.functions) false k) (sym (known_is new)) a.known));
       details = a.details;
-      no_memory = λ none. subst (λ r. IfErr result (λ e. r ≡ Err e)) (sym view_reads) (a.no_memory (functions_take_in scope u 0 entries before decided inner x v shares none));
+      no_memory = λ none. subst (λ r. IfErr result (λ e. r ≡ Err e)) (sym view_reads) (a.no_memory (functions_take_in scope u 0 old before decided inner x v shares none));
     }
 
 -- a unit that was decided by none where it was open, and whose functions were read then
-module _ {R : Type 0} (shares : Bool) (depth : ReadingDepth) (scope : Scope) (u : UnitRecord) (old mid : EntriesCache R) (f : LazyFunctions R) (before : AreEntriesOf scope u old) (given : KeepsAnswered shares scope u None (Ok tt) old mid) (result : Result (Unit {0}) Error)
-    (a : AfterReadingView shares depth scope u mid.view result mid.functions f) where
+module _ {R : Type 0} (shares : Bool) (depth : ReadingDepth) (scope : Scope) (u : UnitRecord) (old mid new : EntriesCache R) (before : AreEntriesOf scope u old) (given : KeepsAnswered shares scope u None (Ok tt) old mid) (result : Result (Unit {0}) Error)
+    (a : AfterReadingView shares depth scope u result mid new) where
   same : is_decided old.view.state ≡ true → mid ≡ old
   same h = (given.kept h).0
 
   abbrev d : Sections
   d = scope.file.sections
 
-  abbrev new : EntriesCache R
-  new = record { view = mid.view; functions = f }
+  answer_then : first_answer_of new ≡ first_answer_of mid
+  answer_then = ap (λ v. answer_of_view v) a.view
 
   shut_now : is_open d u (first_answer_of new) ≡ false
-  shut_now = not_open scope u 0 new a.right given.known
+  shut_now = ap (is_open d u) answer_then ∙ not_open scope u 0 mid given.right given.known
 
   -- of what was known of a unit that wasn't open
   was_decided : IsDecidedAndReady depth (is_open d u (first_answer_of old)) (known_by old.view.state old.functions) → is_decided old.view.state ≡ true
@@ -194,12 +197,15 @@ module _ {R : Type 0} (shares : Bool) (depth : ReadingDepth) (scope : Scope) (u 
   still_ready : IsDecidedAndReady depth (is_open d u (first_answer_of old)) (known_by old.view.state old.functions) → IsDecidedAndReady depth false (known_by mid.view.state mid.functions)
   still_ready k = (refl, subst (λ (v : EntriesCache R). IsReadyFor depth (known_by v.view.state v.functions)) (sym (same (was_decided k))) k.1)
 
+  -- the view is as it was
+  with_view : new ≡ record { view = mid.view; functions = new.functions }
+  with_view = ap (λ v. record { view = v; functions = new.functions }) a.view
+
   pub unit_after : AfterReadingUnit shares depth scope u result old new
   unit_after = record {
-    right = a.right;
-    answer = λ _. given.answer;
-    begun = inr given.answer;
-    stay = λ was. entries_then old mid f (same was) a.stay;
+    answer = λ _. answer_then ∙ given.answer;
+    begun = inr (answer_then ∙ given.answer);
+    stay = λ was. subst (StayEntries old) (sym with_view) (entries_then old mid new.functions (same was) a.stay);
     known = record {
       read = a.known.read;
       whole = λ h. a.known.whole (subst (λ (v : EntriesCache R). IsReadBy depth (known_by v.view.state v.functions)) (sym (same (read_decided depth old.view.state old.functions h))) h);
@@ -208,7 +214,8 @@ module _ {R : Type 0} (shares : Bool) (depth : ReadingDepth) (scope : Scope) (u 
       exact = λ k. a.known.exact (still_ready k) ∙ ap (λ x. read_of_view depth scope (verdict d u x)) given.answer;
       same = λ k. a.known.same (still_ready k) ∙ ap (λ (v : EntriesCache R). known_by v.view.state v.functions) (same (was_decided k));
     };
-    details = λ is offset. functions_learn_none scope u offset old mid f before given.functions same a.stay (a.details is);
+    details = λ is offset. subst (λ (w : EntriesCache R). knows_detail offset (known_by w.view.state w.functions) ≡ true → knows_detail offset (known_by old.view.state old.functions) ≡ true) (sym with_view)
+        (functions_learn_none scope u offset old mid new.functions before given.functions same a.stay (a.details is));
     no_memory = λ none. subst (λ x. IfErr result (λ e. read_of_view depth scope (verdict d u x) ≡ Err e)) given.answer
-        (a.no_memory (subst (λ x. functions_in_take_memory shares scope u x ≡ false) (decided_if_not d u (first_answer_of new) None shut_now) none));
+        (a.no_memory (subst (λ x. functions_in_take_memory shares scope u x ≡ false) (decided_if_not d u (first_answer_of new) None shut_now ∙ answer_then) none));
   }

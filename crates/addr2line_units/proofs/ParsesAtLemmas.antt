@@ -1,7 +1,8 @@
 -- What a parse of functions leaves of the unit of a number (on specs/ParsesAfter.antt and
 -- specs/UnitsStored.antt).
-use Rattle.addr2line_units.proofs.Common.{◌≡◌, ◌∙◌, inl, inr, ℕ, zero, suc, ◌<◌, arith, Bool, true, false, List, [], ◌∷◌, length, get_or, slice_get, Option, Some, None, option_map, Result, Ok, Err, refl, sym, ap, subst, set, slice_get-map, slice_get_past, slice_get_read, IfErr, OnOk, Error, Sections, UnitRecord, Scope, FramesStop, ReadingDepth, UnitCache, EntriesCache, first_answer_of, has_entries, known_by, known_in, answers_in, is_decided, was_checked, FindsNothing, LookupStop, answer_of, IsReadyFor, parse_of_takes_memory, parse_takes_memory, read_of_number, read_of_unit, is_open_at, AreUnits, as_units_state, UnitsState, FirstAnswers, is_open}
+use Rattle.addr2line_units.proofs.Common.{◌≡◌, ◌∙◌, inl, inr, ℕ, zero, suc, ◌<◌, arith, Bool, true, false, List, [], ◌∷◌, length, get_or, slice_get, Option, Some, None, option_map, Result, Ok, Err, refl, sym, ap, subst, set, slice_get-map, slice_get_past, slice_get_read, IfErr, OnOk, Error, Sections, UnitRecord, Scope, FramesStop, ReadingDepth, CachedUnit, EntriesCache, first_answer_of, has_entries, known_by, known_in, answers_in, is_decided, was_checked, FindsNothing, LookupStop, answer_of, IsReadyFor, parse_of_takes_memory, parse_takes_memory, read_of_number, read_of_unit, is_open_at, AreUnits, as_units_state, UnitsState, FirstAnswers, is_open}
 use Rattle.std.specs.Prelude.{IfSome, unwrap_or}
+use Rattle.addr2line_units.specs.CacheAfter.{AfterEntries}
 use Rattle.addr2line_units.specs.ParsesAfter.{AfterReadingAt, AfterReadingUnit}
 use Rattle.addr2line_units.specs.EntriesStayKnown.{IsReadBy, StaysKnownOf}
 use Rattle.addr2line_units.proofs.LoadsAnswerLemmas.{answered_all, answers_stay, decided_if_not, checked_waits}
@@ -54,20 +55,20 @@ module _ (us : List UnitRecord) (answers : FirstAnswers) (n : ℕ) where
         of_unit o = elim o [ None ↦ false | Some x ↦ is_open d x (answer_of answers n) ]
 
 -- the first answer and what is known of the unit of a number, by what is cached of it
-module _ {R : Type 0} (vs : List (UnitCache R)) (n : ℕ) (v : UnitCache R) (there : slice_get vs n ≡ Some v) where
+module _ {R : Type 0} (vs : List (CachedUnit R)) (n : ℕ) (v : CachedUnit R) (there : slice_get vs n ≡ Some v) where
   answer_there : answer_of (answers_in vs) n ≡ first_answer_of v.entries
-  answer_there = ap (λ o. unwrap_or o None) (slice_get-map (λ (x : UnitCache R). first_answer_of x.entries) vs n ∙ ap (option_map (λ (x : UnitCache R). first_answer_of x.entries)) there)
+  answer_there = ap (λ o. unwrap_or o None) (slice_get-map (λ (x : CachedUnit R). first_answer_of x.entries) vs n ∙ ap (option_map (λ (x : CachedUnit R). first_answer_of x.entries)) there)
 
   known_there : slice_get (known_in vs) n ≡ Some (known_by v.entries.view.state v.entries.functions)
-  known_there = slice_get-map (λ (x : UnitCache R). known_by x.entries.view.state x.entries.functions) vs n ∙ ap (option_map (λ (x : UnitCache R). known_by x.entries.view.state x.entries.functions)) there
+  known_there = slice_get-map (λ (x : CachedUnit R). known_by x.entries.view.state x.entries.functions) vs n ∙ ap (option_map (λ (x : CachedUnit R). known_by x.entries.view.state x.entries.functions)) there
 
 -- nothing is changed of all where it isn't of one
-known_stays : {R : Type 0} (vs : List (UnitCache R)) (n : ℕ) (v w : UnitCache R) → n < length vs → v ≡ get_or vs n v → known_by w.entries.view.state w.entries.functions ≡ known_by v.entries.view.state v.entries.functions → known_in (set vs n w) ≡ known_in vs
+known_stays : {R : Type 0} (vs : List (CachedUnit R)) (n : ℕ) (v w : CachedUnit R) → n < length vs → v ≡ get_or vs n v → known_by w.entries.view.state w.entries.functions ≡ known_by v.entries.view.state v.entries.functions → known_in (set vs n w) ≡ known_in vs
 known_stays [] n v w h at same = absurd (omega (arith, h))
-known_stays (x ∷ vs) zero v w h at same = ap (λ k. k ∷ known_in vs) (same ∙ ap (λ (c : UnitCache _). known_by c.entries.view.state c.entries.functions) at)
+known_stays (x ∷ vs) zero v w h at same = ap (λ k. k ∷ known_in vs) (same ∙ ap (λ (c : CachedUnit _). known_by c.entries.view.state c.entries.functions) at)
 known_stays (x ∷ vs) (suc n) v w h at same = ap (λ ks. known_by x.entries.view.state x.entries.functions ∷ ks) (known_stays vs n v w (omega (arith, h)) at same)
 
-module _ {R : Type 0} {scope : Scope} {held : List (UnitCache R)} {last : FramesStop} (i : AreUnits scope held last) (n : ℕ) (shares : Bool) (depth : ReadingDepth) (steps : ℕ) (was : LookupStop) where
+module _ {R : Type 0} {scope : Scope} {held : List (CachedUnit R)} {last : FramesStop} (i : AreUnits scope held last) (n : ℕ) (shares : Bool) (depth : ReadingDepth) (steps : ℕ) (was : LookupStop) where
   abbrev d : Sections
   d = scope.file.sections
 
@@ -86,8 +87,8 @@ module _ {R : Type 0} {scope : Scope} {held : List (UnitCache R)} {last : Frames
     none_known =
         let past = slice_get_none us n none in
         let many = as_many i in
-        slice_get-map (λ (x : UnitCache R). known_by x.entries.view.state x.entries.functions) held n
-        ∙ ap (option_map (λ (x : UnitCache R). known_by x.entries.view.state x.entries.functions)) (slice_get_past held n (omega (arith, past, many)))
+        slice_get-map (λ (x : CachedUnit R). known_by x.entries.view.state x.entries.functions) held n
+        ∙ ap (option_map (λ (x : CachedUnit R). known_by x.entries.view.state x.entries.functions)) (slice_get_past held n (omega (arith, past, many)))
 
     pub none_after : AfterReadingAt shares depth n (Ok tt) old (as_units_state scope held steps FindsNothing)
     none_after = record {
@@ -106,15 +107,18 @@ module _ {R : Type 0} {scope : Scope} {held : List (UnitCache R)} {last : Frames
       no_memory = λ takes. tt;
     }
 
-  module _ {u : UnitRecord} (there : slice_get us n ≡ Some u) {c : UnitCache R} (at : c ≡ get_or held n c) {w : EntriesCache R} {result : Result (Unit {0}) Error} (a : AfterReadingUnit shares depth scope u result c.entries w) where
+  module _ {u : UnitRecord} (there : slice_get us n ≡ Some u) {c : CachedUnit R} (at : c ≡ get_or held n c) {after : CachedUnit R} {result : Result (Unit {0}) Error} (left : AfterEntries (AfterReadingUnit shares depth scope u result) scope u c after) where
     abbrev v : EntriesCache R
     v = c.entries
 
-    abbrev with_entries : UnitCache R
-    with_entries = record c { entries = w }
+    abbrev w : EntriesCache R
+    w = after.entries
 
-    abbrev now : List (UnitCache R)
-    now = set held n with_entries
+    a : AfterReadingUnit shares depth scope u result v w
+    a = left.entries
+
+    abbrev now : List (CachedUnit R)
+    now = set held n after
 
     within : n < length held
     within = cache_within i n there
@@ -122,20 +126,20 @@ module _ {R : Type 0} {scope : Scope} {held : List (UnitCache R)} {last : Frames
     held_there : slice_get held n ≡ Some c
     held_there = slice_get_read held (length held) n c refl within at
 
-    now_there : slice_get now n ≡ Some with_entries
-    now_there = got_set held n with_entries within
+    now_there : slice_get now n ≡ Some after
+    now_there = got_set held n after within
 
     answer_was : answer_of (answers_in held) n ≡ first_answer_of v
     answer_was = answer_there held n c held_there
 
     answer_now : answer_of (answers_in now) n ≡ first_answer_of w
-    answer_now = answer_there now n with_entries now_there
+    answer_now = answer_there now n after now_there
 
     known_was : slice_get (known_in held) n ≡ Some (known_by v.view.state v.functions)
     known_was = known_there held n c held_there
 
     known_now : slice_get (known_in now) n ≡ Some (known_by w.view.state w.functions)
-    known_now = known_there now n with_entries now_there
+    known_now = known_there now n after now_there
 
     open_was : is_open_at d us (answers_in held) n ≡ is_open d u (first_answer_of v)
     open_was = open_is us (answers_in held) n u there (first_answer_of v) answer_was d
@@ -153,8 +157,8 @@ module _ {R : Type 0} {scope : Scope} {held : List (UnitCache R)} {last : Frames
     stays_known : is_open_at d us (answers_in held) n ≡ false → StaysKnownOf n (known_in held) (known_in now)
     stays_known shut = record {
       at = λ probe q.
-          let has = sym (ap (λ o. unwrap_or (option_map (λ (x : UnitCache R). has_entries probe x.entries) o) true) held_there) ∙ sym (known_is probe held n) ∙ q in
-          known_is probe now n ∙ ap (λ o. unwrap_or (option_map (λ (x : UnitCache R). has_entries probe x.entries) o) true) now_there
+          let has = sym (ap (λ o. unwrap_or (option_map (λ (x : CachedUnit R). has_entries probe x.entries) o) true) held_there) ∙ sym (known_is probe held n) ∙ q in
+          known_is probe now n ∙ ap (λ o. unwrap_or (option_map (λ (x : CachedUnit R). has_entries probe x.entries) o) true) now_there
           ∙ entries_more probe v w (a.stay (decided (known_was_checked probe v has) shut)) has;
       whole = λ kind q.
           let ready = subst (λ o. IfSome o (IsReadyFor kind)) known_was q in
@@ -169,19 +173,19 @@ module _ {R : Type 0} {scope : Scope} {held : List (UnitCache R)} {last : Frames
     ]
 
     same_lines_now : HaveSameLines held now
-    same_lines_now = same_lines_set held n c with_entries at refl
+    same_lines_now = same_lines_set held n c after at left.lines
 
     pub after_there : AfterReadingAt shares depth n result old (as_units_state scope now steps FindsNothing)
     after_there = record {
       stays = only_entries scope held (all_entries i) now same_lines_now steps was;
-      answers = λ ne. answered_all d us held n u c with_entries None (unit_within i n there) within (unit_is i n there) at (a.answer ne);
+      answers = λ ne. answered_all d us held n u c after None (unit_within i n there) within (unit_is i n there) at (a.answer ne);
       begun = elim a.begun [
-        | inl same ↦ inl (answers_stay held n c with_entries within at same)
-        | inr more ↦ inr (answered_all d us held n u c with_entries None (unit_within i n there) within (unit_is i n there) at more)
+        | inl same ↦ inl (answers_stay held n c after within at same)
+        | inr more ↦ inr (answered_all d us held n u c after None (unit_within i n there) within (unit_is i n there) at more)
       ];
       known = stays_known;
-      others = λ k ne. known_unchanged held now k (others_stay held n k with_entries ne);
-      details = λ is k offset. set_details held n c with_entries within at offset (a.details is offset) k;
+      others = λ k ne. known_unchanged held now k (others_stay held n k after ne);
+      details = λ is k offset. set_details held n c after within at offset (a.details is offset) k;
       read = subst (λ o. OnOk result (IfSome o (IsReadBy depth))) (sym known_now) a.known.read;
       whole = λ h. a.known.whole (subst (λ o. IfSome o (IsReadBy depth)) known_was h);
       ready = λ ne. let k = a.known.ready ne in (open_now ∙ k.0, subst (λ o. IfSome o (IsReadyFor depth)) (sym known_now) k.1);
@@ -189,7 +193,7 @@ module _ {R : Type 0} {scope : Scope} {held : List (UnitCache R)} {last : Frames
       exact = λ k. a.known.exact (sym open_was ∙ k.0, subst (λ o. IfSome o (IsReadyFor depth)) known_was k.1) ∙ sym reading_was;
       same = λ k.
           let shut = sym open_was ∙ k.0 in
-          (answers_stay held n c with_entries within at (still_answer shut), known_stays held n c with_entries within at (a.known.same (shut, subst (λ o. IfSome o (IsReadyFor depth)) known_was k.1)));
+          (answers_stay held n c after within at (still_answer shut), known_stays held n c after within at (a.known.same (shut, subst (λ o. IfSome o (IsReadyFor depth)) known_was k.1)));
       no_memory = λ none. subst (λ given. IfErr result (λ e. given ≡ Err e)) (sym reading_was)
           (a.no_memory (sym (takes_is us (answers_in now) n u there (first_answer_of w) answer_now shares scope) ∙ none));
     }

@@ -1,6 +1,6 @@
 -- What is cached of the entries of a unit, and read of them, in a parse of functions (on
 -- specs/ParsesAfter.antt).
-use Rattle.addr2line_units.proofs.Common.{◌≡◌, ℕ, zero, suc, ◌<◌, Bool, true, false, not, ◌&&◌, ◌||◌, List, [], ◌∷◌, length, get_or, slice_get, Option, Some, None, Result, Ok, Err, is_ok, is_some, refl, ap, sym, subst, ◌∙◌, arith, set, OnOk, AllByRecursion, Error, ◌>>=◌, ExactlyUnlessOomIf, fault_of, UnitRecord, Detail, FunctionRange, entries_of, functions_of, CachedFunction, HasDetail, IsDetailOf, details_fault, details_take_memory, read_fault, Scope, LazyFunctions, ReadingDepth, UnitCache, EntriesCache, answer_of, read_of_functions, read_of_number, read_of_unit, read_of_view, StayEntries, first_answer_of, AreFunctionsOf, StayFunctions, details_at, functions_fault, cached_functions, is_cached_fault, reading_takes_memory, were_read, answers_in, known_functions, View, view_scope}
+use Rattle.addr2line_units.proofs.Common.{◌≡◌, ℕ, zero, suc, ◌<◌, Bool, true, false, not, ◌&&◌, ◌||◌, List, [], ◌∷◌, length, get_or, slice_get, Option, Some, None, Result, Ok, Err, is_ok, is_some, refl, ap, sym, subst, ◌∙◌, arith, set, OnOk, AllByRecursion, Error, ◌>>=◌, ExactlyUnlessOomIf, fault_of, UnitRecord, Detail, FunctionRange, entries_of, functions_of, CachedFunction, HasDetail, IsDetailOf, details_fault, details_take_memory, read_fault, Scope, LazyFunctions, ReadingDepth, CachedUnit, EntriesCache, answer_of, read_of_functions, read_of_number, read_of_unit, read_of_view, StayEntries, first_answer_of, AreFunctionsOf, StayFunctions, details_at, functions_fault, cached_functions, is_cached_fault, reading_takes_memory, were_read, answers_in, known_functions, View, view_scope}
 use Rattle.addr2line_lines.specs.Details.{detail_takes_memory as takes}
 use Rattle.addr2line_units.specs.declared.entries.LazyFunctions.TheVariants as lazy
 use Rattle.addr2line_units.specs.declared.parses.ReadingDepth.TheVariants as depths
@@ -68,7 +68,7 @@ details_cached shares scope view (lazy.Read t) r right h gives =
 
 module _ {R : Type 0} where
   -- the unit of a number that was put back
-  pub got_set : (vs : List (UnitCache R)) (n : ℕ) (w : UnitCache R) → n < length vs → slice_get (set vs n w) n ≡ Some w
+  pub got_set : (vs : List (CachedUnit R)) (n : ℕ) (w : CachedUnit R) → n < length vs → slice_get (set vs n w) n ≡ Some w
   got_set [] n w h = absurd (omega arith)
   got_set (x ∷ vs) zero w h = refl
   got_set (x ∷ vs) (suc n) w h = got_set vs n w (omega arith)
@@ -83,7 +83,7 @@ entries_then {R} v mid f same stay =
     subst (λ (x : EntriesCache R). StayEntries x (record { view = mid.view; functions = f })) same (record { answer = refl; view = λ e. refl; functions = stay })
 
 -- what is read of the unit of a number
-pub number_is : {R : Type 0} (r : ReadingDepth) (scope : Scope) (us : List UnitRecord) (vs : List (UnitCache R)) (n : ℕ) (u : UnitRecord) (v : UnitCache R) → n < length us → n < length vs → u ≡ get_or us n u → v ≡ get_or vs n v
+pub number_is : {R : Type 0} (r : ReadingDepth) (scope : Scope) (us : List UnitRecord) (vs : List (CachedUnit R)) (n : ℕ) (u : UnitRecord) (v : CachedUnit R) → n < length us → n < length vs → u ≡ get_or us n u → v ≡ get_or vs n v
     → read_of_number r scope us (answers_in vs) n ≡ read_of_unit r scope u (first_answer_of v.entries)
 number_is r scope us vs n u v h k e f =
     ap (λ (o : Option UnitRecord). by_unit o) (got_unit us n u h e) ∙ ap (read_of_unit r scope u) (answer_at vs n v k f)

@@ -9,6 +9,7 @@ use Rattle.addr2line_units.specs.declared.parses.ReadingDepth.TheVariants.{Detai
 use Rattle.addr2line_units.specs.ParsesLaws.{IsReached}
 use Rattle.addr2line_units.proofs.EntriesFunctionLemmas.{function_is}
 use Rattle.addr2line_units.proofs.ParsesLemmas.{decided_verdict}
+use Rattle.addr2line_units.specs.EntriesFrames.{frames_by_lines}
 
 -- where the entry of a range begins is among those of all
 once_in : (offset : ℕ) (offsets : List ℕ) (z : ℕ) → (offset ≡ z) ⊎ In z offsets → In z (once_before offset offsets)
@@ -70,15 +71,15 @@ module _ (scope : Scope) (probe : ℕ) where
   -- the frames in a unit whose view, functions, details and lines can be read
   unit_reached : (u : IndexedUnit) (answer : Option (Option Sections)) (view : Result View Error) → verdict scope.file.sections u.unit answer ≡ Some view → read_of_view Details scope (Some view) ≡ Ok tt → (table : LineTable) → unit_lines scope.file.sections u.unit ≡ Ok table
       → (frames : List FrameRecord) × (frames_in scope u answer probe ≡ Ok (Some frames))
-  unfolding frames_in
+  unfolding frames_by_lines
   unit_reached u answer (Err x) e read table lines = absurd cc
   unit_reached u answer (Ok v) e read table lines =
       let found = function_ok (view_scope scope v) v.unit probe read in
       let function : function_in scope u.unit answer probe ≡ Ok found.0 = ap (function_by scope probe) e ∙ found.1 in
       let closed : is_open scope.file.sections u.unit answer ≡ false = ap is_none e in (
         found_frames table.files u.language found.0 (location_at probe table),
-        ap (λ (b : Bool). if b then Ok None else (frames_by scope u probe (function_in scope u.unit answer probe) >>= λ frames. Ok (Some frames))) closed
-            ∙ ap (λ (r : Result (Option FoundFunction) Error). frames_by scope u probe r >>= λ frames. Ok (Some frames)) function
+        ap (λ (b : Bool). if b then Ok None else (frames_by u.language (unit_lines scope.file.sections u.unit) probe (function_in scope u.unit answer probe) >>= λ frames. Ok (Some frames))) closed
+            ∙ ap (λ (r : Result (Option FoundFunction) Error). frames_by u.language (unit_lines scope.file.sections u.unit) probe r >>= λ frames. Ok (Some frames)) function
             ∙ ap (λ (r : Result LineTable Error). (r >>= λ t. Ok (found_frames t.files u.language found.0 (location_at probe t))) >>= λ frames. Ok (Some frames)) lines,
       )
 

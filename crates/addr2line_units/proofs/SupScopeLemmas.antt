@@ -1,13 +1,14 @@
 -- The units that references lead to in a context, and what is cached of their entries at first (on
 -- specs/UnitsIndexLaws.antt, specs/FramesLookup.antt and specs/UnitsCached.antt).
-use Rattle.addr2line_units.proofs.Common.{◌≡◌, ◌∙◌, ap, sym, refl, subst, Bool, true, false, List, [], ◌∷◌, ◌++◌, filter_map, map, Option, Some, None, option_map, is_some, IfSome, IfOk, Result, Ok, Err, if◌then◌else◌, DwLang, Error, Range, Costed, free, ◌>>=◌, result_map, UnitHeaderFields, Sections, SupSections, UnitRecord, unit_record_of, all_headers, read_all, AreInOrder, IsFileInOrder, IsScope, Scope, UnitArange, UnitCache, EntriesCache, ViewState, HaveLinesOf, indexed_units, main_scope, AreEntriesOf, AreFresh, first_answer_of, AreFunctionsOf, AreFreshOf, HaveEntriesOf, answers_in, answer_in, verdict_in, was_checked, by_abbreviations, units_of, aranges_in, indexed_of, unit_records, RangedUnit, listed_in_unit, is_type_unit, ranged_units, unit_ranges_from, unit_of_header, unless_faulty, FirstAnswers, View, verdict, view_scope}
+use Rattle.addr2line_units.proofs.Common.{◌≡◌, ◌∙◌, ap, sym, refl, subst, Bool, true, false, List, [], ◌∷◌, ◌++◌, filter_map, map, Option, Some, None, option_map, IfSome, Result, Ok, Err, if◌then◌else◌, DwLang, Error, Range, Costed, free, ◌>>=◌, result_map, UnitHeaderFields, Sections, SupSections, UnitRecord, unit_record_of, all_headers, read_all, AreInOrder, IsFileInOrder, IsScope, Scope, UnitArange, CachedUnit, HaveLinesOf, indexed_units, main_scope, AreFreshOf, HaveCachesOf, answers_in, by_abbreviations, units_of, aranges_in, indexed_of, unit_records, RangedUnit, listed_in_unit, is_type_unit, ranged_units, unit_ranges_from, unit_of_header, unless_faulty, FirstAnswers}
 use Rattle.std.specs.Prelude.{option_to_list}
 use Rattle.std.specs.Result.{result_ok}
 use Rattle.gimli.proofs.HeaderOrder.{headers_in_order}
 use Rattle.addr2line_lines.proofs.UnitOrder.{kept_in_order, record_header, units_read}
-use Rattle.addr2line_units.specs.declared.unit.ViewState.TheVariants as states
 use Rattle.addr2line_units.specs.UnitsIndex.{UnitIndex, index_units, sup_sections, sup_unit_of_header, sup_units}
-use Rattle.addr2line_units.proofs.LoadsAnswerLemmas.{unread_are}
+use Rattle.addr2line_units.specs.EntriesOwn.{UnitInScope}
+use Rattle.addr2line_units.specs.UnitsCached.{AreOfUnit, IsFresh}
+use Rattle.addr2line_units.proofs.EntriesOwnLemmas.{fresh_are_of, no_answer}
 
 -- the unit of a header has it
 module _ (d : Sections) (aranges : List UnitArange) (h : UnitHeaderFields) (x : RangedUnit) where
@@ -130,64 +131,34 @@ module _ (d : Sections) (m : UnitIndex) where
       of_file (Some s) = sup_units_in_order e
 
 -- the records of units that stand beside their lines
-pub records_beside : {R : Type 0} (d : Sections) (us : List UnitRecord) (rs : List (UnitCache R)) → HaveLinesOf d us rs → unit_records (indexed_units us rs) ≡ us
+pub records_beside : {R : Type 0} (d : Sections) (us : List UnitRecord) (rs : List (CachedUnit R)) → HaveLinesOf d us rs → unit_records (indexed_units us rs) ≡ us
 records_beside d [] [] own = refl
 records_beside d [] (r ∷ rs) own = absurd own
 records_beside d (u ∷ us) [] own = absurd own
 records_beside d (u ∷ us) (r ∷ rs) own = ap (λ (vs : List UnitRecord). u ∷ vs) (records_beside d us rs own.1)
 
 -- before a unit is looked at nothing is cached of its view
-no_answer : {R : Type 0} (s : ViewState R) → was_checked s ≡ false → answer_in s ≡ None
-no_answer states.Undecided e = refl
-no_answer states.Open e = absurd cc
-no_answer states.Main e = absurd cc
-no_answer (states.Unnamed f) e = absurd cc
-no_answer (states.Answered a) e = absurd cc
+-- a unit that wasn't looked at is cached for any
+fresh_of_unit : {R : Type 0} (scope : Scope) (u : UnitRecord) (c : CachedUnit R) → IsFresh c → AreOfUnit scope u c
+fresh_of_unit scope u c fresh = subst (λ (o : Option UnitInScope). IfSome o (λ x. x ≡ record { scope = scope; unit = u })) (sym fresh.unit) tt
 
-no_verdict : {R : Type 0} (d : Sections) (u : UnitRecord) (s : ViewState R) → was_checked s ≡ false → verdict_in d u s ≡ None
-no_verdict d u states.Undecided e = refl
-no_verdict d u states.Open e = absurd cc
-no_verdict d u states.Main e = absurd cc
-no_verdict d u (states.Unnamed f) e = absurd cc
-no_verdict d u (states.Answered a) e = absurd cc
-
--- what nobody has asked for is that of every unit
-fresh_are_of : {R : Type 0} (scope : Scope) (u : UnitRecord) (v : EntriesCache R) → IsScope scope → AreFresh v → AreEntriesOf scope u v
-fresh_are_of {R} scope u v order fresh = record {
-  in_order = order;
-  view = record {
-    right = subst (λ (kept : Option (Option (Result View Error))). IfSome kept (λ k. k ≡ verdict scope.file.sections u (first_answer_of v))) (sym (no_verdict scope.file.sections u v.view.state fresh.view)) tt;
-    waited = λ e. absurd (none_some (ap (λ (a : Option (Option Sections)). is_some a) (sym (no_answer v.view.state fresh.view)) ∙ e));
-  };
-  functions = of_verdict (verdict scope.file.sections u (first_answer_of v));
-  unread = λ e. fresh.functions;
-}
-  where
-    none_some : false ≡ true → ⊥
-    none_some e = cc
-
-    of_verdict : (view : Option (Result View Error)) → IfSome view (λ x. IfOk x (λ y. AreFunctionsOf (view_scope scope y) y.unit v.functions))
-    of_verdict None = tt
-    of_verdict (Some (Err e)) = tt
-    of_verdict (Some (Ok y)) = unread_are (view_scope scope y) y.unit v.functions fresh.functions
-
-pub fresh_entries : {R : Type 0} (scope : Scope) (us : List UnitRecord) (vs : List (UnitCache R)) → IsScope scope → AreFreshOf us vs → HaveEntriesOf scope us vs
-fresh_entries scope [] [] order fresh = tt
-fresh_entries scope [] (v ∷ vs) order fresh = absurd fresh
-fresh_entries scope (u ∷ us) [] order fresh = absurd fresh
-fresh_entries scope (u ∷ us) (v ∷ vs) order fresh = (fresh_are_of scope u v.entries order fresh.0, fresh_entries scope us vs order fresh.1)
+pub fresh_caches : {R : Type 0} (scope : Scope) (us : List UnitRecord) (cs : List (CachedUnit R)) → IsScope scope → HaveLinesOf scope.file.sections us cs → AreFreshOf us cs → HaveCachesOf scope us cs
+fresh_caches scope [] [] order lines fresh = tt
+fresh_caches scope [] (c ∷ cs) order lines fresh = absurd fresh
+fresh_caches scope (u ∷ us) [] order lines fresh = absurd fresh
+fresh_caches scope (u ∷ us) (c ∷ cs) order lines fresh = (record { lines = lines.0; entries = fresh_are_of scope u c.entries order fresh.0.entries; unit = fresh_of_unit scope u c fresh.0 }, fresh_caches scope us cs order lines.1 fresh.1)
 
 -- no unit has an answer then
-pub no_answers : {R : Type 0} (us : List UnitRecord) (vs : List (UnitCache R)) → AreFreshOf us vs → answers_in vs ≡ map (λ _. None) us
+pub no_answers : {R : Type 0} (us : List UnitRecord) (vs : List (CachedUnit R)) → AreFreshOf us vs → answers_in vs ≡ map (λ _. None) us
 no_answers [] [] fresh = refl
 no_answers [] (v ∷ vs) fresh = absurd fresh
 no_answers (u ∷ us) [] fresh = absurd fresh
 no_answers (u ∷ us) (v ∷ vs) fresh =
-    ap (λ (a : Option (Option Sections)). a ∷ answers_in vs) (no_answer v.entries.view.state fresh.0.view)
+    ap (λ (a : Option (Option Sections)). a ∷ answers_in vs) (no_answer v.entries.view.state fresh.0.entries.view)
     ∙ ap (λ (xs : FirstAnswers). None ∷ xs) (no_answers us vs fresh.1)
 
--- one more unit of which nobody has asked for anything
-pub fresh_push : {R : Type 0} (us : List UnitRecord) (vs : List (UnitCache R)) (u : UnitRecord) (v : UnitCache R) → AreFreshOf us vs → AreFresh v.entries → AreFreshOf (us ++ u ∷ []) (vs ++ v ∷ [])
+-- one more unit that wasn't looked at
+pub fresh_push : {R : Type 0} (us : List UnitRecord) (vs : List (CachedUnit R)) (u : UnitRecord) (v : CachedUnit R) → AreFreshOf us vs → IsFresh v → AreFreshOf (us ++ u ∷ []) (vs ++ v ∷ [])
 fresh_push [] [] u v fresh one = (one, tt)
 fresh_push [] (w ∷ vs) u v fresh one = absurd fresh
 fresh_push (x ∷ us) [] u v fresh one = absurd fresh

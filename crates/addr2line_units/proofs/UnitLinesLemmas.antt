@@ -1,35 +1,42 @@
 -- The cached lines of a unit (on specs/UnitLinesCached.antt and specs/CacheAfter.antt).
-use Rattle.addr2line_units.proofs.Common.{◌≡◌, ◌⊎◌, ◌∙◌, ◌≤◌, inl, inr, ℕ, ap, arith, if◌then◌else◌, option_and_then, Bool, true, false, refl, IfErr, Result, Ok, Err, Some, subst, sym, false≢true, Error, OutOfMemory, Exactly, ExactlyUnlessOom, WasNotRefused, ◌>>=◌, Sections, UnitRecord, LineTable, location_at, unit_lines, LazyLines, LinesCache, AreLinesOf, cached_lines, cached_lines_result, is_uncached, lines_result, lines_take_memory, IndexedUnit, location_in, steps_in}
+use Rattle.addr2line_units.proofs.Common.{◌≡◌, ◌⊎◌, ◌∙◌, ◌≤◌, inl, inr, ℕ, ap, arith, Bool, true, false, refl, IfErr, Result, Ok, Err, Some, subst, sym, false≢true, Error, OutOfMemory, Exactly, ExactlyUnlessOom, WasNotRefused, ◌>>=◌, Sections, UnitRecord, LineTable, location_at, unit_lines, LazyLines, LinesCache, AreLinesOf, cached_lines, cached_lines_result, is_uncached, lines_result, lines_take_memory, IndexedUnit, location_in, steps_in}
 use Rattle.addr2line_units.specs.CacheAfter.{AfterLinesOf, CountsSteps}
-use Rattle.addr2line_units.specs.UnitLinesCached.{cached_steps, lines_or, location_or}
+use Rattle.addr2line_units.specs.UnitLinesCached.{cached_steps, lines_or, lines_result_or, location_or}
 use Rattle.addr2line_units.specs.declared.unit.LazyLines.TheVariants.{Unread, Absent, Read, Faulty}
 
 -- cached lines that are those of the unit, or their fault
 module _ (d : Sections) (u : UnitRecord) where
-  pub lines_are : (l : LazyLines) → AreLinesOf d u l → lines_or d u l ≡ lines_result d u
+  pub lines_are : (l : LazyLines) → AreLinesOf d u l → lines_or d u l ≡ unit_lines d u
   lines_are Unread h = refl
-  lines_are Absent h = ap (λ r. r >>= λ x. Ok (Some x)) (sym h)
-  lines_are (Read lines) h = ap (λ r. r >>= λ x. Ok (Some x)) (sym h)
-  lines_are (Faulty x) h = ap (λ r. r >>= λ x. Ok (Some x)) (sym h.0)
+  lines_are Absent h = sym h
+  lines_are (Read lines) h = sym h
+  lines_are (Faulty x) h = sym h.0
+
+  pub results_are : (l : LazyLines) → AreLinesOf d u l → lines_result_or d u l ≡ lines_result d u
+  results_are l h = ap (λ r. r >>= λ x. Ok (Some x)) (lines_are l h)
 
   -- the fault is never OutOfMemory
-  not_refused_lines : (l : LazyLines) → AreLinesOf d u l → WasNotRefused (cached_lines_result l)
+  pub not_refused_lines : (l : LazyLines) → AreLinesOf d u l → WasNotRefused (cached_lines_result l)
   not_refused_lines Unread h = tt
   not_refused_lines Absent h = tt
   not_refused_lines (Read lines) h = tt
   not_refused_lines (Faulty x) h = h.1
 
-  uncached_are : (l : LazyLines) → is_uncached l ≡ true → lines_or d u l ≡ lines_result d u
-  uncached_are l uncached = ap (λ b. if b then lines_result d u else cached_lines_result l) uncached
+  uncached_are : (l : LazyLines) → is_uncached l ≡ true → lines_or d u l ≡ unit_lines d u
+  uncached_are Unread h = refl
+  uncached_are Absent h = absurd cc
+  uncached_are (Read lines) h = absurd cc
+  uncached_are (Faulty x) h = absurd cc
+
+-- the fault of lines as they are cached is their fault
+fault_alone : (r : Result LineTable Error) (e : Error) → (r >>= λ x. Ok (Some x)) ≡ Err e → r ≡ Err e
+fault_alone (Ok x) e h = absurd cc
+fault_alone (Err y) e h = let same : y ≡ e = cc in ap (λ z. Err z) same
 
 -- the location in them is that in the unit, and so are the steps to it
 module _ (d : Sections) (x : IndexedUnit) (l : LazyLines) (own : AreLinesOf d x.unit l) where
   pub location_is : (probe : ℕ) → location_or d x.unit probe l ≡ location_in d probe (Some x)
-  location_is probe = ap (λ r. r >>= λ found. Ok (option_and_then (location_at probe) found)) (lines_are d x.unit l own) ∙ joined (unit_lines d x.unit)
-    where
-      joined : (r : Result LineTable Error) → ((r >>= λ table. Ok (Some table)) >>= λ found. Ok (option_and_then (location_at probe) found)) ≡ (r >>= λ table. Ok (location_at probe table))
-      joined (Ok table) = refl
-      joined (Err e) = refl
+  location_is probe = ap (λ r. r >>= λ found. Ok (location_at probe found)) (lines_are d x.unit l own)
 
   pub steps_are : {found : Bool} {before after : ℕ} → CountsSteps (cached_steps l) found before after → CountsSteps (steps_in d (Some x)) found before after
   steps_are {before} {after} counts =
@@ -60,8 +67,8 @@ module _ {shares : Bool} {d : Sections} {u : UnitRecord} {old new : LinesCache} 
   lines_given x y a = record { read = a.read; stay = a.stay; known = a.known; memory = a.memory; no_memory = a.no_memory }
 
   -- their fault is told, if they have one
-  pub lines_told : (r : Result (Unit {0}) Error) → AfterLinesOf {X = Unit {0}} shares d u (Ok tt) old new → cached_lines_result new.lines ≡ lines_or d u old.lines → Exactly (λ _. cached_lines new.lines) r (cached_lines_result new.lines)
-      → ExactlyUnlessOom (λ _. cached_lines new.lines) r (lines_or d u old.lines) × AfterLinesOf shares d u r old new
+  pub lines_told : (r : Result (Unit {0}) Error) → AfterLinesOf {X = Unit {0}} shares d u (Ok tt) old new → cached_lines_result new.lines ≡ lines_result_or d u old.lines → Exactly (λ _. cached_lines new.lines) r (cached_lines_result new.lines)
+      → ExactlyUnlessOom (λ _. cached_lines new.lines) r (lines_result_or d u old.lines) × AfterLinesOf shares d u r old new
   lines_told (Ok x) a is told = (sym is ∙ told, lines_given tt x a)
   lines_told (Err e) a is told =
       let fault = sym is ∙ told in (
@@ -71,7 +78,7 @@ module _ {shares : Bool} {d : Sections} {u : UnitRecord} {old new : LinesCache} 
           stay = a.stay;
           known = (λ _. a.known, λ oom. as_before oom a.read);
           memory = λ _ not_oom. subst WasNotRefused told not_oom;
-          no_memory = λ _. fault;
+          no_memory = λ _. fault_alone (lines_or d u old.lines) e fault;
         },
       )
     where
@@ -88,7 +95,19 @@ module _ {shares : Bool} {d : Sections} {u : UnitRecord} {old new : LinesCache} 
     memory_after cached = a.memory cached (not_refused_lines d u new.lines own_after)
 
     pub no_memory_after : lines_take_memory shares u ≡ false → IfErr result (λ e. lines_result d u ≡ Err e)
-    no_memory_after none = subst (λ given. IfErr result (λ e. given ≡ Err e)) (lines_are d u old.lines own) (a.no_memory none)
+    no_memory_after none = of result (subst (λ given. IfErr result (λ e. given ≡ Err e)) (lines_are d u old.lines own) (a.no_memory none))
+      where
+        of : (r : Result X Error) → IfErr r (λ e. unit_lines d u ≡ Err e) → IfErr r (λ e. lines_result d u ≡ Err e)
+        of (Ok x) h = tt
+        of (Err e) h = ap (λ r. r >>= λ x. Ok (Some x)) h
+
+  -- what was cached, or else the unit's lines, is what is cached then, or else these
+  pub lines_or_stays : {X : Type 0} {result : Result X Error} → AfterLinesOf shares d u result old new → lines_or d u old.lines ≡ lines_or d u new.lines
+  lines_or_stays a = elim a.read [ inl same ↦ ap (lines_or d u) (sym same) | inr own ↦ by own (is_uncached old.lines) refl ]
+    where
+      by : AreLinesOf d u new.lines → (b : Bool) → is_uncached old.lines ≡ b → lines_or d u old.lines ≡ lines_or d u new.lines
+      by own true e = uncached_are d u old.lines e ∙ sym (lines_are d u new.lines own)
+      by own false e = ap (lines_or d u) (sym (a.stay.lines e))
 
 -- lines that weren't cached were parsed, or memory was refused
 module _ (shares : Bool) (d : Sections) (u : UnitRecord) (old : LinesCache) where
@@ -107,7 +126,7 @@ module _ (shares : Bool) (d : Sections) (u : UnitRecord) (old : LinesCache) wher
     stay = record { language = refl; lines = λ _. refl };
     known = (λ ne. absurd (ne oom), λ _. refl);
     memory = λ cached. absurd (false≢true (sym cached ∙ uncached));
-    no_memory = λ none. uncached_are d u old.lines uncached ∙ alone none;
+    no_memory = λ none. uncached_are d u old.lines uncached ∙ fault_alone (unit_lines d u) e (alone none);
   }
 
   -- lines that were cached stay

@@ -183,6 +183,7 @@ scope_in scope d u states.Main = refl
 scope_in scope d u (states.Unnamed e) = tt
 scope_in scope d u (states.Answered a) = answered_scope scope d u (as_sections a) (unboxed a.unit)
 
+-- references lead from a view as its split file says, if it is in one
 -- a unit that wasn't looked at, and needs no answer, has the main view
 first_scope : (scope : Scope) (d : Sections) (u : UnitRecord) → IfSome (verdict d u None) (λ view. IfOk view (λ x. scope ≡ view_scope scope x))
 first_scope scope d u = by (load_of_unit d 0 u)
@@ -192,7 +193,6 @@ first_scope scope d u = by (load_of_unit d 0 u)
     by (Ok (Some load)) = tt
     by (Err e) = tt
 
--- references lead from a view as its split file says, if it is in one
 pub scope_of_split : {R : Type 0} (scope : Scope) (split : Option Sections) (v : UnitView R) → split ≡ split_file_in v.state → (d : Sections) (u : UnitRecord) → IfSome (verdict_or d u v.state) (λ view. IfOk view (λ x. scope_by scope split ≡ view_scope scope x))
 scope_of_split {R} scope split v e d u = subst (λ p. IfSome (verdict_or d u v.state) (λ view. IfOk view (λ x. scope_by scope p ≡ view_scope scope x))) (sym e) (by v.state (scope_in scope d u v.state))
   where

@@ -1,8 +1,13 @@
 -- The unit of a number, what is cached of it, and the units when that is put back (on
 -- specs/UnitsStored.antt).
-use Rattle.addr2line_units.proofs.Common.{◌≡◌, ℕ, ◌<◌, nat_lt, ltb-false, ltb-true, true, false, List, length, get_or, slice_get, Some, None, refl, sym, ap, subst, ◌∙◌, set, length-map, get_or_from_slice_get, slice_get_past, slice_get_read, slice_get_within, UnitRecord, Scope, FramesStop, LinesCache, UnitCache, EntriesCache, CountsUnits, AreEntriesOf, first_answer_of, IsLendable, known_by, AreLinesOf, HaveLinesOf, is_parsed, HaveEntriesOf, IsCacheOf, LookupStop, AreUnits, as_units_state}
+use Rattle.addr2line_units.proofs.Common.{◌≡◌, ℕ, ◌<◌, nat_lt, ltb-false, ltb-true, true, false, List, length, get_or, slice_get, Option, Some, None, refl, sym, ap, subst, ◌∙◌, set, length-map, get_or_from_slice_get, slice_get_past, slice_get_read, slice_get_within, UnitRecord, Scope, FramesStop, LinesCache, CachedUnit, CountsUnits, AreEntriesOf, first_answer_of, IsLendable, known_by, AreLinesOf, HaveLinesOf, is_parsed, HaveEntriesOf, IsCacheOf, LookupStop, AreUnits, as_units_state}
 use Rattle.addr2line_units.specs.declared.frames.FramesStop.TheVariants as stops
-use Rattle.addr2line_units.proofs.UnitsCachedLemmas.{as_many_entries, cache_set, entries_at, entries_right, lines_right}
+use Rattle.std.specs.Prelude.{IfSome}
+use Rattle.addr2line_units.specs.CacheAfter.{WasLookedAt}
+use Rattle.addr2line_units.specs.EntriesOwn.{AreOwnEntries, CachedUnit, UnitInScope}
+use Rattle.addr2line_units.specs.UnitsCached.{AreOfUnit}
+use Rattle.addr2line_units.proofs.EntriesOwnLemmas.{looked_at_is_cache, own_entries}
+use Rattle.addr2line_units.proofs.UnitsCachedLemmas.{as_many_entries, cache_at, cache_set, entries_at, entries_right, lines_right}
 use Rattle.addr2line_units.proofs.UnitsLinesLemmas.{as_many_indexed, own_at}
 
 -- where references lead from the units, as the scope says that was asked for
@@ -21,7 +26,7 @@ module _ {scope seen : Scope} (is : seen ≡ scope) where
     pub none_got : false ≡ nat_lt n (length seen.file.units) → slice_get scope.file.units n ≡ None
     none_got past = subst (λ xs. slice_get xs n ≡ None) as_indexed_units (slice_get_past seen.file.units n (ltb-false _ _ (sym past)))
 
-module _ {R : Type 0} {scope : Scope} {held : List (UnitCache R)} {last : FramesStop} (i : AreUnits scope held last) where
+module _ {R : Type 0} {scope : Scope} {held : List (CachedUnit R)} {last : FramesStop} (i : AreUnits scope held last) where
   -- what is cached of all units is their own
   pub all_entries : HaveEntriesOf scope scope.file.units held
   all_entries = entries_right scope scope.file.units held i.caches
@@ -36,9 +41,9 @@ module _ {R : Type 0} {scope : Scope} {held : List (UnitCache R)} {last : Frames
   counts steps was many = record {
     records = many ∙ sym as_many;
     units = many ∙ sym (as_many_indexed scope.file.units held as_many);
-    answers = many ∙ sym (length-map held (λ (c : UnitCache R). first_answer_of c.entries));
-    parsed = many ∙ sym (length-map held (λ (c : UnitCache R). is_parsed c.lines));
-    known = many ∙ sym (length-map held (λ (c : UnitCache R). known_by c.entries.view.state c.entries.functions));
+    answers = many ∙ sym (length-map held (λ (c : CachedUnit R). first_answer_of c.entries));
+    parsed = many ∙ sym (length-map held (λ (c : CachedUnit R). is_parsed c.lines));
+    known = many ∙ sym (length-map held (λ (c : CachedUnit R). known_by c.entries.view.state c.entries.functions));
   }
 
   module _ (n : ℕ) {u : UnitRecord} (there : slice_get scope.file.units n ≡ Some u) where
@@ -52,27 +57,42 @@ module _ {R : Type 0} {scope : Scope} {held : List (UnitCache R)} {last : Frames
     cache_within = subst (λ m. n < m) as_many unit_within
 
     -- what is cached of it is its own
-    module _ {c : UnitCache R} (at : c ≡ get_or held n c) where
+    module _ {c : CachedUnit R} (at : c ≡ get_or held n c) where
       pub its_lines : AreLinesOf scope.file.sections u c.lines.lines
       its_lines = own_at scope.file.sections scope.file.units held n u c cache_within unit_is at all_lines
 
       pub its_entries : AreEntriesOf scope u c.entries
       its_entries = entries_at scope scope.file.units held n u c cache_within unit_is at all_entries
 
-      pub its_cache : IsCacheOf scope u c
-      its_cache = record { lines = its_lines; entries = its_entries }
+      pub its_unit : AreOfUnit scope u c
+      its_unit = (cache_at scope scope.file.units held n u c cache_within unit_is at i.caches).unit
 
     -- and so is all where its own is put back
-    pub units_with : (c : UnitCache R) {stop : FramesStop} → IsCacheOf scope u c → IsLendable (set held n c) stop → AreUnits scope (set held n c) stop
+    pub units_with : (c : CachedUnit R) {stop : FramesStop} → IsCacheOf scope u c → IsLendable (set held n c) stop → AreUnits scope (set held n c) stop
     units_with c own lendable = record {
       in_order = i.in_order;
       caches = cache_set scope scope.file.units held n u c unit_is i.caches own;
       stop = lendable;
     }
 
-    module _ {c : UnitCache R} (at : c ≡ get_or held n c) where
-      pub units_with_entries : (w : EntriesCache R) → AreEntriesOf scope u w → AreUnits scope (set held n (record c { entries = w })) stops.FindsNothing
-      units_with_entries w entries = units_with (record c { entries = w }) {stop = stops.FindsNothing} (record { lines = its_lines at; entries = entries }) tt
+    module _ {c : CachedUnit R} (at : c ≡ get_or held n c) (w : CachedUnit R) where
+      abbrev lines_same : w.lines ≡ c.lines → AreLinesOf scope.file.sections u w.lines.lines
+      lines_same lines = subst (λ (l : LinesCache). AreLinesOf scope.file.sections u l.lines) (sym lines) (its_lines at)
 
-      pub units_with_lines : (l : LinesCache) → AreLinesOf scope.file.sections u l.lines → AreUnits scope (set held n (record c { lines = l })) stops.FindsNothing
-      units_with_lines l lines = units_with (record c { lines = l }) {stop = stops.FindsNothing} (record { lines = lines; entries = its_entries at }) tt
+      -- after a call on its entries
+      pub units_after : w.lines ≡ c.lines → WasLookedAt scope u w → AreOwnEntries w.unit w.entries → AreUnits scope (set held n w) stops.FindsNothing
+      units_after lines is own = units_with w {stop = stops.FindsNothing} (looked_at_is_cache scope u w is own (lines_same lines)) tt
+
+      -- after it was forgotten
+      pub units_forgotten : w.lines ≡ c.lines → w.unit ≡ c.unit → AreOwnEntries w.unit w.entries → AreUnits scope (set held n w) stops.FindsNothing
+      units_forgotten lines unit own =
+          let of_unit = subst (λ (o : Option UnitInScope). IfSome o (λ x. x ≡ record { scope = scope; unit = u })) (sym unit) (its_unit at) in
+          units_with w {stop = stops.FindsNothing} (record { lines = lines_same lines; entries = own_entries scope u w i.in_order of_unit own; unit = of_unit }) tt
+
+      -- after a call on its lines
+      pub units_with_lines : AreLinesOf scope.file.sections u w.lines.lines → w.entries ≡ c.entries → w.unit ≡ c.unit → AreUnits scope (set held n w) stops.FindsNothing
+      units_with_lines lines entries unit = units_with w {stop = stops.FindsNothing} (record {
+        lines = lines;
+        entries = subst (AreEntriesOf scope u) (sym entries) (its_entries at);
+        unit = subst (λ (o : Option UnitInScope). IfSome o (λ x. x ≡ record { scope = scope; unit = u })) (sym unit) (its_unit at);
+      }) tt

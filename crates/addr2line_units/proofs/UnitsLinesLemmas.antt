@@ -1,6 +1,6 @@
 -- The units of a context whose lines are cached one after another (on specs/UnitLinesCached.antt and
 -- specs/LocationsParsed.antt).
-use Rattle.addr2line_units.proofs.Common.{◌≡◌, ℕ, zero, suc, ◌+◌, ◌-◌, ◌≤◌, ◌<◌, Bool, true, false, not, ◌||◌, List, [], ◌∷◌, ◌++◌, length, map, drop, add-one, get_or, Option, Some, None, slice_get, Result, Ok, Err, is_ok, refl, sym, ap, subst, arith, ◌∙◌, ◌⊎◌, inl, inr, drop_of_length-le, set, Error, Range, ◌>>=◌, ExactlyUnlessOom, fault_of, result_map, WasNotRefused, DwLang, Sections, UnitRecord, LineTable, read_all, unit_lines, LazyLines, UnitCache, UnitRange, IndexedUnit, has_lines, range_of_unit, unit_ranges, all_lines, lines_of_unit, steps_along, steps_in, lines_of_take_memory, AllAskFor, AreParsed, AreReadyForAll, ParsesOnly, StaysParsed, TakeNone, TakeNoneForAll, can_be_read, has_parsed, parses_no_memory, AreLinesOf, CachesResult, HaveLinesOf, StayLines, indexed_unit, indexed_units, is_parsed, is_uncached, lines_result, lines_result_at, lines_at, parsed_units}
+use Rattle.addr2line_units.proofs.Common.{◌≡◌, ℕ, zero, suc, ◌+◌, ◌-◌, ◌≤◌, ◌<◌, Bool, true, false, not, ◌||◌, List, [], ◌∷◌, ◌++◌, length, map, drop, add-one, get_or, Option, Some, None, slice_get, Result, Ok, Err, is_ok, refl, sym, ap, subst, arith, ◌∙◌, ◌⊎◌, inl, inr, drop_of_length-le, set, Error, Range, ◌>>=◌, ExactlyUnlessOom, fault_of, result_map, WasNotRefused, DwLang, Sections, UnitRecord, LineTable, read_all, unit_lines, LazyLines, CachedUnit, UnitRange, IndexedUnit, has_lines, range_of_unit, unit_ranges, all_lines, lines_of_unit, steps_along, steps_in, lines_of_take_memory, AllAskFor, AreParsed, AreReadyForAll, ParsesOnly, StaysParsed, TakeNone, TakeNoneForAll, can_be_read, has_parsed, parses_no_memory, AreLinesOf, CachesResult, HaveLinesOf, StayLines, indexed_unit, indexed_units, is_parsed, is_uncached, lines_result, lines_result_at, lines_at, parsed_units}
 use Rattle.std.proofs.lemmas.List.{append-nil}
 use Rattle.std.proofs.lemmas.List.Sums.{sum_by-cons}
 use Rattle.addr2line_units.specs.UnitsIndexed.{IndexState, appended, as_ranged_unit}
@@ -15,18 +15,18 @@ parsed_is l e = of_bool (is_uncached l) e
     of_bool true e = cc
     of_bool false e = refl
 
-pub stay_all : {R : Type 0} (rs : List (UnitCache R)) → StayAllLines rs rs
+pub stay_all : {R : Type 0} (rs : List (CachedUnit R)) → StayAllLines rs rs
 stay_all [] = tt
 stay_all (r ∷ rs) = (record { language = refl; lines = λ e. refl }, stay_all rs)
 
 -- one of them is another, which stays
-pub stay_set : {R : Type 0} (rs : List (UnitCache R)) (n : ℕ) (r s : UnitCache R) → n < length rs → r ≡ get_or rs n r → StayLines r.lines s.lines → StayAllLines rs (set rs n s)
+pub stay_set : {R : Type 0} (rs : List (CachedUnit R)) (n : ℕ) (r s : CachedUnit R) → n < length rs → r ≡ get_or rs n r → StayLines r.lines s.lines → StayAllLines rs (set rs n s)
 stay_set [] n r s h e k = absurd (omega arith)
-stay_set (x ∷ rs) zero r s h e k = (subst (λ (y : UnitCache _). StayLines y.lines s.lines) e k, stay_all rs)
+stay_set (x ∷ rs) zero r s h e k = (subst (λ (y : CachedUnit _). StayLines y.lines s.lines) e k, stay_all rs)
 stay_set (x ∷ rs) (suc n) r s h e k = (record { language = refl; lines = λ e. refl }, stay_set rs n r s (omega arith) e k)
 
 -- the units and their languages are the same
-pub stay_indexed : {R : Type 0} (us : List UnitRecord) (rs ss : List (UnitCache R)) → StayAllLines rs ss → indexed_units us ss ≡ indexed_units us rs
+pub stay_indexed : {R : Type 0} (us : List UnitRecord) (rs ss : List (CachedUnit R)) → StayAllLines rs ss → indexed_units us ss ≡ indexed_units us rs
 stay_indexed [] rs ss a = refl
 stay_indexed (u ∷ us) [] [] a = refl
 stay_indexed (u ∷ us) [] (s ∷ ss) a = absurd a
@@ -34,14 +34,14 @@ stay_indexed (u ∷ us) (r ∷ rs) [] a = absurd a
 stay_indexed (u ∷ us) (r ∷ rs) (s ∷ ss) a = ap (λ l. record { unit = u; language = l } ∷ indexed_units us ss) a.0.language ∙ ap (λ xs. indexed_unit u r.lines ∷ xs) (stay_indexed us rs ss a.1)
 
 -- there are as many
-pub stay_length : {R : Type 0} (rs ss : List (UnitCache R)) → StayAllLines rs ss → length ss ≡ length rs
+pub stay_length : {R : Type 0} (rs ss : List (CachedUnit R)) → StayAllLines rs ss → length ss ≡ length rs
 stay_length [] [] a = refl
 stay_length [] (s ∷ ss) a = absurd a
 stay_length (r ∷ rs) [] a = absurd a
 stay_length (r ∷ rs) (s ∷ ss) a = ap suc (stay_length rs ss a.1)
 
 -- what was parsed stays parsed
-pub stay_parsed : {R : Type 0} (rs ss : List (UnitCache R)) → StayAllLines rs ss → StaysParsed (parsed_units rs) (parsed_units ss)
+pub stay_parsed : {R : Type 0} (rs ss : List (CachedUnit R)) → StayAllLines rs ss → StaysParsed (parsed_units rs) (parsed_units ss)
 stay_parsed [] [] a n e = e
 stay_parsed [] (s ∷ ss) a n e = absurd a
 stay_parsed (r ∷ rs) [] a n e = absurd a
@@ -49,68 +49,68 @@ stay_parsed (r ∷ rs) (s ∷ ss) a zero e = ap (λ l. not (is_uncached l)) (a.0
 stay_parsed (r ∷ rs) (s ∷ ss) a (suc n) e = stay_parsed rs ss a.1 n e
 
 -- beside each unit stand lines
-pub as_many : {R : Type 0} (d : Sections) (us : List UnitRecord) (rs : List (UnitCache R)) → HaveLinesOf d us rs → length us ≡ length rs
+pub as_many : {R : Type 0} (d : Sections) (us : List UnitRecord) (rs : List (CachedUnit R)) → HaveLinesOf d us rs → length us ≡ length rs
 as_many d [] [] own = refl
 as_many d [] (r ∷ rs) own = absurd own
 as_many d (u ∷ us) [] own = absurd own
 as_many d (u ∷ us) (r ∷ rs) own = ap suc (as_many d us rs own.1)
 
-pub as_many_indexed : {R : Type 0} (us : List UnitRecord) (rs : List (UnitCache R)) → length us ≡ length rs → length (indexed_units us rs) ≡ length rs
+pub as_many_indexed : {R : Type 0} (us : List UnitRecord) (rs : List (CachedUnit R)) → length us ≡ length rs → length (indexed_units us rs) ≡ length rs
 as_many_indexed [] [] many = refl
 as_many_indexed [] (r ∷ rs) many = cc
 as_many_indexed (u ∷ us) [] many = cc
 as_many_indexed (u ∷ us) (r ∷ rs) many = ap suc (as_many_indexed us rs cc)
 
 -- the unit of a number
-pub unit_at : {R : Type 0} (us : List UnitRecord) (rs : List (UnitCache R)) (n : ℕ) (u : UnitRecord) (r : UnitCache R) → n < length us → n < length rs → u ≡ get_or us n u → r ≡ get_or rs n r → slice_get (indexed_units us rs) n ≡ Some (indexed_unit u r.lines)
+pub unit_at : {R : Type 0} (us : List UnitRecord) (rs : List (CachedUnit R)) (n : ℕ) (u : UnitRecord) (r : CachedUnit R) → n < length us → n < length rs → u ≡ get_or us n u → r ≡ get_or rs n r → slice_get (indexed_units us rs) n ≡ Some (indexed_unit u r.lines)
 unit_at [] rs n u r h k e f = absurd (omega arith)
 unit_at (x ∷ us) [] n u r h k e f = absurd (omega arith)
-unit_at (x ∷ us) (y ∷ rs) zero u r h k e f = ap (λ v. Some (indexed_unit v y.lines)) (sym e) ∙ ap (λ (s : UnitCache _). Some (indexed_unit u s.lines)) (sym f)
+unit_at (x ∷ us) (y ∷ rs) zero u r h k e f = ap (λ v. Some (indexed_unit v y.lines)) (sym e) ∙ ap (λ (s : CachedUnit _). Some (indexed_unit u s.lines)) (sym f)
 unit_at (x ∷ us) (y ∷ rs) (suc n) u r h k e f = unit_at us rs n u r (omega arith) (omega arith) e f
 
-pub no_unit : {R : Type 0} (us : List UnitRecord) (rs : List (UnitCache R)) (n : ℕ) → length rs ≤ n → slice_get (indexed_units us rs) n ≡ None
+pub no_unit : {R : Type 0} (us : List UnitRecord) (rs : List (CachedUnit R)) (n : ℕ) → length rs ≤ n → slice_get (indexed_units us rs) n ≡ None
 no_unit [] rs n h = refl
 no_unit (x ∷ us) [] n h = refl
 no_unit (x ∷ us) (y ∷ rs) zero h = absurd (omega arith)
 no_unit (x ∷ us) (y ∷ rs) (suc n) h = no_unit us rs n (omega arith)
 
-pub no_parsed : {R : Type 0} (rs : List (UnitCache R)) (n : ℕ) → length rs ≤ n → has_parsed (parsed_units rs) n ≡ true
+pub no_parsed : {R : Type 0} (rs : List (CachedUnit R)) (n : ℕ) → length rs ≤ n → has_parsed (parsed_units rs) n ≡ true
 no_parsed [] n h = refl
 no_parsed (x ∷ rs) zero h = absurd (omega arith)
 no_parsed (x ∷ rs) (suc n) h = no_parsed rs n (omega arith)
 
-pub parsed_set : {R : Type 0} (rs : List (UnitCache R)) (n : ℕ) (s : UnitCache R) → n < length rs → is_uncached s.lines.lines ≡ false → has_parsed (parsed_units (set rs n s)) n ≡ true
+pub parsed_set : {R : Type 0} (rs : List (CachedUnit R)) (n : ℕ) (s : CachedUnit R) → n < length rs → is_uncached s.lines.lines ≡ false → has_parsed (parsed_units (set rs n s)) n ≡ true
 parsed_set [] n s h e = absurd (omega arith)
 parsed_set (x ∷ rs) zero s h e = ap not e
 parsed_set (x ∷ rs) (suc n) s h e = parsed_set rs n s (omega arith) e
 
-pub set_parsed : {R : Type 0} (rs : List (UnitCache R)) (n : ℕ) (s : UnitCache R) → n < length rs → has_parsed (parsed_units (set rs n s)) n ≡ true → is_uncached s.lines.lines ≡ false
+pub set_parsed : {R : Type 0} (rs : List (CachedUnit R)) (n : ℕ) (s : CachedUnit R) → n < length rs → has_parsed (parsed_units (set rs n s)) n ≡ true → is_uncached s.lines.lines ≡ false
 set_parsed [] n s h e = absurd (omega arith)
 set_parsed (x ∷ rs) zero s h e = parsed_is s.lines.lines e
 set_parsed (x ∷ rs) (suc n) s h e = set_parsed rs n s (omega arith) e
 
 -- no lines are cached but those of the unit of a number
-pub only_set : {R : Type 0} (rs : List (UnitCache R)) (k : ℕ) (s : UnitCache R) → ParsesOnly (λ n. n ≡ k) (parsed_units rs) (parsed_units (set rs k s))
+pub only_set : {R : Type 0} (rs : List (CachedUnit R)) (k : ℕ) (s : CachedUnit R) → ParsesOnly (λ n. n ≡ k) (parsed_units rs) (parsed_units (set rs k s))
 only_set [] k s n e = inl e
 only_set (x ∷ rs) zero s zero e = inr refl
 only_set (x ∷ rs) zero s (suc n) e = inl e
 only_set (x ∷ rs) (suc k) s zero e = inl e
 only_set (x ∷ rs) (suc k) s (suc n) e = elim (only_set rs k s n e) [ inl p ↦ inl p | inr q ↦ inr (ap suc q) ]
 
-pub lines_set : {R : Type 0} (rs : List (UnitCache R)) (n : ℕ) (s : UnitCache R) → n < length rs → lines_at (set rs n s) n ≡ s.lines.lines
+pub lines_set : {R : Type 0} (rs : List (CachedUnit R)) (n : ℕ) (s : CachedUnit R) → n < length rs → lines_at (set rs n s) n ≡ s.lines.lines
 lines_set [] n s h = absurd (omega arith)
 lines_set (x ∷ rs) zero s h = refl
 lines_set (x ∷ rs) (suc n) s h = lines_set rs n s (omega arith)
 
 -- the cached lines of each unit are its own
-pub own_at : {R : Type 0} (d : Sections) (us : List UnitRecord) (rs : List (UnitCache R)) (n : ℕ) (u : UnitRecord) (r : UnitCache R) → n < length rs → u ≡ get_or us n u → r ≡ get_or rs n r → HaveLinesOf d us rs → AreLinesOf d u r.lines.lines
+pub own_at : {R : Type 0} (d : Sections) (us : List UnitRecord) (rs : List (CachedUnit R)) (n : ℕ) (u : UnitRecord) (r : CachedUnit R) → n < length rs → u ≡ get_or us n u → r ≡ get_or rs n r → HaveLinesOf d us rs → AreLinesOf d u r.lines.lines
 own_at d [] [] n u r h e f own = absurd (omega arith)
 own_at d [] (y ∷ rs) n u r h e f own = absurd own
 own_at d (x ∷ us) [] n u r h e f own = absurd own
-own_at d (x ∷ us) (y ∷ rs) zero u r h e f own = subst (λ (v : UnitRecord). AreLinesOf d v r.lines.lines) (sym e) (subst (λ (s : UnitCache _). AreLinesOf d x s.lines.lines) (sym f) own.0)
+own_at d (x ∷ us) (y ∷ rs) zero u r h e f own = subst (λ (v : UnitRecord). AreLinesOf d v r.lines.lines) (sym e) (subst (λ (s : CachedUnit _). AreLinesOf d x s.lines.lines) (sym f) own.0)
 own_at d (x ∷ us) (y ∷ rs) (suc n) u r h e f own = own_at d us rs n u r (omega arith) e f own.1
 
-pub own_set : {R : Type 0} (d : Sections) (us : List UnitRecord) (rs : List (UnitCache R)) (n : ℕ) (u : UnitRecord) (s : UnitCache R) → u ≡ get_or us n u → HaveLinesOf d us rs → AreLinesOf d u s.lines.lines → HaveLinesOf d us (set rs n s)
+pub own_set : {R : Type 0} (d : Sections) (us : List UnitRecord) (rs : List (CachedUnit R)) (n : ℕ) (u : UnitRecord) (s : CachedUnit R) → u ≡ get_or us n u → HaveLinesOf d us rs → AreLinesOf d u s.lines.lines → HaveLinesOf d us (set rs n s)
 own_set d [] [] n u s e own h = tt
 own_set d [] (y ∷ rs) n u s e own h = absurd own
 own_set d (x ∷ us) [] n u s e own h = absurd own
@@ -118,23 +118,23 @@ own_set d (x ∷ us) (y ∷ rs) zero u s e own h = (subst (λ (v : UnitRecord). 
 own_set d (x ∷ us) (y ∷ rs) (suc n) u s e own h = (own.0, own_set d us rs n u s e own.1 h)
 
 -- one more unit, with its lines
-pub own_push : {R : Type 0} (d : Sections) (us : List UnitRecord) (rs : List (UnitCache R)) (u : UnitRecord) (r : UnitCache R) → HaveLinesOf d us rs → AreLinesOf d u r.lines.lines → HaveLinesOf d (us ++ u ∷ []) (rs ++ r ∷ [])
+pub own_push : {R : Type 0} (d : Sections) (us : List UnitRecord) (rs : List (CachedUnit R)) (u : UnitRecord) (r : CachedUnit R) → HaveLinesOf d us rs → AreLinesOf d u r.lines.lines → HaveLinesOf d (us ++ u ∷ []) (rs ++ r ∷ [])
 own_push d [] [] u r own h = (h, tt)
 own_push d [] (y ∷ rs) u r own h = absurd own
 own_push d (x ∷ us) [] u r own h = absurd own
 own_push d (x ∷ us) (y ∷ rs) u r own h = (own.0, own_push d us rs u r own.1 h)
 
-indexed_push : {R : Type 0} (us : List UnitRecord) (rs : List (UnitCache R)) (u : UnitRecord) (r : UnitCache R) → length us ≡ length rs → indexed_units (us ++ u ∷ []) (rs ++ r ∷ []) ≡ indexed_units us rs ++ indexed_unit u r.lines ∷ []
+indexed_push : {R : Type 0} (us : List UnitRecord) (rs : List (CachedUnit R)) (u : UnitRecord) (r : CachedUnit R) → length us ≡ length rs → indexed_units (us ++ u ∷ []) (rs ++ r ∷ []) ≡ indexed_units us rs ++ indexed_unit u r.lines ∷ []
 indexed_push [] [] u r many = refl
 indexed_push [] (y ∷ rs) u r many = cc
 indexed_push (x ∷ us) [] u r many = cc
 indexed_push (x ∷ us) (y ∷ rs) u r many = ap (λ is. indexed_unit x y.lines ∷ is) (indexed_push us rs u r cc)
 
-parsed_push : {R : Type 0} (rs : List (UnitCache R)) (r : UnitCache R) → parsed_units (rs ++ r ∷ []) ≡ parsed_units rs ++ is_parsed r.lines ∷ []
+parsed_push : {R : Type 0} (rs : List (CachedUnit R)) (r : CachedUnit R) → parsed_units (rs ++ r ∷ []) ≡ parsed_units rs ++ is_parsed r.lines ∷ []
 parsed_push [] r = refl
 parsed_push (y ∷ rs) r = ap (λ bs. is_parsed y.lines ∷ bs) (parsed_push rs r)
 
-pub pushed : {R : Type 0} (d : Sections) (us : List UnitRecord) (rs : List (UnitCache R)) (u : UnitRecord) (lang : Option DwLang) (new : UnitCache R) (given : List Range) (ranges now : List UnitRange) → length us ≡ length rs → new.lines.lang ≡ lang → is_parsed new.lines ≡ has_lines (as_ranged_unit u lang given)
+pub pushed : {R : Type 0} (d : Sections) (us : List UnitRecord) (rs : List (CachedUnit R)) (u : UnitRecord) (lang : Option DwLang) (new : CachedUnit R) (given : List Range) (ranges now : List UnitRange) → length us ≡ length rs → new.lines.lang ≡ lang → is_parsed new.lines ≡ has_lines (as_ranged_unit u lang given)
     → now ≡ ranges ++ map (range_of_unit (length rs)) (unit_ranges d (as_ranged_unit u lang given))
     → ◌≡◌ {A = IndexState} (record { units = indexed_units (us ++ u ∷ []) (rs ++ new ∷ []); ranges = now; parsed = parsed_units (rs ++ new ∷ []) })
     (appended d (record { units = indexed_units us rs; ranges = ranges; parsed = parsed_units rs }) (as_ranged_unit u lang given ∷ []))
@@ -155,7 +155,7 @@ answer_cached old (Ok x) new h n = h
 answer_cached old (Err e) new h n = h.0 n
 
 -- the lines of a unit, or their fault
-module _ {R : Type 0} (d : Sections) (us : List UnitRecord) (rs : List (UnitCache R)) (n : ℕ) (u : UnitRecord) (r : UnitCache R) (lines : Option LineTable) (result : Result (Unit {0}) Error) (own : HaveLinesOf d us rs) (h : n < length rs) (e : u ≡ get_or us n u) (f : r ≡ get_or rs n r) where
+module _ {R : Type 0} (d : Sections) (us : List UnitRecord) (rs : List (CachedUnit R)) (n : ℕ) (u : UnitRecord) (r : CachedUnit R) (lines : Option LineTable) (result : Result (Unit {0}) Error) (own : HaveLinesOf d us rs) (h : n < length rs) (e : u ≡ get_or us n u) (f : r ≡ get_or rs n r) where
   same_fault : (a : Result LineTable Error) → fault_of a ≡ fault_of (a >>= λ l. Ok (Some l))
   same_fault (Ok l) = refl
   same_fault (Err x) = refl

@@ -1,5 +1,5 @@
 -- The units of a context as they are read (on specs/UnitsState.antt and specs/UnitsStored.antt).
-use Rattle.addr2line_units.proofs.Common.{◌≡◌, List, [], ◌∷◌, map, Option, Some, None, option_map, option_to_list, IfOk, Result, Ok, Err, refl, sym, ap, subst, ◌∙◌, Error, ◌>>=◌, Sections, SupSections, UnitRecord, UnitHeaderFields, all_headers, FileRecord, IsScope, Scope, UnitArange, UnitRange, UnitCache, indexed_units, parsed_units, HaveNewCaches, answers_in, FindsNothing, main_scope, units_of, known_in, KnownEntries, NothingKnown, IndexedUnit, RangedUnit, indexed_of, ranged_units, unit_of_header, unit_ranges_from, unit_records, AreUnits, as_units_state, aranges_in, UnitsState, first_state, new_units, FirstAnswers}
+use Rattle.addr2line_units.proofs.Common.{◌≡◌, List, [], ◌∷◌, map, Option, Some, None, option_map, option_to_list, IfOk, Result, Ok, Err, refl, sym, ap, subst, ◌∙◌, Error, ◌>>=◌, Sections, SupSections, UnitRecord, UnitHeaderFields, all_headers, FileRecord, IsScope, Scope, UnitArange, UnitRange, CachedUnit, indexed_units, parsed_units, HaveNewCaches, answers_in, FindsNothing, main_scope, units_of, known_in, KnownEntries, NothingKnown, IndexedUnit, RangedUnit, indexed_of, ranged_units, unit_of_header, unit_ranges_from, unit_records, AreUnits, as_units_state, aranges_in, UnitsState, first_state, new_units, FirstAnswers}
 use Rattle.addr2line_units.specs.declared.frames.FramesStop.TheVariants as stops
 use Rattle.addr2line_units.specs.declared.sup.SupUnits.{SupUnits}
 use Rattle.addr2line_units.specs.declared.units.Index.{Index}
@@ -7,10 +7,9 @@ use Rattle.addr2line_units.specs.UnitsCached.{AddsUnitIf}
 use Rattle.addr2line_units.specs.UnitsIndexed.{IndexState, appended, as_index, index_of, index_read, with_header}
 use Rattle.addr2line_units.specs.SupScope.{scope_in}
 use Rattle.addr2line_units.specs.UnitsIndex.{UnitIndex, index_units, sup_sections, sup_units}
-use Rattle.addr2line_units.proofs.UnitsCachedLemmas.{caches_right}
 use Rattle.addr2line_units.proofs.UnitsLinesLemmas.{own_push}
 use Rattle.addr2line_units.proofs.EntriesKnownLemmas.{nothing_known}
-use Rattle.addr2line_units.proofs.SupScopeLemmas.{fresh_entries, fresh_push, main_scope_in_order, no_answers, records_beside}
+use Rattle.addr2line_units.proofs.SupScopeLemmas.{fresh_caches, fresh_push, main_scope_in_order, no_answers, records_beside}
 
 pub ok_is : {X : Type 0} (x y : X) → ◌≡◌ {A = Result X Error} (Ok x) (Ok y) → x ≡ y
 ok_is x y e = cc
@@ -52,7 +51,7 @@ header_more d aranges h m old new read adds before = of_unit (unit_of_header d a
     of_unit (Err e) k a = absurd cc
 
 -- units that are made
-module _ {R : Type 0} (d : Sections) (us : List UnitRecord) (cs : List (UnitCache R)) (ranges : List UnitRange) (sup : SupUnits R)
+module _ {R : Type 0} (d : Sections) (us : List UnitRecord) (cs : List (CachedUnit R)) (ranges : List UnitRange) (sup : SupUnits R)
     (e : (ranged_units d >>= λ units. Ok (index_of d units)) ≡ Ok (record { units = indexed_units us cs; ranges = ranges; parsed = parsed_units cs })) (f : sup_units d.sup ≡ Ok sup.units.items) (sup_is : sup.dwarf ≡ option_map sup_sections d.sup)
     (new : HaveNewCaches d us cs) where
   abbrev index : IndexState
@@ -99,7 +98,7 @@ module _ {R : Type 0} (d : Sections) (us : List UnitRecord) (cs : List (UnitCach
   pub are_units : AreUnits (scope_in d us sup) cs stops.FindsNothing
   are_units = record {
     in_order = scope_in_order;
-    caches = caches_right (scope_in d us sup) us cs new.lines (fresh_entries (scope_in d us sup) us cs scope_in_order new.fresh);
+    caches = fresh_caches (scope_in d us sup) us cs scope_in_order new.lines new.fresh;
     stop = tt;
   }
 

@@ -1,6 +1,6 @@
 -- What is answered, loaded, listed and forgotten of the unit of a number (on
 -- specs/UnitsAfter.antt and specs/UnitsStored.antt).
-use Rattle.addr2line_units.proofs.Common.{◌≡◌, inl, inr, ℕ, ◌<◌, Bool, true, false, List, length, get_or, slice_get, Option, Some, None, Result, Ok, Err, refl, sym, ap, subst, ◌∙◌, AreEntriesOf, fault_of, is_decided, verdict_in, set, cases_eq, IfErr, OnOk, Error, UnknownToken, ◌>>=◌, Sections, UnitRecord, Scope, FramesStop, UnitCache, EntriesCache, first_answer_of, known_in, answers_in, FindsNothing, LookupStop, answer_of, LearnsNoFunctions, is_open_at, load_of_number, load_result, view_fault, AreUnits, as_units_state, UnitsState, awaited_load, decided_answer, is_open, verdict, with_answer}
+use Rattle.addr2line_units.proofs.Common.{◌≡◌, inl, inr, ℕ, ◌<◌, Bool, true, false, List, length, get_or, slice_get, Option, Some, None, Result, Ok, Err, refl, sym, ap, subst, ◌∙◌, AreEntriesOf, fault_of, is_decided, verdict_in, set, cases_eq, IfErr, OnOk, Error, UnknownToken, ◌>>=◌, Sections, UnitRecord, Scope, FramesStop, CachedUnit, EntriesCache, first_answer_of, known_in, answers_in, FindsNothing, LookupStop, answer_of, LearnsNoFunctions, is_open_at, load_of_number, load_result, view_fault, AreUnits, as_units_state, UnitsState, awaited_load, decided_answer, is_open, verdict, with_answer}
 use Rattle.std.specs.Prelude.{IfSome, is_some}
 use Rattle.addr2line_units.specs.CacheAfter.{AfterAnswerIn, AfterForgettingIn, AfterNewLoadIn}
 use Rattle.addr2line_units.specs.UnitView.{SplitLoad}
@@ -8,17 +8,17 @@ use Rattle.addr2line_units.proofs.KeptEntries.{KeepsAnswered, KeepsChecked, Keep
 use Rattle.addr2line_units.proofs.UnitViewLemmas.{cached_fault}
 use Rattle.addr2line_units.specs.UnitsAfter.{AfterAnswer, AfterForget, AfterListing, AfterLoad}
 use Rattle.addr2line_units.proofs.LoadsAnswerLemmas.{answer_at, answered_if_ok, answers_if_refused, answers_set, decided_there, keeps_answered, keeps_forgotten}
-use Rattle.addr2line_units.proofs.UnitsCachedLemmas.{as_many_entries, entries_set, same_lines_set, stay_entries_set}
+use Rattle.addr2line_units.proofs.UnitsCachedLemmas.{as_many_entries, entries_set, known_by_entries, same_entries_set, same_lines_set, stay_entries_set}
 use Rattle.addr2line_units.proofs.EntriesLearnedLemmas.{answered_learns, checked_learns, forgotten_learns, set_learns}
 use Rattle.addr2line_units.proofs.LoadsLemmas.{as_many_answers, keeps_listed, load_there, this_unit, unknown_answer, unknown_load}
 use Rattle.addr2line_units.proofs.LoadsOpenLemmas.{not_open_there}
 use Rattle.addr2line_units.proofs.UnitsAtLemmas.{all_entries, as_many, cache_within, its_entries, unit_is, unit_within}
 use Rattle.addr2line_units.proofs.UnitsStateLemmas.{after_answer, after_forget, after_listing, after_load}
-use Rattle.addr2line_units.proofs.Facts.{others_stay, same_set}
+use Rattle.addr2line_units.proofs.Facts.{others_stay}
 use Rattle.addr2line_units.proofs.CachedUnits.{HaveSameLines, decided_at}
 
 -- the unit of a number
-module _ {R : Type 0} {scope : Scope} {held : List (UnitCache R)} {last : FramesStop} (i : AreUnits scope held last) (n : ℕ) where
+module _ {R : Type 0} {scope : Scope} {held : List (CachedUnit R)} {last : FramesStop} (i : AreUnits scope held last) (n : ℕ) where
   abbrev d : Sections
   d = scope.file.sections
 
@@ -56,7 +56,7 @@ module _ {R : Type 0} {scope : Scope} {held : List (UnitCache R)} {last : Frames
     }
 
   module _ {u : UnitRecord} (there : slice_get us n ≡ Some u) where
-    module _ {c : UnitCache R} (at : c ≡ get_or held n c) where
+    module _ {c : CachedUnit R} (at : c ≡ get_or held n c) where
       abbrev v : EntriesCache R
       v = c.entries
 
@@ -82,22 +82,22 @@ module _ {R : Type 0} {scope : Scope} {held : List (UnitCache R)} {last : Frames
       refused_told given (Ok x) h = tt
       refused_told given (Err e) h = load_is given ∙ h
 
-      module _ (w : EntriesCache R) where
-        abbrev with_entries : UnitCache R
-        with_entries = record c { entries = w }
+      module _ (after : CachedUnit R) (lines : after.lines ≡ c.lines) where
+        abbrev w : EntriesCache R
+        w = after.entries
 
-        abbrev now : List (UnitCache R)
-        now = set held n with_entries
+        abbrev now : List (CachedUnit R)
+        now = set held n after
 
         same_lines_now : HaveSameLines held now
-        same_lines_now = same_lines_set held n c with_entries at refl
+        same_lines_now = same_lines_set held n c after at lines
 
         -- it stays right
-        pub kept_answer : {shares : Bool} {given : Option Sections} {r : Result (Unit {0}) Error} {seen : Scope} → seen ≡ scope → AfterAnswerIn shares seen.file.sections u given r v w → KeepsAnswered shares scope u given r v w
-        kept_answer {shares} {given} {r} is a = keeps_answered shares scope u given r v w (its_entries i n there at) (subst (λ (s : Scope). AfterAnswerIn shares s.file.sections u given r v w) is a)
+        pub kept_answer : {shares : Bool} {given : Option Sections} {r : Result (Unit {0}) Error} → AfterAnswerIn shares d u given r v w → KeepsAnswered shares scope u given r v w
+        kept_answer {shares} {given} {r} a = keeps_answered shares scope u given r v w (its_entries i n there at) a
 
-        pub kept_forgetting : AfterForgettingIn v w → KeepsForgotten scope u v w
-        kept_forgetting a = keeps_forgotten scope u v w (its_entries i n there at) a
+        pub kept_forgetting : AfterForgettingIn c after → KeepsForgotten scope u v w
+        kept_forgetting a = keeps_forgotten scope u c after (its_entries i n there at) a
 
         pub kept_listing : {marks marked : List Bool} {r : Result (Option SplitLoad) Error} → AfterNewLoadIn d n u marks marked r v w → KeepsListed scope n u marks marked r v w
         kept_listing {marks} {marked} {r} a = keeps_listed scope n u marks marked v w (its_entries i n there at) r a
@@ -111,9 +111,9 @@ module _ {R : Type 0} {scope : Scope} {held : List (UnitCache R)} {last : Frames
 
         -- its load was listed
         pub listed_there : (steps : ℕ) (was : LookupStop) → KeepsChecked scope u v w → AfterListing (λ k. k ≡ n) (as_units_state scope held steps was) (as_units_state scope now steps FindsNothing)
-        listed_there steps was a = after_listing scope held (all_entries i) now same_lines_now steps was (λ k. k ≡ n) (stay_entries_set held n c with_entries within at a.stay)
-            (λ k. elim (cases_eq k n) [ inl is ↦ inr is | inr ne ↦ inl (others_stay held n k with_entries ne) ])
-            (set_learns held n c with_entries within at (checked_learns scope u v w (its_entries i n there at) a.stay a.functions))
+        listed_there steps was a = after_listing scope held (all_entries i) now same_lines_now steps was (λ k. k ≡ n) (stay_entries_set held n c after within at a.stay)
+            (λ k. elim (cases_eq k n) [ inl is ↦ inr is | inr ne ↦ inl (others_stay held n k after ne) ])
+            (set_learns held n c after within at (checked_learns scope u v w (its_entries i n there at) a.stay a.functions))
 
         module _ (given : Option Sections) (steps : ℕ) (was : LookupStop) where
           abbrev old : UnitsState
@@ -123,38 +123,38 @@ module _ {R : Type 0} {scope : Scope} {held : List (UnitCache R)} {last : Frames
           new = as_units_state scope now steps FindsNothing
 
           module _ {shares : Bool} {r : Result (Unit {0}) Error} (a : KeepsAnswered shares scope u given r v w) where
-            same_decided : decided_at held n ≡ true → now ≡ held
-            same_decided h = same_set held n c with_entries at (ap (λ e. record c { entries = e }) (a.kept (decided_there held n c at h)).0)
+            same_decided : decided_at held n ≡ true → known_in now ≡ known_in held
+            same_decided h = known_by_entries held now (same_entries_set held n c after at (a.kept (decided_there held n c at h)).0)
 
             many : length us ≡ length now
-            many = as_many_entries scope us now (entries_set scope us held n u with_entries (unit_is i n there) (all_entries i) a.right)
+            many = as_many_entries scope us now (entries_set scope us held n u after (unit_is i n there) (all_entries i) a.right)
 
             learns : LearnsNoFunctions (known_in held) (known_in now)
-            learns = set_learns held n c with_entries within at (answered_learns scope u v w (its_entries i n there at) a.functions (λ h. (a.kept h).0))
+            learns = set_learns held n c after within at (answered_learns scope u v w (its_entries i n there at) a.functions (λ h. (a.kept h).0))
 
             answers : OnOk r (answers_in now ≡ with_answer d us (answers_in held) n given)
-            answers = answered_if_ok d us held n u c with_entries given r (unit_within i n there) within (unit_is i n there) at a.answer
+            answers = answered_if_ok d us held n u c after given r (unit_within i n there) within (unit_is i n there) at a.answer
 
             pub answered_there : AfterAnswer shares n given r old new
-            answered_there = after_answer scope held (all_entries i) now same_lines_now steps was n (λ k ne. others_stay held n k with_entries ne) same_decided many shares given r
-                answers (answers_if_refused held n c with_entries r (is_some given ≡ true) within at a.refused) learns (λ h. a.none (shut_there h)) (λ takes. refused_told given r (a.no_memory takes))
+            answered_there = after_answer scope held (all_entries i) now same_lines_now steps was n (λ k ne. others_stay held n k after ne) same_decided many shares given r
+                answers (answers_if_refused held n c after r (is_some given ≡ true) within at a.refused) learns (λ h. a.none (shut_there h)) (λ takes. refused_told given r (a.no_memory takes))
 
           -- the answer was given
           pub loaded_there : {shares : Bool} → KeepsAnswered shares scope u given (Ok tt) v w → (r : Result (Unit {0}) Error) → r ≡ view_fault (verdict d u (first_answer_of w)) → AfterLoad shares n given r old new
           loaded_there {shares} a r fault =
               let told = load_told given r a.answer fault in
-              after_load scope held (all_entries i) now same_lines_now steps was n (λ k ne. others_stay held n k with_entries ne) (same_decided a) (many a) shares given r (λ h. answers a) (inr (answers a)) (λ ne. absurd (ne told)) (λ shut. told) (λ takes. told) (learns a)
+              after_load scope held (all_entries i) now same_lines_now steps was n (λ k ne. others_stay held n k after ne) (same_decided a) (many a) shares given r (λ h. answers a) (inr (answers a)) (λ ne. absurd (ne told)) (λ shut. told) (λ takes. told) (learns a)
 
           -- memory was refused
           pub refused_there : {shares : Bool} (e : Error) → KeepsAnswered shares scope u given (Err e) v w → AfterLoad shares n given (Err e) old new
           refused_there {shares} e a =
-              let r = answers_if_refused held n c with_entries (Err e) (is_some given ≡ true) within at a.refused in
-              after_load scope held (all_entries i) now same_lines_now steps was n (λ k ne. others_stay held n k with_entries ne) (same_decided a) (many a) shares given (Err e) (λ told. absurd (told a.refused.0)) (inl r.1) (λ ne. (r.1, r.2))
+              let r = answers_if_refused held n c after (Err e) (is_some given ≡ true) within at a.refused in
+              after_load scope held (all_entries i) now same_lines_now steps was n (λ k ne. others_stay held n k after ne) (same_decided a) (many a) shares given (Err e) (λ told. absurd (told a.refused.0)) (inl r.1) (λ ne. (r.1, r.2))
               (λ h. absurd (let no = a.none (shut_there h) in cc))
               (λ takes. sym (a.no_memory takes) ∙ sym (load_is given)) (learns a)
 
         pub forgotten_there : (steps : ℕ) (was : LookupStop) → KeepsForgotten scope u v w → AfterForget n (as_units_state scope held steps was) (as_units_state scope now steps FindsNothing)
         forgotten_there steps was a = after_forget scope held (all_entries i) now same_lines_now steps was n
-            (answers_set held n with_entries ∙ ap (λ o. set (answers_in held) n o) a.answer)
-            (λ h. same_set held n c with_entries at (ap (λ e. record c { entries = e }) (a.kept (sym answer_is ∙ h)))) (λ k ne. others_stay held n k with_entries ne)
-            (set_learns held n c with_entries within at (forgotten_learns v w a.kept a.empty))
+            (answers_set held n after ∙ ap (λ o. set (answers_in held) n o) a.answer)
+            (λ h. known_by_entries held now (same_entries_set held n c after at (a.kept (sym answer_is ∙ h)))) (λ k ne. others_stay held n k after ne)
+            (set_learns held n c after within at (forgotten_learns v w a.kept a.empty))

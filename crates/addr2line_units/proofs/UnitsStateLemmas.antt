@@ -1,6 +1,6 @@
 -- What calls leave of the units of a context, by what is cached of them (on specs/UnitsAfter.antt
 -- and specs/UnitsStored.antt).
-use Rattle.addr2line_units.proofs.Common.{◌≡◌, ◌≢◌, ◌⊎◌, inl, inr, ℕ, zero, suc, ◌<◌, ◌≤◌, ◌&&◌, ◌||◌, ◌++◌, Bool, true, false, not, List, [], ◌∷◌, length, get_or, slice_get, Option, Some, None, option_map, unwrap_or, Result, Ok, Err, refl, sym, ap, subst, ◌∙◌, eqb_tells, length-map, IfErr, OnOk, Error, OutOfMemory, WasNotRefused, Range, Sections, UnitRecord, Scope, unit_lines, FramesStop, UnitRange, ReadingDepth, LazyLines, UnitCache, has_entries, IsLendable, as_stop, AreLinesOf, HaveLinesOf, cached_spans, indexed_units, is_parsed, is_uncached, lines_at, parsed_units, HaveEntriesOf, answers_in, waits_at, FindsNothing, LookupStop, Waits, answer_of, ends_lookup, holds_along, with_answer, IsReadyFor, known_in, KnownEntries, LearnsNoFunctions, forgotten, is_open_at, load_result, spans_along, spans_in, spans_or_fault, AreParsed, ParsesOnly, has_parsed, IndexedUnit, as_units_state, FramesResult, UnitsState, FirstAnswers, SplitLoad, load_of_unit}
+use Rattle.addr2line_units.proofs.Common.{◌≡◌, ◌≢◌, ◌⊎◌, inl, inr, ℕ, zero, suc, ◌<◌, ◌≤◌, ◌&&◌, ◌||◌, ◌++◌, Bool, true, false, not, List, [], ◌∷◌, length, get_or, slice_get, Option, Some, None, option_map, unwrap_or, Result, Ok, Err, refl, sym, ap, subst, ◌∙◌, eqb_tells, length-map, IfErr, OnOk, Error, OutOfMemory, WasNotRefused, Range, Sections, UnitRecord, Scope, unit_lines, FramesStop, UnitRange, ReadingDepth, LazyLines, CachedUnit, has_entries, IsLendable, as_stop, AreLinesOf, HaveLinesOf, cached_spans, indexed_units, is_parsed, is_uncached, lines_at, parsed_units, HaveEntriesOf, answers_in, waits_at, FindsNothing, LookupStop, Waits, answer_of, ends_lookup, holds_along, with_answer, IsReadyFor, known_in, KnownEntries, LearnsNoFunctions, knows_at, forgotten, is_open_at, load_result, spans_along, spans_in, spans_or_fault, AreParsed, ParsesOnly, has_parsed, IndexedUnit, as_units_state, FramesResult, UnitsState, FirstAnswers, SplitLoad, load_of_unit}
 use Rattle.std.specs.Prelude.{IfSome, is_some}
 use Rattle.addr2line_units.specs.declared.frames.FramePlace.{FramePlace}
 use Rattle.addr2line_units.specs.declared.frames.FramesStop.TheVariants as stops
@@ -16,10 +16,10 @@ use Rattle.addr2line_units.proofs.LoadsLemmas.{as_many_answers}
 use Rattle.addr2line_units.proofs.EntriesReadByLemmas.{answered_is_decided, known_is_decided, none_asked}
 use Rattle.addr2line_units.proofs.EntriesStayLemmas.{none_whole, stays_known, whole_is_decided}
 use Rattle.addr2line_units.proofs.UnitsLinesLemmas.{stay_indexed, stay_length, stay_parsed}
-use Rattle.addr2line_units.proofs.CachedUnits.{HaveSameEntries, HaveSameLines, StayAllEntries, StayAllLines, decided_at, has_entries_at}
+use Rattle.addr2line_units.proofs.CachedUnits.{HaveSameEntries, HaveSameLines, StayAllEntries, StayAllLines, decided_at}
 
 -- what is stored that waits for a unit waits for one that waits
-pub waits_if_stored : {R : Type 0} (views : List (UnitCache R)) (last : FramesStop) (n : ℕ) → as_stop views last ≡ Waits n → IsLendable views last → waits_at views n ≡ true
+pub waits_if_stored : {R : Type 0} (views : List (CachedUnit R)) (last : FramesStop) (n : ℕ) → as_stop views last ≡ Waits n → IsLendable views last → waits_at views n ≡ true
 waits_if_stored views (stops.Waits k) n e h = subst (λ j. waits_at views j ≡ true) (same_wait e) h
   where
     same_wait : ◌≡◌ {A = LookupStop} (Waits k) (Waits n) → k ≡ n
@@ -28,7 +28,7 @@ waits_if_stored views (stops.Finds p) n e h = absurd cc
 waits_if_stored views stops.FindsNothing n e h = absurd cc
 
 -- what is stored of a place can be lent
-pub place_if_stored : {R : Type 0} (views : List (UnitCache R)) (last : FramesStop) (p : FramePlace) → last ≡ stops.Finds p → IsLendable views last → IsLendable views (stops.Finds p)
+pub place_if_stored : {R : Type 0} (views : List (CachedUnit R)) (last : FramesStop) (p : FramePlace) → last ≡ stops.Finds p → IsLendable views last → IsLendable views (stops.Finds p)
 place_if_stored views last p e h = subst (IsLendable views) e h
 
 -- the load of the unit of a number
@@ -37,7 +37,7 @@ load_there d us n u h e l told = ap (option_map (load_of_unit d n)) (got_unit us
 
 -- what cached lines have in ranges is what the lines of the units have
 module _ {R : Type 0} (d : Sections) (low high : ℕ) where
-  spans_at : (us : List UnitRecord) (rs : List (UnitCache R)) (n : ℕ) (range : Range) → HaveLinesOf d us rs → has_parsed (parsed_units rs) n ≡ true → spans_in d low high range (slice_get (indexed_units us rs) n) ≡ cached_spans range low high (lines_at rs n)
+  spans_at : (us : List UnitRecord) (rs : List (CachedUnit R)) (n : ℕ) (range : Range) → HaveLinesOf d us rs → has_parsed (parsed_units rs) n ≡ true → spans_in d low high range (slice_get (indexed_units us rs) n) ≡ cached_spans range low high (lines_at rs n)
   spans_at [] [] n range own e = refl
   spans_at [] (r ∷ rs) n range own e = absurd own
   spans_at (u ∷ us) [] n range own e = absurd own
@@ -50,7 +50,7 @@ module _ {R : Type 0} (d : Sections) (low high : ℕ) where
       of_lines (Faulty f) h k = ap (spans_or_fault range low high) h.0
   spans_at (u ∷ us) (r ∷ rs) (suc n) range own e = spans_at us rs n range own.1 e
 
-  pub spans_cached : (us : List UnitRecord) (rs : List (UnitCache R)) (ranges : List UnitRange) → HaveLinesOf d us rs → AreParsed (parsed_units rs) ranges → spans_along d (indexed_units us rs) low high ranges ≡ cached_along rs low high ranges
+  pub spans_cached : (us : List UnitRecord) (rs : List (CachedUnit R)) (ranges : List UnitRange) → HaveLinesOf d us rs → AreParsed (parsed_units rs) ranges → spans_along d (indexed_units us rs) low high ranges ≡ cached_along rs low high ranges
   spans_cached us rs [] own all = refl
   spans_cached us rs (r ∷ ranges) own all =
       ap (λ xs. xs ++ spans_along d (indexed_units us rs) low high ranges) (spans_at us rs r.unit r.range own all.0)
@@ -63,7 +63,7 @@ holds_same h k frames (r ∷ ranges) e =
     ap (λ b. b && (ends_lookup (frames r.unit) || holds_along h frames ranges)) (e r.unit)
     ∙ ap (λ b. k r.unit && (ends_lookup (frames r.unit) || b)) (holds_same h k frames ranges e)
 
-module _ {R : Type 0} (scope : Scope) (held : List (UnitCache R)) where
+module _ {R : Type 0} (scope : Scope) (held : List (CachedUnit R)) where
   abbrev d : Sections
   d = scope.file.sections
 
@@ -71,7 +71,7 @@ module _ {R : Type 0} (scope : Scope) (held : List (UnitCache R)) where
   us = scope.file.units
 
   -- after lines were parsed
-  module _ (now : List (UnitCache R)) (stay : StayAllLines held now) (same : HaveSameEntries held now) (steps later : ℕ) (was stop : LookupStop) where
+  module _ (now : List (CachedUnit R)) (stay : StayAllLines held now) (same : HaveSameEntries held now) (steps later : ℕ) (was stop : LookupStop) where
     abbrev before : UnitsState
     before = as_units_state scope held steps was
 
@@ -86,13 +86,13 @@ module _ {R : Type 0} (scope : Scope) (held : List (UnitCache R)) where
       same = ap (λ xs. with_units xs (answers_in now) (known_in now)) (stay_indexed us held now stay)
           ∙ ap (λ xs. with_units (indexed_units us held) xs (known_in now)) (answers_by_entries held now same)
           ∙ ap (λ xs. with_units (indexed_units us held) (answers_in held) xs) (known_by_entries held now same);
-      many = length-map now (λ (c : UnitCache R). is_parsed c.lines) ∙ stay_length held now stay ∙ sym (length-map held (λ (c : UnitCache R). is_parsed c.lines));
+      many = length-map now (λ (c : CachedUnit R). is_parsed c.lines) ∙ stay_length held now stay ∙ sym (length-map held (λ (c : CachedUnit R). is_parsed c.lines));
       parsed = stay_parsed held now stay;
       only = only;
     }
 
   -- after answers to loads, and what is known of entries
-  module _ (own : HaveEntriesOf scope us held) (entries : List (UnitCache R)) (lines : HaveSameLines held entries) (steps : ℕ) (was : LookupStop) where
+  module _ (own : HaveEntriesOf scope us held) (entries : List (CachedUnit R)) (lines : HaveSameLines held entries) (steps : ℕ) (was : LookupStop) where
     abbrev old : UnitsState
     old = as_units_state scope held steps was
 
@@ -112,24 +112,24 @@ module _ {R : Type 0} (scope : Scope) (held : List (UnitCache R)) where
     same_or : (n k : ℕ) → (k ≡ n) ⊎ (k ≢ n)
     same_or n k = elim (eqb_tells k n) [ inl p ↦ inl p.1 | inr q ↦ inr q.1 ]
 
-    module _ (n : ℕ) (others : (k : ℕ) → k ≢ n → slice_get entries k ≡ slice_get held k) (same_decided : decided_at held n ≡ true → entries ≡ held) (many : length us ≡ length entries) where
-      shut_stays : (probe k : ℕ) → is_open_at d us (answers_in held) n ≡ false → (k ≡ n) ⊎ (k ≢ n) → has_entries_at probe held k ≡ true → has_entries_at probe entries k ≡ true
-      shut_stays probe k shut (inr ne) q = ap (λ (o : Option (UnitCache R)). unwrap_or (option_map (λ x. has_entries probe x.entries) o) true) (others k ne) ∙ q
-      shut_stays probe k shut (inl e) q = elim (known_is_decided scope probe us held k own (subst (λ j. is_open_at d us (answers_in held) j ≡ false) (sym e) shut) q) [
-        | inl decided ↦ ap (λ vs. has_entries_at probe vs k) (same_decided (subst (λ j. decided_at held j ≡ true) e decided)) ∙ q
-        | inr past ↦ none_asked probe entries k (subst (λ l. l ≤ k) many past)
+    module _ (n : ℕ) (others : (k : ℕ) → k ≢ n → slice_get entries k ≡ slice_get held k) (same_decided : decided_at held n ≡ true → known_in entries ≡ known_in held) (many : length us ≡ length entries) where
+      shut_stays : (probe k : ℕ) → is_open_at d us (answers_in held) n ≡ false → (k ≡ n) ⊎ (k ≢ n) → knows_at (known_in held) probe k ≡ true → knows_at (known_in entries) probe k ≡ true
+      shut_stays probe k shut (inr ne) q = known_is probe entries k ∙ ap (λ (o : Option (CachedUnit R)). unwrap_or (option_map (λ x. has_entries probe x.entries) o) true) (others k ne) ∙ sym (known_is probe held k) ∙ q
+      shut_stays probe k shut (inl e) q = elim (known_is_decided scope probe us held k own (subst (λ j. is_open_at d us (answers_in held) j ≡ false) (sym e) shut) (sym (known_is probe held k) ∙ q)) [
+        | inl decided ↦ ap (λ known. knows_at known probe k) (same_decided (subst (λ j. decided_at held j ≡ true) e decided)) ∙ q
+        | inr past ↦ known_is probe entries k ∙ none_asked probe entries k (subst (λ l. l ≤ k) many past)
       ]
 
       shut_whole : (kind : ReadingDepth) (k : ℕ) → is_open_at d us (answers_in held) n ≡ false → (k ≡ n) ⊎ (k ≢ n) → IsReadyAt kind (known_in held) k → IsReadyAt kind (known_in entries) k
       shut_whole kind k shut (inr ne) q = subst (λ o. IfSome o (IsReadyFor kind)) (sym (known_unchanged held entries k (others k ne))) q
       shut_whole kind k shut (inl e) q = elim (whole_is_decided kind scope us held k own (subst (λ j. is_open_at d us (answers_in held) j ≡ false) (sym e) shut) q) [
-        | inl decided ↦ subst (λ vs. IsReadyAt kind (known_in vs) k) (sym (same_decided (subst (λ j. decided_at held j ≡ true) e decided))) q
+        | inl decided ↦ subst (λ known. IsReadyAt kind known k) (sym (same_decided (subst (λ j. decided_at held j ≡ true) e decided))) q
         | inr past ↦ none_whole kind entries k (subst (λ l. l ≤ k) many past)
       ]
 
       stays_shut : is_open_at d us (answers_in held) n ≡ false → StaysKnown (known_in held) (known_in entries)
       stays_shut shut k = record {
-        at = λ probe q. known_is probe entries k ∙ shut_stays probe k shut (same_or n k) (sym (known_is probe held k) ∙ q);
+        at = λ probe q. shut_stays probe k shut (same_or n k) q;
         whole = λ kind q. shut_whole kind k shut (same_or n k) q;
       }
 
@@ -143,7 +143,7 @@ module _ {R : Type 0} (scope : Scope) (held : List (UnitCache R)) where
         others = λ k ne. known_unchanged held entries k (others k ne);
         functions = functions;
         known = stays_shut;
-        same = λ one e. ap known_in (same_decided (answered_is_decided held n one e));
+        same = λ one e. same_decided (answered_is_decided held n one e);
         not_open = not_open;
         no_memory = no_memory;
         beside = beside;
@@ -164,18 +164,18 @@ module _ {R : Type 0} (scope : Scope) (held : List (UnitCache R)) where
         begun = begun;
         refused = λ ne. let r = refused ne in (r.0, stays_known held entries r.1);
         known = stays_shut;
-        same = λ one e. ap known_in (same_decided (answered_is_decided held n one e));
+        same = λ one e. same_decided (answered_is_decided held n one e);
         others = λ k ne. known_unchanged held entries k (others k ne);
         functions = functions;
         not_open = not_open;
         exact = exact;
       }
 
-    pub after_forget : (n : ℕ) → answers_in entries ≡ forgotten (answers_in held) n → (answer_of (answers_in held) n ≡ None → entries ≡ held) → ((k : ℕ) → k ≢ n → slice_get entries k ≡ slice_get held k) → LearnsNoFunctions (known_in held) (known_in entries) → AfterForget n old new
+    pub after_forget : (n : ℕ) → answers_in entries ≡ forgotten (answers_in held) n → (answer_of (answers_in held) n ≡ None → known_in entries ≡ known_in held) → ((k : ℕ) → k ≢ n → slice_get entries k ≡ slice_get held k) → LearnsNoFunctions (known_in held) (known_in entries) → AfterForget n old new
     after_forget n answers nothing others functions = record {
       stays = only_entries;
       answers = answers;
-      same = λ e. ap known_in (nothing e);
+      same = nothing;
       others = λ k ne. known_unchanged held entries k (others k ne);
       functions = functions;
     }

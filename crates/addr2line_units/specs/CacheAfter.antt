@@ -3,21 +3,19 @@
 -- Own: what is cached stays, until the unit is forgotten, and nothing is read that isn't asked for.
 -- OutOfMemory is never cached.
 use Rattle.std.specs.Prelude.{◌≡◌, ◌+◌, ◌<◌, ◌≤◌, ℕ, Bool, true, false, List, Option, None, Some, Result, Ok, Err, IfOk, IfErr, IfSome, OnOk, is_some, if◌then◌else◌, ◌⊎◌}
-use Rattle.addr2line_units.specs.Common.{Error, OutOfMemory, WasNotRefused, Sections, UnitRecord, Scope, IsScope, functions_of, functions_take_memory, exceeds_inline_room, ExactlyUnlessOom}
+use Rattle.addr2line_units.specs.Common.{Error, OutOfMemory, WasNotRefused, Sections, UnitRecord, Scope, functions_of, functions_take_memory, ExactlyUnlessOom}
 use Rattle.addr2line_lines.specs.FunctionDetails.{AreUnread}
 use Rattle.addr2line_units.specs.declared.entries.FunctionPlace.{FunctionPlace}
 use Rattle.addr2line_units.specs.declared.entries.LazyFunctions.{LazyFunctions}
-use Rattle.addr2line_units.specs.declared.entries.UnitCache.{UnitCache}
+use Rattle.addr2line_units.specs.EntriesOwn.{CachedUnit, first_answer_of}
 use Rattle.addr2line_units.specs.declared.entries.EntriesCache.{EntriesCache}
 use Rattle.addr2line_units.specs.declared.entries.UnitFrames.{UnitFrames}
 use Rattle.addr2line_units.specs.declared.unit.LinesCache.{LinesCache}
-use Rattle.addr2line_units.specs.EntriesCached.{AreEntriesOf, AreFramesIn, AsksNoMemoryIn, HasAskedLines, ReadsEntriesOf, StayEntries, first_answer_of, has_entries}
-use Rattle.addr2line_units.specs.EntriesFrames.{HasFewInlined, asks_lines_in, frames_in, function_in, inlined_of_found}
-use Rattle.addr2line_units.specs.EntriesFunctions.{AreFunctionsOf, ArePlacesIn, ReadsNoOther, StayFunctions, cached_functions, cached_has_function, were_read}
+use Rattle.addr2line_units.specs.EntriesCached.{AreFramesIn, AsksNoMemoryIn, HasAskedLines, ReadsEntriesOf, StayEntries, frames_or, has_entries}
+use Rattle.addr2line_units.specs.EntriesFrames.{HasFewInlined, asks_lines_in, function_in}
+use Rattle.addr2line_units.specs.EntriesFunctions.{AreFunctionsOf, ArePlacesIn, cached_functions, were_read}
 use Rattle.addr2line_units.specs.EntriesMemory.{functions_in_take_memory, lines_take_memory}
-use Rattle.addr2line_units.specs.Frames.{function_at}
-use Rattle.addr2line_units.specs.UnitLinesCached.{AreLinesOf, CachesResult, StayLines, cached_lines_result, indexed_unit, is_uncached, lines_or}
-use Rattle.addr2line_units.specs.UnitsCached.{IsCacheOf}
+use Rattle.addr2line_units.specs.UnitLinesCached.{AreLinesOf, CachesResult, StayLines, cached_lines_result, is_uncached, lines_or}
 use Rattle.addr2line_units.specs.UnitView.{answered_view, verdict, SplitLoad, load_of_unit}
 use Rattle.addr2line_units.specs.LoadsListed.{MarksUnit, is_marked}
 use Rattle.addr2line_units.specs.LoadsMemory.{answer_takes_memory}
@@ -37,6 +35,17 @@ pub record AfterLinesOf {X : Type 0} (shares : Bool) (d : Sections) (u : UnitRec
       → WasNotRefused result
   pub no_memory : lines_take_memory shares u ≡ false
       → IfErr result (λ e. lines_or d u old.lines ≡ Err e)
+
+-- the unit was looked at whose entries are cached
+abbrev pub WasLookedAt : {R : Type 0} → Scope → UnitRecord → CachedUnit R → Type 0
+WasLookedAt scope u c = c.unit ≡ Some (record { scope = scope; unit = u })
+
+-- after a call on the entries of a unit, which leaves of them what it leaves: the unit was looked at
+pub record AfterEntries {R : Type 0} (Leaves : EntriesCache R → EntriesCache R → Type 0)
+    (scope : Scope) (u : UnitRecord) (old new : CachedUnit R) : Type 0 where
+  pub unit : WasLookedAt scope u new
+  pub lines : new.lines ≡ old.lines
+  pub entries : Leaves old.entries new.entries
 
 -- lines were looked at so often at most, and once at least where something was found
 pub record CountsSteps (most : ℕ) (found : Bool) (old new : ℕ) : Type 0 where
@@ -68,32 +77,13 @@ pub record AfterCachingFunctions {R : Type 0} (shares : Bool) (scope : Scope) (v
   pub kept : were_read old ≡ true → (new ≡ old) × (result ≡ Ok tt)
   pub refused : IfErr result (λ e. IsRefusalOf shares scope view e × (new ≡ old))
 
--- references lead from a view to units in order, and what is cached is the functions of the view
-pub record AreFunctionsIn {R : Type 0} (scope : Scope) (view : UnitRecord) (f : LazyFunctions R)
-    : Type 0 where
-  pub in_order : IsScope scope
-  pub functions : AreFunctionsOf scope view f
-
--- after the function at the probe was looked for: what is cached is right, and stays, and no other
--- detail is read; unless memory was refused the function is known, and where it is, memory is
--- refused for more than 16 inlined functions alone; where it was, nothing is read
-pub record AfterFunction {R : Type 0} (scope : Scope) (view : UnitRecord) (probe : ℕ)
-    (result : Result (Option FunctionPlace) Error) (old new : LazyFunctions R) : Type 0 where
-  pub right : AreFunctionsOf scope view new
-  pub there : IfOk result (λ found. IfSome found (ArePlacesIn (cached_functions new)))
-  pub stay : StayFunctions old new
-  pub within : ReadsNoOther probe (cached_functions old) (cached_functions new)
-  pub kept : cached_has_function probe old ≡ true → new ≡ old
-  pub known : WasNotRefused result → cached_has_function probe new ≡ true
-  pub memory : cached_has_function probe new ≡ true
-      → exceeds_inline_room (inlined_of_found (function_at scope view probe)) ≡ false
-      → WasNotRefused result
-
--- the same in the view of a unit; where the functions take no memory a refusal is the first fault
+-- after the function at the probe was looked for in the view of a unit: what is cached stays, and no
+-- other detail is read; unless memory was refused the function is known, and where it is, memory is
+-- refused for more than 16 inlined functions alone; where the functions take no memory a refusal is
+-- the first fault
 pub record AfterFunctionIn {R : Type 0} (shares : Bool) (scope : Scope) (u : UnitRecord)
     (probe : ℕ) (result : Result (Option FunctionPlace) Error) (old new : EntriesCache R)
     : Type 0 where
-  pub right : AreEntriesOf scope u new
   pub there : IfOk result (λ found. IfSome found (ArePlacesIn (cached_functions new.functions)))
   pub stay : StayEntries old new
   pub within : ReadsEntriesOf probe old new
@@ -135,13 +125,16 @@ pub record AfterCheck {R : Type 0} (d : Sections) (u : UnitRecord) (old new : En
   pub view : AfterViewCheck d u old.view new.view
   pub functions : new.functions ≡ old.functions
 
--- after the frames at the probe were looked for: what is cached is right, and stays; no other
--- detail is read, and lines only where they are asked for; unless memory was refused all that is
--- asked for is known, and where it is, memory is refused for more than 16 inlined functions alone;
--- where nothing of it takes memory a refusal is the first fault
+-- after the frames at the probe were looked for: the unit was looked at; its lines are as they were,
+-- or were read of it now; what is cached stays; no other detail is read, and lines only where
+-- they are asked for; unless memory was refused all that is asked for is known, and where it is, and
+-- the lines' fault isn't OutOfMemory, memory is refused for more than 16 inlined functions alone;
+-- where nothing of it takes memory either, a refusal is the first fault
 pub record AfterFramesIn {R : Type 0} (shares : Bool) (scope : Scope) (u : UnitRecord) (probe : ℕ)
-    (result : Result UnitFrames Error) (old new : UnitCache R) : Type 0 where
-  pub right : IsCacheOf scope u new
+    (result : Result UnitFrames Error) (old new : CachedUnit R) : Type 0 where
+  pub unit : WasLookedAt scope u new
+  pub read : (new.lines.lines ≡ old.lines.lines)
+      ⊎ AreLinesOf scope.file.sections u new.lines.lines
   pub there : IfOk result (AreFramesIn new.lines new.entries)
   pub lines : StayLines old.lines new.lines
   pub stay : StayEntries old.entries new.entries
@@ -153,10 +146,11 @@ pub record AfterFramesIn {R : Type 0} (shares : Bool) (scope : Scope) (u : UnitR
       → HasAskedLines scope u (first_answer_of old.entries) probe new.lines.lines
   pub memory : has_entries probe new.entries ≡ true
       → HasAskedLines scope u (first_answer_of old.entries) probe new.lines.lines
-      → HasFewInlined scope u (first_answer_of old.entries) probe → WasNotRefused result
+      → HasFewInlined scope u (first_answer_of old.entries) probe
+      → WasNotRefused (cached_lines_result new.lines.lines) → WasNotRefused result
   pub no_memory : AsksNoMemoryIn shares scope u (first_answer_of old.entries) probe new.lines
-      new.entries → IfErr result (λ e. frames_in scope (indexed_unit u old.lines)
-      (first_answer_of old.entries) probe ≡ Err e)
+      new.entries → WasNotRefused (cached_lines_result new.lines.lines)
+      → IfErr result (λ e. frames_or scope u probe old ≡ Err e)
 
 -- after an answer to the load of a unit: it was looked at first, and where it waits then, it is
 -- decided by the answer; no functions are read
@@ -189,7 +183,10 @@ pub record AfterNewLoadIn {R : Type 0} (d : Sections) (number : ℕ) (u : UnitRe
 
 -- after a unit was forgotten: where it had an answer, its functions weren't read; where it had none
 -- nothing is changed
-pub record AfterForgettingIn {R : Type 0} (old new : EntriesCache R) : Type 0 where
-  pub view : AfterViewForgetting old.view new.view
-  pub empty : is_some (first_answer_of old) ≡ true → were_read new.functions ≡ false
-  pub kept : first_answer_of old ≡ None → new ≡ old
+pub record AfterForgettingIn {R : Type 0} (old new : CachedUnit R) : Type 0 where
+  pub unit : new.unit ≡ old.unit
+  pub lines : new.lines ≡ old.lines
+  pub view : AfterViewForgetting old.entries.view new.entries.view
+  pub empty : is_some (first_answer_of old.entries) ≡ true
+      → were_read new.entries.functions ≡ false
+  pub kept : first_answer_of old.entries ≡ None → new.entries ≡ old.entries

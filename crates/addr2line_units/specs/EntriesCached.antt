@@ -3,43 +3,24 @@
 -- Own: the functions of a view that is known are read when they are first asked for, and cached
 -- then, their fault too, until the unit is forgotten; so is each detail. OutOfMemory is never
 -- cached.
-use Rattle.std.specs.Prelude.{◌≡◌, ℕ, Bool, true, false, List, Option, Some, None, Result, Ok, Err, IfOk, IfSome, option_map}
-use Rattle.addr2line_units.specs.Common.{Error, Sections, UnitRecord, location_of_row, IsScope, Scope}
+use Rattle.std.specs.Prelude.{◌≡◌, ℕ, Bool, true, false, List, Option, Some, None, Result, Ok, Err, IfSome, option_map}
+use Rattle.addr2line_units.specs.Common.{Error, Sections, UnitRecord, location_of_row, Scope}
 use Rattle.addr2line_units.specs.declared.entries.LazyFunctions.{LazyFunctions}
 use Rattle.addr2line_units.specs.declared.unit.LazyLines.{LazyLines}
 use Rattle.addr2line_units.specs.declared.unit.LazyLines.TheVariants as lines
 use Rattle.addr2line_units.specs.declared.unit.LinesCache.{LinesCache}
 use Rattle.addr2line_units.specs.declared.entries.EntriesCache.{EntriesCache}
+use Rattle.addr2line_units.specs.EntriesOwn.{CachedUnit, first_answer_of}
 use Rattle.addr2line_units.specs.declared.entries.UnitFrames.{UnitFrames}
 use Rattle.addr2line_units.specs.declared.entries.UnitFrames.TheVariants as found
 use Rattle.addr2line_units.specs.declared.unit.ViewState.{ViewState}
 use Rattle.addr2line_units.specs.declared.unit.ViewState.TheVariants as states
 use Rattle.addr2line_units.specs.EntriesMemory.{functions_in_take_memory, lines_take_memory}
-use Rattle.addr2line_units.specs.UnitLinesCached.{cached_files, is_uncached}
+use Rattle.addr2line_units.specs.UnitLinesCached.{cached_files, is_uncached, lines_or}
 use Rattle.addr2line_units.specs.Frames.{FrameRecord, found_frames}
-use Rattle.addr2line_units.specs.EntriesFunctions.{AreFunctionsOf, ArePlacesIn, ReadsNoOther, StayFunctions, function_of_place, cached_has_function, is_cached_fault, cached_functions, were_read}
-use Rattle.addr2line_units.specs.UnitViewCached.{IsViewOf, is_decided, answer_of_view, was_checked}
-use Rattle.addr2line_units.specs.EntriesFrames.{HasFewInlined, asks_lines_in}
-use Rattle.addr2line_units.specs.UnitView.{verdict, view_scope}
-
--- the first answer of a unit
-abbrev pub first_answer_of : {R : Type 0} → EntriesCache R → Option (Option Sections)
-first_answer_of v = answer_of_view v.view
-
--- references lead from the unit to units in order; what is cached is the view of the unit and the
--- functions of that view, which are read only where the view is known
-pub record AreEntriesOf {R : Type 0} (scope : Scope) (u : UnitRecord) (v : EntriesCache R)
-    : Type 0 where
-  pub in_order : IsScope scope
-  pub view : IsViewOf scope.file.sections u v.view
-  pub functions : IfSome (verdict scope.file.sections u (first_answer_of v)) (λ view.
-      IfOk view (λ x. AreFunctionsOf (view_scope scope x) x.unit v.functions))
-  pub unread : is_decided v.view.state ≡ false → were_read v.functions ≡ false
-
--- nobody has asked for anything yet
-pub record AreFresh {R : Type 0} (v : EntriesCache R) : Type 0 where
-  pub view : was_checked v.view.state ≡ false
-  pub functions : were_read v.functions ≡ false
+use Rattle.addr2line_units.specs.EntriesFunctions.{ArePlacesIn, ReadsNoOther, StayFunctions, function_of_place, cached_has_function, is_cached_fault, cached_functions}
+use Rattle.addr2line_units.specs.UnitViewCached.{was_checked}
+use Rattle.addr2line_units.specs.EntriesFrames.{FramesResult, HasFewInlined, asks_lines_in, frames_by_lines}
 
 -- the answer stays, and so does what is cached; more may be
 pub record StayEntries {R : Type 0} (old new : EntriesCache R) : Type 0 where
@@ -86,6 +67,12 @@ abbrev pub AreRead : LazyLines → Type 0
 AreRead lines.Absent = Unit {0}
 AreRead (lines.Read table) = Unit {0}
 AreRead _ = ⊥
+
+-- the frames at the probe in a unit, by the lines that are cached, or else by what its bytes give of
+-- these
+abbrev pub frames_or : {R : Type 0} → Scope → UnitRecord → ℕ → CachedUnit R → FramesResult
+frames_or scope u probe c = frames_by_lines scope u c.lines.lang
+    (lines_or scope.file.sections u c.lines.lines) (first_answer_of c.entries) probe
 
 -- the places of a function and its inlined ones are among those that are cached, and the lines are
 -- read

@@ -2,7 +2,7 @@
 use Rattle.std.specs.Prelude.{◌≡◌, ◌&&◌, ℕ, Bool, true, false, is_ok, Ok}
 use Rattle.addr2line_units.specs.declared.entries.LazyFunctions.{LazyFunctions}
 use Rattle.addr2line_units.specs.declared.entries.LazyFunctions.TheVariants as functions
-use Rattle.addr2line_units.specs.declared.entries.UnitCache.{UnitCache}
+use Rattle.addr2line_units.specs.EntriesOwn.{CachedUnit}
 use Rattle.addr2line_units.specs.declared.frames.Asks.TheVariants.{Frames}
 use Rattle.addr2line_units.specs.declared.frames.OnFault.{OnFault}
 use Rattle.addr2line_units.specs.declared.unit.LazyLines.{LazyLines}
@@ -31,7 +31,7 @@ has_no_lines _ = false
 
 -- whether it is known that a unit has nothing at any address: neither functions, in a view that has
 -- no fault, nor lines
-abbrev pub has_nothing : {R : Type 0} → UnitCache R → Bool
+abbrev pub has_nothing : {R : Type 0} → CachedUnit R → Bool
 has_nothing c = has_no_functions c.entries.functions
     && (has_no_lines c.lines.lines && has_view c.entries.view.state)
 

@@ -3,7 +3,8 @@
 -- Own: the first fault counts of the view, its functions, the detail of the function, and the lines
 -- of the main unit. A unit that waits for an answer has no frames yet.
 use Rattle.std.specs.Prelude.{◌≡◌, ℕ, Bool, false, ◌&&◌, not, List, [], Option, Some, None, Result, Ok, Err, is_ok, if◌then◌else◌}
-use Rattle.addr2line_units.specs.Common.{Error, ◌>>=◌, Sections, UnitRecord, FunctionRange, function_offset_at, functions_of, exceeds_inline_room, InlinedEntry, location_at, Scope, unit_lines}
+use Rattle.addr2line_lines.specs.Location.{LineTable as Lines}
+use Rattle.addr2line_units.specs.Common.{DwLang, Error, ◌>>=◌, Sections, UnitRecord, FunctionRange, function_offset_at, functions_of, exceeds_inline_room, InlinedEntry, location_at, Scope, unit_lines}
 use Rattle.addr2line_units.specs.Frames.{FoundFunction, FrameRecord, found_frames, function_at}
 use Rattle.addr2line_units.specs.UnitsRanged.{IndexedUnit}
 use Rattle.addr2line_units.specs.UnitView.{View, is_open, verdict, view_scope}
@@ -41,20 +42,27 @@ unfoldable pub function_offset_in : Scope → UnitRecord → Option (Option Sect
 function_offset_in scope u answer probe =
     function_offset_by scope probe (verdict scope.file.sections u answer)
 
--- the frames at the probe of a function that was found in the view of a unit, or none was
-abbrev pub frames_by : Scope → IndexedUnit → ℕ → Result (Option FoundFunction) Error
+-- the frames at the probe of a function that was found in the view of a unit, or none was, by the
+-- unit's language and lines
+abbrev pub frames_by : Option DwLang → Result Lines Error → ℕ → Result (Option FoundFunction) Error
     → Result (List FrameRecord) Error
-frames_by scope u probe found = do
+frames_by language lines probe found = do
   function ← found
-  lines ← unit_lines scope.file.sections u.unit
-  Ok (found_frames lines.files u.language function (location_at probe lines))
+  table ← lines
+  Ok (found_frames table.files language function (location_at probe table))
 
--- the frames at the probe in a unit with this first answer
-unfoldable pub frames_in : Scope → IndexedUnit → Option (Option Sections) → ℕ → FramesResult
-frames_in scope u answer probe =
-    if is_open scope.file.sections u.unit answer then Ok None
-    else frames_by scope u probe (function_in scope u.unit answer probe)
+-- the frames at the probe in a unit with this first answer, by its language and lines
+unfoldable pub frames_by_lines : Scope → UnitRecord → Option DwLang → Result Lines Error
+    → Option (Option Sections) → ℕ → FramesResult
+frames_by_lines scope u language lines answer probe =
+    if is_open scope.file.sections u answer then Ok None
+    else frames_by language lines probe (function_in scope u answer probe)
     >>= λ frames. Ok (Some frames)
+
+-- the same by what the unit's bytes give of its lines
+abbrev pub frames_in : Scope → IndexedUnit → Option (Option Sections) → ℕ → FramesResult
+frames_in scope u answer probe =
+    frames_by_lines scope u.unit u.language (unit_lines scope.file.sections u.unit) answer probe
 
 -- whether the lines of a unit are asked for: it isn't open, and no fault comes before theirs
 unfoldable pub asks_lines_in : Scope → UnitRecord → Option (Option Sections) → ℕ → Bool

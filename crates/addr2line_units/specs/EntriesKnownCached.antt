@@ -4,7 +4,7 @@ use Rattle.addr2line_units.specs.Common.{Error, CachedFunction, FunctionTable}
 use Rattle.addr2line_lines.specs.Details.{Detail}
 use Rattle.addr2line_units.specs.declared.entries.LazyFunctions.{LazyFunctions}
 use Rattle.addr2line_units.specs.declared.entries.LazyFunctions.TheVariants as lazy
-use Rattle.addr2line_units.specs.declared.entries.UnitCache.{UnitCache}
+use Rattle.addr2line_units.specs.EntriesOwn.{CachedUnit}
 use Rattle.addr2line_units.specs.declared.unit.ViewState.{ViewState}
 use Rattle.addr2line_units.specs.declared.unit.ViewState.TheVariants as states
 use Rattle.addr2line_units.specs.EntriesFunctions.{is_cached_fault, no_functions}
@@ -49,5 +49,5 @@ known_by (states.Unnamed e) functions = known_fault e
 known_by (states.Answered a) functions = known_answer a.unit functions
 
 -- the entries of each unit
-abbrev pub known_in : {R : Type 0} → List (UnitCache R) → List KnownEntries
+abbrev pub known_in : {R : Type 0} → List (CachedUnit R) → List KnownEntries
 known_in caches = map (λ c. known_by c.entries.view.state c.entries.functions) caches

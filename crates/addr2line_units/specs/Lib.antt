@@ -31,6 +31,7 @@ pub mod SupScope
 pub mod FramesLeft
 pub mod EntriesFrames
 pub mod FramesLookup
+pub mod EntriesOwn
 pub mod EntriesCached
 pub mod FramesCached
 pub mod UnitsCached

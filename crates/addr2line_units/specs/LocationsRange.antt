@@ -4,7 +4,7 @@
 use Rattle.std.specs.Prelude.{◌≡◌, ℕ, List, [], ◌∷◌, flat_map, Option, Some, None, Result, Ok, Err}
 use Rattle.addr2line_units.specs.Common.{Error, LocatedSpan}
 use Rattle.addr2line_units.specs.declared.index.UnitRange.{UnitRange}
-use Rattle.addr2line_units.specs.declared.entries.UnitCache.{UnitCache}
+use Rattle.addr2line_units.specs.EntriesOwn.{CachedUnit}
 use Rattle.addr2line_units.specs.UnitLinesCached.{cached_spans, lines_at}
 use Rattle.addr2line_units.specs.Locations.{all_read}
 
@@ -34,7 +34,7 @@ rows_or_fault (Ok rows) = unit_rows_left rows
 rows_or_fault (Err e) = Err e ∷ []
 
 -- what cached lines have in the ranges that are left
-abbrev pub cached_along : {R : Type 0} → List (UnitCache R) → ℕ → ℕ → List UnitRange
+abbrev pub cached_along : {R : Type 0} → List (CachedUnit R) → ℕ → ℕ → List UnitRange
     → List (Result LocatedSpan Error)
 cached_along caches low high ranges =
     flat_map (λ (r : UnitRange). cached_spans r.range low high (lines_at caches r.unit)) ranges

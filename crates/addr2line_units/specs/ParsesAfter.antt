@@ -1,20 +1,19 @@
 -- What a parse of functions leaves of a view, of a unit, and of the unit of a number, as the
 -- private functions see it (DWARF 5, section 3.3: entries of subprograms and of inlined functions).
 use Rattle.std.specs.Prelude.{◌≡◌, ◌≢◌, ◌⊎◌, ℕ, Bool, true, false, IfErr, IfSome, OnOk, slice_get, None, Result, Ok, Err}
-use Rattle.addr2line_units.specs.Common.{Error, WasNotRefused, UnitRecord, functions_take_memory, Scope}
-use Rattle.addr2line_units.specs.declared.entries.LazyFunctions.{LazyFunctions}
+use Rattle.addr2line_units.specs.Common.{Error, WasNotRefused, UnitRecord, Scope}
 use Rattle.addr2line_units.specs.declared.parses.ReadingDepth.{ReadingDepth}
 use Rattle.addr2line_units.specs.declared.parses.ReadingDepth.TheVariants as depths
 use Rattle.addr2line_units.specs.declared.entries.EntriesCache.{EntriesCache}
-use Rattle.addr2line_units.specs.declared.unit.UnitView.{UnitView}
 use Rattle.addr2line_units.specs.UnitsAfter.{StayRead}
 use Rattle.addr2line_units.specs.EntriesMemory.{functions_in_take_memory}
-use Rattle.addr2line_units.specs.EntriesCached.{AreEntriesOf, StayEntries, first_answer_of}
-use Rattle.addr2line_units.specs.EntriesFunctions.{AreFunctionsOf, ReadsNoDetail, StayFunctions, cached_functions}
-use Rattle.addr2line_units.specs.EntriesKnownCached.{known_by, known_functions}
-use Rattle.addr2line_units.specs.UnitViewCached.{is_decided, answer_of_view}
+use Rattle.addr2line_units.specs.EntriesCached.{StayEntries}
+use Rattle.addr2line_units.specs.EntriesOwn.{first_answer_of}
+use Rattle.addr2line_units.specs.EntriesFunctions.{ReadsNoDetail, StayFunctions, cached_functions}
+use Rattle.addr2line_units.specs.EntriesKnownCached.{known_by}
+use Rattle.addr2line_units.specs.UnitViewCached.{is_decided}
 use Rattle.addr2line_units.specs.FramesLookup.{with_answer}
-use Rattle.addr2line_units.specs.Parses.{IsReadyFor, IsReadyOf, parse_of_takes_memory, parse_takes_memory, read_of_functions, read_of_number, read_of_unit, read_of_view}
+use Rattle.addr2line_units.specs.Parses.{IsReadyFor, IsReadyOf, parse_of_takes_memory, parse_takes_memory, read_of_number, read_of_unit, read_of_view}
 use Rattle.addr2line_units.specs.EntriesKnown.{KnownEntries, LearnsNoDetails, knows_detail}
 use Rattle.addr2line_units.specs.Loads.{is_open_at}
 use Rattle.addr2line_units.specs.EntriesStayKnown.{IsReadBy, StaysKnownOf}
@@ -38,43 +37,28 @@ pub record AfterReadingOf (depth : ReadingDepth) (reading result : Result (Unit 
   pub exact : IsDecidedAndReady depth waited old → result ≡ reading
   pub same : IsDecidedAndReady depth waited old → new ≡ old
 
--- after the functions of a view were read, over readers that share their bytes or don't: what is
--- cached is right, and stays, and where all that is read was cached nothing is changed; no detail
--- is read where functions alone are; where functions take no memory, a refusal is their first fault
-pub record AfterReadingFunctions {R : Type 0} (shares : Bool) (depth : ReadingDepth)
-    (scope : Scope) (view : UnitRecord) (result : Result (Unit {0}) Error)
-    (old new : LazyFunctions R) : Type 0 where
-  pub right : AreFunctionsOf scope view new
-  pub stay : StayFunctions old new
-  pub known : AfterReadingOf depth (read_of_functions depth scope view) result false
-      (known_functions old) false (known_functions new)
-  pub kept : IsReadyFor depth (known_functions old) → new ≡ old
-  pub details : depth ≡ depths.Functions
-      → ReadsNoDetail (cached_functions old) (cached_functions new)
-  pub no_memory : functions_take_memory shares scope.file.sections view ≡ false
-      → IfErr result (λ e. read_of_functions depth scope view ≡ Err e)
-
--- the same of the view of a unit that is decided
-pub record AfterReadingView {R : Type 0} (shares : Bool) (depth : ReadingDepth)
-    (scope : Scope) (u : UnitRecord) (view : UnitView R) (result : Result (Unit {0}) Error)
-    (old new : LazyFunctions R) : Type 0 where
-  pub right : AreEntriesOf scope u (record { view = view; functions = new })
-  pub stay : StayFunctions old new
+-- after the functions in the view of a unit that is decided were read, over readers that share their
+-- bytes or don't: what is cached stays, and where all that is read was cached nothing is changed; no
+-- detail is read where functions alone are; where functions take no memory, a refusal is their first
+-- fault
+pub record AfterReadingView {R : Type 0} (shares : Bool) (depth : ReadingDepth) (scope : Scope)
+    (u : UnitRecord) (result : Result (Unit {0}) Error) (old new : EntriesCache R) : Type 0 where
+  pub view : new.view ≡ old.view
+  pub stay : StayFunctions old.functions new.functions
   pub known : AfterReadingOf depth
-      (read_of_view depth scope (verdict scope.file.sections u (answer_of_view view))) result
-      false (known_by view.state old) false (known_by view.state new)
+      (read_of_view depth scope (verdict scope.file.sections u (first_answer_of old))) result
+      false (known_by old.view.state old.functions) false (known_by new.view.state new.functions)
   pub details : depth ≡ depths.Functions
-      → ReadsNoDetail (cached_functions old) (cached_functions new)
-  pub no_memory : functions_in_take_memory shares scope u (answer_of_view view) ≡ false
+      → ReadsNoDetail (cached_functions old.functions) (cached_functions new.functions)
+  pub no_memory : functions_in_take_memory shares scope u (first_answer_of old) ≡ false
       → IfErr result (λ e. read_of_view depth scope
-      (verdict scope.file.sections u (answer_of_view view)) ≡ Err e)
+      (verdict scope.file.sections u (first_answer_of old)) ≡ Err e)
 
 -- the same of a unit, which is decided by none first where it is open; where memory was refused, it
 -- may be
 pub record AfterReadingUnit {R : Type 0} (shares : Bool) (depth : ReadingDepth)
     (scope : Scope) (u : UnitRecord) (result : Result (Unit {0}) Error)
     (old new : EntriesCache R) : Type 0 where
-  pub right : AreEntriesOf scope u new
   pub answer : WasNotRefused result → first_answer_of new
       ≡ decided_answer scope.file.sections u (first_answer_of old) None
   pub begun : (first_answer_of new ≡ first_answer_of old) ⊎ (first_answer_of new

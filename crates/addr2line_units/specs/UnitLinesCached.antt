@@ -2,7 +2,7 @@
 -- Own: lines are read when they are first asked for, and cached then, their fault too. OutOfMemory
 -- is never cached. Lines are absent where the unit has no rows and no files, as where it has no
 -- line program.
-use Rattle.std.specs.Prelude.{◌≡◌, ◌≢◌, ℕ, Bool, true, false, not, List, [], ◌∷◌, map, Option, Some, None, option_and_then, slice_get, Result, Ok, Err, if◌then◌else◌, box_value}
+use Rattle.std.specs.Prelude.{◌≡◌, ◌≢◌, ℕ, Bool, true, false, not, List, [], ◌∷◌, map, Option, Some, None, slice_get, Result, Ok, Err, box_value}
 use Rattle.std.specs.List.{AllZip}
 use Rattle.addr2line_units.specs.Common.{Error, OutOfMemory, Range, ◌>>=◌, fault_of, Sections, UnitRecord, LocatedSpan, location_at, locations_in_range, sequence_ranges, unit_lines}
 use Rattle.addr2line_lines.specs.declared.row.Row.{Row}
@@ -12,7 +12,7 @@ use Rattle.addr2line_lines.specs.Spans.{row_at}
 use Rattle.addr2line_units.specs.declared.unit.LazyLines.{LazyLines}
 use Rattle.addr2line_units.specs.declared.unit.LazyLines.TheVariants.{Unread, Absent, Read, Faulty}
 use Rattle.addr2line_units.specs.declared.unit.LinesCache.{LinesCache}
-use Rattle.addr2line_units.specs.declared.entries.UnitCache.{UnitCache}
+use Rattle.addr2line_units.specs.EntriesOwn.{CachedUnit}
 use Rattle.addr2line_units.specs.UnitsRanged.{IndexedUnit}
 use Rattle.addr2line_units.specs.Locations.{LocationResult, all_read}
 
@@ -57,13 +57,19 @@ abbrev pub lines_result : Sections → UnitRecord → Result (Option Lines) Erro
 lines_result d u = unit_lines d u >>= λ lines. Ok (Some lines)
 
 -- the cached lines or their cached fault, or where nothing is cached what the unit's bytes give
-abbrev pub lines_or : Sections → UnitRecord → LazyLines → Result (Option Lines) Error
-lines_or d u lines = if is_uncached lines then lines_result d u else cached_lines_result lines
+abbrev pub lines_or : Sections → UnitRecord → LazyLines → Result Lines Error
+lines_or d u Unread = unit_lines d u
+lines_or d u Absent = Ok no_lines
+lines_or d u (Read lines) = Ok (box_value lines)
+lines_or d u (Faulty e) = Err e
+
+-- what they are once they are cached
+abbrev pub lines_result_or : Sections → UnitRecord → LazyLines → Result (Option Lines) Error
+lines_result_or d u lines = lines_or d u lines >>= λ found. Ok (Some found)
 
 -- the location of the probe in these, or the fault
 abbrev pub location_or : Sections → UnitRecord → ℕ → LazyLines → LocationResult
-location_or d u probe lines =
-    lines_or d u lines >>= λ found. Ok (option_and_then (location_at probe) found)
+location_or d u probe lines = lines_or d u lines >>= λ found. Ok (location_at probe found)
 
 -- the texts of the files of cached lines
 abbrev pub cached_files : LazyLines → List (List ℕ)
@@ -102,27 +108,27 @@ abbrev pub is_parsed : LinesCache → Bool
 is_parsed u = not (is_uncached u.lines)
 
 -- the units and their languages, which are cached beside them
-abbrev pub indexed_units : {R : Type 0} → List UnitRecord → List (UnitCache R) → List IndexedUnit
+abbrev pub indexed_units : {R : Type 0} → List UnitRecord → List (CachedUnit R) → List IndexedUnit
 indexed_units [] caches = []
 indexed_units (d ∷ dw_units) [] = []
 indexed_units (d ∷ dw_units) (c ∷ caches) =
     indexed_unit d c.lines ∷ indexed_units dw_units caches
 
 -- of which units the lines are parsed
-abbrev pub parsed_units : {R : Type 0} → List (UnitCache R) → List Bool
+abbrev pub parsed_units : {R : Type 0} → List (CachedUnit R) → List Bool
 parsed_units caches = map (λ c. is_parsed c.lines) caches
 
 -- beside each unit stand cached lines, which are its own
-abbrev pub HaveLinesOf : {R : Type 0} → Sections → List UnitRecord → List (UnitCache R) → Type 0
+abbrev pub HaveLinesOf : {R : Type 0} → Sections → List UnitRecord → List (CachedUnit R) → Type 0
 HaveLinesOf d dw_units caches = AllZip (λ x c. AreLinesOf d x c.lines.lines) dw_units caches
 
 -- the lines of a unit, as they are cached
-abbrev pub lines_in_cache : {R : Type 0} → Option (UnitCache R) → LazyLines
+abbrev pub lines_in_cache : {R : Type 0} → Option (CachedUnit R) → LazyLines
 lines_in_cache None = Unread
 lines_in_cache (Some c) = c.lines.lines
 
 -- the lines of a unit by its number, as they are cached
-abbrev pub lines_at : {R : Type 0} → List (UnitCache R) → ℕ → LazyLines
+abbrev pub lines_at : {R : Type 0} → List (CachedUnit R) → ℕ → LazyLines
 lines_at caches n = lines_in_cache (slice_get caches n)
 
 -- the language of a unit stays, and so do its cached lines or their fault

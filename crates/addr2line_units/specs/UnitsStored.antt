@@ -2,22 +2,16 @@
 use Rattle.std.specs.Prelude.{ℕ, List}
 use Rattle.addr2line_units.specs.Common.{IsScope, Scope}
 use Rattle.addr2line_units.specs.declared.frames.FramesStop.{FramesStop}
-use Rattle.addr2line_units.specs.declared.entries.UnitCache.{UnitCache}
-use Rattle.addr2line_units.specs.declared.units.Sources.{Sources}
+use Rattle.addr2line_units.specs.EntriesOwn.{CachedUnit}
 use Rattle.addr2line_units.specs.FramesCached.{IsLendable}
 use Rattle.addr2line_units.specs.UnitLinesCached.{indexed_units, parsed_units}
 use Rattle.addr2line_units.specs.UnitsCached.{HaveCachesOf, answers_in}
 use Rattle.addr2line_units.specs.FramesLookup.{LookupStop}
 use Rattle.addr2line_units.specs.EntriesKnownCached.{known_in}
-use Rattle.addr2line_units.specs.SupScope.{scope_in}
 use Rattle.addr2line_units.specs.UnitsState.{UnitsState}
 
--- where references lead from the units of a file
-abbrev pub scope_of : {R : Type 0} → Sources R → Scope
-scope_of s = scope_in s.dwarf.value s.units.items s.sup
-
 -- units by what is cached of them
-abbrev pub as_units_state : {R : Type 0} → Scope → List (UnitCache R) → ℕ → LookupStop → UnitsState
+abbrev pub as_units_state : {R : Type 0} → Scope → List (CachedUnit R) → ℕ → LookupStop → UnitsState
 as_units_state scope caches steps stop = record {
   scope = scope;
   units = indexed_units scope.file.units caches;
@@ -30,7 +24,7 @@ as_units_state scope caches steps stop = record {
 
 -- references lead to units in order, beside each unit stands its cache, and what is stored of the
 -- last lookup can be lent
-pub record AreUnits {R : Type 0} (scope : Scope) (cs : List (UnitCache R)) (last : FramesStop)
+pub record AreUnits {R : Type 0} (scope : Scope) (cs : List (CachedUnit R)) (last : FramesStop)
     : Type 0 where
   pub in_order : IsScope scope
   pub caches : HaveCachesOf scope scope.file.units cs

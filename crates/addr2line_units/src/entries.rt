@@ -1,24 +1,13 @@
 //! What is cached of the entries of a unit: its functions, and what stands at an address.
 
-ghost use Rattle.std.specs.Prelude.{◌≡◌, ◌&&◌, IfErr, IfOk, true, ◌≤◌, None};
-ghost use Rattle.addr2line_units.specs.Common.{ExactlyUnlessOomIf, ExactlyUnlessOom, as_scope};
-ghost use Rattle.addr2line_units.specs.Frames.{function_at};
-ghost use Rattle.addr2line_units.specs.ParsesAfter.{AfterReadingFunctions};
-ghost use Rattle.addr2line_units.specs.EntriesFunctions.{find_takes_memory, found_in_cache, functions_fault, reading_takes_memory, were_read};
-ghost use Rattle.addr2line_units.specs.EntriesFrames.{frames_in, function_in};
-ghost use Rattle.addr2line_units.specs.UnitLinesCached.{indexed_unit};
-ghost use Rattle.addr2line_units.specs.UnitsCached.{IsCacheOf};
-ghost use Rattle.addr2line_units.specs.EntriesCached.{AreEntriesOf, AreFresh, frames_of_place, first_answer_of};
-ghost use Rattle.addr2line_units.specs.EntriesEmpty.{has_nothing};
-ghost use Rattle.addr2line_units.specs.UnitViewCached.{answer_of_view, is_decided};
-ghost use Rattle.addr2line_units.specs.CacheAfter.{AfterCachingFunctions, AfterCheck, AfterFramesIn, AfterFunction, AfterFunctionIn, AreFunctionsIn, AreNewFunctionsOf, IsRefusalOf};
-ghost use Rattle.addr2line_units.specs.declared.parses.ReadingDepth.TheVariants.{Details};
-
 use crate::unit::{LazyLines, LinesCache, UnitView};
+use crate::units::Sources;
 use addr2line_lines::{Count, Functions, InlinedPlaces, Row, Scope};
 use gimli::read::{Error, Reader};
 use gimli::{Dwarf, Unit, UnitRef};
 use std::alloc::Global;
+use std::marker::Model;
+use std::snapshot::Snapshot;
 
 // What is cached of the functions of a view. They stand in a box, so that what is cached of a unit
 // is small before anybody asks for them.
@@ -42,30 +31,31 @@ pub(crate) struct FunctionPlace {
     pub(crate) inlined: InlinedPlaces,
 }
 
-// The functions of a view, or their fault, as they are cached. Refused `OutOfMemory` alone, and
-// only where the functions take memory.
-fn read_functions<R: Reader>(
-    alloc: Global,
-    scope: Scope<'_, R>,
-    view: &Unit<R>,
-) -> Result<LazyFunctions<R>, Error>
-    ensures read { IfOk result (AreNewFunctionsOf (as_scope scope.entry) view.now) }
-    ensures refused { IfErr result (IsRefusalOf R.shares (as_scope scope.entry) view.now) }
-{
-    match Functions::parse(alloc, UnitRef::new(scope.file.dwarf, view)) {
-        Ok(functions) => match functions.offset(0) {
-            Some(_) => Ok(LazyFunctions::Read(Box::new(alloc, functions)?)),
-            None => Ok(LazyFunctions::Absent),
-        },
-        Err(error) => match error {
-            Error::OutOfMemory => Err(error),
-            _ => Ok(LazyFunctions::Faulty(error)),
-        },
-    }
-}
-
 impl<R: Reader> LazyFunctions<R> {
-    // Whether they were read.
+    ghost use Rattle.std.specs.Prelude.{◌≡◌, IfErr, IfOk};
+    ghost use Rattle.addr2line_units.specs.Common.{as_scope};
+    ghost use Rattle.addr2line_units.specs.EntriesFunctions.{were_read};
+    ghost use Rattle.addr2line_units.specs.CacheAfter.{AfterCachingFunctions, AreNewFunctionsOf, IsRefusalOf};
+
+    // The functions of a view, or their fault, as they are cached. Refused `OutOfMemory` alone, and
+    // only where the functions take memory.
+    fn parse(alloc: Global, scope: Scope<'_, R>, view: &Unit<R>) -> Result<LazyFunctions<R>, Error>
+        ensures read { IfOk result (AreNewFunctionsOf (as_scope scope.entry) view.now) }
+        ensures refused { IfErr result (IsRefusalOf R.shares (as_scope scope.entry) view.now) }
+    {
+        match Functions::parse(alloc, UnitRef::new(scope.file.dwarf, view)) {
+            Ok(functions) => match functions.offset(0) {
+                Some(_) => Ok(LazyFunctions::Read(Box::new(alloc, functions)?)),
+                None => Ok(LazyFunctions::Absent),
+            },
+            Err(error) => match error {
+                Error::OutOfMemory => Err(error),
+                _ => Ok(LazyFunctions::Faulty(error)),
+            },
+        }
+    }
+
+    // Whether the functions were read.
     fn were_read(&self) -> bool
         ensures gives { result ≡ were_read self.now }
     {
@@ -84,76 +74,9 @@ impl<R: Reader> LazyFunctions<R> {
             self.old self.new }
     {
         if !self.were_read() {
-            *self = read_functions(alloc, scope, view)?;
+            *self = LazyFunctions::parse(alloc, scope, view)?;
         }
         Ok(())
-    }
-
-    // The function at an address, none where no function holds it. The functions and its detail are
-    // read and cached, unless they are, their faults too.
-    //
-    // Refused by the fault of the functions or of the detail; may fail with `OutOfMemory` instead,
-    // only where the functions take memory and are not cached, the detail is not cached, or there
-    // are more than 16 inlined functions.
-    pub(crate) fn find(
-        &mut self,
-        alloc: Global,
-        scope: Scope<'_, R>,
-        view: &Unit<R>,
-        probe: u64,
-    ) -> Result<Option<FunctionPlace>, Error>
-        requires cached { AreFunctionsIn (as_scope scope) view.now self.old }
-        ensures gives { ExactlyUnlessOomIf
-            (find_takes_memory R.shares (as_scope scope.entry) view.now probe self.old
-            && find_takes_memory R.shares (as_scope scope.entry) view.now probe self.new)
-            (found_in_cache self.new) result (function_at (as_scope scope.entry) view.now probe) }
-        ensures after { AfterFunction (as_scope scope.entry) view.now probe result self.old
-            self.new }
-    {
-        self.cache(alloc, scope, view)?;
-        match self {
-            LazyFunctions::Absent => Ok(None),
-            LazyFunctions::Read(functions) => {
-                let table: &mut Functions<R> = functions;
-                let Some(place) = table.find(probe) else {
-                    return Ok(None);
-                };
-                table.read(scope, view, place)?;
-                let inlined = table.find_inlined_functions(alloc, place, probe)?;
-                Ok(Some(FunctionPlace { place, inlined }))
-            }
-            LazyFunctions::Faulty(error) => Err(*error),
-            // After `cache` they were read.
-            LazyFunctions::Unread => Ok(None),
-        }
-    }
-
-    // Reads the functions of a view and all their details, in the order of their entries, up to the
-    // first fault; what was read is cached, the fault too. May fail with `OutOfMemory` instead,
-    // only where memory is taken for functions that are not cached, or for a detail before any
-    // fault.
-    // Takes no memory, and changes nothing, where all is cached up to the first fault.
-    pub(crate) fn read_all(
-        &mut self,
-        alloc: Global,
-        scope: Scope<'_, R>,
-        view: &Unit<R>,
-    ) -> Result<(), Error>
-        requires cached { AreFunctionsIn (as_scope scope) view.now self.old }
-        ensures gives { ExactlyUnlessOomIf
-            (reading_takes_memory R.shares (as_scope scope.entry) view.now self.old) (λ x. x)
-            result (functions_fault (as_scope scope.entry) view.now) }
-        ensures after { AfterReadingFunctions R.shares Details (as_scope scope.entry) view.now
-            result self.old self.new }
-    {
-        self.cache(alloc, scope, view)?;
-        match self {
-            LazyFunctions::Absent => Ok(()),
-            LazyFunctions::Read(functions) => functions.read_all(scope, view),
-            LazyFunctions::Faulty(error) => Err(*error),
-            // After `cache` they were read.
-            LazyFunctions::Unread => Ok(()),
-        }
     }
 }
 
@@ -164,23 +87,54 @@ pub(crate) struct EntriesCache<R: Reader> {
     pub(crate) functions: LazyFunctions<R>,
 }
 
+impl<R: Reader> EntriesCache<R> {
+    ghost use Rattle.std.specs.Prelude.{◌≡◌, None};
+    ghost use Rattle.addr2line_units.specs.EntriesOwn.{AreFresh, first_answer_of};
+    ghost use Rattle.addr2line_units.specs.CacheAfter.{AfterCheck};
+
+    // Before anybody asks for something. Takes no memory.
+    fn new() -> EntriesCache<R>
+        ensures answer { first_answer_of result ≡ None }
+        ensures empty { AreFresh result }
+    {
+        EntriesCache {
+            view: UnitView::new(),
+            functions: LazyFunctions::Unread,
+        }
+    }
+
+    // Looks whether the unit waits for an answer, unless that was done. Takes no memory.
+    fn check_split(&mut self, dwarf: &Dwarf<R>, dw_unit: &Unit<R>)
+        ensures after { AfterCheck dwarf.now dw_unit.now self.old self.new }
+    {
+        self.view.check_split(dwarf, dw_unit);
+    }
+}
+
+// The unit whose entries are cached, once it was looked at.
+#[derive(Drop)]
+pub(crate) enum LookedAt<R: Reader> {
+    Nothing,
+    Unit(Snapshot<Sources<R>>, Snapshot<Unit<R>>),
+}
+
 /// What is cached of a unit: its lines with its language, and its entries.
 #[derive(Drop)]
 pub(crate) struct UnitCache<R: Reader> {
     pub(crate) lines: LinesCache,
     pub(crate) entries: EntriesCache<R>,
+    // The unit of which the entries are, for contracts alone: it has no bytes.
+    unit: Snapshot<LookedAt<R>>,
 }
 
-impl<R: Reader> UnitCache<R> {
-    // Whether it is known that the unit has nothing at any address: neither functions, in a view
-    // that has no fault, nor lines.
-    pub(crate) fn has_nothing(&self) -> bool
-        ensures gives { result ≡ has_nothing self.now }
-    {
-        matches!(self.entries.functions, LazyFunctions::Absent)
-            && matches!(self.lines.lines, LazyLines::Absent)
-            && self.entries.view.has_view()
-    }
+impl<R: Reader> Model for UnitCache<R> {
+    ghost use Rattle.addr2line_units.specs.EntriesOwn.{AreOwnEntries, CachedUnit, unit_of};
+
+    ghost Value = { CachedUnit R };
+
+    ghost view = { λ c. record { lines = c.lines; entries = c.entries; unit = unit_of c.unit.value } };
+
+    ghost invariant = { λ c. AreOwnEntries (unit_of c.unit.value) c.entries };
 }
 
 // What a unit has at an address.
@@ -195,83 +149,136 @@ pub(crate) enum UnitFrames {
     },
 }
 
-impl<R: Reader> EntriesCache<R> {
-    // Before anybody asks for something. Takes no memory.
-    pub(crate) fn new() -> EntriesCache<R>
-        ensures answer { first_answer_of result ≡ None }
-        ensures empty { AreFresh result }
+impl<R: Reader> UnitCache<R> {
+    ghost use Rattle.std.specs.Prelude.{◌≡◌, ◌≤◌, true};
+    ghost use Rattle.addr2line_units.specs.Common.{ExactlyUnlessOom, IsScope};
+    ghost use Rattle.addr2line_units.specs.CacheAfter.{AfterCheck, AfterEntries, AfterFramesIn, AfterFunctionIn};
+    ghost use Rattle.addr2line_units.specs.EntriesCached.{frames_of_place, frames_or};
+    ghost use Rattle.addr2line_units.specs.EntriesEmpty.{has_nothing};
+    ghost use Rattle.addr2line_units.specs.EntriesFrames.{function_in};
+    ghost use Rattle.addr2line_units.specs.EntriesFunctions.{found_in_cache};
+    ghost use Rattle.addr2line_units.specs.EntriesOwn.{AreOwnEntries, first_answer_of};
+    ghost use Rattle.addr2line_units.specs.SupScope.{scope_of};
+    ghost use Rattle.addr2line_units.specs.UnitsCached.{AreOfUnit, IsFresh};
+    ghost use Rattle.addr2line_units.specs.UnitViewCached.{is_decided};
+
+    // Lines alone, before anybody asks for something of the entries. Takes no memory.
+    pub(crate) fn new(lines: LinesCache) -> UnitCache<R>
+        ensures gives { result.lines ≡ lines }
+        ensures empty { IsFresh result }
     {
-        EntriesCache {
-            view: UnitView::new(),
-            functions: LazyFunctions::Unread,
+        UnitCache {
+            lines,
+            entries: EntriesCache::new(),
+            unit: Snapshot::of(&LookedAt::Nothing),
         }
     }
 
     // Looks whether the unit waits for an answer, unless that was done. Takes no memory.
-    pub(crate) fn check_split(&mut self, dwarf: &Dwarf<R>, dw_unit: &Unit<R>)
-        ensures after { AfterCheck dwarf.now dw_unit.now self.old self.new }
+    pub(crate) fn check_split(&mut self, sources: &Sources<R>, dw_unit: &Unit<R>)
+        requires in_order { IsScope (scope_of sources.now) }
+        requires unit { AreOfUnit (scope_of sources.now) dw_unit.now self.old }
+        ensures after { AfterEntries (AfterCheck sources.now.dwarf.value dw_unit.now)
+            (scope_of sources.now) dw_unit.now self.old self.new }
     {
-        self.view.check_split(dwarf, dw_unit);
+        self.entries.check_split(&sources.dwarf, dw_unit);
+        let sources = Snapshot::of(sources);
+        self.unit = Snapshot::of(&LookedAt::Unit(sources, Snapshot::of(dw_unit)));
     }
-}
 
-// The function at an address in a view that is decided, none where no function holds it. The
-// functions and its detail are read and cached, unless they are, their faults too.
-//
-// Refused by the first fault of the view, its functions and the detail; may fail with `OutOfMemory`
-// instead, only where something of these isn't cached, and the functions take memory, or there are
-// more than 16 inlined functions.
-fn find_in_view<'x, R: Reader>(
-    alloc: Global,
-    view: &'x UnitView<R>,
-    functions: &mut LazyFunctions<R>,
-    scope: Scope<'x, R>,
-    dw_unit: &'x Unit<R>,
-    probe: u64,
-) -> Result<Option<FunctionPlace>, Error>
-    requires cached { AreEntriesOf (as_scope scope) dw_unit.now
-        (record { view = view.now; functions = functions.old }) }
-    requires decided { is_decided view.now.state ≡ true }
-    ensures gives { ExactlyUnlessOom (found_in_cache functions.new) result
-        (function_in (as_scope scope.entry) dw_unit.now (answer_of_view view.now) probe) }
-    ensures after { AfterFunctionIn R.shares (as_scope scope.entry) dw_unit.now probe result
-        (record { view = view.now; functions = functions.old })
-        (record { view = view.now; functions = functions.new }) }
-{
-    let unit = view.unit_ref(scope.file.dwarf, dw_unit)?;
-    functions.find(alloc, view.scope_of(scope), unit.unit, probe)
-}
-
-// What a unit has at an address, unless it waits for an answer. Its view is decided if it needs no
-// answer, and what is read is cached: the functions of the view, the detail of the function there,
-// and the lines of the unit, their faults too.
-//
-// Refused by the first fault of the view, its functions, the detail and the lines; may fail with
-// `OutOfMemory` instead, only where something of these isn't cached and takes memory, or there are
-// more than 16 inlined functions.
-pub(crate) fn find_frames_in<'x, R: Reader>(
-    alloc: Global,
-    scope: Scope<'x, R>,
-    dw_unit: &'x Unit<R>,
-    cache: &mut UnitCache<R>,
-    steps: &mut Count,
-    probe: u64,
-) -> Result<UnitFrames, Error>
-    requires cached { IsCacheOf (as_scope scope) dw_unit.now cache.old }
-    ensures gives { ExactlyUnlessOom (frames_of_place cache.new.lines cache.new.entries) result
-        (frames_in (as_scope scope.entry) (indexed_unit dw_unit.now cache.old.lines)
-        (first_answer_of cache.old.entries) probe) }
-    ensures after { AfterFramesIn R.shares (as_scope scope.entry) dw_unit.now probe result
-        cache.old cache.new }
-    ensures steps { steps.old ≤ steps.new }
-{
-    let UnitCache { lines, entries } = cache;
-    entries.check_split(scope.file.dwarf, dw_unit);
-    if entries.view.is_open() {
-        return Ok(UnitFrames::Open);
+    // The entries are those of the unit that was looked at: a caller that has the cache in a list
+    // doesn't know it by itself. It does nothing.
+    pub(crate) fn is_own(&self)
+        ensures right { AreOwnEntries self.now.unit self.now.entries }
+    {
+        let _ = &self.entries;
     }
-    let EntriesCache { view, functions } = entries;
-    let function = find_in_view(alloc, view, functions, scope, dw_unit, probe)?;
-    let row = lines.find_row(alloc, scope.file.dwarf, dw_unit, steps, probe)?;
-    Ok(UnitFrames::Here { function, row })
+
+    // Whether it is known that the unit has nothing at any address: neither functions, in a view
+    // that has no fault, nor lines.
+    pub(crate) fn has_nothing(&self) -> bool
+        ensures gives { result ≡ has_nothing self.now }
+    {
+        matches!(self.entries.functions, LazyFunctions::Absent)
+            && matches!(self.lines.lines, LazyLines::Absent)
+            && self.entries.view.has_view()
+    }
+
+    // The function at an address in the view of the unit, which is decided, none where no function
+    // holds it. The functions and its detail are read and cached, unless they are, their faults
+    // too.
+    //
+    // Refused by the first fault of the view, its functions and the detail; may fail with
+    // `OutOfMemory` instead, only where something of these isn't cached, and the functions take
+    // memory, or there are more than 16 inlined functions.
+    fn find_function(
+        &mut self,
+        alloc: Global,
+        sources: &Sources<R>,
+        dw_unit: &Unit<R>,
+        probe: u64,
+    ) -> Result<Option<FunctionPlace>, Error>
+        requires in_order { IsScope (scope_of sources.now) }
+        requires unit { AreOfUnit (scope_of sources.now) dw_unit.now self.old }
+        requires decided { is_decided self.old.entries.view.state ≡ true }
+        ensures gives { ExactlyUnlessOom (found_in_cache self.new.entries.functions) result
+            (function_in (scope_of sources.now) dw_unit.now (first_answer_of self.old.entries)
+            probe) }
+        ensures after { AfterEntries (AfterFunctionIn R.shares (scope_of sources.now) dw_unit.now
+            probe result) (scope_of sources.now) dw_unit.now self.old self.new }
+    {
+        let unit = self.entries.view.unit_ref(&sources.dwarf, dw_unit)?;
+        let scope = self.entries.view.scope_of(sources.scope());
+        self.entries.functions.cache(alloc, scope, unit.unit)?;
+        let functions = match &mut self.entries.functions {
+            LazyFunctions::Read(functions) => functions,
+            LazyFunctions::Absent => return Ok(None),
+            LazyFunctions::Faulty(error) => return Err(*error),
+            // After `cache` they were read.
+            LazyFunctions::Unread => return Ok(None),
+        };
+        let Some(place) = functions.find(probe) else {
+            return Ok(None);
+        };
+        functions.read(scope, unit.unit, place)?;
+        let LazyFunctions::Read(functions) = &self.entries.functions else {
+            // They are those that were read.
+            return Ok(None);
+        };
+        let inlined = functions.find_inlined_functions(alloc, place, probe)?;
+        Ok(Some(FunctionPlace { place, inlined }))
+    }
+
+    // What the unit has at an address, unless it waits for an answer. Its view is decided if it
+    // needs no answer, and what is read is cached: the functions of the view, the detail of the
+    // function there, and the lines of the unit, their faults too.
+    //
+    // Refused by the first fault of the view, its functions, the detail and the lines; may fail
+    // with `OutOfMemory` instead, only where something of these isn't cached and takes memory, or
+    // there are more than 16 inlined functions.
+    pub(crate) fn find_frames(
+        &mut self,
+        alloc: Global,
+        sources: &Sources<R>,
+        dw_unit: &Unit<R>,
+        steps: &mut Count,
+        probe: u64,
+    ) -> Result<UnitFrames, Error>
+        requires in_order { IsScope (scope_of sources.now) }
+        requires unit { AreOfUnit (scope_of sources.now) dw_unit.now self.old }
+        ensures gives { ExactlyUnlessOom (frames_of_place self.new.lines self.new.entries) result
+            (frames_or (scope_of sources.now) dw_unit.now probe self.old) }
+        ensures after { AfterFramesIn R.shares (scope_of sources.now) dw_unit.now probe result
+            self.old self.new }
+        ensures steps { steps.old ≤ steps.new }
+    {
+        self.check_split(sources, dw_unit);
+        if self.entries.view.is_open() {
+            return Ok(UnitFrames::Open);
+        }
+        let function = self.find_function(alloc, sources, dw_unit, probe)?;
+        let lines = &mut self.lines;
+        let row = lines.find_row(alloc, &sources.dwarf, dw_unit, steps, probe)?;
+        Ok(UnitFrames::Here { function, row })
+    }
 }

@@ -27,7 +27,7 @@ ghost use Rattle.addr2line_units.specs.UnitLinesCached.{cached_files};
 ghost use Rattle.addr2line_units.specs.SupScope.{as_unit, sup_file};
 ghost use Rattle.addr2line_units.specs.UnitView.{load_of_unit};
 
-use crate::entries::{FunctionPlace, LazyFunctions, UnitCache, UnitFrames, find_frames_in};
+use crate::entries::{FunctionPlace, LazyFunctions, UnitCache, UnitFrames};
 use crate::legacy::demangle_auto;
 use crate::locations::location_of;
 use crate::range_iter::UnitRangeIter;
@@ -480,7 +480,8 @@ impl<R: Reader> Units<R> {
         };
         let cache = &mut self.caches[number];
         let steps = &mut self.steps;
-        let found = find_frames_in(self.alloc, scope, dw_unit, cache, steps, probe);
+        let found = cache.find_frames(self.alloc, &self.sources, dw_unit, steps, probe);
+        cache.is_own();
         let found = after_fault(found, faults)?;
         self.stop = stop_at(number, found);
         Ok(())
@@ -644,7 +645,8 @@ impl<R: Reader> Units<R> {
             return Ok(());
         };
         let cache = &mut self.caches[number];
-        let dwarf = scope.file.dwarf;
-        cache.entries.answer(self.alloc, dwarf, dw_unit, sections)
+        let answered = cache.answer(self.alloc, &self.sources, dw_unit, sections);
+        cache.is_own();
+        answered
     }
 }

@@ -1,44 +1,48 @@
 //! The answers to the loads of units, and the loads that an address waits for.
 
-ghost use Rattle.std.specs.Prelude.{◌≡◌, Err, IfErr, IfOk, None, OnOk, Ok, Some, false, option_map, true, ◌++◌, ◌<◌, not, IfSome};
+ghost use Rattle.std.specs.Prelude.{◌≡◌, Err, IfErr, IfOk, None, OnOk, Ok, Some, false, option_map, true, ◌++◌, ◌<◌, length, not, IfSome};
 ghost use Rattle.std.specs.Option.{option_to_list};
-ghost use Rattle.addr2line_units.specs.Common.{OutOfMemory, IsUnlessOom, fault_of};
-ghost use Rattle.addr2line_units.specs.UnitViewCached.{waits, verdict_in};
+ghost use Rattle.addr2line_units.specs.Common.{OutOfMemory, IsUnlessOom, IsScope, fault_of};
+ghost use Rattle.addr2line_units.specs.UnitViewCached.{verdict_in};
 ghost use Rattle.addr2line_units.specs.Loads.{forget_result, load_of_number, load_result, loads_along};
-ghost use Rattle.addr2line_units.specs.UnitView.{is_open};
+ghost use Rattle.addr2line_units.specs.SupScope.{scope_of};
+ghost use Rattle.addr2line_units.specs.UnitsCached.{AreOfUnit};
 ghost use Rattle.addr2line_units.specs.UnitsAfter.{AfterForget, AfterLoad, AfterPreloadAlong};
 ghost use Rattle.addr2line_units.specs.UnitsAsked.{AfterNewLoad};
-ghost use Rattle.addr2line_units.specs.CacheAfter.{AfterAnswerIn, AfterForgettingIn, AfterNewLoadIn};
+ghost use Rattle.addr2line_units.specs.CacheAfter.{AfterAnswerIn, AfterEntries, AfterForgettingIn, AfterNewLoadIn};
 ghost use Rattle.addr2line_units.specs.LoadsListed.{MarksUnit, if_new, is_marked};
 ghost use Rattle.addr2line_units.specs.RangeIterLeft.{ranges_left};
 
-use crate::entries::{EntriesCache, LazyFunctions};
+use crate::entries::{EntriesCache, LazyFunctions, UnitCache};
 use crate::frames::FramesStop;
 use crate::range_iter::UnitRangeIter;
 use crate::unit::{SplitDwarfLoad, UnitToken, read_load};
-use crate::units::Units;
-use addr2line_lines::Scope;
+use crate::units::{Sources, Units};
 use gimli::read::{Error, Reader};
 use gimli::{Dwarf, Unit};
 use std::alloc::Global;
 use std::rc::Rc;
 
 impl<R: Reader> EntriesCache<R> {
-    // Whether the unit waits for an answer, as far as it was looked at.
-    pub(crate) fn is_open(&self) -> bool
-        ensures gives { result ≡ waits self.now.view.state }
+    // The fault of the unit's view, which is decided, if it has one. Takes no memory.
+    fn check_view(&self, dwarf: &Dwarf<R>, dw_unit: &Unit<R>) -> Result<(), Error>
+        ensures gives { IfSome (verdict_in dwarf.now dw_unit.now self.now.view.state) (λ known.
+            IfSome known (λ view. result ≡ fault_of view)) }
     {
-        self.view.is_open()
+        self.view.unit_ref(dwarf, dw_unit)?;
+        Ok(())
     }
+}
 
+impl<R: Reader> UnitCache<R> {
     // Forgets the answer, if there is one, and what was read of its view: the unit waits for one
     // again. Takes no memory.
-    pub(crate) fn forget(&mut self)
+    fn forget(&mut self)
         ensures after { AfterForgettingIn self.old self.new }
     {
-        if self.view.is_answered() {
-            self.view.forget();
-            self.functions = LazyFunctions::Unread;
+        if self.entries.view.is_answered() {
+            self.entries.view.forget();
+            self.entries.functions = LazyFunctions::Unread;
         }
     }
 
@@ -48,28 +52,21 @@ impl<R: Reader> EntriesCache<R> {
     pub(crate) fn answer(
         &mut self,
         alloc: Global,
-        dwarf: &Dwarf<R>,
+        sources: &Sources<R>,
         dw_unit: &Unit<R>,
         sections: Option<Rc<Dwarf<R>>>,
     ) -> Result<(), Error>
-        ensures after { AfterAnswerIn R.shares dwarf.now dw_unit.now
-            (option_map (λ d. d.value) sections) result self.old self.new }
+        requires in_order { IsScope (scope_of sources.now) }
+        requires unit { AreOfUnit (scope_of sources.now) dw_unit.now self.old }
+        ensures after { AfterEntries (AfterAnswerIn R.shares sources.now.dwarf.value dw_unit.now
+            (option_map (λ d. d.value) sections) result) (scope_of sources.now) dw_unit.now
+            self.old self.new }
     {
-        self.check_split(dwarf, dw_unit);
-        if self.is_open() {
-            self.view.decide(alloc, dwarf, dw_unit, sections)?;
+        self.check_split(sources, dw_unit);
+        let view = &mut self.entries.view;
+        if view.is_open() {
+            view.decide(alloc, &sources.dwarf, dw_unit, sections)?;
         }
-        Ok(())
-    }
-}
-
-impl<R: Reader> EntriesCache<R> {
-    // The fault of the unit's view, which is decided, if it has one. Takes no memory.
-    fn check_view(&self, dwarf: &Dwarf<R>, dw_unit: &Unit<R>) -> Result<(), Error>
-        ensures gives { IfSome (verdict_in dwarf.now dw_unit.now self.now.view.state) (λ known.
-            IfSome known (λ view. result ≡ fault_of view)) }
-    {
-        self.view.unit_ref(dwarf, dw_unit)?;
         Ok(())
     }
 }
@@ -99,9 +96,10 @@ impl<R: Reader> Units<R> {
             return Err(Error::UnknownToken);
         };
         let cache = &mut self.caches[token.number];
-        let dwarf = scope.file.dwarf;
-        cache.entries.answer(self.alloc, dwarf, dw_unit, sections)?;
-        cache.entries.check_view(dwarf, dw_unit)
+        let answered = cache.answer(self.alloc, &self.sources, dw_unit, sections);
+        cache.is_own();
+        answered?;
+        cache.entries.check_view(scope.file.dwarf, dw_unit)
     }
 
     /// Takes the answer to the load of a unit back, if there is one, with what was read of its
@@ -116,7 +114,9 @@ impl<R: Reader> Units<R> {
         if token.number >= self.len() {
             return Err(Error::UnknownToken);
         }
-        self.caches[token.number].entries.forget();
+        let cache = &mut self.caches[token.number];
+        cache.forget();
+        cache.is_own();
         Ok(())
     }
 }
@@ -137,29 +137,31 @@ fn mark_unit(marks: &mut Vec<bool>, count: usize, number: usize) -> Result<bool,
     Ok(fresh)
 }
 
-impl<R: Reader> EntriesCache<R> {
+impl<R: Reader> UnitCache<R> {
     // The load of the unit of a number, if it waits for one and isn't marked, which it is then.
-    // Whether it waits is read, unless that was done. There are `count` units.
+    // Whether it waits is read, unless that was done.
     fn new_load(
         &mut self,
-        dwarf: &Rc<Dwarf<R>>,
+        sources: &Sources<R>,
         dw_unit: &Unit<R>,
         marks: &mut Vec<bool>,
-        count: usize,
         number: usize,
     ) -> Result<Option<SplitDwarfLoad<R>>, Error>
-        requires within { number < count }
-        ensures after { AfterNewLoadIn dwarf.now.value number dw_unit.now marks.old.items
-            marks.new.items result self.old self.new }
+        requires in_order { IsScope (scope_of sources.now) }
+        requires unit { AreOfUnit (scope_of sources.now) dw_unit.now self.old }
+        requires within { number < length sources.now.units.items }
+        ensures after { AfterEntries (AfterNewLoadIn sources.now.dwarf.value number dw_unit.now
+            marks.old.items marks.new.items result) (scope_of sources.now) dw_unit.now self.old
+            self.new }
     {
-        self.check_split(dwarf, dw_unit);
-        if !self.is_open() {
+        self.check_split(sources, dw_unit);
+        if !self.entries.view.is_open() {
             return Ok(None);
         }
-        if !mark_unit(marks, count, number)? {
+        if !mark_unit(marks, sources.units.len(), number)? {
             return Ok(None);
         }
-        read_load(dwarf, number, dw_unit)
+        read_load(&sources.dwarf, number, dw_unit)
     }
 }
 
@@ -179,7 +181,7 @@ fn push_if<R: Reader>(
 }
 
 impl<R: Reader> Units<R> {
-    // The load of the unit of a number, as `EntriesCache::new_load` has it; none where there is no
+    // The load of the unit of a number, as `UnitCache::new_load` has it; none where there is no
     // such unit.
     fn new_load_at(
         &mut self,
@@ -198,10 +200,9 @@ impl<R: Reader> Units<R> {
             return Ok(None);
         };
         let cache = &mut self.caches[number];
-        let count = scope.file.units.len();
-        cache
-            .entries
-            .new_load(&sources.dwarf, dw_unit, marks, count, number)
+        let load = cache.new_load(sources, dw_unit, marks, number);
+        cache.is_own();
+        load
     }
 
     /// The loads of the open units that ranges lead to, each once, in the order of its first range.

@@ -1,22 +1,21 @@
 //! Parses of the functions of all units.
 
-ghost use Rattle.std.specs.Prelude.{◌≡◌, Err, Ok, true};
-ghost use Rattle.addr2line_units.specs.Common.{IsUnlessOom, as_scope};
-ghost use Rattle.addr2line_units.specs.declared.parses.ReadingDepth.TheVariants.{Functions};
-ghost use Rattle.addr2line_units.specs.CacheAfter.{AreFunctionsIn};
-ghost use Rattle.addr2line_units.specs.ParsesAfter.{AfterReadingAt, AfterReadingFunctions, AfterReadingUnit, AfterReadingView};
+ghost use Rattle.std.specs.Prelude.{◌≡◌, true};
+ghost use Rattle.addr2line_units.specs.Common.{IsUnlessOom, IsScope};
+ghost use Rattle.addr2line_units.specs.CacheAfter.{AfterEntries};
+ghost use Rattle.addr2line_units.specs.EntriesFunctions.{cached_fault};
+ghost use Rattle.addr2line_units.specs.EntriesOwn.{first_answer_of};
+ghost use Rattle.addr2line_units.specs.Parses.{read_of_number, read_of_unit, read_of_units, read_of_view};
+ghost use Rattle.addr2line_units.specs.ParsesAfter.{AfterReadingAt, AfterReadingUnit, AfterReadingView};
+ghost use Rattle.addr2line_units.specs.SupScope.{scope_of};
 ghost use Rattle.addr2line_units.specs.UnitsAfter.{AfterReading};
-ghost use Rattle.addr2line_units.specs.EntriesCached.{AreEntriesOf, first_answer_of};
-ghost use Rattle.addr2line_units.specs.EntriesFunctions.{AreFunctionsOf, cached_fault};
-ghost use Rattle.addr2line_units.specs.Parses.{read_of_functions, read_of_number, read_of_unit, read_of_units, read_of_view};
+ghost use Rattle.addr2line_units.specs.UnitsCached.{AreOfUnit};
 ghost use Rattle.addr2line_units.specs.UnitView.{verdict};
-ghost use Rattle.addr2line_units.specs.UnitViewCached.{answer_of_view, is_decided};
+ghost use Rattle.addr2line_units.specs.UnitViewCached.{is_decided};
 
-use crate::entries::{EntriesCache, LazyFunctions};
+use crate::entries::{LazyFunctions, UnitCache};
 use crate::frames::FramesStop;
-use crate::unit::UnitView;
-use crate::units::Units;
-use addr2line_lines::Scope;
+use crate::units::{Sources, Units};
 use gimli::Unit;
 use gimli::read::{Error, Reader};
 use std::alloc::Global;
@@ -31,7 +30,7 @@ pub enum ReadingDepth {
 }
 
 impl<R: Reader> LazyFunctions<R> {
-    // The fault of the functions, if it is cached. Takes no memory.
+    // The fault of the functions that were read, if they have one.
     fn fault(&self) -> Result<(), Error>
         ensures gives { result ≡ cached_fault self.now }
     {
@@ -40,70 +39,42 @@ impl<R: Reader> LazyFunctions<R> {
             LazyFunctions::Read(_) | LazyFunctions::Absent | LazyFunctions::Unread => Ok(()),
         }
     }
+}
 
-    // Reads the functions of a view, unless they were read, and caches them, or their fault.
-    // Refused by that fault; may fail with `OutOfMemory` instead, only where they were not read and
-    // take memory. Nothing more is known then where they were, or their fault is cached.
-    fn read_alone(
+impl<R: Reader> UnitCache<R> {
+    // Reads the functions in the view of the unit, which is decided, and their details where these
+    // are asked for, as `read_functions` does.
+    fn read_in_view(
         &mut self,
         alloc: Global,
-        scope: Scope<'_, R>,
-        view: &Unit<R>,
-    ) -> Result<(), Error>
-        requires cached { AreFunctionsOf (as_scope scope) view.now self.old }
-        ensures gives { IsUnlessOom result
-            (read_of_functions Functions (as_scope scope.entry) view.now) }
-        ensures after { AfterReadingFunctions R.shares Functions (as_scope scope.entry) view.now
-            result self.old self.new }
-    {
-        self.cache(alloc, scope, view)?;
-        self.fault()
-    }
-
-    // Reads the functions of a view, and their details where these are asked for, as `read_alone`
-    // and `read_all` do.
-    fn read(
-        &mut self,
-        alloc: Global,
-        scope: Scope<'_, R>,
-        view: &Unit<R>,
+        sources: &Sources<R>,
+        dw_unit: &Unit<R>,
         depth: ReadingDepth,
     ) -> Result<(), Error>
-        requires cached { AreFunctionsIn (as_scope scope) view.now self.old }
-        ensures gives { IsUnlessOom result
-            (read_of_functions depth (as_scope scope.entry) view.now) }
-        ensures after { AfterReadingFunctions R.shares depth (as_scope scope.entry) view.now
-            result self.old self.new }
+        requires in_order { IsScope (scope_of sources.now) }
+        requires unit { AreOfUnit (scope_of sources.now) dw_unit.now self.old }
+        requires decided { is_decided self.old.entries.view.state ≡ true }
+        ensures gives { IsUnlessOom result (read_of_view depth (scope_of sources.now)
+            (verdict sources.now.dwarf.value dw_unit.now (first_answer_of self.old.entries))) }
+        ensures after { AfterEntries (AfterReadingView R.shares depth (scope_of sources.now)
+            dw_unit.now result) (scope_of sources.now) dw_unit.now self.old self.new }
     {
-        match depth {
-            ReadingDepth::Functions => self.read_alone(alloc, scope, view),
-            ReadingDepth::Details => self.read_all(alloc, scope, view),
+        let unit = self.entries.view.unit_ref(&sources.dwarf, dw_unit)?;
+        let scope = self.entries.view.scope_of(sources.scope());
+        self.entries.functions.cache(alloc, scope, unit.unit)?;
+        if matches!(depth, ReadingDepth::Functions) {
+            return self.entries.functions.fault();
         }
+        let functions = match &mut self.entries.functions {
+            LazyFunctions::Read(functions) => functions,
+            LazyFunctions::Faulty(error) => return Err(*error),
+            LazyFunctions::Absent => return Ok(()),
+            // After `cache` they were read.
+            LazyFunctions::Unread => return Ok(()),
+        };
+        functions.read_all(scope, unit.unit)
     }
-}
 
-// Reads the functions of a view, as `EntriesCache::read` does.
-fn read_in_view<'x, R: Reader>(
-    alloc: Global,
-    view: &'x UnitView<R>,
-    functions: &mut LazyFunctions<R>,
-    scope: Scope<'x, R>,
-    dw_unit: &'x Unit<R>,
-    depth: ReadingDepth,
-) -> Result<(), Error>
-    requires cached { AreEntriesOf (as_scope scope) dw_unit.now
-        (record { view = view.now; functions = functions.old }) }
-    requires decided { is_decided view.now.state ≡ true }
-    ensures gives { IsUnlessOom result (read_of_view depth (as_scope scope.entry)
-        (verdict scope.entry.file.dwarf.now dw_unit.now (answer_of_view view.now))) }
-    ensures after { AfterReadingView R.shares depth (as_scope scope.entry) dw_unit.now view.now
-        result functions.old functions.new }
-{
-    let unit = view.unit_ref(scope.file.dwarf, dw_unit)?;
-    functions.read(alloc, view.scope_of(scope), unit.unit, depth)
-}
-
-impl<R: Reader> EntriesCache<R> {
     // Reads the functions of the unit's view, and their details where these are asked for, unless
     // they were read, and caches them, or their faults. A unit that waits for an answer is decided
     // by none first.
@@ -112,27 +83,28 @@ impl<R: Reader> EntriesCache<R> {
     // `OutOfMemory` instead, only where something of these isn't cached, and the functions take
     // memory. Nothing more is known where the view and what is read of it are cached, up to the
     // first fault.
-    fn read<'x>(
+    fn read_functions(
         &mut self,
         alloc: Global,
-        scope: Scope<'x, R>,
-        dw_unit: &'x Unit<R>,
+        sources: &Sources<R>,
+        dw_unit: &Unit<R>,
         depth: ReadingDepth,
     ) -> Result<(), Error>
-        requires cached { AreEntriesOf (as_scope scope) dw_unit.now self.old }
-        ensures gives { IsUnlessOom result (read_of_unit depth
-            (as_scope scope.entry) dw_unit.now (first_answer_of self.old)) }
-        ensures after { AfterReadingUnit R.shares depth (as_scope scope.entry) dw_unit.now result
-            self.old self.new }
+        requires in_order { IsScope (scope_of sources.now) }
+        requires unit { AreOfUnit (scope_of sources.now) dw_unit.now self.old }
+        ensures gives { IsUnlessOom result (read_of_unit depth (scope_of sources.now) dw_unit.now
+            (first_answer_of self.old.entries)) }
+        ensures after { AfterEntries (AfterReadingUnit R.shares depth (scope_of sources.now)
+            dw_unit.now result) (scope_of sources.now) dw_unit.now self.old self.new }
     {
-        self.answer(alloc, scope.file.dwarf, dw_unit, None)?;
-        let EntriesCache { view, functions } = self;
-        read_in_view(alloc, view, functions, scope, dw_unit, depth)
+        self.is_own();
+        self.answer(alloc, sources, dw_unit, None)?;
+        self.read_in_view(alloc, sources, dw_unit, depth)
     }
 }
 
 impl<R: Reader> Units<R> {
-    // Reads the functions of the unit of a number, as `EntriesCache::read` does; nothing where
+    // Reads the functions of the unit of a number, as `UnitCache::read_functions` does; nothing where
     // there is no such unit. No lookup is stored any more.
     fn read_functions_in(&mut self, number: usize, depth: ReadingDepth) -> Result<(), Error>
         ensures gives { IsUnlessOom result (read_of_number depth self.old.scope
@@ -145,7 +117,9 @@ impl<R: Reader> Units<R> {
             return Ok(());
         };
         let cache = &mut self.caches[number];
-        cache.entries.read(self.alloc, scope, dw_unit, depth)
+        let read = cache.read_functions(self.alloc, &self.sources, dw_unit, depth);
+        cache.is_own();
+        read
     }
 
     /// Reads the functions of all units in their order, or their functions and the details of these

@@ -7,7 +7,7 @@ ghost use Rattle.addr2line_units.specs.UnitsRanged.{is_partial, is_type_unit, li
 ghost use Rattle.addr2line_units.specs.EntriesMemory.{lines_take_memory};
 ghost use Rattle.addr2line_units.specs.Locations.{is_found};
 ghost use Rattle.addr2line_units.specs.IndexAranges.{range_in};
-ghost use Rattle.addr2line_units.specs.UnitLinesCached.{AreLinesOf, cached_lines_result, cached_files, cached_steps, cached_ranges, cached_row, is_parsed, lines_or, lines_result, location_or, cached_lines, is_uncached};
+ghost use Rattle.addr2line_units.specs.UnitLinesCached.{AreLinesOf, cached_lines_result, cached_files, cached_steps, cached_ranges, cached_row, is_parsed, lines_result, lines_result_or, location_or, cached_lines, is_uncached};
 ghost use Rattle.addr2line_units.specs.CacheAfter.{AfterLinesOf, AfterViewAnswer, AfterViewCheck, AfterViewForgetting, CountsSteps};
 ghost use Rattle.addr2line_units.specs.UnitsIndexed.{as_ranged_unit};
 ghost use Rattle.addr2line_units.specs.LoadsMemory.{answer_takes_memory};
@@ -239,7 +239,7 @@ impl LinesCache {
         dw_unit: &Unit<R>,
     ) -> Result<(), Error>
         ensures gives { OnOk result (cached_lines_result self.new.lines
-            ≡ lines_or dwarf.now dw_unit.now self.old.lines) }
+            ≡ lines_result_or dwarf.now dw_unit.now self.old.lines) }
         ensures after { AfterLinesOf R.shares dwarf.now dw_unit.now result self.old self.new }
         ensures refused { IfErr result (λ e. e ≡ OutOfMemory) }
     {
@@ -257,7 +257,7 @@ impl LinesCache {
         dw_unit: &Unit<R>,
     ) -> Result<(), Error>
         ensures gives { ExactlyUnlessOom (λ _. cached_lines self.new.lines) result
-            (lines_or dwarf.now dw_unit.now self.old.lines) }
+            (lines_result_or dwarf.now dw_unit.now self.old.lines) }
         ensures after { AfterLinesOf R.shares dwarf.now dw_unit.now result self.old self.new }
     {
         self.cache_lines(alloc, dwarf, dw_unit)?;

@@ -5,10 +5,10 @@ ghost use Rattle.addr2line_units.specs.Common.{OutOfMemory, ExactlyAtCost, Exact
 ghost use Rattle.addr2line_units.specs.UnitsCached.{AddsUnit, AddsUnitIf, HaveNewCaches};
 ghost use Rattle.addr2line_units.specs.UnitsIndexed.{appended, context_takes_memory, as_index, index_read, indexed_with, no_index, as_ranged_unit, as_indexed_units, with_header};
 ghost use Rattle.addr2line_units.specs.UnitsRanged.{range_of_unit, unit_of_header};
-ghost use Rattle.addr2line_units.specs.UnitsStored.{scope_of};
+ghost use Rattle.addr2line_units.specs.SupScope.{scope_of};
 ghost use Rattle.addr2line_units.specs.UnitsState.{new_units};
 
-use crate::entries::{EntriesCache, UnitCache};
+use crate::entries::UnitCache;
 use crate::frames::FramesStop;
 use crate::index::{UnitAranges, UnitRange, UnitRanges};
 use crate::sup::SupUnits;
@@ -44,7 +44,8 @@ pub struct Units<R: Reader> {
 
 impl<R: Reader> Model for Units<R> {
     ghost use Rattle.addr2line_units.specs.FramesCached.{as_stop};
-    ghost use Rattle.addr2line_units.specs.UnitsStored.{AreUnits, scope_of, as_units_state};
+    ghost use Rattle.addr2line_units.specs.SupScope.{scope_of};
+    ghost use Rattle.addr2line_units.specs.UnitsStored.{AreUnits, as_units_state};
     ghost use Rattle.addr2line_units.specs.UnitsState.{UnitsState};
 
     ghost Value = { UnitsState };
@@ -148,10 +149,7 @@ impl<R: Reader> Index<R> {
         let (lines, ranges) = lines_and_ranges(alloc, dwarf, &dw_unit, lang, listed)?;
         push_ranges(&mut self.ranges, self.caches.len(), &ranges)?;
         self.dw_units.push(dw_unit)?;
-        self.caches.push(UnitCache {
-            lines,
-            entries: EntriesCache::new(),
-        })?;
+        self.caches.push(UnitCache::new(lines))?;
         Ok(())
     }
 

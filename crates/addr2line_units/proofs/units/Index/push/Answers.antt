@@ -1,4 +1,4 @@
-use Rattle.addr2line_units.proofs.Common.{◌≡◌, ◌++◌, ◌∙◌, List, Ok, Result, ap, length, map, rules, sym, Error, Range, range_of_unit, unit_ranges}
+use Rattle.addr2line_units.proofs.Common.{◌≡◌, ◌++◌, ◌∙◌, List, Ok, Result, ap, length, map, rules, subst, sym, Error, Range, AreLinesOf, LinesCache, is_parsed, range_of_unit, unit_ranges}
 use Rattle.addr2line_units.specs.UnitsIndexed.{as_ranged_unit}
 use Rattle.addr2line_units.proofs.UnitsLinesLemmas.{pushed}
 use Rattle.addr2line_units.proofs.units.Index.push.Goals as goal
@@ -8,10 +8,10 @@ ok_is a b e = cc
 
 pub returns-clause-read : goal.returns-clause-read
 returns-clause-read g c = record {
-  cache = record { lines = c.in_ok-lines.lines; entries = c.new.result };
+  cache = c.new.result;
   units = c.in_ok-push.ensures.items;
   caches = c.in_ok-push-2.ensures.items;
-  lines = c.in_ok-lines.ensures.read;
+  lines = subst (λ (l : LinesCache). AreLinesOf c.args.dwarf.now c.args.dw_unit l.lines) (sym c.new.ensures.gives) c.in_ok-lines.ensures.read;
   fresh = c.new.ensures.empty;
 }
 
@@ -26,5 +26,6 @@ returns-clause-gives g c =
     c.in_ok-push_ranges.ensures.gives
     ∙ ap (λ rs. before ++ map (range_of_unit c.len.result) rs) (c.deref.ensures.value ∙ sym read)
     ∙ ap (λ n. before ++ map (range_of_unit n) (unit_ranges d ranged)) count in
-    let more = pushed d c.args.self.now.dw_units.items c.args.self.now.caches.items c.args.dw_unit c.args.lang (record { lines = c.in_ok-lines.lines; entries = c.new.result }) c.args.listed.items before c.push_ranges.new.unit_ranges.items c.requires.beside c.in_ok-lines.ensures.kept c.in_ok-lines.ensures.known ranges in
+    let more = pushed d c.args.self.now.dw_units.items c.args.self.now.caches.items c.args.dw_unit c.args.lang c.new.result c.args.listed.items before c.push_ranges.new.unit_ranges.items c.requires.beside
+    (ap (λ (l : LinesCache). l.lang) c.new.ensures.gives ∙ c.in_ok-lines.ensures.kept) (ap (λ (l : LinesCache). is_parsed l) c.new.ensures.gives ∙ c.in_ok-lines.ensures.known) ranges in
     rw (c.in_ok-push.ensures.items, c.in_ok-push-2.ensures.items) more

@@ -1,11 +1,12 @@
-use Rattle.addr2line_units.proofs.Common.{Err, Ok, Option, Some, arith, refl, subst, sym, ◌∙◌, ◌≡◌, ◌≢◌, OutOfMemory, err_from_is_err_and, false, option_map, location_of_row, lines_take_memory, as_stop, cached_files, indexed_unit, location_in, row_stop, stop_at, set, FindsNothing}
+use Rattle.addr2line_units.proofs.Common.{CachedUnit, get_or, Err, Ok, Option, Some, arith, refl, subst, sym, ◌∙◌, ◌≡◌, ◌≢◌, OutOfMemory, err_from_is_err_and, false, option_map, location_of_row, lines_take_memory, as_stop, cached_files, indexed_unit, location_in, row_stop, stop_at, set, FindsNothing}
 use Rattle.addr2line_lines.specs.declared.row.Row.{Row}
 use Rattle.addr2line_units.specs.CacheAfter.{AfterLinesOf}
+use Rattle.addr2line_units.specs.EntriesOwn.{unit_of}
 use Rattle.addr2line_units.specs.UnitLinesCached.{location_or}
 use Rattle.addr2line_units.specs.declared.frames.Asks.TheVariants as lookups
 use Rattle.addr2line_units.proofs.LocationsAtLemmas.{fault_after, none_after_row, none_row, row_after, row_fault, row_lendable, row_told}
 use Rattle.addr2line_units.proofs.UnitLinesLemmas.{lines_fault, location_is, memory_after, no_memory_after, own_after, steps_are}
-use Rattle.addr2line_units.proofs.UnitsAtLemmas.{cache_within, its_entries, its_lines, none_got, sections_seen, unit_got, units_with, units_with_lines}
+use Rattle.addr2line_units.proofs.UnitsAtLemmas.{cache_within, its_entries, its_lines, its_unit, none_got, sections_seen, unit_got, units_with, units_with_lines}
 use Rattle.addr2line_units.proofs.units.Units.ask_lines.Goals as goal
 
 pub returns-in_default : goal.returns-in_default
@@ -29,9 +30,10 @@ invariant_of-self-in_err-row g c =
     let i = c.self.invariant in
     let n = c.args.number in
     let there = unit_got c.scope-scope.ensures.gives n c.in-Some.ensures.lookup.0 c.in-Some.ensures.lookup.1 in
-    let at = c.index_mut-cache.ensures.value in
-    let a = subst (λ d. AfterLinesOf g.R.Reader.shares d c.in-Some.dw_unit.now c.find_row.result c.index_mut-cache.result.now.lines c.find_row.new.self) (sections_seen c.scope-scope.ensures.gives) c.find_row.ensures.after in
-    units_with_lines i n there at _ (own_after (its_lines i n there at) a)
+    let v : CachedUnit g.row.R.Denot = record { lines = c.cache.inside.lines; entries = c.cache.inside.entries; unit = unit_of c.cache.inside.unit.value } in
+    let at = subst (λ (y : CachedUnit g.row.R.Denot). y ≡ get_or c.self.inside.caches.items c.args.number y) (sym c.cache.view_is) c.index_mut-cache.ensures.value in
+    let a = subst (λ d. AfterLinesOf g.R.Reader.shares d c.in-Some.dw_unit.now c.find_row.result v.lines c.find_row.new.self) (sections_seen c.scope-scope.ensures.gives) c.find_row.ensures.after in
+    units_with_lines i n there at _ (own_after (its_lines i n there at) a) refl refl
 
 pub returns-in_err-row : goal.returns-in_err-row
 returns-in_err-row g c =
@@ -40,9 +42,9 @@ returns-in_err-row g c =
     let i = c.self.invariant in
     let was = as_stop s.caches.items s.stop in
     let there = unit_got c.scope-scope.ensures.gives c.args.number c.in-Some.ensures.lookup.0 c.in-Some.ensures.lookup.1 in
-    let at = c.index_mut-cache.ensures.value in
+    let v : CachedUnit g.row.R.Denot = record { lines = c.cache.inside.lines; entries = c.cache.inside.entries; unit = unit_of c.cache.inside.unit.value } in
+    let at = subst (λ (y : CachedUnit g.row.R.Denot). y ≡ get_or c.self.inside.caches.items c.args.number y) (sym c.cache.view_is) c.index_mut-cache.ensures.value in
     let u = c.in-Some.dw_unit.now in
-    let v = c.index_mut-cache.result.now in
     let l = c.find_row.new.self in
     let is = sections_seen c.scope-scope.ensures.gives in
     let p = err_from_is_err_and c.from_residual.result c.from_residual.ensures.1 in
@@ -67,9 +69,9 @@ invariant_of-self-2 g c =
     let i = c.self.invariant in
     let was = as_stop s.caches.items s.stop in
     let there = unit_got c.scope-scope.ensures.gives c.args.number c.in-Some.ensures.lookup.0 c.in-Some.ensures.lookup.1 in
-    let at = c.index_mut-cache.ensures.value in
+    let v : CachedUnit g.row.R.Denot = record { lines = c.cache.inside.lines; entries = c.cache.inside.entries; unit = unit_of c.cache.inside.unit.value } in
+    let at = subst (λ (y : CachedUnit g.row.R.Denot). y ≡ get_or c.self.inside.caches.items c.args.number y) (sym c.cache.view_is) c.index_mut-cache.ensures.value in
     let u = c.in-Some.dw_unit.now in
-    let v = c.index_mut-cache.result.now in
     let l = c.find_row.new.self in
     let is = sections_seen c.scope-scope.ensures.gives in
     let e = c.in_ok-row.ensures in
@@ -79,7 +81,7 @@ invariant_of-self-2 g c =
     let a = subst (λ d. AfterLinesOf g.R.Reader.shares d u (Ok row) v.lines l) is e.after in
     let found = sym (location_is d (indexed_unit u v.lines) v.lines.lines own c.args.probe) ∙ subst (λ d. location_or d u c.args.probe v.lines.lines ≡ Ok (option_map (location_of_row (cached_files l.lines)) row)) is e.gives in
     let right = own_after own a in
-    rw c.row_stop.ensures.gives (units_with i n there (record v { lines = l }) (record { lines = right; entries = its_entries i n there at }) (row_lendable i n s.steps was there at l a.stay c.args.probe row right a.known found))
+    rw c.row_stop.ensures.gives (units_with i n there (record v { lines = l }) (record { lines = right; entries = its_entries i n there at; unit = its_unit i n there at }) (row_lendable i n s.steps was there at l a.stay c.args.probe row right a.known found))
 
 pub returns : goal.returns
 returns g c =
@@ -88,9 +90,9 @@ returns g c =
     let i = c.self.invariant in
     let was = as_stop s.caches.items s.stop in
     let there = unit_got c.scope-scope.ensures.gives c.args.number c.in-Some.ensures.lookup.0 c.in-Some.ensures.lookup.1 in
-    let at = c.index_mut-cache.ensures.value in
+    let v : CachedUnit g.row.R.Denot = record { lines = c.cache.inside.lines; entries = c.cache.inside.entries; unit = unit_of c.cache.inside.unit.value } in
+    let at = subst (λ (y : CachedUnit g.row.R.Denot). y ≡ get_or c.self.inside.caches.items c.args.number y) (sym c.cache.view_is) c.index_mut-cache.ensures.value in
     let u = c.in-Some.dw_unit.now in
-    let v = c.index_mut-cache.result.now in
     let l = c.find_row.new.self in
     let is = sections_seen c.scope-scope.ensures.gives in
     let e = c.in_ok-row.ensures in

@@ -1,8 +1,8 @@
-use Rattle.addr2line_units.proofs.Common.{Err, Ok, arith, refl, subst, sym, ◌≡◌, err_from_is_err_and, set, WasNotRefused, IsCacheOf, as_stop, FindsNothing, found_stop, stop_at}
+use Rattle.addr2line_units.proofs.Common.{Err, Ok, arith, refl, subst, sym, ◌≡◌, err_from_is_err_and, set, WasNotRefused, as_stop, FindsNothing, found_stop, stop_at}
 use Rattle.addr2line_units.specs.declared.frames.Asks.TheVariants as lookups
-use Rattle.addr2line_units.proofs.FramesAskLemmas.{after_asked, asked_err, asked_ok, none_after, none_gives, refused_alone, stop_lendable}
+use Rattle.addr2line_units.proofs.FramesAskLemmas.{after_asked, asked_err, asked_ok, cache_now, gives_in, none_after, none_gives, refused_alone, stop_lendable}
 use Rattle.addr2line_units.proofs.FramesLookupLemmas.{oom_after, oom_before}
-use Rattle.addr2line_units.proofs.UnitsAtLemmas.{cache_within, its_cache, none_got, unit_got, units_with}
+use Rattle.addr2line_units.proofs.UnitsAtLemmas.{cache_within, its_unit, none_got, unit_got, units_with}
 use Rattle.addr2line_units.proofs.units.Units.ask_unit.Goals as goal
 
 pub returns-in_default-clause-gives : goal.returns-in_default-clause-gives
@@ -22,16 +22,23 @@ index_mut-cache-requires g c =
     let within = cache_within c.self.invariant c.args.number (unit_got c.scope-scope.ensures.gives c.args.number c.in-Some.ensures.lookup.0 c.in-Some.ensures.lookup.1) in
     omega (arith, within)
 
-pub find_frames_in-found-requires : goal.find_frames_in-found-requires
-find_frames_in-found-requires g c =
-    let there = unit_got c.scope-scope.ensures.gives c.args.number c.in-Some.ensures.lookup.0 c.in-Some.ensures.lookup.1 in
-    record { cached = subst (λ S. IsCacheOf S c.in-Some.dw_unit.now c.index_mut-cache.result.now) (sym c.scope-scope.ensures.gives) (its_cache c.self.invariant c.args.number there c.index_mut-cache.ensures.value) }
+pub find_frames-found-requires : goal.find_frames-found-requires
+find_frames-found-requires g c =
+    let gives = c.scope-scope.ensures.gives in
+    let there = unit_got gives c.args.number c.in-Some.ensures.lookup.0 c.in-Some.ensures.lookup.1 in
+    record { in_order = c.self.invariant.in_order; unit = its_unit c.self.invariant c.args.number there c.index_mut-cache.ensures.value }
 
 pub invariant_of-self-in_err-found : goal.invariant_of-self-in_err-found
 invariant_of-self-in_err-found g c =
     let there = unit_got c.scope-scope.ensures.gives c.args.number c.in-Some.ensures.lookup.0 c.in-Some.ensures.lookup.1 in
-    let e = rw c.scope-scope.ensures.gives at c.find_frames_in-found.ensures in
-    units_with c.self.invariant c.args.number there _ e.after.right tt
+    let s = c.self.inside in
+    let i = c.self.invariant in
+    let at = c.index_mut-cache.ensures.value in
+    let found = c.find_frames-found in
+    let was = as_stop s.caches.items s.stop in
+    let e = found.ensures in
+    let gives = gives_in i c.args.probe c.args.number s.steps was there at found.new.self found.result e.gives in
+    units_with i c.args.number there _ (cache_now i c.args.probe c.args.number s.steps was there at found.new.self c.args.faults found.result gives e.after c.is_own.ensures.right) tt
 
 pub returns-in_err-found : goal.returns-in_err-found
 returns-in_err-found g c =
@@ -40,17 +47,18 @@ returns-in_err-found g c =
     let p = err_from_is_err_and c.from_residual.result c.from_residual.ensures.1 in
     let there = unit_got c.scope-scope.ensures.gives c.args.number c.in-Some.ensures.lookup.0 c.in-Some.ensures.lookup.1 in
     let at = c.index_mut-cache.ensures.value in
-    let found = c.find_frames_in-found in
-    let w = found.new.cache in
+    let found = c.find_frames-found in
+    let w = found.new.self in
     let was = as_stop s.caches.items s.stop in
-    let e = rw c.scope-scope.ensures.gives at found.ensures in
+    let e = found.ensures in
+    let gives = gives_in i c.args.probe c.args.number s.steps was there at found.new.self found.result e.gives in
     let is = c.in_err-found.ensures.gives in
     rw (p.1, p.2) (record {
       gives = λ ne. subst (λ y. stop_at (lookups.Frames c.args.faults) c.args.probe y c.args.number ≡ Err c.in_err-found.field-0.0) c.self.view_is
-          (asked_err i c.args.probe c.args.number s.steps was there at w c.args.faults found.result e.gives _ (sym is) ne);
-      after = rw (sym c.self.view_is) (after_asked i c.args.probe c.args.number s.steps was there at w c.args.faults found.result e.gives e.after found.new.steps e.steps FindsNothing _
+          (asked_err i c.args.probe c.args.number s.steps was there at w c.args.faults found.result gives _ (sym is) ne);
+      after = rw (sym c.self.view_is) (after_asked i c.args.probe c.args.number s.steps was there at w c.args.faults found.result gives e.after c.is_own.ensures.right found.new.steps e.steps FindsNothing _
           (λ told. oom_before c.args.faults found.result (subst WasNotRefused is told)) (λ told. subst WasNotRefused (sym is) (oom_after c.args.faults found.result told)) refl
-          (refused_alone i c.args.probe c.args.number s.steps was there at w c.args.faults found.result e.gives e.after found.new.steps e.steps FindsNothing c.in_err-found.field-0.0 (sym is)));
+          (refused_alone i c.args.probe c.args.number s.steps was there at w c.args.faults found.result gives e.after c.is_own.ensures.right found.new.steps e.steps FindsNothing c.in_err-found.field-0.0 (sym is)));
     })
 
 pub invariant_of-self-2 : goal.invariant_of-self-2
@@ -58,10 +66,13 @@ invariant_of-self-2 g c =
     let s = c.self.inside in
     let i = c.self.invariant in
     let there = unit_got c.scope-scope.ensures.gives c.args.number c.in-Some.ensures.lookup.0 c.in-Some.ensures.lookup.1 in
-    let found = c.find_frames_in-found in
-    let e = rw c.scope-scope.ensures.gives at found.ensures in
-    rw c.stop_at.ensures.gives (units_with i c.args.number there _ e.after.right
-    (stop_lendable i c.args.probe c.args.number s.steps (as_stop s.caches.items s.stop) there c.index_mut-cache.ensures.value found.new.cache c.args.faults found.result e.gives e.after _ (sym c.in_ok-found.ensures.gives)))
+    let at = c.index_mut-cache.ensures.value in
+    let found = c.find_frames-found in
+    let was = as_stop s.caches.items s.stop in
+    let e = found.ensures in
+    let gives = gives_in i c.args.probe c.args.number s.steps was there at found.new.self found.result e.gives in
+    rw c.stop_at.ensures.gives (units_with i c.args.number there _ (cache_now i c.args.probe c.args.number s.steps was there at found.new.self c.args.faults found.result gives e.after c.is_own.ensures.right)
+    (stop_lendable i c.args.probe c.args.number s.steps was there at found.new.self c.args.faults found.result gives e.after c.is_own.ensures.right _ (sym c.in_ok-found.ensures.gives)))
 
 pub returns : goal.returns
 returns g c =
@@ -69,14 +80,15 @@ returns g c =
     let i = c.self.invariant in
     let there = unit_got c.scope-scope.ensures.gives c.args.number c.in-Some.ensures.lookup.0 c.in-Some.ensures.lookup.1 in
     let at = c.index_mut-cache.ensures.value in
-    let found = c.find_frames_in-found in
-    let w = found.new.cache in
+    let found = c.find_frames-found in
+    let w = found.new.self in
     let was = as_stop s.caches.items s.stop in
-    let e = rw c.scope-scope.ensures.gives at found.ensures in
+    let e = found.ensures in
+    let gives = gives_in i c.args.probe c.args.number s.steps was there at found.new.self found.result e.gives in
     let is = c.in_ok-found.ensures.gives in
     record {
       gives = rw c.stop_at.ensures.gives (subst (λ y. stop_at (lookups.Frames c.args.faults) c.args.probe y c.args.number ≡ Ok (as_stop (set s.caches.items c.args.number w) (found_stop c.args.number c.in_ok-found.found))) c.self.view_is
-          (asked_ok i c.args.probe c.args.number s.steps was there at w c.args.faults found.result e.gives _ (sym is)));
-      after = rw (sym c.self.view_is) (after_asked i c.args.probe c.args.number s.steps was there at w c.args.faults found.result e.gives e.after found.new.steps e.steps _ _
+          (asked_ok i c.args.probe c.args.number s.steps was there at w c.args.faults found.result gives _ (sym is)));
+      after = rw (sym c.self.view_is) (after_asked i c.args.probe c.args.number s.steps was there at w c.args.faults found.result gives e.after c.is_own.ensures.right found.new.steps e.steps _ _
           (λ told. oom_before c.args.faults found.result (subst WasNotRefused is told)) (λ told. subst WasNotRefused (sym is) (oom_after c.args.faults found.result told)) tt (λ none. tt));
     }

@@ -1,4 +1,4 @@
-use Rattle.addr2line_units.proofs.Common.{None, Some, ap, refl, rules, sym, ◌∙◌, ◌≡◌, option_map, slice_get_read, location_of_row, as_stop, function_of_place, functions_at, language_at, cached_files, lines_at, lines_in_cache, location_found}
+use Rattle.addr2line_units.proofs.Common.{CachedUnit, None, Some, ap, refl, rules, sym, ◌∙◌, ◌≡◌, option_map, slice_get_read, location_of_row, as_stop, function_of_place, functions_at, language_at, cached_files, lines_at, lines_in_cache, location_found}
 use Rattle.addr2line_units.specs.Common.{as_location}
 use Rattle.addr2line_units.specs.declared.frames.FramesStop.TheVariants as stops
 use Rattle.addr2line_units.proofs.LocationsWalkLemmas.{first_found}
@@ -30,6 +30,6 @@ returns g c =
     let at = slice_get_read cs _ p.unit c.index-cache.result.now refl within (search rules) in
     let see = location_of_row (cached_files (lines_at cs p.unit)) in
     rw (sym c.self.view_is) (record {
-      gives = ap Some (c.location_of.ensures.gives ∙ ap (λ u. location_of_row (cached_files (lines_in_cache u)) c.in_ok-place.field-0) (sym at)) ∙ ap (option_map see) (sym row)
+      gives = ap Some (c.location_of.ensures.gives ∙ ap (λ (u : CachedUnit g.row.R.Denot). location_of_row (cached_files u.lines.lines) c.in_ok-place.field-0) c.cache.view_is ∙ ap (λ u. location_of_row (cached_files (lines_in_cache u)) c.in_ok-place.field-0) (sym at)) ∙ ap (option_map see) (sym row)
           ∙ sym (first_found (cached_files (lines_at cs p.unit)) (language_at cs p.unit) (option_map (function_of_place (functions_at cs p.unit)) p.function) (option_map see p.row)) ∙ ap (λ l. location_found (as_stop cs l)) (sym last);
     })

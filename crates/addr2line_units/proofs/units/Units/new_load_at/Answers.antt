@@ -4,7 +4,7 @@ use Rattle.addr2line_units.specs.LoadsListed.{MarksLoad, if_new}
 use Rattle.addr2line_units.proofs.LoadsListingLemmas.{listing_first, load_in}
 use Rattle.addr2line_units.proofs.LoadsLemmas.{marks_none, no_load}
 use Rattle.addr2line_units.proofs.UnitsNumberLemmas.{kept_listing, listed_there, load_listed, shut_there}
-use Rattle.addr2line_units.proofs.UnitsAtLemmas.{cache_within, none_got, unit_got, units_with_entries}
+use Rattle.addr2line_units.proofs.UnitsAtLemmas.{cache_within, its_unit, none_got, unit_got, unit_within, units_after}
 use Rattle.addr2line_units.proofs.units.Units.new_load_at.Goals as goal
 
 pub returns-in_default : goal.returns-in_default
@@ -31,11 +31,16 @@ index_mut-cache-requires g c =
     let within = cache_within c.self.invariant c.args.number (unit_got c.scope-scope.ensures.gives c.args.number c.in-Some.ensures.lookup.0 c.in-Some.ensures.lookup.1) in
     omega (arith, within)
 
+pub new_load-load-requires : goal.new_load-load-requires
+new_load-load-requires g c =
+    let there = unit_got c.scope-scope.ensures.gives c.args.number c.in-Some.ensures.lookup.0 c.in-Some.ensures.lookup.1 in
+    record { in_order = c.self.invariant.in_order; unit = its_unit c.self.invariant c.args.number there c.index_mut-cache.ensures.value; within = unit_within c.self.invariant c.args.number there }
+
 pub invariant_of-self-2 : goal.invariant_of-self-2
 invariant_of-self-2 g c =
     let there = unit_got c.scope-scope.ensures.gives c.args.number c.in-Some.ensures.lookup.0 c.in-Some.ensures.lookup.1 in
-    units_with_entries c.self.invariant c.args.number there c.index_mut-cache.ensures.value _
-    (kept_listing c.self.invariant c.args.number there c.index_mut-cache.ensures.value c.new_load.new.self c.new_load.ensures.after).checked.right
+    let after = c.new_load-load.ensures.after in
+    units_after c.self.invariant c.args.number there c.index_mut-cache.ensures.value c.new_load-load.new.self after.lines after.unit c.is_own.ensures.right
 
 pub returns : goal.returns
 returns g c =
@@ -46,12 +51,13 @@ returns g c =
     let there = unit_got c.scope-scope.ensures.gives c.args.number c.in-Some.ensures.lookup.0 c.in-Some.ensures.lookup.1 in
     let at = c.index_mut-cache.ensures.value in
     let load_is = load_listed i c.args.number there at in
-    let a = kept_listing i c.args.number there at c.new_load.new.self c.new_load.ensures.after in
+    let after = c.new_load-load.ensures.after in
+    let a = kept_listing i c.args.number there at c.new_load-load.new.self after.lines after.entries in
     record {
-      gives = subst (λ (y : UnitsState). IfOk c.new_load.result (λ load. load ≡ if_new marks (load_in y n))) c.self.view_is (subst (λ o. IfOk c.new_load.result (λ load. load ≡ if_new marks o)) (sym load_is) a.gives);
+      gives = subst (λ (y : UnitsState). IfOk c.new_load-load.result (λ load. load ≡ if_new marks (load_in y n))) c.self.view_is (subst (λ o. IfOk c.new_load-load.result (λ load. load ≡ if_new marks o)) (sym load_is) a.gives);
       after = rw (sym c.self.view_is) (record {
-        listing = listed_there i c.args.number there at c.new_load.new.self s.steps (as_stop s.caches.items s.stop) a.checked;
-        marks_load = subst (λ o. OnOk c.new_load.result (MarksLoad o marks c.new_load.new.marks.items)) (sym load_is) a.marks_load;
+        listing = listed_there i c.args.number there at c.new_load-load.new.self after.lines s.steps (as_stop s.caches.items s.stop) a.checked;
+        marks_load = subst (λ o. OnOk c.new_load-load.result (MarksLoad o marks c.new_load-load.new.marks.items)) (sym load_is) a.marks_load;
         none = λ shut. a.none (shut_there i c.args.number there at shut);
         refused = a.refused;
       });

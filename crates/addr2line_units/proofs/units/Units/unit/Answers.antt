@@ -1,4 +1,5 @@
-use Rattle.addr2line_units.proofs.Common.{option_map, parts_of, readable_view, ap, arith, rules, sym, ◌∙◌, ◌≡◌, as_stop, answers_in, unit_found, scope_of}
+use Rattle.addr2line_units.proofs.Common.{CachedUnit, option_map, parts_of, readable_view, ap, arith, rules, sym, ◌∙◌, ◌≡◌, as_stop, answers_in, unit_found, scope_of}
+use Rattle.addr2line_units.specs.UnitViewCached.{verdict_or}
 use Rattle.addr2line_units.specs.declared.frames.FramesStop.TheVariants as stops
 use Rattle.addr2line_units.proofs.UnitsCachedLemmas.{entries_right}
 use Rattle.addr2line_units.proofs.FramesDecidedLemmas.{parts_at, view_at}
@@ -37,4 +38,4 @@ returns g c =
     let known = ap (λ w. option_map parts_of (readable_view w)) (verdict_or_is s.sources.dwarf.value c.index-dw_unit.result.now c.index-cache.result.now.entries.view own) in
     let found = parts_at s.sources.dwarf.value s.sources.units.items s.caches.items p.unit c.index-dw_unit.result.now c.index-cache.result.now (omega (arith, many, within)) within (search rules) (search rules) in
     let last : s.stop ≡ stops.Finds p = search rules in
-    rw (sym c.self.view_is) (record { gives = told ∙ known ∙ found ∙ ap (λ l. unit_found s.sources.dwarf.value s.sources.units.items (answers_in s.caches.items) (as_stop s.caches.items l)) (sym last) })
+    rw (sym c.self.view_is) (record { gives = told ∙ ap (λ (w : CachedUnit g.row.R.Denot). option_map parts_of (readable_view (verdict_or s.sources.dwarf.value c.index-dw_unit.result.now w.entries.view.state))) c.cache.view_is ∙ known ∙ found ∙ ap (λ l. unit_found s.sources.dwarf.value s.sources.units.items (answers_in s.caches.items) (as_stop s.caches.items l)) (sym last) })

@@ -1,7 +1,7 @@
 use Rattle.addr2line_units.proofs.Common.{◌≡◌, ◌∙◌, Bool, Ok, ap, false, refl, subst, sym, true, false≢true, err_from_is_err_and, Sections, UnitRecord, functions_take_memory, AreUnread, FunctionTable, as_scope, IsTableOf}
 use Rattle.addr2line_units.proofs.EntriesFunctionLemmas.{read_fault_of, read_table}
 use Rattle.addr2line_units.proofs.EntriesFunctionMemoryLemmas.{functions_took, no_ranges}
-use Rattle.addr2line_units.proofs.entries.read_functions.Goals as goal
+use Rattle.addr2line_units.proofs.entries.LazyFunctions.parse.Goals as goal
 
 pub returns-in_ok-new-in-Some : goal.returns-in_ok-new-in-Some
 returns-in_ok-new-in-Some g c =

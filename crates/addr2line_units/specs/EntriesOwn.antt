@@ -1,0 +1,56 @@
+-- Whose entries are cached, as the private functions see it.
+-- Own: the functions of a view that is known are read when they are first asked for, and cached
+-- then, their fault too, until the unit is forgotten; so is each detail. OutOfMemory is never
+-- cached.
+use Rattle.std.specs.Prelude.{◌≡◌, false, Option, Some, None, IfOk, IfSome}
+use Rattle.addr2line_units.specs.Common.{Sections, UnitRecord, IsScope, Scope}
+use Rattle.addr2line_units.specs.declared.entries.EntriesCache.{EntriesCache}
+use Rattle.addr2line_units.specs.declared.entries.LookedAt.{LookedAt}
+use Rattle.addr2line_units.specs.declared.entries.LookedAt.TheVariants as looked
+use Rattle.addr2line_units.specs.declared.unit.LinesCache.{LinesCache}
+use Rattle.addr2line_units.specs.EntriesFunctions.{AreFunctionsOf, were_read}
+use Rattle.addr2line_units.specs.SupScope.{scope_of}
+use Rattle.addr2line_units.specs.UnitView.{verdict, view_scope}
+use Rattle.addr2line_units.specs.UnitViewCached.{IsViewOf, answer_of_view, is_decided, was_checked}
+
+-- the first answer of a unit
+abbrev pub first_answer_of : {R : Type 0} → EntriesCache R → Option (Option Sections)
+first_answer_of v = answer_of_view v.view
+
+-- references lead from the unit to units in order; what is cached is the view of the unit and the
+-- functions of that view, which are read only where the view is known
+pub record AreEntriesOf {R : Type 0} (scope : Scope) (u : UnitRecord) (v : EntriesCache R)
+    : Type 0 where
+  pub in_order : IsScope scope
+  pub view : IsViewOf scope.file.sections u v.view
+  pub functions : IfSome (verdict scope.file.sections u (first_answer_of v)) (λ view.
+      IfOk view (λ x. AreFunctionsOf (view_scope scope x) x.unit v.functions))
+  pub unread : is_decided v.view.state ≡ false → were_read v.functions ≡ false
+
+-- nobody has asked for anything yet
+pub record AreFresh {R : Type 0} (v : EntriesCache R) : Type 0 where
+  pub view : was_checked v.view.state ≡ false
+  pub functions : were_read v.functions ≡ false
+
+-- a unit, and where references lead from it
+pub record UnitInScope : Type 0 where
+  pub scope : Scope
+  pub unit : UnitRecord
+
+-- the unit that was looked at, if one was
+abbrev pub unit_of : {R : Type 0} → LookedAt R → Option UnitInScope
+unit_of looked.Nothing = None
+unit_of (looked.Unit sources dw_unit) =
+    Some (record { scope = scope_of sources.value; unit = dw_unit.value })
+
+-- what is cached of a unit: its lines with its language, its entries, and the unit that was looked at
+-- for these
+pub record CachedUnit (R : Type 0) : Type 0 where
+  pub lines : LinesCache
+  pub entries : EntriesCache R
+  pub unit : Option UnitInScope
+
+-- the entries are those of the unit that was looked at; where none was, nobody has asked for any
+abbrev pub AreOwnEntries : {R : Type 0} → Option UnitInScope → EntriesCache R → Type 0
+AreOwnEntries None v = AreFresh v
+AreOwnEntries (Some x) v = AreEntriesOf x.scope x.unit v

@@ -1,34 +1,44 @@
 -- Names that are cached, as more are (on specs/CachedNames.antt).
-use Rattle.addr2line_lines.proofs.Common.{◌≡◌, ℕ, List, [], ◌∷◌, ◌++◌, length, map, take, option_map, Option, Some, None, IfSome, Result, refl, ap, sym, subst, ◌∙◌, inl, inr, slice_get, slice_get-map, take-append_seam, Error, UnitOffset, UnitRecord, Section, AreNamesMore, AreNamesOf, CachedName, GrowNames, IsKnownAs, IsNameOf, IsOneMoreAtMost, as_cached_name, as_names, as_shared, referred_name, Scope}
+use Rattle.addr2line_lines.proofs.Common.{◌≡◌, ℕ, List, length, map, take, option_map, Option, Some, None, IfSome, Result, refl, ap, sym, subst, ◌∙◌, slice_get, slice_get-map, take-append_seam, Error, UnitOffset, UnitRecord, Section, AreNamesIn, AreNamesMore, AreNamesOf, CachedName, GrowNames, KnownNames, UnitInScope, IsKnownAs, IsNameOf, as_cached_name, as_shared, in_scope, referred_name, Scope}
 use Rattle.std.specs.declared.alloc.Global.{Global}
 use Rattle.std.specs.declared.rc.Rc.{Rc}
 use Rattle.gimli_read.specs.declared.value.AttributeValue.TheVariants as values
 use Rattle.gimli.specs.AttributeSinks.{IsGrowth}
 use Rattle.addr2line_lines.specs.Grown.{IsGrown}
 use Rattle.addr2line_lines.specs.declared.names.CachedName as declared_name
-use Rattle.addr2line_lines.proofs.NestingLemmas.{grown_by, grown_not, grown_on}
-use Rattle.addr2line_lines.proofs.Facts.{all_at, all_one_more}
+use Rattle.addr2line_lines.proofs.NestingLemmas.{grown_not, grown_on}
+use Rattle.addr2line_lines.proofs.Facts.{all_at, all_first}
 
 -- nothing more is cached
-pub names_same : (scope : Scope) (u : UnitRecord) (names : List CachedName) → AreNamesOf scope u names → AreNamesMore scope u names names
-names_same scope u names right = record { right = right; grown = grown_not names }
+pub names_same : (names : KnownNames) → AreNamesMore names names
+names_same names = record { unit = refl; grown = grown_not names.names }
 
 -- more is cached twice
-pub names_on : (scope : Scope) (u : UnitRecord) (a b c : List CachedName) → AreNamesMore scope u a b → AreNamesMore scope u b c → AreNamesMore scope u a c
-names_on scope u a b c h k = record { right = k.right; grown = grown_on a b c h.grown k.grown }
+pub names_on : (a b c : KnownNames) → AreNamesMore a b → AreNamesMore b c → AreNamesMore a c
+names_on a b c h k = record { unit = k.unit ∙ h.unit; grown = grown_on a.names b.names c.names h.grown k.grown }
+
+-- names of the same unit are the same
+pub known_same : (a b : KnownNames) → a.unit ≡ b.unit → a.names ≡ b.names → a ≡ b
+known_same a b e f = ap (λ u. record { unit = u; names = a.names }) e ∙ ap (λ ns. record { unit = b.unit; names = ns }) f
 
 -- so they grow from any state on
-pub names_growth : (scope : Scope) (u : UnitRecord) {R : Type 0} (see : R → Section) → IsGrowth (λ old new. GrowNames scope u (as_names see old) (as_names see new))
-names_growth scope u see = record {
-  again = λ old new h. (h.0, names_same scope u (as_names see new) h.1.right);
-  on = λ old between new h k. (h.0, names_on scope u (as_names see old) (as_names see between) (as_names see new) h.1 k.1);
+pub names_growth : (scope : Scope) (u : UnitRecord) → IsGrowth (GrowNames scope u)
+names_growth scope u = record {
+  again = λ old new h. record { in_order = h.in_order; unit = h.more.unit ∙ h.unit; more = names_same new };
+  on = λ old between new h k. record { in_order = h.in_order; unit = h.unit; more = names_on old between new h.more k.more };
 }
 
--- one more name is cached, or none
-pub names_one_more : (scope : Scope) (u : UnitRecord) (n : CachedName) (old new : List CachedName) → AreNamesOf scope u old → IsNameOf scope u n → IsOneMoreAtMost n old new → AreNamesMore scope u old new
-names_one_more scope u n old new right is (inl e) = subst (AreNamesMore scope u old) (sym e) (names_same scope u old right)
-names_one_more scope u n old new right is (inr e) =
-    subst (AreNamesMore scope u old) (sym e) (record { right = all_one_more (IsNameOf scope u) old n right is; grown = grown_by old (old ++ n ∷ []) (n ∷ []) refl })
+-- the first of names that are right
+pub first_right : (x : UnitInScope) (n : ℕ) (names : List CachedName) → AreNamesOf x names → AreNamesOf x (take n names)
+first_right x n names right = all_first (IsNameOf x) n names right
+
+-- the unit that the names were made for is the one that is given
+pub own_unit : (scope : Scope) (u : UnitRecord) (x : UnitInScope) (names : List CachedName) (known : KnownNames) → record { unit = Some x; names = names } ≡ known → AreNamesIn scope u known → x ≡ in_scope scope u
+own_unit scope u x names known view is = let same : Some x ≡ Some (in_scope scope u) = ap (λ (k : KnownNames). k.unit) view ∙ is in cc
+
+-- so what is known of a name is what a reference in that unit gives
+pub known_in : (scope : Scope) (u : UnitRecord) (x : UnitInScope) (names : List CachedName) (offset : UnitOffset) (name : Result (Option Section) Error) → x ≡ in_scope scope u → AreNamesOf x names → IsKnownAs offset name names → referred_name scope u (values.UnitRef offset) ≡ name
+known_in scope u x names offset name is right known = subst (λ (y : UnitInScope). referred_name y.scope y.unit (values.UnitRef offset) ≡ name) is (known x right)
 
 -- the first names are those that were cached before
 pub first_names : (n : ℕ) (old new : List CachedName) → IsGrown old new → n ≡ length old → take n new ≡ old
@@ -41,6 +51,6 @@ known_shared see names name (Some shared) offset h known = subst (λ n. IsKnownA
 
 -- what stands at a place is known, where its offset is
 pub known_at : {R : Type 0} (see : R → Section) (xs : List (declared_name.CachedName R)) (n : ℕ) (x : declared_name.CachedName R) (offset : UnitOffset) → slice_get xs n ≡ Some x → (as_cached_name see x).offset ≡ offset → IsKnownAs offset (as_cached_name see x).name (map (as_cached_name see) xs)
-known_at see xs n x offset at e = λ scope u all.
-    subst (λ o. referred_name scope u (values.UnitRef o) ≡ (as_cached_name see x).name) e
-    (all_at (IsNameOf scope u) (map (as_cached_name see) xs) n (as_cached_name see x) all (slice_get-map (as_cached_name see) xs n ∙ ap (option_map (as_cached_name see)) at))
+known_at see xs n x offset at e = λ y all.
+    subst (λ o. referred_name y.scope y.unit (values.UnitRef o) ≡ (as_cached_name see x).name) e
+    (all_at (IsNameOf y) (map (as_cached_name see) xs) n (as_cached_name see x) all (slice_get-map (as_cached_name see) xs n ∙ ap (option_map (as_cached_name see)) at))

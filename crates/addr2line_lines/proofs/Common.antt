@@ -47,7 +47,7 @@ pub use Rattle.gimli.specs.Sections.{Sections}
 pub use Rattle.gimli.specs.Unit.{UnitRecord, attr_string_of, program_and_low_pc_of, table_from}
 unfoldable pub use Rattle.gimli.specs.Unit.{completed_record, unit_by, unit_record_of}
 pub use Rattle.addr2line_lines.specs.CachedDetails.{AreDetailsMore, CachedDetails, IsDetailPlace, IsNextPlace, IsOfEntryBetween, IsRefusedThen, between, detail_of, listed_ranges, as_details}
-pub use Rattle.addr2line_lines.specs.CachedNames.{AreNamesMore, AreNamesOf, CachedName, GrowNames, IsKnownAs, IsNameOf, IsOneMoreAtMost, as_cached_name, as_names, as_shared}
+pub use Rattle.addr2line_lines.specs.CachedNames.{AreNamesIn, AreNamesMore, AreNamesOf, CachedName, GrowNames, IsKnownAs, IsNameOf, IsOneMoreAtMost, KnownNames, as_cached_name, as_names, as_shared, no_names}
 pub use Rattle.addr2line_lines.specs.Details.{Detail, PlacedItem, WholeEntry, detail_at, detail_takes_memory, first_whole, inlined_in, is_in_function, open_after, placed_items, whole_entry_at, with_inlined, with_inlined_entry}
 unfoldable pub use Rattle.addr2line_lines.specs.Details.{stored_detail_at}
 pub use Rattle.addr2line_lines.specs.FoundFunctions.{AreFoundUnread, AreFunctions, FoundFunctions, IsPlaceIn, IsUnread, found_from, found_in, found_more, function_address, function_offsets, function_range_of, item_has_function, item_takes_memory, next_found_at, none_found, as_functions, with_attributes, with_found, with_ranges}
@@ -66,7 +66,7 @@ pub use Rattle.addr2line_lines.specs.Packed.{ArePastFrom, IsAmong, IsTable, Pack
 pub use Rattle.addr2line_lines.specs.Pick.{IsDisjoint, LoneIsPicked, at_or_below, candidate, if_past, pick}
 pub use Rattle.addr2line_lines.specs.RangeAttributes.{all_ranges, attr_address, attribute_ranges, begins_well, gives_a_range, no_range_attributes, range_attributes_after, range_attributes_of, range_list_of, ranges_of}
 unfoldable pub use Rattle.addr2line_lines.specs.RangeAttributes.{with_range_attribute}
-pub use Rattle.addr2line_lines.specs.References.{AreInOrder, EntryPlace, FileRecord, IsBefore, IsFileInOrder, IsScope, Scope, entry_in, entry_in_sup, referred, sup_scope, unit_at}
+pub use Rattle.addr2line_lines.specs.References.{AreInOrder, EntryPlace, FileRecord, IsBefore, IsFileInOrder, IsScope, Scope, UnitInScope, entry_in, entry_in_sup, in_scope, referred, sup_scope, unit_at}
 pub use Rattle.addr2line_lines.specs.Rows.{read_all}
 pub use Rattle.addr2line_lines.specs.Scopes.{as_scope}
 pub use Rattle.addr2line_lines.specs.Segments.{AreApart, AreDisjoint, AreSegments, AreSegmentsBelow, IsSegment, RunningRange, address_begin, address_end, address_function, address_holds, as_running, first_end, running_end, segment_to, shortest_function_at}

@@ -1,5 +1,5 @@
 -- Places of details, and what adding details leaves of them (on specs/CachedDetails.antt).
-use Rattle.addr2line_lines.proofs.Common.{◌≡◌, ℕ, ◌+◌, ◌-◌, ◌<◌, ◌≤◌, ◌==◌, Bool, true, false, cond, nat_lt, List, [], ◌∷◌, ◌++◌, drop, map, length, slice_index_or, take, Option, Some, None, option_and_then, option_map, Result, Ok, Err, IfOk, refl, ap, sym, subst, ◌∙◌, arith, length-append, length-drop, zero, suc, All, AllByRecursion, IsNonDecreasingBy, drop-append-le, length-map, length-take-le, take-append-le, All-weaker, recursion_from_All, drop-append_seam, take-append_seam, take-length, Error, ExactlyUnlessOomIf, Section, greatest, topmost, UnitRecord, FunctionDetail, InlinedFunctionAddress, Detail, detail_at, InlinedEntry, InlinedRange, FoundInlined, IsFoundMore, entry_among, first_found, range_among, inlined_sooner, inlined_place, place_begin, place_end, places_chain, places_of_depth, places_within, IsInOrder, in_order, AreDetailsMore, IsDetailPlace, IsOfEntryBetween, IsRefusedThen, CachedDetails, between, detail_of, listed_ranges, at_or_below, candidate, if_past, pick, Scope, In, In-filter, In-last}
+use Rattle.addr2line_lines.proofs.Common.{◌≡◌, ℕ, ◌+◌, ◌-◌, ◌<◌, ◌≤◌, ◌==◌, Bool, true, false, cond, nat_lt, List, [], ◌∷◌, ◌++◌, drop, map, length, slice_index_or, take, Option, Some, None, option_and_then, option_map, Result, Ok, Err, IfOk, refl, ap, sym, subst, ◌∙◌, arith, length-append, length-drop, zero, suc, All, AllByRecursion, IsNonDecreasingBy, drop-append-le, length-map, length-take-le, take-append-le, All-weaker, recursion_from_All, drop-append_seam, take-append_seam, take-length, Error, ExactlyUnlessOomIf, Section, greatest, topmost, UnitRecord, FunctionDetail, InlinedFunctionAddress, Detail, detail_at, InlinedEntry, InlinedRange, FoundInlined, IsFoundMore, entry_among, first_found, range_among, inlined_sooner, inlined_place, place_begin, place_end, places_chain, places_of_depth, places_within, IsInOrder, in_order, AreDetailsMore, AreNamesMore, IsDetailPlace, IsOfEntryBetween, IsRefusedThen, CachedDetails, between, detail_of, listed_ranges, at_or_below, candidate, if_past, pick, Scope, In, In-filter, In-last}
 use Rattle.addr2line_lines.specs.InlinedChain.{inlined_chain}
 use Rattle.addr2line_lines.specs.Grown.{IsGrown}
 use Rattle.addr2line_lines.specs.FoundDetails.{detail_found_at}
@@ -104,7 +104,7 @@ pub sorted_more : (start : ℕ) (xs listed : List InlinedFunctionAddress) → st
 sorted_more start xs listed e h = record { more = in_order inlined_sooner (drop start listed); is = ap (λ ys. ys ++ in_order inlined_sooner (drop start listed)) (first_of start xs listed h e) }
 
 -- what is cached stays after a refusal
-pub details_refused : (cached more : CachedDetails) (e : Error) → IsRefusedThen cached more e → IsGrown cached.known more.known → AreDetailsMore cached more
+pub details_refused : (cached more : CachedDetails) (e : Error) → IsRefusedThen cached more e → AreNamesMore cached.known more.known → AreDetailsMore cached more
 details_refused cached more e h known = record {
   names = subst (IsGrown cached.names) (sym h.names) (grown_not cached.names);
   found = subst (IsFoundMore cached.found) (sym h.found) (found_same cached.found);

@@ -146,9 +146,10 @@ none_holds p (x ∷ xs) h (suc k) d l = none_holds p xs (rest (p x) h) k d (omeg
     rest true h = absurd cc
     rest false h = h
 
-pub all_one_more : {X : Type 0} (P : X → Type 0) (xs : List X) (x : X) → AllByRecursion P xs → P x → AllByRecursion P (xs ++ x ∷ [])
-all_one_more P [] x all p = (p, tt)
-all_one_more P (y ∷ xs) x all p = (all.0, all_one_more P xs x all.1 p)
+pub all_first : {X : Type 0} (P : X → Type 0) (n : ℕ) (xs : List X) → AllByRecursion P xs → AllByRecursion P (take n xs)
+all_first P zero xs all = tt
+all_first P (suc n) [] all = tt
+all_first P (suc n) (x ∷ xs) all = (all.0, all_first P n xs all.1)
 
 -- what holds of all holds at a place
 pub all_at : {X : Type 0} (P : X → Type 0) (xs : List X) (n : ℕ) (x : X) → AllByRecursion P xs → slice_get xs n ≡ Some x → P x

@@ -1,11 +1,12 @@
 -- What is cached of functions, as more is read (on specs/FunctionCache.antt).
-use Rattle.addr2line_lines.proofs.Common.{◌≡◌, ℕ, ◌+◌, ◌≤◌, ◌≢◌, List, [], ◌∷◌, ◌++◌, get_or, length, map, slice_get, slice_set, sum_by, Option, Some, None, Result, Ok, Err, refl, ap, sym, subst, ◌∙◌, arith, inl, inr, length-append, AllByRecursion, map-set, sum_by-cons, sum_by-set, get_or_from_slice_get, slice_get-map, slice_get_within, map-set_same, Section, Error, OutOfMemory, UnitOffset, UnitRecord, FunctionDetail, LazyFunction, FunctionAddress, CachedName, Detail, detail_at, FoundInlined, none_inlined, AreFunctions, IsUnread, function_offsets, function_range_of, AreCachedFunctions, AreDetailsApart, AreRuns, HasPlace, inlined_size, name_size, ranges_size, as_function, as_lazy, size_of, CachedFunction, FunctionTable, AreDetailsMore, IsDetailPlace, IsNextPlace, IsRefusedThen, CachedDetails, detail_of, Scope}
+use Rattle.addr2line_lines.proofs.Common.{◌≡◌, ℕ, ◌+◌, ◌≤◌, ◌≢◌, List, [], ◌∷◌, ◌++◌, get_or, length, map, slice_get, slice_set, sum_by, Option, Some, None, Result, Ok, Err, refl, ap, sym, subst, ◌∙◌, arith, inl, inr, length-append, AllByRecursion, map-set, sum_by-cons, sum_by-set, get_or_from_slice_get, slice_get-map, slice_get_within, map-set_same, Section, Error, OutOfMemory, UnitOffset, UnitRecord, FunctionDetail, LazyFunction, FunctionAddress, KnownNames, Detail, detail_at, FoundInlined, none_inlined, AreFunctions, IsUnread, function_offsets, function_range_of, AreCachedFunctions, AreDetailsApart, AreRuns, HasPlace, inlined_size, name_size, ranges_size, as_function, as_lazy, size_of, CachedFunction, FunctionTable, AreDetailsMore, IsDetailPlace, IsNextPlace, IsRefusedThen, CachedDetails, detail_of, Scope}
 use Rattle.std.specs.Option.{option_map}
 use Rattle.addr2line_lines.specs.declared.functions.LazyDetail.{LazyDetail}
 use Rattle.addr2line_lines.specs.declared.functions.LazyDetail.TheVariants.{Unread, Read, Faulty}
 use Rattle.addr2line_lines.specs.Grown.{IsGrown}
 use Rattle.addr2line_lines.specs.FunctionDetails.{IsCachedThen, IsReadAt, IsReadOf, IsWithDetail}
 use Rattle.addr2line_lines.proofs.DetailPlaces.{detail_stays}
+use Rattle.addr2line_lines.proofs.CachedNameLemmas.{names_same}
 use Rattle.addr2line_lines.proofs.NestingLemmas.{grown_not}
 use Rattle.addr2line_lines.proofs.Facts.{all_at, all_set, all_weaker, at_set}
 
@@ -15,11 +16,11 @@ longer xs ys g = let a : length ys ≡ length (xs ++ g.more) = ap (λ v. length 
 -- nothing changes after OutOfMemory
 pub nothing_cached : (cached more : CachedDetails) → IsRefusedThen cached more OutOfMemory → more ≡ cached
 nothing_cached cached more h =
-    let made : List (Option Section) → FoundInlined → List CachedName → CachedDetails = λ xs f ns. record { names = xs; found = f; known = ns } in
+    let made : List (Option Section) → FoundInlined → KnownNames → CachedDetails = λ xs f ns. record { names = xs; found = f; known = ns } in
     ap (λ xs. made xs more.found more.known) h.names ∙ ap (λ f. made cached.names f more.known) h.found ∙ ap (λ ns. made cached.names cached.found ns) (h.memory refl)
 
 pub details_stay : (cached : CachedDetails) → AreDetailsMore cached cached
-details_stay cached = record { names = grown_not cached.names; found = record { entries = grown_not cached.found.entries; ranges = grown_not cached.found.ranges }; known = grown_not cached.known }
+details_stay cached = record { names = grown_not cached.names; found = record { entries = grown_not cached.found.entries; ranges = grown_not cached.found.ranges }; known = names_same cached.known }
 
 -- a detail that is read is as before where more is read
 lazy_stays : (cached more : CachedDetails) → AreDetailsMore cached more → (x : LazyDetail) → ((p : FunctionDetail) → x ≡ Read p → IsDetailPlace cached p) → as_lazy more x ≡ as_lazy cached x
@@ -57,10 +58,10 @@ not_read : (f : LazyFunction) (p : FunctionDetail) → f.detail ≡ Unread → f
 not_read f p a b = let no : Unread ≡ Read p = sym a ∙ b in absurd cc
 
 -- before a detail is read
-pub runs_unread : (fs : List LazyFunction) (d : CachedDetails) → AllByRecursion IsUnread fs → d ≡ record { names = []; found = none_inlined; known = [] } → AreRuns fs d
-runs_unread fs d all e =
+pub runs_unread : (fs : List LazyFunction) (d : CachedDetails) (known : KnownNames) → AllByRecursion IsUnread fs → d ≡ record { names = []; found = none_inlined; known = known } → AreRuns fs d
+runs_unread fs d known all e =
     subst (AreRuns fs) (sym e) (record {
-      places = all_weaker IsUnread (HasPlace (record { names = []; found = none_inlined; known = [] })) (λ f u. λ p r. absurd (not_read f p u r)) fs all;
+      places = all_weaker IsUnread (HasPlace (record { names = []; found = none_inlined; known = known })) (λ f u. λ p r. absurd (not_read f p u r)) fs all;
       apart = λ i j f g p q ne a b r s. absurd (not_read f p (all_at IsUnread fs i f all a) r);
       names = sum_unread name_size fs all;
       inlined = sum_unread inlined_size fs all;

@@ -2,6 +2,7 @@
 use Rattle.addr2line_lines.proofs.Common.{◌≡◌, ◌≢◌, ℕ, ◌+◌, ◌<◌, ◌≤◌, ◌&&◌, Bool, true, false, is_ok, List, [], ◌∷◌, drop, length, slice_get, slice_set, take, Option, Some, None, Result, Ok, Err, refl, ap, sym, subst, ◌∙◌, arith, inl, inr, zero, suc, AllByRecursion, AllZip, length_all_zip, Error, OutOfMemory, ExactlyAtCost, ◌>>=◌, fault_of, UnitRecord, Detail, detail_at, CachedFunction, FunctionTable, Scope, or_left, or_right, drop_all}
 use Rattle.addr2line_lines.specs.FunctionDetails.{AreCachedToFault, AreDetailsOf, AreUnread, HasDetail, IsCachedToFault, IsDetailOf, IsFunctionMore, IsReadAt, IsReadOf, IsReadOnce, IsTableMore, IsWithDetail, details_fault, details_take_memory, read_fault, read_once}
 use Rattle.gimli_read.proofs.FaultLemmas.{memory_or_not}
+use Rattle.addr2line_lines.proofs.CachedNameLemmas.{names_on, names_same}
 use Rattle.addr2line_lines.proofs.NestingLemmas.{grown_not, grown_on}
 use Rattle.addr2line_lines.proofs.Facts.{all_at, all_set, all_weaker, before_set, drop_at, drop_set, get_set_same, set_same, some_at, take_set, take_whole}
 
@@ -27,14 +28,14 @@ functions_twice (x ∷ xs) (y ∷ ys) (z ∷ zs) a b =
     (record { offset = b.0.offset ∙ a.0.offset; detail = λ d e. b.0.detail d (a.0.detail d e) }, functions_twice xs ys zs a.1 b.1)
 
 pub table_same : (t : FunctionTable) → IsTableMore t t
-table_same t = record { ranges = refl; functions = functions_same t.functions; inlined = grown_not t.inlined; names = grown_not t.names }
+table_same t = record { ranges = refl; functions = functions_same t.functions; inlined = grown_not t.inlined; names = names_same t.names }
 
 pub table_twice : (r s t : FunctionTable) → IsTableMore r s → IsTableMore s t → IsTableMore r t
 table_twice r s t a b = record {
   ranges = b.ranges ∙ a.ranges;
   functions = functions_twice r.functions s.functions t.functions a.functions b.functions;
   inlined = grown_on r.inlined s.inlined t.inlined a.inlined b.inlined;
-  names = grown_on r.names s.names t.names a.names b.names;
+  names = names_on r.names s.names t.names a.names b.names;
 }
 
 -- where no detail is cached, what is cached is right

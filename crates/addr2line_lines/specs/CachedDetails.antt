@@ -9,7 +9,7 @@ use Rattle.addr2line_lines.specs.Common.{Error, OutOfMemory, Section}
 use Rattle.addr2line_lines.specs.declared.details.Details.{Details}
 use Rattle.addr2line_lines.specs.declared.details.FunctionDetail.{FunctionDetail}
 use Rattle.addr2line_lines.specs.declared.picks.InlinedFunctionAddress.{InlinedFunctionAddress}
-use Rattle.addr2line_lines.specs.CachedNames.{CachedName, as_names}
+use Rattle.addr2line_lines.specs.CachedNames.{AreNamesMore, KnownNames}
 use Rattle.addr2line_lines.specs.Details.{Detail}
 use Rattle.addr2line_lines.specs.FoundInlined.{FoundInlined, IsFoundMore, range_among, as_lists}
 use Rattle.addr2line_lines.specs.Grown.{IsGrown}
@@ -23,14 +23,14 @@ use Rattle.addr2line_lines.specs.InlinedOrder.{inlined_sooner, inlined_place}
 pub record CachedDetails : Type 0 where
   pub names : List (Option Section)
   pub found : FoundInlined
-  pub known : List CachedName
+  pub known : KnownNames
 
 -- what is cached
 abbrev pub as_details : {R : Type 0} → (R → Section) → Details R → CachedDetails
 as_details see d = record {
   names = map (option_map see) d.names.items;
   found = as_lists d.inlined;
-  known = as_names see d.known;
+  known = d.known;
 }
 
 -- the ranges of a place, in the order of their entries
@@ -56,7 +56,7 @@ cached_chain d p probe = inlined_chain probe (detail_of d p).inlined
 pub record AreDetailsMore (cached more : CachedDetails) : Type 0 where
   pub names : IsGrown cached.names more.names
   pub found : IsFoundMore cached.found more.found
-  pub known : IsGrown cached.known more.known
+  pub known : AreNamesMore cached.known more.known
 
 -- a range is of an inlined entry from a place up to another
 abbrev pub IsOfEntryBetween : ℕ → ℕ → InlinedFunctionAddress → Type 0

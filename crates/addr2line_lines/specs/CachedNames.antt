@@ -2,7 +2,7 @@
 -- (DWARF 5, sections 2.13.2 and 3.3.8).
 -- Own: a name may be cached when it is found, also that there is none, and its fault too;
 -- OutOfMemory never is, since no reading gives it.
-use Rattle.std.specs.Prelude.{◌≡◌, ◌⊎◌, List, [], ◌∷◌, ◌++◌, map, Option, option_map, Result, Ok, Err}
+use Rattle.std.specs.Prelude.{◌≡◌, ◌⊎◌, List, [], ◌∷◌, ◌++◌, map, Option, Some, option_map, Result, Ok, Err}
 use Rattle.std.specs.List.{AllByRecursion}
 use Rattle.std.specs.declared.rc.Rc.{Rc}
 use Rattle.std.specs.declared.alloc.Global.{Global}
@@ -14,7 +14,7 @@ use Rattle.addr2line_lines.specs.declared.names.CachedName.TheVariants as cached
 use Rattle.addr2line_lines.specs.declared.names.NameCache.{NameCache}
 use Rattle.addr2line_lines.specs.Grown.{IsGrown}
 use Rattle.addr2line_lines.specs.Names.{referred_name}
-use Rattle.addr2line_lines.specs.References.{IsScope, Scope}
+use Rattle.addr2line_lines.specs.References.{IsScope, Scope, UnitInScope, in_scope}
 
 -- the name that an entry gives, or the fault of that, by where the entry begins, in bytes from the
 -- start of the unit's length
@@ -43,21 +43,36 @@ abbrev pub as_names : {R : Type 0} → (R → Section) → NameCache R → List 
 as_names see c = map (as_cached_name see) c.names.items
 
 -- the name, or the fault, is that which a reference to the entry gives
-abbrev pub IsNameOf : Scope → UnitRecord → CachedName → Type 0
-IsNameOf scope u n = referred_name scope u (values.UnitRef n.offset) ≡ n.name
+abbrev pub IsNameOf : UnitInScope → CachedName → Type 0
+IsNameOf x n = referred_name x.scope x.unit (values.UnitRef n.offset) ≡ n.name
 
 -- so is each
-abbrev pub AreNamesOf : Scope → UnitRecord → List CachedName → Type 0
-AreNamesOf scope u names = AllByRecursion (IsNameOf scope u) names
+abbrev pub AreNamesOf : UnitInScope → List CachedName → Type 0
+AreNamesOf x names = AllByRecursion (IsNameOf x) names
 
--- the names that were cached stay, with more at their end, and all are right
-pub record AreNamesMore (scope : Scope) (u : UnitRecord) (old new : List CachedName) : Type 0 where
-  pub right : AreNamesOf scope u new
-  pub grown : IsGrown old new
+-- the names and faults that are cached, and the unit in which references give them, if there is one
+pub record KnownNames : Type 0 where
+  pub unit : Option UnitInScope
+  pub names : List CachedName
 
--- the same, where the units that references lead to are in order
-abbrev pub GrowNames : Scope → UnitRecord → List CachedName → List CachedName → Type 0
-GrowNames scope u old new = IsScope scope × AreNamesMore scope u old new
+-- none is cached
+abbrev pub no_names : Option UnitInScope → KnownNames
+no_names unit = record { unit = unit; names = [] }
+
+-- the unit is that of a scope
+abbrev pub AreNamesIn : Scope → UnitRecord → KnownNames → Type 0
+AreNamesIn scope u known = known.unit ≡ Some (in_scope scope u)
+
+-- the names that were cached stay, with more at their end
+pub record AreNamesMore (old new : KnownNames) : Type 0 where
+  pub unit : new.unit ≡ old.unit
+  pub grown : IsGrown old.names new.names
+
+-- the same of the unit of a scope, where the units that references lead to are in order
+pub record GrowNames (scope : Scope) (u : UnitRecord) (old new : KnownNames) : Type 0 where
+  pub in_order : IsScope scope
+  pub unit : AreNamesIn scope u old
+  pub more : AreNamesMore old new
 
 -- one more name, or fault, stands at the end, or nothing changed
 abbrev pub IsOneMoreAtMost : CachedName → List CachedName → List CachedName → Type 0
@@ -65,5 +80,5 @@ IsOneMoreAtMost n old new = (new ≡ old) ⊎ (new ≡ old ++ n ∷ [])
 
 -- wherever all cached names are right, a reference to the entry gives the name, or the fault
 abbrev pub IsKnownAs : UnitOffset → Result (Option Section) Error → List CachedName → Type 0
-IsKnownAs offset name names = (scope : Scope) (u : UnitRecord) → AreNamesOf scope u names
-    → referred_name scope u (values.UnitRef offset) ≡ name
+IsKnownAs offset name names = (x : UnitInScope) → AreNamesOf x names
+    → referred_name x.scope x.unit (values.UnitRef offset) ≡ name

@@ -4,6 +4,7 @@
 use Rattle.std.specs.Prelude.{◌≡◌, ◌≢◌, ℕ, ◌&&◌, ◌||◌, Bool, false, not, is_ok, is_some, List, [], ◌∷◌, slice_get, slice_set, Option, Some, None, Result, Ok, Err}
 use Rattle.std.specs.List.{AllByRecursion, AllZip}
 use Rattle.addr2line_lines.specs.Common.{Error, OutOfMemory, Costed, free, ◌>>=◌, fault_of, UnitRecord}
+use Rattle.addr2line_lines.specs.CachedNames.{AreNamesMore}
 use Rattle.addr2line_lines.specs.CostedSteps.{on_parts}
 use Rattle.addr2line_lines.specs.Details.{Detail, detail_at, stored_detail_at}
 use Rattle.addr2line_lines.specs.Grown.{IsGrown}
@@ -18,7 +19,7 @@ pub record IsWithDetail (n : ℕ) (f : CachedFunction) (detail : Result Detail E
   pub functions : new.functions ≡
       slice_set old.functions n (record { offset = f.offset; detail = Some detail })
   pub inlined : IsGrown old.inlined new.inlined
-  pub names : IsGrown old.names new.names
+  pub names : AreNamesMore old.names new.names
 
 -- an answer, and the table then: that of the detail, which is cached, its fault too; or
 -- OutOfMemory, and the table as before
@@ -129,7 +130,7 @@ pub record IsTableMore (old new : FunctionTable) : Type 0 where
   pub ranges : new.ranges ≡ old.ranges
   pub functions : AllZip IsFunctionMore old.functions new.functions
   pub inlined : IsGrown old.inlined new.inlined
-  pub names : IsGrown old.names new.names
+  pub names : AreNamesMore old.names new.names
 
 -- the functions stay those that have a range where more is cached
 abbrev pub MoreKeepsListed : Type 0

@@ -1,7 +1,7 @@
 -- The functions of a view, and what is cached of their details (DWARF 5, section 3.3).
 use Rattle.std.specs.Prelude.{◌≡◌, ℕ, ◌==◌, List, [], map, position, slice_get, Option, Some, None, option_and_then, option_map, Result, Ok, Err}
 use Rattle.addr2line_lines.specs.Common.{Error, Section}
-use Rattle.addr2line_lines.specs.CachedNames.{CachedName}
+use Rattle.addr2line_lines.specs.CachedNames.{KnownNames}
 use Rattle.addr2line_lines.specs.Details.{Detail}
 use Rattle.addr2line_lines.specs.InlinedEntries.{InlinedEntry, InlinedRange}
 use Rattle.addr2line_lines.specs.Functions.{FunctionRange, entries_of, function_offset_at}
@@ -19,7 +19,7 @@ pub record FunctionTable : Type 0 where
   pub ranges : List FunctionRange
   pub functions : List CachedFunction
   pub inlined : List InlinedEntry
-  pub names : List CachedName
+  pub names : KnownNames
 
 -- the functions are the entries that have a range, in the order of their ranges, each once
 abbrev pub AreListed : FunctionTable → Type 0

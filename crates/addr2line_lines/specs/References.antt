@@ -21,6 +21,15 @@ pub record Scope : Type 0 where
   pub file : FileRecord
   pub sup : Option FileRecord
 
+-- a unit, and where references lead from it
+pub record UnitInScope : Type 0 where
+  pub scope : Scope
+  pub unit : UnitRecord
+
+-- the unit of a scope
+abbrev pub in_scope : Scope → UnitRecord → UnitInScope
+in_scope scope u = record { scope = scope; unit = u }
+
 -- an entry by its place: where its references lead, its unit, and where it begins, in bytes from
 -- the start of the unit's length
 pub record EntryPlace : Type 0 where

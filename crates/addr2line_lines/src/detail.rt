@@ -4,7 +4,7 @@ ghost use Rattle.std.specs.Prelude.{◌≡◌, ◌<◌, [], None, Ok, OnOk, int_
 ghost use Rattle.addr2line_lines.specs.Common.{rest_of, ExactlyUnlessOomIf, attributes_at, ExactlyAtCost};
 ghost use Rattle.addr2line_lines.specs.CostedSteps.{on_parts};
 ghost use Rattle.addr2line_lines.specs.Finding.{FindsAtCost};
-ghost use Rattle.addr2line_lines.specs.CachedNames.{AreNamesMore, AreNamesOf, as_names};
+ghost use Rattle.addr2line_lines.specs.CachedNames.{AreNamesIn, AreNamesMore};
 ghost use Rattle.addr2line_lines.specs.FoundInlined.{IsFoundMore, named_lists, as_lists};
 ghost use Rattle.addr2line_lines.specs.FoundNames.{name_after};
 ghost use Rattle.addr2line_lines.specs.FoundDetails.{detail_found_at, function_found_at};
@@ -16,7 +16,7 @@ use crate::found_name::FoundName;
 use crate::inlined::read_inlined_attributes;
 use crate::inlined_lists::InlinedLists;
 use crate::name::NameSink;
-use crate::names::NameCache;
+use crate::names::UnitNames;
 use crate::nesting::{Nesting, kind_of};
 use crate::references::Scope;
 use gimli::read::{Abbreviation, AttributeSpecification, Error, Reader, UnitOffset};
@@ -29,10 +29,10 @@ fn read_name<R: Reader>(
     unit: &Unit<R>,
     entries: &mut EntriesRaw<'_, R>,
     specifications: &[AttributeSpecification],
-    names: &mut NameCache<R>,
+    names: &mut UnitNames<R>,
 ) -> Result<Option<R>, Error>
     requires in_order { IsScope (as_scope scope) }
-    requires names { AreNamesOf (as_scope scope) unit.now (as_names R.section names.old) }
+    requires unit { AreNamesIn (as_scope scope) unit.now names.old }
     requires encoding { entries.old.unit.encoding ≡ unit.now.header.encoding }
     ensures gives { ExactlyUnlessOomIf R.shares (option_map R.section) result
         (name_after (as_scope scope.entry) unit.now (Ok None)
@@ -41,8 +41,7 @@ fn read_name<R: Reader>(
         specifications.now entries.old.cursor.left) ≡ Ok entries.new.cursor.left) }
     ensures unit { entries.new.unit ≡ entries.old.unit }
     ensures depth { entries.new.cursor.depth ≡ entries.old.cursor.depth }
-    ensures names { AreNamesMore (as_scope scope.entry) unit.now
-        (as_names R.section names.old) (as_names R.section names.new) }
+    ensures names { AreNamesMore names.old names.new }
 {
     let sink = NameSink { scope, unit };
     let mut name = FoundName::none();
@@ -60,10 +59,10 @@ fn read_entry<R: Reader>(
     abbreviation: &Abbreviation,
     nesting: &Nesting,
     found: &mut InlinedLists<R>,
-    names: &mut NameCache<R>,
+    names: &mut UnitNames<R>,
 ) -> Result<(), Error>
     requires in_order { IsScope (as_scope scope) }
-    requires names { AreNamesOf (as_scope scope) unit.now (as_names R.section names.old) }
+    requires unit { AreNamesIn (as_scope scope) unit.now names.old }
     requires encoding { entries.old.unit.encoding ≡ unit.now.header.encoding }
     ensures gives { FindsAtCost R.shares entries.old.cursor.left entries.new.cursor.left
         (as_lists found.old) (as_lists found.new) result
@@ -71,8 +70,7 @@ fn read_entry<R: Reader>(
     ensures kept { IsFoundMore (as_lists found.old) (as_lists found.new) }
     ensures unit { entries.new.unit ≡ entries.old.unit }
     ensures depth { entries.new.cursor.depth ≡ entries.old.cursor.depth }
-    ensures names { AreNamesMore (as_scope scope.entry) unit.now
-        (as_names R.section names.old) (as_names R.section names.new) }
+    ensures names { AreNamesMore names.old names.new }
 {
     if nesting.lists(kind_of(abbreviation)) {
         let specifications = abbreviation.attributes();
@@ -91,10 +89,10 @@ fn read_item<R: Reader>(
     entries: &mut EntriesRaw<'_, R>,
     nesting: &mut Nesting,
     found: &mut InlinedLists<R>,
-    names: &mut NameCache<R>,
+    names: &mut UnitNames<R>,
 ) -> Result<(), Error>
     requires in_order { IsScope (as_scope scope) }
-    requires names { AreNamesOf (as_scope scope) unit.now (as_names R.section names.old) }
+    requires unit { AreNamesIn (as_scope scope) unit.now names.old }
     requires encoding { entries.old.unit.encoding ≡ unit.now.header.encoding }
     ensures gives { FindsAtCost R.shares entries.old.cursor entries.new.cursor
         (as_around found.old nesting.old) (as_around found.new nesting.new) result
@@ -103,8 +101,7 @@ fn read_item<R: Reader>(
     ensures unit { entries.new.unit ≡ entries.old.unit }
     ensures shorter { OnOk result
         (length entries.new.cursor.left.bytes < length entries.old.cursor.left.bytes) }
-    ensures names { AreNamesMore (as_scope scope.entry) unit.now
-        (as_names R.section names.old) (as_names R.section names.new) }
+    ensures names { AreNamesMore names.old names.new }
 {
     let offset = entries.next_offset();
     match entries.read_abbreviation()? {
@@ -142,17 +139,16 @@ fn read_inside<R: Reader>(
     entries: &mut EntriesRaw<'_, R>,
     nesting: &mut Nesting,
     found: &mut InlinedLists<R>,
-    names: &mut NameCache<R>,
+    names: &mut UnitNames<R>,
 ) -> Result<(), Error>
     requires in_order { IsScope (as_scope scope) }
-    requires names { AreNamesOf (as_scope scope) unit.now (as_names R.section names.old) }
+    requires unit { AreNamesIn (as_scope scope) unit.now names.old }
     requires encoding { entries.old.unit.encoding ≡ unit.now.header.encoding }
     ensures gives { ExactlyAtCost R.shares (λ _. as_lists found.new) result
         (on_parts (inside_found (as_scope scope.entry) unit.now entries.old.unit
         entries.old.cursor (as_around found.old []))) }
     ensures kept { IsFoundMore (as_lists found.old) (as_lists found.new) }
-    ensures names { AreNamesMore (as_scope scope.entry) unit.now
-        (as_names R.section names.old) (as_names R.section names.new) }
+    ensures names { AreNamesMore names.old names.new }
 {
     nesting.clear();
     while is_inside(entries) {
@@ -170,17 +166,16 @@ fn read_function<R: Reader>(
     abbreviation: &Abbreviation,
     nesting: &mut Nesting,
     found: &mut InlinedLists<R>,
-    names: &mut NameCache<R>,
+    names: &mut UnitNames<R>,
 ) -> Result<Option<R>, Error>
     requires in_order { IsScope (as_scope scope) }
-    requires names { AreNamesOf (as_scope scope) unit.now (as_names R.section names.old) }
+    requires unit { AreNamesIn (as_scope scope) unit.now names.old }
     requires encoding { entries.old.unit.encoding ≡ unit.now.header.encoding }
     ensures gives { ExactlyAtCost R.shares (named_lists R.section found.new) result
         (on_parts (function_found_at (as_scope scope.entry) unit.now entries.old.unit
         entries.old.cursor (as_lists found.old) abbreviation.now)) }
     ensures kept { IsFoundMore (as_lists found.old) (as_lists found.new) }
-    ensures names { AreNamesMore (as_scope scope.entry) unit.now
-        (as_names R.section names.old) (as_names R.section names.new) }
+    ensures names { AreNamesMore names.old names.new }
 {
     let name = read_name(scope, unit, entries, abbreviation.attributes(), names)?;
     read_inside(scope, unit, entries, nesting, found, names)?;
@@ -194,15 +189,14 @@ pub(crate) fn read_detail<R: Reader>(
     offset: UnitOffset,
     nesting: &mut Nesting,
     found: &mut InlinedLists<R>,
-    names: &mut NameCache<R>,
+    names: &mut UnitNames<R>,
 ) -> Result<Option<R>, Error>
     requires in_order { IsScope (as_scope scope) }
-    requires names { AreNamesOf (as_scope scope) unit.now (as_names R.section names.old) }
+    requires unit { AreNamesIn (as_scope scope) unit.now names.old }
     ensures gives { ExactlyAtCost R.shares (named_lists R.section found.new) result (on_parts
         (detail_found_at (as_scope scope.entry) unit.now offset.0 (as_lists found.old))) }
     ensures kept { IsFoundMore (as_lists found.old) (as_lists found.new) }
-    ensures names { AreNamesMore (as_scope scope.entry) unit.now
-        (as_names R.section names.old) (as_names R.section names.new) }
+    ensures names { AreNamesMore names.old names.new }
 {
     let mut entries = UnitRef::new(scope.file.dwarf, unit).entries_raw(Some(offset))?;
     match entries.read_abbreviation()? {

@@ -1,15 +1,15 @@
 //! The cached details of the functions of a view, one after another.
 
 ghost use Rattle.std.specs.List.{AllByRecursion};
-ghost use Rattle.std.specs.Prelude.{◌≡◌, ◌<◌, [], IfErr, IfOk, OnErr, Ok, length, map, option_map, slice_get};
+ghost use Rattle.std.specs.Prelude.{◌≡◌, ◌<◌, [], IfErr, IfOk, OnErr, Ok, length, map, option_map, slice_get, Some};
 ghost use Rattle.addr2line_lines.specs.Common.{ExactlyUnlessOomIf, ExactlyAtCost};
 ghost use Rattle.addr2line_lines.specs.CostedSteps.{on_parts};
 ghost use Rattle.addr2line_lines.specs.Details.{stored_detail_at};
 ghost use Rattle.addr2line_lines.specs.FoundInlined.{entry_among, none_inlined};
-ghost use Rattle.addr2line_lines.specs.CachedNames.{AreNamesMore, AreNamesOf};
+ghost use Rattle.addr2line_lines.specs.CachedNames.{AreNamesIn, no_names};
 ghost use Rattle.addr2line_lines.specs.CachedDetails.{AreDetailsMore, IsDetailPlace, IsNextPlace, IsRefusedThen, cached_chain, detail_of, as_details};
 ghost use Rattle.addr2line_lines.specs.InlineRoom.{exceeds_inline_room};
-ghost use Rattle.addr2line_lines.specs.References.{IsScope};
+ghost use Rattle.addr2line_lines.specs.References.{IsScope, in_scope};
 ghost use Rattle.addr2line_lines.specs.LentInlined.{as_inlined};
 ghost use Rattle.addr2line_lines.specs.Scopes.{as_scope};
 
@@ -17,7 +17,7 @@ use crate::detail::read_detail;
 use crate::inlined_functions::InlinedFunction;
 use crate::inlined_lists::InlinedLists;
 use crate::inlined_ranges::InlinedRanges;
-use crate::names::NameCache;
+use crate::names::UnitNames;
 use crate::nesting::Nesting;
 use crate::picks::InlinedPlaces;
 use crate::references::Scope;
@@ -51,21 +51,24 @@ pub(crate) struct Details<R: Reader> {
     names: Vec<Option<R>>,
     inlined: InlinedLists<R>,
     // The names of entries that are referred to, or their faults.
-    known: NameCache<R>,
+    known: UnitNames<R>,
     // The entries that are open while details are read, here for its memory alone.
     nesting: Nesting,
 }
 
 impl<R: Reader> Details<R> {
-    /// Those of no function. Takes no memory.
-    pub(crate) fn new(alloc: Global) -> Details<R>
-        ensures gives { as_details R.section result
-            ≡ record { names = []; found = none_inlined; known = [] } }
+    /// Those of no function of a unit. Takes no memory.
+    pub(crate) fn new(alloc: Global, scope: Scope<'_, R>, unit: &Unit<R>) -> Details<R>
+        ensures gives { as_details R.section result ≡ record {
+          names = [];
+          found = none_inlined;
+          known = no_names (Some (in_scope (as_scope scope.entry) unit.now));
+        } }
     {
         Details {
             names: Vec::new(alloc),
             inlined: InlinedLists::new(alloc),
-            known: NameCache::new(alloc),
+            known: UnitNames::new(alloc, scope, unit),
             nesting: Nesting::new(alloc),
         }
     }
@@ -79,8 +82,7 @@ impl<R: Reader> Details<R> {
         offset: UnitOffset,
     ) -> Result<FunctionDetail, Error>
         requires in_order { IsScope (as_scope scope) }
-        requires known { AreNamesOf (as_scope scope) unit.now
-            (as_details R.section self.old).known }
+        requires unit { AreNamesIn (as_scope scope) unit.now self.old.known }
         ensures gives { ExactlyAtCost R.shares (detail_of (as_details R.section self.new)) result
             (on_parts (stored_detail_at (as_scope scope.entry) unit.now offset.0)) }
         ensures kept { AreDetailsMore (as_details R.section self.old)
@@ -90,8 +92,6 @@ impl<R: Reader> Details<R> {
             (as_details R.section self.new)) }
         ensures names { OnErr result (map (option_map R.section) self.new.names.items ≡
             map (option_map R.section) self.old.names.items) }
-        ensures known { AreNamesMore (as_scope scope.entry) unit.now
-            (as_details R.section self.old).known (as_details R.section self.new).known }
     {
         let name = self.names.len();
         let inlined_begin = self.inlined.functions.len();
@@ -137,8 +137,7 @@ impl<R: Reader> Details<R> {
         offset: UnitOffset,
     ) -> Result<FunctionDetail, Error>
         requires in_order { IsScope (as_scope scope) }
-        requires known { AreNamesOf (as_scope scope) unit.now
-            (as_details R.section self.old).known }
+        requires unit { AreNamesIn (as_scope scope) unit.now self.old.known }
         ensures gives { ExactlyAtCost R.shares (detail_of (as_details R.section self.new)) result
             (on_parts (stored_detail_at (as_scope scope.entry) unit.now offset.0)) }
         ensures kept { AreDetailsMore (as_details R.section self.old)
@@ -148,8 +147,6 @@ impl<R: Reader> Details<R> {
             (as_details R.section self.new)) }
         ensures refused { IfErr result (IsRefusedThen (as_details R.section self.old)
             (as_details R.section self.new)) }
-        ensures known { AreNamesMore (as_scope scope.entry) unit.now
-            (as_details R.section self.old).known (as_details R.section self.new).known }
     {
         let functions = self.inlined.functions.len();
         let ranges = self.inlined.ranges.len();

@@ -3,7 +3,7 @@
 ghost use Rattle.std.specs.List.{AllByRecursion};
 ghost use Rattle.std.specs.Prelude.{◌≡◌, ◌≢◌, ◌<◌, ◌==◌, [], Err, false, length, map, option_and_then, option_map, slice_get, IfOk, IfSome, None, Ok, OnOk, Some};
 ghost use Rattle.addr2line_lines.specs.Common.{OutOfMemory, ExactlyAtCost, ExactlyUnlessOomIf, ranges_at};
-ghost use Rattle.addr2line_lines.specs.CachedNames.{AreNamesOf};
+ghost use Rattle.addr2line_lines.specs.CachedNames.{AreNamesIn, no_names};
 ghost use Rattle.addr2line_lines.specs.Finding.{FindsUnlessOomIf};
 ghost use Rattle.addr2line_lines.specs.InlinedChain.{inlined_chain};
 ghost use Rattle.addr2line_lines.specs.FoundInlined.{entry_among};
@@ -14,7 +14,7 @@ ghost use Rattle.addr2line_lines.specs.FunctionTable.{AreListed, cached_inlined,
 ghost use Rattle.addr2line_lines.specs.Functions.{function_offset_at, functions_of, functions_take_memory, is_subprogram};
 ghost use Rattle.addr2line_lines.specs.InlineRoom.{exceeds_inline_room};
 ghost use Rattle.addr2line_lines.specs.RangeAttributes.{begins_well, gives_a_range};
-ghost use Rattle.addr2line_lines.specs.References.{IsScope};
+ghost use Rattle.addr2line_lines.specs.References.{IsScope, in_scope};
 ghost use Rattle.addr2line_lines.specs.LentInlined.{as_inlined};
 ghost use Rattle.addr2line_lines.specs.Scopes.{as_scope};
 ghost use Rattle.addr2line_lines.specs.FoundFunctions.{AreFoundUnread, next_found_at, found_in, item_takes_memory, none_found, as_functions, with_attributes, with_range_list, with_ranges};
@@ -237,29 +237,31 @@ impl<R: Reader> Model for Functions<R> {
 
 impl<R: Reader> Functions<R> {
     /// The functions of a unit: its subprogram entries, at any depth, whose range attributes give a
-    /// range, each once, in their order. No detail is read.
+    /// range, each once, in their order. No detail is read. `scope` says where references of the
+    /// unit lead, whose names are cached with the details.
     ///
     /// All entries of the unit are read. Refused by the first fault of an entry, of its range
     /// attributes or of its range list; may fail with `OutOfMemory` instead, only where a function
     /// has a range before any fault, or where a reader's parts share its bytes. Source: DWARF 5,
     /// sections 2.17 and 3.3.
-    pub fn parse(alloc: Global, unit: UnitRef<'_, R>) -> Result<Functions<R>, Error>
-        ensures gives { ExactlyUnlessOomIf (functions_take_memory R.shares unit.entry.dwarf.now
-            unit.entry.unit.now) (λ f. f.ranges) result
-            (functions_of unit.entry.dwarf.now unit.entry.unit.now) }
+    pub fn parse(alloc: Global, scope: Scope<'_, R>, unit: &Unit<R>) -> Result<Functions<R>, Error>
+        ensures gives { ExactlyUnlessOomIf (functions_take_memory R.shares
+            (as_scope scope.entry).file.sections unit.now) (λ f. f.ranges) result
+            (functions_of (as_scope scope.entry).file.sections unit.now) }
         ensures empty { IfOk result AreUnread }
         ensures functions { IfOk result AreListed }
-        ensures names { IfOk result (λ f. f.names ≡ []) }
+        ensures names { IfOk result (λ f.
+            f.names ≡ no_names (Some (in_scope (as_scope scope.entry) unit.now))) }
     {
         let FunctionLists {
             functions,
             addresses,
-        } = read_functions(alloc, unit)?;
+        } = read_functions(alloc, UnitRef::new(scope.file.dwarf, unit))?;
         let addresses = Segments::new(alloc, addresses)?;
         Ok(Functions {
             functions,
             addresses,
-            details: Details::new(alloc),
+            details: Details::new(alloc, scope, unit),
         })
     }
 
@@ -297,11 +299,10 @@ impl<R: Reader> Functions<R> {
     /// section 3.3.8.
     pub fn read(&mut self, scope: Scope<'_, R>, unit: &Unit<R>, place: usize) -> Result<(), Error>
         requires in_order { IsScope (as_scope scope) }
-        requires names { AreNamesOf (as_scope scope) unit.now self.old.names }
+        requires unit { AreNamesIn (as_scope scope) unit.now self.old.names }
         ensures gives { IsReadAt (as_scope scope.entry) unit.now place self.old result self.new }
         ensures exact { ExactlyAtCost R.shares (λ x. x) result (read_once (as_scope scope.entry)
             unit.now (slice_get self.old.functions place)) }
-        ensures names { AreNamesOf (as_scope scope.entry) unit.now self.new.names }
     {
         let Some(function) = self.functions.get(place) else {
             return Ok(());
@@ -327,7 +328,7 @@ impl<R: Reader> Functions<R> {
     /// fault. Source: DWARF 5, section 3.3.8.
     pub fn read_all(&mut self, scope: Scope<'_, R>, unit: &Unit<R>) -> Result<(), Error>
         requires in_order { IsScope (as_scope scope) }
-        requires names { AreNamesOf (as_scope scope) unit.now self.old.names }
+        requires unit { AreNamesIn (as_scope scope) unit.now self.old.names }
         ensures gives { AreDetailsOf (as_scope scope.entry) unit.now self.old
             → ExactlyUnlessOomIf (details_take_memory R.shares (as_scope scope.entry) unit.now
             self.old.functions) (λ x. x) result
@@ -342,7 +343,6 @@ impl<R: Reader> Functions<R> {
             → AreCachedToFault self.old.functions
             → result ≡ details_fault (as_scope scope.entry) unit.now self.old.functions }
         ensures kept { AreCachedToFault self.old.functions → self.new ≡ self.old }
-        ensures names { AreNamesOf (as_scope scope.entry) unit.now self.new.names }
     {
         let count = self.functions.len();
         for place in 0..count {
@@ -360,13 +360,12 @@ impl<R: Reader> Functions<R> {
         place: usize,
     ) -> Result<(), Error>
         requires in_order { IsScope (as_scope scope) }
-        requires names { AreNamesOf (as_scope scope) unit.now self.old.names }
+        requires unit { AreNamesIn (as_scope scope) unit.now self.old.names }
         requires unread { slice_get self.old.functions place
             ≡ Some (record { offset = offset.0; detail = None }) }
         ensures gives { IsReadAt (as_scope scope.entry) unit.now place self.old result self.new }
         ensures exact { ExactlyAtCost R.shares (λ x. x) result (read_once (as_scope scope.entry)
             unit.now (slice_get self.old.functions place)) }
-        ensures names { AreNamesOf (as_scope scope.entry) unit.now self.new.names }
     {
         match self.details.read(scope, unit, offset) {
             Ok(detail) => {

@@ -3,7 +3,7 @@
 ghost use Rattle.std.specs.Prelude.{◌≡◌, Ok, OnOk, option_and_then};
 ghost use Rattle.std.specs.Option.{option_or};
 ghost use Rattle.addr2line_lines.specs.Common.{rest_of, ExactlyUnlessOomIf, attributes_at};
-ghost use Rattle.addr2line_lines.specs.CachedNames.{AreNamesMore, AreNamesOf, as_names};
+ghost use Rattle.addr2line_lines.specs.CachedNames.{AreNamesIn, AreNamesMore};
 ghost use Rattle.addr2line_lines.specs.InlinedEntries.{constant_bits, counted_file, no_call, no_inlined_attributes, with_call_constant};
 ghost use Rattle.addr2line_lines.specs.FoundAttributes.{inlined_attributes_after, is_call, as_attributes};
 ghost use Rattle.addr2line_lines.specs.FoundNumbers.{is_number_name};
@@ -13,7 +13,7 @@ ghost use Rattle.addr2line_lines.specs.Scopes.{as_scope};
 use crate::found_name::FoundName;
 use crate::function::{RangeAttributes, is_address_name, is_range_name};
 use crate::name::{is_name_attribute, is_origin, name_by_origin, take_name};
-use crate::names::NameCache;
+use crate::names::UnitNames;
 use crate::references::Scope;
 use crate::row::low_bits;
 use gimli::read::{Attribute, AttributeSpecification, DWARF_5, DwAt, Error, NumberValue, Reader};
@@ -170,7 +170,7 @@ struct InlinedSink<'a, R: Reader> {
 }
 
 impl<R: Reader> AttributeSink<R, Attribute<R>> for InlinedSink<'_, R> {
-    ghost use Rattle.addr2line_lines.specs.CachedNames.{GrowNames, as_names};
+    ghost use Rattle.addr2line_lines.specs.CachedNames.{GrowNames};
     ghost use Rattle.addr2line_lines.specs.FoundAttributes.{as_attributes};
     ghost use Rattle.addr2line_lines.specs.InlinedEntries.{InlinedAttributes, with_inlined_attribute};
     ghost use Rattle.addr2line_lines.specs.Scopes.{as_scope};
@@ -181,7 +181,7 @@ impl<R: Reader> AttributeSink<R, Attribute<R>> for InlinedSink<'_, R> {
 
     type Found = InlinedAttributes<R>;
 
-    type Cache = NameCache<R>;
+    type Cache = UnitNames<R>;
 
     const FEW_BETWEEN: bool = true;
 
@@ -194,15 +194,14 @@ impl<R: Reader> AttributeSink<R, Attribute<R>> for InlinedSink<'_, R> {
     ghost with_attribute = { λ s x a.
         with_inlined_attribute (as_scope s.scope) s.unit.now x a };
 
-    ghost Grows = { λ s old new. GrowNames (as_scope s.scope) s.unit.now
-        (as_names R.section old) (as_names R.section new) };
+    ghost Grows = { λ s old new. GrowNames (as_scope s.scope) s.unit.now old new };
 
     #[inline(always)]
     fn take(
         &self,
         found: &mut InlinedAttributes<R>,
         attribute: Attribute<R>,
-        names: &mut NameCache<R>,
+        names: &mut UnitNames<R>,
     ) -> Result<(), Error> {
         let unit = self.unit;
         let name = attribute.name();
@@ -225,7 +224,7 @@ impl<R: Reader> AttributeSink<R, Attribute<R>> for InlinedSink<'_, R> {
         found: &mut InlinedAttributes<R>,
         name: DwAt,
         number: NumberValue,
-        names: &mut NameCache<R>,
+        names: &mut UnitNames<R>,
     ) -> Result<(), Error> {
         let unit = self.unit;
         if is_call(name) {
@@ -248,10 +247,10 @@ pub(crate) fn read_inlined_attributes<R: Reader>(
     unit: &Unit<R>,
     entries: &mut EntriesRaw<'_, R>,
     specifications: &[AttributeSpecification],
-    names: &mut NameCache<R>,
+    names: &mut UnitNames<R>,
 ) -> Result<InlinedAttributes<R>, Error>
     requires in_order { IsScope (as_scope scope) }
-    requires names { AreNamesOf (as_scope scope) unit.now (as_names R.section names.old) }
+    requires unit { AreNamesIn (as_scope scope) unit.now names.old }
     requires encoding { entries.old.unit.encoding ≡ unit.now.header.encoding }
     ensures gives { ExactlyUnlessOomIf R.shares (as_attributes R.section) result
         (inlined_attributes_after (as_scope scope.entry) unit.now (Ok no_inlined_attributes)
@@ -260,8 +259,7 @@ pub(crate) fn read_inlined_attributes<R: Reader>(
         specifications.now entries.old.cursor.left) ≡ Ok entries.new.cursor.left) }
     ensures unit { entries.new.unit ≡ entries.old.unit }
     ensures depth { entries.new.cursor.depth ≡ entries.old.cursor.depth }
-    ensures names { AreNamesMore (as_scope scope.entry) unit.now
-        (as_names R.section names.old) (as_names R.section names.new) }
+    ensures names { AreNamesMore names.old names.new }
 {
     let sink = InlinedSink { scope, unit };
     let mut found = InlinedAttributes::new();

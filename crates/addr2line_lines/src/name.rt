@@ -3,14 +3,14 @@
 ghost use Rattle.std.specs.Prelude.{◌≡◌, Ok, option_map};
 ghost use Rattle.gimli_read.specs.declared.value.AttributeValue.TheVariants as values;
 ghost use Rattle.addr2line_lines.specs.Common.{as_value, ExactlyUnlessOomIf};
-ghost use Rattle.addr2line_lines.specs.CachedNames.{AreNamesMore, AreNamesOf, as_names};
+ghost use Rattle.addr2line_lines.specs.CachedNames.{AreNamesIn, AreNamesMore};
 ghost use Rattle.addr2line_lines.specs.FoundNames.{found_name, is_name_attribute, linkage_and_found, as_name_or_origin, as_place, with_linkage, with_origin, with_string};
 ghost use Rattle.addr2line_lines.specs.Names.{is_linkage_name, is_origin, named_at, no_name, or_referred_name, readable, referred_name, visited, with_name};
 ghost use Rattle.addr2line_lines.specs.References.{IsScope};
 ghost use Rattle.addr2line_lines.specs.Scopes.{as_scope};
 
 use crate::found_name::FoundName;
-use crate::names::NameCache;
+use crate::names::UnitNames;
 use crate::references::{EntryPlace, Scope, referred};
 use gimli::read::{
     Attribute, AttributeSpecification, AttributeValue, DwAt, Error, NumberValue, Reader, UnitOffset,
@@ -240,35 +240,35 @@ fn referred_name_anew<R: Reader>(
     Ok(FoundName::Own(name))
 }
 
-// The name by the entry at an offset of the unit: the cached one, else it is read, and may be
-// cached then. So may a fault, but never `OutOfMemory`.
-fn name_in_unit<R: Reader>(
-    scope: Scope<'_, R>,
-    unit: &Unit<R>,
-    offset: UnitOffset,
-    names: &mut NameCache<R>,
-) -> Result<FoundName<R>, Error>
-    requires in_order { IsScope (as_scope scope) }
-    requires names { AreNamesOf (as_scope scope) unit.now (as_names R.section names.old) }
-    ensures gives { ExactlyUnlessOomIf R.shares (found_name R.section) result
-        (referred_name (as_scope scope.entry) unit.now (values.UnitRef offset)) }
-    ensures names { AreNamesMore (as_scope scope.entry) unit.now
-        (as_names R.section names.old) (as_names R.section names.new) }
-{
-    match names.find(offset) {
-        Some(Ok(name)) => return Ok(FoundName::Shared(name)),
-        Some(Err(error)) => return Err(error),
-        None => {}
-    }
-    match referred_name(scope, unit, AttributeValue::UnitRef(offset)) {
-        Ok(name) => Ok(names.add(offset, name)),
-        Err(error) => match error {
-            Error::OutOfMemory => Err(error),
-            _ => {
-                names.add_fault(offset, error);
-                Err(error)
-            }
-        },
+impl<R: Reader> UnitNames<R> {
+    // The name by the entry at an offset of the unit: the cached one, else it is read, and may be
+    // cached then. So may a fault, but never `OutOfMemory`.
+    fn find_or_read(
+        &mut self,
+        scope: Scope<'_, R>,
+        unit: &Unit<R>,
+        offset: UnitOffset,
+    ) -> Result<FoundName<R>, Error>
+        requires in_order { IsScope (as_scope scope) }
+        requires unit { AreNamesIn (as_scope scope) unit.now self.old }
+        ensures gives { ExactlyUnlessOomIf R.shares (found_name R.section) result
+            (referred_name (as_scope scope.entry) unit.now (values.UnitRef offset)) }
+        ensures names { AreNamesMore self.old self.new }
+    {
+        if let Some(found) = self.cached.find(offset) {
+            let name = found?;
+            return Ok(FoundName::Shared(name));
+        }
+        match referred_name(scope, unit, AttributeValue::UnitRef(offset)) {
+            Ok(name) => Ok(self.cached.add(offset, name)),
+            Err(error) => match error {
+                Error::OutOfMemory => Err(error),
+                _ => {
+                    self.cached.add_fault(offset, error);
+                    Err(error)
+                }
+            },
+        }
     }
 }
 
@@ -277,42 +277,40 @@ fn referred_name_once<R: Reader>(
     scope: Scope<'_, R>,
     unit: &Unit<R>,
     value: AttributeValue<R>,
-    names: &mut NameCache<R>,
+    names: &mut UnitNames<R>,
 ) -> Result<FoundName<R>, Error>
     requires in_order { IsScope (as_scope scope) }
-    requires names { AreNamesOf (as_scope scope) unit.now (as_names R.section names.old) }
+    requires unit { AreNamesIn (as_scope scope) unit.now names.old }
     ensures gives { ExactlyUnlessOomIf R.shares (found_name R.section) result
         (referred_name (as_scope scope.entry) unit.now (as_value R.section value)) }
-    ensures names { AreNamesMore (as_scope scope.entry) unit.now
-        (as_names R.section names.old) (as_names R.section names.new) }
+    ensures names { AreNamesMore names.old names.new }
 {
     match value {
-        AttributeValue::UnitRef(offset) => name_in_unit(scope, unit, offset, names),
+        AttributeValue::UnitRef(offset) => names.find_or_read(scope, unit, offset),
         value => referred_name_anew(scope, unit, value),
     }
 }
 
-/// The name that was found, else that by the entry at an offset of the unit, as `name_in_unit`
+/// The name that was found, else that by the entry at an offset of the unit, as `find_or_read`
 /// gives it.
 pub(crate) fn name_by_origin<R: Reader>(
     scope: Scope<'_, R>,
     unit: &Unit<R>,
     name: FoundName<R>,
     offset: UnitOffset,
-    names: &mut NameCache<R>,
+    names: &mut UnitNames<R>,
 ) -> Result<FoundName<R>, Error>
     requires in_order { IsScope (as_scope scope) }
-    requires names { AreNamesOf (as_scope scope) unit.now (as_names R.section names.old) }
+    requires unit { AreNamesIn (as_scope scope) unit.now names.old }
     ensures gives { ExactlyUnlessOomIf R.shares (found_name R.section) result
         (or_referred_name (as_scope scope.entry) unit.now (found_name R.section name)
         (values.UnitRef offset)) }
-    ensures names { AreNamesMore (as_scope scope.entry) unit.now
-        (as_names R.section names.old) (as_names R.section names.new) }
+    ensures names { AreNamesMore names.old names.new }
 {
     if name.is_some() {
         return Ok(name);
     }
-    name_in_unit(scope, unit, offset, names)
+    names.find_or_read(scope, unit, offset)
 }
 
 /// The name after one more attribute of the entry itself.
@@ -322,14 +320,13 @@ pub(crate) fn take_name<R: Reader>(
     unit: &Unit<R>,
     name: FoundName<R>,
     attribute: Attribute<R>,
-    names: &mut NameCache<R>,
+    names: &mut UnitNames<R>,
 ) -> Result<FoundName<R>, Error>
     requires in_order { IsScope (as_scope scope) }
-    requires names { AreNamesOf (as_scope scope) unit.now (as_names R.section names.old) }
+    requires unit { AreNamesIn (as_scope scope) unit.now names.old }
     ensures gives { ExactlyUnlessOomIf R.shares (found_name R.section) result
         (with_name (as_scope scope.entry) unit.now (found_name R.section name) attribute) }
-    ensures names { AreNamesMore (as_scope scope.entry) unit.now
-        (as_names R.section names.old) (as_names R.section names.new) }
+    ensures names { AreNamesMore names.old names.new }
 {
     let attribute_name = attribute.name();
     let value = attribute.value();
@@ -361,7 +358,7 @@ pub(crate) struct NameSink<'a, R: Reader> {
 impl<R: Reader> AttributeSink<R, Attribute<R>> for NameSink<'_, R> {
     ghost use Rattle.std.specs.Prelude.{Option};
     ghost use Rattle.gimli_read.specs.Section.{Section};
-    ghost use Rattle.addr2line_lines.specs.CachedNames.{GrowNames, as_names};
+    ghost use Rattle.addr2line_lines.specs.CachedNames.{GrowNames};
     ghost use Rattle.addr2line_lines.specs.FoundNames.{found_name};
     ghost use Rattle.addr2line_lines.specs.Names.{with_name};
     ghost use Rattle.addr2line_lines.specs.Scopes.{as_scope};
@@ -372,7 +369,7 @@ impl<R: Reader> AttributeSink<R, Attribute<R>> for NameSink<'_, R> {
 
     type Found = FoundName<R>;
 
-    type Cache = NameCache<R>;
+    type Cache = UnitNames<R>;
 
     const FEW_BETWEEN: bool = false;
 
@@ -384,14 +381,13 @@ impl<R: Reader> AttributeSink<R, Attribute<R>> for NameSink<'_, R> {
 
     ghost with_attribute = { λ s name a. with_name (as_scope s.scope) s.unit.now name a };
 
-    ghost Grows = { λ s old new. GrowNames (as_scope s.scope) s.unit.now
-        (as_names R.section old) (as_names R.section new) };
+    ghost Grows = { λ s old new. GrowNames (as_scope s.scope) s.unit.now old new };
 
     fn take(
         &self,
         found: &mut FoundName<R>,
         attribute: Attribute<R>,
-        names: &mut NameCache<R>,
+        names: &mut UnitNames<R>,
     ) -> Result<(), Error> {
         let before = found.take();
         *found = take_name(self.scope, self.unit, before, attribute, names)?;
@@ -403,7 +399,7 @@ impl<R: Reader> AttributeSink<R, Attribute<R>> for NameSink<'_, R> {
         _found: &mut FoundName<R>,
         _name: DwAt,
         _number: NumberValue,
-        _names: &mut NameCache<R>,
+        _names: &mut UnitNames<R>,
     ) -> Result<(), Error> {
         Ok(())
     }

@@ -1,13 +1,19 @@
 //! The cached names of entries that are referred to.
 
-ghost use Rattle.std.specs.Prelude.{◌≡◌, Err, IfSome, [], length, Ok, option_map, take};
-ghost use Rattle.addr2line_lines.specs.CachedNames.{IsKnownAs, IsOneMoreAtMost, name_at_offset, as_cached_name, as_names, as_shared};
+ghost use Rattle.std.specs.Prelude.{◌≡◌, Err, IfSome, [], length, Ok, option_map, Some, take};
+ghost use Rattle.addr2line_lines.specs.CachedNames.{IsKnownAs, IsOneMoreAtMost, name_at_offset, no_names, as_cached_name, as_names, as_shared};
 ghost use Rattle.addr2line_lines.specs.FoundNames.{found_name};
+ghost use Rattle.addr2line_lines.specs.References.{in_scope};
+ghost use Rattle.addr2line_lines.specs.Scopes.{as_scope};
 
 use crate::found_name::{FoundName, note_text};
+use crate::references::{Scope, UnitSnapshot};
+use gimli::Unit;
 use gimli::read::{Error, Reader, UnitOffset};
 use std::alloc::Global;
+use std::marker::Model;
 use std::rc::Rc;
+use std::snapshot::Snapshot;
 
 // The fewest slots.
 const FEWEST_SLOTS: usize = 64;
@@ -217,5 +223,56 @@ impl<R: Reader> NameCache<R> {
             Ok(error) => self.push(CachedName::Faulty { offset, error }),
             Err(_) => {}
         }
+    }
+}
+
+/// The names that entries of a unit give where they are referred to, or their faults, each read
+/// when it is first asked for.
+#[derive(Drop)]
+pub(crate) struct UnitNames<R: Reader> {
+    pub(crate) cached: NameCache<R>,
+    // The unit and where its references lead, for contracts alone: it has no bytes.
+    unit: Snapshot<UnitSnapshot<R>>,
+}
+
+impl<R: Reader> Model for UnitNames<R> {
+    ghost use Rattle.std.specs.Prelude.{Some};
+    ghost use Rattle.addr2line_lines.specs.CachedNames.{AreNamesOf, KnownNames, as_names};
+    ghost use Rattle.addr2line_lines.specs.Scopes.{snapshot_unit};
+
+    ghost Value = { KnownNames };
+
+    ghost view = { λ n. record {
+      unit = Some (snapshot_unit n.unit.value);
+      names = as_names R.section n.cached;
+    } };
+
+    ghost invariant = { λ n. AreNamesOf (snapshot_unit n.unit.value) (as_names R.section n.cached) };
+}
+
+impl<R: Reader> UnitNames<R> {
+    /// Those of a unit, before any is asked for. Takes no memory.
+    pub(crate) fn new(alloc: Global, scope: Scope<'_, R>, unit: &Unit<R>) -> UnitNames<R>
+        ensures gives { result ≡ no_names (Some (in_scope (as_scope scope.entry) unit.now)) }
+    {
+        UnitNames {
+            cached: NameCache::new(alloc),
+            unit: UnitSnapshot::of(scope, unit),
+        }
+    }
+
+    /// The number of names and faults that are cached. Takes no memory.
+    pub(crate) fn len(&self) -> usize
+        ensures gives { result ≡ length self.now.names }
+    {
+        self.cached.len()
+    }
+
+    /// Keeps so many of them, the first ones. Takes no memory.
+    pub(crate) fn truncate(&mut self, names: usize)
+        ensures unit { self.new.unit ≡ self.old.unit }
+        ensures names { self.new.names ≡ take names self.old.names }
+    {
+        self.cached.truncate(names);
     }
 }

@@ -3,20 +3,21 @@
 ghost use Rattle.std.specs.Prelude.{◌≡◌, ◌≤◌, length, option_map};
 ghost use Rattle.std.specs.List.Sorted.{IsPartitionPoint};
 ghost use Rattle.addr2line_lines.specs.Common.{as_value, Exactly};
-ghost use Rattle.addr2line_lines.specs.References.{AreInOrder, IsFileInOrder, IsScope, entry_in, entry_in_sup, referred, unit_at};
-ghost use Rattle.addr2line_lines.specs.Scopes.{as_scope, as_file_record};
+ghost use Rattle.addr2line_lines.specs.References.{AreInOrder, IsFileInOrder, IsScope, entry_in, entry_in_sup, in_scope, referred, unit_at};
+ghost use Rattle.addr2line_lines.specs.Scopes.{as_file_record, as_scope, snapshot_file, snapshot_unit};
 ghost use Rattle.addr2line_lines.specs.FoundNames.{BeginsAbove, BeginsBy, as_place};
 
 use gimli::read::{AttributeValue, DebugInfoOffset, Error, Reader, UnitOffset};
 use gimli::{Dwarf, ToUnitOffset, Unit};
 use std::alloc::AllocError;
+use std::snapshot::Snapshot;
 
 /// The sections of a file, and the units that offsets in its `.debug_info` lead to.
 pub struct FileUnits<'a, R: Reader> {
     /// The sections.
     pub dwarf: &'a Dwarf<R>,
     /// The units, in the order of `.debug_info`; none of a split file.
-    pub units: &'a [Unit<R>],
+    pub units: Option<&'a Vec<Unit<R>>>,
 }
 
 impl<R: Reader> Copy for FileUnits<'_, R> {}
@@ -40,6 +41,63 @@ impl<R: Reader> Copy for Scope<'_, R> {}
 impl<R: Reader> Clone for Scope<'_, R> {
     fn clone(&self) -> Result<Self, AllocError> {
         Ok(*self)
+    }
+}
+
+impl<'a, R: Reader> FileUnits<'a, R> {
+    /// The units, none of a split file. Takes no memory.
+    pub fn as_slice(self) -> &'a [Unit<R>]
+        ensures gives { result.now ≡ (as_file_record self.entry).units }
+    {
+        match self.units {
+            Some(units) => units,
+            None => &[],
+        }
+    }
+
+    // The file as it is now.
+    fn snapshot(self) -> FileSnapshot<R>
+        ensures gives { snapshot_file result ≡ as_file_record self.entry }
+    {
+        FileSnapshot {
+            dwarf: Snapshot::of(self.dwarf),
+            units: match self.units {
+                Some(units) => Some(Snapshot::of(units)),
+                None => None,
+            },
+        }
+    }
+}
+
+// A file and its units as they were at a time, for contracts alone.
+#[derive(Drop)]
+struct FileSnapshot<R: Reader> {
+    dwarf: Snapshot<Dwarf<R>>,
+    units: Option<Snapshot<Vec<Unit<R>>>>,
+}
+
+/// A unit and where references lead from it, as they were at a time, for contracts alone.
+#[derive(Drop)]
+pub(crate) struct UnitSnapshot<R: Reader> {
+    file: FileSnapshot<R>,
+    sup: Option<FileSnapshot<R>>,
+    unit: Snapshot<Unit<R>>,
+}
+
+impl<R: Reader> UnitSnapshot<R> {
+    /// A unit and where references lead from it, as they are now. It has no bytes.
+    pub(crate) fn of(scope: Scope<'_, R>, unit: &Unit<R>) -> Snapshot<UnitSnapshot<R>>
+        ensures gives { snapshot_unit result.value ≡ in_scope (as_scope scope.entry) unit.now }
+    {
+        let now = UnitSnapshot {
+            file: scope.file.snapshot(),
+            sup: match scope.sup {
+                Some(file) => Some(file.snapshot()),
+                None => None,
+            },
+            unit: Snapshot::of(unit),
+        };
+        Snapshot::of(&now)
     }
 }
 
@@ -92,11 +150,11 @@ fn find_entry<R: Reader>(
     scope: Scope<'_, R>,
     offset: DebugInfoOffset,
 ) -> Result<Option<EntryPlace<'_, R>>, Error>
-    requires in_order { AreInOrder scope.file.units.now }
+    requires in_order { AreInOrder (as_file_record scope.file).units }
     ensures gives { Exactly (option_map as_place) result
         (entry_in (as_scope scope.entry) offset.0) }
 {
-    match find_unit(scope.file.units, offset) {
+    match find_unit(scope.file.as_slice(), offset) {
         Some((unit, offset)) => Ok(Some(EntryPlace {
             scope,
             unit,

@@ -1,7 +1,6 @@
 -- What a lookup of a function leaves of the functions of a view (on specs/CacheAfter.antt).
 use Rattle.addr2line_units.proofs.Common.{Box, Global, ◌≡◌, ◌≢◌, ◌∙◌, ℕ, ◌<◌, ◌&&◌, Bool, true, false, List, [], length, map, Some, None, Result, Ok, Err, refl, ap, sym, subst, arith, some_at, read_more, table_same, AllByRecursion, Error, ExactlyUnlessOomIf, AreUnread, OutOfMemory, UnitRecord, InlinedEntry, FunctionTable, cached_detail, cached_inlined, cached_offset_at, function_offset_at, function_place_at, functions_of, functions_take_memory, exceeds_inline_room, IsReadAt, Scope, LazyFunctions, function_at, AreFunctionsOf, IsTableOf, ReadsNoOther, StayFunctions, cached_functions, cached_has_function, find_takes_memory, function_of_place, has_place, table_takes_memory, were_read}
 use Rattle.std.specs.Box.{with_value}
-use Rattle.addr2line_lines.specs.CachedNames.{AreNamesOf}
 use Rattle.addr2line_lines.specs.FoundInlined.{entry_among}
 use Rattle.addr2line_lines.specs.InlinedChain.{inlined_chain}
 use Rattle.addr2line_units.specs.declared.entries.FunctionPlace.{FunctionPlace}
@@ -161,9 +160,9 @@ module _ {R : Type 0} (shares : Bool) (scope : Scope) (view : UnitRecord) (probe
           detail_gives = let at = some_at t.value.functions n within in
               λ lacks. refused_detail scope view probe n t.value new at.0 at.1 table place offset x read (λ takes. lacks (before takes))
 
-          pub detail_after : AreNamesOf scope view new.names → KeepsFunction scope view probe (Err x) old put
-          detail_after names = let at = some_at t.value.functions n within in record {
-            right = table_stays scope view n t.value new (Err x) table read names;
+          pub detail_after : KeepsFunction scope view probe (Err x) old put
+          detail_after = let at = some_at t.value.functions n within in record {
+            right = table_stays scope view n t.value new (Err x) table read;
             there = tt;
             stay = stays (Err x) read;
             within = reads (Err x) read;
@@ -179,9 +178,9 @@ module _ {R : Type 0} (shares : Bool) (scope : Scope) (view : UnitRecord) (probe
             chain_gives = let at = some_at t.value.functions n within in
                 λ lacks. absurd (refused_chain scope view probe n t.value new at.0 at.1 table place read x chain (λ takes. lacks (before takes)))
 
-            pub chain_after : AreNamesOf scope view new.names → KeepsFunction scope view probe (Err x) old put
-            chain_after names = let at = some_at t.value.functions n within in record {
-              right = table_stays scope view n t.value new (Ok tt) table read names;
+            pub chain_after : KeepsFunction scope view probe (Err x) old put
+            chain_after = let at = some_at t.value.functions n within in record {
+              right = table_stays scope view n t.value new (Ok tt) table read;
               there = tt;
               stay = stays (Ok tt) read;
               within = reads (Ok tt) read;
@@ -195,9 +194,9 @@ module _ {R : Type 0} (shares : Bool) (scope : Scope) (view : UnitRecord) (probe
             pub place_gives : function_at scope view probe ≡ Ok (Some (function_of_place new p))
             place_gives = let at = some_at t.value.functions n within in chain_found scope view probe n t.value new at.0 at.1 table offset read p at_place chain
 
-            pub place_after : AreNamesOf scope view new.names → AllByRecursion (λ m. m < length new.inlined) p.inlined.items → KeepsFunction scope view probe (Ok (Some p)) old put
-            place_after names inlined = let at = some_at t.value.functions n within in record {
-              right = table_stays scope view n t.value new (Ok tt) table read names;
+            pub place_after : AllByRecursion (λ m. m < length new.inlined) p.inlined.items → KeepsFunction scope view probe (Ok (Some p)) old put
+            place_after inlined = let at = some_at t.value.functions n within in record {
+              right = table_stays scope view n t.value new (Ok tt) table read;
               there = record { function = below; inlined = inlined };
               stay = stays (Ok tt) read;
               within = reads (Ok tt) read;

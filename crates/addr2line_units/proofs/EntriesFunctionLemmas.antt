@@ -1,7 +1,8 @@
 -- The function at an address by what is cached of a view (on specs/EntriesFunctions.antt).
-use Rattle.addr2line_units.proofs.Common.{Box, Global, ◌≡◌, ◌≢◌, ℕ, ◌+◌, ◌==◌, ◌&&◌, ◌⊎◌, inl, inr, nat_lt, not, Bool, true, false, cond, List, [], ◌∷◌, length, map, slice_get, slice_set, Option, Some, None, option_and_then, option_map, unwrap_or, Result, Ok, Err, refl, ap, sym, subst, ◌∙◌, zero, suc, AllByRecursion, AllZip, position_or_len, DwLang, Error, OutOfMemory, ◌>>=◌, ExactlyUnlessOomIf, fault_of, Section, Sections, UnitRecord, Detail, detail_at, InlinedEntry, FunctionRange, entries_of, function_offset_at, functions_of, functions_take_memory, AreDetailsOf, AreUnread, IsDetailOf, IsFunctionMore, IsReadAt, IsReadOf, IsReadOnce, IsTableMore, IsWithDetail, details_fault, details_take_memory, AreListed, CachedFunction, FunctionTable, cached_detail, cached_inlined, cached_name, function_place_at, inlined_of_detail, name_of_detail, cached_offset_at, Location, exceeds_inline_room, Scope, all_at, get_set_other, some_at, read_more, read_right, unread_right, LazyFunctions, FrameRecord, found_frames, found_function, frames_from, function_at, function_from, ArePlacesIn, IsTableOf, ReadsNoOther, StayFunctions, cached_detail_takes_memory, cached_takes_memory, details_at, find_takes_memory, function_of_place, functions_fault, cached_functions, place_takes_memory, reading_takes_memory, table_takes_memory, were_read, memory_or_not}
+use Rattle.addr2line_units.proofs.Common.{Box, Global, ◌≡◌, ◌≢◌, ℕ, ◌+◌, ◌==◌, ◌&&◌, ◌⊎◌, inl, inr, nat_lt, not, Bool, true, false, cond, List, [], ◌∷◌, length, map, slice_get, slice_set, Option, Some, None, option_and_then, option_map, unwrap_or, Result, Ok, Err, refl, ap, sym, subst, ◌∙◌, zero, suc, AllByRecursion, AllZip, position_or_len, DwLang, Error, OutOfMemory, ◌>>=◌, ExactlyUnlessOomIf, fault_of, Section, UnitRecord, Detail, detail_at, InlinedEntry, FunctionRange, entries_of, function_offset_at, functions_of, functions_take_memory, AreDetailsOf, AreUnread, IsDetailOf, IsFunctionMore, IsReadAt, IsReadOf, IsReadOnce, IsTableMore, IsWithDetail, details_fault, details_take_memory, AreListed, CachedFunction, FunctionTable, cached_detail, cached_inlined, cached_name, function_place_at, inlined_of_detail, name_of_detail, cached_offset_at, Location, exceeds_inline_room, Scope, all_at, get_set_other, some_at, read_more, read_right, unread_right, LazyFunctions, FrameRecord, found_frames, found_function, frames_from, function_at, function_from, ArePlacesIn, IsTableOf, ReadsNoOther, StayFunctions, cached_detail_takes_memory, cached_takes_memory, details_at, find_takes_memory, function_of_place, functions_fault, cached_functions, place_takes_memory, reading_takes_memory, table_takes_memory, were_read, memory_or_not}
 use Rattle.std.specs.Prelude.{IfSome, position, reverse}
-use Rattle.addr2line_lines.specs.CachedNames.{AreNamesOf}
+use Rattle.addr2line_lines.specs.CachedNames.{KnownNames, no_names}
+use Rattle.addr2line_lines.specs.References.{in_scope}
 use Rattle.addr2line_lines.specs.InlinedChain.{inlined_chain}
 use Rattle.addr2line_lines.specs.FoundInlined.{entry_among}
 use Rattle.addr2line_lines.proofs.ListedFunctions.{more_listed}
@@ -10,19 +11,9 @@ use Rattle.addr2line_units.specs.declared.entries.LazyFunctions.TheVariants as l
 use Rattle.addr2line_units.proofs.EntriesFunctionMemoryLemmas.{details_take, place_takes}
 
 -- functions that were just read are those of the view
-pub read_table : (scope : Scope) (view : UnitRecord) (d : Sections) (u : UnitRecord) (t : FunctionTable) → d ≡ scope.file.sections → u ≡ view → functions_of d u ≡ Ok t.ranges → AreListed t → AreUnread t → t.names ≡ [] → IsTableOf scope view t
-read_table scope view d u t at_d at_u h listed unread none =
-    record {
-      ranges = subst (λ (s : Sections). functions_of s view ≡ Ok t.ranges) at_d (subst (λ (v : UnitRecord). functions_of d v ≡ Ok t.ranges) at_u h);
-      listed = listed;
-      details = unread_right scope view t unread;
-      names = subst (AreNamesOf scope view) (sym none) tt;
-    }
-
--- their fault
-pub read_fault_of : (scope : Scope) (view : UnitRecord) (d : Sections) (u : UnitRecord) (e : Error) → d ≡ scope.file.sections → u ≡ view → functions_of d u ≡ Err e → functions_of scope.file.sections view ≡ Err e
-read_fault_of scope view d u e at_d at_u h =
-    subst (λ (s : Sections). functions_of s view ≡ Err e) at_d (subst (λ (v : UnitRecord). functions_of d v ≡ Err e) at_u h)
+pub read_table : (scope : Scope) (view : UnitRecord) (t : FunctionTable) → functions_of scope.file.sections view ≡ Ok t.ranges → AreListed t → AreUnread t → t.names ≡ no_names (Some (in_scope scope view)) → IsTableOf scope view t
+read_table scope view t h listed unread none =
+    record { ranges = h; listed = listed; details = unread_right scope view t unread; names = ap (λ (k : KnownNames). k.unit) none }
 
 -- the function at the probe, by the functions of the view
 pub function_is : (scope : Scope) (view : UnitRecord) (probe : ℕ) (r : Result (List FunctionRange) Error) → functions_of scope.file.sections view ≡ r
@@ -237,10 +228,10 @@ reads_one scope view probe n old new r place k = λ i ne. by_read i (λ e. ne (p
         by_function (Some f) h = by_detail f f.detail h
 
 -- the functions stay those of the view
-pub table_stays : (scope : Scope) (view : UnitRecord) (n : ℕ) (old new : FunctionTable) (r : Result (Unit {0}) Error) → IsTableOf scope view old → IsReadAt scope view n old r new → AreNamesOf scope view new.names → IsTableOf scope view new
-table_stays scope view n old new r h k names =
+pub table_stays : (scope : Scope) (view : UnitRecord) (n : ℕ) (old new : FunctionTable) (r : Result (Unit {0}) Error) → IsTableOf scope view old → IsReadAt scope view n old r new → IsTableOf scope view new
+table_stays scope view n old new r h k =
     let more = read_more scope view n old new r k in
-    record { ranges = h.ranges ∙ ap Ok (sym more.ranges); listed = more_listed old new h.listed more; details = read_right scope view n old new r h.details k; names = names }
+    record { ranges = h.ranges ∙ ap Ok (sym more.ranges); listed = more_listed old new h.listed more; details = read_right scope view n old new r h.details k; names = more.names.unit ∙ h.names }
 
 -- the first fault among details, by the functions and by their entries
 pub details_by_entries : (scope : Scope) (view : UnitRecord) (fs : List CachedFunction) → details_fault scope view fs ≡ details_at scope view (map (λ (f : CachedFunction). f.offset) fs)
@@ -259,8 +250,8 @@ fault_is scope view t h =
     ∙ ap (details_at scope view) (sym h.listed) ∙ sym (details_by_entries scope view t.functions)
 
 -- functions stay those of the view where more right details are cached
-pub table_more : (scope : Scope) (view : UnitRecord) (old new : FunctionTable) → IsTableOf scope view old → IsTableMore old new → AreDetailsOf scope view new → AreNamesOf scope view new.names → IsTableOf scope view new
-table_more scope view old new h more details names = record { ranges = h.ranges ∙ ap Ok (sym more.ranges); listed = more_listed old new h.listed more; details = details; names = names }
+pub table_more : (scope : Scope) (view : UnitRecord) (old new : FunctionTable) → IsTableOf scope view old → IsTableMore old new → AreDetailsOf scope view new → IsTableOf scope view new
+table_more scope view old new h more details = record { ranges = h.ranges ∙ ap Ok (sym more.ranges); listed = more_listed old new h.listed more; details = details; names = more.names.unit ∙ h.names }
 
 -- memory may be taken more often
 pub exactly_weaker : {X Y : Type 0} (a b : Bool) (see : X → Y) (r : Result X Error) (given : Result Y Error) → (a ≡ true → b ≡ true) → ExactlyUnlessOomIf a see r given → ExactlyUnlessOomIf b see r given

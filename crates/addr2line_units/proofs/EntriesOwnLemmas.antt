@@ -2,7 +2,8 @@
 use Rattle.addr2line_units.proofs.Common.{◌≡◌, ◌∙◌, ap, sym, refl, subst, true, false, Option, Some, None, is_some, IfSome, IfOk, Result, Ok, Err, Error, Sections, UnitRecord, IsScope, Scope, EntriesCache, ViewState, AreEntriesOf, AreFresh, first_answer_of, AreFunctionsOf, AreLinesOf, IsCacheOf, answer_in, is_decided, verdict_in, was_checked, View, verdict, view_scope}
 use Rattle.addr2line_units.specs.declared.unit.ViewState.TheVariants as states
 use Rattle.addr2line_units.specs.CacheAfter.{WasLookedAt}
-use Rattle.addr2line_units.specs.EntriesOwn.{AreOwnEntries, CachedUnit, UnitInScope}
+use Rattle.addr2line_lines.specs.References.{UnitInScope}
+use Rattle.addr2line_units.specs.EntriesOwn.{AreOwnEntries, CachedUnit}
 use Rattle.addr2line_units.specs.UnitsCached.{AreOfUnit}
 use Rattle.addr2line_units.proofs.LoadsAnswerLemmas.{decided_was_checked, unread_are}
 

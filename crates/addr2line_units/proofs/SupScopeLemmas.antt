@@ -6,7 +6,7 @@ use Rattle.std.specs.Result.{result_ok}
 use Rattle.gimli.proofs.HeaderOrder.{headers_in_order}
 use Rattle.addr2line_lines.proofs.UnitOrder.{kept_in_order, record_header, units_read}
 use Rattle.addr2line_units.specs.UnitsIndex.{UnitIndex, index_units, sup_sections, sup_unit_of_header, sup_units}
-use Rattle.addr2line_units.specs.EntriesOwn.{UnitInScope}
+use Rattle.addr2line_lines.specs.References.{UnitInScope}
 use Rattle.addr2line_units.specs.UnitsCached.{AreOfUnit, IsFresh}
 use Rattle.addr2line_units.proofs.EntriesOwnLemmas.{fresh_are_of, no_answer}
 

@@ -4,7 +4,8 @@ use Rattle.addr2line_units.proofs.Common.{◌≡◌, ℕ, ◌<◌, nat_lt, ltb-f
 use Rattle.addr2line_units.specs.declared.frames.FramesStop.TheVariants as stops
 use Rattle.std.specs.Prelude.{IfSome}
 use Rattle.addr2line_units.specs.CacheAfter.{WasLookedAt}
-use Rattle.addr2line_units.specs.EntriesOwn.{AreOwnEntries, CachedUnit, UnitInScope}
+use Rattle.addr2line_lines.specs.References.{UnitInScope}
+use Rattle.addr2line_units.specs.EntriesOwn.{AreOwnEntries, CachedUnit}
 use Rattle.addr2line_units.specs.UnitsCached.{AreOfUnit}
 use Rattle.addr2line_units.proofs.EntriesOwnLemmas.{looked_at_is_cache, own_entries}
 use Rattle.addr2line_units.proofs.UnitsCachedLemmas.{as_many_entries, cache_at, cache_set, entries_at, entries_right, lines_right}
@@ -19,12 +20,12 @@ module _ {scope seen : Scope} (is : seen ≡ scope) where
   as_indexed_units = ap (λ (s : Scope). s.file.units) is
 
   -- the unit of a number among those, and that there is none
-  module _ (n : ℕ) where
-    pub unit_got : {u : UnitRecord} → true ≡ nat_lt n (length seen.file.units) → u ≡ get_or seen.file.units n u → slice_get scope.file.units n ≡ Some u
-    unit_got {u} below at = subst (λ xs. slice_get xs n ≡ Some u) as_indexed_units (slice_get_read seen.file.units _ n u refl (ltb-true _ _ (sym below)) at)
+  module _ {units : List UnitRecord} (lent : units ≡ seen.file.units) (n : ℕ) where
+    pub unit_got : {u : UnitRecord} → true ≡ nat_lt n (length units) → u ≡ get_or units n u → slice_get scope.file.units n ≡ Some u
+    unit_got {u} below at = subst (λ xs. slice_get xs n ≡ Some u) (lent ∙ as_indexed_units) (slice_get_read units _ n u refl (ltb-true _ _ (sym below)) at)
 
-    pub none_got : false ≡ nat_lt n (length seen.file.units) → slice_get scope.file.units n ≡ None
-    none_got past = subst (λ xs. slice_get xs n ≡ None) as_indexed_units (slice_get_past seen.file.units n (ltb-false _ _ (sym past)))
+    pub none_got : false ≡ nat_lt n (length units) → slice_get scope.file.units n ≡ None
+    none_got past = subst (λ xs. slice_get xs n ≡ None) (lent ∙ as_indexed_units) (slice_get_past units n (ltb-false _ _ (sym past)))
 
 module _ {R : Type 0} {scope : Scope} {held : List (CachedUnit R)} {last : FramesStop} (i : AreUnits scope held last) where
   -- what is cached of all units is their own

@@ -2,6 +2,7 @@
 -- and specs/UnitsCached.antt).
 use Rattle.addr2line_units.proofs.Common.{◌≡◌, ◌≢◌, ℕ, zero, suc, ◌<◌, inl, inr, true, List, [], ◌∷◌, length, get_or, slice_get, Option, Some, None, option_and_then, Result, Ok, Err, refl, ap, sym, subst, ◌∙◌, arith, set, AllZip, Error, UnitRecord, Detail, CachedFunction, FunctionTable, cached_detail, function_place_at, IsFunctionMore, IsTableMore, Scope, LazyFunctions, CachedUnit, EntriesCache, ViewState, AreEntriesOf, ReadsEntriesOf, StayEntries, has_answered, has_entries, has_entries_by, first_answer_of, StayFunctions, has_detail, cached_has_function, has_place, cached_functions, no_functions, known_by, known_in, HaveLinesOf, indexed_unit, indexed_units, is_parsed, parsed_units, HaveCachesOf, HaveEntriesOf, IsCacheOf, answers_in, was_checked, functions_same}
 use Rattle.std.specs.Prelude.{IfSome}
+use Rattle.addr2line_lines.proofs.CachedNameLemmas.{names_same}
 use Rattle.addr2line_lines.proofs.NestingLemmas.{grown_not}
 use Rattle.addr2line_units.specs.declared.entries.LazyFunctions.TheVariants as lazy
 use Rattle.addr2line_units.specs.declared.unit.ViewState.TheVariants as states
@@ -32,7 +33,7 @@ module _ {R : Type 0} where
   stays_same : (f : LazyFunctions R) → StayFunctions f f
   stays_same lazy.Unread = tt
   stays_same lazy.Absent = refl
-  stays_same (lazy.Read t) = record { ranges = refl; functions = functions_same t.value.functions; inlined = grown_not t.value.inlined; names = grown_not t.value.names }
+  stays_same (lazy.Read t) = record { ranges = refl; functions = functions_same t.value.functions; inlined = grown_not t.value.inlined; names = names_same t.value.names }
   stays_same (lazy.Faulty e) = refl
 
   pub entries_same : (v : EntriesCache R) → StayEntries v v

@@ -4,7 +4,7 @@
 use Rattle.std.specs.Prelude.{◌≡◌, ◌≢◌, ◌<◌, ℕ, Bool, true, false, List, [], ◌∷◌, length, map, Option, Some, None, option_map, unwrap_or, Result, Ok, Err, box_value}
 use Rattle.std.specs.List.{AllByRecursion}
 use Rattle.addr2line_units.specs.Common.{Error, OutOfMemory, ◌>>=◌, UnitRecord, AreListed, FunctionTable, cached_detail, cached_name, function_place_at, inlined_of_detail, cached_offset_at, entries_of, functions_of, functions_take_memory, exceeds_inline_room, Scope}
-use Rattle.addr2line_lines.specs.CachedNames.{AreNamesOf}
+use Rattle.addr2line_lines.specs.CachedNames.{AreNamesIn, no_names}
 use Rattle.addr2line_lines.specs.Details.{Detail, detail_at}
 use Rattle.addr2line_lines.specs.InlinedChain.{inlined_chain}
 use Rattle.addr2line_lines.specs.FoundInlined.{entry_among}
@@ -15,13 +15,13 @@ use Rattle.addr2line_units.specs.declared.entries.LazyFunctions.TheVariants as l
 use Rattle.addr2line_units.specs.Frames.{FoundFunction}
 
 -- functions are those of a view whose references lead where the scope says, what is cached of each
--- is its detail, or the fault of that, and what is cached of names is what references in the view
--- give
+-- is its detail, or the fault of that, and the names that are cached are given by references in the
+-- view
 pub record IsTableOf (scope : Scope) (view : UnitRecord) (t : FunctionTable) : Type 0 where
   pub ranges : functions_of scope.file.sections view ≡ Ok t.ranges
   pub listed : AreListed t
   pub details : AreDetailsOf scope view t
-  pub names : AreNamesOf scope view t.names
+  pub names : AreNamesIn scope view t.names
 
 -- what is cached is the functions of a view with their details, or their fault
 abbrev pub AreFunctionsOf : {R : Type 0} → Scope → UnitRecord → LazyFunctions R → Type 0
@@ -37,7 +37,7 @@ were_read _ = true
 
 -- no functions
 abbrev pub no_functions : FunctionTable
-no_functions = record { ranges = []; functions = []; inlined = []; names = [] }
+no_functions = record { ranges = []; functions = []; inlined = []; names = no_names None }
 
 -- the functions that are cached, none before they are read and where they have a fault
 abbrev pub cached_functions : {R : Type 0} → LazyFunctions R → FunctionTable

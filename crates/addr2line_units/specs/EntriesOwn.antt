@@ -4,6 +4,7 @@
 -- cached.
 use Rattle.std.specs.Prelude.{◌≡◌, false, Option, Some, None, IfOk, IfSome}
 use Rattle.addr2line_units.specs.Common.{Sections, UnitRecord, IsScope, Scope}
+use Rattle.addr2line_lines.specs.References.{UnitInScope, in_scope}
 use Rattle.addr2line_units.specs.declared.entries.EntriesCache.{EntriesCache}
 use Rattle.addr2line_units.specs.declared.entries.LookedAt.{LookedAt}
 use Rattle.addr2line_units.specs.declared.entries.LookedAt.TheVariants as looked
@@ -32,16 +33,11 @@ pub record AreFresh {R : Type 0} (v : EntriesCache R) : Type 0 where
   pub view : was_checked v.view.state ≡ false
   pub functions : were_read v.functions ≡ false
 
--- a unit, and where references lead from it
-pub record UnitInScope : Type 0 where
-  pub scope : Scope
-  pub unit : UnitRecord
-
 -- the unit that was looked at, if one was
 abbrev pub unit_of : {R : Type 0} → LookedAt R → Option UnitInScope
 unit_of looked.Nothing = None
 unit_of (looked.Unit sources dw_unit) =
-    Some (record { scope = scope_of sources.value; unit = dw_unit.value })
+    Some (in_scope (scope_of sources.value) dw_unit.value)
 
 -- what is cached of a unit: its lines with its language, its entries, and the unit that was looked at
 -- for these

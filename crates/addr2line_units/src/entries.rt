@@ -4,7 +4,7 @@ use crate::unit::{LazyLines, LinesCache, UnitView};
 use crate::units::Sources;
 use addr2line_lines::{Count, Functions, InlinedPlaces, Row, Scope};
 use gimli::read::{Error, Reader};
-use gimli::{Dwarf, Unit, UnitRef};
+use gimli::{Dwarf, Unit};
 use std::alloc::Global;
 use std::marker::Model;
 use std::snapshot::Snapshot;
@@ -43,7 +43,7 @@ impl<R: Reader> LazyFunctions<R> {
         ensures read { IfOk result (AreNewFunctionsOf (as_scope scope.entry) view.now) }
         ensures refused { IfErr result (IsRefusalOf R.shares (as_scope scope.entry) view.now) }
     {
-        match Functions::parse(alloc, UnitRef::new(scope.file.dwarf, view)) {
+        match Functions::parse(alloc, scope, view) {
             Ok(functions) => match functions.offset(0) {
                 Some(_) => Ok(LazyFunctions::Read(Box::new(alloc, functions)?)),
                 None => Ok(LazyFunctions::Absent),

@@ -475,7 +475,7 @@ impl<R: Reader> Units<R> {
     {
         self.stop = FramesStop::FindsNothing;
         let scope = self.sources.scope();
-        let Some(dw_unit) = scope.file.units.get(number) else {
+        let Some(dw_unit) = scope.file.as_slice().get(number) else {
             return Ok(());
         };
         let cache = &mut self.caches[number];
@@ -538,7 +538,7 @@ impl<R: Reader> SupUnits<R> {
         match &self.dwarf {
             Some(dwarf) => Some(FileUnits {
                 dwarf,
-                units: &self.units,
+                units: Some(&self.units),
             }),
             None => None,
         }
@@ -641,7 +641,7 @@ impl<R: Reader> Units<R> {
     {
         self.stop = FramesStop::FindsNothing;
         let scope = self.sources.scope();
-        let Some(dw_unit) = scope.file.units.get(number) else {
+        let Some(dw_unit) = scope.file.as_slice().get(number) else {
             return Ok(());
         };
         let cache = &mut self.caches[number];

@@ -92,7 +92,7 @@ impl<R: Reader> Units<R> {
     {
         self.stop = FramesStop::FindsNothing;
         let scope = self.sources.scope();
-        let Some(dw_unit) = scope.file.units.get(token.number) else {
+        let Some(dw_unit) = scope.file.as_slice().get(token.number) else {
             return Err(Error::UnknownToken);
         };
         let cache = &mut self.caches[token.number];
@@ -196,7 +196,7 @@ impl<R: Reader> Units<R> {
         self.stop = FramesStop::FindsNothing;
         let sources = &self.sources;
         let scope = sources.scope();
-        let Some(dw_unit) = scope.file.units.get(number) else {
+        let Some(dw_unit) = scope.file.as_slice().get(number) else {
             return Ok(None);
         };
         let cache = &mut self.caches[number];

@@ -161,7 +161,7 @@ impl<R: Reader> Units<R> {
     {
         self.stop = FramesStop::FindsNothing;
         let scope = self.sources.scope();
-        let Some(dw_unit) = scope.file.units.get(number) else {
+        let Some(dw_unit) = scope.file.as_slice().get(number) else {
             return Ok(());
         };
         let cache = &mut self.caches[number];
@@ -185,7 +185,7 @@ impl<R: Reader> Units<R> {
     {
         self.stop = FramesStop::FindsNothing;
         let scope = self.sources.scope();
-        let Some(dw_unit) = scope.file.units.get(number) else {
+        let Some(dw_unit) = scope.file.as_slice().get(number) else {
             return Ok(());
         };
         let cache = &mut self.caches[number];

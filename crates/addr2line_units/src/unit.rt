@@ -618,7 +618,7 @@ impl<R: Reader> UnitView<R> {
     {
         match self.split_file() {
             Some(dwarf) => Scope {
-                file: FileUnits { dwarf, units: &[] },
+                file: FileUnits { dwarf, units: None },
                 sup: scope.sup,
             },
             None => scope,

@@ -227,7 +227,7 @@ impl<R: Reader> Sources<R> {
         Scope {
             file: FileUnits {
                 dwarf: &self.dwarf,
-                units: &self.units,
+                units: Some(&self.units),
             },
             sup: self.sup.file(),
         }

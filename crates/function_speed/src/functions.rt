@@ -1,12 +1,12 @@
 //! The functions of all units, their details, and the checksums of these.
 
-ghost use Rattle.addr2line_lines.specs.CachedNames.{AreNamesOf};
+ghost use Rattle.addr2line_lines.specs.CachedNames.{AreNamesIn};
 ghost use Rattle.addr2line_lines.specs.References.{AreInOrder, IsScope};
 ghost use Rattle.addr2line_lines.specs.Scopes.{as_scope};
 
 use crate::mixed;
 use addr2line_lines::{FileUnits, Functions, InlinedFunction, Scope};
-use gimli::{Dwarf, Error, Reader, Unit, UnitRef};
+use gimli::{Dwarf, Error, Reader, Unit};
 use std::alloc::Global;
 
 // How many addresses are looked up in the functions of a unit.
@@ -146,7 +146,7 @@ fn with_details<R: Reader + Drop>(
     limit: u64,
 ) -> Result<u64, Error>
     requires in_order { IsScope (as_scope scope) }
-    requires names { AreNamesOf (as_scope scope) unit.now functions.old.names }
+    requires unit { AreNamesIn (as_scope scope) unit.now functions.old.names }
 {
     functions.read_all(scope, unit)?;
     let sum = with_inlined(with_names(sum, functions), functions);
@@ -158,20 +158,23 @@ fn with_details<R: Reader + Drop>(
 pub fn functions_checksum<R: Reader + Drop>(
     alloc: Global,
     dwarf: &Dwarf<R>,
-    units: &[Unit<R>],
+    units: &Vec<Unit<R>>,
     limit: u64,
     details: bool,
 ) -> Result<u64, Error>
-    requires in_order { AreInOrder units.now }
+    requires in_order { AreInOrder units.now.items }
 {
     let scope = Scope {
-        file: FileUnits { dwarf, units },
+        file: FileUnits {
+            dwarf,
+            units: Some(units),
+        },
         sup: None,
     };
     let mut all = Vec::new(alloc);
     let mut sum = 0;
     for unit in units {
-        let mut functions = Functions::parse(alloc, UnitRef::new(dwarf, unit))?;
+        let mut functions = Functions::parse(alloc, scope, unit)?;
         sum = with_places(with_offsets(sum, &functions), &functions, limit);
         if details {
             sum = with_details(alloc, sum, scope, unit, &mut functions, limit)?;

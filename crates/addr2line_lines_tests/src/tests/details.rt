@@ -2,14 +2,14 @@
 //! refuse them.
 
 ghost use Rattle.std.specs.Prelude.{[], None};
-ghost use Rattle.addr2line_lines.specs.CachedNames.{AreNamesOf};
+ghost use Rattle.addr2line_lines.specs.CachedNames.{AreNamesIn};
 ghost use Rattle.addr2line_lines.specs.References.{sup_scope};
 
 use crate::sections::{dwarf_of, first_unit};
 use crate::vectors::{LINE, NAMED, NAMED_INFO, OPEN_FUNCTION, OPEN_UNIT, TWO_FUNCTIONS};
 use addr2line_lines::{FileUnits, Functions, Scope};
 use gimli::read::{EndianSlice, Error, Reader};
-use gimli::{Dwarf, Unit, UnitRef};
+use gimli::{Dwarf, Unit};
 use std::alloc::{AllocError, Global};
 
 /// A root entry without attributes, and functions and inlined functions with children and with
@@ -70,12 +70,12 @@ fn read_at<'a>(
     unit: &Unit<EndianSlice<'a>>,
     place: usize,
 ) -> Result<(), Error>
-    requires names { AreNamesOf (sup_scope (record { sections = dwarf.now; units = [] }))
+    requires unit { AreNamesIn (sup_scope (record { sections = dwarf.now; units = [] }))
         unit.now functions.old.names }
-    ensures names { AreNamesOf (sup_scope (record { sections = dwarf.now; units = [] }))
+    ensures unit { AreNamesIn (sup_scope (record { sections = dwarf.now; units = [] }))
         unit.now functions.new.names }
 {
-    let file = FileUnits { dwarf, units: &[] };
+    let file = FileUnits { dwarf, units: None };
     functions.read(Scope { file, sup: None }, unit, place)
 }
 
@@ -88,9 +88,9 @@ fn answer<'a>(
     unit: &Unit<EndianSlice<'a>>,
     probe: u64,
 ) -> Result<[u64; 5], Error>
-    requires names { AreNamesOf (sup_scope (record { sections = dwarf.now; units = [] }))
+    requires unit { AreNamesIn (sup_scope (record { sections = dwarf.now; units = [] }))
         unit.now functions.old.names }
-    ensures names { AreNamesOf (sup_scope (record { sections = dwarf.now; units = [] }))
+    ensures unit { AreNamesIn (sup_scope (record { sections = dwarf.now; units = [] }))
         unit.now functions.new.names }
 {
     let Some(place) = functions.find(probe) else {
@@ -110,9 +110,9 @@ fn told<'a>(
     unit: &Unit<EndianSlice<'a>>,
     probe: u64,
 ) -> [u64; 5]
-    requires names { AreNamesOf (sup_scope (record { sections = dwarf.now; units = [] }))
+    requires unit { AreNamesIn (sup_scope (record { sections = dwarf.now; units = [] }))
         unit.now functions.old.names }
-    ensures names { AreNamesOf (sup_scope (record { sections = dwarf.now; units = [] }))
+    ensures unit { AreNamesIn (sup_scope (record { sections = dwarf.now; units = [] }))
         unit.now functions.new.names }
 {
     match answer(alloc, functions, dwarf, unit, probe) {
@@ -132,7 +132,7 @@ fn answers_by<'a, const N: usize>(
     unit: &Unit<EndianSlice<'a>>,
     probes: [u64; N],
 ) -> [[u64; 5]; N]
-    requires names { AreNamesOf (sup_scope (record { sections = dwarf.now; units = [] }))
+    requires unit { AreNamesIn (sup_scope (record { sections = dwarf.now; units = [] }))
         unit.now functions.names }
 {
     let mut functions = functions;
@@ -150,7 +150,8 @@ fn answers_in<'a, const N: usize>(
     unit: &Unit<EndianSlice<'a>>,
     probes: [u64; N],
 ) -> [[u64; 5]; N] {
-    match Functions::parse(alloc, UnitRef::new(dwarf, unit)) {
+    let file = FileUnits { dwarf, units: None };
+    match Functions::parse(alloc, Scope { file, sup: None }, unit) {
         Ok(functions) => answers_by(alloc, functions, dwarf, unit, probes),
         Err(_) => [[5; 5]; N],
     }

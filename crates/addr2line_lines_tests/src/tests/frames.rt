@@ -1,7 +1,7 @@
 //! Worked cases: the frames of an address, and the texts of their names.
 
 ghost use Rattle.std.specs.Prelude.{[], None};
-ghost use Rattle.addr2line_lines.specs.CachedNames.{AreNamesOf};
+ghost use Rattle.addr2line_lines.specs.CachedNames.{AreNamesIn};
 ghost use Rattle.addr2line_lines.specs.References.{sup_scope};
 
 use crate::sections::{dwarf_of, first_unit, little, location_code};
@@ -9,7 +9,7 @@ use crate::vectors::{LINE, NAMED, NAMED_INFO};
 use addr2line_lines::{FileUnits, Functions, Lines, Scope};
 use addr2line_units::{Frame, FrameIter, FunctionName};
 use gimli::read::{DwLang, EndianSlice};
-use gimli::{Dwarf, Unit, UnitRef};
+use gimli::{Dwarf, Unit};
 use std::alloc::Global;
 
 // A frame by where its entry begins, the first byte of its name and its location; 0 for none.
@@ -90,14 +90,14 @@ fn frames_by<'a>(
     lines: &Lines,
     probe: u64,
 ) -> [FrameCode; 3]
-    requires names { AreNamesOf (sup_scope (record { sections = dwarf.now; units = [] }))
+    requires unit { AreNamesIn (sup_scope (record { sections = dwarf.now; units = [] }))
         unit.now functions.names }
 {
     let mut functions = functions;
     let Some(place) = functions.find(probe) else {
         return codes_of(alloc, FrameIter::new_location(lines.find_location(probe)));
     };
-    let file = FileUnits { dwarf, units: &[] };
+    let file = FileUnits { dwarf, units: None };
     match functions.read(Scope { file, sup: None }, unit, place) {
         Ok(()) => frames_at(alloc, &functions, place, lines, probe),
         Err(_) => FAULT,
@@ -111,7 +111,8 @@ fn frames_with<'a>(
     unit: &Unit<EndianSlice<'a>>,
     probe: u64,
 ) -> [FrameCode; 3] {
-    match Functions::parse(alloc, UnitRef::new(dwarf, unit)) {
+    let file = FileUnits { dwarf, units: None };
+    match Functions::parse(alloc, Scope { file, sup: None }, unit) {
         Ok(functions) => frames_by(alloc, functions, dwarf, unit, &lines, probe),
         Err(_) => FAULT,
     }

@@ -2,9 +2,9 @@
 
 use crate::sections::{dwarf_of, first_unit, little};
 use crate::vectors::{LINE, LIST, NAMED, NAMED_INFO};
-use addr2line_lines::{FunctionAddress, Functions, Segments};
+use addr2line_lines::{FileUnits, FunctionAddress, Functions, Scope, Segments};
 use gimli::read::{EndianSlice, Error, Range};
-use gimli::{DebugRanges, Dwarf, Unit, UnitRef};
+use gimli::{DebugRanges, Dwarf, Unit};
 use std::alloc::Global;
 
 // "f" begins at the greatest address and has 0x10 of them: the sum wraps.
@@ -45,7 +45,8 @@ fn functions_in<'a>(
     unit: &Unit<EndianSlice<'a>>,
     probes: [u64; 3],
 ) -> [u64; 3] {
-    match Functions::parse(alloc, UnitRef::new(dwarf, unit)) {
+    let file = FileUnits { dwarf, units: None };
+    match Functions::parse(alloc, Scope { file, sup: None }, unit) {
         Ok(functions) => probes.map(|probe| offset_at(&functions, probe)),
         Err(error) => refused(error),
     }

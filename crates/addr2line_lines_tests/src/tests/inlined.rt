@@ -1,13 +1,13 @@
 //! The inlined functions at an address, from the outside in.
 
 ghost use Rattle.std.specs.Prelude.{[], None};
-ghost use Rattle.addr2line_lines.specs.CachedNames.{AreNamesOf};
+ghost use Rattle.addr2line_lines.specs.CachedNames.{AreNamesIn};
 ghost use Rattle.addr2line_lines.specs.References.{sup_scope};
 
 use crate::sections::{dwarf_of, first_unit};
 use addr2line_lines::{FileUnits, Functions, Scope};
 use gimli::read::EndianSlice;
-use gimli::{Dwarf, Unit, UnitRef};
+use gimli::{Dwarf, Unit};
 use std::alloc::Global;
 
 // A root entry without attributes, a function with DW_AT_low_pc and DW_AT_high_pc, and inlined
@@ -55,11 +55,11 @@ fn chain_by<'a>(
     unit: &Unit<EndianSlice<'a>>,
     probe: u64,
 ) -> u64
-    requires names { AreNamesOf (sup_scope (record { sections = dwarf.now; units = [] }))
+    requires unit { AreNamesIn (sup_scope (record { sections = dwarf.now; units = [] }))
         unit.now functions.names }
 {
     let mut functions = functions;
-    let file = FileUnits { dwarf, units: &[] };
+    let file = FileUnits { dwarf, units: None };
     if functions.read(Scope { file, sup: None }, unit, 0).is_err() {
         return 0;
     }
@@ -75,7 +75,8 @@ fn chain_in<'a>(
     unit: &Unit<EndianSlice<'a>>,
     probe: u64,
 ) -> u64 {
-    match Functions::parse(alloc, UnitRef::new(dwarf, unit)) {
+    let file = FileUnits { dwarf, units: None };
+    match Functions::parse(alloc, Scope { file, sup: None }, unit) {
         Ok(functions) => chain_by(alloc, functions, dwarf, unit, probe),
         Err(_) => 0,
     }
@@ -141,12 +142,12 @@ fn calls_by<'a>(
     dwarf: &Dwarf<EndianSlice<'a>>,
     unit: &Unit<EndianSlice<'a>>,
 ) -> [(u64, u32); 5]
-    requires names { AreNamesOf (sup_scope (record { sections = dwarf.now; units = [] }))
+    requires unit { AreNamesIn (sup_scope (record { sections = dwarf.now; units = [] }))
         unit.now functions.names }
 {
     let mut functions = functions;
     let mut calls = [(0, 0); 5];
-    let file = FileUnits { dwarf, units: &[] };
+    let file = FileUnits { dwarf, units: None };
     if functions.read(Scope { file, sup: None }, unit, 0).is_err() {
         return calls;
     }
@@ -163,7 +164,11 @@ fn calls_of(alloc: Global, abbrev: &[u8], info: &[u8]) -> [(u64, u32); 5] {
     let Ok(unit) = first_unit(alloc, &dwarf) else {
         return [(0, 0); 5];
     };
-    match Functions::parse(alloc, UnitRef::new(&dwarf, &unit)) {
+    let file = FileUnits {
+        dwarf: &dwarf,
+        units: None,
+    };
+    match Functions::parse(alloc, Scope { file, sup: None }, &unit) {
         Ok(functions) => calls_by(functions, &dwarf, &unit),
         Err(_) => [(0, 0); 5],
     }

@@ -1,7 +1,7 @@
 //! The functions of a unit after a refused growth: the same calls give what they would have given.
 
 ghost use Rattle.std.specs.Prelude.{[], None};
-ghost use Rattle.addr2line_lines.specs.CachedNames.{AreNamesOf};
+ghost use Rattle.addr2line_lines.specs.CachedNames.{AreNamesIn};
 ghost use Rattle.addr2line_lines.specs.References.{sup_scope};
 
 use super::details::NESTED;
@@ -9,7 +9,7 @@ use crate::sections::{dwarf_of, fault_code, first_unit};
 use crate::vectors::LINE;
 use addr2line_lines::{FileUnits, Functions, Scope};
 use gimli::read::{EndianSlice, Error};
-use gimli::{Dwarf, Unit, UnitRef};
+use gimli::{Dwarf, Unit};
 use std::alloc::Global;
 
 // A function [0x10, 0x30) with 17 inlined functions, each inside the one before.
@@ -29,9 +29,9 @@ fn deep_answer<'a>(
     unit: &Unit<EndianSlice<'a>>,
     call: usize,
 ) -> u64
-    requires names { AreNamesOf (sup_scope (record { sections = dwarf.now; units = [] }))
+    requires unit { AreNamesIn (sup_scope (record { sections = dwarf.now; units = [] }))
         unit.now functions.old.names }
-    ensures names { AreNamesOf (sup_scope (record { sections = dwarf.now; units = [] }))
+    ensures unit { AreNamesIn (sup_scope (record { sections = dwarf.now; units = [] }))
         unit.now functions.new.names }
 {
     let Some(place) = functions.find(0x18) else {
@@ -41,7 +41,7 @@ fn deep_answer<'a>(
         let chain = functions.find_inlined_functions(alloc, place, 0x18);
         chain.map(|chain| chain.len() as u64)
     } else {
-        let file = FileUnits { dwarf, units: &[] };
+        let file = FileUnits { dwarf, units: None };
         functions
             .read(Scope { file, sup: None }, unit, place)
             .map(|()| 1)
@@ -57,7 +57,7 @@ fn deep_answers<'a>(
     unit: &Unit<EndianSlice<'a>>,
     refused: u64,
 ) -> ([u64; 3], u64)
-    requires names { AreNamesOf (sup_scope (record { sections = dwarf.now; units = [] }))
+    requires unit { AreNamesIn (sup_scope (record { sections = dwarf.now; units = [] }))
         unit.now functions.names }
 {
     let mut functions = functions;
@@ -85,7 +85,8 @@ fn answers_by_functions<'a>(
     unit: &Unit<EndianSlice<'a>>,
     refused: u64,
 ) -> ([u64; 3], u64) {
-    match Functions::parse(alloc, UnitRef::new(dwarf, unit)) {
+    let file = FileUnits { dwarf, units: None };
+    match Functions::parse(alloc, Scope { file, sup: None }, unit) {
         Ok(functions) => deep_answers(alloc, functions, dwarf, unit, refused),
         Err(error) => ([u64::from(fault_code(error)); 3], refused),
     }

@@ -9,7 +9,7 @@ pub returns-in_err-entries : goal.returns-in_err-entries
 returns-in_err-entries g c =
     let p = err_from_is_err_and c.from_residual.result c.from_residual.ensures.1 in
     let fault = rw c.new.ensures.unit at c.in_err-entries.ensures.gives in
-    record { gives = rw (p.1, p.2) (λ ne. ap (λ x. x.given) (detail-read (as_scope c.args.scope) c.args.unit.now c.args.offset.0 (as_lists c.args.found.now) _ (fault (λ s _. ne (or_left g.R.Reader.shares _ s))))); kept = found_same _; names = names_same (as_scope c.args.scope) c.args.unit.now _ c.requires.names }
+    record { gives = rw (p.1, p.2) (λ ne. ap (λ x. x.given) (detail-read (as_scope c.args.scope) c.args.unit.now c.args.offset.0 (as_lists c.args.found.now) _ (fault (λ s _. ne (or_left g.R.Reader.shares _ s))))); kept = found_same _; names = names_same _ }
 
 pub returns-in_err-abbreviation-clause-gives : goal.returns-in_err-abbreviation-clause-gives
 returns-in_err-abbreviation-clause-gives g c =
@@ -50,10 +50,10 @@ read_function-requires-clause-encoding g c =
     ap (λ v. v.encoding) c.in_ok-abbreviation.ensures.unit ∙ detail-encoding c.args.unit.now c.args.offset.0 _ opened
 
 pub returns-in_err-abbreviation-clause-names : goal.returns-in_err-abbreviation-clause-names
-returns-in_err-abbreviation-clause-names g c = names_same (as_scope c.args.scope) c.args.unit.now _ c.requires.names
+returns-in_err-abbreviation-clause-names g c = names_same _
 
 pub returns-in-Some-clause-names : goal.returns-in-Some-clause-names
 returns-in-Some-clause-names g c = c.read_function.ensures.names
 
 pub returns-clause-names : goal.returns-clause-names
-returns-clause-names g c = names_same (as_scope c.args.scope) c.args.unit.now _ c.requires.names
+returns-clause-names g c = names_same _

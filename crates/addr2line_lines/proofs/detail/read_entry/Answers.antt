@@ -86,4 +86,4 @@ pub returns-in_ok-attributes-clause-names : goal.returns-in_ok-attributes-clause
 returns-in_ok-attributes-clause-names g c = c.in_ok-attributes.ensures.names
 
 pub returns-else-lists-clause-names : goal.returns-else-lists-clause-names
-returns-else-lists-clause-names g c = names_same (as_scope c.args.scope) c.args.unit.now _ c.requires.names
+returns-else-lists-clause-names g c = names_same _

@@ -21,7 +21,7 @@ returns-in_err-read_inside g c =
     let found = function-found scope u c.args.entries.now.unit c.args.entries.now.cursor _ _ (as_lists c.args.found.now) c.args.abbreviation.now _ name rest c.in_ok-name.ensures.depth c.in_ok-name.ensures.unit in
     let inside = inside_found scope u c.read_name.new.entries.unit c.read_name.new.entries.cursor (as_around c.args.found.now []) in
     let part = subst (IsPartOf inside) (sym found) (map_part (λ more. (option_map g.R.Reader.section c.in_ok-name.name, more)) inside) in
-    record { gives = rw (p.1, p.2) (refused_part g.R.Reader.shares _ part c.in_err-read_inside.ensures.gives); kept = c.in_err-read_inside.ensures.kept; names = names_on scope u _ _ _ c.in_ok-name.ensures.names c.in_err-read_inside.ensures.names }
+    record { gives = rw (p.1, p.2) (refused_part g.R.Reader.shares _ part c.in_err-read_inside.ensures.gives); kept = c.in_err-read_inside.ensures.kept; names = names_on _ _ _ c.in_ok-name.ensures.names c.in_err-read_inside.ensures.names }
 
 pub returns : goal.returns
 returns g c =
@@ -31,4 +31,7 @@ returns g c =
     let name = rw c.attributes.ensures.gives at c.in_ok-name.ensures.gives in
     let rest = rw c.attributes.ensures.gives at c.in_ok-name.ensures.left in
     let found = function-found scope u unit c.args.entries.now.cursor _ _ (as_lists c.args.found.now) c.args.abbreviation.now _ name rest c.in_ok-name.ensures.depth c.in_ok-name.ensures.unit in
-    record { gives = ap (λ x. x.given) found ∙ ap (λ r. r >>= λ more. Ok (option_map g.R.Reader.section c.in_ok-name.name, more)) c.in_ok-read_inside.ensures.gives; kept = c.in_ok-read_inside.ensures.kept; names = names_on scope u _ _ _ c.in_ok-name.ensures.names c.in_ok-read_inside.ensures.names }
+    record { gives = ap (λ x. x.given) found ∙ ap (λ r. r >>= λ more. Ok (option_map g.R.Reader.section c.in_ok-name.name, more)) c.in_ok-read_inside.ensures.gives; kept = c.in_ok-read_inside.ensures.kept; names = names_on _ _ _ c.in_ok-name.ensures.names c.in_ok-read_inside.ensures.names }
+
+pub read_inside-requires-clause-unit : goal.read_inside-requires-clause-unit
+read_inside-requires-clause-unit g c = c.in_ok-name.ensures.names.unit ∙ c.requires.unit

@@ -1,4 +1,4 @@
-use Rattle.addr2line_lines.proofs.Common.{◌≡◌, [], length, AreNamesMore, as_names, IsFoundMore, as_lists, as_scope}
+use Rattle.addr2line_lines.proofs.Common.{◌≡◌, [], length, AreNamesMore, IsFoundMore, as_lists, as_scope}
 use Rattle.addr2line_lines.specs.FoundItems.{inside_found, as_around}
 use Rattle.addr2line_lines.proofs.CostLemmas.{IsRestOf}
 use Rattle.addr2line_lines.proofs.detail.read_inside.Given as goal
@@ -11,7 +11,7 @@ invariant-loop-scope g l =
       rest : IsRestOf (inside_found scope u l.entries.unit l.entries.cursor (as_around l.found l.nesting)) (inside_found scope u l.fn.entries.unit l.fn.entries.cursor (as_around l.fn.found []));
       kept : IsFoundMore (as_lists l.fn.found) (as_lists l.found);
       unit : l.entries.unit.encoding ≡ u.header.encoding;
-      names : AreNamesMore scope u (as_names g.R.Reader.section l.fn.names) (as_names g.R.Reader.section l.names);
+      names : AreNamesMore l.fn.names l.names;
     }
 
 abbrev pub decreases-loop-scope : goal.decreases-loop-scope

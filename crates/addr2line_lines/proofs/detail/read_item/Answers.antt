@@ -122,13 +122,13 @@ pub returns-in_ok-read_entry-in-Some-clause-unit : goal.returns-in_ok-read_entry
 returns-in_ok-read_entry-in-Some-clause-unit g c = c.in_ok-read_entry-in-Some.ensures.unit ∙ c.in_ok-read_abbreviation.ensures.unit
 
 pub returns-in_err-read_abbreviation-clause-names : goal.returns-in_err-read_abbreviation-clause-names
-returns-in_err-read_abbreviation-clause-names g c = names_same (as_scope c.args.scope) c.args.unit.now _ c.requires.names
+returns-in_err-read_abbreviation-clause-names g c = names_same _
 
 pub returns-in_err-read_entry-in-Some-clause-names : goal.returns-in_err-read_entry-in-Some-clause-names
 returns-in_err-read_entry-in-Some-clause-names g c = c.in_err-read_entry-in-Some.ensures.names
 
 pub returns-in-None-clause-names : goal.returns-in-None-clause-names
-returns-in-None-clause-names g c = names_same (as_scope c.args.scope) c.args.unit.now _ c.requires.names
+returns-in-None-clause-names g c = names_same _
 
 pub returns-in_ok-read_entry-in-Some-clause-names : goal.returns-in_ok-read_entry-in-Some-clause-names
 returns-in_ok-read_entry-in-Some-clause-names g c = c.in_ok-read_entry-in-Some.ensures.names

@@ -15,7 +15,7 @@ pub take_attributes-requires-clause-others : goal.take_attributes-requires-claus
 take_attributes-requires-clause-others g c = unwanted (as_scope c.args.scope) c.args.unit.now
 
 pub take_attributes-requires-clause-growth : goal.take_attributes-requires-clause-growth
-take_attributes-requires-clause-growth g c = names_growth (as_scope c.args.scope) c.args.unit.now g.R.Reader.section
+take_attributes-requires-clause-growth g c = names_growth (as_scope c.args.scope) c.args.unit.now
 
 pub take_attributes-requires-clause-cache : goal.take_attributes-requires-clause-cache
-take_attributes-requires-clause-cache g c = (c.requires.in_order, names_same (as_scope c.args.scope) c.args.unit.now _ c.requires.names)
+take_attributes-requires-clause-cache g c = record { in_order = c.requires.in_order; unit = c.requires.unit; more = names_same _ }

@@ -1,4 +1,4 @@
-use Rattle.addr2line_lines.proofs.Common.{◌≡◌, refl, ◌++◌, ◌∷◌, [], ◌+◌, None, length, map, option_map, slice_index_or, ap, arith, length-append, ◌∙◌, subst, sym, append-nil, length-map, map-append, err_from_is_err_and, FunctionDetail, as_names, FoundInlined, as_lists, CachedDetails, as_details, as_scope, or_right}
+use Rattle.addr2line_lines.proofs.Common.{◌≡◌, refl, ◌++◌, ◌∷◌, [], ◌+◌, None, length, map, option_map, slice_index_or, ap, arith, length-append, ◌∙◌, subst, sym, append-nil, length-map, map-append, err_from_is_err_and, FunctionDetail, FoundInlined, as_lists, CachedDetails, as_details, as_scope, or_right}
 use Rattle.addr2line_lines.specs.Grown.{IsGrown}
 use Rattle.addr2line_lines.proofs.CostLemmas.{refused_part}
 use Rattle.addr2line_lines.proofs.DetailMemory.{found_takes}
@@ -32,7 +32,7 @@ module _ (g : Over) (c : goal.After-len-2 g) where
   more = record {
     names = map (option_map g.R.Reader.section) c.push.new.self.items;
     found = record { entries = listed.entries; ranges = c.sort_from.new.self.elements };
-    known = as_names g.R.Reader.section c.read_detail.new.names;
+    known = c.read_detail.new.names;
   }
 
   abbrev made : FunctionDetail
@@ -91,7 +91,7 @@ returns-clause-kept g c =
         entries = c.in_ok-read.ensures.kept.entries;
         ranges = subst (IsGrown (old g c).found.ranges) (sym c.sort_from.ensures.gives) (sorted_more (made g c).ranges_begin (old g c).found.ranges (listed g c).ranges (at g c).ranges_begin c.in_ok-read.ensures.kept.ranges);
       };
-      known = c.in_ok-read.ensures.names.grown;
+      known = c.in_ok-read.ensures.names;
     }
 
 pub returns-clause-within : goal.returns-clause-within
@@ -110,7 +110,7 @@ returns-clause-after g c =
     }
 
 pub returns-in_err-read-clause-kept : goal.returns-in_err-read-clause-kept
-returns-in_err-read-clause-kept g c = record { names = grown_not _; found = c.in_err-read.ensures.kept; known = c.in_err-read.ensures.names.grown }
+returns-in_err-read-clause-kept g c = record { names = grown_not _; found = c.in_err-read.ensures.kept; known = c.in_err-read.ensures.names }
 
 pub returns-in_err-read-clause-within : goal.returns-in_err-read-clause-within
 returns-in_err-read-clause-within g c = let p = err_from_is_err_and c.from_residual.result c.from_residual.ensures.1 in rw p.1 tt
@@ -122,7 +122,7 @@ pub returns-in_err-read-clause-names : goal.returns-in_err-read-clause-names
 returns-in_err-read-clause-names g c = let p = err_from_is_err_and c.from_residual.result c.from_residual.ensures.1 in rw p.1 refl
 
 pub returns-in_err-push-clause-kept : goal.returns-in_err-push-clause-kept
-returns-in_err-push-clause-kept g c = record { names = grown_by _ _ [] (ap (map (option_map g.R.Reader.section)) c.in_err-push.ensures.items ∙ sym (append-nil _)); found = c.in_ok-read.ensures.kept; known = c.in_ok-read.ensures.names.grown }
+returns-in_err-push-clause-kept g c = record { names = grown_by _ _ [] (ap (map (option_map g.R.Reader.section)) c.in_err-push.ensures.items ∙ sym (append-nil _)); found = c.in_ok-read.ensures.kept; known = c.in_ok-read.ensures.names }
 
 pub returns-in_err-push-clause-within : goal.returns-in_err-push-clause-within
 returns-in_err-push-clause-within g c = let p = err_from_is_err_and c.from_residual-in_err-push.result c.from_residual-in_err-push.ensures.1 in rw p.1 tt
@@ -135,12 +135,3 @@ returns-in_err-push-clause-names g c = let p = err_from_is_err_and c.from_residu
 
 pub returns-clause-names : goal.returns-clause-names
 returns-clause-names g c = tt
-
-pub returns-in_err-read-clause-known : goal.returns-in_err-read-clause-known
-returns-in_err-read-clause-known g c = c.in_err-read.ensures.names
-
-pub returns-in_err-push-clause-known : goal.returns-in_err-push-clause-known
-returns-in_err-push-clause-known g c = c.in_ok-read.ensures.names
-
-pub returns-clause-known : goal.returns-clause-known
-returns-clause-known g c = c.in_ok-read.ensures.names

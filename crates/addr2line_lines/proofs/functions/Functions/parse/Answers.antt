@@ -1,4 +1,4 @@
-use Rattle.addr2line_lines.proofs.Common.{◌≡◌, List, map, Ok, Result, refl, ap, subst, ◌∙◌, err_from_is_err_and, items_of, FunctionAddress, LazyFunction, entries_of, functions_of, have_function, AreFunctions, function_range_of, as_functions, as_function, CachedFunction, CachedDetails, as_details, or_right}
+use Rattle.addr2line_lines.proofs.Common.{◌≡◌, List, map, Ok, Result, refl, ap, subst, ◌∙◌, err_from_is_err_and, items_of, FunctionAddress, LazyFunction, entries_of, functions_of, have_function, AreFunctions, function_range_of, as_functions, as_function, CachedFunction, CachedDetails, as_details, as_scope, or_right}
 use Rattle.gimli_read.specs.declared.error.Error.{Error as Fault}
 use Rattle.addr2line_lines.proofs.FunctionCacheLemmas.{runs_unread, functions_unread}
 use Rattle.addr2line_lines.proofs.FunctionMemory.{found_has}
@@ -12,10 +12,10 @@ ok_is xs ys e = cc
 pub returns-in_err-functions : goal.returns-in_err-functions
 returns-in_err-functions g c =
     let p = err_from_is_err_and c.from_residual.result c.from_residual.ensures.1 in
-    let d = c.args.unit.dwarf.now in
-    let u = c.args.unit.unit.now in
+    let d = (as_scope c.args.scope).file.sections in
+    let u = c.args.unit.now in
     record {
-      gives = rw (p.1, p.2) (λ ne. subst (AgreesFound (functions_of d u)) (c.in_err-functions.ensures.gives ne) (functions_agree d u));
+      gives = rw (p.1, p.2) (λ ne. subst (AgreesFound (functions_of d u)) ((rw (c.new.ensures.dwarf, c.new.ensures.unit) at c.in_err-functions.ensures.gives) ne) (functions_agree d u));
       empty = rw p.1 tt;
       functions = rw p.1 tt;
       names = rw p.1 tt;
@@ -24,32 +24,35 @@ returns-in_err-functions g c =
 pub returns-in_err-addresses-clause-gives : goal.returns-in_err-addresses-clause-gives
 returns-in_err-addresses-clause-gives g c =
     let p = err_from_is_err_and c.from_residual-in_err-addresses.result c.from_residual-in_err-addresses.ensures.1 in
-    let d = c.args.unit.dwarf.now in
-    let u = c.args.unit.unit.now in
+    let d = (as_scope c.args.scope).file.sections in
+    let u = c.args.unit.now in
     let found = as_functions c.in_ok-functions.field-0 in
-    rw (p.1, p.2) (λ ne. (let no = c.in_err-addresses.ensures.gives (λ some. ne (or_right g.R.Reader.shares (have_function d u (items_of u).items) (found_has d u found c.in_ok-functions.ensures.gives some))) in absurd cc))
+    let read = rw (c.new.ensures.dwarf, c.new.ensures.unit) at c.in_ok-functions.ensures.gives in
+    rw (p.1, p.2) (λ ne. (let no = c.in_err-addresses.ensures.gives (λ some. ne (or_right g.R.Reader.shares (have_function d u (items_of u).items) (found_has d u found read some))) in absurd cc))
 
 pub invariant_of-result : goal.invariant_of-result
 invariant_of-result g c =
     let found = as_functions c.in_ok-functions.field-0 in
+    let read = rw (c.new.ensures.dwarf, c.new.ensures.unit) at c.in_ok-functions.ensures.gives in
     let listed = ok_is _ _ c.in_ok-addresses.ensures.gives in
     record {
-      in_order = subst (AreFunctions found.offsets) listed (are_functions c.args.unit.dwarf.now c.args.unit.unit.now found c.in_ok-functions.ensures.gives);
-      runs = runs_unread _ _ c.in_ok-functions.ensures.empty c.new-2.ensures.gives;
+      in_order = subst (AreFunctions found.offsets) listed (are_functions (as_scope c.args.scope).file.sections c.args.unit.now found read);
+      runs = runs_unread _ _ _ c.in_ok-functions.ensures.empty c.new-3.ensures.gives;
     }
 
 pub returns : goal.returns
 returns g c =
-    let d = c.args.unit.dwarf.now in
-    let u = c.args.unit.unit.now in
+    let d = (as_scope c.args.scope).file.sections in
+    let u = c.args.unit.now in
     let found = as_functions c.in_ok-functions.field-0 in
+    let read = rw (c.new.ensures.dwarf, c.new.ensures.unit) at c.in_ok-functions.ensures.gives in
     let listed = ok_is _ _ c.in_ok-addresses.ensures.gives in
-    let a = subst (AgreesFound (functions_of d u)) c.in_ok-functions.ensures.gives (functions_agree d u) in
+    let a = subst (AgreesFound (functions_of d u)) read (functions_agree d u) in
     record {
       gives = a.0 ∙ ap (λ xs. Ok (map (function_range_of found.offsets) xs)) listed;
-      empty = functions_unread (as_details g.R.Reader.section c.new-2.result) _ c.in_ok-functions.ensures.empty;
-      functions = offsets_seen (λ (f : LazyFunction). f.dw_die_offset) (as_function (as_details g.R.Reader.section c.new-2.result)) (λ (f : CachedFunction). f.offset) (λ x. refl) c.in_ok-functions.field-0.functions.items
-          ∙ (are_functions d u found c.in_ok-functions.ensures.gives).listed
+      empty = functions_unread (as_details g.R.Reader.section c.new-3.result) _ c.in_ok-functions.ensures.empty;
+      functions = offsets_seen (λ (f : LazyFunction). f.dw_die_offset) (as_function (as_details g.R.Reader.section c.new-3.result)) (λ (f : CachedFunction). f.offset) (λ x. refl) c.in_ok-functions.field-0.functions.items
+          ∙ (are_functions d u found read).listed
           ∙ ap (λ xs. entries_of (map (function_range_of found.offsets) xs)) listed;
-      names = ap (λ (d : CachedDetails). d.known) c.new-2.ensures.gives;
+      names = ap (λ (d : CachedDetails). d.known) c.new-3.ensures.gives;
     }

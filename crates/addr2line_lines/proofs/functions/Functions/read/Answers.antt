@@ -62,12 +62,3 @@ returns-in-Faulty-clause-exact g c =
     let e : slice_get c.deref.result.now c.args.place ≡ Some f = search (rules, gets) in
     let at = ap (λ (t : FunctionTable). slice_get t.functions c.args.place) (sym c.self.view_is) ∙ some_at d fs c.args.place f (subst (λ xs. slice_get xs c.args.place ≡ Some f) c.deref.ensures.value e) in
     λ h. fault_again (as_scope c.args.scope) c.args.unit.now c.args.place c.args.self.now (as_function d f) (Err c.in-Faulty.error) at (ap (as_lazy d) c.in-Faulty.is)
-
-pub returns-in_default-clause-names : goal.returns-in_default-clause-names
-returns-in_default-clause-names g c = c.requires.names
-
-pub returns-in-Read-clause-names : goal.returns-in-Read-clause-names
-returns-in-Read-clause-names g c = c.requires.names
-
-pub returns-in-Faulty-clause-names : goal.returns-in-Faulty-clause-names
-returns-in-Faulty-clause-names g c = c.requires.names

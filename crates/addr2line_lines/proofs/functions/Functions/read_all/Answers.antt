@@ -9,7 +9,7 @@ loop-place-init g c =
     let same : length (map (as_function d) c.self.inside.functions.items) ≡ length c.args.self.now.functions = ap (λ (t : FunctionTable). length t.functions) c.self.view_is in
     let l = length-map c.self.inside.functions.items (as_function d) in
     let k = c.len-count.ensures in
-    record { count = omega arith; read = none_read g.R.Reader.shares (as_scope c.args.scope) c.args.unit.now c.args.self.now; names = c.requires.names }
+    record { count = omega arith; read = none_read g.R.Reader.shares (as_scope c.args.scope) c.args.unit.now c.args.self.now }
 
 pub returns-in_err-read-clause-gives : goal.returns-in_err-read-clause-gives
 returns-in_err-read-clause-gives g c =
@@ -33,7 +33,6 @@ loop-place-preserved g c =
     record {
       count = i.count;
       read = one_read g.R.Reader.shares (as_scope c.args.scope) c.args.unit.now c.args.self.now c.loop-place.self c.read.new.self c.loop-place.place i.read (let m = i.count in omega arith) c.in_ok-read.ensures.gives c.in_ok-read.ensures.exact;
-      names = c.in_ok-read.ensures.names;
     }
 
 pub returns-clause-gives : goal.returns-clause-gives
@@ -97,11 +96,5 @@ returns-in_err-read-clause-memory g c =
     let l = c.loop-place-test.true in
     rw (p.1, p.2) (λ ready. λ q. had_memory g.R.Reader.shares (as_scope c.args.scope) c.args.unit.now c.args.self.now c.loop-place.self c.read.new.self c.loop-place.place c.in_err-read.field-0.0 i.read (let m = i.count in omega arith) c.in_err-read.ensures.gives ready (let same : c.in_err-read.field-0.0 ≡ OutOfMemory = cc in same))
 
-pub returns-in_err-read-clause-names : goal.returns-in_err-read-clause-names
-returns-in_err-read-clause-names g c = c.in_err-read.ensures.names
-
-pub returns-clause-names : goal.returns-clause-names
-returns-clause-names g c = c.loop-place.invariant.names
-
-pub read-requires-clause-names : goal.read-requires-clause-names
-read-requires-clause-names g c = c.loop-place.invariant.names
+pub read-requires-clause-unit : goal.read-requires-clause-unit
+read-requires-clause-unit g c = c.loop-place.invariant.read.kept.names.unit ∙ c.requires.unit

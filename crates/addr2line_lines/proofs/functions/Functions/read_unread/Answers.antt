@@ -1,4 +1,4 @@
-use Rattle.addr2line_lines.proofs.Common.{Ok, Err, slice_get, slice_set, ap, subst, refl, ◌∙◌, arith, sym, get_or_from_slice_get, slice_get_within, LazyFunction, detail_at, fault_of, FunctionTable, AreNamesOf, IsRefusedThen, as_details, as_scope, AreCachedFunctions}
+use Rattle.addr2line_lines.proofs.Common.{Ok, Err, slice_get, slice_set, ap, subst, refl, ◌∙◌, arith, sym, get_or_from_slice_get, slice_get_within, LazyFunction, detail_at, fault_of, FunctionTable, IsRefusedThen, as_details, as_scope, AreCachedFunctions}
 use Rattle.addr2line_lines.specs.declared.functions.LazyDetail.TheVariants.{Read, Faulty}
 use Rattle.addr2line_lines.specs.FunctionDetails.{IsReadAt, read_fault, read_once}
 use Rattle.addr2line_lines.proofs.FunctionCacheLemmas.{fault_cached, nothing_cached, read_cached, reads, table_fault, table_of, table_read, unread_at}
@@ -55,7 +55,6 @@ returns-in-Ok g c =
       gives = subst (λ (t : FunctionTable). IsReadAt scope u n t (Ok tt) new) c.self.view_is
           (reads scope u n c.args.offset.0 (table_of fs addresses cached) new (Ok tt) unread (ap fault_of c.in-Ok.ensures.gives, with_detail));
       exact = ap (read_fault scope u) c.requires.unread ∙ ap fault_of c.in-Ok.ensures.gives;
-      names = c.in-Ok.ensures.known.right;
     }
 
 pub returns-in_default : goal.returns-in_default
@@ -79,7 +78,6 @@ returns-in_default g c =
           (reads scope u n c.args.offset.0 (table_of fs addresses cached) (table_of (slice_set fs n y) addresses more) (Err e) unread
           (λ ne. (ap fault_of faulty, with_fault), λ oom. absurd (c.in_default.not-OutOfMemory oom)));
       exact = λ t. ap (read_fault scope u) c.requires.unread ∙ ap fault_of faulty;
-      names = c.in-Err.ensures.known.right;
     }
 
 pub returns-in-OutOfMemory-clause-exact : goal.returns-in-OutOfMemory-clause-exact
@@ -118,8 +116,5 @@ index_mut-requires g c =
     let m = c.self.inside.functions.ok.0 in
     omega arith
 
-pub returns-in-OutOfMemory-clause-names : goal.returns-in-OutOfMemory-clause-names
-returns-in-OutOfMemory-clause-names g c = c.in-Err.ensures.known.right
-
-pub read-requires-clause-known : goal.read-requires-clause-known
-read-requires-clause-known g c = subst (λ (t : FunctionTable). AreNamesOf (as_scope c.args.scope) c.args.unit.now t.names) (sym c.self.view_is) c.requires.names
+pub read-requires-clause-unit : goal.read-requires-clause-unit
+read-requires-clause-unit g c = ap (λ (t : FunctionTable). t.names.unit) c.self.view_is ∙ c.requires.unit

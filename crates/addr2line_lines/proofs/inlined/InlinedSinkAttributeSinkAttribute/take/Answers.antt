@@ -59,7 +59,7 @@ returns-in_err-found-2 g c =
     let taken = name_taken (as_scope c.args.self.now.scope) u x c.args.attribute other is in
     let p = err_from_is_err_and c.from_residual-in_err-found-2.result c.from_residual-in_err-found-2.ensures.1 in
     let fault = rw c.take-before.ensures.gives at c.in_err-found-2.ensures.gives in
-    record { gives = rw (p.1, p.2) (λ ne. taken ∙ ap (with_name_read x) (fault ne)); after = (c.requires.cache.0, c.in_err-found-2.ensures.names) }
+    record { gives = rw (p.1, p.2) (λ ne. taken ∙ ap (with_name_read x) (fault ne)); after = record { in_order = c.requires.cache.in_order; unit = c.requires.cache.unit; more = c.in_err-found-2.ensures.names } }
 
 pub returns-in_ok-found-2 : goal.returns-in_ok-found-2
 returns-in_ok-found-2 g c =
@@ -69,4 +69,4 @@ returns-in_ok-found-2 g c =
     let is : is_range_name c.args.attribute.name ≡ false = ap is_range_name (sym c.name-name.ensures.gives) ∙ sym c.if-is_range_name.ensures.gives in
     let taken = name_taken (as_scope c.args.self.now.scope) u x c.args.attribute other is in
     let read = rw c.take-before.ensures.gives at c.in_ok-found-2.ensures.gives in
-    record { gives = taken ∙ ap (with_name_read x) read; after = (c.requires.cache.0, c.in_ok-found-2.ensures.names) }
+    record { gives = taken ∙ ap (with_name_read x) read; after = record { in_order = c.requires.cache.in_order; unit = c.requires.cache.unit; more = c.in_ok-found-2.ensures.names } }

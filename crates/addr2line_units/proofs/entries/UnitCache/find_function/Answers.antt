@@ -2,7 +2,7 @@ use Rattle.addr2line_units.proofs.Common.{◌≡◌, ◌∙◌, Err, None, Ok, S
 use Rattle.addr2line_units.specs.declared.entries.FunctionPlace.{FunctionPlace}
 use Rattle.addr2line_units.specs.declared.entries.LazyFunctions.TheVariants as lazy
 use Rattle.std.specs.Box.{with_value}
-use Rattle.addr2line_lines.specs.CachedNames.{AreNamesOf}
+use Rattle.addr2line_lines.specs.CachedNames.{AreNamesIn}
 use Rattle.addr2line_units.specs.EntriesOwn.{CachedUnit, unit_of}
 use Rattle.addr2line_units.specs.SupScope.{scope_of}
 use Rattle.addr2line_units.proofs.EntriesFindLemmas.{absent_after, absent_gives, cached_right, chain_after, chain_gives, detail_after, detail_gives, faulty_after, faulty_gives, nowhere_after, nowhere_gives, place_after, place_gives, uncached_after, uncached_gives}
@@ -164,7 +164,7 @@ invariant_of-self-in_err-read g c =
     let at = rw c.deref-2.ensures at c.in-Some.ensures in
     let e = c.in_err-read.field-0.0 in
     let r = rw c.deref_mut.ensures.value at c.in_err-read.ensures in
-    v.own (lazy.Read (with_value t c.read.new.self)) (detail_after shares inner x c.args.probe old mid v.functions cache t is c.in-Some.place (sym at.gives) at.found at.within c.read.new.self e r.gives r.names).right
+    v.own (lazy.Read (with_value t c.read.new.self)) (detail_after shares inner x c.args.probe old mid v.functions cache t is c.in-Some.place (sym at.gives) at.found at.within c.read.new.self e r.gives).right
 
 pub returns-in_err-read : goal.returns-in_err-read
 returns-in_err-read g c =
@@ -183,7 +183,7 @@ returns-in_err-read g c =
     let e = c.in_err-read.field-0.0 in
     let r = rw c.deref_mut.ensures.value at c.in_err-read.ensures in
     let p = err_from_is_err_and c.from_residual-in_err-read.result c.from_residual-in_err-read.ensures.1 in
-    let done = v.found c.args.probe (Err e) (lazy.Read (with_value t c.read.new.self)) (detail_gives shares inner x c.args.probe old mid v.functions cache t is c.in-Some.place (sym at.gives) at.found at.within c.read.new.self e r.gives) (detail_after shares inner x c.args.probe old mid v.functions cache t is c.in-Some.place (sym at.gives) at.found at.within c.read.new.self e r.gives r.names) in
+    let done = v.found c.args.probe (Err e) (lazy.Read (with_value t c.read.new.self)) (detail_gives shares inner x c.args.probe old mid v.functions cache t is c.in-Some.place (sym at.gives) at.found at.within c.read.new.self e r.gives) (detail_after shares inner x c.args.probe old mid v.functions cache t is c.in-Some.place (sym at.gives) at.found at.within c.read.new.self e r.gives) in
     rw (p.1, p.2) (record { gives = done.0; after = done.1 })
 
 pub invariant_of-self-in_err-inlined : goal.invariant_of-self-in_err-inlined
@@ -204,7 +204,7 @@ invariant_of-self-in_err-inlined g c =
     let e = c.in_err-inlined.field-0.0 in
     let same : c.in-Read-functions.functions.value ≡ c.read.new.self = sym (ap (λ (f : LazyFunctions g.row.R.Denot). cached_functions f) c.in-Read-functions.is) in
     let chain = rw same at (rw c.deref-3.ensures at c.in_err-inlined.ensures.gives) in
-    v.own (lazy.Read (with_value t c.read.new.self)) (chain_after shares inner x c.args.probe old mid v.functions cache t is c.in-Some.place (sym at.gives) at.found at.within c.read.new.self r.gives e chain r.names).right
+    v.own (lazy.Read (with_value t c.read.new.self)) (chain_after shares inner x c.args.probe old mid v.functions cache t is c.in-Some.place (sym at.gives) at.found at.within c.read.new.self r.gives e chain).right
 
 pub returns-in_err-inlined : goal.returns-in_err-inlined
 returns-in_err-inlined g c =
@@ -225,7 +225,7 @@ returns-in_err-inlined g c =
     let same : c.in-Read-functions.functions.value ≡ c.read.new.self = sym (ap (λ (f : LazyFunctions g.row.R.Denot). cached_functions f) c.in-Read-functions.is) in
     let chain = rw same at (rw c.deref-3.ensures at c.in_err-inlined.ensures.gives) in
     let p = err_from_is_err_and c.from_residual-in_err-inlined.result c.from_residual-in_err-inlined.ensures.1 in
-    let done = v.found c.args.probe (Err e) (lazy.Read (with_value t c.read.new.self)) (chain_gives shares inner x c.args.probe old mid v.functions cache t is c.in-Some.place (sym at.gives) at.found at.within c.read.new.self r.gives e chain) (chain_after shares inner x c.args.probe old mid v.functions cache t is c.in-Some.place (sym at.gives) at.found at.within c.read.new.self r.gives e chain r.names) in
+    let done = v.found c.args.probe (Err e) (lazy.Read (with_value t c.read.new.self)) (chain_gives shares inner x c.args.probe old mid v.functions cache t is c.in-Some.place (sym at.gives) at.found at.within c.read.new.self r.gives e chain) (chain_after shares inner x c.args.probe old mid v.functions cache t is c.in-Some.place (sym at.gives) at.found at.within c.read.new.self r.gives e chain) in
     rw (p.1, p.2) (record { gives = done.0; after = done.1 })
 
 pub invariant_of-self-2 : goal.invariant_of-self-2
@@ -246,7 +246,7 @@ invariant_of-self-2 g c =
     let same : c.in-Read-functions.functions.value ≡ c.read.new.self = sym (ap (λ (f : LazyFunctions g.row.R.Denot). cached_functions f) c.in-Read-functions.is) in
     let chain = rw same at (rw c.deref-3.ensures at c.in_ok-inlined.ensures) in
     let found : FunctionPlace = record { place = c.in-Some.place; inlined = c.in_ok-inlined.inlined } in
-    v.own (lazy.Read (with_value t c.read.new.self)) (place_after shares inner x c.args.probe old mid v.functions cache t is c.in-Some.place (sym at.gives) at.found at.within c.read.new.self r.gives found refl chain.gives r.names chain.within).right
+    v.own (lazy.Read (with_value t c.read.new.self)) (place_after shares inner x c.args.probe old mid v.functions cache t is c.in-Some.place (sym at.gives) at.found at.within c.read.new.self r.gives found refl chain.gives chain.within).right
 
 pub returns : goal.returns
 returns g c =
@@ -266,11 +266,11 @@ returns g c =
     let same : c.in-Read-functions.functions.value ≡ c.read.new.self = sym (ap (λ (f : LazyFunctions g.row.R.Denot). cached_functions f) c.in-Read-functions.is) in
     let chain = rw same at (rw c.deref-3.ensures at c.in_ok-inlined.ensures) in
     let found : FunctionPlace = record { place = c.in-Some.place; inlined = c.in_ok-inlined.inlined } in
-    let done = v.found c.args.probe (Ok (Some found)) (lazy.Read (with_value t c.read.new.self)) (place_gives shares inner x c.args.probe old mid v.functions cache t is c.in-Some.place (sym at.gives) at.found at.within c.read.new.self r.gives found refl chain.gives) (place_after shares inner x c.args.probe old mid v.functions cache t is c.in-Some.place (sym at.gives) at.found at.within c.read.new.self r.gives found refl chain.gives r.names chain.within) in
+    let done = v.found c.args.probe (Ok (Some found)) (lazy.Read (with_value t c.read.new.self)) (place_gives shares inner x c.args.probe old mid v.functions cache t is c.in-Some.place (sym at.gives) at.found at.within c.read.new.self r.gives found refl chain.gives) (place_after shares inner x c.args.probe old mid v.functions cache t is c.in-Some.place (sym at.gives) at.found at.within c.read.new.self r.gives found refl chain.gives chain.within) in
     record { gives = done.0; after = done.1 }
 
-pub read-requires-clause-names : goal.read-requires-clause-names
-read-requires-clause-names g c =
+pub read-requires-clause-unit : goal.read-requires-clause-unit
+read-requires-clause-unit g c =
     let shares = g.R.Reader.shares in
     let s = c.self.inside in
     let k : CachedUnit g.row.R.Denot = record { lines = s.lines; entries = s.entries; unit = unit_of s.unit.value } in
@@ -280,4 +280,4 @@ read-requires-clause-names g c =
     let old = s.entries.functions in
     let mid = c.cache.new.self in
     let cache = c.in_ok-cache.ensures.after in
-    subst (λ (t : FunctionTable). AreNamesOf inner x t.names) (sym c.deref_mut.ensures.value) (subst (AreFunctionsOf inner x) c.in-Read.is (cached_right shares inner x (Ok tt) old mid v.functions cache)).names
+    subst (λ (t : FunctionTable). AreNamesIn inner x t.names) (sym c.deref_mut.ensures.value) (subst (AreFunctionsOf inner x) c.in-Read.is (cached_right shares inner x (Ok tt) old mid v.functions cache)).names

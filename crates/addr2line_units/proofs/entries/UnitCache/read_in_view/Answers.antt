@@ -4,7 +4,7 @@ use Rattle.addr2line_units.specs.SupScope.{scope_of}
 use Rattle.addr2line_units.specs.declared.parses.ReadingDepth.TheVariants as depths
 use Rattle.addr2line_units.specs.declared.entries.LazyFunctions.TheVariants as lazy
 use Rattle.std.specs.Box.{with_value}
-use Rattle.addr2line_lines.specs.CachedNames.{AreNamesOf}
+use Rattle.addr2line_lines.specs.CachedNames.{AreNamesIn}
 use Rattle.addr2line_units.proofs.EntriesFunctionLemmas.{exactly_weaker, fault_is, reading_before, stay_read, table_more}
 use Rattle.addr2line_units.proofs.EntriesKnownTableLemmas.{to_fault_cached, to_fault_known}
 use Rattle.addr2line_units.proofs.EntriesLemmas.{exactly_unless_oom}
@@ -123,14 +123,14 @@ returns-then-matches g c =
       after = v.after c.args.depth _ c.cache.new.self (subst (λ (r : ReadingDepth). KeepsReadFunctions g.R.Reader.shares r inner x (cached_fault c.cache.new.self) s.entries.functions c.cache.new.self) (sym depth) keeps);
     })
 
-pub read_all-requires-clause-names : goal.read_all-requires-clause-names
-read_all-requires-clause-names g c =
+pub read_all-requires-clause-unit : goal.read_all-requires-clause-unit
+read_all-requires-clause-unit g c =
     let s = c.self.inside in
     let k : CachedUnit g.row.R.Denot = record { lines = s.lines; entries = s.entries; unit = unit_of s.unit.value } in
     let x = c.in_ok-unit.unit.unit.now in
     let inner = as_scope c.scope_of-scope.result in
     let v = viewed g.R.Reader.shares (scope_of c.args.sources.now) c.args.dw_unit.now k c.args.self.now c.self.view_is c.requires.in_order c.requires.unit c.self.invariant c.requires.decided c.deref.result.now c.deref.ensures c.in_ok-unit.unit.dwarf.now x inner c.in_ok-unit.ensures.gives (as_scope c.scope.result) c.scope.ensures.gives c.scope_of-scope.ensures.gives in
-    subst (λ (t : FunctionTable). AreNamesOf inner x t.names) (sym c.deref_mut.ensures.value) (table_now g.R.Reader.shares inner x s.entries.functions c.cache.new.self v.functions c.in_ok-cache.ensures.after c.in-Read.functions c.in-Read.is).names
+    subst (λ (t : FunctionTable). AreNamesIn inner x t.names) (sym c.deref_mut.ensures.value) (table_now g.R.Reader.shares inner x s.entries.functions c.cache.new.self v.functions c.in_ok-cache.ensures.after c.in-Read.functions c.in-Read.is).names
 
 pub invariant_of-self-2 : goal.invariant_of-self-2
 invariant_of-self-2 g c =
@@ -149,7 +149,7 @@ invariant_of-self-2 g c =
     let result = c.read_all.result in
     let table = table_now shares inner x before mid v.functions a t c.in-Read.is in
     let e = rw c.deref_mut.ensures.value at c.read_all.ensures in
-    v.own (lazy.Read (with_value t new)) (table_more inner x t.value new table e.after (e.read table.details) e.names)
+    v.own (lazy.Read (with_value t new)) (table_more inner x t.value new table e.after (e.read table.details))
 
 pub returns : goal.returns
 returns g c =
@@ -173,7 +173,7 @@ returns g c =
     let gives = exactly_weaker may (reading_takes_memory shares inner x before) (λ x. x) result (functions_fault inner x)
     (reading_before before mid kept shares inner x t c.in-Read.is table)
     (subst (λ (r : Result (Unit {0}) Error). ExactlyUnlessOomIf may (λ x. x) result r) (sym (fault_is inner x t.value table)) (e.gives table.details)) in
-    let keeps = details_after shares inner x before (lazy.Read (with_value t new)) (table_more inner x t.value new table e.after (e.read table.details) e.names) result v.functions gives
+    let keeps = details_after shares inner x before (lazy.Read (with_value t new)) (table_more inner x t.value new table e.after (e.read table.details)) result v.functions gives
     (stay_read before mid kept t (with_value t new) c.in-Read.is e.after) (on_ok result (λ _. refl) e.known) e.known
     (λ ne. to_fault_known new.functions (e.whole (not_oom result ne))) (λ ready. had_not_oom result (e.memory (to_fault_cached new.functions ready)))
     (λ ready. e.exact table.details (to_fault_cached t.value.functions (ready_then depths.Details before mid kept ready (lazy.Read t) c.in-Read.is)) ∙ sym (fault_is inner x t.value table))

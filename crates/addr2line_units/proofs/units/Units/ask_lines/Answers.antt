@@ -14,7 +14,7 @@ returns-in_default g c =
     let s = c.self.inside in
     let i = c.self.invariant in
     let was = as_stop s.caches.items s.stop in
-    let none = none_got c.scope-scope.ensures.gives c.args.number c.in_default.ensures.lookup.0 in
+    let none = none_got c.scope-scope.ensures.gives c.as_slice.ensures.gives c.args.number c.in_default.ensures.lookup.0 in
     record {
       gives = subst (λ y. stop_at lookups.Location c.args.probe y c.args.number ≡ Ok FindsNothing) c.self.view_is (none_row i c.args.number s.steps was none c.args.probe);
       after = rw (sym c.self.view_is) (none_after_row i c.args.number s.steps was none g.R.Reader.shares c.args.probe);
@@ -22,14 +22,14 @@ returns-in_default g c =
 
 pub index_mut-cache-requires : goal.index_mut-cache-requires
 index_mut-cache-requires g c =
-    let within = cache_within c.self.invariant c.args.number (unit_got c.scope-scope.ensures.gives c.args.number c.in-Some.ensures.lookup.0 c.in-Some.ensures.lookup.1) in
+    let within = cache_within c.self.invariant c.args.number (unit_got c.scope-scope.ensures.gives c.as_slice.ensures.gives c.args.number c.in-Some.ensures.lookup.0 c.in-Some.ensures.lookup.1) in
     omega (arith, within)
 
 pub invariant_of-self-in_err-row : goal.invariant_of-self-in_err-row
 invariant_of-self-in_err-row g c =
     let i = c.self.invariant in
     let n = c.args.number in
-    let there = unit_got c.scope-scope.ensures.gives n c.in-Some.ensures.lookup.0 c.in-Some.ensures.lookup.1 in
+    let there = unit_got c.scope-scope.ensures.gives c.as_slice.ensures.gives n c.in-Some.ensures.lookup.0 c.in-Some.ensures.lookup.1 in
     let v : CachedUnit g.row.R.Denot = record { lines = c.cache.inside.lines; entries = c.cache.inside.entries; unit = unit_of c.cache.inside.unit.value } in
     let at = subst (λ (y : CachedUnit g.row.R.Denot). y ≡ get_or c.self.inside.caches.items c.args.number y) (sym c.cache.view_is) c.index_mut-cache.ensures.value in
     let a = subst (λ d. AfterLinesOf g.R.Reader.shares d c.in-Some.dw_unit.now c.find_row.result v.lines c.find_row.new.self) (sections_seen c.scope-scope.ensures.gives) c.find_row.ensures.after in
@@ -41,7 +41,7 @@ returns-in_err-row g c =
     let n = c.args.number in
     let i = c.self.invariant in
     let was = as_stop s.caches.items s.stop in
-    let there = unit_got c.scope-scope.ensures.gives c.args.number c.in-Some.ensures.lookup.0 c.in-Some.ensures.lookup.1 in
+    let there = unit_got c.scope-scope.ensures.gives c.as_slice.ensures.gives c.args.number c.in-Some.ensures.lookup.0 c.in-Some.ensures.lookup.1 in
     let v : CachedUnit g.row.R.Denot = record { lines = c.cache.inside.lines; entries = c.cache.inside.entries; unit = unit_of c.cache.inside.unit.value } in
     let at = subst (λ (y : CachedUnit g.row.R.Denot). y ≡ get_or c.self.inside.caches.items c.args.number y) (sym c.cache.view_is) c.index_mut-cache.ensures.value in
     let u = c.in-Some.dw_unit.now in
@@ -68,7 +68,7 @@ invariant_of-self-2 g c =
     let n = c.args.number in
     let i = c.self.invariant in
     let was = as_stop s.caches.items s.stop in
-    let there = unit_got c.scope-scope.ensures.gives c.args.number c.in-Some.ensures.lookup.0 c.in-Some.ensures.lookup.1 in
+    let there = unit_got c.scope-scope.ensures.gives c.as_slice.ensures.gives c.args.number c.in-Some.ensures.lookup.0 c.in-Some.ensures.lookup.1 in
     let v : CachedUnit g.row.R.Denot = record { lines = c.cache.inside.lines; entries = c.cache.inside.entries; unit = unit_of c.cache.inside.unit.value } in
     let at = subst (λ (y : CachedUnit g.row.R.Denot). y ≡ get_or c.self.inside.caches.items c.args.number y) (sym c.cache.view_is) c.index_mut-cache.ensures.value in
     let u = c.in-Some.dw_unit.now in
@@ -89,7 +89,7 @@ returns g c =
     let n = c.args.number in
     let i = c.self.invariant in
     let was = as_stop s.caches.items s.stop in
-    let there = unit_got c.scope-scope.ensures.gives c.args.number c.in-Some.ensures.lookup.0 c.in-Some.ensures.lookup.1 in
+    let there = unit_got c.scope-scope.ensures.gives c.as_slice.ensures.gives c.args.number c.in-Some.ensures.lookup.0 c.in-Some.ensures.lookup.1 in
     let v : CachedUnit g.row.R.Denot = record { lines = c.cache.inside.lines; entries = c.cache.inside.entries; unit = unit_of c.cache.inside.unit.value } in
     let at = subst (λ (y : CachedUnit g.row.R.Denot). y ≡ get_or c.self.inside.caches.items c.args.number y) (sym c.cache.view_is) c.index_mut-cache.ensures.value in
     let u = c.in-Some.dw_unit.now in

@@ -8,29 +8,29 @@ use Rattle.addr2line_units.proofs.units.Units.ask_unit.Goals as goal
 pub returns-in_default-clause-gives : goal.returns-in_default-clause-gives
 returns-in_default-clause-gives g c =
     let s = c.self.inside in
-    let none = none_got c.scope-scope.ensures.gives c.args.number c.in_default.ensures.lookup.0 in
+    let none = none_got c.scope-scope.ensures.gives c.as_slice.ensures.gives c.args.number c.in_default.ensures.lookup.0 in
     subst (λ y. stop_at (lookups.Frames c.args.faults) c.args.probe y c.args.number ≡ Ok FindsNothing) c.self.view_is (none_gives c.self.invariant c.args.probe c.args.number s.steps (as_stop s.caches.items s.stop) none c.args.faults)
 
 pub returns-in_default-clause-after : goal.returns-in_default-clause-after
 returns-in_default-clause-after g c =
     let s = c.self.inside in
-    let none = none_got c.scope-scope.ensures.gives c.args.number c.in_default.ensures.lookup.0 in
+    let none = none_got c.scope-scope.ensures.gives c.as_slice.ensures.gives c.args.number c.in_default.ensures.lookup.0 in
     rw (sym c.self.view_is) (none_after c.self.invariant c.args.probe c.args.number s.steps (as_stop s.caches.items s.stop) none g.R.Reader.shares c.args.faults)
 
 pub index_mut-cache-requires : goal.index_mut-cache-requires
 index_mut-cache-requires g c =
-    let within = cache_within c.self.invariant c.args.number (unit_got c.scope-scope.ensures.gives c.args.number c.in-Some.ensures.lookup.0 c.in-Some.ensures.lookup.1) in
+    let within = cache_within c.self.invariant c.args.number (unit_got c.scope-scope.ensures.gives c.as_slice.ensures.gives c.args.number c.in-Some.ensures.lookup.0 c.in-Some.ensures.lookup.1) in
     omega (arith, within)
 
 pub find_frames-found-requires : goal.find_frames-found-requires
 find_frames-found-requires g c =
     let gives = c.scope-scope.ensures.gives in
-    let there = unit_got gives c.args.number c.in-Some.ensures.lookup.0 c.in-Some.ensures.lookup.1 in
+    let there = unit_got gives c.as_slice.ensures.gives c.args.number c.in-Some.ensures.lookup.0 c.in-Some.ensures.lookup.1 in
     record { in_order = c.self.invariant.in_order; unit = its_unit c.self.invariant c.args.number there c.index_mut-cache.ensures.value }
 
 pub invariant_of-self-in_err-found : goal.invariant_of-self-in_err-found
 invariant_of-self-in_err-found g c =
-    let there = unit_got c.scope-scope.ensures.gives c.args.number c.in-Some.ensures.lookup.0 c.in-Some.ensures.lookup.1 in
+    let there = unit_got c.scope-scope.ensures.gives c.as_slice.ensures.gives c.args.number c.in-Some.ensures.lookup.0 c.in-Some.ensures.lookup.1 in
     let s = c.self.inside in
     let i = c.self.invariant in
     let at = c.index_mut-cache.ensures.value in
@@ -45,7 +45,7 @@ returns-in_err-found g c =
     let s = c.self.inside in
     let i = c.self.invariant in
     let p = err_from_is_err_and c.from_residual.result c.from_residual.ensures.1 in
-    let there = unit_got c.scope-scope.ensures.gives c.args.number c.in-Some.ensures.lookup.0 c.in-Some.ensures.lookup.1 in
+    let there = unit_got c.scope-scope.ensures.gives c.as_slice.ensures.gives c.args.number c.in-Some.ensures.lookup.0 c.in-Some.ensures.lookup.1 in
     let at = c.index_mut-cache.ensures.value in
     let found = c.find_frames-found in
     let w = found.new.self in
@@ -65,7 +65,7 @@ pub invariant_of-self-2 : goal.invariant_of-self-2
 invariant_of-self-2 g c =
     let s = c.self.inside in
     let i = c.self.invariant in
-    let there = unit_got c.scope-scope.ensures.gives c.args.number c.in-Some.ensures.lookup.0 c.in-Some.ensures.lookup.1 in
+    let there = unit_got c.scope-scope.ensures.gives c.as_slice.ensures.gives c.args.number c.in-Some.ensures.lookup.0 c.in-Some.ensures.lookup.1 in
     let at = c.index_mut-cache.ensures.value in
     let found = c.find_frames-found in
     let was = as_stop s.caches.items s.stop in
@@ -78,7 +78,7 @@ pub returns : goal.returns
 returns g c =
     let s = c.self.inside in
     let i = c.self.invariant in
-    let there = unit_got c.scope-scope.ensures.gives c.args.number c.in-Some.ensures.lookup.0 c.in-Some.ensures.lookup.1 in
+    let there = unit_got c.scope-scope.ensures.gives c.as_slice.ensures.gives c.args.number c.in-Some.ensures.lookup.0 c.in-Some.ensures.lookup.1 in
     let at = c.index_mut-cache.ensures.value in
     let found = c.find_frames-found in
     let w = found.new.self in

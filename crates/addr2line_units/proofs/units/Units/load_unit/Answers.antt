@@ -8,7 +8,7 @@ pub returns-in_default : goal.returns-in_default
 returns-in_default g c =
     let s = c.self.inside in
     let given = option_map (λ x. x.value) c.args.sections in
-    let none = none_got c.scope-scope.ensures.gives c.args.token.number c.in_default.ensures.lookup.0 in
+    let none = none_got c.scope-scope.ensures.gives c.as_slice.ensures.gives c.args.token.number c.in_default.ensures.lookup.0 in
     let unknown = unknown_load s.sources.dwarf.value s.sources.units.items (answers_in s.caches.items) c.args.token.number given none in
     rw (sym c.self.view_is) (record {
       gives = λ ne. unknown;
@@ -17,23 +17,23 @@ returns-in_default g c =
 
 pub index_mut-cache-requires : goal.index_mut-cache-requires
 index_mut-cache-requires g c =
-    let within = cache_within c.self.invariant c.args.token.number (unit_got c.scope-scope.ensures.gives c.args.token.number c.in-Some.ensures.lookup.0 c.in-Some.ensures.lookup.1) in
+    let within = cache_within c.self.invariant c.args.token.number (unit_got c.scope-scope.ensures.gives c.as_slice.ensures.gives c.args.token.number c.in-Some.ensures.lookup.0 c.in-Some.ensures.lookup.1) in
     omega (arith, within)
 
 pub answer-answered-requires : goal.answer-answered-requires
 answer-answered-requires g c =
-    let there = unit_got c.scope-scope.ensures.gives c.args.token.number c.in-Some.ensures.lookup.0 c.in-Some.ensures.lookup.1 in
+    let there = unit_got c.scope-scope.ensures.gives c.as_slice.ensures.gives c.args.token.number c.in-Some.ensures.lookup.0 c.in-Some.ensures.lookup.1 in
     record { in_order = c.self.invariant.in_order; unit = its_unit c.self.invariant c.args.token.number there c.index_mut-cache.ensures.value }
 
 pub invariant_of-self-2 : goal.invariant_of-self-2
 invariant_of-self-2 g c =
-    let there = unit_got c.scope-scope.ensures.gives c.args.token.number c.in-Some.ensures.lookup.0 c.in-Some.ensures.lookup.1 in
+    let there = unit_got c.scope-scope.ensures.gives c.as_slice.ensures.gives c.args.token.number c.in-Some.ensures.lookup.0 c.in-Some.ensures.lookup.1 in
     let after = c.answer-answered.ensures.after in
     units_after c.self.invariant c.args.token.number there c.index_mut-cache.ensures.value c.answer-answered.new.self after.lines after.unit c.is_own.ensures.right
 
 pub invariant_of-self-in_err-answered : goal.invariant_of-self-in_err-answered
 invariant_of-self-in_err-answered g c =
-    let there = unit_got c.scope-scope.ensures.gives c.args.token.number c.in-Some.ensures.lookup.0 c.in-Some.ensures.lookup.1 in
+    let there = unit_got c.scope-scope.ensures.gives c.as_slice.ensures.gives c.args.token.number c.in-Some.ensures.lookup.0 c.in-Some.ensures.lookup.1 in
     let after = c.answer-answered.ensures.after in
     units_after c.self.invariant c.args.token.number there c.index_mut-cache.ensures.value c.answer-answered.new.self after.lines after.unit c.is_own.ensures.right
 
@@ -42,7 +42,7 @@ returns-in_err-answered g c =
     let s = c.self.inside in
     let i = c.self.invariant in
     let p = err_from_is_err_and c.from_residual.result c.from_residual.ensures.1 in
-    let there = unit_got c.scope-scope.ensures.gives c.args.token.number c.in-Some.ensures.lookup.0 c.in-Some.ensures.lookup.1 in
+    let there = unit_got c.scope-scope.ensures.gives c.as_slice.ensures.gives c.args.token.number c.in-Some.ensures.lookup.0 c.in-Some.ensures.lookup.1 in
     let at = c.index_mut-cache.ensures.value in
     let w = c.answer-answered.new.self in
     let given = option_map (λ x. x.value) c.args.sections in
@@ -57,7 +57,7 @@ pub returns : goal.returns
 returns g c =
     let s = c.self.inside in
     let i = c.self.invariant in
-    let there = unit_got c.scope-scope.ensures.gives c.args.token.number c.in-Some.ensures.lookup.0 c.in-Some.ensures.lookup.1 in
+    let there = unit_got c.scope-scope.ensures.gives c.as_slice.ensures.gives c.args.token.number c.in-Some.ensures.lookup.0 c.in-Some.ensures.lookup.1 in
     let at = c.index_mut-cache.ensures.value in
     let w = c.answer-answered.new.self in
     let given = option_map (λ x. x.value) c.args.sections in

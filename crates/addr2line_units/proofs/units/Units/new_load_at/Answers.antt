@@ -14,7 +14,7 @@ returns-in_default g c =
     let S = scope_of s.sources in
     let cs = s.caches.items in
     let marks = c.args.marks.now.items in
-    let none = none_got c.scope-scope.ensures.gives c.args.number c.in_default.ensures.lookup.0 in
+    let none = none_got c.scope-scope.ensures.gives c.as_slice.ensures.gives c.args.number c.in_default.ensures.lookup.0 in
     let no = no_load S.file.sections S.file.units (answers_in cs) n none in
     record {
       gives = subst (λ (y : UnitsState). None ≡ if_new marks (load_in y n)) c.self.view_is (sym (ap (if_new marks) no));
@@ -28,17 +28,17 @@ returns-in_default g c =
 
 pub index_mut-cache-requires : goal.index_mut-cache-requires
 index_mut-cache-requires g c =
-    let within = cache_within c.self.invariant c.args.number (unit_got c.scope-scope.ensures.gives c.args.number c.in-Some.ensures.lookup.0 c.in-Some.ensures.lookup.1) in
+    let within = cache_within c.self.invariant c.args.number (unit_got c.scope-scope.ensures.gives c.as_slice.ensures.gives c.args.number c.in-Some.ensures.lookup.0 c.in-Some.ensures.lookup.1) in
     omega (arith, within)
 
 pub new_load-load-requires : goal.new_load-load-requires
 new_load-load-requires g c =
-    let there = unit_got c.scope-scope.ensures.gives c.args.number c.in-Some.ensures.lookup.0 c.in-Some.ensures.lookup.1 in
+    let there = unit_got c.scope-scope.ensures.gives c.as_slice.ensures.gives c.args.number c.in-Some.ensures.lookup.0 c.in-Some.ensures.lookup.1 in
     record { in_order = c.self.invariant.in_order; unit = its_unit c.self.invariant c.args.number there c.index_mut-cache.ensures.value; within = unit_within c.self.invariant c.args.number there }
 
 pub invariant_of-self-2 : goal.invariant_of-self-2
 invariant_of-self-2 g c =
-    let there = unit_got c.scope-scope.ensures.gives c.args.number c.in-Some.ensures.lookup.0 c.in-Some.ensures.lookup.1 in
+    let there = unit_got c.scope-scope.ensures.gives c.as_slice.ensures.gives c.args.number c.in-Some.ensures.lookup.0 c.in-Some.ensures.lookup.1 in
     let after = c.new_load-load.ensures.after in
     units_after c.self.invariant c.args.number there c.index_mut-cache.ensures.value c.new_load-load.new.self after.lines after.unit c.is_own.ensures.right
 
@@ -48,7 +48,7 @@ returns g c =
     let n = c.args.number in
     let i = c.self.invariant in
     let marks = c.args.marks.now.items in
-    let there = unit_got c.scope-scope.ensures.gives c.args.number c.in-Some.ensures.lookup.0 c.in-Some.ensures.lookup.1 in
+    let there = unit_got c.scope-scope.ensures.gives c.as_slice.ensures.gives c.args.number c.in-Some.ensures.lookup.0 c.in-Some.ensures.lookup.1 in
     let at = c.index_mut-cache.ensures.value in
     let load_is = load_listed i c.args.number there at in
     let after = c.new_load-load.ensures.after in

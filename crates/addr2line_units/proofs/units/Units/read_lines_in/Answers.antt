@@ -13,7 +13,7 @@ returns-in_default g c =
     let s = c.self.inside in
     let i = c.self.invariant in
     let was = as_stop s.caches.items s.stop in
-    let none = none_got c.scope-scope.ensures.gives c.args.number c.in_default.ensures.lookup.0 in
+    let none = none_got c.scope-scope.ensures.gives c.as_slice.ensures.gives c.args.number c.in_default.ensures.lookup.0 in
     record {
       gives = subst (λ (y : UnitsState). lines_result_at y.scope.file.sections (slice_get y.units c.args.number) ≡ Ok tt) c.self.view_is (none_read i c.args.number s.steps was none);
       after = rw (sym c.self.view_is) (none_after_caching i c.args.number s.steps was none g.R.Reader.shares);
@@ -21,14 +21,14 @@ returns-in_default g c =
 
 pub index_mut-cache-requires : goal.index_mut-cache-requires
 index_mut-cache-requires g c =
-    let within = cache_within c.self.invariant c.args.number (unit_got c.scope-scope.ensures.gives c.args.number c.in-Some.ensures.lookup.0 c.in-Some.ensures.lookup.1) in
+    let within = cache_within c.self.invariant c.args.number (unit_got c.scope-scope.ensures.gives c.as_slice.ensures.gives c.args.number c.in-Some.ensures.lookup.0 c.in-Some.ensures.lookup.1) in
     omega (arith, within)
 
 pub invariant_of-self-2 : goal.invariant_of-self-2
 invariant_of-self-2 g c =
     let i = c.self.invariant in
     let n = c.args.number in
-    let there = unit_got c.scope-scope.ensures.gives n c.in-Some.ensures.lookup.0 c.in-Some.ensures.lookup.1 in
+    let there = unit_got c.scope-scope.ensures.gives c.as_slice.ensures.gives n c.in-Some.ensures.lookup.0 c.in-Some.ensures.lookup.1 in
     let v : CachedUnit g.row.R.Denot = record { lines = c.cache.inside.lines; entries = c.cache.inside.entries; unit = unit_of c.cache.inside.unit.value } in
     let at = subst (λ (y : CachedUnit g.row.R.Denot). y ≡ get_or c.self.inside.caches.items c.args.number y) (sym c.cache.view_is) c.index_mut-cache.ensures.value in
     let a = subst (λ d. AfterLinesOf g.R.Reader.shares d c.in-Some.dw_unit.now c.read_lines.result v.lines c.read_lines.new.self) (sections_seen c.scope-scope.ensures.gives) c.read_lines.ensures.after in
@@ -39,7 +39,7 @@ returns g c =
     let s = c.self.inside in
     let i = c.self.invariant in
     let was = as_stop s.caches.items s.stop in
-    let there = unit_got c.scope-scope.ensures.gives c.args.number c.in-Some.ensures.lookup.0 c.in-Some.ensures.lookup.1 in
+    let there = unit_got c.scope-scope.ensures.gives c.as_slice.ensures.gives c.args.number c.in-Some.ensures.lookup.0 c.in-Some.ensures.lookup.1 in
     let v : CachedUnit g.row.R.Denot = record { lines = c.cache.inside.lines; entries = c.cache.inside.entries; unit = unit_of c.cache.inside.unit.value } in
     let at = subst (λ (y : CachedUnit g.row.R.Denot). y ≡ get_or c.self.inside.caches.items c.args.number y) (sym c.cache.view_is) c.index_mut-cache.ensures.value in
     let u = c.in-Some.dw_unit.now in

@@ -2,21 +2,22 @@
 -- Own: three lists, of names, of inlined entries and of ranges; those of each function stand one
 -- after another, its ranges by depth, then by begin, then by end, then by place of the entry.
 -- Own: beside them the names of entries that are referred to, or their faults, as they were found.
-use Rattle.std.specs.Prelude.{◌≡◌, ℕ, ◌+◌, ◌-◌, ◌<◌, ◌≤◌, List, drop, length, map, slice_index_or, take, Option, None, option_map}
+use Rattle.std.specs.Prelude.{◌≡◌, ℕ, ◌+◌, ◌-◌, ◌<◌, ◌≤◌, List, [], drop, length, map, slice_index_or, take, Option, Some, None, option_map}
 use Rattle.std.specs.List.{All}
 use Rattle.std.specs.List.Sorted.{IsNonDecreasingBy}
-use Rattle.addr2line_lines.specs.Common.{Error, OutOfMemory, Section}
+use Rattle.addr2line_lines.specs.Common.{Error, OutOfMemory, Section, UnitRecord}
 use Rattle.addr2line_lines.specs.declared.details.Details.{Details}
 use Rattle.addr2line_lines.specs.declared.details.FunctionDetail.{FunctionDetail}
 use Rattle.addr2line_lines.specs.declared.picks.InlinedFunctionAddress.{InlinedFunctionAddress}
-use Rattle.addr2line_lines.specs.CachedNames.{AreNamesMore, KnownNames}
+use Rattle.addr2line_lines.specs.CachedNames.{AreNamesMore, KnownNames, no_names}
 use Rattle.addr2line_lines.specs.Details.{Detail}
-use Rattle.addr2line_lines.specs.FoundInlined.{FoundInlined, IsFoundMore, range_among, as_lists}
+use Rattle.addr2line_lines.specs.FoundInlined.{FoundInlined, IsFoundMore, none_inlined, range_among, as_lists}
 use Rattle.addr2line_lines.specs.Grown.{IsGrown}
 use Rattle.addr2line_lines.specs.InOrder.{in_order}
 use Rattle.addr2line_lines.specs.InlinedChain.{inlined_chain}
 use Rattle.addr2line_lines.specs.InlinedEntries.{InlinedEntry}
 use Rattle.addr2line_lines.specs.InlinedOrder.{inlined_sooner, inlined_place}
+use Rattle.addr2line_lines.specs.References.{Scope, in_scope}
 
 -- names of functions, inlined entries and ranges, and of entries that are referred to what is
 -- known: their names or faults
@@ -24,6 +25,11 @@ pub record CachedDetails : Type 0 where
   pub names : List (Option Section)
   pub found : FoundInlined
   pub known : KnownNames
+
+-- nothing is cached yet, of the unit of a scope
+abbrev pub no_details : Scope → UnitRecord → CachedDetails
+no_details scope u =
+    record { names = []; found = none_inlined; known = no_names (Some (in_scope scope u)) }
 
 -- what is cached
 abbrev pub as_details : {R : Type 0} → (R → Section) → Details R → CachedDetails

@@ -1,15 +1,15 @@
 //! The cached details of the functions of a view, one after another.
 
 ghost use Rattle.std.specs.List.{AllByRecursion};
-ghost use Rattle.std.specs.Prelude.{◌≡◌, ◌<◌, [], IfErr, IfOk, OnErr, Ok, length, map, option_map, slice_get, Some};
+ghost use Rattle.std.specs.Prelude.{◌≡◌, ◌<◌, IfErr, IfOk, Ok, OnErr, length, map, option_map, slice_get};
 ghost use Rattle.addr2line_lines.specs.Common.{ExactlyUnlessOomIf, ExactlyAtCost};
 ghost use Rattle.addr2line_lines.specs.CostedSteps.{on_parts};
 ghost use Rattle.addr2line_lines.specs.Details.{stored_detail_at};
-ghost use Rattle.addr2line_lines.specs.FoundInlined.{entry_among, none_inlined};
-ghost use Rattle.addr2line_lines.specs.CachedNames.{AreNamesIn, no_names};
-ghost use Rattle.addr2line_lines.specs.CachedDetails.{AreDetailsMore, IsDetailPlace, IsNextPlace, IsRefusedThen, cached_chain, detail_of, as_details};
+ghost use Rattle.addr2line_lines.specs.FoundInlined.{entry_among};
+ghost use Rattle.addr2line_lines.specs.CachedNames.{AreNamesIn};
+ghost use Rattle.addr2line_lines.specs.CachedDetails.{AreDetailsMore, IsDetailPlace, IsNextPlace, IsRefusedThen, cached_chain, detail_of, no_details, as_details};
 ghost use Rattle.addr2line_lines.specs.InlineRoom.{exceeds_inline_room};
-ghost use Rattle.addr2line_lines.specs.References.{IsScope, in_scope};
+ghost use Rattle.addr2line_lines.specs.References.{IsScope};
 ghost use Rattle.addr2line_lines.specs.LentInlined.{as_inlined};
 ghost use Rattle.addr2line_lines.specs.Scopes.{as_scope};
 
@@ -59,11 +59,7 @@ pub(crate) struct Details<R: Reader> {
 impl<R: Reader> Details<R> {
     /// Those of no function of a unit. Takes no memory.
     pub(crate) fn new(alloc: Global, scope: Scope<'_, R>, unit: &Unit<R>) -> Details<R>
-        ensures gives { as_details R.section result ≡ record {
-          names = [];
-          found = none_inlined;
-          known = no_names (Some (in_scope (as_scope scope.entry) unit.now));
-        } }
+        ensures gives { as_details R.section result ≡ no_details (as_scope scope.entry) unit.now }
     {
         Details {
             names: Vec::new(alloc),

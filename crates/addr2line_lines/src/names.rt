@@ -247,7 +247,8 @@ impl<R: Reader> Model for UnitNames<R> {
       names = as_names R.section n.cached;
     } };
 
-    ghost invariant = { λ n. AreNamesOf (snapshot_unit n.unit.value) (as_names R.section n.cached) };
+    ghost invariant = { λ n.
+        AreNamesOf (snapshot_unit n.unit.value) (as_names R.section n.cached) };
 }
 
 impl<R: Reader> UnitNames<R> {

@@ -39,8 +39,8 @@ unit_of looked.Nothing = None
 unit_of (looked.Unit sources dw_unit) =
     Some (in_scope (scope_of sources.value) dw_unit.value)
 
--- what is cached of a unit: its lines with its language, its entries, and the unit that was looked at
--- for these
+-- what is cached of a unit: its lines with its language, its entries, and the unit that was looked
+-- at for these
 pub record CachedUnit (R : Type 0) : Type 0 where
   pub lines : LinesCache
   pub entries : EntriesCache R

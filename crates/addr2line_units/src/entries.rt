@@ -132,7 +132,11 @@ impl<R: Reader> Model for UnitCache<R> {
 
     ghost Value = { CachedUnit R };
 
-    ghost view = { λ c. record { lines = c.lines; entries = c.entries; unit = unit_of c.unit.value } };
+    ghost view = { λ c. record {
+      lines = c.lines;
+      entries = c.entries;
+      unit = unit_of c.unit.value;
+    } };
 
     ghost invariant = { λ c. AreOwnEntries (unit_of c.unit.value) c.entries };
 }

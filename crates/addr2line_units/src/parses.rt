@@ -104,8 +104,8 @@ impl<R: Reader> UnitCache<R> {
 }
 
 impl<R: Reader> Units<R> {
-    // Reads the functions of the unit of a number, as `UnitCache::read_functions` does; nothing where
-    // there is no such unit. No lookup is stored any more.
+    // Reads the functions of the unit of a number, as `UnitCache::read_functions` does; nothing
+    // where there is no such unit. No lookup is stored any more.
     fn read_functions_in(&mut self, number: usize, depth: ReadingDepth) -> Result<(), Error>
         ensures gives { IsUnlessOom result (read_of_number depth self.old.scope
             self.old.scope.file.units self.old.answers number) }

@@ -19,14 +19,14 @@ use Rattle.addr2line_lines.specs.InlinedEntries.{InlinedEntry}
 use Rattle.addr2line_lines.specs.InlinedOrder.{inlined_sooner, inlined_place}
 use Rattle.addr2line_lines.specs.References.{Scope, in_scope}
 
--- names of functions, inlined entries and ranges, and of entries that are referred to what is
--- known: their names or faults
+-- the names of functions, the inlined entries with their ranges, and the names of entries that are
+-- referred to, or their faults
 pub record CachedDetails : Type 0 where
   pub names : List (Option Section)
   pub found : FoundInlined
   pub known : KnownNames
 
--- nothing is cached yet, of the unit of a scope
+-- nothing is cached yet of a unit whose references lead where a scope says
 abbrev pub no_details : Scope → UnitRecord → CachedDetails
 no_details scope u =
     record { names = []; found = none_inlined; known = no_names (Some (in_scope scope u)) }

@@ -42,7 +42,7 @@ as_cached_name see (cached.Faulty offset error) =
 abbrev pub as_names : {R : Type 0} → (R → Section) → NameCache R → List CachedName
 as_names see c = map (as_cached_name see) c.names.items
 
--- the name, or the fault, is that which a reference to the entry gives
+-- the name, or the fault, is that which a reference to the entry gives in a unit
 abbrev pub IsNameOf : UnitInScope → CachedName → Type 0
 IsNameOf x n = referred_name x.scope x.unit (values.UnitRef n.offset) ≡ n.name
 
@@ -55,20 +55,20 @@ pub record KnownNames : Type 0 where
   pub unit : Option UnitInScope
   pub names : List CachedName
 
--- none is cached
+-- none is cached yet
 abbrev pub no_names : Option UnitInScope → KnownNames
 no_names unit = record { unit = unit; names = [] }
 
--- the unit is that of a scope
+-- the names are those of a unit whose references lead where a scope says
 abbrev pub AreNamesIn : Scope → UnitRecord → KnownNames → Type 0
 AreNamesIn scope u known = known.unit ≡ Some (in_scope scope u)
 
--- the names that were cached stay, with more at their end
+-- the names that were cached stay, with more at their end, and are of the same unit
 pub record AreNamesMore (old new : KnownNames) : Type 0 where
   pub unit : new.unit ≡ old.unit
   pub grown : IsGrown old.names new.names
 
--- the same of the unit of a scope, where the units that references lead to are in order
+-- the same of a unit whose references lead where a scope says, to units in order
 pub record GrowNames (scope : Scope) (u : UnitRecord) (old new : KnownNames) : Type 0 where
   pub in_order : IsScope scope
   pub unit : AreNamesIn scope u old

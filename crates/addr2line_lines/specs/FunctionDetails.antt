@@ -39,8 +39,8 @@ IsReadOnce scope u n f (Some detail) old result new = (result ≡ fault_of detai
 IsReadOnce scope u n f None old result new =
     IsCachedThen n f (detail_at scope u f.offset) old result new
 
--- whether the detail of a function can be read, by what is cached of it or by its entries; memory
--- may be taken where nothing is cached of it
+-- whether the detail of a function can be read, by what is cached of it or by its entries; where
+-- nothing is cached of it, memory may be taken as its entries say
 abbrev pub read_once : Scope → UnitRecord → Option CachedFunction → Costed (Unit {0})
 read_once scope u None = free (Ok tt)
 read_once scope u (Some f) = record {

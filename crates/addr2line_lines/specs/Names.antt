@@ -1,9 +1,10 @@
 -- The names of functions and inlined entries (DWARF 5, sections 2.13.2, 2.15, 2.22 and 3.3.8).
--- Own: a string that can't be read gives no name. The last linkage name of an entry's own counts,
--- else the first attribute that gives a name, by itself or by the entry that it refers to.
+-- Own: a string that can't be read gives no name. The last linkage name of an entry's own that can
+-- be read counts, else the first attribute that gives a name, by itself or by the entry that it
+-- refers to.
 -- Own: of an entry that is referred to, the first linkage name that can be read counts and ends its
--- reading, else the last name, else the entry that its last reference names; at most 16 such
--- entries are visited.
+-- reading, else the last name that can be read, else the entry that its last reference names; at
+-- most 16 such entries are visited.
 use Rattle.std.specs.Prelude.{ℕ, zero, suc, ◌==◌, ◌||◌, Bool, List, [], ◌∷◌, Option, Some, None, Result, Ok, Err, if◌then◌else◌}
 use Rattle.std.specs.Option.{option_or}
 use Rattle.std.specs.Result.{result_ok}
@@ -72,7 +73,8 @@ visited place = do
 abbrev pub most_visited : ℕ
 most_visited = 16
 
--- the name by the entry that a value refers to, and at most n - 1 more
+-- the name by the entry that a value refers to and those that it leads to, at most n together; none
+-- where n is 0
 unfoldable pub name_within : ℕ → Scope → UnitRecord → AttributeValue Section
     → Result (Option Section) Error
 name_within zero scope u value = Ok None

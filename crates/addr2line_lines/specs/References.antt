@@ -1,9 +1,10 @@
 -- References to entries (DWARF 5, sections 7.3.6 and 7.5.5: in the same unit, in .debug_info, in
 -- that of the supplementary file).
--- Own: a section offset leads to the unit among whose entries it lies. In a split file none does,
--- and in the supplementary file those of this file. Without a supplementary file, and from it on, a
--- reference to one leads nowhere. Nor does one by the signature of a type (DW_FORM_ref_sig8) lead
--- anywhere, nor a value that is no reference.
+-- Own: a section offset leads to the unit among whose entries it lies, and is refused where there
+-- is none, so always in a split file; in the supplementary file it leads to units of that file.
+-- Without a supplementary file, and in that file itself, a reference to one leads nowhere. Nor does
+-- one by the signature of a type (DW_FORM_ref_sig8) lead anywhere, nor a value that is no
+-- reference.
 use Rattle.std.specs.Prelude.{ℕ, ◌+◌, ◌≤◌, List, [], ◌∷◌, Option, Some, None, Result, Ok, Err}
 use Rattle.std.specs.List.{All}
 use Rattle.addr2line_lines.specs.Common.{Error, NoEntryAtGivenOffset, AttributeValue, Section, Sections, UnitRecord}
@@ -26,7 +27,7 @@ pub record UnitInScope : Type 0 where
   pub scope : Scope
   pub unit : UnitRecord
 
--- the unit of a scope
+-- a unit whose references lead where a scope says
 abbrev pub in_scope : Scope → UnitRecord → UnitInScope
 in_scope scope u = record { scope = scope; unit = u }
 

@@ -238,7 +238,7 @@ impl<R: Reader> Model for Functions<R> {
 impl<R: Reader> Functions<R> {
     /// The functions of a unit: its subprogram entries, at any depth, whose range attributes give a
     /// range, each once, in their order. No detail is read. `scope` says where references of the
-    /// unit lead, whose names are cached with the details.
+    /// unit lead: details and the names that they lead to are read later, of this unit alone.
     ///
     /// All entries of the unit are read. Refused by the first fault of an entry, of its range
     /// attributes or of its range list; may fail with `OutOfMemory` instead, only where a function
@@ -288,15 +288,14 @@ impl<R: Reader> Functions<R> {
     /// Reads the detail of the function of a place, unless it is cached: its name, and the inlined
     /// functions inside it, without those of nested subprograms. It is cached then, its fault too.
     ///
-    /// `unit` is the unit of the functions, and `scope` says where its references lead. The names
-    /// that references in the unit give may be cached too, and their faults. Refused as the first
-    /// fault of an entry up to the end of the function, of a reference that a name follows, of
-    /// range attributes or of a range list; `UnexpectedEof` where closing entries are missing. May
-    /// fail with `OutOfMemory` instead, which is not cached: where a reader's parts share its
-    /// bytes, where nothing is refused, or where the function's own entry has no fault and, before
-    /// any fault, an inlined entry gives a range or an entry has children. Past the last function
-    /// nothing is read. Takes no memory where the detail or its fault is cached. Source: DWARF 5,
-    /// section 3.3.8.
+    /// `unit` and `scope` are those of `parse`. The names that references in the unit give may be
+    /// cached too, and their faults. Refused as the first fault of an entry up to the end of the
+    /// function, of a reference that a name follows, of range attributes or of a range list;
+    /// `UnexpectedEof` where closing entries are missing. May fail with `OutOfMemory` instead,
+    /// which is not cached: where a reader's parts share its bytes, where nothing is refused, or
+    /// where the function's own entry has no fault and, before any fault, an inlined entry gives a
+    /// range or an entry has children. Past the last function nothing is read. Takes no memory
+    /// where the detail or its fault is cached. Source: DWARF 5, section 3.3.8.
     pub fn read(&mut self, scope: Scope<'_, R>, unit: &Unit<R>, place: usize) -> Result<(), Error>
         requires in_order { IsScope (as_scope scope) }
         requires unit { AreNamesIn (as_scope scope) unit.now self.old.names }
@@ -321,11 +320,11 @@ impl<R: Reader> Functions<R> {
     /// first fault. What was cached stays cached; the details up to the first fault are cached
     /// then, and that fault too.
     ///
-    /// `unit` is the unit of the functions, and `scope` says where its references lead. Refused by
-    /// the first fault of a detail; may fail with `OutOfMemory` instead, which is not cached, only
-    /// where `read` may for a function, and no detail of a function before it has a fault. Takes no
-    /// memory, and changes nothing, where the details up to the first fault are cached, and that
-    /// fault. Source: DWARF 5, section 3.3.8.
+    /// `unit` and `scope` are those of `parse`. Refused by the first fault of a detail; may fail
+    /// with `OutOfMemory` instead, which is not cached, only where `read` may for a function, and
+    /// no detail of a function before it has a fault. Takes no memory, and changes nothing, where
+    /// the details up to the first fault are cached, and that fault. Source: DWARF 5, section
+    /// 3.3.8.
     pub fn read_all(&mut self, scope: Scope<'_, R>, unit: &Unit<R>) -> Result<(), Error>
         requires in_order { IsScope (as_scope scope) }
         requires unit { AreNamesIn (as_scope scope) unit.now self.old.names }
@@ -391,7 +390,7 @@ impl<R: Reader> Functions<R> {
     }
 
     /// The places of the inlined functions at `probe` of the function of a place, from the outside
-    /// in: of those of depth 0, 1 and so on, up to the first depth without one. None where the
+    /// in: of those of depth 0, 1 and so on, up to the first depth without one. Empty where the
     /// detail has a fault or isn't read.
     ///
     /// Refused `OutOfMemory` alone, and only where there are more than 16. Source: Own.

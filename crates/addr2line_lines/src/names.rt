@@ -21,11 +21,11 @@ const FEWEST_SLOTS: usize = 64;
 // How many slots are looked at for one entry.
 const MOST_STEPS: usize = 8;
 
-// A slot of no name: no list is so long that a name has this place.
+// A slot of no name. Were a name to have this place, it would be looked up again.
 const NO_PLACE: u32 = u32::MAX;
 
 // The name that an entry gives, or its fault, beside where the entry begins, in bytes from the
-// start of the unit's length. So each takes sixteen bytes; an entry further on has none.
+// start of the unit's length. So each takes sixteen bytes; an entry past 4 GB of its unit has none.
 #[derive(Drop)]
 enum CachedName<R: Reader> {
     Named { offset: u32, name: Rc<Option<R>> },
@@ -179,7 +179,7 @@ impl<R: Reader> NameCache<R> {
     }
 
     // Adds the name of an entry that others share, or nothing where it can't be shared once more,
-    // or the entry begins too far on.
+    // or the entry begins past 4 GB.
     fn push_shared(&mut self, offset: UnitOffset, name: &Rc<Option<R>>)
         ensures after { IsOneMoreAtMost
             (name_at_offset offset (Ok (option_map R.section name.now.value)))
@@ -194,8 +194,8 @@ impl<R: Reader> NameCache<R> {
         }
     }
 
-    /// Adds the name of an entry, or nothing where memory is refused or the entry begins too far
-    /// on, and gives it back.
+    /// Adds the name of an entry, or nothing where memory is refused, the name can't be shared once
+    /// more or the entry begins past 4 GB, and gives it back.
     pub(crate) fn add(&mut self, offset: UnitOffset, name: Option<R>) -> FoundName<R>
         ensures gives { found_name R.section result ≡ option_map R.section name }
         ensures after { IsOneMoreAtMost (name_at_offset offset (Ok (option_map R.section name)))
@@ -211,7 +211,7 @@ impl<R: Reader> NameCache<R> {
     }
 
     /// Adds the fault of an entry's name, or nothing where memory is refused or the entry begins
-    /// too far on.
+    /// past 4 GB.
     pub(crate) fn add_fault(&mut self, offset: UnitOffset, error: Error)
         ensures after { IsOneMoreAtMost (name_at_offset offset (Err error))
             (as_names R.section self.old) (as_names R.section self.new) }

@@ -1,7 +1,6 @@
 -- What calls leave of what is cached of one unit, as the private functions see it (DWARF 5,
 -- sections 3.1.2, 3.3, 6.2 and 7.3.2).
--- Own: what is cached stays, until the unit is forgotten, and nothing is read that isn't asked for.
--- OutOfMemory is never cached.
+-- Own: what is cached stays, until the unit is forgotten. OutOfMemory is never cached.
 use Rattle.std.specs.Prelude.{◌≡◌, ◌+◌, ◌<◌, ◌≤◌, ℕ, Bool, true, false, List, Option, None, Some, Result, Ok, Err, IfOk, IfErr, IfSome, OnOk, is_some, if◌then◌else◌, ◌⊎◌}
 use Rattle.addr2line_units.specs.Common.{Error, OutOfMemory, WasNotRefused, Sections, UnitRecord, Scope, functions_of, functions_take_memory, ExactlyUnlessOom}
 use Rattle.addr2line_lines.specs.FunctionDetails.{AreUnread}
@@ -40,7 +39,8 @@ pub record AfterLinesOf {X : Type 0} (shares : Bool) (d : Sections) (u : UnitRec
 abbrev pub WasLookedAt : {R : Type 0} → Scope → UnitRecord → CachedUnit R → Type 0
 WasLookedAt scope u c = c.unit ≡ Some (record { scope = scope; unit = u })
 
--- after a call on the entries of a unit, which leaves of them what it leaves: the unit was looked at
+-- after a call on the entries of a unit: the unit was looked at, its lines are as they were, and of
+-- its entries is left what the relation says
 pub record AfterEntries {R : Type 0} (Leaves : EntriesCache R → EntriesCache R → Type 0)
     (scope : Scope) (u : UnitRecord) (old new : CachedUnit R) : Type 0 where
   pub unit : WasLookedAt scope u new
@@ -77,10 +77,10 @@ pub record AfterCachingFunctions {R : Type 0} (shares : Bool) (scope : Scope) (v
   pub kept : were_read old ≡ true → (new ≡ old) × (result ≡ Ok tt)
   pub refused : IfErr result (λ e. IsRefusalOf shares scope view e × (new ≡ old))
 
--- after the function at the probe was looked for in the view of a unit: what is cached stays, and no
--- other detail is read; unless memory was refused the function is known, and where it is, memory is
--- refused for more than 16 inlined functions alone; where the functions take no memory a refusal is
--- the first fault
+-- after the function at the probe was looked for in the view of a unit: what is cached stays, and
+-- no other detail is read; unless memory was refused the function is known, and where it is, memory
+-- is refused for more than 16 inlined functions alone; where the functions take no memory a refusal
+-- is the first fault
 pub record AfterFunctionIn {R : Type 0} (shares : Bool) (scope : Scope) (u : UnitRecord)
     (probe : ℕ) (result : Result (Option FunctionPlace) Error) (old new : EntriesCache R)
     : Type 0 where
@@ -125,11 +125,11 @@ pub record AfterCheck {R : Type 0} (d : Sections) (u : UnitRecord) (old new : En
   pub view : AfterViewCheck d u old.view new.view
   pub functions : new.functions ≡ old.functions
 
--- after the frames at the probe were looked for: the unit was looked at; its lines are as they were,
--- or were read of it now; what is cached stays; no other detail is read, and lines only where
--- they are asked for; unless memory was refused all that is asked for is known, and where it is, and
--- the lines' fault isn't OutOfMemory, memory is refused for more than 16 inlined functions alone;
--- where nothing of it takes memory either, a refusal is the first fault
+-- after the frames at the probe were looked for: the unit was looked at; its lines are as they
+-- were, or were read of it now; what is cached stays; no other detail is read, and lines only where
+-- they are asked for; unless memory was refused all that is asked for is known, and where it is,
+-- and the lines' fault isn't OutOfMemory, memory is refused for more than 16 inlined functions
+-- alone; where nothing of it takes memory either, a refusal is the first fault
 pub record AfterFramesIn {R : Type 0} (shares : Bool) (scope : Scope) (u : UnitRecord) (probe : ℕ)
     (result : Result UnitFrames Error) (old new : CachedUnit R) : Type 0 where
   pub unit : WasLookedAt scope u new
@@ -181,8 +181,8 @@ pub record AfterNewLoadIn {R : Type 0} (d : Sections) (number : ℕ) (u : UnitRe
   pub marks_unit : waits new.view.state ≡ true → OnOk result (MarksUnit number marks marked)
   pub none : waits new.view.state ≡ false → (result ≡ Ok None) × (marked ≡ marks)
 
--- after a unit was forgotten: where it had an answer, its functions weren't read; where it had none
--- nothing is changed
+-- after a unit was forgotten: its lines stay; where it had an answer, it waits again, and none of
+-- its functions are read any more; where it had none nothing is changed
 pub record AfterForgettingIn {R : Type 0} (old new : CachedUnit R) : Type 0 where
   pub unit : new.unit ≡ old.unit
   pub lines : new.lines ≡ old.lines

@@ -1,8 +1,6 @@
 -- What is cached of the views of units and of the functions in them, as the private functions see
 -- it.
--- Own: the functions of a view that is known are read when they are first asked for, and cached
--- then, their fault too, until the unit is forgotten; so is each detail. OutOfMemory is never
--- cached.
+-- Own: what a lookup finds is the same by what is cached as by the unit's bytes.
 use Rattle.std.specs.Prelude.{◌≡◌, ℕ, Bool, true, false, List, Option, Some, None, Result, Ok, Err, IfSome, option_map}
 use Rattle.addr2line_units.specs.Common.{Error, Sections, UnitRecord, location_of_row, Scope}
 use Rattle.addr2line_units.specs.declared.entries.LazyFunctions.{LazyFunctions}
@@ -68,8 +66,8 @@ AreRead lines.Absent = Unit {0}
 AreRead (lines.Read table) = Unit {0}
 AreRead _ = ⊥
 
--- the frames at the probe in a unit, by the lines that are cached, or else by what its bytes give of
--- these
+-- the frames at the probe in a unit, by the lines that are cached, or else by what its bytes give
+-- of these
 abbrev pub frames_or : {R : Type 0} → Scope → UnitRecord → ℕ → CachedUnit R → FramesResult
 frames_or scope u probe c = frames_by_lines scope u c.lines.lang
     (lines_or scope.file.sections u c.lines.lines) (first_answer_of c.entries) probe

@@ -1,6 +1,6 @@
 -- What is cached of the functions of a view, as the private functions see it.
 -- Own: functions are read when they are first asked for, and cached then, their fault too; so is
--- each detail. OutOfMemory is never cached. Functions are absent where a view has none.
+-- each detail. OutOfMemory is never cached. Absent are functions only where a view has none.
 use Rattle.std.specs.Prelude.{◌≡◌, ◌≢◌, ◌<◌, ℕ, Bool, true, false, List, [], ◌∷◌, length, map, Option, Some, None, option_map, unwrap_or, Result, Ok, Err, box_value}
 use Rattle.std.specs.List.{AllByRecursion}
 use Rattle.addr2line_units.specs.Common.{Error, OutOfMemory, ◌>>=◌, UnitRecord, AreListed, FunctionTable, cached_detail, cached_name, function_place_at, inlined_of_detail, cached_offset_at, entries_of, functions_of, functions_take_memory, exceeds_inline_room, Scope}
@@ -15,8 +15,7 @@ use Rattle.addr2line_units.specs.declared.entries.LazyFunctions.TheVariants as l
 use Rattle.addr2line_units.specs.Frames.{FoundFunction}
 
 -- functions are those of a view whose references lead where the scope says, what is cached of each
--- is its detail, or the fault of that, and the names that are cached are given by references in the
--- view
+-- is its detail, or the fault of that, and the names that are cached are those of the view
 pub record IsTableOf (scope : Scope) (view : UnitRecord) (t : FunctionTable) : Type 0 where
   pub ranges : functions_of scope.file.sections view ≡ Ok t.ranges
   pub listed : AreListed t

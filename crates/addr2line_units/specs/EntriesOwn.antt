@@ -18,8 +18,8 @@ use Rattle.addr2line_units.specs.UnitViewCached.{IsViewOf, answer_of_view, is_de
 abbrev pub first_answer_of : {R : Type 0} → EntriesCache R → Option (Option Sections)
 first_answer_of v = answer_of_view v.view
 
--- references lead from the unit to units in order; what is cached is the view of the unit and the
--- functions of that view, which are read only where the view is known
+-- references lead from the unit to units in order; what is cached is the view of the unit and,
+-- where that has no fault, the functions of that view; before the unit is decided none are read
 pub record AreEntriesOf {R : Type 0} (scope : Scope) (u : UnitRecord) (v : EntriesCache R)
     : Type 0 where
   pub in_order : IsScope scope

@@ -26,8 +26,9 @@ IsDecidedAndReady depth waits known = (waits ≡ false) × IsReadyFor depth know
 
 -- after the entries of a unit, which may have waited for an answer, were read to a depth: where
 -- that gave no fault all of them are read; unless memory was refused the unit isn't open and all is
--- known that is read of it, and where that is so, none was refused; where it was so before, the
--- result is that of the reading, and no more is known
+-- known that is read of it, and where that is so, none was refused; where all was read before,
+-- there is no fault, and where all was known that is read of it, the result is that of the reading,
+-- and no more is known
 pub record AfterReadingOf (depth : ReadingDepth) (reading result : Result (Unit {0}) Error)
     (waited : Bool) (old : KnownEntries) (waits : Bool) (new : KnownEntries) : Type 0 where
   pub read : OnOk result (IsReadBy depth new)
@@ -37,10 +38,10 @@ pub record AfterReadingOf (depth : ReadingDepth) (reading result : Result (Unit 
   pub exact : IsDecidedAndReady depth waited old → result ≡ reading
   pub same : IsDecidedAndReady depth waited old → new ≡ old
 
--- after the functions in the view of a unit that is decided were read, over readers that share their
--- bytes or don't: what is cached stays, and where all that is read was cached nothing is changed; no
--- detail is read where functions alone are; where functions take no memory, a refusal is their first
--- fault
+-- after the functions in the view of a unit that is decided were read, over readers that share
+-- their bytes or don't: what is cached stays, and where all was known that is read no more is; no
+-- detail is read where functions alone are; where functions take no memory, a refusal is their
+-- first fault
 pub record AfterReadingView {R : Type 0} (shares : Bool) (depth : ReadingDepth) (scope : Scope)
     (u : UnitRecord) (result : Result (Unit {0}) Error) (old new : EntriesCache R) : Type 0 where
   pub view : new.view ≡ old.view
@@ -55,7 +56,7 @@ pub record AfterReadingView {R : Type 0} (shares : Bool) (depth : ReadingDepth) 
       (verdict scope.file.sections u (first_answer_of old)) ≡ Err e)
 
 -- the same of a unit, which is decided by none first where it is open; where memory was refused, it
--- may be
+-- may be; what is cached of a unit that was decided stays
 pub record AfterReadingUnit {R : Type 0} (shares : Bool) (depth : ReadingDepth)
     (scope : Scope) (u : UnitRecord) (result : Result (Unit {0}) Error)
     (old new : EntriesCache R) : Type 0 where

@@ -1,7 +1,7 @@
 -- The lines of units as a context caches them, as the private functions see them.
 -- Own: lines are read when they are first asked for, and cached then, their fault too. OutOfMemory
--- is never cached. Lines are absent where the unit has no rows and no files, as where it has no
--- line program.
+-- is never cached. Absent are lines only where the unit has no rows and no files, as where it has
+-- no line program.
 use Rattle.std.specs.Prelude.{◌≡◌, ◌≢◌, ℕ, Bool, true, false, not, List, [], ◌∷◌, map, Option, Some, None, slice_get, Result, Ok, Err, box_value}
 use Rattle.std.specs.List.{AllZip}
 use Rattle.addr2line_units.specs.Common.{Error, OutOfMemory, Range, ◌>>=◌, fault_of, Sections, UnitRecord, LocatedSpan, location_at, locations_in_range, sequence_ranges, unit_lines}

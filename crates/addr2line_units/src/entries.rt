@@ -193,7 +193,7 @@ impl<R: Reader> UnitCache<R> {
     // The entries are those of the unit that was looked at: a caller that has the cache in a list
     // doesn't know it by itself. It does nothing.
     pub(crate) fn is_own(&self)
-        ensures right { AreOwnEntries self.now.unit self.now.entries }
+        ensures known { AreOwnEntries self.now.unit self.now.entries }
     {
         let _ = &self.entries;
     }

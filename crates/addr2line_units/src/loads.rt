@@ -24,7 +24,7 @@ use std::alloc::Global;
 use std::rc::Rc;
 
 impl<R: Reader> EntriesCache<R> {
-    // The fault of the unit's view, which is decided, if it has one. Takes no memory.
+    // The fault of the unit's view, if it has one, where the unit is decided. Takes no memory.
     fn check_view(&self, dwarf: &Dwarf<R>, dw_unit: &Unit<R>) -> Result<(), Error>
         ensures gives { IfSome (verdict_in dwarf.now dw_unit.now self.now.view.state) (λ known.
             IfSome known (λ view. result ≡ fault_of view)) }

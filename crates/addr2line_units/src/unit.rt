@@ -525,8 +525,8 @@ impl<R: Reader> UnitView<R> {
         matches!(self.state, ViewState::Answered(_))
     }
 
-    // Decides the unit by an answer. Refused `OutOfMemory` alone, and only
-    // where it has sections; then nothing is changed.
+    // Decides the unit by an answer. Refused `OutOfMemory` alone, and only where it has sections;
+    // then nothing is changed.
     pub(crate) fn decide(
         &mut self,
         alloc: Global,

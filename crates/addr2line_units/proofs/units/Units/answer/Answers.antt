@@ -23,7 +23,7 @@ pub invariant_of-self-2 : goal.invariant_of-self-2
 invariant_of-self-2 g c =
     let there = unit_got c.scope-scope.ensures.gives c.as_slice.ensures.gives c.args.number c.in-Some.ensures.lookup.0 c.in-Some.ensures.lookup.1 in
     let after = c.answer-answered.ensures.after in
-    units_after c.self.invariant c.args.number there c.index_mut-cache.ensures.value c.answer-answered.new.self after.lines after.unit c.is_own.ensures.right
+    units_after c.self.invariant c.args.number there c.index_mut-cache.ensures.value c.answer-answered.new.self after.lines after.unit c.is_own.ensures.known
 
 pub returns : goal.returns
 returns g c =

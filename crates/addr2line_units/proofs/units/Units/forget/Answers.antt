@@ -10,7 +10,7 @@ invariant_of-self-2 g c =
     let n = c.args.token.number in
     let unit = some_at s.sources.units.items n (subst (λ m. n < m) c.len.ensures.gives.records c.if-token-len.false) in
     let at = c.index_mut-cache.ensures.value in
-    units_forgotten c.self.invariant n unit.1 at _ c.forget.ensures.after.lines c.forget.ensures.after.unit c.is_own.ensures.right
+    units_forgotten c.self.invariant n unit.1 at _ c.forget.ensures.after.lines c.forget.ensures.after.unit c.is_own.ensures.known
 
 pub returns-clause-gives : goal.returns-clause-gives
 returns-clause-gives g c =

@@ -6,7 +6,8 @@ use Rattle.std.specs.declared.alloc.Global.{Global}
 use Rattle.addr2line_units.specs.declared.entries.LazyFunctions.TheVariants as functions
 use Rattle.addr2line_units.specs.declared.unit.LazyLines.TheVariants as lines
 use Rattle.addr2line_units.specs.declared.unit.ViewState.TheVariants as states
-use Rattle.addr2line_units.specs.EntriesEmpty.{HasNothingAt, has_no_functions, has_no_lines, has_nothing, has_view}
+use Rattle.addr2line_units.specs.EntriesEmpty.{HasNothingAt, has_no_functions, has_no_lines, has_nothing}
+use Rattle.addr2line_units.specs.UnitViewCached.{has_view}
 use Rattle.addr2line_units.proofs.EntriesFunctionLemmas.{function_is}
 use Rattle.addr2line_units.proofs.EntriesKnownLemmas.{known_is}
 use Rattle.addr2line_units.proofs.FramesNumberedLemmas.{frames_are, known_then}

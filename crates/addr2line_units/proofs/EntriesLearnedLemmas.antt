@@ -11,6 +11,7 @@ use Rattle.addr2line_units.proofs.EntriesFunctionLemmas.{first_same, unread_at}
 use Rattle.addr2line_units.proofs.EntriesKnownLemmas.{known_unchanged}
 use Rattle.addr2line_units.proofs.EntriesKnownTableLemmas.{detail_known, find_known}
 use Rattle.addr2line_units.proofs.Facts.{got_set, never, others_stay}
+use Rattle.addr2line_units.proofs.EntriesLemmas.{undecided_view}
 
 -- the place of the first function whose entry begins at an offset
 abbrev first_at : ℕ → FunctionTable → ℕ
@@ -153,7 +154,7 @@ module _ {R : Type 0} (scope : Scope) (u : UnitRecord) (probe offset : ℕ) (v w
 
       was_known : knows_detail offset (known_functions v.functions) ≡ true → knows_detail offset (known_by v.view.state v.functions) ≡ true
       was_known h =
-          let decided = decided_if_read (is_decided v.view.state) (were_read v.functions) before.unread (are_read offset v.functions h) in
+          let decided = decided_if_read (is_decided v.view.state) (were_read v.functions) (λ e. before.unread (undecided_view v.view.state e)) (are_read offset v.functions h) in
           let same = stay.view (decided_was_checked v.view.state decided) in
           same_known offset v.view.state v.functions w.functions (ap (λ y. knows_detail offset (known_by y.state w.functions)) (sym same) ∙ e) ∙ h
 
@@ -188,7 +189,7 @@ decided_or_unread scope u v w before functions same = by (is_decided v.view.stat
   where
     by : (b : Bool) → is_decided v.view.state ≡ b → UnitLearnsNone v w
     by true e = inl (same e)
-    by false e = inr (unread_has_none w.view.state w.functions (ap were_read functions ∙ before.unread e))
+    by false e = inr (unread_has_none w.view.state w.functions (ap were_read functions ∙ before.unread (undecided_view v.view.state e)))
 
 -- a unit that was answered, by which nothing is changed of its functions
 pub answered_learns : {R : Type 0} (scope : Scope) (u : UnitRecord) (v w : EntriesCache R) → AreEntriesOf scope u v → w.functions ≡ v.functions → (is_decided v.view.state ≡ true → w ≡ v) → UnitLearnsNone v w

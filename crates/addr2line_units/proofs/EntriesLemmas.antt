@@ -1,7 +1,8 @@
 -- What is cached of the entries of a unit (on specs/EntriesCached.antt and specs/EntriesFrames.antt).
 use Rattle.addr2line_units.proofs.Common.{◌≡◌, ◌∙◌, ℕ, ap, sym, refl, subst, Bool, true, false, Option, Some, IfOk, IfSome, is_none, Result, Ok, Err, Error, ◌>>=◌, ExactlyUnlessOom, ExactlyUnlessOomIf, Sections, UnitRecord, functions_take_memory, exceeds_inline_room, Scope, table_same, LazyFunctions, EntriesCache, UnitView, ViewState, functions_in_take_memory, view_takes_memory, function_at, AreEntriesOf, has_answered, has_entries_by, first_answer_of, AreFunctionsOf, StayFunctions, cached_has_function, is_cached_fault, were_read, is_decided, parts_or_fault, as_sections, unboxed, verdict_in, view_by, waits, was_checked, function_by, function_in, inlined_of_unit, inlined_of_found, View, is_open, parts_of, verdict, view_scope}
-use Rattle.std.specs.Prelude.{Box}
+use Rattle.std.specs.Prelude.{Box, is_ok}
 use Rattle.addr2line_units.specs.CacheAfter.{AfterCheck}
+use Rattle.addr2line_units.specs.UnitViewCached.{has_view}
 use Rattle.addr2line_units.proofs.KeptEntries.{KeepsChecked}
 use Rattle.addr2line_units.proofs.UnitViewLemmas.{checked_is_right}
 use Rattle.std.specs.declared.alloc.Global.{Global}
@@ -21,6 +22,14 @@ undecided states.Open h = cc
 undecided states.Main h = cc
 undecided (states.Unnamed e) h = cc
 undecided (states.Answered a) h = cc
+
+-- one that isn't decided has no view
+pub undecided_view : {R : Type 0} (s : ViewState R) → is_decided s ≡ false → has_view s ≡ false
+undecided_view states.Undecided h = refl
+undecided_view states.Open h = refl
+undecided_view states.Main h = absurd cc
+undecided_view (states.Unnamed e) h = refl
+undecided_view (states.Answered a) h = absurd cc
 
 -- a unit that was looked at and doesn't wait is decided
 pub checked_decides : {R : Type 0} (s : ViewState R) → was_checked s ≡ true → waits s ≡ false → is_decided s ≡ true
@@ -53,9 +62,9 @@ keeps_checked {R} scope u old new h a = checked_keeps scope u old new (record {
   unread = λ waiting. ap were_read a.functions ∙ by_check (was_checked old.view.state) refl waiting;
 }) a
   where
-    by_check : (b : Bool) → was_checked old.view.state ≡ b → is_decided new.view.state ≡ false → were_read old.functions ≡ false
-    by_check true e waiting = h.unread (ap (λ (v : UnitView R). is_decided v.state) (sym (a.view.kept e)) ∙ waiting)
-    by_check false e waiting = h.unread (undecided old.view.state e)
+    by_check : (b : Bool) → was_checked old.view.state ≡ b → has_view new.view.state ≡ false → were_read old.functions ≡ false
+    by_check true e waiting = h.unread (ap (λ (v : UnitView R). has_view v.state) (sym (a.view.kept e)) ∙ waiting)
+    by_check false e waiting = h.unread (undecided_view old.view.state (undecided old.view.state e))
 
 -- memory may be taken at any time
 pub exactly_unless_oom : {X Y : Type 0} (may : Bool) (see : X → Y) (r : Result X Error) (given : Result Y Error) → ExactlyUnlessOomIf may see r given → ExactlyUnlessOom see r given
@@ -123,6 +132,18 @@ module _ {R : Type 0} (scope : Scope) (u : UnitRecord) (probe : ℕ) (old : Entr
           by_unit (Err y) k = let same : y ≡ x = cc in ap is_cached_fault same
 
   module _ (inner : Scope) (unit : UnitRecord) (v : IsView inner unit) where
+    -- so it is known, and has no fault
+    has_a_view : (s : ViewState R) → is_decided s ≡ true → IfSome (verdict_in scope.file.sections u s) (λ cached. cached ≡ here) → has_view s ≡ true
+    has_a_view states.Undecided d e = cc
+    has_a_view states.Open d e = cc
+    has_a_view states.Main d e = refl
+    has_a_view (states.Unnamed x) d e = let no : ◌≡◌ {A = Option (Result View Error)} (Some (Err x)) (Some (Ok v.view)) = e ∙ v.is in absurd cc
+    has_a_view (states.Answered a) d e = by_unit a.unit (e ∙ v.is)
+      where
+        by_unit : (r : Result (Option (Box UnitRecord Global)) Error) → Some (unboxed r >>= λ y. Ok (view_by scope.file.sections u (as_sections a) y)) ≡ Some (Ok v.view) → is_ok r ≡ true
+        by_unit (Ok y) k = refl
+        by_unit (Err y) k = absurd cc
+
     moved : (P : Scope → UnitRecord → Type 0) → P (view_scope scope v.view) v.view.unit → P inner unit
     moved P p = subst (λ s. P s unit) (sym v.leads) (subst (λ y. P (view_scope scope v.view) y) v.unit p)
 
@@ -150,7 +171,7 @@ module _ {R : Type 0} (scope : Scope) (u : UnitRecord) (probe : ℕ) (old : Entr
       view = h.view;
       functions = subst (λ w. IfSome w (λ r. IfOk r (λ x. AreFunctionsOf (view_scope scope x) x.unit new))) (sym v.is)
           (subst (λ s. AreFunctionsOf s v.view.unit new) v.leads (subst (λ y. AreFunctionsOf inner y new) (sym v.unit) right));
-      unread = λ waiting. (let no : true ≡ false = sym decided ∙ waiting in absurd cc);
+      unread = λ none. (let no : true ≡ false = sym (has_a_view old.view.state decided h.view.right) ∙ none in absurd cc);
     }
 
     -- what is known of the unit is what is known of the function

@@ -7,7 +7,7 @@ use Rattle.addr2line_units.specs.CacheAfter.{AfterAnswerIn, AfterForgettingIn, A
 use Rattle.addr2line_units.proofs.KeptEntries.{KeepsAnswered, KeepsChecked, KeepsForgotten}
 use Rattle.addr2line_units.specs.LoadsMemory.{answer_takes_memory}
 use Rattle.addr2line_units.specs.UnitView.{answered_view}
-use Rattle.addr2line_units.proofs.EntriesLemmas.{checked_decides, keeps_checked}
+use Rattle.addr2line_units.proofs.EntriesLemmas.{checked_decides, keeps_checked, undecided_view}
 use Rattle.addr2line_units.proofs.UnitViewLemmas.{answered_is_right, decided_by_verdict, verdict_of_open, waiting_is_open, waiting_is_right}
 use Rattle.addr2line_units.proofs.UnitsCachedLemmas.{stay_entries_set}
 use Rattle.addr2line_units.proofs.CachedUnits.{StayAllEntries, decided_at}
@@ -104,7 +104,7 @@ module _ {R : Type 0} (shares : Bool) (scope : Scope) (u : UnitRecord) (given : 
 
     decided_after : (view : UnitView R) → IsViewOf scope.file.sections u view → answer_of_view view ≡ Some given → is_decided view.state ≡ true → KeepsAnswered shares scope u given (Ok tt) old (record { view = view; functions = mid.functions })
     decided_after view right answer known = record {
-      right = unread_entries scope u view mid.functions check.right.in_order right (check.right.unread (waiting_is_undecided mid.view.state waiting));
+      right = unread_entries scope u view mid.functions check.right.in_order right (check.right.unread (undecided_view mid.view.state (waiting_is_undecided mid.view.state waiting)));
       answer = answer ∙ sym (decided_if_open scope.file.sections u (first_answer_of old) given was_open);
       known = known;
       refused = tt;

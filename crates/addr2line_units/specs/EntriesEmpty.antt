@@ -1,5 +1,5 @@
 -- Units of which it is known that they have nothing at any address.
-use Rattle.std.specs.Prelude.{◌≡◌, ◌&&◌, ℕ, Bool, true, false, is_ok, Ok}
+use Rattle.std.specs.Prelude.{◌≡◌, ◌&&◌, ℕ, Bool, true, false, Ok}
 use Rattle.addr2line_units.specs.declared.entries.LazyFunctions.{LazyFunctions}
 use Rattle.addr2line_units.specs.declared.entries.LazyFunctions.TheVariants as functions
 use Rattle.addr2line_units.specs.EntriesOwn.{CachedUnit}
@@ -7,17 +7,10 @@ use Rattle.addr2line_units.specs.declared.frames.Asks.TheVariants.{Frames}
 use Rattle.addr2line_units.specs.declared.frames.OnFault.{OnFault}
 use Rattle.addr2line_units.specs.declared.unit.LazyLines.{LazyLines}
 use Rattle.addr2line_units.specs.declared.unit.LazyLines.TheVariants as lines
-use Rattle.addr2line_units.specs.declared.unit.ViewState.{ViewState}
-use Rattle.addr2line_units.specs.declared.unit.ViewState.TheVariants as states
 use Rattle.addr2line_units.specs.UnitsAsked.{stop_at}
 use Rattle.addr2line_units.specs.FramesLookup.{FindsNothing}
+use Rattle.addr2line_units.specs.UnitViewCached.{has_view}
 use Rattle.addr2line_units.specs.UnitsState.{UnitsState, has_all_at}
-
--- whether a view is known, and has no fault
-abbrev pub has_view : {R : Type 0} → ViewState R → Bool
-has_view states.Main = true
-has_view (states.Answered a) = is_ok a.unit
-has_view _ = false
 
 -- whether it is known that a view has no functions
 abbrev pub has_no_functions : {R : Type 0} → LazyFunctions R → Bool

@@ -12,21 +12,21 @@ use Rattle.addr2line_units.specs.declared.unit.LinesCache.{LinesCache}
 use Rattle.addr2line_units.specs.EntriesFunctions.{AreFunctionsOf, were_read}
 use Rattle.addr2line_units.specs.SupScope.{scope_of}
 use Rattle.addr2line_units.specs.UnitView.{verdict, view_scope}
-use Rattle.addr2line_units.specs.UnitViewCached.{IsViewOf, answer_of_view, is_decided, was_checked}
+use Rattle.addr2line_units.specs.UnitViewCached.{IsViewOf, answer_of_view, has_view, was_checked}
 
 -- the first answer of a unit
 abbrev pub first_answer_of : {R : Type 0} → EntriesCache R → Option (Option Sections)
 first_answer_of v = answer_of_view v.view
 
--- references lead from the unit to units in order; what is cached is the view of the unit and,
--- where that has no fault, the functions of that view; before the unit is decided none are read
+-- references lead from the unit to units in order; what is cached is the view of the unit and the
+-- functions of that view, which are read only where it is known and has no fault
 pub record AreEntriesOf {R : Type 0} (scope : Scope) (u : UnitRecord) (v : EntriesCache R)
     : Type 0 where
   pub in_order : IsScope scope
   pub view : IsViewOf scope.file.sections u v.view
   pub functions : IfSome (verdict scope.file.sections u (first_answer_of v)) (λ view.
       IfOk view (λ x. AreFunctionsOf (view_scope scope x) x.unit v.functions))
-  pub unread : is_decided v.view.state ≡ false → were_read v.functions ≡ false
+  pub unread : has_view v.view.state ≡ false → were_read v.functions ≡ false
 
 -- nobody has asked for anything yet
 pub record AreFresh {R : Type 0} (v : EntriesCache R) : Type 0 where

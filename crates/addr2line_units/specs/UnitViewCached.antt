@@ -1,7 +1,7 @@
 -- What is cached of a unit's view, as the private functions see it.
 -- Own: whether a unit needs an answer is cached once it was looked at. Its first answer is stored,
 -- and what it decides is cached, until the unit is forgotten. OutOfMemory is never cached.
-use Rattle.std.specs.Prelude.{◌≡◌, Bool, true, false, is_some, Option, Some, None, option_map, unwrap_or, IfSome, Result, Ok, Err, Box, box_value}
+use Rattle.std.specs.Prelude.{◌≡◌, Bool, true, false, is_ok, is_some, Option, Some, None, option_map, unwrap_or, IfSome, Result, Ok, Err, Box, box_value}
 use Rattle.std.specs.declared.alloc.Global.{Global}
 use Rattle.addr2line_units.specs.Common.{Error, ◌>>=◌, result_map, Sections, UnitRecord}
 use Rattle.gimli.specs.Split.{relocated}
@@ -73,6 +73,12 @@ abbrev pub is_decided : {R : Type 0} → ViewState R → Bool
 is_decided states.Undecided = false
 is_decided states.Open = false
 is_decided _ = true
+
+-- whether a view is known, and has no fault
+abbrev pub has_view : {R : Type 0} → ViewState R → Bool
+has_view states.Main = true
+has_view (states.Answered a) = is_ok a.unit
+has_view _ = false
 
 -- what is cached is what the bytes and the first answer give, and only a unit that waited for it
 -- has a first answer

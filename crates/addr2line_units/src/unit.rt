@@ -11,8 +11,7 @@ ghost use Rattle.addr2line_units.specs.UnitLinesCached.{AreLinesOf, cached_lines
 ghost use Rattle.addr2line_units.specs.CacheAfter.{AfterLinesOf, AfterViewAnswer, AfterViewCheck, AfterViewForgetting, CountsSteps};
 ghost use Rattle.addr2line_units.specs.UnitsIndexed.{as_ranged_unit};
 ghost use Rattle.addr2line_units.specs.LoadsMemory.{answer_takes_memory};
-ghost use Rattle.addr2line_units.specs.UnitViewCached.{answer_in, parts_or_fault, answer_of_view, as_sections, split_file_by, split_file_in, split_unit, unboxed, verdict_in, view_in, waits, was_checked, verdict_or};
-ghost use Rattle.addr2line_units.specs.EntriesEmpty.{has_view};
+ghost use Rattle.addr2line_units.specs.UnitViewCached.{answer_in, has_view, parts_or_fault, answer_of_view, as_sections, split_file_by, split_file_in, split_unit, unboxed, verdict_in, view_in, waits, was_checked, verdict_or};
 ghost use Rattle.addr2line_units.specs.UnitView.{first_unit, first_unit_takes_memory, load_of_unit, parts_of, split_name_of, verdict, view_scope};
 ghost use Rattle.addr2line_units.specs.FramesLookup.{readable_view};
 

@@ -1,31 +1,67 @@
 -- Details that are read one after another (on specs/FunctionDetails.antt).
-use Rattle.addr2line_lines.proofs.Common.{◌≡◌, ◌≢◌, ℕ, ◌+◌, ◌<◌, ◌≤◌, ◌&&◌, Bool, true, false, is_ok, List, [], ◌∷◌, drop, length, slice_get, slice_set, take, Option, Some, None, Result, Ok, Err, refl, ap, sym, subst, ◌∙◌, arith, inl, inr, zero, suc, AllByRecursion, AllZip, length_all_zip, Error, OutOfMemory, ExactlyAtCost, ◌>>=◌, fault_of, UnitRecord, Detail, detail_at, CachedFunction, FunctionTable, Scope, or_left, or_right, drop_all}
-use Rattle.addr2line_lines.specs.FunctionDetails.{AreCachedToFault, AreDetailsOf, AreUnread, HasDetail, IsCachedToFault, IsDetailOf, IsFunctionMore, IsReadAt, IsReadOf, IsReadOnce, IsTableMore, IsWithDetail, details_fault, details_take_memory, read_fault, read_once}
+use Rattle.addr2line_lines.proofs.Common.{◌≡◌, ◌≢◌, ℕ, ◌+◌, ◌<◌, ◌≤◌, ◌&&◌, ◌⊎◌, Bool, true, false, is_ok, List, [], ◌∷◌, drop, length, slice_get, slice_set, take, Option, Some, None, Result, Ok, Err, refl, ap, sym, subst, ◌∙◌, arith, inl, inr, zero, suc, AllByRecursion, AllZip, length_all_zip, Error, OutOfMemory, ExactlyAtCost, ◌>>=◌, fault_of, UnitRecord, Detail, detail_at, CachedFunction, FunctionTable, Scope, or_left, or_right, drop_all}
+use Rattle.addr2line_lines.specs.FunctionDetails.{AreCachedToFault, AreDetailsOf, AreUnread, HasDetail, IsCachedToFault, IsDetailOf, IsFunctionMore, IsReadAt, IsReadOf, IsReadOnce, IsTableMore, IsWithDetail, IsWithItsDetail, details_fault, details_fault_or, details_take_memory, read_fault, read_once}
 use Rattle.gimli_read.proofs.FaultLemmas.{memory_or_not}
 use Rattle.addr2line_lines.proofs.CachedNameLemmas.{names_on, names_same}
 use Rattle.addr2line_lines.proofs.NestingLemmas.{grown_not, grown_on}
-use Rattle.addr2line_lines.proofs.Facts.{all_at, all_set, all_weaker, before_set, drop_at, drop_set, get_set_same, set_same, some_at, take_set, take_whole}
+use Rattle.addr2line_lines.proofs.Facts.{all_weaker, before_set, drop_at, drop_set, get_set_same, set_same, some_at, take_set, take_whole}
+
+-- what holds of each function and itself, and over two changes, holds of lists of them
+module _ (P : CachedFunction → CachedFunction → Type 0) where
+  zip_same : ((f : CachedFunction) → P f f) → (fs : List CachedFunction) → AllZip P fs fs
+  zip_same same [] = tt
+  zip_same same (f ∷ fs) = (same f, zip_same same fs)
+
+  zip_set : ((f : CachedFunction) → P f f) → (fs : List CachedFunction) (n : ℕ) (f g : CachedFunction) → slice_get fs n ≡ Some f → P f g → AllZip P fs (slice_set fs n g)
+  zip_set same [] n f g e h = tt
+  zip_set same (x ∷ fs) zero f g e h = let is : x ≡ f = cc in (subst (λ y. P y g) (sym is) h, zip_same same fs)
+  zip_set same (x ∷ fs) (suc n) f g e h = (same x, zip_set same fs n f g e h)
+
+  zip_twice : ((f g h : CachedFunction) → P f g → P g h → P f h) → (xs ys zs : List CachedFunction) → AllZip P xs ys → AllZip P ys zs → AllZip P xs zs
+  zip_twice twice [] [] [] a b = tt
+  zip_twice twice [] [] (z ∷ zs) a b = absurd b
+  zip_twice twice [] (y ∷ ys) zs a b = absurd a
+  zip_twice twice (x ∷ xs) [] zs a b = absurd a
+  zip_twice twice (x ∷ xs) (y ∷ ys) [] a b = absurd b
+  zip_twice twice (x ∷ xs) (y ∷ ys) (z ∷ zs) a b = (twice x y z a.0 b.0, zip_twice twice xs ys zs a.1 b.1)
 
 function_same : (f : CachedFunction) → IsFunctionMore f f
 function_same f = record { offset = refl; detail = λ d e. e }
 
 pub functions_same : (fs : List CachedFunction) → AllZip IsFunctionMore fs fs
-functions_same [] = tt
-functions_same (f ∷ fs) = (function_same f, functions_same fs)
-
-functions_set : (fs : List CachedFunction) (n : ℕ) (f g : CachedFunction) → slice_get fs n ≡ Some f → IsFunctionMore f g → AllZip IsFunctionMore fs (slice_set fs n g)
-functions_set [] n f g e h = tt
-functions_set (x ∷ fs) zero f g e h = let same : x ≡ f = cc in (subst (λ y. IsFunctionMore y g) (sym same) h, functions_same fs)
-functions_set (x ∷ fs) (suc n) f g e h = (function_same x, functions_set fs n f g e h)
+functions_same = zip_same IsFunctionMore function_same
 
 pub functions_twice : (xs ys zs : List CachedFunction) → AllZip IsFunctionMore xs ys → AllZip IsFunctionMore ys zs → AllZip IsFunctionMore xs zs
-functions_twice [] [] [] a b = tt
-functions_twice [] [] (z ∷ zs) a b = absurd b
-functions_twice [] (y ∷ ys) zs a b = absurd a
-functions_twice (x ∷ xs) [] zs a b = absurd a
-functions_twice (x ∷ xs) (y ∷ ys) [] a b = absurd b
-functions_twice (x ∷ xs) (y ∷ ys) (z ∷ zs) a b =
-    (record { offset = b.0.offset ∙ a.0.offset; detail = λ d e. b.0.detail d (a.0.detail d e) }, functions_twice xs ys zs a.1 b.1)
+functions_twice = zip_twice IsFunctionMore (λ f g h a b. record { offset = b.offset ∙ a.offset; detail = λ d e. b.detail d (a.detail d e) })
+
+-- the same of functions with their details
+module _ (scope : Scope) (u : UnitRecord) where
+  its_same : (f : CachedFunction) → IsWithItsDetail scope u f f
+  its_same f = record { offset = refl; detail = inl refl }
+
+  its_twice : (f g h : CachedFunction) → IsWithItsDetail scope u f g → IsWithItsDetail scope u g h → IsWithItsDetail scope u f h
+  its_twice f g h a b = record { offset = b.offset ∙ a.offset; detail = by a.detail b.detail }
+    where
+      by : (g.detail ≡ f.detail) ⊎ ((f.detail ≡ None) × (g.detail ≡ Some (detail_at scope u f.offset))) → (h.detail ≡ g.detail) ⊎ ((g.detail ≡ None) × (h.detail ≡ Some (detail_at scope u g.offset)))
+          → (h.detail ≡ f.detail) ⊎ ((f.detail ≡ None) × (h.detail ≡ Some (detail_at scope u f.offset)))
+      by (inl e) (inl k) = inl (k ∙ e)
+      by (inl e) (inr k) = inr (sym e ∙ k.0, k.1 ∙ ap (λ o. Some (detail_at scope u o)) a.offset)
+      by (inr e) (inl k) = inr (e.0, k ∙ e.1)
+      by (inr e) (inr k) = (let no : None ≡ Some (detail_at scope u f.offset) = sym k.0 ∙ e.1 in absurd cc)
+
+  -- what was right stays right
+  its_right : (f g : CachedFunction) → IsWithItsDetail scope u f g → IsDetailOf scope u f → IsDetailOf scope u g
+  its_right f g a right d e = ap (detail_at scope u) a.offset ∙ by a.detail
+    where
+      by : (g.detail ≡ f.detail) ⊎ ((f.detail ≡ None) × (g.detail ≡ Some (detail_at scope u f.offset))) → detail_at scope u f.offset ≡ d
+      by (inl k) = right d (sym k ∙ e)
+      by (inr k) = let same : Some (detail_at scope u f.offset) ≡ Some d = sym k.1 ∙ e in cc
+
+  pub own_right : (fs gs : List CachedFunction) → AllZip (IsWithItsDetail scope u) fs gs → AllByRecursion (IsDetailOf scope u) fs → AllByRecursion (IsDetailOf scope u) gs
+  own_right [] [] zip all = tt
+  own_right [] (g ∷ gs) zip all = absurd zip
+  own_right (f ∷ fs) [] zip all = tt
+  own_right (f ∷ fs) (g ∷ gs) zip all = (its_right f g zip.0 all.0, own_right fs gs zip.1 all.1)
 
 pub table_same : (t : FunctionTable) → IsTableMore t t
 table_same t = record { ranges = refl; functions = functions_same t.functions; inlined = grown_not t.inlined; names = names_same t.names }
@@ -46,16 +82,11 @@ unread_right scope u t all =
 module _ (scope : Scope) (u : UnitRecord) (n : ℕ) (old new : FunctionTable) where
   -- the detail of a function of which nothing was cached is cached
   module _ (f : CachedFunction) (at : slice_get old.functions n ≡ Some f) (with_it : IsWithDetail n f (detail_at scope u f.offset) old new) where
-    with_right : AreDetailsOf scope u old → AreDetailsOf scope u new
-    with_right all =
-        subst (AllByRecursion (IsDetailOf scope u)) (sym with_it.functions)
-        (all_set (IsDetailOf scope u) old.functions n (record { offset = f.offset; detail = Some (detail_at scope u f.offset) }) all (λ d e. cc))
-
     with_more : f.detail ≡ None → IsTableMore old new
     with_more none = record {
       ranges = with_it.ranges;
       functions = subst (AllZip IsFunctionMore old.functions) (sym with_it.functions)
-          (functions_set old.functions n f (record { offset = f.offset; detail = Some (detail_at scope u f.offset) }) at (record { offset = refl; detail = λ d e. (let no : None ≡ Some d = sym none ∙ e in absurd cc) }));
+          (zip_set IsFunctionMore function_same old.functions n f (record { offset = f.offset; detail = Some (detail_at scope u f.offset) }) at (record { offset = refl; detail = λ d e. (let no : None ≡ Some d = sym none ∙ e in absurd cc) }));
       inlined = with_it.inlined;
       names = with_it.names;
     }
@@ -83,16 +114,21 @@ module _ (scope : Scope) (u : UnitRecord) (n : ℕ) (old new : FunctionTable) wh
   pub read_more : (result : Result (Unit {0}) Error) → IsReadAt scope u n old result new → IsTableMore old new
   read_more = by_read (IsTableMore old) (table_same old) (λ f q none w. with_more f q w none)
 
+-- each function is as it was, or with its detail
+read_own : (scope : Scope) (u : UnitRecord) (n : ℕ) (old new : FunctionTable) (result : Result (Unit {0}) Error) → IsReadAt scope u n old result new → AllZip (IsWithItsDetail scope u) old.functions new.functions
+read_own scope u n old new result h = by_read scope u n old new (λ (t : FunctionTable). AllZip (IsWithItsDetail scope u) old.functions t.functions) (zip_same (IsWithItsDetail scope u) (its_same scope u) old.functions)
+    (λ f q none w. subst (AllZip (IsWithItsDetail scope u) old.functions) (sym w.functions)
+    (zip_set (IsWithItsDetail scope u) (its_same scope u) old.functions n f (record { offset = f.offset; detail = Some (detail_at scope u f.offset) }) q (record { offset = refl; detail = inr (none, refl) }))) result h
+
 -- what is cached stays right
 pub read_right : (scope : Scope) (u : UnitRecord) (n : ℕ) (old new : FunctionTable) (result : Result (Unit {0}) Error) → AreDetailsOf scope u old → IsReadAt scope u n old result new → AreDetailsOf scope u new
-read_right scope u n old new result all h = by_read scope u n old new (AreDetailsOf scope u) all (λ f q none w. with_right scope u n old new f q w all) result h
+read_right scope u n old new result all h = own_right scope u old.functions new.functions (read_own scope u n old new result h) all
 
 -- what a detail that could be read leaves
 record IsStep (scope : Scope) (u : UnitRecord) (n : ℕ) (f : CachedFunction) (old new : FunctionTable) : Type 0 where
   pub now : CachedFunction
   pub has : HasDetail now
   pub functions : new.functions ≡ slice_set old.functions n now
-  pub well : IsDetailOf scope u f → fault_of (detail_at scope u f.offset) ≡ Ok tt
 
 read_step : (scope : Scope) (u : UnitRecord) (n : ℕ) (f : CachedFunction) (old new : FunctionTable) → slice_get old.functions n ≡ Some f → IsReadAt scope u n old (Ok tt) new → IsStep scope u n f old new
 read_step scope u n f old new q h = by_detail f.detail refl (subst (λ o. IsReadOf scope u n o old (Ok tt) new) q h)
@@ -108,13 +144,11 @@ read_step scope u n f old new q h = by_detail f.detail refl (subst (λ o. IsRead
           now = record { offset = f.offset; detail = Some (detail_at scope u f.offset) };
           has = (d.0, ap Some d.1);
           functions = k.1.functions;
-          well = λ right. k.0;
         }
     by_detail (Some (Ok d)) e k = record {
       now = f;
       has = (d, e);
       functions = ap (λ (t : FunctionTable). t.functions) k.1 ∙ sym (set_same old.functions n f q);
-      well = λ right. ap fault_of (right (Ok d) e);
     }
     by_detail (Some (Err x)) e k = absurd cc
 
@@ -125,6 +159,13 @@ fault_is scope u f right = by_detail f.detail refl
     by_detail : (d : Option (Result Detail Error)) → f.detail ≡ d → read_fault scope u (Some (record { offset = f.offset; detail = d })) ≡ fault_of (detail_at scope u f.offset)
     by_detail None e = refl
     by_detail (Some d) e = ap fault_of (sym (right d e))
+
+-- nor the first fault of all
+pub details_fault_is : (scope : Scope) (u : UnitRecord) (fs : List CachedFunction) → AllByRecursion (IsDetailOf scope u) fs → details_fault_or scope u fs ≡ details_fault scope u fs
+details_fault_is scope u [] all = refl
+details_fault_is scope u (f ∷ fs) all =
+    ap (λ r. r >>= λ _. details_fault_or scope u fs) (fault_is scope u f all.0)
+    ∙ ap (λ (r : Result (Unit {0}) Error). fault_of (detail_at scope u f.offset) >>= λ _. r) (details_fault_is scope u fs all.1)
 
 -- details that are all cached, or up to a fault
 pub all_to_fault : (fs : List CachedFunction) → AllByRecursion HasDetail fs → AreCachedToFault fs
@@ -215,14 +256,14 @@ fault_step scope u n f old new e l at ne k = by_detail f.detail refl (subst (λ 
 -- the details of the functions before a place are read
 pub record IsReadTo (shares : Bool) (scope : Scope) (u : UnitRecord) (old now : FunctionTable) (n : ℕ) : Type 0 where
   pub kept : IsTableMore old now
-  pub right : AreDetailsOf scope u old → AreDetailsOf scope u now
-  pub fault : AreDetailsOf scope u old → details_fault scope u old.functions ≡ details_fault scope u (drop n now.functions)
+  pub details : AllZip (IsWithItsDetail scope u) old.functions now.functions
+  pub fault : details_fault_or scope u old.functions ≡ details_fault_or scope u (drop n now.functions)
   pub takes : details_take_memory shares scope u (drop n now.functions) ≡ true → details_take_memory shares scope u old.functions ≡ true
   pub cached : AllByRecursion HasDetail (take n now.functions)
   pub same : AreCachedToFault old.functions → now ≡ old
 
 pub none_read : (shares : Bool) (scope : Scope) (u : UnitRecord) (t : FunctionTable) → IsReadTo shares scope u t t 0
-none_read shares scope u t = record { kept = table_same t; right = λ all. all; fault = λ all. refl; takes = λ e. e; cached = tt; same = λ _. refl }
+none_read shares scope u t = record { kept = table_same t; details = zip_same (IsWithItsDetail scope u) (its_same scope u) t.functions; fault = refl; takes = λ e. e; cached = tt; same = λ _. refl }
 
 pub same_number : (shares : Bool) (scope : Scope) (u : UnitRecord) (old now : FunctionTable) (n : ℕ) → IsReadTo shares scope u old now n → length old.functions ≡ length now.functions
 same_number shares scope u old now n h = length_all_zip IsFunctionMore old.functions now.functions h.kept.functions
@@ -248,10 +289,8 @@ one_read shares scope u old now next n h l k well =
     let one : suc n ≡ n + 1 = omega arith in
     subst (IsReadTo shares scope u old next) one (record {
       kept = table_twice old now next h.kept (read_more scope u n now next (Ok tt) k);
-      right = λ all. read_right scope u n now next (Ok tt) (h.right all) k;
-      fault = λ all. h.fault all ∙ ap (details_fault scope u) left
-          ∙ ap (λ r. r >>= λ _. details_fault scope u (drop (suc n) now.functions)) (step.well (all_at (IsDetailOf scope u) now.functions n at.0 (h.right all) at.1))
-          ∙ ap (details_fault scope u) (sym next_left);
+      details = zip_twice (IsWithItsDetail scope u) (its_twice scope u) old.functions now.functions next.functions h.details (read_own scope u n now next (Ok tt) k);
+      fault = h.fault ∙ ap (details_fault_or scope u) left ∙ ap (λ r. r >>= λ _. details_fault_or scope u (drop (suc n) now.functions)) (ap (read_fault scope u) (sym at.1) ∙ well) ∙ ap (details_fault_or scope u) (sym next_left);
       takes = λ e. h.takes (ap (details_take_memory shares scope u) left
           ∙ or_right ((read_once scope u (Some at.0)).takes_memory shares) (is_ok (read_fault scope u (Some at.0)) && details_take_memory shares scope u (drop (suc n) now.functions))
           (ap (λ o. is_ok (read_fault scope u o) && details_take_memory shares scope u (drop (suc n) now.functions)) (sym at.1)
@@ -262,27 +301,26 @@ one_read shares scope u old now next n h l k well =
 
 -- a detail is refused
 pub fault_read : (shares : Bool) (scope : Scope) (u : UnitRecord) (old now : FunctionTable) (n : ℕ) (e : Error) → IsReadTo shares scope u old now n → n < length old.functions
-    → ExactlyAtCost {X = Unit {0}} shares (λ x. x) (Err e) (read_once scope u (slice_get now.functions n)) → AreDetailsOf scope u old
-    → (details_take_memory shares scope u old.functions ≡ true → e ≢ OutOfMemory) → details_fault scope u old.functions ≡ Err e
-fault_read shares scope u old now n e h l exact all ne =
+    → ExactlyAtCost {X = Unit {0}} shares (λ x. x) (Err e) (read_once scope u (slice_get now.functions n))
+    → (details_take_memory shares scope u old.functions ≡ true → e ≢ OutOfMemory) → details_fault_or scope u old.functions ≡ Err e
+fault_read shares scope u old now n e h l exact ne =
     let same = same_number shares scope u old now n h in
     let at = some_at now.functions n (omega arith) in
     let rest = drop (suc n) now.functions in
     let left : drop n now.functions ≡ at.0 ∷ rest = drop_at now.functions n at.0 at.1 in
     let takes : (read_once scope u (slice_get now.functions n)).takes_memory shares ≡ true → details_take_memory shares scope u old.functions ≡ true = λ t. h.takes (ap (details_take_memory shares scope u) left
     ∙ or_left ((read_once scope u (Some at.0)).takes_memory shares) (is_ok (read_fault scope u (Some at.0)) && details_take_memory shares scope u rest) (ap (λ o. (read_once scope u o).takes_memory shares) (sym at.1) ∙ t)) in
-    let faulty = sym (fault_is scope u at.0 (all_at (IsDetailOf scope u) now.functions n at.0 (h.right all) at.1)) ∙ ap (read_fault scope u) (sym at.1) ∙ exact (λ t. ne (takes t)) in
-    h.fault all ∙ ap (details_fault scope u) left ∙ ap (λ r. r >>= λ _. details_fault scope u rest) faulty
+    h.fault ∙ ap (details_fault_or scope u) left ∙ ap (λ r. r >>= λ _. details_fault_or scope u rest) (ap (read_fault scope u) (sym at.1) ∙ exact (λ t. ne (takes t)))
 
-pub fault_kept : (shares : Bool) (scope : Scope) (u : UnitRecord) (old now next : FunctionTable) (n : ℕ) (result : Result (Unit {0}) Error) → IsReadTo shares scope u old now n → IsReadAt scope u n now result next → IsTableMore old next × (AreDetailsOf scope u old → AreDetailsOf scope u next)
+pub fault_kept : (shares : Bool) (scope : Scope) (u : UnitRecord) (old now next : FunctionTable) (n : ℕ) (result : Result (Unit {0}) Error) → IsReadTo shares scope u old now n → IsReadAt scope u n now result next → IsTableMore old next × AllZip (IsWithItsDetail scope u) old.functions next.functions
 fault_kept shares scope u old now next n result h k =
-    (table_twice old now next h.kept (read_more scope u n now next result k), λ all. read_right scope u n now next result (h.right all) k)
+    (table_twice old now next h.kept (read_more scope u n now next result k), zip_twice (IsWithItsDetail scope u) (its_twice scope u) old.functions now.functions next.functions h.details (read_own scope u n now next result k))
 
 -- all are read
-pub all_read : (shares : Bool) (scope : Scope) (u : UnitRecord) (old now : FunctionTable) (n : ℕ) → IsReadTo shares scope u old now n → length old.functions ≤ n → (AreDetailsOf scope u old → details_fault scope u old.functions ≡ Ok tt) × AllByRecursion HasDetail now.functions
+pub all_read : (shares : Bool) (scope : Scope) (u : UnitRecord) (old now : FunctionTable) (n : ℕ) → IsReadTo shares scope u old now n → length old.functions ≤ n → (details_fault_or scope u old.functions ≡ Ok tt) × AllByRecursion HasDetail now.functions
 all_read shares scope u old now n h l =
     let same = same_number shares scope u old now n h in
-    (λ all. h.fault all ∙ ap (details_fault scope u) (drop_all n now.functions (omega arith)), take_whole HasDetail now.functions n (omega arith) h.cached)
+    (h.fault ∙ ap (details_fault_or scope u) (drop_all n now.functions (omega arith)), take_whole HasDetail now.functions n (omega arith) h.cached)
 
 -- all are cached up to a fault
 pub fault_ready : (shares : Bool) (scope : Scope) (u : UnitRecord) (old now next : FunctionTable) (n : ℕ) (e : Error) → IsReadTo shares scope u old now n → n < length old.functions → IsReadAt scope u n now (Err e) next → e ≢ OutOfMemory → AreCachedToFault next.functions

@@ -1,7 +1,7 @@
 -- How the details of functions come to be cached (DWARF 5, section 3.3).
 -- Own: the detail of a function is read when it is first asked for, and cached then, its fault too.
 -- OutOfMemory is never cached.
-use Rattle.std.specs.Prelude.{◌≡◌, ◌≢◌, ℕ, ◌&&◌, ◌||◌, Bool, false, not, is_ok, is_some, List, [], ◌∷◌, slice_get, slice_set, Option, Some, None, Result, Ok, Err}
+use Rattle.std.specs.Prelude.{◌≡◌, ◌≢◌, ◌⊎◌, ℕ, ◌&&◌, ◌||◌, Bool, false, not, is_ok, is_some, List, [], ◌∷◌, slice_get, slice_set, Option, Some, None, OnOk, Result, Ok, Err}
 use Rattle.std.specs.List.{AllByRecursion, AllZip}
 use Rattle.addr2line_lines.specs.Common.{Error, OutOfMemory, Costed, free, ◌>>=◌, fault_of, UnitRecord}
 use Rattle.addr2line_lines.specs.CachedNames.{AreNamesMore}
@@ -95,6 +95,12 @@ details_fault scope u [] = Ok tt
 details_fault scope u (f ∷ functions) =
     fault_of (detail_at scope u f.offset) >>= λ _. details_fault scope u functions
 
+-- the same by what is cached of each function, or else by its entries
+abbrev pub details_fault_or : Scope → UnitRecord → List CachedFunction → Result (Unit {0}) Error
+details_fault_or scope u [] = Ok tt
+details_fault_or scope u (f ∷ functions) =
+    read_fault scope u (Some f) >>= λ _. details_fault_or scope u functions
+
 -- whether memory may be taken for the details of functions, in their order: for that of the first,
 -- or for those after it where that of the first can be read
 abbrev pub details_take_memory : Bool → Scope → UnitRecord → List CachedFunction → Bool
@@ -131,6 +137,26 @@ pub record IsTableMore (old new : FunctionTable) : Type 0 where
   pub functions : AllZip IsFunctionMore old.functions new.functions
   pub inlined : IsGrown old.inlined new.inlined
   pub names : AreNamesMore old.names new.names
+
+-- a function is the same, and of it is cached what was, or else its detail
+pub record IsWithItsDetail (scope : Scope) (u : UnitRecord) (f g : CachedFunction) : Type 0 where
+  pub offset : g.offset ≡ f.offset
+  pub detail : (g.detail ≡ f.detail)
+      ⊎ ((f.detail ≡ None) × (g.detail ≡ Some (detail_at scope u f.offset)))
+
+-- after details were read in the order of functions, up to the first fault: what was cached stays,
+-- and only details are cached beside; all where there is no fault, else, unless memory was refused,
+-- all up to the first fault, and that; where these were cached, the answer is by them, and nothing
+-- changes
+pub record AfterReadingAll (scope : Scope) (u : UnitRecord) (result : Result (Unit {0}) Error)
+    (old new : FunctionTable) : Type 0 where
+  pub more : IsTableMore old new
+  pub details : AllZip (IsWithItsDetail scope u) old.functions new.functions
+  pub known : OnOk result (AllByRecursion HasDetail new.functions)
+  pub whole : result ≢ Err OutOfMemory → AreCachedToFault new.functions
+  pub memory : AreCachedToFault new.functions → result ≢ Err OutOfMemory
+  pub exact : AreCachedToFault old.functions → result ≡ details_fault_or scope u old.functions
+  pub same : AreCachedToFault old.functions → new ≡ old
 
 -- the functions stay those that have a range where more is cached
 abbrev pub MoreKeepsListed : Type 0

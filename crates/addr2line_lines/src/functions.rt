@@ -1,15 +1,15 @@
 //! The functions of a unit.
 
 ghost use Rattle.std.specs.List.{AllByRecursion};
-ghost use Rattle.std.specs.Prelude.{◌≡◌, ◌≢◌, ◌<◌, ◌==◌, [], Err, false, length, map, option_and_then, option_map, slice_get, IfOk, IfSome, None, Ok, OnOk, Some};
-ghost use Rattle.addr2line_lines.specs.Common.{OutOfMemory, ExactlyAtCost, ExactlyUnlessOomIf, ranges_at};
+ghost use Rattle.std.specs.Prelude.{◌≡◌, ◌<◌, ◌==◌, false, length, map, option_and_then, option_map, slice_get, IfOk, IfSome, None, Ok, OnOk, Some};
+ghost use Rattle.addr2line_lines.specs.Common.{ExactlyAtCost, ExactlyUnlessOomIf, ranges_at};
 ghost use Rattle.addr2line_lines.specs.CachedNames.{AreNamesIn, no_names};
 ghost use Rattle.addr2line_lines.specs.Finding.{FindsUnlessOomIf};
 ghost use Rattle.addr2line_lines.specs.InlinedChain.{inlined_chain};
 ghost use Rattle.addr2line_lines.specs.FoundInlined.{entry_among};
 ghost use Rattle.addr2line_lines.specs.FoundRanges.{is_function};
 ghost use Rattle.addr2line_lines.specs.FunctionCache.{read_at};
-ghost use Rattle.addr2line_lines.specs.FunctionDetails.{AreCachedToFault, AreDetailsOf, AreUnread, HasDetail, IsReadAt, IsTableMore, details_fault, details_take_memory, read_once};
+ghost use Rattle.addr2line_lines.specs.FunctionDetails.{AfterReadingAll, AreUnread, IsReadAt, details_fault_or, details_take_memory, read_once};
 ghost use Rattle.addr2line_lines.specs.FunctionTable.{AreListed, cached_inlined, cached_name, function_place_at, cached_offset_at};
 ghost use Rattle.addr2line_lines.specs.Functions.{function_offset_at, functions_of, functions_take_memory, is_subprogram};
 ghost use Rattle.addr2line_lines.specs.InlineRoom.{exceeds_inline_room};
@@ -328,20 +328,10 @@ impl<R: Reader> Functions<R> {
     pub fn read_all(&mut self, scope: Scope<'_, R>, unit: &Unit<R>) -> Result<(), Error>
         requires in_order { IsScope (as_scope scope) }
         requires unit { AreNamesIn (as_scope scope) unit.now self.old.names }
-        ensures gives { AreDetailsOf (as_scope scope.entry) unit.now self.old
-            → ExactlyUnlessOomIf (details_take_memory R.shares (as_scope scope.entry) unit.now
-            self.old.functions) (λ x. x) result
-            (details_fault (as_scope scope.entry) unit.now self.old.functions) }
-        ensures after { IsTableMore self.old self.new }
-        ensures read { AreDetailsOf (as_scope scope.entry) unit.now self.old
-            → AreDetailsOf (as_scope scope.entry) unit.now self.new }
-        ensures known { OnOk result (AllByRecursion HasDetail self.new.functions) }
-        ensures whole { result ≢ Err OutOfMemory → AreCachedToFault self.new.functions }
-        ensures memory { AreCachedToFault self.new.functions → result ≢ Err OutOfMemory }
-        ensures exact { AreDetailsOf (as_scope scope.entry) unit.now self.old
-            → AreCachedToFault self.old.functions
-            → result ≡ details_fault (as_scope scope.entry) unit.now self.old.functions }
-        ensures kept { AreCachedToFault self.old.functions → self.new ≡ self.old }
+        ensures gives { ExactlyUnlessOomIf (details_take_memory R.shares (as_scope scope.entry)
+            unit.now self.old.functions) (λ x. x) result
+            (details_fault_or (as_scope scope.entry) unit.now self.old.functions) }
+        ensures after { AfterReadingAll (as_scope scope.entry) unit.now result self.old self.new }
     {
         let count = self.functions.len();
         for place in 0..count {

@@ -5,6 +5,7 @@ use Rattle.addr2line_units.specs.declared.parses.ReadingDepth.TheVariants as dep
 use Rattle.addr2line_units.specs.declared.entries.LazyFunctions.TheVariants as lazy
 use Rattle.std.specs.Box.{with_value}
 use Rattle.addr2line_lines.specs.CachedNames.{AreNamesIn}
+use Rattle.addr2line_lines.proofs.ReadLemmas.{details_fault_is, own_right}
 use Rattle.addr2line_units.proofs.EntriesFunctionLemmas.{exactly_weaker, fault_is, reading_before, stay_read, table_more}
 use Rattle.addr2line_units.proofs.EntriesKnownTableLemmas.{to_fault_cached, to_fault_known}
 use Rattle.addr2line_units.proofs.EntriesLemmas.{exactly_unless_oom}
@@ -149,7 +150,7 @@ invariant_of-self-2 g c =
     let result = c.read_all.result in
     let table = table_now shares inner x before mid v.functions a t c.in-Read.is in
     let e = rw c.deref_mut.ensures.value at c.read_all.ensures in
-    v.own (lazy.Read (with_value t new)) (table_more inner x t.value new table e.after (e.read table.details))
+    v.own (lazy.Read (with_value t new)) (table_more inner x t.value new table e.after.more (own_right inner x t.value.functions new.functions e.after.details table.details))
 
 pub returns : goal.returns
 returns g c =
@@ -172,12 +173,12 @@ returns g c =
     let may = details_take_memory shares inner x t.value.functions in
     let gives = exactly_weaker may (reading_takes_memory shares inner x before) (λ x. x) result (functions_fault inner x)
     (reading_before before mid kept shares inner x t c.in-Read.is table)
-    (subst (λ (r : Result (Unit {0}) Error). ExactlyUnlessOomIf may (λ x. x) result r) (sym (fault_is inner x t.value table)) (e.gives table.details)) in
-    let keeps = details_after shares inner x before (lazy.Read (with_value t new)) (table_more inner x t.value new table e.after (e.read table.details)) result v.functions gives
-    (stay_read before mid kept t (with_value t new) c.in-Read.is e.after) (on_ok result (λ _. refl) e.known) e.known
-    (λ ne. to_fault_known new.functions (e.whole (not_oom result ne))) (λ ready. had_not_oom result (e.memory (to_fault_cached new.functions ready)))
-    (λ ready. e.exact table.details (to_fault_cached t.value.functions (ready_then depths.Details before mid kept ready (lazy.Read t) c.in-Read.is)) ∙ sym (fault_is inner x t.value table))
-    (λ ready. ap (λ y. lazy.Read (with_value t y)) (e.kept (to_fault_cached t.value.functions (ready_then depths.Details before mid kept ready (lazy.Read t) c.in-Read.is))) ∙ sym c.in-Read.is ∙ ready_same depths.Details before mid kept ready) in
+    (subst (λ (r : Result (Unit {0}) Error). ExactlyUnlessOomIf may (λ x. x) result r) (details_fault_is inner x t.value.functions table.details ∙ sym (fault_is inner x t.value table)) e.gives) in
+    let keeps = details_after shares inner x before (lazy.Read (with_value t new)) (table_more inner x t.value new table e.after.more (own_right inner x t.value.functions new.functions e.after.details table.details)) result v.functions gives
+    (stay_read before mid kept t (with_value t new) c.in-Read.is e.after.more) (on_ok result (λ _. refl) e.after.known) e.after.known
+    (λ ne. to_fault_known new.functions (e.after.whole (not_oom result ne))) (λ ready. had_not_oom result (e.after.memory (to_fault_cached new.functions ready)))
+    (λ ready. e.after.exact (to_fault_cached t.value.functions (ready_then depths.Details before mid kept ready (lazy.Read t) c.in-Read.is)) ∙ details_fault_is inner x t.value.functions table.details ∙ sym (fault_is inner x t.value table))
+    (λ ready. ap (λ y. lazy.Read (with_value t y)) (e.after.same (to_fault_cached t.value.functions (ready_then depths.Details before mid kept ready (lazy.Read t) c.in-Read.is))) ∙ sym c.in-Read.is ∙ ready_same depths.Details before mid kept ready) in
     record {
       gives = v.gives c.args.depth result (subst (λ (r : ReadingDepth). ExactlyUnlessOom (λ y. y) result (read_of_functions r inner x)) (sym depth) (exactly_unless_oom (reading_takes_memory shares inner x before) (λ y. y) result (functions_fault inner x) gives));
       after = v.after c.args.depth result (lazy.Read (with_value t new)) (subst (λ (r : ReadingDepth). KeepsReadFunctions shares r inner x result before (lazy.Read (with_value t new))) (sym depth) keeps);

@@ -159,17 +159,22 @@ fn calls_by<'a>(
     calls
 }
 
+fn calls_in<'a>(
+    alloc: Global,
+    dwarf: &Dwarf<EndianSlice<'a>>,
+    unit: &Unit<EndianSlice<'a>>,
+) -> [(u64, u32); 5] {
+    let file = FileUnits { dwarf, units: None };
+    match Functions::parse(alloc, Scope { file, sup: None }, unit) {
+        Ok(functions) => calls_by(functions, dwarf, unit),
+        Err(_) => [(0, 0); 5],
+    }
+}
+
 fn calls_of(alloc: Global, abbrev: &[u8], info: &[u8]) -> [(u64, u32); 5] {
     let dwarf = dwarf_of(abbrev, info, &[]);
-    let Ok(unit) = first_unit(alloc, &dwarf) else {
-        return [(0, 0); 5];
-    };
-    let file = FileUnits {
-        dwarf: &dwarf,
-        units: None,
-    };
-    match Functions::parse(alloc, Scope { file, sup: None }, &unit) {
-        Ok(functions) => calls_by(functions, &dwarf, &unit),
+    match first_unit(alloc, &dwarf) {
+        Ok(unit) => calls_in(alloc, &dwarf, &unit),
         Err(_) => [(0, 0); 5],
     }
 }

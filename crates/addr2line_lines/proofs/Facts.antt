@@ -1,6 +1,6 @@
 -- Facts on booleans, numbers, orderings, options and lists that the proofs of this crate and of those
 -- above it cite, and that std doesn't have.
-use Rattle.addr2line_lines.proofs.Common.{All, AllByRecursion, Bool, Bor, Equal, Greater, Less, List, None, Option, Ordering, Some, [], ap, append-nil, append_assoc, arith, cases_eq, common_steps, cond, count_by, drop, drop_all, eqb-true, false, get_or, get_or_from_slice_get, inl, inr, length, list_any, map, nat_le, nat_lt, nat_tests, option_copied, option_map, or_left, or_right, ordering_then, refl, reverse, reverse-append, rules, set, set_split, slice_get, slice_get-map, slice_get_past, slice_get_read, slice_index_or, slice_set, subst, suc, sym, take, true, zero, ℕ, ◌&&◌, ◌++◌, ◌+◌, ◌<◌, ◌==◌, ◌||◌, ◌∙◌, ◌∷◌, ◌≡◌, ◌≤◌, ◌⊎◌}
+use Rattle.addr2line_lines.proofs.Common.{All, AllByRecursion, AllZip, Bool, Bor, Equal, Greater, Less, List, None, Option, Ordering, Some, [], ap, append-nil, append_assoc, arith, cases_eq, common_steps, cond, count_by, drop, drop_all, eqb-true, false, get_or, get_or_from_slice_get, inl, inr, length, list_any, map, nat_le, nat_lt, nat_tests, option_copied, option_map, or_left, or_right, ordering_then, refl, reverse, reverse-append, rules, set, set_split, slice_get, slice_get-map, slice_get_past, slice_get_read, slice_index_or, slice_set, subst, suc, sym, take, true, zero, ℕ, ◌&&◌, ◌++◌, ◌+◌, ◌<◌, ◌==◌, ◌||◌, ◌∙◌, ◌∷◌, ◌≡◌, ◌≤◌, ◌⊎◌}
 use Rattle.std.specs.List.{slice_get}
 use Rattle.std.specs.Slice.{IsItemAt}
 
@@ -255,3 +255,22 @@ take_whole P (y ∷ xs) (suc n) l all = (all.0, take_whole P xs n (omega arith) 
 -- the last element is another one
 pub set_last : {X : Type 0} (xs : List X) (i : ℕ) (x : X) → i + 1 ≡ length xs → set xs i x ≡ take i xs ++ x ∷ []
 set_last xs i x e = set_split xs i x (omega arith) ∙ ap (λ rest. take i xs ++ x ∷ rest) (drop_all (suc i) xs (omega arith))
+
+-- a relation of each element to itself, and over two changes, is one of lists
+module _ {X : Type 0} (P : X → X → Type 0) where
+  pub zip_same : ((x : X) → P x x) → (xs : List X) → AllZip P xs xs
+  zip_same same [] = tt
+  zip_same same (x ∷ xs) = (same x, zip_same same xs)
+
+  pub zip_set : ((x : X) → P x x) → (xs : List X) (n : ℕ) (x y : X) → slice_get xs n ≡ Some x → P x y → AllZip P xs (slice_set xs n y)
+  zip_set same [] n x y e h = tt
+  zip_set same (z ∷ xs) zero x y e h = let is : z ≡ x = cc in (subst (λ w. P w y) (sym is) h, zip_same same xs)
+  zip_set same (z ∷ xs) (suc n) x y e h = (same z, zip_set same xs n x y e h)
+
+  pub zip_twice : ((x y z : X) → P x y → P y z → P x z) → (xs ys zs : List X) → AllZip P xs ys → AllZip P ys zs → AllZip P xs zs
+  zip_twice twice [] [] [] a b = tt
+  zip_twice twice [] [] (z ∷ zs) a b = absurd b
+  zip_twice twice [] (y ∷ ys) zs a b = absurd a
+  zip_twice twice (x ∷ xs) [] zs a b = absurd a
+  zip_twice twice (x ∷ xs) (y ∷ ys) [] a b = absurd b
+  zip_twice twice (x ∷ xs) (y ∷ ys) (z ∷ zs) a b = (twice x y z a.0 b.0, zip_twice twice xs ys zs a.1 b.1)

@@ -4,26 +4,7 @@ use Rattle.addr2line_lines.specs.FunctionDetails.{AreCachedToFault, AreDetailsOf
 use Rattle.gimli_read.proofs.FaultLemmas.{memory_or_not}
 use Rattle.addr2line_lines.proofs.CachedNameLemmas.{names_on, names_same}
 use Rattle.addr2line_lines.proofs.NestingLemmas.{grown_not, grown_on}
-use Rattle.addr2line_lines.proofs.Facts.{all_weaker, before_set, drop_at, drop_set, get_set_same, set_same, some_at, take_set, take_whole}
-
--- what holds of each function and itself, and over two changes, holds of lists of them
-module _ (P : CachedFunction → CachedFunction → Type 0) where
-  zip_same : ((f : CachedFunction) → P f f) → (fs : List CachedFunction) → AllZip P fs fs
-  zip_same same [] = tt
-  zip_same same (f ∷ fs) = (same f, zip_same same fs)
-
-  zip_set : ((f : CachedFunction) → P f f) → (fs : List CachedFunction) (n : ℕ) (f g : CachedFunction) → slice_get fs n ≡ Some f → P f g → AllZip P fs (slice_set fs n g)
-  zip_set same [] n f g e h = tt
-  zip_set same (x ∷ fs) zero f g e h = let is : x ≡ f = cc in (subst (λ y. P y g) (sym is) h, zip_same same fs)
-  zip_set same (x ∷ fs) (suc n) f g e h = (same x, zip_set same fs n f g e h)
-
-  zip_twice : ((f g h : CachedFunction) → P f g → P g h → P f h) → (xs ys zs : List CachedFunction) → AllZip P xs ys → AllZip P ys zs → AllZip P xs zs
-  zip_twice twice [] [] [] a b = tt
-  zip_twice twice [] [] (z ∷ zs) a b = absurd b
-  zip_twice twice [] (y ∷ ys) zs a b = absurd a
-  zip_twice twice (x ∷ xs) [] zs a b = absurd a
-  zip_twice twice (x ∷ xs) (y ∷ ys) [] a b = absurd b
-  zip_twice twice (x ∷ xs) (y ∷ ys) (z ∷ zs) a b = (twice x y z a.0 b.0, zip_twice twice xs ys zs a.1 b.1)
+use Rattle.addr2line_lines.proofs.Facts.{all_weaker, before_set, drop_at, drop_set, get_set_same, set_same, some_at, take_set, take_whole, zip_same, zip_set, zip_twice}
 
 function_same : (f : CachedFunction) → IsFunctionMore f f
 function_same f = record { offset = refl; detail = λ d e. e }

@@ -59,7 +59,7 @@ pub record KnownNames : Type 0 where
 abbrev pub no_names : Option UnitInScope → KnownNames
 no_names unit = record { unit = unit; names = [] }
 
--- the names are those of a unit whose references lead where a scope says
+-- the unit of the names is this one, and its references lead where the scope says
 abbrev pub AreNamesIn : Scope → UnitRecord → KnownNames → Type 0
 AreNamesIn scope u known = known.unit ≡ Some (in_scope scope u)
 

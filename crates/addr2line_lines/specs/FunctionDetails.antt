@@ -138,16 +138,17 @@ pub record IsTableMore (old new : FunctionTable) : Type 0 where
   pub inlined : IsGrown old.inlined new.inlined
   pub names : AreNamesMore old.names new.names
 
--- a function is the same, and of it is cached what was, or else its detail
+-- a function is the same; of it is cached what was, or, where nothing was, its detail or the fault
+-- of that
 pub record IsWithItsDetail (scope : Scope) (u : UnitRecord) (f g : CachedFunction) : Type 0 where
   pub offset : g.offset ≡ f.offset
   pub detail : (g.detail ≡ f.detail)
       ⊎ ((f.detail ≡ None) × (g.detail ≡ Some (detail_at scope u f.offset)))
 
--- after details were read in the order of functions, up to the first fault: what was cached stays,
--- and only details are cached beside; all where there is no fault, else, unless memory was refused,
--- all up to the first fault, and that; where these were cached, the answer is by them, and nothing
--- changes
+-- after details were read in the order of functions: what was cached stays, and of each function is
+-- cached what was, or its detail; where nothing is refused each is cached, and has no fault; unless
+-- memory was refused, all up to the first fault are, and that, and where they are it wasn't; where
+-- they were before, the answer is by them, and nothing changes
 pub record AfterReadingAll (scope : Scope) (u : UnitRecord) (result : Result (Unit {0}) Error)
     (old new : FunctionTable) : Type 0 where
   pub more : IsTableMore old new

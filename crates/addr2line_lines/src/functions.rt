@@ -317,8 +317,8 @@ impl<R: Reader> Functions<R> {
     }
 
     /// Reads the details of all functions, in the order of their entries, as `read` does, up to the
-    /// first fault. What was cached stays cached; the details up to the first fault are cached
-    /// then, and that fault too.
+    /// first fault. What was cached stays cached; unless memory is refused, the details up to the
+    /// first fault are cached then, and that fault too.
     ///
     /// `unit` and `scope` are those of `parse`. Refused by the first fault of a detail; may fail
     /// with `OutOfMemory` instead, which is not cached, only where `read` may for a function, and

@@ -1,8 +1,9 @@
 -- How the details of functions come to be cached (DWARF 5, section 3.3).
 -- Own: the detail of a function is read when it is first asked for, and cached then, its fault too.
 -- OutOfMemory is never cached.
-use Rattle.std.specs.Prelude.{◌≡◌, ◌≢◌, ◌⊎◌, ℕ, ◌&&◌, ◌||◌, Bool, false, not, is_ok, is_some, List, [], ◌∷◌, slice_get, slice_set, Option, Some, None, OnOk, Result, Ok, Err}
+use Rattle.std.specs.Prelude.{◌≡◌, ◌≢◌, ◌⊎◌, ℕ, ◌&&◌, not, is_some, List, [], ◌∷◌, slice_get, slice_set, Option, Some, None, OnOk, Result, Ok, Err}
 use Rattle.std.specs.List.{AllByRecursion, AllZip}
+use Rattle.gimli_read.specs.Costed as costed
 use Rattle.addr2line_lines.specs.Common.{Error, OutOfMemory, Costed, free, ◌>>=◌, fault_of, UnitRecord}
 use Rattle.addr2line_lines.specs.CachedNames.{AreNamesMore}
 use Rattle.addr2line_lines.specs.CostedSteps.{on_parts}
@@ -95,19 +96,12 @@ details_fault scope u [] = Ok tt
 details_fault scope u (f ∷ functions) =
     fault_of (detail_at scope u f.offset) >>= λ _. details_fault scope u functions
 
--- the same by what is cached of each function, or else by its entries
-abbrev pub details_fault_or : Scope → UnitRecord → List CachedFunction → Result (Unit {0}) Error
-details_fault_or scope u [] = Ok tt
-details_fault_or scope u (f ∷ functions) =
-    read_fault scope u (Some f) >>= λ _. details_fault_or scope u functions
-
--- whether memory may be taken for the details of functions, in their order: for that of the first,
--- or for those after it where that of the first can be read
-abbrev pub details_take_memory : Bool → Scope → UnitRecord → List CachedFunction → Bool
-details_take_memory shares scope u [] = false
-details_take_memory shares scope u (f ∷ functions) =
-    (read_once scope u (Some f)).takes_memory shares
-    || is_ok (read_fault scope u (Some f)) && details_take_memory shares scope u functions
+-- the details of functions in their order, up to the first fault: of each what is cached, or else
+-- what its entries give
+abbrev pub details_or : Scope → UnitRecord → List CachedFunction → Costed (Unit {0})
+details_or scope u [] = free (Ok tt)
+details_or scope u (f ∷ functions) =
+    costed.◌>>=◌ (read_once scope u (Some f)) (λ _. details_or scope u functions)
 
 -- the detail of a function is cached, and has no fault
 abbrev pub HasDetail : CachedFunction → Type 0
@@ -156,7 +150,7 @@ pub record AfterReadingAll (scope : Scope) (u : UnitRecord) (result : Result (Un
   pub known : OnOk result (AllByRecursion HasDetail new.functions)
   pub whole : result ≢ Err OutOfMemory → AreCachedToFault new.functions
   pub memory : AreCachedToFault new.functions → result ≢ Err OutOfMemory
-  pub exact : AreCachedToFault old.functions → result ≡ details_fault_or scope u old.functions
+  pub exact : AreCachedToFault old.functions → result ≡ (details_or scope u old.functions).given
   pub same : AreCachedToFault old.functions → new ≡ old
 
 -- the functions stay those that have a range where more is cached

@@ -9,7 +9,7 @@ ghost use Rattle.addr2line_lines.specs.InlinedChain.{inlined_chain};
 ghost use Rattle.addr2line_lines.specs.FoundInlined.{entry_among};
 ghost use Rattle.addr2line_lines.specs.FoundRanges.{is_function};
 ghost use Rattle.addr2line_lines.specs.FunctionCache.{read_at};
-ghost use Rattle.addr2line_lines.specs.FunctionDetails.{AfterReadingAll, AreUnread, IsReadAt, details_fault_or, details_take_memory, read_once};
+ghost use Rattle.addr2line_lines.specs.FunctionDetails.{AfterReadingAll, AreUnread, IsReadAt, details_or, read_once};
 ghost use Rattle.addr2line_lines.specs.FunctionTable.{AreListed, cached_inlined, cached_name, function_place_at, cached_offset_at};
 ghost use Rattle.addr2line_lines.specs.Functions.{function_offset_at, functions_of, functions_take_memory, is_subprogram};
 ghost use Rattle.addr2line_lines.specs.InlineRoom.{exceeds_inline_room};
@@ -328,9 +328,8 @@ impl<R: Reader> Functions<R> {
     pub fn read_all(&mut self, scope: Scope<'_, R>, unit: &Unit<R>) -> Result<(), Error>
         requires in_order { IsScope (as_scope scope) }
         requires unit { AreNamesIn (as_scope scope) unit.now self.old.names }
-        ensures gives { ExactlyUnlessOomIf (details_take_memory R.shares (as_scope scope.entry)
-            unit.now self.old.functions) (λ x. x) result
-            (details_fault_or (as_scope scope.entry) unit.now self.old.functions) }
+        ensures gives { ExactlyAtCost R.shares (λ x. x) result
+            (details_or (as_scope scope.entry) unit.now self.old.functions) }
         ensures after { AfterReadingAll (as_scope scope.entry) unit.now result self.old self.new }
     {
         let count = self.functions.len();

@@ -34,9 +34,9 @@ pub record AreFresh {R : Type 0} (v : EntriesCache R) : Type 0 where
   pub functions : were_read v.functions ≡ false
 
 -- the unit that was looked at, if one was
-abbrev pub unit_of : {R : Type 0} → LookedAt R → Option UnitInScope
-unit_of looked.Nothing = None
-unit_of (looked.Unit sources dw_unit) =
+abbrev pub looked_at_unit : {R : Type 0} → LookedAt R → Option UnitInScope
+looked_at_unit looked.Nothing = None
+looked_at_unit (looked.Unit sources dw_unit) =
     Some (in_scope (scope_of sources.value) dw_unit.value)
 
 -- what is cached of a unit: its lines with its language, its entries, and the unit that was looked

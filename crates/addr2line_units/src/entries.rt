@@ -128,17 +128,17 @@ pub(crate) struct UnitCache<R: Reader> {
 }
 
 impl<R: Reader> Model for UnitCache<R> {
-    ghost use Rattle.addr2line_units.specs.EntriesOwn.{AreOwnEntries, CachedUnit, unit_of};
+    ghost use Rattle.addr2line_units.specs.EntriesOwn.{AreOwnEntries, CachedUnit, looked_at_unit};
 
     ghost Value = { CachedUnit R };
 
     ghost view = { λ c. record {
       lines = c.lines;
       entries = c.entries;
-      unit = unit_of c.unit.value;
+      unit = looked_at_unit c.unit.value;
     } };
 
-    ghost invariant = { λ c. AreOwnEntries (unit_of c.unit.value) c.entries };
+    ghost invariant = { λ c. AreOwnEntries (looked_at_unit c.unit.value) c.entries };
 }
 
 // What a unit has at an address.

@@ -1,5 +1,5 @@
 use Rattle.addr2line_units.proofs.Common.{subst, sym, ◌∙◌, ◌≡◌, true, false, err_from_is_err_and, waits}
-use Rattle.addr2line_units.specs.EntriesOwn.{AreOwnEntries, CachedUnit, unit_of}
+use Rattle.addr2line_units.specs.EntriesOwn.{AreOwnEntries, CachedUnit, looked_at_unit}
 use Rattle.addr2line_units.specs.SupScope.{scope_of}
 use Rattle.addr2line_units.proofs.EntriesLemmas.{checked_keeps}
 use Rattle.addr2line_units.proofs.EntriesFrameLemmas.{here_after, here_gives, no_function_after, no_function_gives, no_lines_after, no_lines_gives, waits_after, waits_gives}
@@ -73,7 +73,7 @@ returns-in_err-row-clause-gives g c =
     let own = subst (λ (k : CachedUnit g.row.R.Denot). AreOwnEntries k.unit k.entries) c.self.view_is c.self.invariant in
     let check = checked_keeps S u was.entries mid.entries (own_entries S u mid c.requires.in_order (of_unit_looked_at S u mid looked.unit) own) looked.entries in
     let shut = subst (λ (k : CachedUnit g.row.R.Denot). waits k.entries.view.state ≡ false) c.self.view_is (sym c.is_open.ensures.gives ∙ c.if-is_open.false) in
-    let k : CachedUnit g.row.R.Denot = record { lines = c.self-2.inside.lines; entries = c.self-2.inside.entries; unit = unit_of c.self-2.inside.unit.value } in
+    let k : CachedUnit g.row.R.Denot = record { lines = c.self-2.inside.lines; entries = c.self-2.inside.entries; unit = looked_at_unit c.self-2.inside.unit.value } in
     let f = rw (sym c.self-2.view_is) at c.in_ok-function.ensures in
     let p = err_from_is_err_and c.from_residual-in_err-row.result c.from_residual-in_err-row.ensures.1 in
     let e = rw c.deref.ensures at c.in_err-row.ensures in
@@ -90,7 +90,7 @@ returns-in_err-row-clause-after g c =
     let own = subst (λ (k : CachedUnit g.row.R.Denot). AreOwnEntries k.unit k.entries) c.self.view_is c.self.invariant in
     let check = checked_keeps S u was.entries mid.entries (own_entries S u mid c.requires.in_order (of_unit_looked_at S u mid looked.unit) own) looked.entries in
     let shut = subst (λ (k : CachedUnit g.row.R.Denot). waits k.entries.view.state ≡ false) c.self.view_is (sym c.is_open.ensures.gives ∙ c.if-is_open.false) in
-    let k : CachedUnit g.row.R.Denot = record { lines = c.self-2.inside.lines; entries = c.self-2.inside.entries; unit = unit_of c.self-2.inside.unit.value } in
+    let k : CachedUnit g.row.R.Denot = record { lines = c.self-2.inside.lines; entries = c.self-2.inside.entries; unit = looked_at_unit c.self-2.inside.unit.value } in
     let f = rw (sym c.self-2.view_is) at c.in_ok-function.ensures in
     let p = err_from_is_err_and c.from_residual-in_err-row.result c.from_residual-in_err-row.ensures.1 in
     let e = rw c.deref.ensures at c.in_err-row.ensures in
@@ -107,7 +107,7 @@ returns-clause-gives g c =
     let own = subst (λ (k : CachedUnit g.row.R.Denot). AreOwnEntries k.unit k.entries) c.self.view_is c.self.invariant in
     let check = checked_keeps S u was.entries mid.entries (own_entries S u mid c.requires.in_order (of_unit_looked_at S u mid looked.unit) own) looked.entries in
     let shut = subst (λ (k : CachedUnit g.row.R.Denot). waits k.entries.view.state ≡ false) c.self.view_is (sym c.is_open.ensures.gives ∙ c.if-is_open.false) in
-    let k : CachedUnit g.row.R.Denot = record { lines = c.self-2.inside.lines; entries = c.self-2.inside.entries; unit = unit_of c.self-2.inside.unit.value } in
+    let k : CachedUnit g.row.R.Denot = record { lines = c.self-2.inside.lines; entries = c.self-2.inside.entries; unit = looked_at_unit c.self-2.inside.unit.value } in
     let f = rw (sym c.self-2.view_is) at c.in_ok-function.ensures in
     let e = rw c.deref.ensures at c.in_ok-row.ensures in
     here_gives shares S u c.args.probe was mid looked check shut k c.in_ok-function.function f.after f.gives c.find_row.new.self c.in_ok-row.row e.after e.gives
@@ -123,7 +123,7 @@ returns-clause-after g c =
     let own = subst (λ (k : CachedUnit g.row.R.Denot). AreOwnEntries k.unit k.entries) c.self.view_is c.self.invariant in
     let check = checked_keeps S u was.entries mid.entries (own_entries S u mid c.requires.in_order (of_unit_looked_at S u mid looked.unit) own) looked.entries in
     let shut = subst (λ (k : CachedUnit g.row.R.Denot). waits k.entries.view.state ≡ false) c.self.view_is (sym c.is_open.ensures.gives ∙ c.if-is_open.false) in
-    let k : CachedUnit g.row.R.Denot = record { lines = c.self-2.inside.lines; entries = c.self-2.inside.entries; unit = unit_of c.self-2.inside.unit.value } in
+    let k : CachedUnit g.row.R.Denot = record { lines = c.self-2.inside.lines; entries = c.self-2.inside.entries; unit = looked_at_unit c.self-2.inside.unit.value } in
     let f = rw (sym c.self-2.view_is) at c.in_ok-function.ensures in
     let e = rw c.deref.ensures at c.in_ok-row.ensures in
     here_after shares S u c.args.probe was mid looked check shut k c.in_ok-function.function f.after f.gives c.find_row.new.self c.in_ok-row.row e.after e.gives

@@ -1,5 +1,5 @@
-use Rattle.addr2line_units.proofs.Common.{were_read, cached_fault, LazyFunctions, ◌≡◌, ◌∙◌, refl, ap, sym, subst, Ok, Err, err_from_is_err_and, as_scope, FunctionTable, Result, Error, ExactlyUnlessOom, ExactlyUnlessOomIf, ReadingDepth, details_take_memory, functions_fault, read_of_functions, reading_takes_memory, false≢true}
-use Rattle.addr2line_units.specs.EntriesOwn.{CachedUnit, unit_of}
+use Rattle.addr2line_units.proofs.Common.{were_read, cached_fault, LazyFunctions, ◌≡◌, ◌∙◌, refl, ap, sym, subst, Ok, Err, err_from_is_err_and, as_scope, FunctionTable, Result, Error, ExactlyUnlessOom, ExactlyUnlessOomIf, ReadingDepth, details_or, functions_fault, read_of_functions, reading_takes_memory, false≢true}
+use Rattle.addr2line_units.specs.EntriesOwn.{CachedUnit, looked_at_unit}
 use Rattle.addr2line_units.specs.SupScope.{scope_of}
 use Rattle.addr2line_units.specs.declared.parses.ReadingDepth.TheVariants as depths
 use Rattle.addr2line_units.specs.declared.entries.LazyFunctions.TheVariants as lazy
@@ -23,14 +23,14 @@ pub returns-in_err-unit : goal.returns-in_err-unit
 returns-in_err-unit g c =
     let p = err_from_is_err_and c.from_residual.result c.from_residual.ensures.1 in
     let s = c.self.inside in
-    let k : CachedUnit g.row.R.Denot = record { lines = s.lines; entries = s.entries; unit = unit_of s.unit.value } in
+    let k : CachedUnit g.row.R.Denot = record { lines = s.lines; entries = s.entries; unit = looked_at_unit s.unit.value } in
     let is = faulty g.R.Reader.shares (scope_of c.args.sources.now) c.args.dw_unit.now k c.args.self.now c.self.view_is c.requires.in_order c.requires.unit c.self.invariant c.requires.decided c.deref.result.now c.deref.ensures c.in_err-unit.field-0.0 c.in_err-unit.ensures.gives in
     rw (p.1, p.2) (record { gives = λ ne. is.reads c.args.depth; after = is.read c.args.depth })
 
 pub invariant_of-self : goal.invariant_of-self
 invariant_of-self g c =
     let s = c.self.inside in
-    let k : CachedUnit g.row.R.Denot = record { lines = s.lines; entries = s.entries; unit = unit_of s.unit.value } in
+    let k : CachedUnit g.row.R.Denot = record { lines = s.lines; entries = s.entries; unit = looked_at_unit s.unit.value } in
     let x = c.in_ok-unit.unit.unit.now in
     let inner = as_scope c.scope_of-scope.result in
     let v = viewed g.R.Reader.shares (scope_of c.args.sources.now) c.args.dw_unit.now k c.args.self.now c.self.view_is c.requires.in_order c.requires.unit c.self.invariant c.requires.decided c.deref.result.now c.deref.ensures c.in_ok-unit.unit.dwarf.now x inner c.in_ok-unit.ensures.gives (as_scope c.scope.result) c.scope.ensures.gives c.scope_of-scope.ensures.gives in
@@ -41,7 +41,7 @@ pub returns-in_err-cache : goal.returns-in_err-cache
 returns-in_err-cache g c =
     let p = err_from_is_err_and c.from_residual-in_err-cache.result c.from_residual-in_err-cache.ensures.1 in
     let s = c.self.inside in
-    let k : CachedUnit g.row.R.Denot = record { lines = s.lines; entries = s.entries; unit = unit_of s.unit.value } in
+    let k : CachedUnit g.row.R.Denot = record { lines = s.lines; entries = s.entries; unit = looked_at_unit s.unit.value } in
     let x = c.in_ok-unit.unit.unit.now in
     let inner = as_scope c.scope_of-scope.result in
     let v = viewed g.R.Reader.shares (scope_of c.args.sources.now) c.args.dw_unit.now k c.args.self.now c.self.view_is c.requires.in_order c.requires.unit c.self.invariant c.requires.decided c.deref.result.now c.deref.ensures c.in_ok-unit.unit.dwarf.now x inner c.in_ok-unit.ensures.gives (as_scope c.scope.result) c.scope.ensures.gives c.scope_of-scope.ensures.gives in
@@ -54,7 +54,7 @@ returns-in_err-cache g c =
 pub invariant_of-self-in-Faulty : goal.invariant_of-self-in-Faulty
 invariant_of-self-in-Faulty g c =
     let s = c.self.inside in
-    let k : CachedUnit g.row.R.Denot = record { lines = s.lines; entries = s.entries; unit = unit_of s.unit.value } in
+    let k : CachedUnit g.row.R.Denot = record { lines = s.lines; entries = s.entries; unit = looked_at_unit s.unit.value } in
     let x = c.in_ok-unit.unit.unit.now in
     let inner = as_scope c.scope_of-scope.result in
     let v = viewed g.R.Reader.shares (scope_of c.args.sources.now) c.args.dw_unit.now k c.args.self.now c.self.view_is c.requires.in_order c.requires.unit c.self.invariant c.requires.decided c.deref.result.now c.deref.ensures c.in_ok-unit.unit.dwarf.now x inner c.in_ok-unit.ensures.gives (as_scope c.scope.result) c.scope.ensures.gives c.scope_of-scope.ensures.gives in
@@ -64,7 +64,7 @@ invariant_of-self-in-Faulty g c =
 pub returns-in-Faulty : goal.returns-in-Faulty
 returns-in-Faulty g c =
     let s = c.self.inside in
-    let k : CachedUnit g.row.R.Denot = record { lines = s.lines; entries = s.entries; unit = unit_of s.unit.value } in
+    let k : CachedUnit g.row.R.Denot = record { lines = s.lines; entries = s.entries; unit = looked_at_unit s.unit.value } in
     let x = c.in_ok-unit.unit.unit.now in
     let inner = as_scope c.scope_of-scope.result in
     let v = viewed g.R.Reader.shares (scope_of c.args.sources.now) c.args.dw_unit.now k c.args.self.now c.self.view_is c.requires.in_order c.requires.unit c.self.invariant c.requires.decided c.deref.result.now c.deref.ensures c.in_ok-unit.unit.dwarf.now x inner c.in_ok-unit.ensures.gives (as_scope c.scope.result) c.scope.ensures.gives c.scope_of-scope.ensures.gives in
@@ -77,7 +77,7 @@ returns-in-Faulty g c =
 pub invariant_of-self-in-Absent : goal.invariant_of-self-in-Absent
 invariant_of-self-in-Absent g c =
     let s = c.self.inside in
-    let k : CachedUnit g.row.R.Denot = record { lines = s.lines; entries = s.entries; unit = unit_of s.unit.value } in
+    let k : CachedUnit g.row.R.Denot = record { lines = s.lines; entries = s.entries; unit = looked_at_unit s.unit.value } in
     let x = c.in_ok-unit.unit.unit.now in
     let inner = as_scope c.scope_of-scope.result in
     let v = viewed g.R.Reader.shares (scope_of c.args.sources.now) c.args.dw_unit.now k c.args.self.now c.self.view_is c.requires.in_order c.requires.unit c.self.invariant c.requires.decided c.deref.result.now c.deref.ensures c.in_ok-unit.unit.dwarf.now x inner c.in_ok-unit.ensures.gives (as_scope c.scope.result) c.scope.ensures.gives c.scope_of-scope.ensures.gives in
@@ -86,7 +86,7 @@ invariant_of-self-in-Absent g c =
 pub returns-in-Absent : goal.returns-in-Absent
 returns-in-Absent g c =
     let s = c.self.inside in
-    let k : CachedUnit g.row.R.Denot = record { lines = s.lines; entries = s.entries; unit = unit_of s.unit.value } in
+    let k : CachedUnit g.row.R.Denot = record { lines = s.lines; entries = s.entries; unit = looked_at_unit s.unit.value } in
     let x = c.in_ok-unit.unit.unit.now in
     let inner = as_scope c.scope_of-scope.result in
     let v = viewed g.R.Reader.shares (scope_of c.args.sources.now) c.args.dw_unit.now k c.args.self.now c.self.view_is c.requires.in_order c.requires.unit c.self.invariant c.requires.decided c.deref.result.now c.deref.ensures c.in_ok-unit.unit.dwarf.now x inner c.in_ok-unit.ensures.gives (as_scope c.scope.result) c.scope.ensures.gives c.scope_of-scope.ensures.gives in
@@ -104,7 +104,7 @@ returns-in-Unread g c = absurd (false≢true (sym (ap were_read c.in-Unread.is) 
 pub invariant_of-self-then-matches : goal.invariant_of-self-then-matches
 invariant_of-self-then-matches g c =
     let s = c.self.inside in
-    let k : CachedUnit g.row.R.Denot = record { lines = s.lines; entries = s.entries; unit = unit_of s.unit.value } in
+    let k : CachedUnit g.row.R.Denot = record { lines = s.lines; entries = s.entries; unit = looked_at_unit s.unit.value } in
     let x = c.in_ok-unit.unit.unit.now in
     let inner = as_scope c.scope_of-scope.result in
     let v = viewed g.R.Reader.shares (scope_of c.args.sources.now) c.args.dw_unit.now k c.args.self.now c.self.view_is c.requires.in_order c.requires.unit c.self.invariant c.requires.decided c.deref.result.now c.deref.ensures c.in_ok-unit.unit.dwarf.now x inner c.in_ok-unit.ensures.gives (as_scope c.scope.result) c.scope.ensures.gives c.scope_of-scope.ensures.gives in
@@ -113,7 +113,7 @@ invariant_of-self-then-matches g c =
 pub returns-then-matches : goal.returns-then-matches
 returns-then-matches g c =
     let s = c.self.inside in
-    let k : CachedUnit g.row.R.Denot = record { lines = s.lines; entries = s.entries; unit = unit_of s.unit.value } in
+    let k : CachedUnit g.row.R.Denot = record { lines = s.lines; entries = s.entries; unit = looked_at_unit s.unit.value } in
     let x = c.in_ok-unit.unit.unit.now in
     let inner = as_scope c.scope_of-scope.result in
     let v = viewed g.R.Reader.shares (scope_of c.args.sources.now) c.args.dw_unit.now k c.args.self.now c.self.view_is c.requires.in_order c.requires.unit c.self.invariant c.requires.decided c.deref.result.now c.deref.ensures c.in_ok-unit.unit.dwarf.now x inner c.in_ok-unit.ensures.gives (as_scope c.scope.result) c.scope.ensures.gives c.scope_of-scope.ensures.gives in
@@ -127,7 +127,7 @@ returns-then-matches g c =
 pub read_all-requires-clause-unit : goal.read_all-requires-clause-unit
 read_all-requires-clause-unit g c =
     let s = c.self.inside in
-    let k : CachedUnit g.row.R.Denot = record { lines = s.lines; entries = s.entries; unit = unit_of s.unit.value } in
+    let k : CachedUnit g.row.R.Denot = record { lines = s.lines; entries = s.entries; unit = looked_at_unit s.unit.value } in
     let x = c.in_ok-unit.unit.unit.now in
     let inner = as_scope c.scope_of-scope.result in
     let v = viewed g.R.Reader.shares (scope_of c.args.sources.now) c.args.dw_unit.now k c.args.self.now c.self.view_is c.requires.in_order c.requires.unit c.self.invariant c.requires.decided c.deref.result.now c.deref.ensures c.in_ok-unit.unit.dwarf.now x inner c.in_ok-unit.ensures.gives (as_scope c.scope.result) c.scope.ensures.gives c.scope_of-scope.ensures.gives in
@@ -136,7 +136,7 @@ read_all-requires-clause-unit g c =
 pub invariant_of-self-2 : goal.invariant_of-self-2
 invariant_of-self-2 g c =
     let s = c.self.inside in
-    let k : CachedUnit g.row.R.Denot = record { lines = s.lines; entries = s.entries; unit = unit_of s.unit.value } in
+    let k : CachedUnit g.row.R.Denot = record { lines = s.lines; entries = s.entries; unit = looked_at_unit s.unit.value } in
     let x = c.in_ok-unit.unit.unit.now in
     let inner = as_scope c.scope_of-scope.result in
     let v = viewed g.R.Reader.shares (scope_of c.args.sources.now) c.args.dw_unit.now k c.args.self.now c.self.view_is c.requires.in_order c.requires.unit c.self.invariant c.requires.decided c.deref.result.now c.deref.ensures c.in_ok-unit.unit.dwarf.now x inner c.in_ok-unit.ensures.gives (as_scope c.scope.result) c.scope.ensures.gives c.scope_of-scope.ensures.gives in
@@ -155,7 +155,7 @@ invariant_of-self-2 g c =
 pub returns : goal.returns
 returns g c =
     let s = c.self.inside in
-    let k : CachedUnit g.row.R.Denot = record { lines = s.lines; entries = s.entries; unit = unit_of s.unit.value } in
+    let k : CachedUnit g.row.R.Denot = record { lines = s.lines; entries = s.entries; unit = looked_at_unit s.unit.value } in
     let x = c.in_ok-unit.unit.unit.now in
     let inner = as_scope c.scope_of-scope.result in
     let v = viewed g.R.Reader.shares (scope_of c.args.sources.now) c.args.dw_unit.now k c.args.self.now c.self.view_is c.requires.in_order c.requires.unit c.self.invariant c.requires.decided c.deref.result.now c.deref.ensures c.in_ok-unit.unit.dwarf.now x inner c.in_ok-unit.ensures.gives (as_scope c.scope.result) c.scope.ensures.gives c.scope_of-scope.ensures.gives in
@@ -170,7 +170,7 @@ returns g c =
     let table = table_now shares inner x before mid v.functions a t c.in-Read.is in
     let e = rw c.deref_mut.ensures.value at c.read_all.ensures in
     let depth : c.args.depth ≡ depths.Details = elim c.match-matches.branch [ in-Functions w ↦ absurd (false≢true (sym c.if-matches.false ∙ w.matches-is)) | in_default w ↦ reads_details c.args.depth w.in_default.not-Functions ] in
-    let may = details_take_memory shares inner x t.value.functions in
+    let may = (details_or inner x t.value.functions).takes_memory shares in
     let gives = exactly_weaker may (reading_takes_memory shares inner x before) (λ x. x) result (functions_fault inner x)
     (reading_before before mid kept shares inner x t c.in-Read.is table)
     (subst (λ (r : Result (Unit {0}) Error). ExactlyUnlessOomIf may (λ x. x) result r) (details_fault_is inner x t.value.functions table.details ∙ sym (fault_is inner x t.value table)) e.gives) in

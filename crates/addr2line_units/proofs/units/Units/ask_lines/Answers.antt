@@ -1,7 +1,7 @@
 use Rattle.addr2line_units.proofs.Common.{CachedUnit, get_or, Err, Ok, Option, Some, arith, refl, subst, sym, ◌∙◌, ◌≡◌, ◌≢◌, OutOfMemory, err_from_is_err_and, false, option_map, location_of_row, lines_take_memory, as_stop, cached_files, indexed_unit, location_in, row_stop, stop_at, set, FindsNothing}
 use Rattle.addr2line_lines.specs.declared.row.Row.{Row}
 use Rattle.addr2line_units.specs.CacheAfter.{AfterLinesOf}
-use Rattle.addr2line_units.specs.EntriesOwn.{unit_of}
+use Rattle.addr2line_units.specs.EntriesOwn.{looked_at_unit}
 use Rattle.addr2line_units.specs.UnitLinesCached.{location_or}
 use Rattle.addr2line_units.specs.declared.frames.Asks.TheVariants as lookups
 use Rattle.addr2line_units.proofs.LocationsAtLemmas.{fault_after, none_after_row, none_row, row_after, row_fault, row_lendable, row_told}
@@ -30,7 +30,7 @@ invariant_of-self-in_err-row g c =
     let i = c.self.invariant in
     let n = c.args.number in
     let there = unit_got c.scope-scope.ensures.gives c.as_slice.ensures.gives n c.in-Some.ensures.lookup.0 c.in-Some.ensures.lookup.1 in
-    let v : CachedUnit g.row.R.Denot = record { lines = c.cache.inside.lines; entries = c.cache.inside.entries; unit = unit_of c.cache.inside.unit.value } in
+    let v : CachedUnit g.row.R.Denot = record { lines = c.cache.inside.lines; entries = c.cache.inside.entries; unit = looked_at_unit c.cache.inside.unit.value } in
     let at = subst (λ (y : CachedUnit g.row.R.Denot). y ≡ get_or c.self.inside.caches.items c.args.number y) (sym c.cache.view_is) c.index_mut-cache.ensures.value in
     let a = subst (λ d. AfterLinesOf g.R.Reader.shares d c.in-Some.dw_unit.now c.find_row.result v.lines c.find_row.new.self) (sections_seen c.scope-scope.ensures.gives) c.find_row.ensures.after in
     units_with_lines i n there at _ (own_after (its_lines i n there at) a) refl refl
@@ -42,7 +42,7 @@ returns-in_err-row g c =
     let i = c.self.invariant in
     let was = as_stop s.caches.items s.stop in
     let there = unit_got c.scope-scope.ensures.gives c.as_slice.ensures.gives c.args.number c.in-Some.ensures.lookup.0 c.in-Some.ensures.lookup.1 in
-    let v : CachedUnit g.row.R.Denot = record { lines = c.cache.inside.lines; entries = c.cache.inside.entries; unit = unit_of c.cache.inside.unit.value } in
+    let v : CachedUnit g.row.R.Denot = record { lines = c.cache.inside.lines; entries = c.cache.inside.entries; unit = looked_at_unit c.cache.inside.unit.value } in
     let at = subst (λ (y : CachedUnit g.row.R.Denot). y ≡ get_or c.self.inside.caches.items c.args.number y) (sym c.cache.view_is) c.index_mut-cache.ensures.value in
     let u = c.in-Some.dw_unit.now in
     let l = c.find_row.new.self in
@@ -69,7 +69,7 @@ invariant_of-self-2 g c =
     let i = c.self.invariant in
     let was = as_stop s.caches.items s.stop in
     let there = unit_got c.scope-scope.ensures.gives c.as_slice.ensures.gives c.args.number c.in-Some.ensures.lookup.0 c.in-Some.ensures.lookup.1 in
-    let v : CachedUnit g.row.R.Denot = record { lines = c.cache.inside.lines; entries = c.cache.inside.entries; unit = unit_of c.cache.inside.unit.value } in
+    let v : CachedUnit g.row.R.Denot = record { lines = c.cache.inside.lines; entries = c.cache.inside.entries; unit = looked_at_unit c.cache.inside.unit.value } in
     let at = subst (λ (y : CachedUnit g.row.R.Denot). y ≡ get_or c.self.inside.caches.items c.args.number y) (sym c.cache.view_is) c.index_mut-cache.ensures.value in
     let u = c.in-Some.dw_unit.now in
     let l = c.find_row.new.self in
@@ -90,7 +90,7 @@ returns g c =
     let i = c.self.invariant in
     let was = as_stop s.caches.items s.stop in
     let there = unit_got c.scope-scope.ensures.gives c.as_slice.ensures.gives c.args.number c.in-Some.ensures.lookup.0 c.in-Some.ensures.lookup.1 in
-    let v : CachedUnit g.row.R.Denot = record { lines = c.cache.inside.lines; entries = c.cache.inside.entries; unit = unit_of c.cache.inside.unit.value } in
+    let v : CachedUnit g.row.R.Denot = record { lines = c.cache.inside.lines; entries = c.cache.inside.entries; unit = looked_at_unit c.cache.inside.unit.value } in
     let at = subst (λ (y : CachedUnit g.row.R.Denot). y ≡ get_or c.self.inside.caches.items c.args.number y) (sym c.cache.view_is) c.index_mut-cache.ensures.value in
     let u = c.in-Some.dw_unit.now in
     let l = c.find_row.new.self in

@@ -1,6 +1,6 @@
 use Rattle.addr2line_units.proofs.Common.{CachedUnit, get_or, refl, Ok, arith, slice_get, subst, sym, ◌≡◌, ExactlyUnlessOom, as_stop, cached_lines, lines_result_at, UnitsState}
 use Rattle.addr2line_units.specs.CacheAfter.{AfterLinesOf}
-use Rattle.addr2line_units.specs.EntriesOwn.{unit_of}
+use Rattle.addr2line_units.specs.EntriesOwn.{looked_at_unit}
 use Rattle.addr2line_units.proofs.LocationsAtLemmas.{caching_after, none_after_caching, none_read, read_there}
 use Rattle.addr2line_units.proofs.UnitsAtLemmas.{cache_within, its_lines, none_got, sections_seen, unit_got, units_with_lines}
 use Rattle.addr2line_units.specs.UnitLinesCached.{lines_result_or}
@@ -29,7 +29,7 @@ invariant_of-self-2 g c =
     let i = c.self.invariant in
     let n = c.args.number in
     let there = unit_got c.scope-scope.ensures.gives c.as_slice.ensures.gives n c.in-Some.ensures.lookup.0 c.in-Some.ensures.lookup.1 in
-    let v : CachedUnit g.row.R.Denot = record { lines = c.cache.inside.lines; entries = c.cache.inside.entries; unit = unit_of c.cache.inside.unit.value } in
+    let v : CachedUnit g.row.R.Denot = record { lines = c.cache.inside.lines; entries = c.cache.inside.entries; unit = looked_at_unit c.cache.inside.unit.value } in
     let at = subst (λ (y : CachedUnit g.row.R.Denot). y ≡ get_or c.self.inside.caches.items c.args.number y) (sym c.cache.view_is) c.index_mut-cache.ensures.value in
     let a = subst (λ d. AfterLinesOf g.R.Reader.shares d c.in-Some.dw_unit.now c.read_lines.result v.lines c.read_lines.new.self) (sections_seen c.scope-scope.ensures.gives) c.read_lines.ensures.after in
     units_with_lines i n there at _ (own_after (its_lines i n there at) a) refl refl
@@ -40,7 +40,7 @@ returns g c =
     let i = c.self.invariant in
     let was = as_stop s.caches.items s.stop in
     let there = unit_got c.scope-scope.ensures.gives c.as_slice.ensures.gives c.args.number c.in-Some.ensures.lookup.0 c.in-Some.ensures.lookup.1 in
-    let v : CachedUnit g.row.R.Denot = record { lines = c.cache.inside.lines; entries = c.cache.inside.entries; unit = unit_of c.cache.inside.unit.value } in
+    let v : CachedUnit g.row.R.Denot = record { lines = c.cache.inside.lines; entries = c.cache.inside.entries; unit = looked_at_unit c.cache.inside.unit.value } in
     let at = subst (λ (y : CachedUnit g.row.R.Denot). y ≡ get_or c.self.inside.caches.items c.args.number y) (sym c.cache.view_is) c.index_mut-cache.ensures.value in
     let u = c.in-Some.dw_unit.now in
     let r = c.read_lines.result in

@@ -1,5 +1,5 @@
 -- What a context has and what its sections give (on specs/Context.antt).
-use Rattle.addr2line.proofs.Common.{◌≡◌, ℕ, zero, suc, ◌≤◌, ◌&&◌, ◌||◌, inl, inr, Bool, true, false, List, [], ◌∷◌, length, map, slice_get, Option, Some, None, option_map, Result, Ok, Err, refl, sym, ap, subst, ◌∙◌, arith, ◌+◌, IfErr, OnOk, Error, ◌>>=◌, Exactly, ExactlyUnlessOom, fault_of, result_map, WasNotRefused, Sections, UnitRecord, Scope, UnitRange, cover, cover_range, FindsNothing, main_scope, LocationResult, first_location, all_lines, is_found, lines_of_unit, location_in, location_of, steps_along, or_first_location, spans_along, spans_of, AreAllParsed, AreParsed, AsksFor, LeadTo, ParsesOnly, StaysParsed, has_parsed, ready_along, NothingKnown, IndexedUnit, RangedUnit, has_lines, indexed_of, ranged_units, unit_ranges_from, UnitIndex, index_units, sup_units, UnitsState, first_state, new_units, AfterLookup, AfterRangeLookup, ContextState, IsContext, IsReady, IsUncovered, IsReadyForRange, LocatesNoMemory, Stays, lines_of_all, new_context, as_context, has_stopped, ends_lookup, located_frames, location_stop, stop_along, stop_of, holds_along, LookupStop, Waits, Finds, location_found}
+use Rattle.addr2line.proofs.Common.{◌≡◌, ℕ, zero, suc, ◌≤◌, ◌&&◌, ◌||◌, inl, inr, Bool, true, false, List, [], ◌∷◌, length, map, slice_get, Option, Some, None, option_map, Result, Ok, Err, refl, sym, ap, subst, ◌∙◌, arith, ◌+◌, IfErr, OnOk, Error, ◌>>=◌, Exactly, ExactlyUnlessOom, fault_of, WasNotRefused, Sections, UnitRecord, Scope, UnitRange, cover, cover_range, FindsNothing, main_scope, LocationResult, first_location, all_lines, is_found, lines_of_unit, location_in, location_of, steps_along, or_first_location, spans_along, spans_of, AreAllParsed, AreParsed, AsksFor, LeadTo, ParsesOnly, StaysParsed, has_parsed, ready_along, NothingKnown, IndexedUnit, RangedUnit, has_lines, indexed_of, ranged_units, unit_ranges_from, UnitIndex, index_units, sup_units, UnitsState, first_state, new_units, AfterLookup, AfterRangeLookup, ContextState, IsContext, IsReady, IsUncovered, IsReadyForRange, LocatesNoMemory, Stays, lines_of_all, new_context, as_context, has_stopped, ends_lookup, located_frames, location_stop, stop_along, stop_of, holds_along, LookupStop, Waits, Finds, location_found}
 use Rattle.std.specs.Prelude.{is_ok}
 use Rattle.addr2line_lines.specs.Location.{LineTable, Location, location_at}
 use Rattle.addr2line_lines.specs.Rows.{read_all}
@@ -10,6 +10,7 @@ use Rattle.addr2line_units.proofs.UnitsNewLemmas.{ok_is}
 use Rattle.addr2line_units.proofs.FramesLookupLemmas.{holds_both, holds_first, holds_rest}
 use Rattle.addr2line_units.proofs.LocationsWalkLemmas.{located_fault}
 use Rattle.addr2line_units.proofs.UnitsLinesLemmas.{parsed_none_along}
+use Rattle.addr2line_units.proofs.Facts.{err_ok, rest_ok}
 use Rattle.addr2line.proofs.Facts.{same_tests}
 
 -- an answer that isn't OutOfMemory is exactly what is given
@@ -218,15 +219,8 @@ module _ (d : Sections) where
   first_ok : (u : IndexedUnit) (us : List IndexedUnit) → fault_of (all_lines d (u ∷ us)) ≡ Ok tt → (is_ok (lines_of_unit d u) ≡ true) × (fault_of (all_lines d us) ≡ Ok tt)
   first_ok u us e = of_lines (lines_of_unit d u) (map (lines_of_unit d) us) e
     where
-      of_rest : (x : LineTable) (r : Result (List LineTable) Error) → fault_of (result_map (λ xs. x ∷ xs) r) ≡ Ok tt → fault_of r ≡ Ok tt
-      of_rest x (Ok xs) h = refl
-      of_rest x (Err f) h = h
-
-      err_ok : (f : Error) → ◌≡◌ {A = Result (Unit {0}) Error} (Err f) (Ok tt) → ⊥
-      err_ok f k = cc
-
       of_lines : (l : Result LineTable Error) (rest : List (Result LineTable Error)) → fault_of (read_all (l ∷ rest)) ≡ Ok tt → (is_ok l ≡ true) × (fault_of (read_all rest) ≡ Ok tt)
-      of_lines (Ok x) rest h = (refl, of_rest x (read_all rest) h)
+      of_lines (Ok x) rest h = (refl, rest_ok x (read_all rest) h)
       of_lines (Err x) rest h = absurd (err_ok x h)
 
   each_ok : (us : List IndexedUnit) (probe n : ℕ) → fault_of (all_lines d us) ≡ Ok tt → is_ok (location_in d probe (slice_get us n)) ≡ true

@@ -1,6 +1,6 @@
 -- What a loader answers after lookups, which leave its files, its main file and its sections
 -- (on specs/LoaderAnswers.antt).
-use Rattle.addr2line_bin.proofs.Common.{◌≡◌, ◌∙◌, inl, inr, ◌⊎◌, ℕ, Bool, true, false, ◌&&◌, ◌||◌, List, [], ◌∷◌, Option, Some, None, Ok, Err, option_map, ap, refl, subst, sym, AfterLoads, AfterLocation, AfterLocationRange, LoaderState, StaysAnswered}
+use Rattle.addr2line_bin.proofs.Common.{◌≡◌, ◌∙◌, inl, inr, ◌⊎◌, ℕ, Bool, true, List, [], ◌∷◌, Option, Some, None, Ok, Err, option_map, ap, refl, subst, sym, AfterLoads, AfterLocation, AfterLocationRange, LoaderState, StaysAnswered}
 use Rattle.std.specs.Prelude.{IfSome}
 use Rattle.gimli_read.specs.Reading.{Exactly, result_map}
 use Rattle.gimli.specs.Sections.{Sections}
@@ -19,6 +19,7 @@ use Rattle.addr2line_units.specs.Locations.{location_of, spans_of}
 use Rattle.addr2line_units.specs.LocationsParsed.{StaysParsed, has_parsed, ready_along}
 use Rattle.addr2line_units.specs.UnitsIndex.{index_units}
 use Rattle.addr2line_units.specs.UnitsRanged.{IndexedUnit}
+use Rattle.addr2line.proofs.Facts.{both_more}
 use Rattle.addr2line.proofs.NoLoadLemmas.{last_frames}
 use Rattle.addr2line.specs.Context.{ContextState, IsReady, IsUncovered, Stays}
 use Rattle.addr2line.specs.Files.{ReadFiles}
@@ -33,15 +34,7 @@ use Rattle.addr2line_bin.specs.LoaderAnswers.{IsReadyAtAddress, MayFindBy, MayGi
 ready_more : (d : Sections) (us : List IndexedUnit) (p q : List Bool) → StaysParsed p q → (probe : ℕ) (ranges : List UnitRange) → ready_along d us p probe ranges ≡ true → ready_along d us q probe ranges ≡ true
 ready_more d us p q stays probe [] ready = refl
 ready_more d us p q stays probe (r ∷ ranges) ready =
-    both (has_parsed p r.unit) (ends_lookup (located_frames d us probe r.unit)) (ready_along d us p probe ranges) (has_parsed q r.unit) (ready_along d us q probe ranges) (stays r.unit) (ready_more d us p q stays probe ranges) ready
-  where
-    both : (a b c x y : Bool) → (a ≡ true → x ≡ true) → (c ≡ true → y ≡ true) → (a && (b || c)) ≡ true → (x && (b || y)) ≡ true
-    both true true c x y f g h = rw (f refl) refl
-    both true false c x y f g h = rw (f refl) (g h)
-    both false b c x y f g h = absurd (false_true h)
-      where
-        false_true : false ≡ true → ⊥
-        false_true e = cc
+    both_more (has_parsed p r.unit) (ends_lookup (located_frames d us probe r.unit)) (ready_along d us p probe ranges) (has_parsed q r.unit) (ready_along d us q probe ranges) (stays r.unit) (ready_more d us p q stays probe ranges) ready
 
 ready_later : (old new : ContextState) → new.sections ≡ old.sections → StaysParsed old.parsed new.parsed → (address : ℕ) → IsReadyAtAddress old address → IsReadyAtAddress new address
 ready_later old new e p address (inl last) = inl last

@@ -1,5 +1,6 @@
 -- Rows taken one after another make the sequences of the rows (on specs/Building.antt).
-use Rattle.addr2line_lines.proofs.Common.{ℕ, ◌≡◌, ◌+◌, ◌-◌, ◌*◌, ◌^◌, ◌<◌, ◌≤◌, ◌==◌, ◌⊎◌, Bool, true, false, cond, List, [], ◌∷◌, ◌++◌, Option, Some, None, map, length, take, drop, get_or, arith, inl, inr, ◌∙◌, ap, sym, subst, refl, append_assoc, append-nil, fold, Result, Ok, Err, IfOk, AllByRecursion, cons_option, sum_by_push, option_to_list, cases_lt, nat_tests, drop-append-le, drop-take, drop_all, get_or-drop, get_or-map, length_push, length-map, length-take-le, map_push, take-append-le, take-take, take_at, slice_get-get_or, Error, last, LineRow, NeverFalls, rows_before, Row, result_map, read_all, Sequence, stored_row, sequence_of, sequences_of, LineSequence, RowsEndBy, row_address_at, packed_rows_in, unpacked}
+use Rattle.addr2line_lines.proofs.Common.{ℕ, ◌≡◌, ◌+◌, ◌-◌, ◌*◌, ◌^◌, ◌<◌, ◌≤◌, ◌==◌, ◌⊎◌, Bool, true, false, cond, List, [], ◌∷◌, ◌++◌, Option, Some, None, map, length, take, drop, get_or, arith, inl, inr, ◌∙◌, ap, sym, subst, refl, append_assoc, append-nil, fold, Result, Ok, Err, IfOk, AllByRecursion, cons_option, sum_by_push, option_to_list, cases_lt, ne_eqb, nat_tests, drop-append-le, drop-take, drop_all, get_or-drop, get_or-map, length_push, length-map, length-take-le, map_push, take-append-le, take-take, take_at, slice_get-get_or, Error, last, LineRow, NeverFalls, rows_before, Row, result_map, read_all, Sequence, stored_row, sequence_of, sequences_of, LineSequence, RowsEndBy, row_address_at, packed_rows_in, unpacked}
+use Rattle.std.proofs.lemmas.Bool.{eq-eqb}
 use Rattle.std.proofs.lemmas.List.{length-drop}
 use Rattle.gimli_line.specs.Taking.{fault_after}
 use Rattle.addr2line_lines.specs.Building.{Built, IsBuilder, StoredBuilt, stored_rows, stored_taken, all_built, built, closed, built_ended, has_address, nothing_built, row_taken, with_row, without_last, without_last_from}
@@ -29,19 +30,13 @@ last_push (y ∷ z ∷ xs) x = last_push (z ∷ xs) x
 without_same : (rows : List Row) (a : Row) (m : ℕ) → a.address ≡ m → without_last m (rows ++ a ∷ []) ≡ rows
 without_same rows a m e =
     ap (λ o. cond (has_address m o) (take (length (rows ++ a ∷ []) - 1) (rows ++ a ∷ [])) (rows ++ a ∷ [])) (last_push rows a)
-    ∙ ap (λ b. cond b (take (length (rows ++ a ∷ []) - 1) (rows ++ a ∷ [])) (rows ++ a ∷ [])) (is_same a.address m e)
+    ∙ ap (λ b. cond b (take (length (rows ++ a ∷ []) - 1) (rows ++ a ∷ [])) (rows ++ a ∷ [])) (eq-eqb a.address m e)
     ∙ take_at rows (a ∷ []) (length (rows ++ a ∷ []) - 1) (let l = length_push rows a in omega arith)
-  where
-    is_same : (x y : ℕ) → x ≡ y → (x == y) ≡ true
-    is_same x y e = grind (arith, nat_tests)
 
 without_other : (rows : List Row) (a : Row) (m : ℕ) → (a.address ≡ m → ⊥) → without_last m (rows ++ a ∷ []) ≡ rows ++ a ∷ []
 without_other rows a m e =
     ap (λ o. cond (has_address m o) (take (length (rows ++ a ∷ []) - 1) (rows ++ a ∷ [])) (rows ++ a ∷ [])) (last_push rows a)
-    ∙ ap (λ b. cond b (take (length (rows ++ a ∷ []) - 1) (rows ++ a ∷ [])) (rows ++ a ∷ [])) (is_other a.address m e)
-  where
-    is_other : (x y : ℕ) → (x ≡ y → ⊥) → (x == y) ≡ false
-    is_other x y e = grind (arith, nat_tests)
+    ∙ ap (λ b. cond b (take (length (rows ++ a ∷ []) - 1) (rows ++ a ∷ [])) (rows ++ a ∷ [])) (ne_eqb a.address m e)
 
 -- rows that one row more makes, and which make the same sequences
 record MakesSameSequences (p : List LineRow) (r : LineRow) (rows : List LineRow) : Type 0 where

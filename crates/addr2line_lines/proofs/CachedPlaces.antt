@@ -1,10 +1,10 @@
 -- What is seen of cached functions, by their places (on specs/FunctionTable.antt).
-use Rattle.addr2line_lines.proofs.Common.{◌≡◌, ℕ, ◌<◌, ◌==◌, nat_lt, true, false, cond, List, [], ◌∷◌, get_or, length, map, slice_get, slice_index_or, Option, Some, None, Result, Ok, option_and_then, refl, ap, sym, subst, ◌∙◌, arith, zero, suc, AllByRecursion, position_or_len, position, nat_tests, position_or_len_is, slice_get-map, Error, FunctionDetail, LazyFunction, FunctionAddress, Detail, InlinedRange, AreFunctions, function_offsets, function_range_of, HasPlace, place_read, read_at, as_function, as_lazy, CachedFunction, inlined_of_detail, name_of_detail, function_offset_at, IsDetailPlace, CachedDetails, detail_of, shortest_function_at, length-map}
+use Rattle.addr2line_lines.proofs.Common.{◌≡◌, ℕ, ◌<◌, ◌==◌, nat_lt, true, cond, List, [], ◌∷◌, get_or, length, map, slice_get, slice_index_or, Option, Some, None, Result, Ok, option_and_then, refl, ap, sym, subst, ◌∙◌, arith, zero, suc, AllByRecursion, position_or_len, position, nat_tests, position_or_len_is, slice_get-map, Error, FunctionDetail, LazyFunction, FunctionAddress, Detail, InlinedRange, AreFunctions, function_offsets, function_range_of, HasPlace, place_read, read_at, as_function, as_lazy, CachedFunction, inlined_of_detail, name_of_detail, function_offset_at, IsDetailPlace, CachedDetails, detail_of, shortest_function_at, length-map}
 use Rattle.std.specs.Option.{option_map}
 use Rattle.addr2line_lines.specs.declared.functions.LazyDetail.{LazyDetail}
 use Rattle.addr2line_lines.specs.declared.functions.LazyDetail.TheVariants.{Unread, Read, Faulty}
 use Rattle.addr2line_lines.proofs.FunctionOrder.{found_is, place_found}
-use Rattle.addr2line_lines.proofs.Facts.{all_at}
+use Rattle.addr2line_lines.proofs.Facts.{all_at, not_below, not_itself}
 
 -- a cached detail, by the place of its function
 abbrev pub cached_at : List CachedFunction → ℕ → Option (Result Detail Error)
@@ -107,16 +107,10 @@ first_there d fs addresses h n l =
     let listed : length (function_offsets fs) ≡ length fs = length-map fs (λ (f : LazyFunction). f.dw_die_offset) in
     let is : position_or_len (λ (f : CachedFunction). f.offset == at n) (map (as_function d) fs) ≡ n =
     position_or_len_is (λ (f : CachedFunction). f.offset == at n) (map (as_function d) fs) n none (omega arith)
-    (λ k m. ap (λ o. o == at n) (offset_seen d fs k none (omega arith)) ∙ below (at k) (at n) (h.rising k n (record { 0 = 0 }) m (omega arith)))
-    (λ m. ap (λ o. o == at n) (offset_seen d fs n none l) ∙ itself (at n)) in
+    (λ k m. ap (λ o. o == at n) (offset_seen d fs k none (omega arith)) ∙ not_below (at k) (at n) (h.rising k n (record { 0 = 0 }) m (omega arith)))
+    (λ m. ap (λ o. o == at n) (offset_seen d fs n none l) ∙ not_itself (at n)) in
     let some : nat_lt n (length (map (as_function d) fs)) ≡ true = grind (arith, nat_tests) in
     ap (λ k. cond (nat_lt k (length (map (as_function d) fs))) (Some k) None) is ∙ ap (λ b. cond b (Some n) None) some
-  where
-    below : (a b : ℕ) → a < b → (a == b) ≡ false
-    below a b l = grind (arith, nat_tests)
-
-    itself : (a : ℕ) → (a == a) ≡ true
-    itself a = grind (arith, nat_tests)
 
 -- the place of the function at an address is that of its entry
 pub place_is : (d : CachedDetails) (fs : List LazyFunction) (addresses : List FunctionAddress) (probe : ℕ) → AreFunctions (function_offsets fs) addresses

@@ -1,5 +1,6 @@
 -- The attributes of inlined entries and functions, one at a time (on specs/FoundAttributes.antt).
 use Rattle.addr2line_lines.proofs.Common.{◌≡◌, ℕ, ◌==◌, ◌||◌, Bool, true, false, cond, List, [], Option, Result, Ok, Err, refl, ap, subst, ◌∙◌, count_by, eqb-true, or_parts, DW_AT_call_column, DW_AT_call_file, DW_AT_call_line, DW_AT_high_pc, DW_AT_low_pc, DW_AT_name, DW_AT_ranges, Error, UnexpectedEof, Abbrev, NamedValue, rest_of, Costed, free, Reading, ◌>>=◌, Exactly, ExactlyUnlessOomIf, Section, attributes_at, UnitRecord, RangeAttributes, Kind, InlinedAttributes, inlined_attributes_of, no_inlined_attributes, with_call, with_inlined_attribute, FoundInlined, with_inlined_found, is_name_attribute, is_linkage_name, is_origin, with_name, gives_a_range, with_range_attribute, Scope}
+use Rattle.std.proofs.lemmas.Bool.{cond-false}
 use Rattle.gimli_read.specs.declared.constants.DwAt.{DwAt}
 use Rattle.gimli_read.specs.Leb128.{uleb128_at, uleb128_in}
 use Rattle.gimli_read.specs.Costed as costed
@@ -10,7 +11,6 @@ use Rattle.addr2line_lines.specs.FoundAttributes.{inlined_attributes_after, is_c
 use Rattle.addr2line_lines.specs.FoundRanges.{is_range_name}
 use Rattle.addr2line_lines.specs.OpenEntries.{is_inlined_kind, is_listed, kind_of}
 use Rattle.addr2line_lines.proofs.FoundRanges.{rangeless}
-use Rattle.addr2line_lines.proofs.Facts.{cond_false}
 
 -- what holds of three names holds of each that is one of them
 pub by_one_of : (x y z : DwAt) (P : DwAt → Type 0) → P x → P y → P z → (name : DwAt) → (name.0 == x.0 || name.0 == y.0 || name.0 == z.0) ≡ true → P name
@@ -47,14 +47,14 @@ module _ (scope : Scope) (u : UnitRecord) where
   nameless name a h =
       let p = or_parts (is_linkage_name a.name || a.name.0 == DW_AT_name.0) (is_origin a.name) h in
       let q = or_parts (is_linkage_name a.name) (a.name.0 == DW_AT_name.0) p.0 in
-      cond_false _ _ _ q.0 ∙ cond_false _ _ _ q.1 ∙ cond_false _ _ _ p.1
+      cond-false _ _ _ q.0 ∙ cond-false _ _ _ q.1 ∙ cond-false _ _ _ p.1
 
   -- an attribute that says nothing of the call
   callless : (version : ℕ) (call : CallSite) (a : NamedValue) → is_call a.name ≡ false → with_call version call a ≡ call
   callless version call a h =
       let p = or_parts (a.name.0 == DW_AT_call_file.0 || a.name.0 == DW_AT_call_line.0) (a.name.0 == DW_AT_call_column.0) h in
       let q = or_parts (a.name.0 == DW_AT_call_file.0) (a.name.0 == DW_AT_call_line.0) p.0 in
-      cond_false _ _ _ q.0 ∙ cond_false _ _ _ q.1 ∙ cond_false _ _ _ p.1
+      cond-false _ _ _ q.0 ∙ cond-false _ _ _ q.1 ∙ cond-false _ _ _ p.1
 
   abbrev with_call_of : InlinedAttributes → CallSite → Result InlinedAttributes Error
   with_call_of x call = Ok (record { ranges = x.ranges; name = x.name; call = call })

@@ -11,7 +11,7 @@ use Rattle.addr2line_lines.proofs.InlinedOrder.{inlined_order, length_in_order, 
 use Rattle.addr2line_lines.proofs.NestingLemmas.{found_same, grown_not}
 use Rattle.addr2line_lines.proofs.OrderLemmas.{All-in, in_order_all, in_order_ordered}
 use Rattle.addr2line_lines.proofs.SeekLemmas.{non_decreasing}
-use Rattle.addr2line_lines.proofs.Facts.{before_more}
+use Rattle.addr2line_lines.proofs.Facts.{before_more, longer}
 
 -- ranges, those from a place on put in order
 abbrev pub sorted_from : ℕ → List InlinedFunctionAddress → List InlinedFunctionAddress
@@ -140,9 +140,6 @@ detail_stays cached more p h at = (same, still)
 
     same : detail_of more p ≡ detail_of cached p
     same = ap (λ n. made n (map (range_among more.found.entries) (listed_ranges p))) name_is ∙ ap (λ xs. made (slice_index_or cached.names p.name None) xs) inlined_is
-
-    longer : {X : Type 0} (xs ys : List X) → IsGrown xs ys → length xs ≤ length ys
-    longer xs ys g = let a : length ys ≡ length (xs ++ g.more) = ap (λ v. length v) g.is in let b = length-append xs g.more in omega arith
 
     still : IsDetailPlace more p
     still =

@@ -1,14 +1,11 @@
 -- Facts on booleans, numbers, orderings, options and lists that the proofs of this crate and of those
 -- above it cite, and that std doesn't have.
-use Rattle.addr2line_lines.proofs.Common.{All, AllByRecursion, AllZip, Bool, Bor, Equal, Greater, Less, List, None, Option, Ordering, Some, [], ap, append-nil, append_assoc, arith, cases_eq, common_steps, cond, count_by, drop, drop_all, eqb-true, false, get_or, get_or_from_slice_get, inl, inr, length, list_any, map, nat_le, nat_lt, nat_tests, option_copied, option_map, or_left, or_right, ordering_then, refl, reverse, reverse-append, rules, set, set_split, slice_get, slice_get-map, slice_get_past, slice_get_read, slice_index_or, slice_set, subst, suc, sym, take, true, zero, ℕ, ◌&&◌, ◌++◌, ◌+◌, ◌<◌, ◌==◌, ◌||◌, ◌∙◌, ◌∷◌, ◌≡◌, ◌≤◌, ◌⊎◌}
+use Rattle.addr2line_lines.proofs.Common.{All, AllByRecursion, AllZip, Bool, Bor, Equal, Greater, Less, List, None, Option, Ordering, Some, [], ap, append-nil, append_assoc, arith, cases_eq, common_steps, count_by, drop, drop_all, eqb-true, false, get_or, get_or_from_slice_get, inl, inr, length, length-append, list_any, map, nat_le, nat_lt, nat_tests, option_copied, option_map, or_left, or_right, ordering_then, refl, reverse, reverse-append, rules, set, set_split, slice_get, slice_get-map, slice_get_past, slice_get_read, slice_index_or, slice_set, subst, suc, sym, take, true, zero, ℕ, ◌&&◌, ◌++◌, ◌+◌, ◌<◌, ◌==◌, ◌||◌, ◌∙◌, ◌∷◌, ◌≡◌, ◌≤◌, ◌⊎◌}
 use Rattle.std.specs.List.{slice_get}
 use Rattle.std.specs.Slice.{IsItemAt}
+use Rattle.addr2line_lines.specs.Grown.{IsGrown}
 
 -- ---- of booleans
-
--- where no test holds, what stands last counts
-pub cond_false : {A : Type 0} (b : Bool) (x y : A) → b ≡ false → cond b x y ≡ y
-cond_false b x y h = ap (λ c. cond c x y) h
 
 pub or_false : (a b : Bool) → a ≡ false → (a || b) ≡ b
 or_false true b e = absurd cc
@@ -52,8 +49,8 @@ not_below m n l = grind (arith, nat_tests)
 pub not_above : (m n : ℕ) → n < m → (m == n) ≡ false
 not_above m n l = grind (arith, nat_tests)
 
-pub itself : (m n : ℕ) → m ≡ n → (n == m) ≡ true
-itself m n e = grind (arith, nat_tests)
+pub both_same : (m n : ℕ) → (m == m && n == n) ≡ true
+both_same m n = grind (arith, nat_tests)
 
 pub same_more : (k x y : ℕ) → (x == y) ≡ (k + x == k + y)
 same_more k x y = grind (arith, nat_tests)
@@ -120,6 +117,10 @@ pub before_more : {X : Type 0} (xs more : List X) (k : ℕ) (d : X) → k < leng
 before_more [] more k d l = absurd (omega arith)
 before_more (x ∷ xs) more zero d l = refl
 before_more (x ∷ xs) more (suc k) d l = before_more xs more k d (omega arith)
+
+-- a list that grew is no shorter
+pub longer : {X : Type 0} (xs ys : List X) → IsGrown xs ys → length xs ≤ length ys
+longer xs ys g = let a : length ys ≡ length (xs ++ g.more) = ap (λ v. length v) g.is in let b = length-append xs g.more in omega arith
 
 pub drop_none : {X : Type 0} (n : ℕ) → drop {A = X} n [] ≡ []
 drop_none zero = refl

@@ -1,5 +1,6 @@
 -- The attributes of ranges among others (on specs/FoundRanges.antt).
-use Rattle.addr2line_lines.proofs.Common.{◌≡◌, ◌==◌, ◌&&◌, Bool, true, false, cond, length, Some, Result, Ok, Err, refl, ap, ◌∙◌, list_any, DW_AT_high_pc, DW_AT_low_pc, DW_AT_ranges, Error, Abbrev, Section, ◌>>=◌, Exactly, ExactlyUnlessOomIf, NamedValue, rest_of, EntryUnit, attributes_at, EntryCursor, entry_abbreviation_at, next_offset_of, Sections, UnitRecord, RangeAttributes, FoundFunctions, next_found_at, is_subprogram, no_range_attributes, range_attributes_after, with_range_attribute}
+use Rattle.addr2line_lines.proofs.Common.{◌≡◌, ◌==◌, ◌&&◌, Bool, true, false, length, Some, Result, Ok, Err, refl, ◌∙◌, list_any, DW_AT_high_pc, DW_AT_low_pc, DW_AT_ranges, Error, Abbrev, Section, ◌>>=◌, Exactly, ExactlyUnlessOomIf, NamedValue, rest_of, EntryUnit, attributes_at, EntryCursor, entry_abbreviation_at, next_offset_of, Sections, UnitRecord, RangeAttributes, FoundFunctions, next_found_at, is_subprogram, no_range_attributes, range_attributes_after, with_range_attribute}
+use Rattle.std.proofs.lemmas.Bool.{cond-false}
 use Rattle.gimli_read.specs.declared.endian.Encoding.{Encoding}
 use Rattle.gimli.specs.WantedAttributes.{HasNoWanted}
 use Rattle.gimli.proofs.SinkLemmas.{taken_passes}
@@ -13,10 +14,7 @@ pub rangeless : (d : Sections) (u : UnitRecord) (r : RangeAttributes) (a : Named
 unfolding with_range_attribute
 rangeless d u r a h =
     let p = none_of (a.name.0 == DW_AT_low_pc.0) (a.name.0 == DW_AT_high_pc.0) (a.name.0 == DW_AT_ranges.0) h in
-    second _ _ _ p.0 ∙ second _ _ _ p.1 ∙ second _ _ _ p.2
-  where
-    second : {A : Type 0} (b : Bool) (x y : A) → b ≡ false → cond b x y ≡ y
-    second b x y h = ap (λ c. cond c x y) h
+    cond-false _ _ _ p.0 ∙ cond-false _ _ _ p.1 ∙ cond-false _ _ _ p.2
 
 -- an entry whose abbreviation isn't that of functions with ranges is passed over
 module _ (d : Sections) (u : UnitRecord) (unit : EntryUnit) where

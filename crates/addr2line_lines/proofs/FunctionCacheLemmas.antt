@@ -1,17 +1,13 @@
 -- What is cached of functions, as more is read (on specs/FunctionCache.antt).
-use Rattle.addr2line_lines.proofs.Common.{◌≡◌, ℕ, ◌+◌, ◌≤◌, ◌≢◌, List, [], ◌∷◌, ◌++◌, get_or, length, map, slice_get, slice_set, sum_by, Option, Some, None, Result, Ok, Err, refl, ap, sym, subst, ◌∙◌, arith, inl, inr, length-append, AllByRecursion, map-set, sum_by-cons, sum_by-set, get_or_from_slice_get, slice_get-map, slice_get_within, map-set_same, Section, Error, OutOfMemory, UnitOffset, UnitRecord, FunctionDetail, LazyFunction, FunctionAddress, KnownNames, Detail, detail_at, FoundInlined, none_inlined, AreFunctions, IsUnread, function_offsets, function_range_of, AreCachedFunctions, AreDetailsApart, AreRuns, HasPlace, inlined_size, name_size, ranges_size, as_function, as_lazy, size_of, CachedFunction, FunctionTable, AreDetailsMore, IsDetailPlace, IsNextPlace, IsRefusedThen, CachedDetails, detail_of, Scope}
+use Rattle.addr2line_lines.proofs.Common.{◌≡◌, ℕ, ◌+◌, ◌≢◌, List, [], ◌∷◌, get_or, length, map, slice_get, slice_set, sum_by, Option, Some, None, Result, Ok, Err, refl, ap, sym, subst, ◌∙◌, arith, inl, inr, AllByRecursion, map-set, sum_by-cons, sum_by-set, get_or_from_slice_get, slice_get-map, slice_get_within, map-set_same, Section, Error, OutOfMemory, UnitOffset, UnitRecord, FunctionDetail, LazyFunction, FunctionAddress, KnownNames, Detail, detail_at, FoundInlined, none_inlined, AreFunctions, IsUnread, function_offsets, function_range_of, AreCachedFunctions, AreDetailsApart, AreRuns, HasPlace, inlined_size, name_size, ranges_size, as_function, as_lazy, size_of, CachedFunction, FunctionTable, AreDetailsMore, IsDetailPlace, IsNextPlace, IsRefusedThen, CachedDetails, detail_of, Scope}
 use Rattle.std.specs.Option.{option_map}
 use Rattle.addr2line_lines.specs.declared.functions.LazyDetail.{LazyDetail}
 use Rattle.addr2line_lines.specs.declared.functions.LazyDetail.TheVariants.{Unread, Read, Faulty}
-use Rattle.addr2line_lines.specs.Grown.{IsGrown}
 use Rattle.addr2line_lines.specs.FunctionDetails.{IsCachedThen, IsReadAt, IsReadOf, IsWithDetail}
 use Rattle.addr2line_lines.proofs.DetailPlaces.{detail_stays}
 use Rattle.addr2line_lines.proofs.CachedNameLemmas.{names_same}
 use Rattle.addr2line_lines.proofs.NestingLemmas.{grown_not}
-use Rattle.addr2line_lines.proofs.Facts.{all_at, all_set, all_weaker, at_set}
-
-longer : {X : Type 0} (xs ys : List X) → IsGrown xs ys → length xs ≤ length ys
-longer xs ys g = let a : length ys ≡ length (xs ++ g.more) = ap (λ v. length v) g.is in let b = length-append xs g.more in omega arith
+use Rattle.addr2line_lines.proofs.Facts.{all_at, all_set, all_weaker, at_set, longer}
 
 -- nothing changes after OutOfMemory
 pub nothing_cached : (cached more : CachedDetails) → IsRefusedThen cached more OutOfMemory → more ≡ cached

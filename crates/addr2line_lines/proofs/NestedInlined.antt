@@ -1,11 +1,13 @@
 -- The chain of nested inlined entries (on specs/NestedInlined.antt).
-use Rattle.addr2line_lines.proofs.Common.{ℕ, ◌≡◌, ◌+◌, ◌-◌, ◌<◌, ◌≤◌, ◌⊎◌, ◌&&◌, ◌==◌, Bool, true, false, cond, max, nat_le, nat_lt, List, [], ◌∷◌, length, slice_index_or, Option, Some, None, zero, suc, arith, inl, inr, ◌∙◌, ap, sym, refl, subst, All, Contains, cases_lt, nat_tests, All-contains, All-contains_itself, greatest, topmost, InlinedEntry, InlinedRange, IsDisjoint, at_or_below, candidate, if_past, pick, In, In-filter, In-last, In-passes, All-passing}
+use Rattle.addr2line_lines.proofs.Common.{ℕ, ◌≡◌, ◌+◌, ◌-◌, ◌<◌, ◌≤◌, ◌⊎◌, ◌&&◌, ◌==◌, Bool, true, false, cond, max, nat_le, nat_lt, List, [], ◌∷◌, length, slice_index_or, Option, Some, None, zero, suc, arith, inl, inr, ◌∙◌, ap, sym, refl, subst, All, Contains, cases_lt, eqb-true, nat_tests, All-contains, All-contains_itself, greatest, topmost, InlinedEntry, InlinedRange, IsDisjoint, at_or_below, candidate, if_past, pick, In, In-filter, In-last, In-passes, All-passing}
 use Rattle.std.specs.List.{filter, slice_get}
 use Rattle.std.specs.Option.{option_and_then}
+use Rattle.std.proofs.lemmas.Bool.{and_from}
 use Rattle.addr2line_lines.specs.InlinedChain.{inlined_at, inlined_begin, inlined_end, inlined_within, of_depth}
 use Rattle.addr2line_lines.specs.NestedInlined.{ChainBeginsOutermost, ChainIsWhole, AreInEachOther, AreNested, IsAlone, IsFirstOutermost, IsHeldAround, IsNearest, IsNestedChain, IsOneAround, IsHeldByListed, NestedChain, NestedInFunction, inlined_holds}
 use Rattle.addr2line_lines.proofs.ItemsAround.{IsListed, all_listed, nearest_depth, none_nearest}
 use Rattle.addr2line_lines.proofs.LonePick.{from_contains, lone_is_picked}
+use Rattle.addr2line_lines.proofs.Facts.{from_inside, inside, not_itself}
 
 module _ {X : Type 0} where
   -- an element has a place
@@ -39,20 +41,14 @@ module _ {X : Type 0} where
         let i = (In-filter (λ y. end y == greatest end first) first x (In-last (topmost end first) x p.0)).0 in
         let j = (In-filter (λ y. begin y == greatest begin low) low x i).0 in
         let k = In-filter (λ y. nat_le (begin y) probe) xs x j in
-        (k.0, both (nat_le (begin x) probe) (nat_lt probe (end x)) k.1 p.1)
-      where
-        both : (a b : Bool) → a ≡ true → b ≡ true → (a && b) ≡ true
-        both a b e f = cc
+        (k.0, and_from (nat_le (begin x) probe) (nat_lt probe (end x)) k.1 p.1)
 
 -- the range of a depth that is picked
 at_is : (probe depth : ℕ) (ranges : List InlinedRange) (x : InlinedRange) → inlined_at probe depth ranges ≡ Some x → In x ranges × (x.depth ≡ depth) × (inlined_holds probe x ≡ true)
 at_is probe depth ranges x h =
     let p = picked_holds inlined_begin inlined_end probe (of_depth depth ranges) x h in
     let i = In-filter (λ (y : InlinedRange). y.depth == depth) ranges x p.0 in
-    (i.0, same x.depth i.1, p.1)
-  where
-    same : (n : ℕ) → (n == depth) ≡ true → n ≡ depth
-    same n e = grind (arith, nat_tests)
+    (i.0, eqb-true x.depth depth i.1, p.1)
 
 -- where no range of a depth holds the probe the chain ends
 pub chain_ends : (n probe depth : ℕ) (ranges : List InlinedRange) → All (λ x. x.depth ≡ depth → inlined_holds probe x ≡ false) ranges → inlined_within n probe depth ranges ≡ []
@@ -125,31 +121,19 @@ module _ (Around : InlinedEntry → InlinedEntry → Type 0) (ranges : List Inli
         let mine : InlinedRange → Bool = λ x. x.depth == z.depth in
         let P : InlinedRange → Type 0 = λ x. (inlined_begin x < inlined_end x) × (x.depth ≡ z.depth → (p : ℕ) → inlined_holds p x ≡ true → inlined_holds p z ≡ true → x ≡ z) in
         let Q : InlinedRange → Type 0 = λ x. (x ≡ z) ⊎ IsDisjoint inlined_begin inlined_end z x in
-        let there = contains_in (of_depth z.depth ranges) z (In-passes mine ranges z i (itself z.depth)) in
-        let s = sides z.range.begin z.range.end h in
-        lone_is_picked inlined_begin inlined_end probe (of_depth z.depth ranges) z there s.0 s.1 (All-passing P Q mine (λ x t f. beside x z f.0 (f.1 (same x.depth z.depth t)) (some_of z i)) ranges (λ k d l. (some k d l, alone k d l)))
+        let there = contains_in (of_depth z.depth ranges) z (In-passes mine ranges z i (not_itself z.depth)) in
+        let s = from_inside z.range.begin z.range.end probe h in
+        lone_is_picked inlined_begin inlined_end probe (of_depth z.depth ranges) z there s.0 s.1 (All-passing P Q mine (λ x t f. beside x z f.0 (f.1 (eqb-true x.depth z.depth t)) (some_of z i)) ranges (λ k d l. (some k d l, alone k d l)))
       where
-        both : (p a b c d : ℕ) → a ≤ p → c ≤ p → p < b → p < d → ((nat_le a p && nat_lt p b) ≡ true) × ((nat_le c p && nat_lt p d) ≡ true)
-        both p a b c d e f g h = (grind (arith, nat_tests), grind (arith, nat_tests))
-
         beside : (x z : InlinedRange) → inlined_begin x < inlined_end x → ((p : ℕ) → inlined_holds p x ≡ true → inlined_holds p z ≡ true → x ≡ z) → inlined_begin z < inlined_end z → (x ≡ z) ⊎ IsDisjoint inlined_begin inlined_end z x
         beside x z l one m =
             elim (cases_lt (inlined_begin z) (inlined_end x)) [
               | inr low ↦ inr (l, inl low)
               | inl u ↦ elim (cases_lt (inlined_begin x) (inlined_end z)) [
                 | inr high ↦ inr (l, inr high)
-                | inl v ↦ (let p = max (inlined_begin x) (inlined_begin z) in let t = both p (inlined_begin x) (inlined_end x) (inlined_begin z) (inlined_end z) (omega arith) (omega arith) (omega arith) (omega arith) in inl (one p t.0 t.1))
+                | inl v ↦ (let p = max (inlined_begin x) (inlined_begin z) in inl (one p (inside (inlined_begin x) (inlined_end x) p (omega arith) (omega arith)) (inside (inlined_begin z) (inlined_end z) p (omega arith) (omega arith))))
               ]
             ]
-
-        itself : (n : ℕ) → (n == n) ≡ true
-        itself n = grind (arith, nat_tests)
-
-        same : (m n : ℕ) → (m == n) ≡ true → m ≡ n
-        same m n e = grind (arith, nat_tests)
-
-        sides : (a b : ℕ) → (nat_le a probe && nat_lt probe b) ≡ true → (a ≤ probe) × (probe < b)
-        sides a b e = (grind (arith, nat_tests), grind (arith, nat_tests))
 
     at_holding : (depth : ℕ) (h : HoldingRange depth) → inlined_at probe depth ranges ≡ Some h.it
     at_holding depth h = ap (λ n. inlined_at probe n ranges) (sym h.at) ∙ at_depth h.it h.listed h.holds_it

@@ -4,6 +4,7 @@ use Rattle.std.specs.Cmp.{IsStrictWeakOrder}
 use Rattle.std.specs.List.{filter}
 use Rattle.std.proofs.lemmas.Cmp.{on_total, then_total, nat_cmp_total}
 use lib.ListN.{get_or}
+use Rattle.addr2line_lines.proofs.Facts.{all_weaker}
 
 -- what holds of all elements holds of each
 pub All-in : {X : Type 0} (P : X → Type 0) (xs : List X) (z : X) → AllByRecursion P xs → In z xs → P z
@@ -87,17 +88,13 @@ module _ {X : Type 0} (lt : X → X → Bool) (o : IsStrictWeakOrder lt) where
       let tail : ys ≡ zs = one_order ys zs up.1 vp.1 rest in
       cc
 
-  weaker : (P Q : X → Type 0) → ((y : X) → P y → Q y) → (ys : List X) → AllByRecursion P ys → AllByRecursion Q ys
-  weaker P Q f [] all = tt
-  weaker P Q f (y ∷ ys) all = (f y all.0, weaker P Q f ys all.1)
-
   put_ordered : (x : X) (ys : List X) → IsInOrder lt ys → IsInOrder lt (put lt x ys)
   put_ordered x [] up = (tt, tt)
   put_ordered x (y ∷ ys) up = by_cases (lt y x) refl (put_ordered x ys up.1)
     where
       by_cases : (b : Bool) → lt y x ≡ b → IsInOrder lt (put lt x ys) → IsInOrder lt (cond b (y ∷ put lt x ys) (x ∷ y ∷ ys))
       by_cases true e rest = (put_all lt (λ w. lt w y ≡ false) x ys (o.one_way y x e) up.0, rest)
-      by_cases false e rest = ((e, weaker (λ w. lt w y ≡ false) (λ w. lt w x ≡ false) (λ w h. o.chain w y x h e) ys up.0), up)
+      by_cases false e rest = ((e, all_weaker (λ w. lt w y ≡ false) (λ w. lt w x ≡ false) (λ w h. o.chain w y x h e) ys up.0), up)
 
   put_ties : (z x : X) (ys : List X) → filter (ties lt z) (put lt x ys) ≡ filter (ties lt z) (x ∷ ys)
   put_ties z x [] = refl

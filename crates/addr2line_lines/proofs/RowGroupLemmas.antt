@@ -1,6 +1,7 @@
 -- What the rows since the last end row make of the sequences (on specs/Sequences.antt).
-use Rattle.addr2line_lines.proofs.Common.{ℕ, ◌≡◌, ◌<◌, ◌≤◌, ◌||◌, ◌==◌, Bool, true, false, cond, List, [], ◌∷◌, ◌++◌, arith, ◌∙◌, ap, sym, refl, append_assoc, nat_tests, AllByRecursion, list_any, filter_map, cons_option, LineRow, RowGroup, put_first, row_groups, latest, sequence_of, sequence_in, sequences_of, NeverFalls, append-nil}
-use Rattle.addr2line_lines.proofs.Facts.{itself}
+use Rattle.addr2line_lines.proofs.Common.{ℕ, ◌≡◌, ◌<◌, ◌≤◌, ◌||◌, ◌==◌, Bool, true, false, cond, List, [], ◌∷◌, ◌++◌, arith, ◌∙◌, ap, sym, refl, append_assoc, AllByRecursion, list_any, filter_map, cons_option, LineRow, RowGroup, put_first, row_groups, latest, sequence_of, sequence_in, sequences_of, NeverFalls, append-nil}
+use Rattle.std.proofs.lemmas.Bool.{eq-eqb}
+use Rattle.addr2line_lines.proofs.Facts.{not_above}
 
 -- no two neighbours have one address
 abbrev pub Apart : List LineRow → Type 0
@@ -52,7 +53,7 @@ any_without m [] q a r e = same_tests m a r q e
 any_without m (x ∷ p) q a r e = ap (λ b. (x.address == m) || b) (any_without m p q a r e)
 
 latest_without : (p q : List LineRow) (a r : LineRow) → a.address ≡ r.address → latest (p ++ a ∷ r ∷ q) ≡ latest (p ++ r ∷ q)
-latest_without [] q a r e = ap (λ b. cond b (latest (r ∷ q)) (a ∷ latest (r ∷ q))) (ap (λ b. b || list_any (at a.address) q) (itself a.address r.address e))
+latest_without [] q a r e = ap (λ b. cond b (latest (r ∷ q)) (a ∷ latest (r ∷ q))) (ap (λ b. b || list_any (at a.address) q) (eq-eqb r.address a.address (sym e)))
 latest_without (x ∷ p) q a r e =
     ap (λ b. cond b (latest (p ++ a ∷ r ∷ q)) (x ∷ latest (p ++ a ∷ r ∷ q))) (any_without x.address p q a r e)
     ∙ ap (λ rows. cond (list_any (at x.address) (p ++ r ∷ q)) rows (x ∷ rows)) (latest_without p q a r e)
@@ -122,10 +123,7 @@ above r (s ∷ p) o a n = let l : r.address < s.address = less (n.0 o.0) a.0 in 
 
 none_at : (m : ℕ) (p : List LineRow) → Above m p → list_any (at m) p ≡ false
 none_at m [] h = refl
-none_at m (s ∷ p) h = ap (λ b. b || list_any (at m) p) (other h.0) ∙ none_at m p h.1
-  where
-    other : {x y : ℕ} → x < y → (y == x) ≡ false
-    other {x} {y} l = grind (arith, nat_tests)
+none_at m (s ∷ p) h = ap (λ b. b || list_any (at m) p) (not_above s.address m h.0) ∙ none_at m p h.1
 
 latest_same : (p : List LineRow) → Open p → Apart p → NeverFalls p → latest p ≡ p
 latest_same [] o a n = refl

@@ -1,5 +1,5 @@
 -- What the search found is what the definition gives (on specs/Packed.antt and specs/Spans.antt).
-use Rattle.addr2line_lines.proofs.Common.{ℕ, ◌≡◌, ◌+◌, ◌-◌, ◌<◌, ◌≤◌, Bool, true, false, cond, List, [], ◌∷◌, Option, Some, None, map, filter, length, take, drop, get_or, nat_le, nat_lt, arith, inl, inr, ◌∙◌, ap, sym, subst, refl, zero, suc, AllWithin, cases_lt, nat_tests, last, Row, LineSequence, at_or_below, if_past, start_of, end_of, ArePastFrom, IsAmong, IsTable, row_address_at, packed_end, packed_sooner, packed_start, unpacked, IsInOrder, In-filter, In-last, last-cond}
+use Rattle.addr2line_lines.proofs.Common.{ℕ, ◌≡◌, ◌+◌, ◌-◌, ◌<◌, ◌≤◌, Bool, true, false, cond, List, [], ◌∷◌, Option, Some, None, map, filter, length, take, drop, get_or, nat_le, arith, inl, inr, ◌∙◌, ap, sym, subst, refl, zero, suc, AllWithin, cases_lt, nat_tests, last, Row, LineSequence, at_or_below, if_past, start_of, end_of, ArePastFrom, IsAmong, IsTable, row_address_at, packed_end, packed_sooner, packed_start, unpacked, IsInOrder, In-filter, In-last, last-cond}
 use Rattle.std.specs.List.{slice_get}
 use Rattle.std.specs.Option.{option_map, option_and_then}
 use Rattle.addr2line_lines.specs.Spans.{row_address, row_at, row_in}
@@ -8,7 +8,7 @@ use Rattle.addr2line_lines.proofs.OrderLemmas.{All-in}
 use Rattle.addr2line_lines.proofs.OrderPick.{candidate_ordered}
 use Rattle.addr2line_lines.proofs.SpanLemmas.{row_within}
 use Rattle.addr2line_lines.proofs.PackedLemmas.{SequenceRows, sequence_rows_of, ordered-map, last_below-map}
-use Rattle.addr2line_lines.proofs.Facts.{at_most_test, not_at_most, read_at}
+use Rattle.addr2line_lines.proofs.Facts.{at_most_test, not_at_most, not_less, read_at}
 
 module _ {X : Type 0} (p : X → Bool) where
   filter_none : (xs : List X) → AllWithin (λ x. p x ≡ false) xs 0 (length xs) → filter p xs ≡ []
@@ -83,10 +83,7 @@ module _ (rows : List Row) (ss : List LineSequence) (t : IsTable ss rows) (probe
   no_sequence e = row_at_found None e
 
   pub past_end : (s : LineSequence) → Some s ≡ last (at_or_below packed_start probe ss) → s.end ≤ probe → row_at probe (map (unpacked rows) ss) ≡ None
-  past_end s e l = row_at_found (Some s) e ∙ ap (λ b. option_and_then (row_in probe) (cond b (Some (unpacked rows s)) None)) (ended s.end probe l)
-    where
-      ended : (a p : ℕ) → a ≤ p → nat_lt p a ≡ false
-      ended a p l = grind (arith, nat_tests)
+  past_end s e l = row_at_found (Some s) e ∙ ap (λ b. option_and_then (row_in probe) (cond b (Some (unpacked rows s)) None)) (not_less probe s.end l)
 
   pub row_is : (s : LineSequence) (row : Row) → Some s ≡ last (at_or_below packed_start probe ss) → probe < s.end → Some row ≡ last (at_or_below row_address probe (unpacked rows s).rows) → row_at probe (map (unpacked rows) ss) ≡ Some row
   row_is s row e l f = row_at_found (Some s) e ∙ row_within probe (unpacked rows s) (found_among s e).rising l ∙ sym f

@@ -1,8 +1,10 @@
 -- The shortest of the ranges that hold an address (on specs/Shortest.antt).
-use Rattle.addr2line_lines.proofs.Common.{ℕ, ◌≡◌, ◌<◌, ◌≤◌, ◌⊎◌, ◌&&◌, ◌==◌, Bool, true, false, min, nat_le, nat_lt, List, [], ◌∷◌, Option, Some, None, arith, inl, inr, ◌∙◌, ap, sym, refl, All, nat_tests, recursion_from_All, IsDisjoint, In, In-filter, In-passes}
+use Rattle.addr2line_lines.proofs.Common.{ℕ, ◌≡◌, ◌<◌, ◌≤◌, ◌⊎◌, ◌&&◌, ◌==◌, Bool, true, false, min, nat_le, nat_lt, List, [], ◌∷◌, Option, Some, None, arith, inl, inr, ◌∙◌, ap, sym, refl, All, eqb-true, nat_tests, recursion_from_All, IsDisjoint, In, In-filter, In-passes}
+use Rattle.std.proofs.lemmas.Bool.{eq-eqb}
 use Rattle.addr2line_lines.specs.Shortest.{first_listed, holding, holds, least, lowest, range_length, shortest, IsNoLonger, LoneIsShortest, NoneIsShorter}
 use Rattle.addr2line_lines.proofs.LonePick.{from_contains, lone_is_picked}
 use Rattle.addr2line_lines.proofs.OrderLemmas.{All-in}
+use Rattle.addr2line_lines.proofs.Facts.{inside}
 
 module _ {X : Type 0} (f : X → ℕ) where
   least_le : (xs : List X) (z : X) → In z xs → least f xs ≤ f z
@@ -32,23 +34,14 @@ module _ {X : Type 0} (f : X → ℕ) where
       by_cases false e w = let l : least f (y ∷ ys) < f x = grind (arith, nat_tests) in let s = w.2 in (w.0, inr w.1, (let t : f w.0 ≡ least f (y ∷ ys) = w.2 in omega arith))
 
   some_lowest : (xs : List X) (z : X) → In z xs → (w : X) × In w (lowest f xs)
-  some_lowest xs z h = let w = least_at xs z h in (w.0, In-passes (λ x. f x == least f xs) xs w.0 w.1 (same (f w.0) (least f xs) w.2))
-    where
-      same : (a b : ℕ) → a ≡ b → (a == b) ≡ true
-      same a b e = grind (arith, nat_tests)
+  some_lowest xs z h = let w = least_at xs z h in (w.0, In-passes (λ x. f x == least f xs) xs w.0 w.1 (eq-eqb (f w.0) (least f xs) w.2))
 
   -- the least element is among the lowest
   lowest_has : (xs : List X) (z : X) → ((x : X) → In x xs → f z ≤ f x) → In z xs → In z (lowest f xs)
-  lowest_has xs z all h = In-passes (λ x. f x == least f xs) xs z h (same (f z) (least f xs) (sym (least_is xs z all h)))
-    where
-      same : (a b : ℕ) → a ≡ b → (a == b) ≡ true
-      same a b e = grind (arith, nat_tests)
+  lowest_has xs z all h = In-passes (λ x. f x == least f xs) xs z h (eq-eqb (f z) (least f xs) (sym (least_is xs z all h)))
 
   in_lowest : (xs : List X) (z : X) → In z (lowest f xs) → In z xs × (f z ≡ least f xs)
-  in_lowest xs z h = let p = In-filter (λ x. f x == least f xs) xs z h in (p.0, equal (f z) (least f xs) p.1)
-    where
-      equal : (a b : ℕ) → (a == b) ≡ true → a ≡ b
-      equal a b e = grind (arith, nat_tests)
+  in_lowest xs z h = let p = In-filter (λ x. f x == least f xs) xs z h in (p.0, eqb-true (f z) (least f xs) p.1)
 
 first_in : {X : Type 0} (xs : List X) (z : X) → In z xs → (x : X) × (first_listed xs ≡ Some x) × In x xs
 first_in [] z h = absurd h
@@ -142,8 +135,5 @@ module _ {X : Type 0} (begin end place : X → ℕ) where
       let p = in_chosen probe xs w.0 w.2 in
       (w.1 ∙ ap Some (only w.0 p.0 p.1), lone_is_picked begin end probe xs z c low high all)
     where
-      inside : (a b p : ℕ) → a ≤ p → p < b → (nat_le a p && nat_lt p b) ≡ true
-      inside a b p l h = grind (arith, nat_tests)
-
       apart : (a b c d p : ℕ) → c ≤ p → p < d → (nat_le a p && nat_lt p b) ≡ true → (b ≤ c) ⊎ (d ≤ a) → ⊥
       apart a b c d p l h e k = grind (arith, nat_tests)

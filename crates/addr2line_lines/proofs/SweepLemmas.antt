@@ -6,7 +6,7 @@ use Rattle.std.proofs.lemmas.List.{append-nil, length-append}
 use Rattle.addr2line_lines.specs.Sweep.{running_cmp, is_outdone, IsBegunFrom, IsGreatestFirst, IsRunningRange, IsSwept, SomeIsNoLonger}
 use Rattle.addr2line_lines.specs.Shortest.{IsNoLonger}
 use Rattle.addr2line_lines.proofs.SegmentLemmas.{has_first, has_later, first_or_later, cut_more, segment_of}
-use Rattle.addr2line_lines.proofs.Facts.{from_inside}
+use Rattle.addr2line_lines.proofs.Facts.{from_inside, less_test, not_less}
 
 -- the walk goes on to an address
 module _ (addresses : List FunctionAddress) (next at until : ℕ) (segments : List FunctionAddress) where
@@ -54,11 +54,8 @@ module _ (addresses : List FunctionAddress) (next at until : ℕ) (segments : Li
   on (o ∷ running) h begun fits top l =
       let s : FunctionAddress = record { range = record { begin = at; end = until }; function = o.0.1 } in
       let new = cut_more addresses segments at s h.cut refl (segment_of addresses next at segments o running until h begun l fits (top h.heap)) in
-      let is : segment_to until at (o ∷ running) ≡ s ∷ [] = ap (λ b. cond b (s ∷ []) []) (later at until l) in
+      let is : segment_to until at (o ∷ running) ≡ s ∷ [] = ap (λ b. cond b (s ∷ []) []) (less_test at until l) in
       later_runs (o ∷ running) h (omega arith) (segments ++ segment_to until at (o ∷ running)) (subst (λ ss. AreSegmentsBelow addresses (segments ++ ss) until) (sym is) new)
-    where
-      later : (a b : ℕ) → a < b → nat_lt a b ≡ true
-      later a b l = grind (arith, nat_tests)
 
   -- the walk goes on, or stands there already
   pub advanced : (running : List RunningRange) → IsSwept addresses next at running segments → IsBegunFrom addresses next until → NoneEnds running → IsGreatestFirst running
@@ -67,10 +64,7 @@ module _ (addresses : List FunctionAddress) (next at until : ℕ) (segments : Li
     where
       stays : (running : List RunningRange) → until ≤ at → segments ++ segment_to until at running ≡ segments
       stays [] l = append-nil segments
-      stays (o ∷ running) l = ap (λ b. segments ++ cond b (record { range = record { begin = at; end = until }; function = o.0.1 } ∷ []) []) (not_later at until l) ∙ append-nil segments
-        where
-          not_later : (a b : ℕ) → b ≤ a → nat_lt a b ≡ false
-          not_later a b l = grind (arith, nat_tests)
+      stays (o ∷ running) l = ap (λ b. segments ++ cond b (record { range = record { begin = at; end = until }; function = o.0.1 } ∷ []) []) (not_less at until l) ∙ append-nil segments
 
       by_cases : (b : Bool) → nat_lt at until ≡ b → IsSwept addresses next (max at until) running (segments ++ segment_to until at running)
       by_cases true e =

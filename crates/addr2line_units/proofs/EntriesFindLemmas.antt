@@ -12,7 +12,7 @@ use Rattle.addr2line_units.proofs.EntriesFunctionLemmas.{chain_found, details_be
 use Rattle.addr2line_units.proofs.EntriesLearnedLemmas.{cache_reads_none}
 use Rattle.addr2line_units.proofs.EntriesPlaceLemmas.{cached_is_not_oom, cached_unless_oom, chain_fits, chain_known, known_stays, refused_fault, refused_known, same_known, table_known}
 use Rattle.addr2line_units.proofs.ParsesCachedLemmas.{cached_stay}
-use Rattle.addr2line_units.proofs.Facts.{and_weaker}
+use Rattle.addr2line_units.proofs.Facts.{and_weaker, err_ok}
 
 -- functions that weren't read take memory, or memory is their fault
 not_read_takes : {R : Type 0} (shares : Bool) (scope : Scope) (view : UnitRecord) (old new : LazyFunctions R) (probe : ℕ) (x : Error) → (were_read old ≡ true → ⊥) → new ≡ old → x ≡ OutOfMemory
@@ -46,9 +46,6 @@ unread_has_none lazy.Absent e = cc
 unread_has_none (lazy.Read t) e = cc
 unread_has_none (lazy.Faulty x) e = cc
 
-read_not_refused : (x : Error) → ◌≡◌ {A = Result (Unit {0}) Error} (Err x) (Ok tt) → ⊥
-read_not_refused x e = cc
-
 -- functions are right after they were cached
 pub cached_right : {R : Type 0} (shares : Bool) (scope : Scope) (view : UnitRecord) (r : Result (Unit {0}) Error) (old new : LazyFunctions R) → AreFunctionsOf scope view old → AfterCachingFunctions shares scope view r old new → AreFunctionsOf scope view new
 cached_right shares scope view r old new before cache = by (were_read old) refl
@@ -61,7 +58,7 @@ module _ {R : Type 0} (shares : Bool) (scope : Scope) (view : UnitRecord) (probe
   -- memory was refused for the functions
   module _ (x : Error) (cache : AfterCachingFunctions shares scope view (Err x) old mid) where
     pub were_unread : were_read old ≡ true → ⊥
-    were_unread read = read_not_refused x (cache.kept read).1
+    were_unread read = err_ok x (cache.kept read).1
 
     pub uncached_gives : ExactlyUnlessOomIf (find_takes_memory shares scope view probe old && find_takes_memory shares scope view probe mid) (found_in_cache mid) (Err x) (function_at scope view probe)
     uncached_gives = λ may. function_is scope view probe (Err x) (not_read_takes shares scope view old mid probe x were_unread cache.refused.1 cache.refused.0.0 cache.refused.0.1 may)

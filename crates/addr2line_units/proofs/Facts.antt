@@ -1,6 +1,6 @@
 -- Facts on booleans, numbers, options and lists that the proofs of this crate cite, and that std
 -- doesn't have.
-use Rattle.addr2line_units.proofs.Common.{◌≡◌, ◌≢◌, ◌∙◌, ◌+◌, ◌-◌, ◌<◌, ◌≤◌, ◌==◌, ◌&&◌, ◌||◌, ◌⊎◌, inl, inr, ℕ, zero, suc, arith, nat_lt, nat_tests, Bool, true, false, not, cond, if◌then◌else◌, List, [], ◌∷◌, ◌++◌, length, map, filter, reverse, take, drop, take_all, length-drop, slice_get, set, map-append, reverse-append, Option, Some, None, IfSome, is_some, option_and_then, option_map, Result, Ok, Err, OnOk, AllByRecursion, refl, sym, ap, eqb-true, eq-eqb}
+use Rattle.addr2line_units.proofs.Common.{◌≡◌, ◌≢◌, ◌∙◌, ◌+◌, ◌-◌, ◌<◌, ◌≤◌, ◌==◌, ◌&&◌, ◌||◌, ◌⊎◌, inl, inr, ℕ, zero, suc, arith, nat_lt, nat_tests, Bool, true, false, not, cond, if◌then◌else◌, List, [], ◌∷◌, ◌++◌, length, map, filter, reverse, take, drop, take_all, length-drop, slice_get, set, map-append, reverse-append, Option, Some, None, IfSome, is_some, option_and_then, option_map, Result, Ok, Err, OnOk, AllByRecursion, refl, sym, ap, eqb-true, eq-eqb, fault_of, result_map}
 
 -- ---- of booleans
 
@@ -128,6 +128,18 @@ no_answer (Some x) e = absurd cc
 pub on_ok : {X E : Type 0} {P Q : Type 0} (r : Result X E) → (P → Q) → OnOk r P → OnOk r Q
 on_ok (Ok x) f h = f h
 on_ok (Err e) f h = tt
+
+-- a fault is no answer, and an answer no fault
+pub err_ok : {E : Type 0} (f : E) → ◌≡◌ {A = Result (Unit {0}) E} (Err f) (Ok tt) → ⊥
+err_ok f k = cc
+
+pub ok_err : {E : Type 0} (f : E) → ◌≡◌ {A = Result (Unit {0}) E} (Ok tt) (Err f) → ⊥
+ok_err f k = cc
+
+-- where a list can be read, what is left after its first can be read
+pub rest_ok : {X E : Type 0} (x : X) (r : Result (List X) E) → fault_of (result_map (λ xs. x ∷ xs) r) ≡ Ok tt → fault_of r ≡ Ok tt
+rest_ok x (Ok xs) h = refl
+rest_ok x (Err f) h = h
 
 -- ---- of lists
 

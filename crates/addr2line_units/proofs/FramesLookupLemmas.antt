@@ -5,6 +5,7 @@ use Rattle.addr2line_units.specs.declared.frames.FramesStop.TheVariants as stops
 use Rattle.addr2line_units.specs.declared.entries.UnitFrames.{UnitFrames}
 use Rattle.addr2line_units.specs.declared.entries.UnitFrames.TheVariants as found
 use Rattle.addr2line_units.proofs.CachedUnits.{AreFoundAt, IsStopIn, frames_found_at}
+use Rattle.addr2line_units.proofs.Facts.{and_first}
 
 -- a fault that a lookup passes over
 module _ (faults : OnFault) where
@@ -84,11 +85,7 @@ module _ (frames : ℕ → FramesResult) (r : UnitRange) (rest : List UnitRange)
   faults_there f e = ap (λ x. x >>= or_stop r.unit (stop_along frames rest)) e
 
   pub holds_first : (holds : ℕ → Bool) → holds_along holds frames (r ∷ rest) ≡ true → holds r.unit ≡ true
-  holds_first holds e = of_bools (holds r.unit) _ e
-    where
-      of_bools : (a b : Bool) → (a && b) ≡ true → a ≡ true
-      of_bools true b e = refl
-      of_bools false b e = e
+  holds_first holds e = and_first (holds r.unit) _ e
 
   pub holds_rest : (holds : ℕ → Bool) → ends_lookup (frames r.unit) ≡ false → holds_along holds frames (r ∷ rest) ≡ true → holds_along holds frames rest ≡ true
   holds_rest holds e k = of_bools (holds r.unit) (ends_lookup (frames r.unit)) (holds_along holds frames rest) e k

@@ -1,5 +1,5 @@
 -- Lookups after a parse of all functions and their details (on specs/ParsesLaws.antt).
-use Rattle.addr2line_units.proofs.Common.{◌≡◌, ◌∙◌, ℕ, zero, suc, ◌==◌, ◌⊎◌, inl, inr, Bool, true, false, List, [], ◌∷◌, length, map, Option, Some, None, option_map, Result, Ok, Err, ap, sym, refl, subst, arith, Error, ◌>>=◌, fault_of, result_map, Sections, UnitRecord, Detail, detail_at, FunctionRange, entries_of, function_begin, function_end, function_offset, functions_of, once_before, LineTable, location_at, Scope, read_all, unit_lines, OnFault, UnitRange, FoundFunction, FrameRecord, found_frames, found_function, function_at, function_from, after_fault, asked_frames, frames_of_number, or_stop, stop_along, answers_after_parse, read_of_unit, read_of_units, read_of_view, unless_fault, details_at, functions_fault, all_lines, lines_of_unit, FramesResult, frames_by, frames_in, function_by, function_in, IndexedUnit, unit_records, FirstAnswers, View, decided_answer, is_open, verdict, view_scope}
+use Rattle.addr2line_units.proofs.Common.{◌≡◌, ◌∙◌, ℕ, zero, suc, ◌==◌, ◌⊎◌, inl, inr, Bool, true, false, List, [], ◌∷◌, length, map, Option, Some, None, option_map, Result, Ok, Err, ap, sym, refl, subst, arith, Error, ◌>>=◌, fault_of, Sections, UnitRecord, Detail, detail_at, FunctionRange, entries_of, function_begin, function_end, function_offset, functions_of, once_before, LineTable, location_at, Scope, read_all, unit_lines, OnFault, UnitRange, FoundFunction, FrameRecord, found_frames, found_function, function_at, function_from, after_fault, asked_frames, frames_of_number, or_stop, stop_along, answers_after_parse, read_of_unit, read_of_units, read_of_view, unless_fault, details_at, functions_fault, all_lines, lines_of_unit, FramesResult, frames_by, frames_in, function_by, function_in, IndexedUnit, unit_records, FirstAnswers, View, decided_answer, is_open, verdict, view_scope}
 use Rattle.std.specs.Prelude.{is_none, if◌then◌else◌}
 use Rattle.std.proofs.lemmas.Bool.{eqb-true}
 use Rattle.addr2line_lines.specs.Shortest.{shortest}
@@ -9,6 +9,7 @@ use Rattle.addr2line_units.specs.declared.parses.ReadingDepth.TheVariants.{Detai
 use Rattle.addr2line_units.specs.ParsesLaws.{IsReached}
 use Rattle.addr2line_units.proofs.EntriesFunctionLemmas.{function_is}
 use Rattle.addr2line_units.proofs.ParsesLemmas.{decided_verdict}
+use Rattle.addr2line_units.proofs.Facts.{err_ok, rest_ok}
 use Rattle.addr2line_units.specs.EntriesFrames.{frames_by_lines}
 
 -- where the entry of a range begins is among those of all
@@ -56,15 +57,8 @@ module _ (scope : Scope) (view : UnitRecord) where
 lines_first : (d : Sections) (u : IndexedUnit) (us : List IndexedUnit) → fault_of (all_lines d (u ∷ us)) ≡ Ok tt → ((table : LineTable) × (unit_lines d u.unit ≡ Ok table)) × (fault_of (all_lines d us) ≡ Ok tt)
 lines_first d u us e = by_lines (lines_of_unit d u) refl (map (lines_of_unit d) us) e
   where
-    by_rest : (x : LineTable) (r : Result (List LineTable) Error) → fault_of (result_map (λ xs. x ∷ xs) r) ≡ Ok tt → fault_of r ≡ Ok tt
-    by_rest x (Ok xs) h = refl
-    by_rest x (Err f) h = h
-
-    err_ok : (f : Error) → ◌≡◌ {A = Result (Unit {0}) Error} (Err f) (Ok tt) → ⊥
-    err_ok f k = cc
-
     by_lines : (l : Result LineTable Error) → lines_of_unit d u ≡ l → (rest : List (Result LineTable Error)) → fault_of (read_all (l ∷ rest)) ≡ Ok tt → ((table : LineTable) × (unit_lines d u.unit ≡ Ok table)) × (fault_of (read_all rest) ≡ Ok tt)
-    by_lines (Ok x) q rest h = ((x, q), by_rest x (read_all rest) h)
+    by_lines (Ok x) q rest h = ((x, q), rest_ok x (read_all rest) h)
     by_lines (Err x) q rest h = absurd (err_ok x h)
 
 module _ (scope : Scope) (probe : ℕ) where

@@ -4,16 +4,8 @@ use Rattle.addr2line_units.proofs.Common.{◌≡◌, ℕ, zero, suc, ◌+◌, �
 use Rattle.std.proofs.lemmas.List.{append-nil}
 use Rattle.std.proofs.lemmas.List.Sums.{sum_by-cons}
 use Rattle.addr2line_units.specs.UnitsIndexed.{IndexState, appended, as_ranged_unit}
-use Rattle.addr2line_units.proofs.Facts.{below_or_at, three}
+use Rattle.addr2line_units.proofs.Facts.{below_or_at, err_ok, never, not_is, ok_err, three}
 use Rattle.addr2line_units.proofs.CachedUnits.{StayAllLines}
-
--- what is cached is no longer uncached
-parsed_is : (l : LazyLines) → not (is_uncached l) ≡ true → is_uncached l ≡ false
-parsed_is l e = of_bool (is_uncached l) e
-  where
-    of_bool : (b : Bool) → not b ≡ true → b ≡ false
-    of_bool true e = cc
-    of_bool false e = refl
 
 pub stay_all : {R : Type 0} (rs : List (CachedUnit R)) → StayAllLines rs rs
 stay_all [] = tt
@@ -45,7 +37,7 @@ pub stay_parsed : {R : Type 0} (rs ss : List (CachedUnit R)) → StayAllLines rs
 stay_parsed [] [] a n e = e
 stay_parsed [] (s ∷ ss) a n e = absurd a
 stay_parsed (r ∷ rs) [] a n e = absurd a
-stay_parsed (r ∷ rs) (s ∷ ss) a zero e = ap (λ l. not (is_uncached l)) (a.0.lines (parsed_is r.lines.lines e)) ∙ e
+stay_parsed (r ∷ rs) (s ∷ ss) a zero e = ap (λ l. not (is_uncached l)) (a.0.lines (not_is (is_uncached r.lines.lines) e)) ∙ e
 stay_parsed (r ∷ rs) (s ∷ ss) a (suc n) e = stay_parsed rs ss a.1 n e
 
 -- beside each unit stand lines
@@ -86,7 +78,7 @@ parsed_set (x ∷ rs) (suc n) s h e = parsed_set rs n s (omega arith) e
 
 pub set_parsed : {R : Type 0} (rs : List (CachedUnit R)) (n : ℕ) (s : CachedUnit R) → n < length rs → has_parsed (parsed_units (set rs n s)) n ≡ true → is_uncached s.lines.lines ≡ false
 set_parsed [] n s h e = absurd (omega arith)
-set_parsed (x ∷ rs) zero s h e = parsed_is s.lines.lines e
+set_parsed (x ∷ rs) zero s h e = not_is (is_uncached s.lines.lines) e
 set_parsed (x ∷ rs) (suc n) s h e = set_parsed rs n s (omega arith) e
 
 -- no lines are cached but those of the unit of a number
@@ -189,16 +181,10 @@ module _ (d : Sections) where
       more : (r : Result (List LineTable) Error) → fault_of (result_map (λ ls. l ∷ ls) r) ≡ fault_of r
       more (Ok ls) = refl
       more (Err x) = refl
-  first_read (Err x) rest e = absurd (err_ok e)
-    where
-      err_ok : ◌≡◌ {A = Result (Unit {0}) Error} (Err x) (Ok tt) → ⊥
-      err_ok k = cc
+  first_read (Err x) rest e = absurd (err_ok x e)
 
   first_fault : (u : Result LineTable Error) (rest : List (Result LineTable Error)) (f : Error) → fault_of u ≡ Err f → fault_of (read_all (u ∷ rest)) ≡ Err f
-  first_fault (Ok l) rest f e = absurd (ok_err e)
-    where
-      ok_err : ◌≡◌ {A = Result (Unit {0}) Error} (Ok tt) (Err f) → ⊥
-      ok_err k = cc
+  first_fault (Ok l) rest f e = absurd (ok_err f e)
   first_fault (Err x) rest f e = e
 
   lines_after : (us : List IndexedUnit) (n : ℕ) → n < length us → lines_result_at d (slice_get us n) ≡ Ok tt → fault_of (all_lines d (drop n us)) ≡ fault_of (all_lines d (drop (suc n) us))
@@ -224,27 +210,15 @@ module _ (d : Sections) where
     where
       of_lines : (l : Result LineTable Error) → fault_of l ≡ Ok tt → is_ok l ≡ true
       of_lines (Ok x) h = refl
-      of_lines (Err x) h = absurd (err_ok h)
-        where
-          err_ok : ◌≡◌ {A = Result (Unit {0}) Error} (Err x) (Ok tt) → ⊥
-          err_ok k = cc
+      of_lines (Err x) h = absurd (err_ok x h)
 
   pub unreadable : (u : Option IndexedUnit) (f : Error) → lines_result_at d u ≡ Err f → can_be_read d u ≡ true → ⊥
-  unreadable None f e h = ok_err e
-    where
-      ok_err : ◌≡◌ {A = Result (Unit {0}) Error} (Ok tt) (Err f) → ⊥
-      ok_err k = cc
+  unreadable None f e h = ok_err f e
   unreadable (Some u) f e h = of_lines (lines_of_unit d u) e h
     where
       of_lines : (l : Result LineTable Error) → fault_of l ≡ Err f → is_ok l ≡ true → ⊥
-      of_lines (Ok x) h k = ok_err h
-        where
-          ok_err : ◌≡◌ {A = Result (Unit {0}) Error} (Ok tt) (Err f) → ⊥
-          ok_err k = cc
-      of_lines (Err x) h k = false_true k
-        where
-          false_true : false ≡ true → ⊥
-          false_true q = cc
+      of_lines (Ok x) h k = ok_err f h
+      of_lines (Err x) h k = never k
 
   -- a parse of all lines that comes to one more unit
   pub asks_more : (us : List IndexedUnit) (k : ℕ) → AllAskFor d us k → can_be_read d (slice_get us k) ≡ true → AllAskFor d us (k + 1)

@@ -1,6 +1,6 @@
 -- Details that are read one after another (on specs/FunctionDetails.antt).
 use Rattle.addr2line_lines.proofs.Common.{◌≡◌, ◌≢◌, ℕ, ◌+◌, ◌<◌, ◌≤◌, ◌⊎◌, Bool, true, false, List, [], ◌∷◌, drop, length, slice_get, slice_set, take, Option, Some, None, Result, Ok, Err, refl, ap, sym, subst, ◌∙◌, arith, inl, inr, zero, suc, AllByRecursion, AllZip, length_all_zip, Error, OutOfMemory, ExactlyAtCost, ◌>>=◌, fault_of, takes_memory_after, UnitRecord, Detail, detail_at, CachedFunction, FunctionTable, Scope, or_left, or_right, drop_all}
-use Rattle.addr2line_lines.specs.FunctionDetails.{AreCachedToFault, AreDetailsOf, AreUnread, HasDetail, IsCachedToFault, IsDetailOf, IsFunctionMore, IsReadAt, IsReadOf, IsReadOnce, IsTableMore, IsWithDetail, IsWithItsDetail, details_fault, details_or, read_fault, read_once}
+use Rattle.addr2line_lines.specs.FunctionDetails.{AreCachedToFault, AreDetailsOf, AreUnread, HasDetail, IsCachedToFault, IsDetailOf, IsFunctionMore, IsReadAt, IsReadOf, IsReadOnce, IsTableMore, IsWithDetail, IsWithItsDetail, details_fault, all_read_once, read_fault, read_once}
 use Rattle.gimli_read.proofs.FaultLemmas.{memory_or_not}
 use Rattle.addr2line_lines.proofs.CachedNameLemmas.{names_on, names_same}
 use Rattle.addr2line_lines.proofs.NestingLemmas.{grown_not, grown_on}
@@ -142,10 +142,10 @@ fault_is scope u f right = by_detail f.detail refl
     by_detail (Some d) e = ap fault_of (sym (right d e))
 
 -- nor the first fault of all
-pub details_fault_is : (scope : Scope) (u : UnitRecord) (fs : List CachedFunction) → AllByRecursion (IsDetailOf scope u) fs → (details_or scope u fs).given ≡ details_fault scope u fs
+pub details_fault_is : (scope : Scope) (u : UnitRecord) (fs : List CachedFunction) → AllByRecursion (IsDetailOf scope u) fs → (all_read_once scope u fs).given ≡ details_fault scope u fs
 details_fault_is scope u [] all = refl
 details_fault_is scope u (f ∷ fs) all =
-    ap (λ r. r >>= λ _. (details_or scope u fs).given) (fault_is scope u f all.0)
+    ap (λ r. r >>= λ _. (all_read_once scope u fs).given) (fault_is scope u f all.0)
     ∙ ap (λ (r : Result (Unit {0}) Error). fault_of (detail_at scope u f.offset) >>= λ _. r) (details_fault_is scope u fs all.1)
 
 -- details that are all cached, or up to a fault
@@ -184,12 +184,12 @@ next_fault (g ∷ fs) (suc n) f e all before at q =
     next_fault fs n f e (subst (λ d. IsCachedToFault d (AreCachedToFault fs)) before.0.1 all) before.1 at q
 
 -- and no memory is taken
-pub no_memory_to_fault : (shares : Bool) (scope : Scope) (u : UnitRecord) (fs : List CachedFunction) → AreCachedToFault fs → (details_or scope u fs).takes_memory shares ≡ false
+pub no_memory_to_fault : (shares : Bool) (scope : Scope) (u : UnitRecord) (fs : List CachedFunction) → AreCachedToFault fs → (all_read_once scope u fs).takes_memory shares ≡ false
 no_memory_to_fault shares scope u [] all = refl
 no_memory_to_fault shares scope u (f ∷ fs) all = by_detail (no_memory_to_fault shares scope u fs) f.detail all
   where
-    by_detail : (AreCachedToFault fs → (details_or scope u fs).takes_memory shares ≡ false) → (o : Option (Result Detail Error)) → IsCachedToFault o (AreCachedToFault fs)
-        → (details_or scope u (record { offset = f.offset; detail = o } ∷ fs)).takes_memory shares ≡ false
+    by_detail : (AreCachedToFault fs → (all_read_once scope u fs).takes_memory shares ≡ false) → (o : Option (Result Detail Error)) → IsCachedToFault o (AreCachedToFault fs)
+        → (all_read_once scope u (record { offset = f.offset; detail = o } ∷ fs)).takes_memory shares ≡ false
     by_detail rest None h = absurd h
     by_detail rest (Some (Ok d)) h = rest h
     by_detail rest (Some (Err e)) h = refl
@@ -238,8 +238,8 @@ fault_step scope u n f old new e l at ne k = by_detail f.detail refl (subst (λ 
 pub record IsReadTo (shares : Bool) (scope : Scope) (u : UnitRecord) (old now : FunctionTable) (n : ℕ) : Type 0 where
   pub kept : IsTableMore old now
   pub details : AllZip (IsWithItsDetail scope u) old.functions now.functions
-  pub fault : (details_or scope u old.functions).given ≡ (details_or scope u (drop n now.functions)).given
-  pub takes : (details_or scope u (drop n now.functions)).takes_memory shares ≡ true → (details_or scope u old.functions).takes_memory shares ≡ true
+  pub fault : (all_read_once scope u old.functions).given ≡ (all_read_once scope u (drop n now.functions)).given
+  pub takes : (all_read_once scope u (drop n now.functions)).takes_memory shares ≡ true → (all_read_once scope u old.functions).takes_memory shares ≡ true
   pub cached : AllByRecursion HasDetail (take n now.functions)
   pub same : AreCachedToFault old.functions → now ≡ old
 
@@ -271,11 +271,11 @@ one_read shares scope u old now next n h l k well =
     subst (IsReadTo shares scope u old next) one (record {
       kept = table_twice old now next h.kept (read_more scope u n now next (Ok tt) k);
       details = zip_twice (IsWithItsDetail scope u) (its_twice scope u) old.functions now.functions next.functions h.details (read_own scope u n now next (Ok tt) k);
-      fault = h.fault ∙ ap (λ fs. (details_or scope u fs).given) left ∙ ap (λ r. r >>= λ _. (details_or scope u (drop (suc n) now.functions)).given) (ap (read_fault scope u) (sym at.1) ∙ well) ∙ ap (λ fs. (details_or scope u fs).given) (sym next_left);
-      takes = λ e. h.takes (ap (λ fs. (details_or scope u fs).takes_memory shares) left
-          ∙ or_right ((read_once scope u (Some at.0)).takes_memory shares) (takes_memory_after (read_fault scope u (Some at.0)) (λ _. (details_or scope u (drop (suc n) now.functions)).takes_memory shares))
-          (ap (λ o. takes_memory_after (read_fault scope u o) (λ _. (details_or scope u (drop (suc n) now.functions)).takes_memory shares)) (sym at.1)
-          ∙ ap (λ r. takes_memory_after r (λ _. (details_or scope u (drop (suc n) now.functions)).takes_memory shares)) well ∙ ap (λ fs. (details_or scope u fs).takes_memory shares) (sym next_left) ∙ e));
+      fault = h.fault ∙ ap (λ fs. (all_read_once scope u fs).given) left ∙ ap (λ r. r >>= λ _. (all_read_once scope u (drop (suc n) now.functions)).given) (ap (read_fault scope u) (sym at.1) ∙ well) ∙ ap (λ fs. (all_read_once scope u fs).given) (sym next_left);
+      takes = λ e. h.takes (ap (λ fs. (all_read_once scope u fs).takes_memory shares) left
+          ∙ or_right ((read_once scope u (Some at.0)).takes_memory shares) (takes_memory_after (read_fault scope u (Some at.0)) (λ _. (all_read_once scope u (drop (suc n) now.functions)).takes_memory shares))
+          (ap (λ o. takes_memory_after (read_fault scope u o) (λ _. (all_read_once scope u (drop (suc n) now.functions)).takes_memory shares)) (sym at.1)
+          ∙ ap (λ r. takes_memory_after r (λ _. (all_read_once scope u (drop (suc n) now.functions)).takes_memory shares)) well ∙ ap (λ fs. (all_read_once scope u fs).takes_memory shares) (sym next_left) ∙ e));
       cached = subst (λ fs. AllByRecursion HasDetail (take (suc n) fs)) (sym step.functions) (take_set HasDetail now.functions n step.now h.cached step.has);
       same = λ ready. reads_nothing shares scope u old now next n (Ok tt) h l k ready;
     })
@@ -283,25 +283,25 @@ one_read shares scope u old now next n h l k well =
 -- a detail is refused
 pub fault_read : (shares : Bool) (scope : Scope) (u : UnitRecord) (old now : FunctionTable) (n : ℕ) (e : Error) → IsReadTo shares scope u old now n → n < length old.functions
     → ExactlyAtCost {X = Unit {0}} shares (λ x. x) (Err e) (read_once scope u (slice_get now.functions n))
-    → ((details_or scope u old.functions).takes_memory shares ≡ true → e ≢ OutOfMemory) → (details_or scope u old.functions).given ≡ Err e
+    → ((all_read_once scope u old.functions).takes_memory shares ≡ true → e ≢ OutOfMemory) → (all_read_once scope u old.functions).given ≡ Err e
 fault_read shares scope u old now n e h l exact ne =
     let same = same_number shares scope u old now n h in
     let at = some_at now.functions n (omega arith) in
     let rest = drop (suc n) now.functions in
     let left : drop n now.functions ≡ at.0 ∷ rest = drop_at now.functions n at.0 at.1 in
-    let takes : (read_once scope u (slice_get now.functions n)).takes_memory shares ≡ true → (details_or scope u old.functions).takes_memory shares ≡ true = λ t. h.takes (ap (λ fs. (details_or scope u fs).takes_memory shares) left
-    ∙ or_left ((read_once scope u (Some at.0)).takes_memory shares) (takes_memory_after (read_fault scope u (Some at.0)) (λ _. (details_or scope u rest).takes_memory shares)) (ap (λ o. (read_once scope u o).takes_memory shares) (sym at.1) ∙ t)) in
-    h.fault ∙ ap (λ fs. (details_or scope u fs).given) left ∙ ap (λ r. r >>= λ _. (details_or scope u rest).given) (ap (read_fault scope u) (sym at.1) ∙ exact (λ t. ne (takes t)))
+    let takes : (read_once scope u (slice_get now.functions n)).takes_memory shares ≡ true → (all_read_once scope u old.functions).takes_memory shares ≡ true = λ t. h.takes (ap (λ fs. (all_read_once scope u fs).takes_memory shares) left
+    ∙ or_left ((read_once scope u (Some at.0)).takes_memory shares) (takes_memory_after (read_fault scope u (Some at.0)) (λ _. (all_read_once scope u rest).takes_memory shares)) (ap (λ o. (read_once scope u o).takes_memory shares) (sym at.1) ∙ t)) in
+    h.fault ∙ ap (λ fs. (all_read_once scope u fs).given) left ∙ ap (λ r. r >>= λ _. (all_read_once scope u rest).given) (ap (read_fault scope u) (sym at.1) ∙ exact (λ t. ne (takes t)))
 
 pub fault_kept : (shares : Bool) (scope : Scope) (u : UnitRecord) (old now next : FunctionTable) (n : ℕ) (result : Result (Unit {0}) Error) → IsReadTo shares scope u old now n → IsReadAt scope u n now result next → IsTableMore old next × AllZip (IsWithItsDetail scope u) old.functions next.functions
 fault_kept shares scope u old now next n result h k =
     (table_twice old now next h.kept (read_more scope u n now next result k), zip_twice (IsWithItsDetail scope u) (its_twice scope u) old.functions now.functions next.functions h.details (read_own scope u n now next result k))
 
 -- all are read
-pub all_read : (shares : Bool) (scope : Scope) (u : UnitRecord) (old now : FunctionTable) (n : ℕ) → IsReadTo shares scope u old now n → length old.functions ≤ n → ((details_or scope u old.functions).given ≡ Ok tt) × AllByRecursion HasDetail now.functions
+pub all_read : (shares : Bool) (scope : Scope) (u : UnitRecord) (old now : FunctionTable) (n : ℕ) → IsReadTo shares scope u old now n → length old.functions ≤ n → ((all_read_once scope u old.functions).given ≡ Ok tt) × AllByRecursion HasDetail now.functions
 all_read shares scope u old now n h l =
     let same = same_number shares scope u old now n h in
-    (h.fault ∙ ap (λ fs. (details_or scope u fs).given) (drop_all n now.functions (omega arith)), take_whole HasDetail now.functions n (omega arith) h.cached)
+    (h.fault ∙ ap (λ fs. (all_read_once scope u fs).given) (drop_all n now.functions (omega arith)), take_whole HasDetail now.functions n (omega arith) h.cached)
 
 -- all are cached up to a fault
 pub fault_ready : (shares : Bool) (scope : Scope) (u : UnitRecord) (old now next : FunctionTable) (n : ℕ) (e : Error) → IsReadTo shares scope u old now n → n < length old.functions → IsReadAt scope u n now (Err e) next → e ≢ OutOfMemory → AreCachedToFault next.functions

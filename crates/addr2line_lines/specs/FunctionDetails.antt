@@ -40,20 +40,6 @@ IsReadOnce scope u n f (Some detail) old result new = (result ≡ fault_of detai
 IsReadOnce scope u n f None old result new =
     IsCachedThen n f (detail_at scope u f.offset) old result new
 
--- whether the detail of a function can be read, by what is cached of it or by its entries; where
--- nothing is cached of it, memory may be taken as its entries say
-abbrev pub read_once : Scope → UnitRecord → Option CachedFunction → Costed (Unit {0})
-read_once scope u None = free (Ok tt)
-read_once scope u (Some f) = record {
-  given = elim f.detail [ None ↦ fault_of (detail_at scope u f.offset) | Some d ↦ fault_of d ];
-  takes_memory = λ shares. not (is_some f.detail)
-      && (on_parts (stored_detail_at scope u f.offset)).takes_memory shares;
-}
-
--- its fault alone
-abbrev pub read_fault : Scope → UnitRecord → Option CachedFunction → Result (Unit {0}) Error
-read_fault scope u f = (read_once scope u f).given
-
 -- the same of the function of a place, by the function; past the last one nothing is read
 abbrev pub IsReadOf : Scope → UnitRecord → ℕ → Option CachedFunction → FunctionTable
     → Result (Unit {0}) Error → FunctionTable → Type 0
@@ -96,12 +82,26 @@ details_fault scope u [] = Ok tt
 details_fault scope u (f ∷ functions) =
     fault_of (detail_at scope u f.offset) >>= λ _. details_fault scope u functions
 
--- the details of functions in their order, up to the first fault: of each what is cached, or else
--- what its entries give
-abbrev pub details_or : Scope → UnitRecord → List CachedFunction → Costed (Unit {0})
-details_or scope u [] = free (Ok tt)
-details_or scope u (f ∷ functions) =
-    costed.◌>>=◌ (read_once scope u (Some f)) (λ _. details_or scope u functions)
+-- whether the detail of a function can be read, by what is cached of it or by its entries; where
+-- nothing is cached of it, memory may be taken as its entries say; past the last function nothing
+-- is read
+abbrev pub read_once : Scope → UnitRecord → Option CachedFunction → Costed (Unit {0})
+read_once scope u None = free (Ok tt)
+read_once scope u (Some f) = record {
+  given = elim f.detail [ None ↦ fault_of (detail_at scope u f.offset) | Some d ↦ fault_of d ];
+  takes_memory = λ shares. not (is_some f.detail)
+      && (on_parts (stored_detail_at scope u f.offset)).takes_memory shares;
+}
+
+-- its fault alone
+abbrev pub read_fault : Scope → UnitRecord → Option CachedFunction → Result (Unit {0}) Error
+read_fault scope u f = (read_once scope u f).given
+
+-- the same of the details of functions, in their order, up to the first fault
+abbrev pub all_read_once : Scope → UnitRecord → List CachedFunction → Costed (Unit {0})
+all_read_once scope u [] = free (Ok tt)
+all_read_once scope u (f ∷ functions) =
+    costed.◌>>=◌ (read_once scope u (Some f)) (λ _. all_read_once scope u functions)
 
 -- the detail of a function is cached, and has no fault
 abbrev pub HasDetail : CachedFunction → Type 0
@@ -150,7 +150,7 @@ pub record AfterReadingAll (scope : Scope) (u : UnitRecord) (result : Result (Un
   pub known : OnOk result (AllByRecursion HasDetail new.functions)
   pub whole : result ≢ Err OutOfMemory → AreCachedToFault new.functions
   pub memory : AreCachedToFault new.functions → result ≢ Err OutOfMemory
-  pub exact : AreCachedToFault old.functions → result ≡ (details_or scope u old.functions).given
+  pub exact : AreCachedToFault old.functions → result ≡ (all_read_once scope u old.functions).given
   pub same : AreCachedToFault old.functions → new ≡ old
 
 -- the functions stay those that have a range where more is cached

@@ -39,8 +39,8 @@ pub(crate) struct FunctionDetail {
     pub(crate) ranges_begin: usize,
     /// Where they end.
     pub(crate) ranges_end: usize,
-    /// All ranges before those of this function were put in order, for contracts alone: it has no
-    /// bytes.
+    /// All ranges, as they were before those of this function were put in order; for contracts
+    /// alone, it has no bytes.
     pub(crate) listed: Snapshot<InlinedRanges>,
 }
 
@@ -123,8 +123,8 @@ impl<R: Reader> Details<R> {
     /// `UnexpectedEof` where closing entries are missing. May fail with `OutOfMemory` instead, but
     /// with a reader that doesn't share its bytes only where nothing is refused, or the function's
     /// own entry has no fault and, before any fault, an inlined entry gives a range or an entry
-    /// has children. After a refusal what is cached is what was cached before, but that names of
-    /// entries that are referred to, and their faults, may have been added; none was after
+    /// inside it has children. After a refusal what is cached is what was cached before, but that
+    /// names of entries that are referred to, and their faults, may have been added; none was after
     /// `OutOfMemory`. Source: DWARF 5, section 3.3.8.
     pub(crate) fn read(
         &mut self,

@@ -9,7 +9,7 @@ ghost use Rattle.addr2line_lines.specs.InlinedChain.{inlined_chain};
 ghost use Rattle.addr2line_lines.specs.FoundInlined.{entry_among};
 ghost use Rattle.addr2line_lines.specs.FoundRanges.{is_function};
 ghost use Rattle.addr2line_lines.specs.FunctionCache.{read_at};
-ghost use Rattle.addr2line_lines.specs.FunctionDetails.{AfterReadingAll, AreUnread, IsReadAt, details_or, read_once};
+ghost use Rattle.addr2line_lines.specs.FunctionDetails.{AfterReadingAll, AreUnread, IsReadAt, all_read_once, read_once};
 ghost use Rattle.addr2line_lines.specs.FunctionTable.{AreListed, cached_inlined, cached_name, function_place_at, cached_offset_at};
 ghost use Rattle.addr2line_lines.specs.Functions.{function_offset_at, functions_of, functions_take_memory, is_subprogram};
 ghost use Rattle.addr2line_lines.specs.InlineRoom.{exceeds_inline_room};
@@ -289,13 +289,13 @@ impl<R: Reader> Functions<R> {
     /// functions inside it, without those of nested subprograms. It is cached then, its fault too.
     ///
     /// `unit` and `scope` are those of `parse`. The names that references in the unit give may be
-    /// cached too, and their faults. Refused as the first fault of an entry up to the end of the
+    /// cached too, and their faults. Refused by the first fault of an entry up to the end of the
     /// function, of a reference that a name follows, of range attributes or of a range list;
     /// `UnexpectedEof` where closing entries are missing. May fail with `OutOfMemory` instead,
     /// which is not cached: where a reader's parts share its bytes, where nothing is refused, or
     /// where the function's own entry has no fault and, before any fault, an inlined entry gives a
-    /// range or an entry has children. Past the last function nothing is read. Takes no memory
-    /// where the detail or its fault is cached. Source: DWARF 5, section 3.3.8.
+    /// range or an entry inside it has children. Past the last function nothing is read. Takes no
+    /// memory where the detail or its fault is cached. Source: DWARF 5, section 3.3.8.
     pub fn read(&mut self, scope: Scope<'_, R>, unit: &Unit<R>, place: usize) -> Result<(), Error>
         requires in_order { IsScope (as_scope scope) }
         requires unit { AreNamesIn (as_scope scope) unit.now self.old.names }
@@ -329,7 +329,7 @@ impl<R: Reader> Functions<R> {
         requires in_order { IsScope (as_scope scope) }
         requires unit { AreNamesIn (as_scope scope) unit.now self.old.names }
         ensures gives { ExactlyAtCost R.shares (λ x. x) result
-            (details_or (as_scope scope.entry) unit.now self.old.functions) }
+            (all_read_once (as_scope scope.entry) unit.now self.old.functions) }
         ensures after { AfterReadingAll (as_scope scope.entry) unit.now result self.old self.new }
     {
         let count = self.functions.len();

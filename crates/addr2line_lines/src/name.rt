@@ -142,7 +142,7 @@ impl<R: Reader> NameOrOrigin<R> {
     }
 }
 
-// What an entry says of its name, by its attributes up to the first linkage name.
+// What an entry says of its name, by its attributes up to the first linkage name that can be read.
 fn read_names<R: Reader>(
     place: EntryPlace<'_, R>,
     entries: &mut EntriesRaw<'_, R>,
@@ -273,7 +273,7 @@ impl<R: Reader> UnitNames<R> {
     }
 }
 
-// The name by the entry that a value refers to, which is cached if it is one of the unit.
+// The name by the entry that a value refers to, which may be cached if that is one of the unit.
 fn referred_name_once<R: Reader>(
     scope: Scope<'_, R>,
     unit: &Unit<R>,

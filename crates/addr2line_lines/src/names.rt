@@ -21,7 +21,7 @@ const FEWEST_SLOTS: usize = 64;
 // How many slots are looked at for one entry.
 const MOST_STEPS: usize = 8;
 
-// A slot of no name. Were a name to have this place, it would be looked up again.
+// A slot of no name. Should a name have this place, the offset that stands there decides.
 const NO_PLACE: u32 = u32::MAX;
 
 // The name that an entry gives, or its fault, beside where the entry begins, in bytes from the
@@ -81,8 +81,8 @@ fn first_slot(offset: UnitOffset) -> usize {
     (offset.0.wrapping_mul(0x9e37_79b9_7f4a_7c15) >> 32) as usize
 }
 
-// Sets a slot for a name: the first that is free, or the last that is looked at. One that says this
-// place or a later one is free, since the name that it said was dropped.
+// Sets a slot for a name: the first that is free, or the last that is looked at. One of no name is
+// free, and one that says this place or a later one, whose name was dropped.
 fn set_slot(slots: &mut Vec<u32>, offset: UnitOffset, place: usize) {
     let Ok(place) = u32::try_from(place) else {
         return;
@@ -101,8 +101,8 @@ fn set_slot(slots: &mut Vec<u32>, offset: UnitOffset, place: usize) {
 }
 
 // Makes room for more slots, if there are at most two for each name, and sets them anew. Where
-// memory is refused there are few until some more names are added, and most names are looked up
-// again until then.
+// memory is refused there are none, or few, until some more names are added, and most names are
+// looked up again until then.
 fn make_slots<R: Reader>(names: &[CachedName<R>], slots: &mut Vec<u32>) {
     if slots.len() / 2 > names.len() {
         return;

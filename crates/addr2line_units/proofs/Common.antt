@@ -31,7 +31,7 @@ pub use Rattle.gimli.specs.UnitsLeft.{all_headers}
 pub use Rattle.addr2line_lines.proofs.OrderLemmas.{in_order_ordered, in_order_ties, one_order, sorted_is}
 pub use Rattle.addr2line_lines.proofs.ReadLemmas.{functions_same, read_more, read_right, table_same, unread_right}
 pub use Rattle.addr2line_lines.specs.Details.{Detail, detail_at}
-pub use Rattle.addr2line_lines.specs.FunctionDetails.{AreCachedToFault, AreDetailsOf, AreUnread, HasDetail, IsCachedToFault, IsDetailOf, IsFunctionMore, IsReadAt, IsReadOf, IsReadOnce, IsTableMore, IsWithDetail, details_fault, details_or, read_fault}
+pub use Rattle.addr2line_lines.specs.FunctionDetails.{AreCachedToFault, AreDetailsOf, AreUnread, HasDetail, IsCachedToFault, IsDetailOf, IsFunctionMore, IsReadAt, IsReadOf, IsReadOnce, IsTableMore, IsWithDetail, details_fault, all_read_once, read_fault}
 pub use Rattle.addr2line_lines.specs.FunctionTable.{AreListed, CachedFunction, FunctionTable, cached_detail, cached_inlined, cached_name, cached_offset_at, function_place_at, inlined_of_detail, name_of_detail}
 pub use Rattle.addr2line_lines.specs.Functions.{FunctionRange, entries_of, entry_gives_a_range, entry_ranges, function_begin, function_end, function_offset, function_offset_at, functions_of, functions_take_memory, has_function, have_function, is_subprogram, once_before, with_function}
 pub use Rattle.addr2line_lines.specs.InOrder.{IsInOrder, in_order}

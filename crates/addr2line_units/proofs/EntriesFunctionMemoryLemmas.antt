@@ -1,5 +1,5 @@
 -- Where memory is taken for the functions of a view (on specs/EntriesFunctions.antt).
-use Rattle.addr2line_units.proofs.Common.{◌≡◌, ℕ, ◌<◌, ◌==◌, ◌&&◌, is_ok, ◌⊎◌, inl, inr, Bool, true, false, cond, List, [], ◌∷◌, ◌++◌, map, length, slice_get, option_map, Option, Some, None, Result, Ok, Err, option_and_then, refl, ap, sym, subst, ◌∙◌, arith, append-nil, Error, Range, ◌>>=◌, Section, Sections, UnitRecord, details_or, FunctionRange, entries_of, entry_gives_a_range, once_before, entry_ranges, function_offset_at, functions_of, functions_take_memory, has_function, have_function, is_subprogram, with_function, AreListed, CachedFunction, FunctionTable, cached_offset_at, Scope, IsTableOf, place_takes_memory, table_takes_memory, or_left, or_right}
+use Rattle.addr2line_units.proofs.Common.{◌≡◌, ℕ, ◌<◌, ◌==◌, ◌&&◌, is_ok, ◌⊎◌, inl, inr, Bool, true, false, cond, List, [], ◌∷◌, ◌++◌, map, length, slice_get, option_map, Option, Some, None, Result, Ok, Err, option_and_then, refl, ap, sym, subst, ◌∙◌, arith, append-nil, Error, Range, ◌>>=◌, Section, Sections, UnitRecord, all_read_once, FunctionRange, entries_of, entry_gives_a_range, once_before, entry_ranges, function_offset_at, functions_of, functions_take_memory, has_function, have_function, is_subprogram, with_function, AreListed, CachedFunction, FunctionTable, cached_offset_at, Scope, IsTableOf, place_takes_memory, table_takes_memory, or_left, or_right}
 use Rattle.std.specs.Prelude.{position}
 use Rattle.gimli_read.specs.Run.{fold_run}
 use Rattle.gimli.specs.Items.{Entry, Item, items_of}
@@ -123,10 +123,10 @@ module _ (shares : Bool) (scope : Scope) (view : UnitRecord) (t : FunctionTable)
       by_functions (f ∷ fs) [] q k m = absurd cc
       by_functions (f ∷ fs) (r ∷ rs) q k m = with_ranges r rs q
 
-  pub details_take : (details_or scope view t.functions).takes_memory shares ≡ true → functions_take_memory shares scope.file.sections view ≡ true
+  pub details_take : (all_read_once scope view t.functions).takes_memory shares ≡ true → functions_take_memory shares scope.file.sections view ≡ true
   details_take h = by_functions t.functions t.ranges refl is.listed h
     where
-      by_functions : (fs : List CachedFunction) (rs : List FunctionRange) → t.ranges ≡ rs → map (λ (f : CachedFunction). f.offset) fs ≡ entries_of rs → (details_or scope view fs).takes_memory shares ≡ true
+      by_functions : (fs : List CachedFunction) (rs : List FunctionRange) → t.ranges ≡ rs → map (λ (f : CachedFunction). f.offset) fs ≡ entries_of rs → (all_read_once scope view fs).takes_memory shares ≡ true
           → functions_take_memory shares scope.file.sections view ≡ true
       by_functions [] rs e k m = absurd cc
       by_functions (f ∷ fs) [] e k m = absurd cc

@@ -1,5 +1,5 @@
 -- What is read without memory (on specs/EntriesMemory.antt).
-use Rattle.addr2line_units.proofs.Common.{◌≡◌, ◌≢◌, ◌∙◌, ◌++◌, ℕ, ap, subst, sym, refl, ◌||◌, not, is_none, is_some, Bool, true, false, List, [], ◌∷◌, Option, Some, None, Result, Ok, Err, IfErr, Error, OutOfMemory, ◌>>=◌, ExactlyUnlessOomIf, WasNotRefused, Sections, UnitRecord, details_or, FunctionTable, functions_take_memory, LineTable, line_table_of, Scope, read_all, IsFaultAtOnce, lines_in, program_lines, unit_lines, LazyFunctions, any_program_takes_memory, is_fault_at_once, lines_take_memory, AreFunctionsOf, IsTableOf, cached_takes_memory, find_takes_memory, reading_takes_memory, table_takes_memory, lines_result, not_refused}
+use Rattle.addr2line_units.proofs.Common.{◌≡◌, ◌≢◌, ◌∙◌, ◌++◌, ℕ, ap, subst, sym, refl, ◌||◌, not, is_none, is_some, Bool, true, false, List, [], ◌∷◌, Option, Some, None, Result, Ok, Err, IfErr, Error, OutOfMemory, ◌>>=◌, ExactlyUnlessOomIf, WasNotRefused, Sections, UnitRecord, all_read_once, FunctionTable, functions_take_memory, LineTable, line_table_of, Scope, read_all, IsFaultAtOnce, lines_in, program_lines, unit_lines, LazyFunctions, any_program_takes_memory, is_fault_at_once, lines_take_memory, AreFunctionsOf, IsTableOf, cached_takes_memory, find_takes_memory, reading_takes_memory, table_takes_memory, lines_result, not_refused}
 use Rattle.std.specs.Prelude.{IfSome}
 use Rattle.gimli_line.specs.declared.row.LineRow.{LineRow}
 use Rattle.gimli_line.specs.Header.{File, Program, header_copy_takes_memory}
@@ -88,7 +88,7 @@ module _ {R : Type 0} (shares : Bool) (scope : Scope) (view : UnitRecord) (f : L
 
   -- nor to read all their details
   pub reading_takes_none : reading_takes_memory shares scope view f ≡ false
-  reading_takes_none = cached_takes_none (λ (t : FunctionTable). (details_or scope view t.functions).takes_memory shares) (λ t is. details_take shares scope view t is)
+  reading_takes_none = cached_takes_none (λ (t : FunctionTable). (all_read_once scope view t.functions).takes_memory shares) (λ t is. details_take shares scope view t is)
 
 -- where lines are parsed, or take no memory, a refusal is what is given
 pub alone_if_none : {X : Type 0} (parsed takes : Bool) (e : Error) (given : Result X Error) → (parsed || not takes) ≡ true → (parsed ≡ true → e ≢ OutOfMemory) → (e ≢ OutOfMemory → given ≡ Err e) → (takes ≡ false → given ≡ Err e) → given ≡ Err e

@@ -1,6 +1,6 @@
 -- What is cached of the entries of a unit, and read of them, in a parse of functions (on
 -- specs/ParsesAfter.antt).
-use Rattle.addr2line_units.proofs.Common.{◌≡◌, ℕ, zero, suc, ◌<◌, Bool, true, false, not, ◌&&◌, ◌||◌, List, [], ◌∷◌, length, get_or, slice_get, Option, Some, None, Result, Ok, Err, is_some, refl, ap, sym, subst, ◌∙◌, arith, set, OnOk, AllByRecursion, Error, takes_memory_after, ◌>>=◌, ExactlyUnlessOomIf, fault_of, UnitRecord, Detail, FunctionRange, entries_of, functions_of, CachedFunction, HasDetail, IsDetailOf, details_fault, details_or, read_fault, Scope, LazyFunctions, ReadingDepth, CachedUnit, EntriesCache, answer_of, read_of_functions, read_of_number, read_of_unit, read_of_view, StayEntries, first_answer_of, AreFunctionsOf, StayFunctions, details_at, functions_fault, cached_functions, is_cached_fault, reading_takes_memory, were_read, answers_in, known_functions, View, view_scope}
+use Rattle.addr2line_units.proofs.Common.{◌≡◌, ℕ, zero, suc, ◌<◌, Bool, true, false, not, ◌&&◌, ◌||◌, List, [], ◌∷◌, length, get_or, slice_get, Option, Some, None, Result, Ok, Err, is_some, refl, ap, sym, subst, ◌∙◌, arith, set, OnOk, AllByRecursion, Error, takes_memory_after, ◌>>=◌, ExactlyUnlessOomIf, fault_of, UnitRecord, Detail, FunctionRange, entries_of, functions_of, CachedFunction, HasDetail, IsDetailOf, details_fault, all_read_once, read_fault, Scope, LazyFunctions, ReadingDepth, CachedUnit, EntriesCache, answer_of, read_of_functions, read_of_number, read_of_unit, read_of_view, StayEntries, first_answer_of, AreFunctionsOf, StayFunctions, details_at, functions_fault, cached_functions, is_cached_fault, reading_takes_memory, were_read, answers_in, known_functions, View, view_scope}
 use Rattle.addr2line_lines.specs.Details.{detail_takes_memory as takes}
 use Rattle.addr2line_units.specs.declared.entries.LazyFunctions.TheVariants as lazy
 use Rattle.addr2line_units.specs.declared.parses.ReadingDepth.TheVariants as depths
@@ -42,13 +42,13 @@ no_detail_fault scope view (f ∷ fs) all right =
     ap (λ (r : Result Detail Error). fault_of r >>= λ _. details_fault scope view fs) (right.0 (Ok all.0.0) all.0.1)
     ∙ no_detail_fault scope view fs all.1 right.1
 
-no_detail_memory : (shares : Bool) (scope : Scope) (view : UnitRecord) (fs : List CachedFunction) → AllByRecursion HasDetail fs → (details_or scope view fs).takes_memory shares ≡ false
+no_detail_memory : (shares : Bool) (scope : Scope) (view : UnitRecord) (fs : List CachedFunction) → AllByRecursion HasDetail fs → (all_read_once scope view fs).takes_memory shares ≡ false
 no_detail_memory shares scope view [] all = refl
 no_detail_memory shares scope view (f ∷ fs) all =
-    ap (λ (o : Option (Result Detail Error)). (not (is_some o) && (shares || takes scope view f.offset)) || takes_memory_after (read_fault scope view (Some f)) (λ _. (details_or scope view fs).takes_memory shares)) all.0.1
+    ap (λ (o : Option (Result Detail Error)). (not (is_some o) && (shares || takes scope view f.offset)) || takes_memory_after (read_fault scope view (Some f)) (λ _. (all_read_once scope view fs).takes_memory shares)) all.0.1
     ∙ by_rest (no_detail_memory shares scope view fs all.1) (read_fault scope view (Some f))
   where
-    by_rest : (details_or scope view fs).takes_memory shares ≡ false → (r : Result (Unit {0}) Error) → takes_memory_after r (λ _. (details_or scope view fs).takes_memory shares) ≡ false
+    by_rest : (all_read_once scope view fs).takes_memory shares ≡ false → (r : Result (Unit {0}) Error) → takes_memory_after r (λ _. (all_read_once scope view fs).takes_memory shares) ≡ false
     by_rest rest (Ok x) = rest
     by_rest rest (Err e) = refl
 
@@ -63,7 +63,7 @@ details_cached shares scope view (lazy.Faulty e) r right h gives = absurd (never
 details_cached shares scope view lazy.Absent r right h gives = exactly_ok false r (functions_fault scope view) refl (no_fault_of scope view right) gives
 details_cached shares scope view (lazy.Read t) r right h gives =
     let all = all_have_detail t.value.functions h in
-    exactly_ok ((details_or scope view t.value.functions).takes_memory shares) r (functions_fault scope view) (no_detail_memory shares scope view t.value.functions all)
+    exactly_ok ((all_read_once scope view t.value.functions).takes_memory shares) r (functions_fault scope view) (no_detail_memory shares scope view t.value.functions all)
     (fault_is scope view t.value right ∙ no_detail_fault scope view t.value.functions all right.details) gives
 
 module _ {R : Type 0} where

@@ -8,7 +8,7 @@ use Rattle.addr2line_lines.specs.CachedNames.{AreNamesIn, no_names}
 use Rattle.addr2line_lines.specs.Details.{Detail, detail_at}
 use Rattle.addr2line_lines.specs.InlinedChain.{inlined_chain}
 use Rattle.addr2line_lines.specs.FoundInlined.{entry_among}
-use Rattle.addr2line_lines.specs.FunctionDetails.{AreDetailsOf, IsTableMore, details_or}
+use Rattle.addr2line_lines.specs.FunctionDetails.{AreDetailsOf, IsTableMore, all_read_once}
 use Rattle.addr2line_units.specs.declared.entries.FunctionPlace.{FunctionPlace}
 use Rattle.addr2line_units.specs.declared.entries.LazyFunctions.{LazyFunctions}
 use Rattle.addr2line_units.specs.declared.entries.LazyFunctions.TheVariants as lazy
@@ -155,4 +155,4 @@ functions_fault scope view = functions_of scope.file.sections view >>= λ ranges
 -- whether memory may be taken to read the functions of a view with all details
 abbrev pub reading_takes_memory : {R : Type 0} → Bool → Scope → UnitRecord → LazyFunctions R → Bool
 reading_takes_memory shares scope view f = cached_takes_memory shares scope view
-    (λ (t : FunctionTable). (details_or scope view t.functions).takes_memory shares) f
+    (λ (t : FunctionTable). (all_read_once scope view t.functions).takes_memory shares) f

@@ -1,4 +1,4 @@
-use Rattle.addr2line_units.proofs.Common.{were_read, cached_fault, LazyFunctions, ◌≡◌, ◌∙◌, refl, ap, sym, subst, Ok, Err, err_from_is_err_and, as_scope, FunctionTable, Result, Error, ExactlyUnlessOom, ExactlyUnlessOomIf, ReadingDepth, details_or, functions_fault, read_of_functions, reading_takes_memory, false≢true}
+use Rattle.addr2line_units.proofs.Common.{were_read, cached_fault, LazyFunctions, ◌≡◌, ◌∙◌, refl, ap, sym, subst, Ok, Err, err_from_is_err_and, as_scope, FunctionTable, Result, Error, ExactlyUnlessOom, ExactlyUnlessOomIf, ReadingDepth, all_read_once, functions_fault, read_of_functions, reading_takes_memory, false≢true}
 use Rattle.addr2line_units.specs.EntriesOwn.{CachedUnit, looked_at_unit}
 use Rattle.addr2line_units.specs.SupScope.{scope_of}
 use Rattle.addr2line_units.specs.declared.parses.ReadingDepth.TheVariants as depths
@@ -170,7 +170,7 @@ returns g c =
     let table = table_now shares inner x before mid v.functions a t c.in-Read.is in
     let e = rw c.deref_mut.ensures.value at c.read_all.ensures in
     let depth : c.args.depth ≡ depths.Details = elim c.match-matches.branch [ in-Functions w ↦ absurd (false≢true (sym c.if-matches.false ∙ w.matches-is)) | in_default w ↦ reads_details c.args.depth w.in_default.not-Functions ] in
-    let may = (details_or inner x t.value.functions).takes_memory shares in
+    let may = (all_read_once inner x t.value.functions).takes_memory shares in
     let gives = exactly_weaker may (reading_takes_memory shares inner x before) (λ x. x) result (functions_fault inner x)
     (reading_before before mid kept shares inner x t c.in-Read.is table)
     (subst (λ (r : Result (Unit {0}) Error). ExactlyUnlessOomIf may (λ x. x) result r) (details_fault_is inner x t.value.functions table.details ∙ sym (fault_is inner x t.value table)) e.gives) in

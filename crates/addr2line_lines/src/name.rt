@@ -243,7 +243,6 @@ fn referred_name_anew<R: Reader>(
 impl<R: Reader> UnitNames<R> {
     // The name by the entry at an offset of the unit: the cached one, else it is read, and may be
     // cached then. So may a fault, but never `OutOfMemory`.
-    #[inline(always)]
     fn find_or_read(
         &mut self,
         scope: Scope<'_, R>,

@@ -3,7 +3,7 @@
 use Rattle.std.specs.Prelude.{◌≡◌, ◌≢◌, ◌++◌, List, [], ◌∷◌, Option, Some, None, Result, Ok, Err}
 use Rattle.gimli_line.specs.Common.{Error, OutOfMemory}
 use Rattle.gimli_line.specs.declared.row.LineRow.{LineRow}
-use Rattle.gimli_line.specs.Header.{File, Header, Program, KeepsFilesOf}
+use Rattle.gimli_line.specs.Header.{File, Header, Program}
 use Rattle.gimli_line.specs.Opcode.{instructions_of, files_in}
 use Rattle.gimli_line.specs.Rows.{rows_of}
 use Rattle.gimli_line.specs.Ahead.{files_ahead}
@@ -32,10 +32,6 @@ abbrev pub YieldsUnlessOom : {X : Type 0} → List (Result X Error) → Result (
 YieldsUnlessOom old (Ok None) new = (old ≡ []) × (new ≡ [])
 YieldsUnlessOom old (Ok (Some x)) new = old ≡ Ok x ∷ new
 YieldsUnlessOom old (Err e) new = (new ≡ []) × (e ≢ OutOfMemory → old ≡ Err e ∷ [])
-
--- the files so far and those to come are the same, and so is the rest of the header
-abbrev pub KeepsFiles : Lines → Lines → Type 0
-KeepsFiles old new = KeepsFilesOf old.header old.to_define new.header new.to_define
 
 -- a header with more files
 abbrev pub with_files : Header → List File → Header

@@ -3,8 +3,8 @@
 ghost use Rattle.std.specs.Prelude.{◌≡◌, ◌≢◌, ◌<◌, ◌≤◌, [], ◌∷◌, ◌++◌, length, true, false, OnOk, OnErr, IfOk, IfErr, Ok, Err, None};
 ghost use Rattle.gimli_line.specs.Common.{OutOfMemory, ExactlyUnlessOom, ExactlyUnlessOomIf};
 ghost use Rattle.gimli_read.specs.declared.error.Error.{Error as Fault};
-ghost use Rattle.gimli_line.specs.Header.{header_copy_takes_memory};
-ghost use Rattle.gimli_line.specs.Lines.{lines_of, YieldsUnlessOom, KeepsFiles, DefinesAhead, IsOver};
+ghost use Rattle.gimli_line.specs.Header.{KeepsFilesOf, header_copy_takes_memory};
+ghost use Rattle.gimli_line.specs.Lines.{lines_of, YieldsUnlessOom, DefinesAhead, IsOver};
 ghost use Rattle.gimli_line.specs.Opcode.{is_file, gives_file, coded_instruction_at};
 ghost use Rattle.gimli_line.specs.Steps.{IsRunning, taken, step_instruction};
 ghost use Rattle.gimli_line.specs.Left.{rows_left, files_left, ahead_left, DefinesOn, FindsRow};
@@ -108,7 +108,8 @@ impl<R: Reader> LineRows<R> {
         ensures gives { YieldsUnlessOom self.old.left result self.new.left }
         ensures memory { IfErr result (λ e. self.old.ahead ≡ [] → self.old.left ≡ Err e ∷ []) }
         ensures after { DefinesAhead self.old.header self.old.ahead result self.new.header }
-        ensures files { OnOk result (KeepsFiles self.old self.new) }
+        ensures files { OnOk result (KeepsFilesOf self.old.header self.old.to_define
+            self.new.header self.new.to_define) }
         ensures none { IfOk result (λ row. row ≡ None → IsOver self.new) }
         ensures refused { OnErr result (IsOver self.new) }
     {

@@ -24,17 +24,9 @@ pub data FormEncoding : Type 0 where
   Text : (Section → AttributeValue Section) → FormEncoding
   Empty : AttributeValue Section → FormEncoding
 
--- a flag
-abbrev pub flag_of : ℕ → AttributeValue Section
-flag_of n = values.Flag (not (n == 0))
-
 -- a reference by offset in the unit
 abbrev pub unit_ref : ℕ → AttributeValue Section
 unit_ref n = values.UnitRef (record { 0 = n })
-
--- a reference by offset in the section
-abbrev pub info_ref : ℕ → AttributeValue Section
-info_ref n = values.DebugInfoRef (record { 0 = n })
 
 -- a reference by offset in the supplementary file's section
 abbrev pub info_ref_sup : ℕ → AttributeValue Section
@@ -77,7 +69,7 @@ constant_forms =
 -- the forms of flags, and of what stands in other sections
 abbrev pub flag_and_list_forms : List (DwForm × FormEncoding)
 flag_and_list_forms =
-    (DW_FORM_flag, Fixed 1 flag_of)
+    (DW_FORM_flag, Fixed 1 (λ n. values.Flag (not (n == 0))))
     ∷ (DW_FORM_flag_present, Empty (values.Flag true))
     ∷ (DW_FORM_sec_offset, Offset values.SecOffset)
     ∷ (DW_FORM_loclistx, Unsigned values.DebugLocListsIndex)
@@ -108,7 +100,7 @@ reference_forms =
     ∷ (DW_FORM_ref4, Fixed 4 unit_ref)
     ∷ (DW_FORM_ref8, Fixed 8 unit_ref)
     ∷ (DW_FORM_ref_udata, Unsigned unit_ref)
-    ∷ (DW_FORM_ref_addr, AddressOrOffset info_ref)
+    ∷ (DW_FORM_ref_addr, AddressOrOffset (λ n. values.DebugInfoRef (record { 0 = n })))
     ∷ (DW_FORM_ref_sup4, Fixed 4 info_ref_sup)
     ∷ (DW_FORM_ref_sup8, Fixed 8 info_ref_sup)
     ∷ (DW_FORM_GNU_ref_alt, Offset info_ref_sup)

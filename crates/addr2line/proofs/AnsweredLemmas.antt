@@ -1,6 +1,6 @@
 -- What an answer to the load of a unit makes of a context, and of a lookup that waits for it (on
 -- specs/Answers.antt and specs/Lookups.antt).
-use Rattle.addr2line.proofs.Common.{◌≡◌, ℕ, ◌<◌, [], length, List, Option, Result, Ok, Err, sym, ap, subst, ◌∙◌, true, IfErr, OnOk, Error, ◌>>=◌, Sections, Scope, OnFault, UnitRange, cover, LookupStop, Waits, Finds, FindsNothing, main_scope, with_answer, load_result, UnitIndex, UnitsState, FirstAnswers, fewer_left, waits_listed, AfterAnswering, answered, load_reply, IsContext, as_context, loads_at, lookup_stop, stop_in, waits_for, Bool}
+use Rattle.addr2line.proofs.Common.{◌≡◌, ℕ, ◌<◌, [], length, List, Option, Result, Ok, Err, sym, ap, subst, ◌∙◌, true, IfErr, OnOk, Error, ◌>>=◌, Sections, OnFault, UnitRange, cover, LookupStop, Waits, Finds, FindsNothing, main_scope, with_answer, load_result, UnitIndex, UnitsState, FirstAnswers, waits_listed, AfterAnswering, answered, load_reply, IsContext, as_context, loads_at, lookup_stop, stop_in, waits_for, Bool}
 use Rattle.std.proofs.lemmas.Bool.{eqb-true}
 use Rattle.addr2line_units.specs.UnitsAfter as left
 use Rattle.addr2line_units.specs.LoadsLaws.{IsListed}
@@ -43,20 +43,21 @@ module _ (ranges : List UnitRange) (u : UnitsState) (i : IsContext ranges u) whe
   module _ {shares : Bool} (n : ℕ) (given : Option Sections) (r : Result (Unit {0}) Error) (now : UnitsState) (a : left.AfterAnswer shares n given r u now) where
     -- fewer loads are left after an answer to one that a lookup waits for
     fewer_after : (faults : OnFault) (probe : ℕ) → waits_for n (lookup_stop faults d u.answers probe) ≡ true → OnOk r (length (loads_at now.scope.file.sections now.answers probe) < length (loads_at d u.answers probe))
-    fewer_after faults probe w = of_ok r a.answers
+    fewer_after faults probe w = by_loads r (a.shorter (cover probe ranges) listed)
       where
         listed : IsListed n (laws.loads_of d u.scope.file.units u.answers (cover probe ranges))
         listed = at_made ranges u i (λ s xs rs. IsListed n (laws.loads_of s.file.sections s.file.units u.answers (cover probe rs)))
             (λ m e. (waits_listed faults (main_scope d m) m.units u.answers probe n (cover probe m.ranges) (sym (ap (λ (x : Result UnitIndex Error). x >>= stop_in faults d u.answers probe) e) ∙ waits_is n _ w)).1)
 
-        of_ok : (q : Result (Unit {0}) Error) → OnOk q (now.answers ≡ with_answer d u.scope.file.units u.answers n given) → OnOk q (length (loads_at now.scope.file.sections now.answers probe) < length (loads_at d u.answers probe))
-        of_ok (Ok x) h =
-            let now_is : loads_at now.scope.file.sections now.answers probe ≡ laws.loads_of d u.scope.file.units (with_answer d u.scope.file.units u.answers n given) (cover probe ranges) =
-            ap (λ (s : Scope). loads_at s.file.sections now.answers probe) (scope_same now a.stays) ∙ loads_are now.answers probe ∙ ap (λ xs. laws.loads_of d u.scope.file.units xs (cover probe ranges)) h in
-            subst (λ l. length l < length (loads_at d u.answers probe)) (sym now_is)
-            (subst (λ l. length (laws.loads_of d u.scope.file.units (with_answer d u.scope.file.units u.answers n given) (cover probe ranges)) < length l) (sym (loads_are u.answers probe))
-            (fewer_left d u.scope.file.units u.answers n given (cover probe ranges) a.beside listed))
-        of_ok (Err e) h = tt
+        now_are : loads_at now.scope.file.sections now.answers probe ≡ laws.loads_of now.scope.file.sections now.scope.file.units now.answers (cover probe ranges)
+        now_are = or_made ranges now (read_context now a.stays) [] (λ s xs rs. laws.loads_of s.file.sections s.file.units now.answers (cover probe rs))
+
+        by_loads : (q : Result (Unit {0}) Error) → OnOk q (length (laws.loads_of now.scope.file.sections now.scope.file.units now.answers (cover probe ranges)) < length (laws.loads_of d u.scope.file.units u.answers (cover probe ranges)))
+            → OnOk q (length (loads_at now.scope.file.sections now.answers probe) < length (loads_at d u.answers probe))
+        by_loads (Ok x) h =
+            subst (λ l. length l < length (loads_at d u.answers probe)) (sym now_are)
+            (subst (λ l. length (laws.loads_of now.scope.file.sections now.scope.file.units now.answers (cover probe ranges)) < length l) (sym (loads_are u.answers probe)) h)
+        by_loads (Err e) h = tt
 
     pub after_answer : AfterAnswering n given r (as_context u) (as_context now)
     after_answer = record {

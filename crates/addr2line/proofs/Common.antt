@@ -25,7 +25,7 @@ pub use Rattle.addr2line_units.specs.FramesLookup.{Finds, FindsNothing, LookupAs
 pub use Rattle.addr2line_units.specs.EntriesKnown.{KnownEntries, LearnsDetailsAt, LearnsNoDetails, NothingKnown, knows_at}
 pub use Rattle.addr2line_units.specs.Loads.{NoneOpen, before_others, forget_result, forgotten, is_of_other, is_open_at, load_of_number, load_result, loads_along}
 pub use Rattle.addr2line_units.specs.Locations.{LocationResult, all_lines, first_location, is_found, lines_of_unit, location_in, location_of, steps_along, or_first_location, spans_along, spans_of}
-pub use Rattle.addr2line_units.specs.LocationsParsed.{AllAskFor, AreAllParsed, AreParsed, AreReadyForAll, AsksFor, LeadTo, ParsesOnly, StaysParsed, TakeNone, TakeNoneForAll, has_parsed, ready_along, takes_none_along}
+pub use Rattle.addr2line_units.specs.LocationsParsed.{AllAskFor, AreAllParsed, AreParsed, AreReadyForAll, AsksFor, LeadTo, ParsesOnly, StaysParsed, TakeNone, TakeNoneForAll, has_parsed, ready_along}
 pub use Rattle.addr2line_units.specs.UnitsRanged.{IndexedUnit, RangedUnit, has_lines, indexed_of, ranged_units, unit_ranges_from, unit_records}
 pub use Rattle.addr2line_units.specs.EntriesStayKnown.{IsReadyAt, StaysKnown, StaysKnownOf}
 pub use Rattle.addr2line_units.specs.Continuation.{IfLoad, IfOutput, IsOkOutput, SkipsTo}

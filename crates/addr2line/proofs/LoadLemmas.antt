@@ -1,14 +1,13 @@
 -- Answers to loads outside a lookup, in a context (on specs/Loads.antt).
-use Rattle.addr2line.proofs.Common.{◌≡◌, ◌⊎◌, inl, inr, ℕ, Bool, false, true, List, [], length, slice_get, Option, Result, Ok, Err, sym, ap, subst, ◌∙◌, length-map, IfErr, IfOk, IsOk, OnOk, Error, ◌>>=◌, ExactlyUnlessOom, fault_of, Sections, UnitRecord, Scope, OnFault, UnitRange, cover, asked_frames, main_scope, stop_along, knows_at, NoneOpen, forget_result, is_open_at, load_result, loads_along, all_lines, LeadTo, IndexedUnit, IsReadyAt, StaysKnown, UnitIndex, index_units, UnitsState, SplitLoad, IsContext, lines_of_all, as_context, AfterForgetting, AfterLoading, AfterParse, AfterPreload, IsAllKnown, IsNotOpen, NoneOpenAt, ReachesAllOf, ReadsFunctionsNoMemory, StaysRead, forget_reply, parse_reply, parsed_answers, lookup_stop, result_map}
+use Rattle.addr2line.proofs.Common.{◌≡◌, ◌⊎◌, inl, inr, ℕ, Bool, false, true, List, [], slice_get, Option, Result, Ok, Err, sym, ap, subst, ◌∙◌, IfErr, IfOk, IsOk, OnOk, Error, fault_of, Sections, UnitRecord, Scope, UnitRange, cover, asked_frames, stop_along, knows_at, NoneOpen, forget_result, is_open_at, load_result, loads_along, all_lines, LeadTo, IsReadyAt, StaysKnown, UnitsState, SplitLoad, IsContext, lines_of_all, as_context, AfterForgetting, AfterLoading, AfterParse, AfterPreload, IsAllKnown, IsNotOpen, NoneOpenAt, ReachesAllOf, ReadsFunctionsNoMemory, StaysRead, forget_reply, parse_reply, parsed_answers, result_map}
 use Rattle.addr2line.specs.Common.{OutOfMemory}
 use Rattle.addr2line_units.specs.declared.parses.ReadingDepth.{ReadingDepth}
 use Rattle.addr2line_units.specs.declared.parses.ReadingDepth.TheVariants as depths
 use Rattle.addr2line_units.specs.UnitsAfter as left
 use Rattle.addr2line_units.specs.ParsesLaws.{IsReached}
 use Rattle.addr2line_units.specs.Parses.{AreFirstDecided, AreReadBefore, AreReadyFor, ReadsNoMemory, answers_after_parse, read_of_units}
-use Rattle.addr2line_units.proofs.ParsesReachedLemmas.{reached_all}
 use Rattle.addr2line.specs.Loads.{load_reply}
-use Rattle.addr2line.proofs.AnsweredLemmas.{answers_are, scope_same, units_same}
+use Rattle.addr2line.proofs.AnsweredLemmas.{answers_are, read_context, scope_same, units_same}
 use Rattle.addr2line.proofs.ContextLemmas.{at_made, at_now, by_made, of_made, of_now, or_made}
 
 -- along no ranges no loads are listed
@@ -88,7 +87,7 @@ module _ (ranges : List UnitRange) (u : UnitsState) (i : IsContext ranges u) whe
       answers = λ told. a.answers told ∙ sym (parsed_is depth);
       begun = of_made ranges u i (λ s xs rs. AreFirstDecided depth s s.file.units u.answers now.answers) a.begun;
       known = of_made ranges u i (λ s xs rs. (probe n : ℕ) → is_open_at s.file.sections s.file.units u.answers n ≡ false → knows_at u.known probe n ≡ true → knows_at now.known probe n ≡ true) a.known;
-      whole = of_made ranges u i (λ s xs rs. (kind : ReadingDepth) (n : ℕ) → is_open_at s.file.sections s.file.units u.answers n ≡ false → IsReadyAt kind u.known n → IsReadyAt kind now.known n) a.whole;
+      whole = of_made ranges u i (λ s xs rs. (needed : ReadingDepth) (n : ℕ) → is_open_at s.file.sections s.file.units u.answers n ≡ false → IsReadyAt needed u.known n → IsReadyAt needed now.known n) a.whole;
       only = of_made ranges u i (λ s xs rs. (n : ℕ) → (slice_get now.known n ≡ slice_get u.known n) ⊎ AreReadBefore depth s s.file.units u.answers n) a.only;
       details = a.details;
       read = a.read;
@@ -104,36 +103,12 @@ module _ (ranges : List UnitRange) (u : UnitsState) (i : IsContext ranges u) whe
     parsed_alone none = subst (λ given. IfErr r (λ e. given ≡ Err e)) (sym (parse_is depth))
         (a.no_memory (at_now ranges u i now (scope_same ranges u i now a.stays) (units_same ranges u i now a.stays) (λ s xs rs. ReadsNoMemory shares depth s s.file.units now.answers now.known) none))
 
-    -- no lookup waits or has a fault after a parse of all details
-    module _ (e : depth ≡ depths.Details) (gives : read_of_units depth u.scope us u.answers ≡ Ok tt) (told : now.answers ≡ answers_after_parse depth u.scope us u.answers) (lines : lines_of_all d ≡ Ok tt) (faults : OnFault) (probe : ℕ) where
-      abbrev reached_by : Scope → List IndexedUnit → List UnitRange → Type 0
-      reached_by s xs rs = IsReached (stop_along (asked_frames faults s xs (answers_after_parse depths.Details s s.file.units u.answers) probe) (cover probe rs))
-
-      read_by : (m : UnitIndex) → index_units d ≡ Ok m → read_of_units depths.Details (main_scope d m) (main_scope d m).file.units u.answers ≡ Ok tt
-      read_by = of_made ranges u i (λ s xs rs. read_of_units depths.Details s s.file.units u.answers ≡ Ok tt) (ap (λ k. read_of_units k u.scope us u.answers) (sym e) ∙ gives)
-
-      many_by : (m : UnitIndex) → index_units d ≡ Ok m → length m.units ≡ length u.answers
-      many_by m q = sym (length-map m.units (λ (x : IndexedUnit). x.unit)) ∙ of_made ranges u i (λ s xs rs. length s.file.units ≡ length u.answers) a.beside m q
-
-      lines_by : (m : UnitIndex) → index_units d ≡ Ok m → fault_of (all_lines d m.units) ≡ Ok tt
-      lines_by m q = sym (ap (λ (x : Result UnitIndex Error). x >>= λ (y : UnitIndex). fault_of (all_lines d y.units)) q) ∙ lines
-
-      reached_first : reached_by u.scope u.units ranges
-      reached_first = at_made ranges u i reached_by (λ m q. reached_all faults (main_scope d m) m.units u.answers probe (cover probe m.ranges) (many_by m q) (read_by m q) (lines_by m q))
-
-      answers_now : now.answers ≡ answers_after_parse depths.Details u.scope us u.answers
-      answers_now = told ∙ ap (λ k. answers_after_parse k u.scope us u.answers) e
-
-      pub reached_now : IsReached (lookup_stop faults now.scope.file.sections now.answers probe)
-      reached_now =
-          subst (λ (s : Scope). IsReached (lookup_stop faults s.file.sections now.answers probe)) (sym (scope_same ranges u i now a.stays))
-          (subst IsReached (sym (by_made ranges u i (λ s xs rs. stop_along (asked_frames faults s xs now.answers probe) (cover probe rs))))
-          (subst (λ xs. IsReached (stop_along (asked_frames faults u.scope u.units xs probe) (cover probe ranges))) (sym answers_now) reached_first))
-
     pub all_known : depth ≡ depths.Details → OnOk r (IsAllKnown (as_context now))
     all_known = a.all
 
-  pub all_reached : {shares : Bool} (depth : ReadingDepth) (r : Result (Unit {0}) Error) (now : UnitsState) → left.AfterReading shares depth r u now → ExactlyUnlessOom (λ x. x) r (read_of_units depth u.scope us u.answers) → depth ≡ depths.Details → OnOk r (ReachesAllOf (as_context now))
-  all_reached depth (Err f) now a gives e = tt
-  all_reached depth (Ok x) now a gives e = λ lines faults probe.
-      reached_now depth (Ok x) now a e gives (a.answers tt) (subst (λ (s : Scope). lines_of_all s.file.sections ≡ Ok tt) (scope_same ranges u i now a.stays) lines) faults probe
+  -- no lookup waits or has a fault after a parse of all details
+  pub all_reached : {shares : Bool} (depth : ReadingDepth) (r : Result (Unit {0}) Error) (now : UnitsState) → left.AfterReading shares depth r u now → depth ≡ depths.Details → OnOk r (ReachesAllOf (as_context now))
+  all_reached depth (Err f) now a e = tt
+  all_reached depth (Ok x) now a e = λ lines faults probe.
+      subst IsReached (sym (by_made ranges now (read_context ranges u i now a.stays) (λ s xs rs. stop_along (asked_frames faults s xs now.answers probe) (cover probe rs))))
+      (a.reached e (sym (by_made ranges u i (λ s xs rs. fault_of (all_lines s.file.sections xs))) ∙ subst (λ (s : Scope). lines_of_all s.file.sections ≡ Ok tt) (scope_same ranges u i now a.stays) lines) faults probe (cover probe ranges))

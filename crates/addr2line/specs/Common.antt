@@ -17,7 +17,7 @@ pub use Rattle.addr2line_units.specs.FramesLookup.{Finds, FindsNothing, LookupAs
 pub use Rattle.addr2line_units.specs.EntriesKnown.{KnownEntries, LearnsDetailsAt, LearnsNoDetails, LearnsNoFunctions, NothingKnown, knows_at}
 pub use Rattle.addr2line_units.specs.Loads.{NoneOpen, forget_result, forgotten, is_open_at, load_result, token_number}
 pub use Rattle.addr2line_units.specs.Locations.{LocationResult, all_lines, is_found, location_of, steps_along, spans_of}
-pub use Rattle.addr2line_units.specs.LocationsParsed.{AllAskFor, AreAllParsed, AreParsed, AreReadyForAll, AsksFor, LeadTo, ParsesOnly, StaysParsed, TakeNone, TakeNoneForAll, ready_along, takes_none_along}
+pub use Rattle.addr2line_units.specs.LocationsParsed.{AllAskFor, AreAllParsed, AreParsed, AreReadyForAll, AsksFor, LeadTo, ParsesOnly, StaysParsed, TakeNone, TakeNoneForAll, parses_no_memory, ready_along}
 pub use Rattle.addr2line_units.specs.UnitsRanged.{IndexedUnit, has_lines, ranged_units, unit_records}
 pub use Rattle.addr2line_units.specs.EntriesStayKnown.{IsReadBy, IsReadyAt, StaysKnown, StaysKnownOf}
 pub use Rattle.addr2line_units.specs.Continuation.{IfLoad, IfOutput, IsOkOutput, SkipsTo, rests}

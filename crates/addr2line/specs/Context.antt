@@ -6,7 +6,7 @@
 -- without a line program has its lines, which are none.
 -- Own: of a unit the first answer to its load counts: the sections of a split file, or none.
 use Rattle.std.specs.Prelude.{◌≡◌, ℕ, ◌+◌, ◌<◌, ◌≤◌, Bool, true, List, [], map, Option, None, IfErr, Result, Ok, Err, OnOk, is_ok}
-use Rattle.addr2line.specs.Common.{Error, ◌>>=◌, ExactlyUnlessOom, fault_of, WasNotRefused, Section, Sections, FindsNothing, LookupStop, located_frames, main_scope, stop_along, KnownEntries, NothingKnown, all_lines, is_found, location_of, steps_along, UnitIndex, index_units, sup_units, has_lines, ranged_units, AllAskFor, AreParsed, AreReadyForAll, AsksFor, LeadTo, ParsesOnly, StaysParsed, TakeNone, TakeNoneForAll, ready_along, takes_none_along, cover, cover_range, UnitsState, FirstAnswers, Exactly, AreAllParsed}
+use Rattle.addr2line.specs.Common.{Error, ◌>>=◌, ExactlyUnlessOom, fault_of, WasNotRefused, Section, Sections, FindsNothing, LookupStop, located_frames, main_scope, stop_along, KnownEntries, NothingKnown, all_lines, is_found, location_of, steps_along, UnitIndex, index_units, sup_units, has_lines, ranged_units, AllAskFor, AreParsed, AreReadyForAll, AsksFor, LeadTo, ParsesOnly, StaysParsed, TakeNone, TakeNoneForAll, holds_along, parses_no_memory, ready_along, cover, cover_range, UnitsState, FirstAnswers, Exactly, AreAllParsed}
 use Rattle.gimli.specs.declared.dwarf.DwarfFileType.TheVariants.{Main}
 use Rattle.addr2line_units.specs.declared.index.UnitRange.{UnitRange}
 
@@ -62,7 +62,8 @@ IsReady c probe = (m : UnitIndex) → index_units c.sections ≡ Ok m
 -- a lookup of the probe takes no memory: the lines that it asks for are parsed, or take none
 abbrev pub LocatesNoMemory : Bool → ContextState → ℕ → Type 0
 LocatesNoMemory shares c probe = (m : UnitIndex) → index_units c.sections ≡ Ok m
-    → takes_none_along shares c.sections m.units c.parsed probe (cover probe m.ranges) ≡ true
+    → holds_along (parses_no_memory shares m.units c.parsed)
+    (located_frames c.sections m.units probe) (cover probe m.ranges) ≡ true
 
 -- no unit covers the probe
 abbrev pub IsUncovered : ContextState → ℕ → Type 0
@@ -123,14 +124,10 @@ pub record AfterLookup {X : Type 0} (probe : ℕ) (result : Result (Option X) Er
   pub counted : is_found result ≡ true → old.steps < new.steps
   pub cost : StepsWithin probe old new
 
--- what a lookup of a location comes to among units
-abbrev pub location_stop_in : Sections → ℕ → UnitIndex → Result LookupStop Error
-location_stop_in d probe m =
-    stop_along (located_frames d m.units probe) (cover probe m.ranges)
-
 -- what a lookup of a location comes to
 abbrev pub location_stop : Sections → ℕ → Result LookupStop Error
-location_stop d probe = index_units d >>= location_stop_in d probe
+location_stop d probe =
+    index_units d >>= λ m. stop_along (located_frames d m.units probe) (cover probe m.ranges)
 
 -- the same over readers that share their bytes or don't: the context has stored what the lookup
 -- came to, nothing where it was refused; where the lookup takes no memory, a refusal is the fault

@@ -132,9 +132,9 @@ pub record AfterParse (depth : ReadingDepth) (result : Result (Unit {0}) Error)
   pub known : (m : UnitIndex) → index_units old.sections ≡ Ok m → (probe n : ℕ)
       → is_open_at old.sections (unit_records m.units) old.answers n ≡ false
       → knows_at old.known probe n ≡ true → knows_at new.known probe n ≡ true
-  pub whole : (m : UnitIndex) → index_units old.sections ≡ Ok m → (kind : ReadingDepth) (n : ℕ)
+  pub whole : (m : UnitIndex) → index_units old.sections ≡ Ok m → (needed : ReadingDepth) (n : ℕ)
       → is_open_at old.sections (unit_records m.units) old.answers n ≡ false
-      → IsReadyAt kind old.known n → IsReadyAt kind new.known n
+      → IsReadyAt needed old.known n → IsReadyAt needed new.known n
   pub only : (m : UnitIndex) → index_units old.sections ≡ Ok m → (n : ℕ)
       → (slice_get new.known n ≡ slice_get old.known n)
       ⊎ AreReadBefore depth (main_scope old.sections m) (unit_records m.units) old.answers n

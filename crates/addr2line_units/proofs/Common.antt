@@ -64,7 +64,7 @@ pub use Rattle.addr2line_units.specs.LegacyText.{after_first, ascii_front, eleme
 unfoldable pub use Rattle.addr2line_units.specs.LegacyText.{demangled, element_at, element_text, elements_at, elements_text, escape_char, escape_in, legacy_text, spelled_text, suffix_at, without_prefix}
 pub use Rattle.addr2line_units.specs.Loads.{NoneOpen, before_others, forget_result, forgotten, is_of_other, is_open_at, load_of_number, load_result, loads_along, unit_of_token, view_fault}
 pub use Rattle.addr2line_units.specs.Locations.{LocationResult, all_lines, all_read, first_location, is_found, lines_of_unit, location_in, location_of, steps_along, steps_in, or_first_location, spans_along, spans_in, spans_of, spans_or_fault}
-pub use Rattle.addr2line_units.specs.LocationsParsed.{AllAskFor, AreAllParsed, AreParsed, AreReadyForAll, AsksFor, LeadTo, ParsesOnly, StaysParsed, TakeNone, TakeNoneForAll, can_be_read, has_parsed, parses_no_memory, ready_along, takes_none_along}
+pub use Rattle.addr2line_units.specs.LocationsParsed.{AllAskFor, AreAllParsed, AreParsed, AreReadyForAll, AsksFor, LeadTo, ParsesOnly, StaysParsed, TakeNone, TakeNoneForAll, can_be_read, has_parsed, parses_no_memory, ready_along}
 pub use Rattle.addr2line_units.specs.UnitsRanged.{IndexedUnit, RangedUnit, has_lines, indexed_of, is_partial, is_type_unit, listed_unit_ranges, or_attribute_ranges, range_of_unit, ranged_unit, ranged_units, unit_ranges, unit_ranges_from, unit_records, unless_faulty}
 unfoldable pub use Rattle.addr2line_units.specs.UnitsRanged.{listed_in_unit, unit_of_header}
 pub use Rattle.addr2line_units.specs.UnitsStored.{AreUnits, as_units_state}

@@ -1,11 +1,16 @@
 -- Parses of the functions of units, one unit after another, by what each leaves (on
 -- specs/UnitsAfter.antt and specs/ParsesAfter.antt).
-use Rattle.addr2line_units.proofs.Common.{◌≡◌, ◌≢◌, ◌⊎◌, ◌∙◌, inl, inr, ℕ, zero, suc, ◌+◌, ◌<◌, ◌≤◌, ◌==◌, cond, arith, Bool, true, false, List, [], ◌∷◌, length, slice_get, Option, Some, None, option_and_then, option_map, Result, Ok, Err, refl, sym, ap, subst, cases_eq, slice_get_past, AllByRecursion, Error, OutOfMemory, Sections, UnitRecord, function_offset_at, ReadingDepth, CountsUnits, FindsNothing, answer_of, with_answer, AreKnownToFault, AreReadBefore, AreReadyFor, IsKnownToFault, IsReadyFor, IsReadyOf, ReadsNoMemory, first_decided, parse_of_takes_memory, read_of_number, read_of_units, AllKnown, FunctionsKnown, IsRead, KnownEntries, KnownFunction, LearnsNoDetails, NothingKnown, is_detail_known, is_known_at, known_function_at, knows_at, is_open_at, UnitsState, is_open}
+use Rattle.addr2line_units.proofs.Common.{◌≡◌, ◌≢◌, ◌⊎◌, ◌∙◌, inl, inr, ℕ, zero, suc, ◌+◌, ◌<◌, ◌≤◌, ◌==◌, cond, arith, Bool, true, false, List, [], ◌∷◌, length, slice_get, Option, Some, None, option_and_then, option_map, Result, Ok, Err, refl, sym, ap, subst, cases_eq, slice_get_past, AllByRecursion, Error, OutOfMemory, Sections, UnitRecord, function_offset_at, ReadingDepth, CountsUnits, FindsNothing, answer_of, with_answer, AreKnownToFault, AreReadBefore, AreReadyFor, IsKnownToFault, IsReadyFor, IsReadyOf, ReadsNoMemory, first_decided, parse_of_takes_memory, read_of_number, read_of_units, AllKnown, FunctionsKnown, IsRead, KnownEntries, KnownFunction, LearnsNoDetails, NothingKnown, is_detail_known, is_known_at, known_function_at, knows_at, is_open_at, UnitsState, is_open, OnFault, UnitRange, asked_frames, stop_along, all_lines, answers_after_parse, fault_of, unit_records}
 use Rattle.std.specs.Prelude.{IfSome, unwrap_or}
 use Rattle.addr2line_units.specs.declared.parses.ReadingDepth.TheVariants as depths
 use Rattle.addr2line_units.specs.ParsesAfter.{AfterReadingAt}
 use Rattle.addr2line_units.specs.UnitsAfter.{AfterReading, StayRead}
 use Rattle.addr2line_units.specs.EntriesStayKnown.{IsReadBy, StaysKnownOf}
+use Rattle.addr2line_units.specs.declared.frames.Asks.TheVariants as lookups
+use Rattle.addr2line_units.specs.ParsesLaws.{IsReached}
+use Rattle.addr2line_units.specs.UnitsState.{stop_of}
+use Rattle.addr2line_units.proofs.ParsesReachedLemmas.{reached_all}
+use Rattle.addr2line_units.proofs.UnitsAtLemmas.{counted_records}
 use Rattle.addr2line_units.proofs.ParsesLemmas.{after_end, after_stop, before_more, decided_more, number_behind, open_behind, read_end, read_stop, shut_before}
 use Rattle.addr2line_units.proofs.ParsesReadyLemmas.{before_decided, number_decided}
 use Rattle.addr2line_units.proofs.EntriesStayLemmas.{known_of_twice, same_stays_known}
@@ -89,10 +94,10 @@ module _ (shares : Bool) (depth : ReadingDepth) (k : ℕ) (old mid now : UnitsSt
   so_far = record old { answers = mid.answers; known = mid.known; stop = FindsNothing }
 
   below : k < length us
-  below = subst (λ m. k < m) counts.records within
+  below = subst (λ m. k < m) (counted_records _ counts) within
 
   many : length us ≡ length old.answers
-  many = sym counts.records ∙ counts.answers
+  many = sym (counted_records _ counts) ∙ counts.answers
 
   -- what is read of the unit is what was to be read of it before
   reads : read_of_number depth mid.scope mid.scope.file.units mid.answers k ≡ read_of_number depth old.scope us old.answers k
@@ -187,7 +192,7 @@ module _ (shares : Bool) (depth : ReadingDepth) (k : ℕ) (old mid now : UnitsSt
           (sym (ap (λ x. read_of_number depth old.scope us x k) w.answers ∙ number_behind depth old.scope us old.answers k) ∙ sym ((a given).exact (still_ready (ready k w.before)))));
       same = same_now given;
       all = λ is. tt;
-      beside = many;
+      reached = λ is lines. tt;
     }
 
   -- else it goes on
@@ -219,10 +224,10 @@ module _ (depth : ReadingDepth) (k : ℕ) (old now : UnitsState) (w : ReadSoFar 
   records = old.scope.file.units
 
   past : length records ≤ k
-  past = subst (λ m. m ≤ k) counts.records end
+  past = subst (λ m. m ≤ k) (counted_records _ counts) end
 
   beside : length records ≡ length old.answers
-  beside = sym counts.records ∙ counts.answers
+  beside = sym (counted_records _ counts) ∙ counts.answers
 
   pub read_last : read_of_units depth old.scope records old.answers ≡ Ok tt
   read_last = read_end depth old.scope records old.answers k beside past w.before
@@ -250,6 +255,23 @@ module _ (depth : ReadingDepth) (k : ℕ) (old now : UnitsState) (w : ReadSoFar 
       none_open : slice_get records n ≡ None → is_open_at sections records now.answers n ≡ false
       none_open none = ap (λ o. of_unit o) none
 
+  -- where the details are read and all lines can be, no lookup waits or has a fault
+  module _ (is : depth ≡ depths.Details) (lines : fault_of (all_lines sections old.units) ≡ Ok tt) (faults : OnFault) (probe : ℕ) (ranges : List UnitRange) where
+    as_indexed : length old.units ≡ length old.answers
+    as_indexed = sym counts.units ∙ counts.answers
+
+    read_indexed : read_of_units depths.Details old.scope (unit_records old.units) old.answers ≡ Ok tt
+    read_indexed = ap (λ us. read_of_units depths.Details old.scope us old.answers) counts.are ∙ subst (λ r. read_of_units r old.scope records old.answers ≡ Ok tt) is read_last
+
+    answers_are : answers_after_parse depths.Details old.scope (unit_records old.units) old.answers ≡ now.answers
+    answers_are = ap (λ us. answers_after_parse depths.Details old.scope us old.answers) counts.are ∙ ap (λ r. answers_after_parse r old.scope records old.answers) (sym is)
+        ∙ after_end depth old.scope records old.answers k beside past w.before ∙ sym w.answers
+
+    reached : IsReached (stop_of (lookups.Frames faults) probe now ranges)
+    reached = subst (λ (s : UnitsState). IsReached (stop_of (lookups.Frames faults) probe s ranges)) (sym w.stays)
+        (subst (λ xs. IsReached (stop_along (asked_frames faults old.scope old.units xs probe) ranges)) answers_are
+        (reached_all faults old.scope old.units old.answers probe ranges as_indexed read_indexed lines))
+
   pub read_last_after : {shares : Bool} → AfterReading shares depth (Ok tt) old now
   read_last_after = record {
     stays = w.stays;
@@ -267,5 +289,5 @@ module _ (depth : ReadingDepth) (k : ℕ) (old now : UnitsState) (w : ReadSoFar 
     exact = λ ready. sym read_last;
     same = w.same;
     all = λ is. all_known now.known (subst (λ r. AllByRecursion (IsReadBy r) now.known) is (all_of (IsReadBy depth) now.known read_all));
-    beside = beside;
+    reached = λ is lines faults probe ranges. reached is lines faults probe ranges;
   }

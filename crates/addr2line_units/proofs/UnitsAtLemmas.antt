@@ -1,6 +1,6 @@
 -- The unit of a number, what is cached of it, and the units when that is put back (on
 -- specs/UnitsStored.antt).
-use Rattle.addr2line_units.proofs.Common.{◌≡◌, ℕ, ◌<◌, nat_lt, ltb-false, ltb-true, true, false, List, length, get_or, slice_get, Option, Some, None, refl, sym, ap, subst, ◌∙◌, set, length-map, get_or_from_slice_get, slice_get_past, slice_get_read, slice_get_within, UnitRecord, Scope, FramesStop, LinesCache, CachedUnit, CountsUnits, AreEntriesOf, first_answer_of, IsLendable, known_by, AreLinesOf, HaveLinesOf, is_parsed, HaveEntriesOf, IsCacheOf, LookupStop, AreUnits, as_units_state}
+use Rattle.addr2line_units.proofs.Common.{◌≡◌, ℕ, ◌<◌, nat_lt, ltb-false, ltb-true, true, false, List, length, get_or, slice_get, Option, Some, None, refl, sym, ap, subst, ◌∙◌, set, length-map, get_or_from_slice_get, slice_get_past, slice_get_read, slice_get_within, UnitRecord, Scope, FramesStop, LinesCache, CachedUnit, CountsUnits, AreEntriesOf, first_answer_of, IsLendable, known_by, AreLinesOf, HaveLinesOf, is_parsed, HaveEntriesOf, IsCacheOf, LookupStop, AreUnits, as_units_state, IndexedUnit, UnitsState}
 use Rattle.addr2line_units.specs.declared.frames.FramesStop.TheVariants as stops
 use Rattle.std.specs.Prelude.{IfSome}
 use Rattle.addr2line_units.specs.CacheAfter.{WasLookedAt}
@@ -8,6 +8,7 @@ use Rattle.addr2line_lines.specs.References.{UnitInScope}
 use Rattle.addr2line_units.specs.EntriesOwn.{AreOwnEntries, CachedUnit}
 use Rattle.addr2line_units.specs.UnitsCached.{AreOfUnit}
 use Rattle.addr2line_units.proofs.EntriesOwnLemmas.{looked_at_is_cache, own_entries}
+use Rattle.addr2line_units.proofs.SupScopeLemmas.{records_beside}
 use Rattle.addr2line_units.proofs.UnitsCachedLemmas.{as_many_entries, cache_at, cache_set, entries_at, entries_right, lines_right}
 use Rattle.addr2line_units.proofs.UnitsLinesLemmas.{as_many_indexed, own_at}
 
@@ -27,6 +28,10 @@ module _ {scope seen : Scope} (is : seen ≡ scope) where
     pub none_got : false ≡ nat_lt n (length units) → slice_get scope.file.units n ≡ None
     none_got past = subst (λ xs. slice_get xs n ≡ None) (lent ∙ as_indexed_units) (slice_get_past units n (ltb-false _ _ (sym past)))
 
+-- so many units the scope has
+pub counted_records : {count : ℕ} (s : UnitsState) → CountsUnits count s → count ≡ length s.scope.file.units
+counted_records s c = c.units ∙ sym (length-map s.units (λ (u : IndexedUnit). u.unit)) ∙ ap (λ (us : List UnitRecord). length us) c.are
+
 module _ {R : Type 0} {scope : Scope} {held : List (CachedUnit R)} {last : FramesStop} (i : AreUnits scope held last) where
   -- what is cached of all units is their own
   pub all_entries : HaveEntriesOf scope scope.file.units held
@@ -40,7 +45,7 @@ module _ {R : Type 0} {scope : Scope} {held : List (CachedUnit R)} {last : Frame
 
   pub counts : {n : ℕ} (steps : ℕ) (was : LookupStop) → n ≡ length held → CountsUnits n (as_units_state scope held steps was)
   counts steps was many = record {
-    records = many ∙ sym as_many;
+    are = records_beside scope.file.sections scope.file.units held all_lines;
     units = many ∙ sym (as_many_indexed scope.file.units held as_many);
     answers = many ∙ sym (length-map held (λ (c : CachedUnit R). first_answer_of c.entries));
     parsed = many ∙ sym (length-map held (λ (c : CachedUnit R). is_parsed c.lines));

@@ -10,6 +10,8 @@ use Rattle.addr2line_units.specs.UnitsAfter.{AfterAnswer, AfterForget, AfterList
 use Rattle.addr2line_units.proofs.LoadsAnswerLemmas.{answer_at, answered_if_ok, answers_if_refused, answers_set, decided_there, keeps_answered, keeps_forgotten}
 use Rattle.addr2line_units.proofs.UnitsCachedLemmas.{as_many_entries, entries_set, known_by_entries, same_entries_set, same_lines_set, stay_entries_set}
 use Rattle.addr2line_units.proofs.EntriesLearnedLemmas.{answered_learns, checked_learns, forgotten_learns, set_learns}
+use Rattle.addr2line_units.specs.LoadsLaws.{loads_of}
+use Rattle.addr2line_units.proofs.LoadsLawLemmas.{fewer_left}
 use Rattle.addr2line_units.proofs.LoadsLemmas.{as_many_answers, keeps_listed, load_there, this_unit, unknown_answer, unknown_load}
 use Rattle.addr2line_units.proofs.LoadsOpenLemmas.{not_open_there}
 use Rattle.addr2line_units.proofs.UnitsAtLemmas.{all_entries, as_many, cache_within, its_entries, unit_is, unit_within}
@@ -38,7 +40,8 @@ module _ {R : Type 0} {scope : Scope} {held : List (CachedUnit R)} {last : Frame
       same = λ one e. refl;
       not_open = λ shut. refl;
       no_memory = λ takes. tt;
-      beside = as_many i ∙ sym (as_many_answers held);
+      shorter = λ ranges listed. subst (λ xs. length (loads_of d us xs ranges) < length (loads_of d us (answers_in held) ranges)) (unknown_answer d us (answers_in held) n given none)
+          (fewer_left d us (answers_in held) n given ranges (as_many i ∙ sym (as_many_answers held)) listed);
     }
 
     pub none_loaded : {shares : Bool} → AfterLoad shares n given (Err UnknownToken) (as_units_state scope held steps was) (as_units_state scope held steps FindsNothing)

@@ -9,7 +9,9 @@ use Rattle.addr2line_units.specs.UnitsAfter.{AfterAnswer, AfterForget, AfterLine
 use Rattle.addr2line_units.specs.LoadsMemory.{answer_takes_memory}
 use Rattle.addr2line_units.specs.LocationsRange.{cached_along}
 use Rattle.addr2line_units.specs.EntriesStayKnown.{IsReadyAt, StaysKnown}
+use Rattle.addr2line_units.specs.LoadsLaws.{IsListed, loads_of}
 use Rattle.addr2line_units.proofs.LoadsAnswerLemmas.{got_unit}
+use Rattle.addr2line_units.proofs.LoadsLawLemmas.{fewer_left}
 use Rattle.addr2line_units.proofs.UnitsCachedLemmas.{answers_by_entries, as_many_entries, known_by_entries, parsed_by_lines, same_answers, units_by_lines}
 use Rattle.addr2line_units.proofs.EntriesKnownLemmas.{known_is, known_unchanged}
 use Rattle.addr2line_units.proofs.LoadsLemmas.{as_many_answers}
@@ -146,9 +148,14 @@ module _ {R : Type 0} (scope : Scope) (held : List (CachedUnit R)) where
         same = λ one e. same_decided (answered_is_decided held n one e);
         not_open = not_open;
         no_memory = no_memory;
-        beside = beside;
+        shorter = λ ranges listed. fewer result answers ranges listed;
       }
         where
+          fewer : (r : Result (Unit {0}) Error) → OnOk r (answers_in entries ≡ with_answer d us (answers_in held) n given) → (ranges : List UnitRange) → IsListed n (loads_of d us (answers_in held) ranges)
+              → OnOk r (length (loads_of d us (answers_in entries) ranges) < length (loads_of d us (answers_in held) ranges))
+          fewer (Ok x) h ranges listed = subst (λ xs. length (loads_of d us xs ranges) < length (loads_of d us (answers_in held) ranges)) (sym h) (fewer_left d us (answers_in held) n given ranges beside listed)
+          fewer (Err e) h ranges listed = tt
+
           of_err : (r : Result (Unit {0}) Error) → IfErr r (λ e. (e ≡ OutOfMemory) × (answers_in entries ≡ answers_in held) × StayAllEntries held entries × (is_some given ≡ true))
               → IfErr r (λ e. (e ≡ OutOfMemory) × (answers_in entries ≡ answers_in held) × StaysKnown (known_in held) (known_in entries) × (is_some given ≡ true))
           of_err (Ok x) h = tt

@@ -27,13 +27,6 @@ abbrev pub parses_no_memory : Bool → List IndexedUnit → List Bool → ℕ �
 parses_no_memory shares units parsed n =
     has_parsed parsed n || not (lines_of_take_memory shares units n)
 
--- whether along these ranges this is so of each unit, up to the one that ends a lookup of a
--- location
-abbrev pub takes_none_along : Bool → Sections → List IndexedUnit → List Bool → ℕ → List UnitRange
-    → Bool
-takes_none_along shares d units parsed probe ranges =
-    holds_along (parses_no_memory shares units parsed) (located_frames d units probe) ranges
-
 -- along these ranges the lines of each unit are parsed
 abbrev pub AreParsed : List Bool → List UnitRange → Type 0
 AreParsed parsed ranges = AllByRecursion (λ (r : UnitRange). has_parsed parsed r.unit ≡ true) ranges

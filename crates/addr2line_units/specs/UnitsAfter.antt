@@ -4,9 +4,10 @@
 -- forgotten.
 use Rattle.std.specs.Prelude.{◌≡◌, ◌≢◌, ◌⊎◌, ◌+◌, ◌<◌, ◌≤◌, ℕ, Bool, true, false, List, length, IfErr, IsOk, OnOk, is_some, slice_get, Option, Some, None, Result, Ok, Err}
 use Rattle.std.specs.List.{AllByRecursion}
-use Rattle.addr2line_units.specs.Common.{Error, OutOfMemory, WasNotRefused, Sections}
+use Rattle.addr2line_units.specs.Common.{Error, OutOfMemory, WasNotRefused, Sections, fault_of}
 use Rattle.addr2line_units.specs.declared.frames.Asks.{Asks}
 use Rattle.addr2line_units.specs.declared.frames.Asks.TheVariants.{Location, Frames}
+use Rattle.addr2line_units.specs.declared.frames.OnFault.{OnFault}
 use Rattle.addr2line_units.specs.declared.index.UnitRange.{UnitRange}
 use Rattle.addr2line_units.specs.declared.parses.ReadingDepth.{ReadingDepth}
 use Rattle.addr2line_units.specs.declared.parses.ReadingDepth.TheVariants as depths
@@ -15,10 +16,12 @@ use Rattle.addr2line_units.specs.Parses.{AreFirstDecided, AreReadBefore, AreRead
 use Rattle.addr2line_units.specs.EntriesKnown.{LearnsDetailsAt, LearnsNoDetails, LearnsNoFunctions, knows_at}
 use Rattle.addr2line_units.specs.Loads.{NoneOpen, forgotten, is_open_at, load_result}
 use Rattle.addr2line_units.specs.LoadsMemory.{answer_takes_memory}
-use Rattle.addr2line_units.specs.Locations.{steps_along}
+use Rattle.addr2line_units.specs.LoadsLaws.{IsListed, loads_of}
+use Rattle.addr2line_units.specs.Locations.{all_lines, steps_along}
+use Rattle.addr2line_units.specs.ParsesLaws.{IsReached}
 use Rattle.addr2line_units.specs.LocationsParsed.{AllAskFor, AreAllParsed, AreParsed, AreReadyForAll, LeadTo, ParsesOnly, StaysParsed, TakeNone, TakeNoneForAll}
 use Rattle.addr2line_units.specs.EntriesStayKnown.{IsReadBy, IsReadyAt, StaysKnown}
-use Rattle.addr2line_units.specs.UnitsState.{IsFaultAt, UnitsState, asked_by, has_asked_at, has_asked_few_at, takes_none_at}
+use Rattle.addr2line_units.specs.UnitsState.{IsFaultAt, UnitsState, asked_by, has_asked_at, has_asked_few_at, stop_of, takes_none_at}
 
 -- nothing is changed but which lines are parsed, how often they were looked at, and what is stored
 -- of the last lookup: those stay parsed that were, and no others are but those that are asked for
@@ -119,7 +122,7 @@ StayRead old new = new
 -- what was known stays unless it was open, and nothing is changed where it had an answer; no
 -- function becomes known; after OutOfMemory in the place of given sections all first answers are as
 -- before, and what was known stays known; where the answer takes no memory, over readers that share
--- their bytes or don't, there is none
+-- their bytes or don't, there is none; along ranges that lead to the unit fewer loads are left
 pub record AfterAnswer (shares : Bool) (n : ℕ) (given : Option Sections)
     (result : Result (Unit {0}) Error) (old new : UnitsState) : Type 0 where
   pub stays : StayRead old new
@@ -137,7 +140,11 @@ pub record AfterAnswer (shares : Bool) (n : ℕ) (given : Option Sections)
       → result ≡ Ok tt
   pub no_memory : answer_takes_memory shares given ≡ false → IfErr result (λ e.
       load_result old.scope.file.sections old.scope.file.units old.answers n given ≡ Err e)
-  pub beside : length old.scope.file.units ≡ length old.answers
+  pub shorter : (ranges : List UnitRange)
+      → IsListed n (loads_of old.scope.file.sections old.scope.file.units old.answers ranges)
+      → OnOk result
+      (length (loads_of new.scope.file.sections new.scope.file.units new.answers ranges)
+      < length (loads_of old.scope.file.sections old.scope.file.units old.answers ranges))
 
 -- the same outside a lookup, where the fault of the unit's view refuses too: nothing is changed of
 -- a unit that had an answer, and of one that wasn't open what was known stays; where the unit isn't
@@ -196,7 +203,8 @@ pub record AfterPreloadAlong {X : Type 0} (ranges : List UnitRange) (result : Re
 -- parse reads, and where it is, none was refused; where it was before, the result is that of the
 -- reading, and nothing is changed of what is known and answered; where nothing that is read takes
 -- memory, over readers that share their bytes or don't, a refusal is the first fault. Without a
--- fault all is read; of units behind the first fault nothing becomes known
+-- fault all is read, and where details are read and all lines can be, no lookup waits or has a
+-- fault; of units behind the first fault nothing becomes known
 pub record AfterReading (shares : Bool) (depth : ReadingDepth) (result : Result (Unit {0}) Error)
     (old new : UnitsState) : Type 0 where
   pub stays : StayRead old new
@@ -206,9 +214,9 @@ pub record AfterReading (shares : Bool) (depth : ReadingDepth) (result : Result 
   pub known : (probe n : ℕ)
       → is_open_at old.scope.file.sections old.scope.file.units old.answers n ≡ false
       → knows_at old.known probe n ≡ true → knows_at new.known probe n ≡ true
-  pub whole : (kind : ReadingDepth) (n : ℕ)
+  pub whole : (needed : ReadingDepth) (n : ℕ)
       → is_open_at old.scope.file.sections old.scope.file.units old.answers n ≡ false
-      → IsReadyAt kind old.known n → IsReadyAt kind new.known n
+      → IsReadyAt needed old.known n → IsReadyAt needed new.known n
   pub only : (n : ℕ) → (slice_get new.known n ≡ slice_get old.known n)
       ⊎ AreReadBefore depth old.scope old.scope.file.units old.answers n
   pub details : depth ≡ depths.Functions → LearnsNoDetails old.known new.known
@@ -227,4 +235,7 @@ pub record AfterReading (shares : Bool) (depth : ReadingDepth) (result : Result 
       → (new.answers ≡ old.answers) × (new.known ≡ old.known)
   pub all : depth ≡ depths.Details → OnOk result
       ((probe n : ℕ) → knows_at new.known probe n ≡ true)
-  pub beside : length old.scope.file.units ≡ length old.answers
+  pub reached : depth ≡ depths.Details
+      → fault_of (all_lines old.scope.file.sections old.units) ≡ Ok tt → OnOk result
+      ((faults : OnFault) (probe : ℕ) (ranges : List UnitRange)
+      → IsReached (stop_of (Frames faults) probe new ranges))

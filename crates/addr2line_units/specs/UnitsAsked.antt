@@ -13,11 +13,12 @@ use Rattle.addr2line_units.specs.Loads.{is_open_at, load_of_number}
 use Rattle.addr2line_units.specs.LoadsListed.{MarksLoad}
 use Rattle.addr2line_units.specs.Locations.{steps_in}
 use Rattle.addr2line_units.specs.LocationsParsed.{has_parsed, parses_no_memory}
+use Rattle.addr2line_units.specs.UnitsRanged.{unit_records}
 use Rattle.addr2line_units.specs.UnitsState.{IsFaultAt, UnitsState, asked_by, has_asked_at, has_asked_few_at, takes_none_at}
 
--- so many units there are, by all that is listed of them
+-- so many units there are, which are those of the scope, by all that is listed of them
 pub record CountsUnits (count : ℕ) (s : UnitsState) : Type 0 where
-  pub records : count ≡ length s.scope.file.units
+  pub are : unit_records s.units ≡ s.scope.file.units
   pub units : count ≡ length s.units
   pub answers : count ≡ length s.answers
   pub parsed : count ≡ length s.parsed

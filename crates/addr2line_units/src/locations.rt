@@ -197,8 +197,8 @@ impl<R: Reader> Units<R> {
     // Caches the lines of the unit of a number, or their fault, if there is such a unit. Refused
     // `OutOfMemory` alone.
     fn cache_lines_in(&mut self, number: usize) -> Result<(), Error>
+        ensures gives { IfErr result (λ e. e ≡ OutOfMemory) }
         ensures after { AfterCachingAt R.shares number result self.old self.new }
-        ensures refused { IfErr result (λ e. e ≡ OutOfMemory) }
     {
         match self.read_lines_in(number) {
             Err(Error::OutOfMemory) => Err(Error::OutOfMemory),

@@ -24,5 +24,5 @@ returns-clause-after g c =
       after = after_parse s.ranges s.units i c.args.depth r now e.after;
       no_memory = parsed_alone s.ranges s.units i c.args.depth r now e.after;
       known = all_known s.ranges s.units i c.args.depth r now e.after;
-      reached = all_reached s.ranges s.units i c.args.depth r now e.after e.gives;
+      reached = all_reached s.ranges s.units i c.args.depth r now e.after;
     })

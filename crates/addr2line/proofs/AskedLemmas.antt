@@ -1,12 +1,11 @@
 -- What was asked for by a lookup that waits is asked for after an answer (on
 -- specs/AfterLookups.antt).
-use Rattle.addr2line.proofs.Common.{◌≡◌, ◌≢◌, ◌⊎◌, inl, inr, ℕ, zero, suc, Bool, true, false, ◌&&◌, not, List, [], ◌∷◌, slice_get, if◌then◌else◌, Option, Some, None, option_map, Result, Ok, Err, refl, sym, ap, subst, ◌∙◌, eqb_tells, slice_get-map, set, is_none, Error, ◌>>=◌, Sections, UnitRecord, Scope, OnFault, UnitRange, cover, LookupAsks, LookupStop, Waits, after_fault, answer_of, asked_frames, asks_lines_of, ends_lookup, function_offset_of, main_scope, or_stop, stop_along, with_answer, KnownEntries, LearnsDetailsAt, LearnsNoDetails, ParsesOnly, has_parsed, is_open_at, FramesResult, asks_lines_in, frames_in, function_in, function_offset_by, function_offset_in, UnitIndex, index_units, IndexedUnit, unit_records, FirstAnswers, View, decided_answer, is_open, verdict, waits_listed, AfterAnswering, answered, ContextState, AfterFrames, ReadsAsked, asked_of, lookup_stop, stop_in}
+use Rattle.addr2line.proofs.Common.{◌≡◌, ◌≢◌, ◌⊎◌, inl, inr, ℕ, zero, suc, Bool, true, false, ◌&&◌, not, List, [], ◌∷◌, slice_get, if◌then◌else◌, Option, Some, None, option_map, Result, Ok, Err, refl, sym, ap, subst, ◌∙◌, eqb_tells, slice_get-map, set, is_none, Error, ◌>>=◌, Sections, UnitRecord, Scope, OnFault, UnitRange, cover, LookupAsks, LookupStop, Waits, after_fault, answer_of, asked_frames, asks_lines_of, ends_lookup, function_offset_of, main_scope, or_stop, stop_along, with_answer, KnownEntries, LearnsDetailsAt, LearnsNoDetails, ParsesOnly, has_parsed, is_open_at, FramesResult, asks_lines_in, frames_in, function_in, function_offset_by, function_offset_in, UnitIndex, index_units, IndexedUnit, unit_records, FirstAnswers, View, decided_answer, is_open, verdict, waits_listed, AfterAnswering, answered, ContextState, AfterFrames, ReadsAsked, asked_of, lookup_stop, stop_in, get_set_other}
 use Rattle.std.specs.Prelude.{is_ok, unwrap_or}
 use Rattle.addr2line_units.proofs.FramesLookupLemmas.{parses_more}
 use Rattle.addr2line_units.proofs.EntriesLearnedLemmas.{learns_no_details}
 use Rattle.addr2line_units.proofs.FramesWaitLemmas.{same_number}
 use Rattle.addr2line.proofs.FilesLookupLemmas.{none_if_open}
-use Rattle.addr2line_units.proofs.Facts.{others_stay}
 
 -- what ends no lookup is no unit that waits
 never_waits : (x : FramesResult) → ends_lookup x ≡ false → x ≢ Ok None
@@ -56,7 +55,7 @@ other_answers d us answers n given k ne = by (slice_get us n)
   where
     by : (o : Option UnitRecord) → answer_of (elim o [ None ↦ answers | Some u ↦ set answers n (decided_answer d u (answer_of answers n) given) ]) k ≡ answer_of answers k
     by None = refl
-    by (Some u) = ap (λ o. unwrap_or o None) (others_stay answers n k _ ne)
+    by (Some u) = ap (λ o. unwrap_or o None) (get_set_other answers n k _ ne)
 
 -- an answer that stands where one was set is that one
 answer_set : (answer : Option (Option Sections)) (answers : FirstAnswers) (n : ℕ) (first : Option Sections) → answer_of (set answers n answer) n ≡ Some first → answer ≡ Some first

@@ -1,6 +1,6 @@
 -- Lookups of frames where files answer loads (on specs/FramesByFiles.antt and
 -- specs/LoadsByFiles.antt).
-use Rattle.addr2line.proofs.Common.{◌≡◌, ◌≢◌, ◌⊎◌, inl, inr, ℕ, zero, suc, ◌<◌, arith, Bool, true, false, List, [], ◌∷◌, length, slice_get, Option, Some, None, option_map, Result, Ok, Err, refl, sym, ap, subst, ◌∙◌, eqb_tells, slice_get-map, set, is_none, Error, ◌>>=◌, Sections, UnitRecord, LoaderError, Loading, Scope, before_others, is_open_at, load_of_number, loads_along, Stop, UnitRange, cover, FrameRecord, LookupStop, Waits, after_fault, answer_of, asked_frames, frames_of_number, is_waiting, main_scope, or_stop, stop_along, with_answer, FramesResult, frames_in, UnitIndex, index_units, IndexedUnit, unit_records, FirstAnswers, SplitLoad, awaited_by, awaited_load, decided_answer, is_open, load_of_unit, verdict_by, waits_listed, answered, IsLoadOf, loads_at, lookup_stop, stop_in, of_file, frames_by_lines}
+use Rattle.addr2line.proofs.Common.{◌≡◌, ◌≢◌, ◌⊎◌, inl, inr, ℕ, zero, suc, ◌<◌, arith, Bool, true, false, List, [], ◌∷◌, length, slice_get, Option, Some, None, option_map, Result, Ok, Err, refl, sym, ap, subst, ◌∙◌, eqb_tells, slice_get-map, set, is_none, Error, ◌>>=◌, Sections, UnitRecord, LoaderError, Loading, Scope, before_others, is_open_at, load_of_number, loads_along, Stop, UnitRange, cover, FrameRecord, LookupStop, Waits, after_fault, answer_of, asked_frames, frames_of_number, is_waiting, main_scope, or_stop, stop_along, with_answer, FramesResult, frames_in, UnitIndex, index_units, IndexedUnit, unit_records, FirstAnswers, SplitLoad, awaited_by, awaited_load, decided_answer, is_open, load_of_unit, verdict_by, waits_listed, answered, IsLoadOf, loads_at, lookup_stop, stop_in, of_file, frames_by_lines, get_set_other}
 use Rattle.std.specs.Prelude.{if◌then◌else◌, is_some, unwrap_or}
 use Rattle.addr2line_units.proofs.LoadsAnswerLemmas.{decided_if_open}
 use Rattle.addr2line_units.proofs.LoadsLemmas.{open_awaits}
@@ -8,7 +8,7 @@ use Rattle.addr2line_units.proofs.FramesWaitLemmas.{same_number}
 use Rattle.addr2line.proofs.SkipLemmas.{decided_stop_along}
 use Rattle.addr2line.specs.FramesByFiles.{GivesAnswers, answer_by, first_frames, frames_by_answers, frames_in_units, frames_of_unit, frames_or_fault, frames_with, or_rest, stop_frames}
 use Rattle.addr2line.specs.LoadsByFiles.{StayAnswered}
-use Rattle.addr2line_units.proofs.Facts.{no_answer, others_stay}
+use Rattle.addr2line_units.proofs.Facts.{no_answer}
 
 pub none_if_open : (scope : Scope) (u : IndexedUnit) (answer : Option (Option Sections)) (probe : ℕ) → is_open scope.file.sections u.unit answer ≡ true → frames_in scope u answer probe ≡ Ok None
 unfolding frames_by_lines
@@ -137,7 +137,7 @@ module _ (give : GivesAnswers) (scope : Scope) (units : List IndexedUnit) (answe
       ∙ ap (λ v. set answers n v) (decided_if_open scope.file.sections w.unit.unit (answer_of answers n) given w.open_is)
 
   pub other_now : (given : Option Sections) (k : ℕ) → k ≢ n → answer_of (now given) k ≡ answer_of answers k
-  other_now given k ne = ap (λ xs. answer_of xs k) (now_is given) ∙ ap (λ o. unwrap_or o None) (others_stay answers n k (Some given) ne)
+  other_now given k ne = ap (λ xs. answer_of xs k) (now_is given) ∙ ap (λ o. unwrap_or o None) (get_set_other answers n k (Some given) ne)
 
   -- the unit has the frames with the answer that is given
   waiting_is : (probe : ℕ) → frames_of_unit give scope units answers probe n ≡ ((give load >>= λ given. Ok (Some given)) >>= λ decided. frames_or_fault (frames_in scope w.unit decided probe))

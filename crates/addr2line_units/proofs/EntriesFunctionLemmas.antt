@@ -1,5 +1,6 @@
 -- The function at an address by what is cached of a view (on specs/EntriesFunctions.antt).
 use Rattle.addr2line_units.proofs.Common.{Box, Global, ◌≡◌, ◌≢◌, ℕ, ◌+◌, ◌==◌, ◌&&◌, ◌⊎◌, inl, inr, nat_lt, not, Bool, true, false, cond, List, [], ◌∷◌, length, map, slice_get, slice_set, Option, Some, None, option_and_then, option_map, unwrap_or, Result, Ok, Err, refl, ap, sym, subst, ◌∙◌, zero, suc, AllByRecursion, AllZip, position_or_len, DwLang, Error, OutOfMemory, ◌>>=◌, ExactlyUnlessOomIf, fault_of, Section, UnitRecord, Detail, detail_at, InlinedEntry, FunctionRange, entries_of, function_offset_at, functions_of, functions_take_memory, AreDetailsOf, AreUnread, IsDetailOf, IsFunctionMore, IsReadAt, IsReadOf, IsReadOnce, IsTableMore, IsWithDetail, details_fault, all_read_once, AreListed, CachedFunction, FunctionTable, cached_detail, cached_inlined, cached_name, function_place_at, inlined_of_detail, name_of_detail, cached_offset_at, Location, exceeds_inline_room, Scope, all_at, get_set_other, some_at, read_more, read_right, unread_right, LazyFunctions, FrameRecord, found_frames, found_function, frames_from, function_at, function_from, ArePlacesIn, IsTableOf, ReadsNoOther, StayFunctions, cached_detail_takes_memory, cached_takes_memory, details_at, find_takes_memory, function_of_place, functions_fault, cached_functions, place_takes_memory, reading_takes_memory, table_takes_memory, were_read, memory_or_not}
+use Rattle.std.proofs.lemmas.Bool.{and_from}
 use Rattle.std.specs.Prelude.{IfSome, position, reverse}
 use Rattle.addr2line_lines.specs.CachedNames.{KnownNames, no_names}
 use Rattle.addr2line_lines.specs.References.{in_scope}
@@ -147,11 +148,6 @@ module _ (scope : Scope) (view : UnitRecord) (probe n : ℕ) (old new : Function
       ∙ ap (λ (m : Option Section). Ok (Some (record { offset = unwrap_or (cached_offset_at new p.place) 0; name = m; inlined = map (entry_among new.inlined) p.inlined.items }))) (sym name)
 
   -- memory may be taken before and after where it was refused for a detail
-  both : (a b : Bool) → a ≡ true → b ≡ true → (a && b) ≡ true
-  both true true e h = refl
-  both true false e h = cc
-  both false b e h = cc
-
   abbrev pub MemoryLacks : Error → Type 0
   MemoryLacks x = (table_takes_memory probe old && table_takes_memory probe new) ≡ true → x ≢ OutOfMemory
 
@@ -160,7 +156,7 @@ module _ (scope : Scope) (view : UnitRecord) (probe n : ℕ) (old new : Function
     | inl c ↦ fault_found h at x c
     | inr m ↦ (let before : table_takes_memory probe old ≡ true = ap (place_takes_memory probe old) place ∙ ap (cached_detail_takes_memory probe) (ap (λ (o : Option CachedFunction). option_and_then (λ (g : CachedFunction). g.detail) o) q ∙ m.1) in
         let after : table_takes_memory probe new ≡ true = ap (table_takes_memory probe) m.2 ∙ before in
-        absurd (lacks (both _ _ before after) m.0))
+        absurd (lacks (and_from _ _ before after) m.0))
   ]
 
   -- memory is taken for more than 16 inlined functions before and after, so that no other refusal stands
@@ -170,7 +166,7 @@ module _ (scope : Scope) (view : UnitRecord) (probe n : ℕ) (old new : Function
       let never : (exceeds_inline_room (inlined_chain probe (cached_inlined new n)) ≡ true → x ≢ OutOfMemory) → ⊥ = λ m. (let w = given m in absurd cc) in
       elim (memory_or_not x) [
         | inr ne ↦ never (λ _. ne)
-        | inl m ↦ never (λ many. λ _. lacks (both _ _ (before c.0 c.1 many) (after c.0 c.1 many)) m)
+        | inl m ↦ never (λ many. λ _. lacks (and_from _ _ (before c.0 c.1 many) (after c.0 c.1 many)) m)
       ]
     where
       after : (d : Detail) → IsCached (Ok d) → exceeds_inline_room (inlined_chain probe (cached_inlined new n)) ≡ true → table_takes_memory probe new ≡ true

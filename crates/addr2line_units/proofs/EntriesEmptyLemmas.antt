@@ -74,7 +74,7 @@ module _ {R : Type 0} (scope : Scope) (u : UnitRecord) (c : CachedUnit R) (none 
     here = verdict scope.file.sections u (first_answer_of c.entries)
 
     found : (v : View) × (here ≡ Some (Ok v))
-    found = view_there scope.file.sections u here c.entries.view.state viewed own.view.right
+    found = view_there scope.file.sections u here c.entries.view.state viewed own.view.verdict
 
     closed : is_open scope.file.sections u (first_answer_of c.entries) ≡ false
     closed = ap is_none found.1

@@ -85,7 +85,7 @@ module _ (scope : Scope) (view : UnitRecord) (probe n : ℕ) (old new : Function
   -- after a detail was read, or its fault, it is cached
   pub record IsCached (v : Result Detail Error) : Type 0 where
     pub is : detail_at scope view f.offset ≡ v
-    pub there : slice_get new.functions n ≡ Some (record { offset = f.offset; detail = Some v })
+    pub function : slice_get new.functions n ≡ Some (record { offset = f.offset; detail = Some v })
 
   unfaulty : (r : Result Detail Error) → fault_of r ≡ Ok tt → (d : Detail) × (r ≡ Ok d)
   unfaulty (Ok d) e = (d, refl)
@@ -101,8 +101,8 @@ module _ (scope : Scope) (view : UnitRecord) (probe n : ℕ) (old new : Function
       by_detail : (x : Option (Result Detail Error)) → f.detail ≡ x → IsReadOnce scope view n f x old (Ok tt) new → (d : Detail) × IsCached (Ok d)
       by_detail None e k =
           let d = unfaulty (detail_at scope view f.offset) k.0 in
-          (d.0, record { is = d.1; there = new_at (detail_at scope view f.offset) k.1 ∙ ap (λ (v : Result Detail Error). Some (record { offset = f.offset; detail = Some v })) d.1 })
-      by_detail (Some (Ok d)) e k = (d, record { is = right (Ok d) e; there = same_at (Ok d) e k.1 })
+          (d.0, record { is = d.1; function = new_at (detail_at scope view f.offset) k.1 ∙ ap (λ (v : Result Detail Error). Some (record { offset = f.offset; detail = Some v })) d.1 })
+      by_detail (Some (Ok d)) e k = (d, record { is = right (Ok d) e; function = same_at (Ok d) e k.1 })
       by_detail (Some (Err x)) e k = absurd cc
 
   pub read_err : (x : Error) → IsDetailOf scope view f → IsReadAt scope view n old (Err x) new → IsCached (Err x) ⊎ ((x ≡ OutOfMemory) × (f.detail ≡ None) × (new ≡ old))
@@ -112,14 +112,14 @@ module _ (scope : Scope) (view : UnitRecord) (probe n : ℕ) (old new : Function
       by_detail None e k = elim (memory_or_not x) [
         | inl m ↦ inr (m, e, k.1 m)
         | inr ne ↦ (let r = k.0 ne in let is = faulty (detail_at scope view f.offset) x r.0 in
-            inl (record { is = is; there = new_at (detail_at scope view f.offset) r.1 ∙ ap (λ (v : Result Detail Error). Some (record { offset = f.offset; detail = Some v })) is }))
+            inl (record { is = is; function = new_at (detail_at scope view f.offset) r.1 ∙ ap (λ (v : Result Detail Error). Some (record { offset = f.offset; detail = Some v })) is }))
       ]
       by_detail (Some (Ok d)) e k = absurd cc
-      by_detail (Some (Err y)) e k = let same : y ≡ x = cc in let at : f.detail ≡ Some (Err x) = e ∙ ap (λ (z : Error). Some (Err z)) same in inl (record { is = right (Err x) at; there = same_at (Err x) at k.1 })
+      by_detail (Some (Err y)) e k = let same : y ≡ x = cc in let at : f.detail ≡ Some (Err x) = e ∙ ap (λ (z : Error). Some (Err z)) same in inl (record { is = right (Err x) at; function = same_at (Err x) at k.1 })
 
   -- what is cached then, by the place
   pub cached_is : (v : Result Detail Error) → IsCached v → cached_detail new n ≡ Some v
-  cached_is v h = ap (λ (o : Option CachedFunction). option_and_then (λ (g : CachedFunction). g.detail) o) h.there
+  cached_is v h = ap (λ (o : Option CachedFunction). option_and_then (λ (g : CachedFunction). g.detail) o) h.function
 
   -- the function at the address, by its detail or the fault of that
   pub from_detail : IsTableOf scope view old → cached_offset_at old n ≡ function_offset_at probe old.ranges → (v : Result Detail Error) → detail_at scope view f.offset ≡ v
@@ -140,7 +140,7 @@ module _ (scope : Scope) (view : UnitRecord) (probe n : ℕ) (old new : Function
       let inlined : cached_inlined new n ≡ d.inlined = ap (λ (o : Option (Result Detail Error)). elim o [ None ↦ [] | Some x ↦ inlined_of_detail x ]) (cached_is (Ok d) k) in
       let entries : inlined_chain probe (cached_inlined new n) ≡ map (entry_among new.inlined) p.inlined.items = cc in
       let listed : inlined_chain probe d.inlined ≡ map (entry_among new.inlined) p.inlined.items = ap (inlined_chain probe) (sym inlined) ∙ entries in
-      let offset : unwrap_or (cached_offset_at new p.place) 0 ≡ f.offset = ap (λ (m : ℕ). unwrap_or (cached_offset_at new m) 0) same ∙ ap (λ (o : Option CachedFunction). unwrap_or (option_map (λ (g : CachedFunction). g.offset) o) 0) k.there in
+      let offset : unwrap_or (cached_offset_at new p.place) 0 ≡ f.offset = ap (λ (m : ℕ). unwrap_or (cached_offset_at new m) 0) same ∙ ap (λ (o : Option CachedFunction). unwrap_or (option_map (λ (g : CachedFunction). g.offset) o) 0) k.function in
       let name : cached_name new p.place ≡ d.name = ap (cached_name new) same ∙ ap (option_and_then name_of_detail) (cached_is (Ok d) k) in
       from_detail h at (Ok d) k.is
       ∙ ap (λ (es : List InlinedEntry). Ok (Some (record { offset = f.offset; name = d.name; inlined = es }))) listed

@@ -150,7 +150,7 @@ module _ {R : Type 0} (scope : Scope) (u : UnitRecord) (probe offset : ℕ) (v w
       x = view_read offset scope.file.sections u w.view.state w.functions e
 
       view_is : verdict scope.file.sections u (first_answer_of v) ≡ Some (Ok x.0)
-      view_is = sym (ap (verdict scope.file.sections u) stay.answer) ∙ sym (subst (λ o. IfSome o (λ cached. cached ≡ verdict scope.file.sections u (first_answer_of w))) x.1 after.view.right)
+      view_is = sym (ap (verdict scope.file.sections u) stay.answer) ∙ sym (subst (λ o. IfSome o (λ cached. cached ≡ verdict scope.file.sections u (first_answer_of w))) x.1 after.view.verdict)
 
       was_known : knows_detail offset (known_functions v.functions) ≡ true → knows_detail offset (known_by v.view.state v.functions) ≡ true
       was_known h =

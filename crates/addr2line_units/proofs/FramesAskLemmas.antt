@@ -154,7 +154,7 @@ module _ {R : Type 0} {scope : Scope} {cs : List (CachedUnit R)} {last : FramesS
             pub stop_lendable : (f : UnitFrames) → found_after_fault faults result ≡ Ok f → IsLendable now_cs (found_stop n f)
             stop_lendable f is =
                 lendable_if_told scope probe faults us now_cs (indexed_units us cs) (answers_in cs) asks (range_of n) (Ok (found_stop n f)) (entries_set scope us cs n u w unit own cache_now.entries)
-                (sym units_same) (sym answers_same) (stop_right e.there f is) (asked_ok f is)
+                (sym units_same) (sym answers_same) (stop_right e.frames f is) (asked_ok f is)
                 (λ _. holds_alone (has_frames_at asks probe now_cs n) (asked_by (lookups.Frames faults) probe old n) (known_there (oom_before faults result (subst WasNotRefused (sym is) tt))))
 
             module _ (now : ℕ) (raised : steps ≤ now) (stop : LookupStop) where

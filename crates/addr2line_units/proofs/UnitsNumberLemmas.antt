@@ -126,7 +126,7 @@ module _ {R : Type 0} {scope : Scope} {held : List (CachedUnit R)} {last : Frame
             same_decided h = known_by_entries held now (same_entries_set held n c after at (a.kept (decided_there held n c at h)).0)
 
             many : length us ≡ length now
-            many = as_many_entries scope us now (entries_set scope us held n u after (unit_is i n there) (all_entries i) a.right)
+            many = as_many_entries scope us now (entries_set scope us held n u after (unit_is i n there) (all_entries i) a.entries)
 
             learns : LearnsNoFunctions (known_in held) (known_in now)
             learns = set_learns held n c after within at (answered_learns scope u v w (its_entries i n there at) a.functions (λ h. (a.kept h).0))

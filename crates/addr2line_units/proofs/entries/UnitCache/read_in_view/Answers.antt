@@ -34,7 +34,7 @@ invariant_of-self g c =
     let inner = as_scope c.scope_of-scope.result in
     let v = viewed g.R.Reader.shares (scope_of c.args.sources.now) c.args.dw_unit.now k c.args.self.now c.self.view_is c.requires.in_order c.requires.unit c.self.invariant c.requires.decided c.deref.result.now c.deref.ensures c.in_ok-unit.unit.dwarf.now x inner c.in_ok-unit.ensures.gives (as_scope c.scope.result) c.scope.ensures.gives c.scope_of-scope.ensures.gives in
     let keeps = unread_after g.R.Reader.shares inner x s.entries.functions c.cache.new.self v.functions c.args.depth c.in_err-cache.field-0.0 c.in_err-cache.ensures.after in
-    v.own c.cache.new.self keeps.right
+    v.own c.cache.new.self keeps.functions
 
 pub returns-in_err-cache : goal.returns-in_err-cache
 returns-in_err-cache g c =
@@ -58,7 +58,7 @@ invariant_of-self-in-Faulty g c =
     let inner = as_scope c.scope_of-scope.result in
     let v = viewed g.R.Reader.shares (scope_of c.args.sources.now) c.args.dw_unit.now k c.args.self.now c.self.view_is c.requires.in_order c.requires.unit c.self.invariant c.requires.decided c.deref.result.now c.deref.ensures c.in_ok-unit.unit.dwarf.now x inner c.in_ok-unit.ensures.gives (as_scope c.scope.result) c.scope.ensures.gives c.scope_of-scope.ensures.gives in
     let keeps = faulty_after g.R.Reader.shares inner x s.entries.functions c.cache.new.self v.functions c.in_ok-cache.ensures.after c.in-Faulty.error c.in-Faulty.is c.args.depth in
-    v.own (lazy.Faulty c.in-Faulty.error) keeps.right
+    v.own (lazy.Faulty c.in-Faulty.error) keeps.functions
 
 pub returns-in-Faulty : goal.returns-in-Faulty
 returns-in-Faulty g c =

@@ -1,5 +1,5 @@
 -- Answers to loads, whatever calls come after them (on specs/AnswerLaws.antt).
-use Rattle.addr2line.proofs.Common.{◌≡◌, ◌≢◌, ◌⊎◌, inl, inr, ℕ, zero, suc, ◌++◌, ◌==◌, Bool, true, false, List, [], ◌∷◌, length, slice_get, Option, Some, None, Result, Ok, Err, refl, sym, ap, subst, ◌∙◌, set, length-map, length-set, eqb_tells, is_none, Error, ◌>>=◌, Sections, UnitRecord, Scope, OnFault, Stop, Skip, UnitRange, cover, LookupStop, Waits, Finds, FindsNothing, answer_of, is_waiting, main_scope, with_answer, before_others, forgotten, load_of_number, loads_along, LeadTo, IndexedUnit, unit_records, UnitIndex, index_units, FirstAnswers, SplitLoad, awaited_load, decided_answer, load_of_unit, verdict_by, answered_load, listed_there, load_gone, load_others, load_own, never_waits_alone, answered, Given, Answered, Abandoned, HistoryCall, AsksLocation, AsksRange, AsksFrames, AsksUnit, AsksLoads, AnswersLoad, Forgets, ParsesLines, ParsesFunctions, answers_after, answers_given, answers_left, where_waiting, parsed_answers, lookup_stop, stop_in}
+use Rattle.addr2line.proofs.Common.{◌≡◌, ◌≢◌, ◌⊎◌, inl, inr, ℕ, zero, suc, ◌++◌, ◌==◌, Bool, true, false, List, [], ◌∷◌, length, slice_get, Option, Some, None, Result, Ok, Err, refl, sym, ap, subst, ◌∙◌, set, length-map, length-set, eqb_tells, is_none, Error, ◌>>=◌, Sections, UnitRecord, Scope, OnFault, Stop, Skip, UnitRange, cover, LookupStop, Waits, Finds, FindsNothing, answer_of, is_waiting, main_scope, with_answer, before_others, forgotten, load_of_number, loads_along, LeadTo, IndexedUnit, unit_records, UnitIndex, index_units, FirstAnswers, SplitLoad, awaited_load, decided_answer, load_of_unit, verdict_by, answered_load, listed_there, load_gone, load_others, load_own, never_waits_alone, answered, Given, Answered, Abandoned, HistoryCall, AsksLocation, AsksRange, AsksFrames, AsksUnit, AsksLoads, AnswersLoad, Forgets, ParsesLines, ParsesFunctions, answers_after, answers_given, answers_left, where_waiting, parsed_answers, lookup_stop, stop_in, get_set_other}
 use Rattle.std.specs.List.{AllByRecursion}
 use Rattle.std.specs.Prelude.{is_some, unwrap_or, if◌then◌else◌}
 use Rattle.addr2line_units.specs.declared.parses.ReadingDepth.{ReadingDepth}
@@ -8,7 +8,6 @@ use Rattle.addr2line_units.specs.LoadsLaws.{IsListed}
 use Rattle.addr2line_units.specs.LoadsLaws as laws
 use Rattle.addr2line.specs.AnswerLaws.{FirstAnswersStay, ForgetsNone, IsAnsweredBy, WaitsForNoneAnswered, answering}
 use Rattle.addr2line.proofs.HistoryLawLemmas.{answers_are, as_many, loads_are}
-use Rattle.addr2line_units.proofs.Facts.{others_stay}
 
 -- no load is listed where none of the units that ranges lead to has one
 none_along : (load : ℕ → Option SplitLoad) (ranges : List UnitRange) → ((k : ℕ) → LeadTo ranges k → is_some (load k) ≡ true → ⊥) → loads_along load ranges ≡ []
@@ -101,7 +100,7 @@ module _ (d : Sections) (m : UnitIndex) (probe : ℕ) (e : index_units d ≡ Ok 
   all_forgotten answers n other w = (λ k lead there. w.0 k lead (sym (same k (λ q. other (subst (LeadTo (cover probe m.ranges)) q lead))) ∙ there), w.1 ∙ sym (length-set answers n None))
     where
       same : (k : ℕ) → k ≢ n → is_some (load (forgotten answers n) k) ≡ is_some (load answers k)
-      same k ne = ap (λ o. is_some (load_by k (unwrap_or o None))) (others_stay answers n k None ne)
+      same k ne = ap (λ o. is_some (load_by k (unwrap_or o None))) (get_set_other answers n k None ne)
 
   -- after a parse of all functions
   all_parsed : (depth : ReadingDepth) (answers : FirstAnswers) → WaitFor [] answers → WaitFor [] (parsed_answers depth d answers)
@@ -193,7 +192,7 @@ module _ (d : Sections) (m : UnitIndex) (e : index_units d ≡ Ok m) (n : ℕ) (
       by (Some u) (inl q) =
           let same = ap (λ j. decided_answer d u (answer_of answers j) x) (sym q.1) ∙ ap (λ a. decided_answer d u a x) is ∙ answer_stays u x in
           ap (λ a. answer_of (set answers k a) n) same ∙ stays_set (Some first) answers k n is
-      by (Some u) (inr q) = ap (λ o. unwrap_or o None) (others_stay answers k n (decided_answer d u (answer_of answers k) x) q.1) ∙ is
+      by (Some u) (inr q) = ap (λ o. unwrap_or o None) (get_set_other answers k n (decided_answer d u (answer_of answers k) x) q.1) ∙ is
 
   stays_given : (faults : OnFault) (asked : ℕ) (answers : FirstAnswers) (given : List Given) → answer_of answers n ≡ Some first → answer_of (answers_given faults d asked answers given) n ≡ Some first
   stays_given faults asked answers [] is = is
@@ -224,7 +223,7 @@ module _ (d : Sections) (m : UnitIndex) (e : index_units d ≡ Ok m) (n : ℕ) (
   stays_after answers (AsksUnit p given) f is = stays_given Skip p answers given is
   stays_after answers (AsksLoads p) f is = is
   stays_after answers (AnswersLoad k x) f is = stays_one answers k x is
-  stays_after answers (Forgets k) f is = ap (λ o. unwrap_or o None) (others_stay answers k n None (λ same. f (sym same))) ∙ is
+  stays_after answers (Forgets k) f is = ap (λ o. unwrap_or o None) (get_set_other answers k n None (λ same. f (sym same))) ∙ is
   stays_after answers ParsesLines f is = is
   stays_after answers (ParsesFunctions depth) f is = stays_parsed depth answers is
 

@@ -1,12 +1,11 @@
 -- What was asked for by a lookup that waits is asked for after an answer (on
 -- specs/AfterLookups.antt).
-use Rattle.addr2line.proofs.Common.{◌≡◌, ◌≢◌, ◌⊎◌, inl, inr, ℕ, zero, suc, Bool, true, false, ◌&&◌, not, List, [], ◌∷◌, slice_get, if◌then◌else◌, Option, Some, None, option_map, Result, Ok, Err, refl, sym, ap, subst, ◌∙◌, eqb_tells, slice_get-map, set, is_none, Error, ◌>>=◌, Sections, UnitRecord, Scope, OnFault, UnitRange, cover, LookupAsks, LookupStop, Waits, after_fault, answer_of, asked_frames, asks_lines_of, ends_lookup, function_offset_of, main_scope, or_stop, stop_along, with_answer, KnownEntries, LearnsDetailsAt, LearnsNoDetails, ParsesOnly, has_parsed, is_open_at, FramesResult, asks_lines_in, frames_in, function_in, function_offset_by, function_offset_in, UnitIndex, index_units, IndexedUnit, unit_records, FirstAnswers, View, decided_answer, is_open, verdict, waits_listed, AfterAnswering, answered, ContextState, AfterFrames, ReadsAsked, asked_of, lookup_stop, stop_in}
+use Rattle.addr2line.proofs.Common.{◌≡◌, ◌≢◌, ◌⊎◌, inl, inr, ℕ, zero, suc, Bool, true, false, ◌&&◌, not, List, [], ◌∷◌, slice_get, if◌then◌else◌, Option, Some, None, option_map, Result, Ok, Err, refl, sym, ap, subst, ◌∙◌, eqb_tells, slice_get-map, set, is_none, Error, ◌>>=◌, Sections, UnitRecord, Scope, OnFault, UnitRange, cover, LookupAsks, LookupStop, Waits, after_fault, answer_of, asked_frames, asks_lines_of, ends_lookup, function_offset_of, main_scope, or_stop, stop_along, with_answer, KnownEntries, LearnsDetailsAt, LearnsNoDetails, ParsesOnly, has_parsed, is_open_at, FramesResult, asks_lines_in, frames_in, function_in, function_offset_by, function_offset_in, UnitIndex, index_units, IndexedUnit, unit_records, FirstAnswers, View, decided_answer, is_open, verdict, waits_listed, AfterAnswering, answered, ContextState, AfterFrames, ReadsAsked, asked_of, lookup_stop, stop_in, get_set_other}
 use Rattle.std.specs.Prelude.{is_ok, unwrap_or}
 use Rattle.addr2line_units.proofs.FramesLookupLemmas.{parses_more}
 use Rattle.addr2line_units.proofs.EntriesLearnedLemmas.{learns_no_details}
 use Rattle.addr2line_units.proofs.FramesWaitLemmas.{same_number}
 use Rattle.addr2line.proofs.FilesLookupLemmas.{none_if_open}
-use Rattle.addr2line_units.proofs.Facts.{others_stay}
 
 -- what ends no lookup is no unit that waits
 never_waits : (x : FramesResult) → ends_lookup x ≡ false → x ≢ Ok None
@@ -40,7 +39,7 @@ asks_waiting f n (r ∷ ranges) e = step (f r.unit) (stop_along f ranges) e (ask
 -- the unit of a number that waits for an answer
 pub record IsOpenThere (d : Sections) (units : List IndexedUnit) (answers : FirstAnswers) (n : ℕ) : Type 0 where
   pub unit : IndexedUnit
-  pub there : slice_get units n ≡ Some unit
+  pub unit_is : slice_get units n ≡ Some unit
   pub open_is : is_open d unit.unit (answer_of answers n) ≡ true
 
 open_there : (d : Sections) (units : List IndexedUnit) (answers : FirstAnswers) (n : ℕ) → is_open_at d (unit_records units) answers n ≡ true → IsOpenThere d units answers n
@@ -48,7 +47,7 @@ open_there d units answers n o = by (slice_get units n) refl (subst (λ x. elim 
   where
     by : (x : Option IndexedUnit) → slice_get units n ≡ x → elim (option_map (λ (u : IndexedUnit). u.unit) x) [ None ↦ false | Some u ↦ is_open d u (answer_of answers n) ] ≡ true → IsOpenThere d units answers n
     by None e p = absurd cc
-    by (Some u) e p = record { unit = u; there = e; open_is = p }
+    by (Some u) e p = record { unit = u; unit_is = e; open_is = p }
 
 -- the first answers of other units stay
 pub other_answers : (d : Sections) (us : List UnitRecord) (answers : FirstAnswers) (n : ℕ) (given : Option Sections) (k : ℕ) → k ≢ n → answer_of (with_answer d us answers n given) k ≡ answer_of answers k
@@ -56,7 +55,7 @@ other_answers d us answers n given k ne = by (slice_get us n)
   where
     by : (o : Option UnitRecord) → answer_of (elim o [ None ↦ answers | Some u ↦ set answers n (decided_answer d u (answer_of answers n) given) ]) k ≡ answer_of answers k
     by None = refl
-    by (Some u) = ap (λ o. unwrap_or o None) (others_stay answers n k _ ne)
+    by (Some u) = ap (λ o. unwrap_or o None) (get_set_other answers n k _ ne)
 
 -- an answer that stands where one was set is that one
 answer_set : (answer : Option (Option Sections)) (answers : FirstAnswers) (n : ℕ) (first : Option Sections) → answer_of (set answers n answer) n ≡ Some first → answer ≡ Some first
@@ -107,7 +106,7 @@ module _ (faults : OnFault) (scope : Scope) (units : List IndexedUnit) (answers 
 
       waits_at : (j : ℕ) → j ≡ n → asked_frames faults scope units answers probe j ≡ Ok None
       waits_at j q = subst (λ i. asked_frames faults scope units answers probe i ≡ Ok None) (sym q)
-          (ap (after_fault faults) (ap (frames_by (answer_of answers n)) w.there ∙ none_if_open scope w.unit (answer_of answers n) probe w.open_is))
+          (ap (after_fault faults) (ap (frames_by (answer_of answers n)) w.unit_is ∙ none_if_open scope w.unit (answer_of answers n) probe w.open_is))
 
   still_asked : (ranges : List UnitRange) (k : ℕ) → LookupAsks (asked_frames faults scope units answers probe) ranges k → LookupAsks (asked_frames faults scope units now probe) ranges k
   still_asked [] k asked = absurd asked
@@ -131,7 +130,7 @@ module _ (faults : OnFault) (scope : Scope) (units : List IndexedUnit) (answers 
       not_here : (j : ℕ) → j ≡ n → asks_lines_of scope units answers probe j ≡ true → ⊥
       not_here j q h =
           let at : asks_lines_of scope units answers probe n ≡ true = subst (λ i. asks_lines_of scope units answers probe i ≡ true) q h in
-          let f : false ≡ true = sym (ap (lines_by (answer_of answers n)) w.there ∙ no_lines_if_open scope w.unit.unit (answer_of answers n) probe w.open_is) ∙ at in
+          let f : false ≡ true = sym (ap (lines_by (answer_of answers n)) w.unit_is ∙ no_lines_if_open scope w.unit.unit (answer_of answers n) probe w.open_is) ∙ at in
           cc
 
   still_there : (k offset : ℕ) → function_offset_of scope units answers probe k ≡ Some offset → function_offset_of scope units now probe k ≡ Some offset
@@ -146,7 +145,7 @@ module _ (faults : OnFault) (scope : Scope) (units : List IndexedUnit) (answers 
       not_here : (j : ℕ) → j ≡ n → function_offset_of scope units answers probe j ≡ Some offset → ⊥
       not_here j q h =
           let at : function_offset_of scope units answers probe n ≡ Some offset = subst (λ i. function_offset_of scope units answers probe i ≡ Some offset) q h in
-          let f : None ≡ Some offset = sym (ap (offset_by (answer_of answers n)) w.there ∙ no_offset_if_open scope w.unit.unit (answer_of answers n) probe w.open_is) ∙ at in
+          let f : None ≡ Some offset = sym (ap (offset_by (answer_of answers n)) w.unit_is ∙ no_offset_if_open scope w.unit.unit (answer_of answers n) probe w.open_is) ∙ at in
           cc
 
 -- what is read along a lookup of the probe, by sections and first answers

@@ -1,6 +1,6 @@
 -- Loads that files answer, one after another (on specs/LoadsByFiles.antt, specs/Loader.antt and
 -- specs/FramesByFiles.antt).
-use Rattle.addr2line.proofs.Common.{◌≡◌, ◌≢◌, ◌⊎◌, ◌<◌, ◌≤◌, inl, inr, ℕ, Bool, List, [], ◌∷◌, ◌++◌, length, Option, Some, None, Result, Ok, Err, arith, true, refl, sym, ap, subst, ◌∙◌, eqb_tells, IfErr, IfSome, Error, Sections, LoaderError, OutOfMemory, PathNotUtf8, Loading, LoadsUnlessOom, LookupResult, Output, Stop, FrameRecord, Waits, answer_of, is_waiting, result_map, StaysParsed, has_parsed, StaysKnown, IfOutput, FirstAnswers, SplitLoad, AfterAnswering, AfterResume, SuspendsAgain, answered, ContextState, ReadFiles, Given, Answered, AfterFrames, AfterFramesOver, IsKnownFew, ReadsAsked, Suspends, IsLoadOf, loads_at, lookup_stop, given_by_files, of_file}
+use Rattle.addr2line.proofs.Common.{◌≡◌, ◌≢◌, ◌⊎◌, ◌<◌, ◌≤◌, inl, inr, ℕ, Bool, List, [], ◌∷◌, ◌++◌, length, Option, Some, None, Result, Ok, Err, arith, true, refl, sym, ap, subst, ◌∙◌, eqb_tells, IfErr, IfSome, Error, Sections, LoaderError, OutOfMemory, PathNotUtf8, Loading, LoadsUnlessOom, LookupResult, Output, Stop, FrameRecord, Waits, answer_of, is_waiting, result_map, StaysParsed, has_parsed, StaysKnown, IfOutput, FirstAnswers, SplitLoad, AfterAnswering, AfterResume, SuspendsAgain, answered, ContextState, ReadFiles, Given, Answered, AfterFrames, AfterFramesOver, IsKnownFew, ReadsAsked, Suspends, IsLoadOf, loads_at, lookup_stop, given_by_files, of_file, IfSome_then}
 use Rattle.std.proofs.lemmas.List.{append_assoc}
 use Rattle.gimli_read.specs.declared.error.Error.TheVariants as reading
 use Rattle.elf.specs.Text.{loader_error_of}
@@ -15,7 +15,7 @@ use Rattle.addr2line.proofs.LoadingLemmas.{no_oom, no_path, not_told}
 use Rattle.addr2line.proofs.NoLoadLemmas.{lacks_memory}
 use Rattle.addr2line.proofs.SkippedLemmas.{waits_true}
 use Rattle.addr2line_units.proofs.EntriesStayLemmas.{known_of_twice, same_stays_known}
-use Rattle.addr2line.proofs.Facts.{always, if_some_both, if_some_map}
+use Rattle.addr2line.proofs.Facts.{always, if_some_both}
 
 -- a first answer that is the same at last was the same in between
 same_between : (old mid new : FirstAnswers) → StayAnswered old mid → StayAnswered mid new → (n : ℕ) → answer_of new n ≡ answer_of old n → answer_of mid n ≡ answer_of old n
@@ -80,11 +80,11 @@ module _ (compressed : CompressedSections) (files : Option ReadFiles) where
         | inl q ↦ inl q
         | inr q ↦ inr (load, subst (λ i. IsLoadOf old.sections i load) (sym q.0) is, subst (λ o. IfSome o (AreOfSomeFile compressed load)) q.1 made)
       ];
-      given = if_some_map files h (λ held gives k answer e. elim (answer_before old.sections old.answers n given k answer (subst (λ x. answer_of x k ≡ Some answer) a.answers e)) [
+      given = IfSome_then files h (λ held gives k answer e. elim (answer_before old.sections old.answers n given k answer (subst (λ x. answer_of x k ≡ Some answer) a.answers e)) [
         | inl q ↦ inl q
         | inr q ↦ inr (load, subst (λ i. IsLoadOf old.sections i load) (sym q.0) is, gives ∙ ap Ok q.1)
       ]);
-      frames = if_some_map files h (λ held e q. ap (λ d. frames_by_files held d new.answers q) a.sections ∙ ap (λ x. frames_by_files held old.sections x q) a.answers
+      frames = IfSome_then files h (λ held e q. ap (λ d. frames_by_files held d new.answers q) a.sections ∙ ap (λ x. frames_by_files held old.sections x q) a.answers
           ∙ frames_stay old.sections old.answers probe n load waits is (given_by_files held) given e q);
       ended = λ q w. ap (λ d. lookup_stop Stop d new.answers q) a.sections ∙ ap (λ x. lookup_stop Stop old.sections x q) a.answers ∙ stop_stays old.sections old.answers probe n load waits is given q w;
       parsed = λ k e. subst (λ p. has_parsed p k ≡ true) (sym a.parsed) e;
@@ -101,7 +101,7 @@ module _ (compressed : CompressedSections) (files : Option ReadFiles) where
 
     -- the files refused the load
     refused_by_file : (e : LoaderError) → IfSome files (λ held. e ≢ OutOfMemory → given_by_files held load ≡ Err e) → IsFaultByFiles files old probe e
-    refused_by_file e h = if_some_map files h (λ held k ne. refused_frames old.sections old.answers probe n load waits is (given_by_files held) e (k ne))
+    refused_by_file e h = IfSome_then files h (λ held k ne. refused_frames old.sections old.answers probe n load waits is (given_by_files held) e (k ne))
 
 -- it doesn't wait both for a unit and for none
 waits_no_more : (probe n : ℕ) (c : ContextState) → WaitsForNone c probe → lookup_stop Stop c.sections c.answers probe ≡ Ok (Waits n) → ⊥
@@ -265,5 +265,5 @@ module _ (compressed : CompressedSections) (files : Option ReadFiles) (probe : �
 module _ {compressed : CompressedSections} (files : Option ReadFiles) (probe : ℕ) (first now : ContextState) (a : AfterAnswers compressed files first now) where
   pub gives_by_files : (given : Loading (List FrameRecord)) → AfterFramesByFiles probe given first now → IfErr given (IsFaultByFiles files first probe)
       → IfSome files (λ held. LoadsUnlessOom (λ x. x) given (frames_by_files held first.sections first.answers probe))
-  gives_by_files (Ok frames) b h = if_some_map files a.frames (λ held p. sym (p probe) ∙ frames_ended (given_by_files held) now.sections now.answers probe (b.ended tt) ∙ b.told tt)
+  gives_by_files (Ok frames) b h = IfSome_then files a.frames (λ held p. sym (p probe) ∙ frames_ended (given_by_files held) now.sections now.answers probe (b.ended tt) ∙ b.told tt)
   gives_by_files (Err e) b h = h

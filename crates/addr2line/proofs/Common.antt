@@ -17,6 +17,7 @@ unfoldable pub use Rattle.elf.specs.ObjectFile.{object_file_of}
 pub use Rattle.elf.specs.declared.error.LoaderError.{LoaderError}
 pub use Rattle.elf.specs.declared.error.LoaderError.TheVariants.{NotElf, OutOfMemory, PathNotUtf8}
 pub use Rattle.addr2line_lines.specs.References.{Scope}
+pub use Rattle.addr2line_lines.proofs.Facts.{get_set_other}
 pub use Rattle.addr2line_units.proofs.LoadsLawLemmas.{answered_load, fewer_left, listed_there, load_gone, load_others, load_own, never_waits_alone, others_left, waits_listed}
 pub use Rattle.addr2line_units.specs.IndexCover.{cover, cover_range, holds_until}
 pub use Rattle.addr2line_units.specs.Frames.{FoundFunction, FrameRecord, found_frames, frames_from}

@@ -1,5 +1,6 @@
 -- What a context has and what its sections give (on specs/Context.antt).
-use Rattle.addr2line.proofs.Common.{◌≡◌, ℕ, zero, suc, ◌≤◌, ◌&&◌, ◌||◌, inl, inr, Bool, true, false, List, [], ◌∷◌, length, map, slice_get, Option, Some, None, option_map, Result, Ok, Err, refl, sym, ap, subst, ◌∙◌, arith, ◌+◌, IfErr, OnOk, Error, ◌>>=◌, Exactly, ExactlyUnlessOom, fault_of, WasNotRefused, Sections, UnitRecord, Scope, UnitRange, cover, cover_range, FindsNothing, main_scope, LocationResult, first_location, all_lines, is_found, lines_of_unit, location_in, location_of, steps_along, or_first_location, spans_along, spans_of, AreAllParsed, AreParsed, AsksFor, LeadTo, ParsesOnly, StaysParsed, has_parsed, ready_along, NothingKnown, IndexedUnit, RangedUnit, has_lines, indexed_of, ranged_units, unit_ranges_from, UnitIndex, index_units, sup_units, UnitsState, first_state, new_units, AfterLookup, AfterRangeLookup, ContextState, IsContext, IsReady, IsUncovered, IsReadyForRange, LocatesNoMemory, Stays, lines_of_all, new_context, as_context, has_stopped, ends_lookup, located_frames, location_stop, stop_along, stop_of, holds_along, LookupStop, Waits, Finds, location_found}
+use Rattle.addr2line.proofs.Common.{◌≡◌, ℕ, zero, suc, ◌≤◌, inl, inr, Bool, true, false, List, [], ◌∷◌, length, map, slice_get, Option, Some, None, option_map, Result, Ok, Err, refl, sym, ap, subst, ◌∙◌, arith, ◌+◌, IfErr, OnOk, Error, ◌>>=◌, Exactly, ExactlyUnlessOom, fault_of, WasNotRefused, Sections, UnitRecord, Scope, UnitRange, cover, cover_range, FindsNothing, main_scope, LocationResult, first_location, all_lines, is_found, lines_of_unit, location_in, location_of, steps_along, or_first_location, spans_along, spans_of, AreAllParsed, AreParsed, AsksFor, LeadTo, ParsesOnly, StaysParsed, has_parsed, ready_along, NothingKnown, IndexedUnit, RangedUnit, has_lines, indexed_of, ranged_units, unit_ranges_from, UnitIndex, index_units, sup_units, UnitsState, first_state, new_units, AfterLookup, AfterRangeLookup, ContextState, IsContext, IsReady, IsUncovered, IsReadyForRange, LocatesNoMemory, Stays, lines_of_all, new_context, as_context, has_stopped, ends_lookup, located_frames, location_stop, stop_along, stop_of, holds_along, LookupStop, Waits, Finds, location_found}
+use Rattle.std.specs.Cmp.{both_ways}
 use Rattle.std.specs.Prelude.{is_ok}
 use Rattle.addr2line_lines.specs.Location.{LineTable, Location, location_at}
 use Rattle.addr2line_lines.specs.Rows.{read_all}
@@ -11,7 +12,7 @@ use Rattle.addr2line_units.proofs.FramesLookupLemmas.{holds_both, holds_first, h
 use Rattle.addr2line_units.proofs.LocationsWalkLemmas.{located_fault}
 use Rattle.addr2line_units.proofs.UnitsLinesLemmas.{parsed_none_along}
 use Rattle.addr2line_units.proofs.Facts.{err_ok, rest_ok}
-use Rattle.addr2line.proofs.Facts.{same_tests}
+use Rattle.addr2line.proofs.Facts.{both_more}
 
 -- an answer that isn't OutOfMemory is exactly what is given
 pub exactly_told : {X Y : Type 0} (see : X → Y) (r : Result X Error) (given : Result Y Error) → ExactlyUnlessOom see r given → WasNotRefused r → Exactly see r given
@@ -22,7 +23,7 @@ same_bools : (p q : List Bool) → length q ≡ length p → StaysParsed p q →
 same_bools [] [] e f h = refl
 same_bools [] (b ∷ q) e f h = absurd (omega (arith, e))
 same_bools (a ∷ p) [] e f h = absurd (omega (arith, e))
-same_bools (a ∷ p) (b ∷ q) e f h = ap (λ x. x ∷ q) (same_tests a b (f 0) (h 0)) ∙ ap (λ xs. a ∷ xs) (same_bools p q (omega (arith, e)) (λ n. f (suc n)) (λ n. h (suc n)))
+same_bools (a ∷ p) (b ∷ q) e f h = ap (λ x. x ∷ q) (both_ways b a (h 0) (f 0)) ∙ ap (λ xs. a ∷ xs) (same_bools p q (omega (arith, e)) (λ n. f (suc n)) (λ n. h (suc n)))
 
 pub same_if_asked : (asks : ℕ → Type 0) (old new : UnitsState) → left.AfterLines asks old new → ((n : ℕ) → asks n → has_parsed old.parsed n ≡ true) → new.parsed ≡ old.parsed
 same_if_asked asks old new a ready = same_bools old.parsed new.parsed a.many a.parsed (λ n e. elim (a.only n e) [ inl p ↦ p | inr asked ↦ ready n asked ])
@@ -147,13 +148,7 @@ module _ (ranges : List UnitRange) (u : UnitsState) (i : IsContext ranges u) whe
       where
         more : (rs : List UnitRange) → ready_along d u.units u.parsed probe rs ≡ true → ready_along d u.units now.parsed probe rs ≡ true
         more [] h = refl
-        more (x ∷ rs) h = step (has_parsed u.parsed x.unit) (has_parsed now.parsed x.unit) (ends_lookup (located_frames d u.units probe x.unit)) (ready_along d u.units u.parsed probe rs) (ready_along d u.units now.parsed probe rs) (a.asked.lines.parsed x.unit) (more rs) h
-          where
-            step : (p q e f g : Bool) → (p ≡ true → q ≡ true) → (f ≡ true → g ≡ true) → (p && (e || f)) ≡ true → (q && (e || g)) ≡ true
-            step true true true f g k l h = refl
-            step true true false f g k l h = l h
-            step true false e f g k l h = k refl
-            step false q e f g k l h = cc
+        more (x ∷ rs) h = both_more (has_parsed u.parsed x.unit) (ends_lookup (located_frames d u.units probe x.unit)) (ready_along d u.units u.parsed probe rs) (has_parsed now.parsed x.unit) (ready_along d u.units now.parsed probe rs) (a.asked.lines.parsed x.unit) (more rs) h
 
     pub after_lookup : {X : Type 0} (result : Result (Option X) Error) → (WasNotRefused result → WasNotRefused r) → (WasNotRefused r → WasNotRefused result) → (is_found result ≡ true → has_stopped now.stop ≡ true) → AfterLookup probe result (as_context u) (as_context now)
     after_lookup result f h k = record {

@@ -2,12 +2,6 @@
 -- doesn't have.
 use Rattle.addr2line.proofs.Common.{◌≡◌, ◌≤◌, ◌&&◌, ◌||◌, ℕ, Bool, true, false, List, [], drop, length, map, Option, Some, None, IfSome, option_map, Result, Ok, Err, refl, sym, subst, drop_of_length-le, length-map}
 
--- two tests that follow from one another are the same
-pub same_tests : (a b : Bool) → (a ≡ true → b ≡ true) → (b ≡ true → a ≡ true) → b ≡ a
-same_tests true b f h = f refl
-same_tests false true f h = sym (h refl)
-same_tests false false f h = refl
-
 pub both_more : (a b c x y : Bool) → (a ≡ true → x ≡ true) → (c ≡ true → y ≡ true) → (a && (b || c)) ≡ true → (x && (b || y)) ≡ true
 both_more true true c x y f g e = rw (f refl) refl
 both_more true false c x y f g e = rw (f refl, g e) refl
@@ -29,10 +23,6 @@ if_seen see P (Some x) h = h
 pub always : {X : Type 0} (o : Option X) {P : X → Type 0} → ((x : X) → P x) → IfSome o P
 always None h = tt
 always (Some x) h = h x
-
-pub if_some_map : {X : Type 0} (o : Option X) {P Q : X → Type 0} → IfSome o P → ((x : X) → P x → Q x) → IfSome o Q
-if_some_map None p h = tt
-if_some_map (Some x) p h = h x p
 
 -- two things that hold of it
 pub if_some_both : {X : Type 0} (o : Option X) {P Q R : X → Type 0} → IfSome o P → IfSome o Q → ((x : X) → P x → Q x → R x) → IfSome o R

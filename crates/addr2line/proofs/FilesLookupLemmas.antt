@@ -1,6 +1,6 @@
 -- Lookups of frames where files answer loads (on specs/FramesByFiles.antt and
 -- specs/LoadsByFiles.antt).
-use Rattle.addr2line.proofs.Common.{◌≡◌, ◌≢◌, ◌⊎◌, inl, inr, ℕ, zero, suc, ◌<◌, arith, Bool, true, false, List, [], ◌∷◌, length, slice_get, Option, Some, None, option_map, Result, Ok, Err, refl, sym, ap, subst, ◌∙◌, eqb_tells, slice_get-map, set, is_none, Error, ◌>>=◌, Sections, UnitRecord, LoaderError, Loading, Scope, before_others, is_open_at, load_of_number, loads_along, Stop, UnitRange, cover, FrameRecord, LookupStop, Waits, after_fault, answer_of, asked_frames, frames_of_number, is_waiting, main_scope, or_stop, stop_along, with_answer, FramesResult, frames_in, UnitIndex, index_units, IndexedUnit, unit_records, FirstAnswers, SplitLoad, awaited_by, awaited_load, decided_answer, is_open, load_of_unit, verdict_by, waits_listed, answered, IsLoadOf, loads_at, lookup_stop, stop_in, of_file, frames_by_lines}
+use Rattle.addr2line.proofs.Common.{◌≡◌, ◌≢◌, ◌⊎◌, inl, inr, ℕ, zero, suc, ◌<◌, arith, Bool, true, false, List, [], ◌∷◌, length, slice_get, Option, Some, None, option_map, Result, Ok, Err, refl, sym, ap, subst, ◌∙◌, eqb_tells, slice_get-map, set, is_none, Error, ◌>>=◌, Sections, UnitRecord, LoaderError, Loading, Scope, before_others, is_open_at, load_of_number, loads_along, Stop, UnitRange, cover, FrameRecord, LookupStop, Waits, after_fault, answer_of, asked_frames, frames_of_number, is_waiting, main_scope, or_stop, stop_along, with_answer, FramesResult, frames_in, UnitIndex, index_units, IndexedUnit, unit_records, FirstAnswers, SplitLoad, awaited_by, awaited_load, decided_answer, is_open, load_of_unit, verdict_by, waits_listed, answered, IsLoadOf, loads_at, lookup_stop, stop_in, of_file, frames_by_lines, get_set_other}
 use Rattle.std.specs.Prelude.{if◌then◌else◌, is_some, unwrap_or}
 use Rattle.addr2line_units.proofs.LoadsAnswerLemmas.{decided_if_open}
 use Rattle.addr2line_units.proofs.LoadsLemmas.{open_awaits}
@@ -8,7 +8,7 @@ use Rattle.addr2line_units.proofs.FramesWaitLemmas.{same_number}
 use Rattle.addr2line.proofs.SkipLemmas.{decided_stop_along}
 use Rattle.addr2line.specs.FramesByFiles.{GivesAnswers, answer_by, first_frames, frames_by_answers, frames_in_units, frames_of_unit, frames_or_fault, frames_with, or_rest, stop_frames}
 use Rattle.addr2line.specs.LoadsByFiles.{StayAnswered}
-use Rattle.addr2line_units.proofs.Facts.{no_answer, others_stay}
+use Rattle.addr2line_units.proofs.Facts.{no_answer}
 
 pub none_if_open : (scope : Scope) (u : IndexedUnit) (answer : Option (Option Sections)) (probe : ℕ) → is_open scope.file.sections u.unit answer ≡ true → frames_in scope u answer probe ≡ Ok None
 unfolding frames_by_lines
@@ -104,7 +104,7 @@ same_along f g same (r ∷ ranges) = ap (λ x. x >>= or_rest (first_frames f ran
 -- the unit that waits for a load
 pub record Awaits (d : Sections) (units : List IndexedUnit) (answers : FirstAnswers) (n : ℕ) (load : SplitLoad) : Type 0 where
   pub unit : IndexedUnit
-  pub there : slice_get units n ≡ Some unit
+  pub unit_is : slice_get units n ≡ Some unit
   pub open_is : is_open d unit.unit (answer_of answers n) ≡ true
   pub load_is : load_of_unit d n unit.unit ≡ Ok (Some load)
 
@@ -118,7 +118,7 @@ awaiting d units answers n load o l = by (slice_get units n) refl (subst (λ x. 
     by : (x : Option IndexedUnit) → slice_get units n ≡ x → elim (option_map (λ (u : IndexedUnit). u.unit) x) [ None ↦ false | Some u ↦ is_open d u (answer_of answers n) ] ≡ true
         → option_map (load_of_unit d n) (option_map (λ (u : IndexedUnit). u.unit) x) ≡ Some (Ok (Some load)) → Awaits d units answers n load
     by None e p q = absurd cc
-    by (Some u) e p q = record { unit = u; there = e; open_is = p; load_is = cc }
+    by (Some u) e p q = record { unit = u; unit_is = e; open_is = p; load_is = cc }
 
 module _ (give : GivesAnswers) (scope : Scope) (units : List IndexedUnit) (answers : FirstAnswers) (n : ℕ) (load : SplitLoad) (w : Awaits scope.file.sections units answers n load) where
   abbrev now : Option Sections → FirstAnswers
@@ -133,16 +133,16 @@ module _ (give : GivesAnswers) (scope : Scope) (units : List IndexedUnit) (answe
   -- the answer of the unit is set
   now_is : (given : Option Sections) → now given ≡ set answers n (Some given)
   now_is given =
-      ap (λ o. elim o [ None ↦ answers | Some u ↦ set answers n (decided_answer scope.file.sections u (answer_of answers n) given) ]) (slice_get-map (λ (u : IndexedUnit). u.unit) units n ∙ ap (option_map (λ (u : IndexedUnit). u.unit)) w.there)
+      ap (λ o. elim o [ None ↦ answers | Some u ↦ set answers n (decided_answer scope.file.sections u (answer_of answers n) given) ]) (slice_get-map (λ (u : IndexedUnit). u.unit) units n ∙ ap (option_map (λ (u : IndexedUnit). u.unit)) w.unit_is)
       ∙ ap (λ v. set answers n v) (decided_if_open scope.file.sections w.unit.unit (answer_of answers n) given w.open_is)
 
   pub other_now : (given : Option Sections) (k : ℕ) → k ≢ n → answer_of (now given) k ≡ answer_of answers k
-  other_now given k ne = ap (λ xs. answer_of xs k) (now_is given) ∙ ap (λ o. unwrap_or o None) (others_stay answers n k (Some given) ne)
+  other_now given k ne = ap (λ xs. answer_of xs k) (now_is given) ∙ ap (λ o. unwrap_or o None) (get_set_other answers n k (Some given) ne)
 
   -- the unit has the frames with the answer that is given
   waiting_is : (probe : ℕ) → frames_of_unit give scope units answers probe n ≡ ((give load >>= λ given. Ok (Some given)) >>= λ decided. frames_or_fault (frames_in scope w.unit decided probe))
   waiting_is probe =
-      ap (with_unit probe n (answer_of answers n)) w.there
+      ap (with_unit probe n (answer_of answers n)) w.unit_is
       ∙ ap (λ o. answer_by give o (answer_of answers n) >>= λ decided. frames_or_fault (frames_in scope w.unit decided probe))
       (awaited_is scope.file.sections n w.unit.unit (answer_of answers n) load w.load_is w.open_is).0
 
@@ -157,7 +157,7 @@ module _ (give : GivesAnswers) (scope : Scope) (units : List IndexedUnit) (answe
       set_now v (inr same) = ap (λ a. with_unit probe n a (slice_get units n)) same
       set_now v (inl same) =
           ap (λ a. with_unit probe n a (slice_get units n)) same
-          ∙ ap (with_unit probe n (Some given)) w.there
+          ∙ ap (with_unit probe n (Some given)) w.unit_is
           ∙ ap (λ o. answer_by give o (Some given) >>= λ decided. frames_or_fault (frames_in scope w.unit decided probe)) (nothing_awaited (load_of_unit scope.file.sections n w.unit.unit) given)
           ∙ sym (waiting_is probe ∙ ap (λ r. (r >>= λ g. Ok (Some g)) >>= λ decided. frames_or_fault (frames_in scope w.unit decided probe)) e)
 
@@ -184,7 +184,7 @@ module _ (give : GivesAnswers) (scope : Scope) (units : List IndexedUnit) (answe
       asked_by a o = elim o [ None ↦ Ok (Some []) | Some u ↦ frames_in scope u a probe ]
 
       waits_here : frames_of_number scope units answers probe n ≡ Ok None
-      waits_here = ap (asked_by (answer_of answers n)) w.there ∙ none_if_open scope w.unit (answer_of answers n) probe w.open_is
+      waits_here = ap (asked_by (answer_of answers n)) w.unit_is ∙ none_if_open scope w.unit (answer_of answers n) probe w.open_is
 
       waits_at : (j : ℕ) → j ≡ n → asked_frames Stop scope units answers probe j ≡ Ok None
       waits_at j q = subst (λ i. asked_frames Stop scope units answers probe i ≡ Ok None) (sym q) (ap (after_fault Stop) waits_here)

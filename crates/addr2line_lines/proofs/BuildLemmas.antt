@@ -1,5 +1,5 @@
 -- Rows taken one after another make the sequences of the rows (on specs/Building.antt).
-use Rattle.addr2line_lines.proofs.Common.{ℕ, ◌≡◌, ◌+◌, ◌-◌, ◌*◌, ◌^◌, ◌<◌, ◌≤◌, ◌==◌, ◌⊎◌, Bool, true, false, cond, List, [], ◌∷◌, ◌++◌, Option, Some, None, map, length, take, drop, get_or, arith, inl, inr, ◌∙◌, ap, sym, subst, refl, append_assoc, append-nil, fold, Result, Ok, Err, IfOk, AllByRecursion, cons_option, sum_by_push, option_to_list, cases_lt, ne_eqb, nat_tests, drop-append-le, drop-take, drop_all, get_or-drop, get_or-map, length_push, length-map, length-take-le, map_push, take-append-le, take-take, take_at, slice_get-get_or, Error, last, LineRow, NeverFalls, rows_before, Row, result_map, read_all, Sequence, stored_row, sequence_of, sequences_of, LineSequence, RowsEndBy, row_address_at, packed_rows_in, unpacked}
+use Rattle.addr2line_lines.proofs.Common.{ℕ, ◌≡◌, ◌+◌, ◌-◌, ◌*◌, ◌^◌, ◌<◌, ◌≤◌, ◌==◌, Bool, true, false, cond, List, [], ◌∷◌, ◌++◌, Option, Some, None, map, length, take, drop, get_or, arith, inl, inr, ◌∙◌, ap, sym, subst, refl, append_assoc, append-nil, fold, Result, Ok, Err, IfOk, AllByRecursion, cons_option, sum_by_push, option_to_list, cases_lt, ne_eqb, drop-append-le, drop-take, drop_all, get_or-drop, get_or-map, length_push, length-map, length-take-le, map_push, take-append-le, take-take, take_at, slice_get-get_or, Error, last, LineRow, NeverFalls, rows_before, Row, result_map, read_all, Sequence, stored_row, sequence_of, sequences_of, LineSequence, RowsEndBy, row_address_at, packed_rows_in, unpacked, cases_eq}
 use Rattle.std.proofs.lemmas.Bool.{eq-eqb}
 use Rattle.std.proofs.lemmas.List.{length-drop}
 use Rattle.gimli_line.specs.Taking.{fault_after}
@@ -52,17 +52,10 @@ goes_on r rows o = by_last (λ p. IsPending p → NeverFalls (p ++ r ∷ rows) �
     first : IsPending [] → NeverFalls (r ∷ rows) → MakesSameSequences [] r rows
     first h n = record { new = r ∷ []; is = refl; pending = record { open_ended = (o, tt); apart = tt }; falls = n; same = refl }
 
-    decided : (x y : ℕ) → (x ≡ y) ⊎ (x ≡ y → ⊥)
-    decided x y = by_test (x == y) refl
-      where
-        by_test : (b : Bool) → (x == y) ≡ b → (x ≡ y) ⊎ (x ≡ y → ⊥)
-        by_test true e = inl (grind (arith, nat_tests))
-        by_test false e = inr (λ k. grind (arith, nat_tests))
-
     more : (q : List LineRow) (a : LineRow) → IsPending (q ++ a ∷ []) → NeverFalls ((q ++ a ∷ []) ++ r ∷ rows) → MakesSameSequences (q ++ a ∷ []) r rows
     more q a h n =
         let stored : map stored_row (q ++ a ∷ []) ≡ map stored_row q ++ stored_row a ∷ [] = map_push stored_row q a in
-        elim (decided a.address r.address) [
+        elim (cases_eq a.address r.address) [
           | inl e ↦ record {
             new = q ++ r ∷ [];
             is = ap (λ xs. without_last r.address xs ++ stored_row r ∷ []) stored ∙ ap (λ xs. xs ++ stored_row r ∷ []) (without_same (map stored_row q) (stored_row a) r.address e) ∙ sym (map_push stored_row q r);

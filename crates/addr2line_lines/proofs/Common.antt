@@ -1,7 +1,7 @@
 -- What many proofs of this crate cite, handed on. Declares nothing.
 pub use Rattle.std.proofs.Common.{Bool, Bor, Equal, Err, Global, Greater, IfOk, IfSome, Less, List, None, Ok, OnErr, OnOk, Option, Ordering, Result, Some, String, [], add-one, ap, append-nil, append_assoc, arith, cond, count_by, drop, false, filter, flat_map, fold, get_or, heap_items, inl, inr, is_ok, is_some, leb, length, length-append, length-drop, map, max, min, nat_cmp, nat_le, nat_lt, negsuc, not, option_and_then, option_map, pos, refl, reverse, rules, set, slice_get, slice_index, slice_index_or, slice_set, string_bytes, subst, suc, sum_by, sym, take, true, zero, ℕ, ℤ, ◌%◌, ◌&&◌, ◌*◌, ◌++◌, ◌+◌, ◌-◌, ◌/◌, ◌<◌, ◌==◌, ◌^◌, ◌||◌, ◌↔◌, ◌∙◌, ◌∷◌, ◌≡◌, ◌≢◌, ◌≤◌, ◌⊎◌}
 pub use Rattle.std.proofs.Math.Seq.{drop-append_seam, drop-length, map-set_same, take-append_seam, take-length}
-pub use Rattle.std.proofs.lemmas.Bool.{and_parts, cases_eq, cases_lt, eqb-true, ne_eqb, or_left, or_parts, or_right}
+pub use Rattle.std.proofs.lemmas.Bool.{and_parts, cases_eq, cases_lt, eqb-true, le-leb, le-ltb, lt-ltb, ne_eqb, or_left, or_parts, or_right}
 pub use Rattle.std.proofs.lemmas.Bool.Decides.{nat_tests}
 pub use Rattle.std.proofs.lemmas.Grind.{common_steps}
 pub use Rattle.std.proofs.lemmas.List.{at_drop_all, at_drop_more, drop-append-le, drop-map, drop-take, drop_all, drop_more, get_or-drop, get_or-map, get_or-take, get_or_append_left, get_or_default, get_or_push, get_or_read, length-map, length-take-le, length_push, map-append, map-id, map-set, map_push, reverse-append, set_split, take-append-le, take-map, take-take, take_at}

@@ -4,7 +4,7 @@ use Rattle.gimli_read.specs.declared.constants.TheConstants.DwTag.{DW_TAG_inline
 use Rattle.gimli_read.specs.Costed.{◌>>=◌}
 use Rattle.gimli_read.specs.Reading as reading
 use Rattle.gimli.specs.Header.{UnitHeaderFields}
-use Rattle.gimli.proofs.CursorLemmas.{item_from, item_here}
+use Rattle.gimli.proofs.CursorLemmas.{item_coded, item_from, item_here}
 use Rattle.gimli.proofs.ItemLemmas.{next_is}
 use Rattle.addr2line_lines.specs.declared.nesting.Kind.TheVariants.{Inlined, Other, Subprogram}
 use Rattle.addr2line_lines.specs.FoundItems.{FoundAround, inside_found, with_entry_found, with_item_found}
@@ -13,7 +13,6 @@ use Rattle.addr2line_lines.specs.FoundDetails.{abbreviation_of, detail_found_at,
 use Rattle.addr2line_lines.specs.OpenEntries.{closed_once, is_inlined_kind, is_listed, is_subprogram_kind, kind_of, opened}
 use Rattle.addr2line_lines.proofs.CostLemmas.{Agrees, AgreesGiven, IsPartOf, agrees_after, agrees_made, agrees_map, agrees_room, agrees_then, room_more}
 use Rattle.addr2line_lines.proofs.DetailRanges.{AreFrom, more_places, more_ranges, none_from}
-use Rattle.addr2line_lines.proofs.NestingLemmas.{coded}
 use Rattle.addr2line_lines.proofs.WholeEntries.{detail_is, detail_read}
 
 -- what the kinds of open entries tell
@@ -199,7 +198,7 @@ module _ (scope : Scope) (u : UnitRecord) (offset : ℕ) (found : FoundInlined) 
 
   left_agrees : (s : Section) → (length s.bytes == 0) ≡ false → let left = entries_at u.header u.abbreviations s in AgreesDetail (detail_read scope u offset left (next_item_at left.unit left.cursor)) (found_of left (entry_abbreviation_at left.unit.abbreviations left.cursor))
   left_agrees s some =
-      subst (λ r. AgreesDetail (detail_read scope u offset left r) (found_of left (entry_abbreviation_at left.unit.abbreviations left.cursor))) (sym (coded scope u left.unit left.cursor some))
+      subst (λ r. AgreesDetail (detail_read scope u offset left r) (found_of left (entry_abbreviation_at left.unit.abbreviations left.cursor))) (sym (item_coded left.unit left.cursor some))
       (by_code (entry_abbreviation_at left.unit.abbreviations left.cursor) refl)
     where
       left : EntriesLeft
@@ -217,7 +216,7 @@ module _ (scope : Scope) (u : UnitRecord) (offset : ℕ) (found : FoundInlined) 
       by_read a t q (Ok x) k =
           let item = item_here left.unit left.cursor (Some (record { abbreviation = a; attributes = x.0 })) in
           let end : EntryCursor = record { left = x.1; depth = t.depth } in
-          let is : next_item_at left.unit left.cursor ≡ Ok (Some item, end) = coded scope u left.unit left.cursor some ∙ ap (λ r. reading.◌>>=◌ r (λ y. item_from left.unit left.cursor y)) q
+          let is : next_item_at left.unit left.cursor ≡ Ok (Some item, end) = item_coded left.unit left.cursor some ∙ ap (λ r. reading.◌>>=◌ r (λ y. item_from left.unit left.cursor y)) q
           ∙ ap (λ (r : Reading (List NamedValue)). reading.◌>>=◌ {B = Option Item × EntryCursor} r (λ y. Ok (Some (item_here left.unit left.cursor (Some (record { abbreviation = a; attributes = y.0 }))), record { left = y.1; depth = t.depth }))) k in
           let next = next_is left.unit left.cursor end item is in
           named_item item end refl next.after (name_of scope u x.0)

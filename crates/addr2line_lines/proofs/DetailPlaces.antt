@@ -1,5 +1,5 @@
 -- Places of details, and what adding details leaves of them (on specs/CachedDetails.antt).
-use Rattle.addr2line_lines.proofs.Common.{◌≡◌, ℕ, ◌+◌, ◌-◌, ◌<◌, ◌≤◌, ◌==◌, Bool, true, false, cond, nat_lt, List, [], ◌∷◌, ◌++◌, drop, map, length, slice_index_or, take, Option, Some, None, option_and_then, option_map, Result, Ok, Err, IfOk, refl, ap, sym, subst, ◌∙◌, arith, length-append, length-drop, zero, suc, All, AllByRecursion, IsNonDecreasingBy, drop-append-le, length-map, length-take-le, take-append-le, All-weaker, recursion_from_All, drop-append_seam, take-append_seam, take-length, Error, ExactlyUnlessOomIf, Section, greatest, topmost, UnitRecord, FunctionDetail, InlinedFunctionAddress, Detail, detail_at, InlinedEntry, InlinedRange, FoundInlined, IsFoundMore, entry_among, first_found, range_among, inlined_sooner, inlined_place, place_begin, place_end, places_chain, places_of_depth, places_within, IsInOrder, in_order, AreDetailsMore, AreNamesMore, IsDetailPlace, IsOfEntryBetween, IsRefusedThen, CachedDetails, between, detail_of, listed_ranges, at_or_below, candidate, if_past, pick, Scope, In, In-filter, In-last}
+use Rattle.addr2line_lines.proofs.Common.{◌≡◌, ℕ, ◌+◌, ◌-◌, ◌<◌, ◌≤◌, ◌==◌, Bool, true, false, cond, nat_lt, List, [], ◌∷◌, ◌++◌, drop, map, length, slice_index_or, take, Option, Some, None, option_and_then, option_map, Result, Ok, Err, IfOk, refl, ap, sym, subst, ◌∙◌, arith, length-append, length-drop, zero, suc, All, AllByRecursion, IsNonDecreasingBy, drop-append-le, length-map, length-take-le, take-append-le, All-weaker, recursion_from_All, drop-append_seam, take-append_seam, take-length, Error, ExactlyUnlessOomIf, Section, greatest, topmost, UnitRecord, FunctionDetail, InlinedFunctionAddress, Detail, detail_at, InlinedEntry, InlinedRange, FoundInlined, IsFoundMore, entry_among, first_found, range_among, inlined_sooner, inlined_place, place_begin, place_end, places_chain, places_of_depth, places_within, IsInOrder, in_order, AreDetailsMore, AreNamesMore, IsDetailPlace, IsOfEntryBetween, IsRefusedThen, CachedDetails, between, detail_of, listed_ranges, at_or_below, candidate, if_past, pick, Scope, In, In-filter, In-last, get_or_append_left}
 use Rattle.addr2line_lines.specs.InlinedChain.{inlined_chain}
 use Rattle.addr2line_lines.specs.Grown.{IsGrown}
 use Rattle.addr2line_lines.specs.FoundDetails.{detail_found_at}
@@ -11,7 +11,7 @@ use Rattle.addr2line_lines.proofs.InlinedOrder.{inlined_order, length_in_order, 
 use Rattle.addr2line_lines.proofs.NestingLemmas.{found_same, grown_not}
 use Rattle.addr2line_lines.proofs.OrderLemmas.{All-in, in_order_all, in_order_ordered}
 use Rattle.addr2line_lines.proofs.SeekLemmas.{non_decreasing}
-use Rattle.addr2line_lines.proofs.Facts.{before_more, longer}
+use Rattle.addr2line_lines.proofs.Facts.{longer}
 
 -- ranges, those from a place on put in order
 abbrev pub sorted_from : ℕ → List InlinedFunctionAddress → List InlinedFunctionAddress
@@ -136,7 +136,7 @@ detail_stays cached more p h at = (same, still)
         ∙ ranges_stay cached.found.entries h.found.entries.more (listed_ranges p) (among p.inlined_begin p.inlined_end cached.found.entries (listed_ranges p) at.inlined_end at.places)
 
     name_is : slice_index_or more.names p.name None ≡ slice_index_or cached.names p.name None
-    name_is = ap (λ xs. slice_index_or xs p.name None) h.names.is ∙ before_more cached.names h.names.more p.name None at.name
+    name_is = ap (λ xs. slice_index_or xs p.name None) h.names.is ∙ get_or_append_left cached.names h.names.more None p.name at.name
 
     same : detail_of more p ≡ detail_of cached p
     same = ap (λ n. made n (map (range_among more.found.entries) (listed_ranges p))) name_is ∙ ap (λ xs. made (slice_index_or cached.names p.name None) xs) inlined_is

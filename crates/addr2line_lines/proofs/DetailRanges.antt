@@ -1,7 +1,6 @@
 -- Ranges by the places of inlined entries, where more are found (on specs/FoundInlined.antt).
-use Rattle.addr2line_lines.proofs.Common.{◌≡◌, ℕ, ◌+◌, ◌≤◌, List, [], ◌∷◌, ◌++◌, drop, map, length, slice_index_or, refl, ap, sym, subst, ◌∙◌, arith, length-append, append-nil, All, AllByRecursion, drop-append-le, map-append, All-append, All-head, All-map, All-tail, All-weaker, recursion_from_All, drop-length, Range, InlinedFunctionAddress, InlinedEntry, InlinedRange, FoundInlined, IsPlaceAmong, inlined_address, inlined_more, range_among, no_inlined, found_ranges_from, inlined_place, IsOfEntryBetween}
+use Rattle.addr2line_lines.proofs.Common.{◌≡◌, ℕ, ◌+◌, ◌≤◌, List, [], ◌∷◌, ◌++◌, drop, map, length, slice_index_or, refl, ap, sym, subst, ◌∙◌, arith, length-append, append-nil, All, AllByRecursion, drop-append-le, map-append, All-append, All-head, All-map, All-tail, All-weaker, recursion_from_All, drop-length, Range, InlinedFunctionAddress, InlinedEntry, InlinedRange, FoundInlined, IsPlaceAmong, inlined_address, inlined_more, range_among, no_inlined, found_ranges_from, inlined_place, IsOfEntryBetween, get_or_append_left}
 use Rattle.addr2line_lines.proofs.SeekLemmas.{Up}
-use Rattle.addr2line_lines.proofs.Facts.{before_more}
 
 -- a range of an inlined entry
 abbrev pub of_entry : ℕ → InlinedEntry → Range → InlinedRange
@@ -10,7 +9,7 @@ of_entry depth e r = record { depth = depth; range = r; entry = e }
 pub ranges_stay : (entries more : List InlinedEntry) (xs : List InlinedFunctionAddress) → All (IsPlaceAmong entries) xs → map (range_among (entries ++ more)) xs ≡ map (range_among entries) xs
 ranges_stay entries more [] all = refl
 ranges_stay entries more (a ∷ xs) all =
-    let one : range_among (entries ++ more) a ≡ range_among entries a = ap (λ (y : InlinedEntry). of_entry a.depth y a.range) (before_more entries more a.function no_inlined (All-head (IsPlaceAmong entries) a xs all)) in
+    let one : range_among (entries ++ more) a ≡ range_among entries a = ap (λ (y : InlinedEntry). of_entry a.depth y a.range) (get_or_append_left entries more no_inlined a.function (All-head (IsPlaceAmong entries) a xs all)) in
     ap (λ (y : InlinedRange). y ∷ map (range_among (entries ++ more)) xs) one
     ∙ ap (λ ys. range_among entries a ∷ ys) (ranges_stay entries more xs (All-tail (IsPlaceAmong entries) a xs all))
 

@@ -31,13 +31,6 @@ none_of false true c h = absurd cc
 none_of false false true h = absurd cc
 none_of false false false h = (refl, refl, refl)
 
--- two tests that mean the same
-pub same_test : (a b : Bool) → (a ≡ true → b ≡ true) → (b ≡ true → a ≡ true) → a ≡ b
-same_test true true f g = refl
-same_test true false f g = sym (f refl)
-same_test false true f g = g refl
-same_test false false f g = refl
-
 -- ---- of numbers
 
 pub not_itself : (n : ℕ) → (n == n) ≡ true
@@ -55,18 +48,6 @@ both_same m n = grind (arith, nat_tests)
 pub same_more : (k x y : ℕ) → (x == y) ≡ (k + x == k + y)
 same_more k x y = grind (arith, nat_tests)
 
-pub less_test : (x y : ℕ) → x < y → nat_lt x y ≡ true
-less_test x y l = grind (arith, nat_tests)
-
-pub not_less : (x y : ℕ) → y ≤ x → nat_lt x y ≡ false
-not_less x y l = grind (arith, nat_tests)
-
-pub at_most_test : (x y : ℕ) → x ≤ y → nat_le x y ≡ true
-at_most_test x y l = grind (arith, nat_tests)
-
-pub not_at_most : (x y : ℕ) → y < x → nat_le x y ≡ false
-not_at_most x y l = grind (arith, nat_tests)
-
 -- the probe is in a range
 pub inside : (a b p : ℕ) → a ≤ p → p < b → (nat_le a p && nat_lt p b) ≡ true
 inside a b p l h = grind (arith, nat_tests)
@@ -76,9 +57,6 @@ from_inside a b p h = (grind (arith, nat_tests), grind (arith, nat_tests))
 
 pub outside : (a b p : ℕ) → (p < a) ⊎ (b ≤ p) → (nat_le a p && nat_lt p b) ≡ false
 outside a b p h = grind (arith, nat_tests)
-
-pub not_inside : (a b p : ℕ) → a ≤ p → (nat_le a p && nat_lt p b) ≡ false → b ≤ p
-not_inside a b p l h = grind (arith, nat_tests)
 
 pub ended : (a b p : ℕ) → b ≤ p → (nat_le a p && nat_lt p b) ≡ false
 ended a b p l = grind (arith, nat_tests)
@@ -112,19 +90,9 @@ pub last_name : {X Y : Type 0} (f : X → Y) (xs : List X) (x : X) (d : Y) → s
 last_name f [] x d = refl
 last_name f (y ∷ xs) x d = last_name f xs x d
 
--- more inlined entries change nothing of those before
-pub before_more : {X : Type 0} (xs more : List X) (k : ℕ) (d : X) → k < length xs → slice_index_or (xs ++ more) k d ≡ slice_index_or xs k d
-before_more [] more k d l = absurd (omega arith)
-before_more (x ∷ xs) more zero d l = refl
-before_more (x ∷ xs) more (suc k) d l = before_more xs more k d (omega arith)
-
 -- a list that grew is no shorter
 pub longer : {X : Type 0} (xs ys : List X) → IsGrown xs ys → length xs ≤ length ys
 longer xs ys g = let a : length ys ≡ length (xs ++ g.more) = ap (λ v. length v) g.is in let b = length-append xs g.more in omega arith
-
-pub drop_none : {X : Type 0} (n : ℕ) → drop {A = X} n [] ≡ []
-drop_none zero = refl
-drop_none (suc n) = refl
 
 pub counted_last : {X : Type 0} (p : X → Bool) (xs : List X) (x : X) → count_by p (reverse xs) ≡ count_by p xs → count_by p (reverse xs ++ x ∷ []) ≡ count_by p (x ∷ xs)
 counted_last p xs x h = grind (arith, common_steps, h)

@@ -2,7 +2,7 @@
 use Rattle.addr2line_lines.proofs.Common.{◌≡◌, ℕ, ◌<◌, ◌≤◌, ◌==◌, ◌&&◌, Bool, true, false, cond, List, [], ◌∷◌, ◌++◌, map, length, Option, Some, None, Result, Ok, Err, OnOk, refl, ap, sym, ◌∙◌, arith, append-nil, length-append, Error, Range, Abbrev, Section, Reading, ◌>>=◌, Exactly, ExactlyUnlessOomIf, NamedValue, rest_of, Run, cons, fold_of, fold_run, EntryUnit, attributes_at, Item, EntryCursor, entry_abbreviation_at, items_left, next_item_at, next_offset_of, Sections, UnitRecord, items_end, items_fault, items_more, RangeAttributes, FunctionAddress, attribute_ranges, gives_a_range, no_range_attributes, range_attributes_after, range_attributes_of, is_subprogram, FoundFunctions, next_found_at, found_from, found_more, function_address, item_has_function, with_attributes, with_found, with_ranges}
 use Rattle.gimli_read.specs.declared.endian.Encoding.{Encoding}
 use Rattle.gimli_read.proofs.SkipLemmas.{attributes_leave}
-use Rattle.gimli.proofs.CursorLemmas.{item_from, item_is, item_here}
+use Rattle.gimli.proofs.CursorLemmas.{item_coded, item_from, item_is, item_here}
 use Rattle.gimli.proofs.EntryLemmas.{abbreviation_takes}
 
 -- an answer, and a place beside it; memory may be taken for the part only if it may for the whole
@@ -25,11 +25,8 @@ module _ (d : Sections) (u : UnitRecord) (unit : EntryUnit) where
   abbrev pub found_after : FoundFunctions → Result (Option Item × EntryCursor) Error → Result (FoundFunctions × EntryCursor) Error
   found_after found r = r >>= λ x. elim x.0 [ None ↦ Ok (found, x.1) | Some item ↦ with_found d u found item >>= λ more. Ok (more, x.1) ]
 
-  coded : (c : EntryCursor) → (length c.left.bytes == 0) ≡ false → next_item_at unit c ≡ (entry_abbreviation_at unit.abbreviations c >>= λ x. item_from unit c x)
-  coded c h = item_is unit c ∙ ap (λ b. cond b (Ok (None, c)) (entry_abbreviation_at unit.abbreviations c >>= λ x. item_from unit c x)) h
-
   at_code : (c : EntryCursor) (found : FoundFunctions) (r : Result (Option Abbrev × EntryCursor) Error) → (length c.left.bytes == 0) ≡ false → entry_abbreviation_at unit.abbreviations c ≡ r → next_found_at d u unit c found ≡ found_after found (r >>= λ x. item_from unit c x)
-  at_code c found r h k = ap (found_after found) (coded c h ∙ ap (λ s. s >>= λ x. item_from unit c x) k)
+  at_code c found r h k = ap (found_after found) (item_coded unit c h ∙ ap (λ s. s >>= λ x. item_from unit c x) k)
 
   pub code_fault : (c : EntryCursor) (found : FoundFunctions) (e : Error) → (length c.left.bytes == 0) ≡ false → entry_abbreviation_at unit.abbreviations c ≡ Err e → next_found_at d u unit c found ≡ Err e
   code_fault c found e h k = at_code c found (Err e) h k
@@ -100,7 +97,7 @@ module _ (d : Sections) (u : UnitRecord) (unit : EntryUnit) where
   pub function_takes : (c t : EntryCursor) (a : Abbrev) (e : Encoding) (r : RangeAttributes) → (length c.left.bytes == 0) ≡ false → entry_abbreviation_at unit.abbreviations c ≡ Ok (Some a, t) → e ≡ unit.encoding → is_subprogram a ≡ true
       → range_attributes_after d u (Ok no_range_attributes) (attributes_at e a.attributes t.left) ≡ Ok r → gives_a_range d u r ≡ true → item_has_function d u (next_item_at unit c) ≡ true
   function_takes c t a e r h k q n m w =
-      ap (item_has_function d u) (coded c h ∙ ap (λ s. s >>= λ x. item_from unit c x) k ∙ ap (λ f. entry_item (attributes_at f a.attributes t.left)) (sym q)) ∙ whole (attributes_at e a.attributes t.left) m
+      ap (item_has_function d u) (item_coded unit c h ∙ ap (λ s. s >>= λ x. item_from unit c x) k ∙ ap (λ f. entry_item (attributes_at f a.attributes t.left)) (sym q)) ∙ whole (attributes_at e a.attributes t.left) m
     where
       entry_item : Reading (List NamedValue) → Result (Option Item × EntryCursor) Error
       entry_item read = read >>= λ x. Ok (Some (item_here unit c (Some (record { abbreviation = a; attributes = x.0 }))), record { left = x.1; depth = t.depth })
@@ -128,7 +125,7 @@ module _ (d : Sections) (u : UnitRecord) (unit : EntryUnit) where
 
   -- there is an item where there are bytes
   pub some_item : (c t : EntryCursor) → (length c.left.bytes == 0) ≡ false → next_item_at unit c ≡ Ok (None, t) → ⊥
-  some_item c t h k = by_code (entry_abbreviation_at unit.abbreviations c) (sym (coded c h) ∙ k)
+  some_item c t h k = by_code (entry_abbreviation_at unit.abbreviations c) (sym (item_coded unit c h) ∙ k)
     where
       by_values : (r : Reading (List NamedValue)) (a : Abbrev) (z : EntryCursor) → ◌≡◌ {A = Result (Option Item × EntryCursor) Error} (r >>= λ x. Ok (Some (item_here unit c (Some (record { abbreviation = a; attributes = x.0 }))), record { left = x.1; depth = z.depth })) (Ok (None, t)) → ⊥
       by_values (Ok x) a z e = let no = ap gives_item e in absurd cc

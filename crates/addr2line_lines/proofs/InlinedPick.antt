@@ -1,10 +1,9 @@
 -- The search among the ranges of inlined entries in order (on specs/InlinedOrder.antt).
-use Rattle.addr2line_lines.proofs.Common.{ℕ, ◌≡◌, ◌+◌, ◌-◌, ◌<◌, ◌≤◌, ◌&&◌, ◌||◌, ◌==◌, Bool, true, false, cond, nat_cmp, nat_le, nat_lt, leb, List, [], ◌∷◌, length, get_or, Option, Some, None, arith, zero, suc, ◌∙◌, ap, sym, subst, refl, AllByRecursion, AllWithin, IsPartitionPoint, IsPartitionedBy, is_lt, ordering_then, nat_tests, ne_eqb, get_or_default, All-from_recursion, last, InlinedFunctionAddress, IsInOrder, begins_sooner, inlined_sooner, inlined_place, place_at, place_begin, place_end, places_of_depth, places_within, candidate, if_past, filter-filter}
+use Rattle.addr2line_lines.proofs.Common.{ℕ, ◌≡◌, ◌+◌, ◌-◌, ◌<◌, ◌≤◌, ◌&&◌, ◌||◌, ◌==◌, Bool, true, false, cond, nat_cmp, nat_le, nat_lt, leb, List, [], ◌∷◌, length, get_or, Option, Some, None, arith, zero, suc, ◌∙◌, ap, sym, subst, refl, AllByRecursion, AllWithin, IsPartitionPoint, IsPartitionedBy, is_lt, ordering_then, nat_tests, ne_eqb, get_or_default, All-from_recursion, last, InlinedFunctionAddress, IsInOrder, begins_sooner, inlined_sooner, inlined_place, place_at, place_begin, place_end, places_of_depth, places_within, candidate, if_past, filter-filter, le-ltb, lt-ltb}
 use Rattle.std.specs.List.{filter}
 use Rattle.std.specs.Option.{option_and_then, option_map}
 use Rattle.addr2line_lines.proofs.OrderPick.{candidate_ordered}
 use Rattle.addr2line_lines.proofs.SearchLemmas.{last_is_at, last_none}
-use Rattle.addr2line_lines.proofs.Facts.{less_test, not_less}
 
 -- no element of a list in order is sooner than one before it
 ordered_far : {X : Type 0} (lt : X → X → Bool) (xs : List X) → IsInOrder lt xs → (i j : ℕ) (d : X) → i < j → j < length xs → lt (get_or xs j d) (get_or xs i d) ≡ false
@@ -114,12 +113,12 @@ module _ (depth probe : ℕ) (ys : List InlinedFunctionAddress) (up : IsInOrder 
     pub it_counts : (d : InlinedFunctionAddress) → 0 < past → past ≤ length ys → (get_or ys (past - 1) d).depth ≡ depth → probe < (get_or ys (past - 1) d).range.end → place_at probe depth ys ≡ Some (get_or ys (past - 1) d).function
     it_counts d some bound e l =
         let y = get_or ys (past - 1) d in
-        last_counts d some bound (grind (arith, nat_tests)) ∙ ap (λ b. option_map inlined_place (cond b (Some y) None)) (less_test probe y.range.end l)
+        last_counts d some bound (grind (arith, nat_tests)) ∙ ap (λ b. option_map inlined_place (cond b (Some y) None)) (lt-ltb probe y.range.end l)
 
     pub it_ends : (d : InlinedFunctionAddress) → 0 < past → past ≤ length ys → (get_or ys (past - 1) d).depth ≡ depth → (get_or ys (past - 1) d).range.end ≤ probe → place_at probe depth ys ≡ None
     it_ends d some bound e l =
         let y = get_or ys (past - 1) d in
-        last_counts d some bound (grind (arith, nat_tests)) ∙ ap (λ b. option_map inlined_place (cond b (Some y) None)) (not_less probe y.range.end l)
+        last_counts d some bound (grind (arith, nat_tests)) ∙ ap (λ b. option_map inlined_place (cond b (Some y) None)) (le-ltb probe y.range.end l)
 
     pub other_depth : (d : InlinedFunctionAddress) → past ≤ length ys → ((get_or ys (past - 1) d).depth ≡ depth → ⊥) → place_at probe depth ys ≡ None
     other_depth d bound h =

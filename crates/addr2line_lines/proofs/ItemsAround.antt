@@ -1,5 +1,7 @@
 -- The items around an item (on specs/ItemsAround.antt).
 use Rattle.addr2line_lines.proofs.Common.{◌≡◌, ℕ, zero, suc, ◌+◌, ◌-◌, ◌<◌, ◌≤◌, ◌==◌, Bool, true, false, cond, drop, filter, List, [], ◌∷◌, ◌++◌, length, Option, Some, None, Result, Ok, Err, is_ok, refl, sym, ap, subst, ◌∙◌, arith, ℤ, pos, negsuc, append-nil, append_assoc, length-append, length-drop, nat_lt, ◌&&◌, count_by, int_lt, ◌+ℤ◌, All, AllByRecursion, cons_option, length-filter, All-append, All-from_recursion, All-map, Error, NoEntryAtGivenOffset, OffsetOutOfBounds, UnexpectedEof, Range, Abbrev, free, Reading, ◌>>=◌, Run, cons, fold_run, Section, entry_bytes_from, entry_unit, unit_length, EntryUnit, Entry, Item, depth_after, depth_behind, item_at, items_after, items_at, items_from, items_inside, items_within, offset_of, subtree_of, UnitRecord, Detail, PlacedItem, WholeEntry, detail_at, stored_detail_at, first_whole, inlined_in, is_in_function, open_after, placed_items, whole_entry_at, with_inlined, with_inlined_entry, InlinedRange, inlined_attributes_of, inlined_entry, inlined_ranges, is_inlined, name_of, attribute_ranges, Scope, or_left, text_some}
+use Rattle.std.proofs.Math.Seq.{drop-nil}
+use Rattle.std.specs.Cmp.{both_ways}
 use Rattle.std.specs.Prelude.{find}
 use Rattle.std.specs.Option.{option_map}
 use Rattle.std.proofs.lemmas.Int.{ints}
@@ -8,7 +10,7 @@ use Rattle.gimli_read.proofs.Steps.{bind_ok, same_value}
 use Rattle.gimli.proofs.ItemTexts.{item_text}
 use Rattle.addr2line_lines.specs.ItemsAround.{DepthsAreNumbers, InsideIsRead, OpenAreAround, abbreviations_of, have_item, inlined_depth, is_inlined_item, items_around, items_inside_at, nearest_inlined}
 use Rattle.addr2line_lines.proofs.WholeEntries.{detail_of}
-use Rattle.addr2line_lines.proofs.Facts.{drop_none, not_above, not_below, not_itself, or_false, same_test}
+use Rattle.addr2line_lines.proofs.Facts.{not_above, not_below, not_itself, or_false}
 
 -- items one after another: each lies at the depth after the one before, and begins after it
 abbrev pub IsWalk : ℕ → ℤ → List Item → Type 0
@@ -63,13 +65,13 @@ unmatched [] = zero
 unmatched (y ∷ ys) = unmatched_after y.entry (unmatched ys)
 
 less_closing : (d now : ℤ) (n : ℕ) → int_lt (d +ℤ pos n) (now +ℤ negsuc 0) ≡ int_lt (d +ℤ pos (suc n)) now
-less_closing d now n = same_test _ _ (λ h. grind (arith, ints)) (λ h. grind (arith, ints))
+less_closing d now n = both_ways _ _ (λ h. grind (arith, ints)) (λ h. grind (arith, ints))
 
 less_opening_none : (d now : ℤ) → int_lt d now ≡ true → int_lt (d +ℤ pos 0) (now +ℤ pos 1) ≡ int_lt (d +ℤ pos 0) now
-less_opening_none d now l = same_test _ _ (λ h. grind (arith, ints)) (λ h. grind (arith, ints))
+less_opening_none d now l = both_ways _ _ (λ h. grind (arith, ints)) (λ h. grind (arith, ints))
 
 less_opening : (d now : ℤ) (n : ℕ) → int_lt (d +ℤ pos (suc n)) (now +ℤ pos 1) ≡ int_lt (d +ℤ pos n) now
-less_opening d now n = same_test _ _ (λ h. grind (arith, ints)) (λ h. grind (arith, ints))
+less_opening d now n = both_ways _ _ (λ h. grind (arith, ints)) (λ h. grind (arith, ints))
 
 less_more : (d now : ℤ) (n : ℕ) → int_lt d now ≡ false → int_lt (d +ℤ pos n) now ≡ false
 less_more d now n h = grind (arith, ints)
@@ -160,7 +162,7 @@ still_open None y d inner up n =
     ap (λ ys. inner ++ ys) (dropped up) ∙ ap (λ b. cond b (inner ++ y ∷ []) inner ++ drop (suc n) up) (sym (no_less d n))
   where
     dropped : (ys : List Item) → drop n (without_innermost ys) ≡ drop (suc n) ys
-    dropped [] = drop_none n
+    dropped [] = drop-nil n
     dropped (z ∷ ys) = refl
 still_open (Some e) y d inner up n = by_children e.abbreviation.has_children n
   where
@@ -189,7 +191,7 @@ open_is low now (y ∷ front) rest x up w =
 open_is_around : (low : ℕ) (now : ℤ) (front rest : List Item) (x : Item) → IsWalk low now (front ++ x ∷ rest)
     → opened_after [] front ≡ items_around x.offset (front ++ x ∷ rest)
 open_is_around low now front rest x w =
-    open_is low now front rest x [] w ∙ ap (λ ys. items_around x.offset (front ++ x ∷ rest) ++ ys) (drop_none (unmatched front)) ∙ append-nil (items_around x.offset (front ++ x ∷ rest))
+    open_is low now front rest x [] w ∙ ap (λ ys. items_around x.offset (front ++ x ∷ rest) ++ ys) (drop-nil (unmatched front)) ∙ append-nil (items_around x.offset (front ++ x ∷ rest))
 
 -- each of the items that are open is an entry, and those after it are the ones around it
 abbrev pub AreOpen : List Item → List Item → Type 0

@@ -1,9 +1,9 @@
 -- A range beside all others is picked where it holds the probe (on specs/Pick.antt).
-use Rattle.addr2line_lines.proofs.Common.{ℕ, ◌≡◌, ◌<◌, ◌≤◌, ◌⊎◌, ◌&&◌, ◌==◌, true, cond, List, [], ◌∷◌, length, slice_index_or, Some, None, zero, suc, arith, inl, inr, ◌∙◌, ap, subst, refl, AllByRecursion, nat_tests, recursion_from_All, last, if_past, IsDisjoint, LoneIsPicked, In, In-passes, All-passing}
+use Rattle.addr2line_lines.proofs.Common.{ℕ, ◌≡◌, ◌<◌, ◌≤◌, ◌⊎◌, ◌&&◌, ◌==◌, true, cond, List, [], ◌∷◌, length, slice_index_or, Some, None, zero, suc, arith, inl, inr, ◌∙◌, ap, subst, refl, AllByRecursion, nat_tests, recursion_from_All, last, if_past, IsDisjoint, LoneIsPicked, In, In-passes, All-passing, lt-ltb}
 use Rattle.std.specs.List.{filter}
 use Rattle.std.specs.Option.{option_and_then}
 use Rattle.addr2line_lines.proofs.PickLemmas.{IsBefore, same_ends, counting_is}
-use Rattle.addr2line_lines.proofs.Facts.{both_same, less_test}
+use Rattle.addr2line_lines.proofs.Facts.{both_same}
 
 module _ {X : Type 0} where
   pub from_contains : (xs : List X) (z : X) (k : ℕ) → k < length xs → slice_index_or xs k z ≡ z → In z xs
@@ -49,4 +49,4 @@ module _ {X : Type 0} (begin end : X → ℕ) where
       let i = from_contains xs z c.0 c.1 c.2 in
       let only = All-passing (ItOrBeside z) (λ x. x ≡ z) (same_ends begin end z) (λ x t h. not_other z x (omega arith) t h) xs all in
       let is = last_same (filter (same_ends begin end z) xs) z (recursion_from_All (λ x. x ≡ z) (filter (same_ends begin end z) xs) only) (In-passes (same_ends begin end z) xs z i (both_same (begin z) (end z))) in
-      ap (option_and_then (if_past end probe)) (counting_is begin end probe xs z (λ k d h. past_or_before probe z _ l (all k d h)) low is) ∙ ap (λ b. cond b (Some z) None) (less_test probe (end z) l)
+      ap (option_and_then (if_past end probe)) (counting_is begin end probe xs z (λ k d h. past_or_before probe z _ l (all k d h)) low is) ∙ ap (λ b. cond b (Some z) None) (lt-ltb probe (end z) l)

@@ -2,7 +2,7 @@
 use Rattle.addr2line_lines.proofs.Common.{◌≡◌, ℕ, ◌<◌, ◌≤◌, ◌==◌, ◌&&◌, ◌||◌, Bool, true, false, is_ok, cond, List, [], ◌∷◌, ◌++◌, length, length-append, map, reverse, Option, Some, None, Result, Ok, Err, OnErr, OnOk, refl, ap, subst, sym, arith, ◌∙◌, append-nil, append_assoc, ℤ, pos, int_lt, ne_eqb, reverse-append, Error, OutOfMemory, UnexpectedEof, Abbrev, with_code, NamedValue, rest_of, Costed, free, Reading, ExactlyUnlessOomIf, Run, cons, fold_run, Section, entry_bytes_from, EntryUnit, attributes_at, depth_after_closing, Item, depth_after, items_inside, EntriesLeft, EntryCursor, entries_at, entries_from, entry_abbreviation_at, items_left, next_item_at, next_offset_of, UnitRecord, items_end, items_fault, items_more, Kind, FoundInlined, IsFoundMore, inlined_address, inlined_more, with_inlined_found, with_inlined_ranges, name_after, InlinedAttributes, inlined_entry, attribute_ranges, Range, Sections, InlinedFunctionAddress, Scope}
 use Rattle.gimli_read.specs.Costed.{◌>>=◌}
 use Rattle.gimli_read.specs.Reading as reading
-use Rattle.gimli.proofs.CursorLemmas.{abbreviation_is, item_from, item_is, item_here, opening_entry}
+use Rattle.gimli.proofs.CursorLemmas.{abbreviation_is, item_coded, item_from, item_is, item_here, opening_entry}
 use Rattle.gimli.proofs.EntryLemmas.{abbreviation_takes}
 use Rattle.gimli.proofs.ItemLemmas.{next_is}
 use Rattle.addr2line_lines.specs.FoundItems.{FoundAround, entry_found_at, inside_found, item_found_at, with_entry_found, with_item_found}
@@ -38,15 +38,12 @@ module _ (scope : Scope) (u : UnitRecord) (unit : EntryUnit) where
   abbrev pub item_read : FoundAround → Result (Option Item × EntryCursor) Error → Costed (FoundAround × EntryCursor)
   item_read state r = free r >>= λ x. elim x.0 [ None ↦ free (Err UnexpectedEof) | Some item ↦ map_at_cost (λ more. (more, x.1)) (with_item_found scope u state item) ]
 
-  pub coded : (c : EntryCursor) → (length c.left.bytes == 0) ≡ false → next_item_at unit c ≡ reading.◌>>=◌ (entry_abbreviation_at unit.abbreviations c) (λ x. item_from unit c x)
-  coded c h = item_is unit c ∙ ap (λ b. cond b (Ok (None, c)) (reading.◌>>=◌ (entry_abbreviation_at unit.abbreviations c) (λ x. item_from unit c x))) h
-
   ended : (c : EntryCursor) → (length c.left.bytes == 0) ≡ true → next_item_at unit c ≡ Ok (None, c)
   ended c h = item_is unit c ∙ ap (λ b. cond b (Ok (None, c)) (reading.◌>>=◌ (entry_abbreviation_at unit.abbreviations c) (λ x. item_from unit c x))) h
 
   at_code : (c : EntryCursor) (state : FoundAround) (r : Result (Option Abbrev × EntryCursor) Error) → (length c.left.bytes == 0) ≡ false → entry_abbreviation_at unit.abbreviations c ≡ r
       → item_found_at scope u unit c state ≡ item_read state (reading.◌>>=◌ r (λ x. item_from unit c x))
-  at_code c state r h k = ap (item_read state) (coded c h ∙ ap (λ s. reading.◌>>=◌ s (λ x. item_from unit c x)) k)
+  at_code c state r h k = ap (item_read state) (item_coded unit c h ∙ ap (λ s. reading.◌>>=◌ s (λ x. item_from unit c x)) k)
 
   pub code-fault : (c : EntryCursor) (state : FoundAround) (e : Error) → entry_abbreviation_at unit.abbreviations c ≡ Err e → (item_found_at scope u unit c state).given ≡ Err e
   code-fault c state e h = by_bytes (length c.left.bytes == 0) refl

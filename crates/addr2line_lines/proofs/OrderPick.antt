@@ -1,10 +1,10 @@
 -- What counts among ranges in order (on specs/Pick.antt and specs/InOrder.antt).
-use Rattle.addr2line_lines.proofs.Common.{ℕ, ◌≡◌, ◌<◌, ◌≤◌, ◌⊎◌, Bool, false, cond, not, ◌&&◌, ◌==◌, nat_cmp, nat_le, List, [], ◌∷◌, Some, None, arith, inl, inr, ◌∙◌, ap, sym, refl, is_lt, ordering_then, AllByRecursion, ties, cases_lt, nat_tests, All-from_recursion, filter_agree, in_order, begins_sooner, IsInOrder, OrderIsFree, last, at_or_below, candidate, if_past, In-filter, In-last, last-cond}
+use Rattle.addr2line_lines.proofs.Common.{ℕ, ◌≡◌, ◌<◌, ◌≤◌, ◌⊎◌, Bool, false, cond, not, ◌&&◌, ◌==◌, nat_cmp, nat_le, List, [], ◌∷◌, Some, None, arith, inl, inr, ◌∙◌, ap, sym, refl, is_lt, ordering_then, AllByRecursion, ties, cases_lt, nat_tests, All-from_recursion, filter_agree, in_order, begins_sooner, IsInOrder, OrderIsFree, last, at_or_below, candidate, if_past, In-filter, In-last, last-cond, le-leb}
 use Rattle.std.specs.List.{filter}
 use Rattle.std.specs.Option.{option_and_then}
 use Rattle.addr2line_lines.proofs.PickLemmas.{IsBefore, same_ends, beginning_none, counting_is, counting_none}
 use Rattle.addr2line_lines.proofs.OrderLemmas.{in_order_all_back, in_order_ordered, in_order_ties, begins_order, All-in}
-use Rattle.addr2line_lines.proofs.Facts.{at_most_test, both_same}
+use Rattle.addr2line_lines.proofs.Facts.{both_same}
 
 module _ {X : Type 0} (begin end : X → ℕ) where
   abbrev sooner : X → X → Bool
@@ -57,7 +57,7 @@ module _ {X : Type 0} (begin end : X → ℕ) where
     before = (inr (inr (refl, omega arith)), past_or_before probe y ys past);
     low = le;
     is = ap (λ b. last (cond b (y ∷ filter (same_ends begin end y) ys) (filter (same_ends begin end y) ys))) (both_same (begin y) (end y)) ∙ ap (λ zs. last (y ∷ zs)) (none_same probe y ys le past);
-    at = ap (λ b. last (cond b (y ∷ at_or_below begin probe ys) (at_or_below begin probe ys))) (at_most_test (begin y) probe le) ∙ ap (λ zs. last (y ∷ zs)) (none_by probe ys past);
+    at = ap (λ b. last (cond b (y ∷ at_or_below begin probe ys) (at_or_below begin probe ys))) (le-leb (begin y) probe le) ∙ ap (λ zs. last (y ∷ zs)) (none_by probe ys past);
   }
 
   -- what counts among the later ranges counts

@@ -1,5 +1,5 @@
 -- The unit of an offset among units in order (on specs/References.antt).
-use Rattle.addr2line_lines.proofs.Common.{ℕ, zero, suc, ◌≡◌, ◌+◌, ◌-◌, ◌<◌, ◌≤◌, ◌||◌, Bool, true, false, cond, nat_le, nat_lt, leb, List, [], ◌∷◌, length, slice_index_or, option_map, Option, Some, None, Result, Ok, Err, arith, refl, ap, subst, sym, ◌∙◌, All, IsNonDecreasingBy, IsPartitionPoint, nat_tests, Error, NoEntryAtGivenOffset, AttributeValue, UnitOffset, as_value, Section, unit_length, UnitRecord, BeginsAbove, BeginsBy, AreInOrder, EntryPlace, FileRecord, IsBefore, IsFileInOrder, IsScope, Scope, entry_in, entry_in_sup, referred, sup_scope, unit_at}
+use Rattle.addr2line_lines.proofs.Common.{ℕ, zero, suc, ◌≡◌, ◌+◌, ◌-◌, ◌<◌, ◌≤◌, Bool, true, false, cond, nat_le, nat_lt, leb, List, [], ◌∷◌, length, slice_index_or, option_map, Option, Some, None, Result, Ok, Err, arith, refl, ap, subst, sym, ◌∙◌, All, IsNonDecreasingBy, IsPartitionPoint, nat_tests, Error, NoEntryAtGivenOffset, AttributeValue, UnitOffset, as_value, Section, unit_length, UnitRecord, BeginsAbove, BeginsBy, AreInOrder, EntryPlace, FileRecord, IsBefore, IsFileInOrder, IsScope, Scope, entry_in, entry_in_sup, referred, sup_scope, unit_at, or_right}
 use Rattle.gimli_read.specs.declared.value.AttributeValue.TheVariants as values
 use Rattle.gimli_read.specs.declared.value.DebugInfoOffset.{DebugInfoOffset}
 use Rattle.gimli.specs.Header.{UnitHeaderFields}
@@ -35,17 +35,13 @@ outside_above offset h e =
 
 -- nor does one that ends at or below it
 pub outside_past : (offset : ℕ) (h : UnitHeaderFields) → h.offset.0 + unit_length h ≤ offset → unit_offset_of offset h ≡ None
-outside_past offset h le = ap (λ b. cond b None (valid_in h (offset - h.offset.0))) below ∙ ap (λ b. cond b None (Some (offset - h.offset.0))) (or_past (nat_lt (offset - h.offset.0) h.header_length) _ past)
+outside_past offset h le = ap (λ b. cond b None (valid_in h (offset - h.offset.0))) below ∙ ap (λ b. cond b None (Some (offset - h.offset.0))) (or_right (nat_lt (offset - h.offset.0) h.header_length) _ past)
   where
     below : nat_lt offset h.offset.0 ≡ false
     below = grind (arith, nat_tests)
 
     past : nat_le (unit_length h) (offset - h.offset.0) ≡ true
     past = let l : unit_length h ≤ offset - h.offset.0 = omega arith in grind (arith, nat_tests)
-
-    or_past : (a b : Bool) → b ≡ true → (a || b) ≡ true
-    or_past true b e = refl
-    or_past false b e = e
 
 -- where no unit holds an offset
 pub none_at : (offset : ℕ) (units : List UnitRecord) → All (λ u. unit_offset_of offset u.header ≡ None) units → unit_at offset units ≡ None

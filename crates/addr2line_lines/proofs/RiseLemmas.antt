@@ -1,5 +1,5 @@
 -- Sequences rise (on specs/Rises.antt).
-use Rattle.addr2line_lines.proofs.Common.{ℕ, ◌≡◌, ◌<◌, ◌≤◌, ◌||◌, ◌&&◌, ◌==◌, not, Bool, true, false, cond, List, [], ◌∷◌, map, arith, ap, sym, subst, refl, nat_lt, Some, None, Result, Ok, Err, IfOk, nat_tests, AllByRecursion, list_any, filter_map, cons_option, LineRow, Row, result_map, RowGroup, Sequence, put_first, row_groups, latest, stored_row, sequence_of, sequence_in, sequences_of, NeverFalls}
+use Rattle.addr2line_lines.proofs.Common.{ℕ, ◌≡◌, ◌<◌, ◌≤◌, ◌&&◌, ◌==◌, not, Bool, true, false, cond, List, [], ◌∷◌, map, arith, ap, sym, subst, refl, nat_lt, Some, None, Result, Ok, Err, IfOk, nat_tests, AllByRecursion, list_any, filter_map, cons_option, LineRow, Row, result_map, RowGroup, Sequence, put_first, row_groups, latest, stored_row, sequence_of, sequence_in, sequences_of, NeverFalls, or_parts}
 use Rattle.gimli_line.proofs.Rising.{NextFrom}
 use Rattle.addr2line_lines.specs.Rises.{Climbs, IsRising, SequencesRise}
 
@@ -64,14 +64,10 @@ past_latest m (r ∷ rows) h = by_cases (past_latest m rows h.1) (list_any (λ (
 
 none_same : (m : ℕ) (rows : List LineRow) → From m rows → list_any (λ (s : LineRow). s.address == m) rows ≡ false → Past m rows
 none_same m [] h e = tt
-none_same m (r ∷ rows) h e = (over h.0 (halves _ _ e).0, none_same m rows h.1 (halves _ _ e).1)
+none_same m (r ∷ rows) h e = (over h.0 (or_parts _ _ e).0, none_same m rows h.1 (or_parts _ _ e).1)
   where
     over : {x y : ℕ} → x ≤ y → (y == x) ≡ false → x < y
     over {x} {y} l d = grind (arith, nat_tests)
-
-    halves : (a b : Bool) → (a || b) ≡ false → (a ≡ false) × (b ≡ false)
-    halves true b k = cc
-    halves false b k = (refl, k)
 
 past_kept : (m : ℕ) (rows : List LineRow) → Past m rows → AllByRecursion (λ (s : Row). m < s.address) (map stored_row rows)
 past_kept m [] h = tt

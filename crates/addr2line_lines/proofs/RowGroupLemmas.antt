@@ -1,6 +1,8 @@
 -- What the rows since the last end row make of the sequences (on specs/Sequences.antt).
-use Rattle.addr2line_lines.proofs.Common.{ℕ, ◌≡◌, ◌<◌, ◌≤◌, ◌||◌, ◌==◌, Bool, true, false, cond, List, [], ◌∷◌, ◌++◌, arith, ◌∙◌, ap, sym, refl, append_assoc, AllByRecursion, list_any, filter_map, cons_option, LineRow, RowGroup, put_first, row_groups, latest, sequence_of, sequence_in, sequences_of, NeverFalls, append-nil}
+use Rattle.addr2line_lines.proofs.Common.{ℕ, ◌≡◌, ◌<◌, ◌||◌, ◌==◌, Bool, true, false, cond, List, [], ◌∷◌, ◌++◌, arith, ◌∙◌, ap, sym, refl, append_assoc, AllByRecursion, list_any, filter_map, cons_option, LineRow, RowGroup, put_first, row_groups, latest, sequence_of, sequence_in, sequences_of, NeverFalls, append-nil}
 use Rattle.std.proofs.lemmas.Bool.{eq-eqb}
+use Rattle.std.proofs.Math.Bool.{or_self_left}
+use Rattle.std.proofs.Math.Numerals.{lt_of_le_of_ne}
 use Rattle.addr2line_lines.proofs.Facts.{not_above}
 
 -- no two neighbours have one address
@@ -42,11 +44,7 @@ abbrev at : ℕ → LineRow → Bool
 at m s = s.address == m
 
 same_tests : (m : ℕ) (a r : LineRow) (q : List LineRow) → a.address ≡ r.address → list_any (at m) (a ∷ r ∷ q) ≡ list_any (at m) (r ∷ q)
-same_tests m a r q e = ap (λ k. (k == m) || ((r.address == m) || list_any (at m) q)) e ∙ twice (r.address == m) (list_any (at m) q)
-  where
-    twice : (x y : Bool) → (x || (x || y)) ≡ (x || y)
-    twice true y = refl
-    twice false y = refl
+same_tests m a r q e = ap (λ k. (k == m) || ((r.address == m) || list_any (at m) q)) e ∙ or_self_left (r.address == m) (list_any (at m) q)
 
 any_without : (m : ℕ) (p q : List LineRow) (a r : LineRow) → a.address ≡ r.address → list_any (at m) (p ++ a ∷ r ∷ q) ≡ list_any (at m) (p ++ r ∷ q)
 any_without m [] q a r e = same_tests m a r q e
@@ -116,10 +114,7 @@ weaker m n (r ∷ p) l h = (let k = h.0 in omega arith, weaker m n p l h.1)
 
 above : (r : LineRow) (p : List LineRow) → Open (r ∷ p) → Apart (r ∷ p) → NeverFalls (r ∷ p) → Above r.address p
 above r [] o a n = tt
-above r (s ∷ p) o a n = let l : r.address < s.address = less (n.0 o.0) a.0 in (l, weaker r.address s.address p l (above s p o.1 a.1 n.1))
-  where
-    less : {x y : ℕ} → x ≤ y → (x ≡ y → ⊥) → x < y
-    less {x} {y} k d = grind arith
+above r (s ∷ p) o a n = let l : r.address < s.address = lt_of_le_of_ne (n.0 o.0) a.0 in (l, weaker r.address s.address p l (above s p o.1 a.1 n.1))
 
 none_at : (m : ℕ) (p : List LineRow) → Above m p → list_any (at m) p ≡ false
 none_at m [] h = refl

@@ -1,5 +1,6 @@
 -- What the search found is what the definition gives (on specs/Packed.antt and specs/Spans.antt).
-use Rattle.addr2line_lines.proofs.Common.{ℕ, ◌≡◌, ◌+◌, ◌-◌, ◌<◌, ◌≤◌, Bool, true, false, cond, List, [], ◌∷◌, Option, Some, None, map, filter, length, take, drop, get_or, nat_le, arith, inl, inr, ◌∙◌, ap, sym, subst, refl, zero, suc, AllWithin, cases_lt, nat_tests, last, Row, LineSequence, at_or_below, if_past, start_of, end_of, ArePastFrom, IsAmong, IsTable, row_address_at, packed_end, packed_sooner, packed_start, unpacked, IsInOrder, In-filter, In-last, last-cond}
+use Rattle.addr2line_lines.proofs.Common.{ℕ, ◌≡◌, ◌+◌, ◌-◌, ◌<◌, ◌≤◌, Bool, true, false, cond, List, [], ◌∷◌, Option, Some, None, map, filter, length, take, drop, get_or, nat_le, arith, inl, inr, ◌∙◌, ap, sym, subst, refl, zero, suc, AllWithin, cases_lt, last, Row, LineSequence, at_or_below, if_past, start_of, end_of, ArePastFrom, IsAmong, IsTable, row_address_at, packed_end, packed_sooner, packed_start, unpacked, IsInOrder, In-filter, In-last, last-cond, le-leb, le-ltb, get_or_default}
+use Rattle.std.proofs.lemmas.Bool.{leb-true, lt-leb}
 use Rattle.std.specs.List.{slice_get}
 use Rattle.std.specs.Option.{option_map, option_and_then}
 use Rattle.addr2line_lines.specs.Spans.{row_address, row_at, row_in}
@@ -8,7 +9,7 @@ use Rattle.addr2line_lines.proofs.OrderLemmas.{All-in}
 use Rattle.addr2line_lines.proofs.OrderPick.{candidate_ordered}
 use Rattle.addr2line_lines.proofs.SpanLemmas.{row_within}
 use Rattle.addr2line_lines.proofs.PackedLemmas.{SequenceRows, sequence_rows_of, ordered-map, last_below-map}
-use Rattle.addr2line_lines.proofs.Facts.{at_most_test, not_at_most, not_less, read_at}
+use Rattle.addr2line_lines.proofs.Facts.{read_at}
 
 module _ {X : Type 0} (p : X → Bool) where
   filter_none : (xs : List X) → AllWithin (λ x. p x ≡ false) xs 0 (length xs) → filter p xs ≡ []
@@ -32,10 +33,10 @@ abbrev pub SequencesPast : ℕ → List LineSequence → ℕ → Type 0
 SequencesPast probe ss n = AllWithin (λ (s : LineSequence). probe < s.start) ss n (length ss)
 
 pub sequence_none : (probe : ℕ) (ss : List LineSequence) → SequencesPast probe ss 0 → last (at_or_below packed_start probe ss) ≡ None
-sequence_none probe ss h = last_none (λ s. nat_le (packed_start s) probe) ss (λ k d low high. not_at_most _ probe (h k d low high))
+sequence_none probe ss h = last_none (λ s. nat_le (packed_start s) probe) ss (λ k d low high. lt-leb _ probe (h k d low high))
 
 pub sequence_found : (probe : ℕ) (ss : List LineSequence) (i : ℕ) (s : LineSequence) → i < length ss → get_or ss i s ≡ s → s.start ≤ probe → SequencesPast probe ss (i + 1) → last (at_or_below packed_start probe ss) ≡ Some s
-sequence_found probe ss i s l e low h = last_is_at (λ t. nat_le (packed_start t) probe) ss i s l e (at_most_test s.start probe low) (λ k d from high. not_at_most _ probe (h k d from high))
+sequence_found probe ss i s l e low h = last_is_at (λ t. nat_le (packed_start t) probe) ss i s l e (le-leb s.start probe low) (λ k d from high. lt-leb _ probe (h k d from high))
 
 -- the row at a place is the last of the sequence at or below the probe
 pub row_found : (rows : List Row) (probe : ℕ) (s : LineSequence) (place : ℕ) (row : Row) → IsAmong rows s → s.first ≤ place → place < s.first + s.len → get_or rows place row ≡ row → row.address ≤ probe
@@ -47,21 +48,16 @@ row_found rows probe s place row among from inside is low after =
     let same : s.first + (place - s.first) ≡ place = omega arith in
     let len = z.len_is in
     let here : get_or rs (place - s.first) row ≡ row = z.at (place - s.first) row (omega arith) ∙ ap (λ n. get_or rows n row) same ∙ is in
-    last_is_at (λ r. nat_le (row_address r) probe) rs (place - s.first) row (omega arith) here (at_most_test row.address probe low)
-    (λ k d low' high. not_at_most _ probe (later z k d (omega arith) (omega arith)))
+    last_is_at (λ r. nat_le (row_address r) probe) rs (place - s.first) row (omega arith) here (le-leb row.address probe low)
+    (λ k d low' high. lt-leb _ probe (later z k d (omega arith) (omega arith)))
   where
     later : SequenceRows rows s → (k : ℕ) (d : Row) → place < s.first + k → k < s.len → probe < (get_or (take s.len (drop s.first rows)) k d).address
     later z k d l h =
         let none : Row = record { address = 0; file_index = 0; line = 0; column = 0 } in
         let len = z.len_is in
         let e : (get_or (take s.len (drop s.first rows)) k d).address ≡ row_address_at rows (s.first + k) =
-        ap (λ (r : Row). r.address) (get_or_any (take s.len (drop s.first rows)) k d none (omega arith) ∙ z.at k none h) in
+        ap (λ (r : Row). r.address) (get_or_default (take s.len (drop s.first rows)) k d none (omega arith) ∙ z.at k none h) in
         let p = after (s.first + k) (omega arith) (omega arith) in omega arith
-      where
-        get_or_any : (xs : List Row) (i : ℕ) (d e : Row) → i < length xs → get_or xs i d ≡ get_or xs i e
-        get_or_any [] i d e l = absurd (omega arith)
-        get_or_any (x ∷ xs) zero d e l = refl
-        get_or_any (x ∷ xs) (suc i) d e l = get_or_any xs i d e (omega arith)
 
 module _ (rows : List Row) (ss : List LineSequence) (t : IsTable ss rows) (probe : ℕ) where
   -- the row of the sequence that was found
@@ -74,16 +70,13 @@ module _ (rows : List Row) (ss : List LineSequence) (t : IsTable ss rows) (probe
   found_among s e = All-in (IsAmong rows) ss s t.each (In-filter (λ x. nat_le (packed_start x) probe) ss s (In-last (at_or_below packed_start probe ss) s (sym e))).0
 
   pub found_low : (s : LineSequence) → Some s ≡ last (at_or_below packed_start probe ss) → s.start ≤ probe
-  found_low s e = low (In-filter (λ x. nat_le (packed_start x) probe) ss s (In-last (at_or_below packed_start probe ss) s (sym e))).1
-    where
-      low : {a : ℕ} → nat_le a probe ≡ true → a ≤ probe
-      low {a} h = grind (arith, nat_tests)
+  found_low s e = leb-true s.start probe (In-filter (λ x. nat_le (packed_start x) probe) ss s (In-last (at_or_below packed_start probe ss) s (sym e))).1
 
   pub no_sequence : None ≡ last (at_or_below packed_start probe ss) → row_at probe (map (unpacked rows) ss) ≡ None
   no_sequence e = row_at_found None e
 
   pub past_end : (s : LineSequence) → Some s ≡ last (at_or_below packed_start probe ss) → s.end ≤ probe → row_at probe (map (unpacked rows) ss) ≡ None
-  past_end s e l = row_at_found (Some s) e ∙ ap (λ b. option_and_then (row_in probe) (cond b (Some (unpacked rows s)) None)) (not_less probe s.end l)
+  past_end s e l = row_at_found (Some s) e ∙ ap (λ b. option_and_then (row_in probe) (cond b (Some (unpacked rows s)) None)) (le-ltb probe s.end l)
 
   pub row_is : (s : LineSequence) (row : Row) → Some s ≡ last (at_or_below packed_start probe ss) → probe < s.end → Some row ≡ last (at_or_below row_address probe (unpacked rows s).rows) → row_at probe (map (unpacked rows) ss) ≡ Some row
   row_is s row e l f = row_at_found (Some s) e ∙ row_within probe (unpacked rows s) (found_among s e).rising l ∙ sym f

@@ -1,5 +1,6 @@
 -- Segments of ranges, one by one (on specs/Segments.antt and specs/Sweep.antt).
 use Rattle.addr2line_lines.proofs.Common.{ℕ, ◌≡◌, ◌-◌, ◌<◌, ◌≤◌, ◌⊎◌, ◌&&◌, Bool, true, false, nat_le, nat_lt, nat_cmp, List, [], ◌∷◌, ◌++◌, length, slice_index_or, arith, inl, inr, ◌∙◌, ap, sym, subst, refl, zero, suc, All, Contains, is_lt, ordering_then, nat_tests, common_steps, get_or_default, Contains-get_or, All-contains, All-cons, All-from_recursion, All-push, All-tail, All-weaker, FunctionAddress, RunningRange, address_begin, address_end, address_function, address_holds, running_end, as_running, AreApart, AreDisjoint, AreSegments, AreSegmentsBelow, IsSegment}
+use Rattle.std.proofs.lemmas.Bool.{ltb-false, ltb-true}
 use Rattle.std.specs.BinaryHeap.{IsHeap, IsUpperBound}
 use Rattle.addr2line_lines.specs.Shortest.{IsNoLonger}
 use Rattle.addr2line_lines.specs.Sweep.{running_cmp, IsBegunFrom, IsSwept}
@@ -97,23 +98,17 @@ module _ (addresses : List FunctionAddress) (next at : ℕ) (segments : List Fun
       by_cases : (p : ℕ) → (at ≤ p) × (p < until) → (j : ℕ) (d : FunctionAddress) → j < length addresses → address_holds p (slice_index_or addresses j d) ≡ true → (b : Bool) → nat_lt j next ≡ b
           → IsNoLonger address_begin address_end address_function (h.only 0 o (omega arith)).address (slice_index_or addresses j d)
       by_cases p between j d k held true e =
-          let some = h.still j d (below j next e) k p between.0 held in
+          let some = h.still j d (ltb-true j next e) k p between.0 held in
           let a = (h.only 0 o (omega arith)).address in
           let x = some.other in
           let y = slice_index_or addresses j d in
           let top_is = All-contains (λ y. is_lt (running_cmp o y) ≡ false) (o ∷ running) (as_running x) (All-from_recursion (λ y. is_lt (running_cmp o y) ≡ false) (o ∷ running) top) some.runs in
           no_longer_trans (a.range.end - a.range.begin) a.function (x.range.end - x.range.begin) x.function (y.range.end - y.range.begin) y.function (running_ones a o x (h.only 0 o (omega arith)).is top_is) some.no_longer
-        where
-          below : (x y : ℕ) → nat_lt x y ≡ true → x < y
-          below x y e = grind (arith, nat_tests)
       by_cases p between j d k held false e =
-          let late = begun j d (above j next e) k in
+          let late = begun j d (ltb-false j next e) k in
           let low = (from_inside (slice_index_or addresses j d).range.begin (slice_index_or addresses j d).range.end p held).0 in
           let high = between.1 in
           absurd (omega arith)
-        where
-          above : (x y : ℕ) → nat_lt x y ≡ false → y ≤ x
-          above x y e = grind (arith, nat_tests)
 
 -- disjoint ranges are segments of themselves
 pub disjoint_segments : (addresses : List FunctionAddress) → AreDisjoint addresses → AreSegments addresses addresses

@@ -1,12 +1,12 @@
 -- A walk that cuts ranges into segments (on specs/Sweep.antt).
-use Rattle.addr2line_lines.proofs.Common.{ℕ, ◌≡◌, ◌+◌, ◌*◌, ◌<◌, ◌≤◌, ◌⊎◌, Bool, true, false, cond, max, nat_le, nat_lt, List, [], ◌∷◌, ◌++◌, length, slice_index_or, ◌↔◌, Option, Some, None, arith, inl, inr, ◌∙◌, ap, sym, subst, refl, suc, All, Contains, IsNonDecreasingBy, IsPermutation, IsSome, nat_tests, get_or_default, All-cons, All-tail, All-weaker, Contains-get_or, All-permutation, Contains-permutation, length_permutation, FunctionAddress, RunningRange, address_begin, address_end, address_function, address_holds, first_end, running_end, as_running, segment_to, AreApart, AreSegments, AreSegmentsBelow, IsSegment}
+use Rattle.addr2line_lines.proofs.Common.{ℕ, ◌≡◌, ◌+◌, ◌*◌, ◌<◌, ◌≤◌, ◌⊎◌, Bool, true, false, cond, max, nat_le, nat_lt, List, [], ◌∷◌, ◌++◌, length, slice_index_or, ◌↔◌, Option, Some, None, arith, inl, inr, ◌∙◌, ap, sym, subst, refl, suc, All, Contains, IsNonDecreasingBy, IsPermutation, IsSome, nat_tests, get_or_default, All-cons, All-tail, All-weaker, Contains-get_or, All-permutation, Contains-permutation, length_permutation, FunctionAddress, RunningRange, address_begin, address_end, address_function, address_holds, first_end, running_end, as_running, segment_to, AreApart, AreSegments, AreSegmentsBelow, IsSegment, le-ltb, lt-ltb}
 use Rattle.std.specs.BinaryHeap.{IsHeap, PopsGreatest}
 use Rattle.std.specs.Option.{IfSome}
 use Rattle.std.proofs.lemmas.List.{append-nil, length-append}
 use Rattle.addr2line_lines.specs.Sweep.{running_cmp, is_outdone, IsBegunFrom, IsGreatestFirst, IsRunningRange, IsSwept, SomeIsNoLonger}
 use Rattle.addr2line_lines.specs.Shortest.{IsNoLonger}
 use Rattle.addr2line_lines.proofs.SegmentLemmas.{has_first, has_later, first_or_later, cut_more, segment_of}
-use Rattle.addr2line_lines.proofs.Facts.{from_inside, less_test, not_less}
+use Rattle.addr2line_lines.proofs.Facts.{from_inside}
 
 -- the walk goes on to an address
 module _ (addresses : List FunctionAddress) (next at until : ℕ) (segments : List FunctionAddress) where
@@ -54,7 +54,7 @@ module _ (addresses : List FunctionAddress) (next at until : ℕ) (segments : Li
   on (o ∷ running) h begun fits top l =
       let s : FunctionAddress = record { range = record { begin = at; end = until }; function = o.0.1 } in
       let new = cut_more addresses segments at s h.cut refl (segment_of addresses next at segments o running until h begun l fits (top h.heap)) in
-      let is : segment_to until at (o ∷ running) ≡ s ∷ [] = ap (λ b. cond b (s ∷ []) []) (less_test at until l) in
+      let is : segment_to until at (o ∷ running) ≡ s ∷ [] = ap (λ b. cond b (s ∷ []) []) (lt-ltb at until l) in
       later_runs (o ∷ running) h (omega arith) (segments ++ segment_to until at (o ∷ running)) (subst (λ ss. AreSegmentsBelow addresses (segments ++ ss) until) (sym is) new)
 
   -- the walk goes on, or stands there already
@@ -64,7 +64,7 @@ module _ (addresses : List FunctionAddress) (next at until : ℕ) (segments : Li
     where
       stays : (running : List RunningRange) → until ≤ at → segments ++ segment_to until at running ≡ segments
       stays [] l = append-nil segments
-      stays (o ∷ running) l = ap (λ b. segments ++ cond b (record { range = record { begin = at; end = until }; function = o.0.1 } ∷ []) []) (not_less at until l) ∙ append-nil segments
+      stays (o ∷ running) l = ap (λ b. segments ++ cond b (record { range = record { begin = at; end = until }; function = o.0.1 } ∷ []) []) (le-ltb at until l) ∙ append-nil segments
 
       by_cases : (b : Bool) → nat_lt at until ≡ b → IsSwept addresses next (max at until) running (segments ++ segment_to until at running)
       by_cases true e =

@@ -6,9 +6,10 @@ pub use Rattle.std.proofs.lemmas.Bool.Decides.{Decides-eqb, eqb_tells, nat_tests
 pub use Rattle.std.proofs.lemmas.List.{drop_all, length-map, length-reverse, map-append, reverse-append, set-get_or, take_all}
 pub use Rattle.std.proofs.lemmas.List.Elements.{All-contains, filter_agree}
 pub use Rattle.std.proofs.lemmas.List.Sorted.{IsPartitionPoint-from_clause, IsPartitionedBy-leb, IsPartitionedBy-ltb, answers_always, ranks_by}
-pub use Rattle.std.proofs.lemmas.Option.{get_or_from_slice_get, slice_get-get_or, slice_get-map, slice_get_past, slice_get_read, slice_get_within}
+pub use Rattle.std.proofs.lemmas.Option.{get_or_from_slice_get, same_Some, slice_get-get_or, slice_get-map, slice_get_past, slice_get_read, slice_get_within}
 pub use Rattle.std.proofs.lemmas.Result.{err_from_is_err_and, on_ok_weaker}
 pub use Rattle.std.specs.Char.{IsScalar, digit_value, is_ascii, is_ascii_digit, is_control}
+pub use Rattle.std.specs.Cmp.{first_so, second_so}
 pub use Rattle.std.specs.List.{AllByRecursion, AllZip, Contains, list_all, position_or_len, prefix_len, starts_with}
 pub use Rattle.std.specs.List.Sorted.{IsNonDecreasingBy, IsPartitionPoint, IsSortedBy, IsSortedByKey, ties}
 pub use Rattle.std.specs.Option.{option_or}
@@ -91,4 +92,4 @@ pub use Rattle.addr2line_units.specs.declared.unit.LinesCache.{LinesCache}
 pub use Rattle.addr2line_units.specs.declared.unit.UnitView.{UnitView}
 pub use Rattle.addr2line_units.specs.declared.unit.ViewState.{ViewState}
 pub use Rattle.addr2line_units.proofs.CachedUnits.{HaveEntriesOf}
-pub use Rattle.addr2line_lines.proofs.Facts.{all_at, get_set_other, some_at}
+pub use Rattle.addr2line_lines.proofs.Facts.{all_at, get_set_other, get_set_same, some_at}

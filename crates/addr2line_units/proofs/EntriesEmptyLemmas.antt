@@ -1,6 +1,6 @@
 -- A unit of which it is known that it has nothing at any address is passed by a lookup, and nothing
 -- is left to read there (on specs/EntriesEmpty.antt).
-use Rattle.addr2line_units.proofs.Common.{◌≡◌, ◌∙◌, ℕ, ◌<◌, ◌&&◌, ◌||◌, true, false, not, is_none, is_ok, List, [], length, get_or, slice_get, Option, Some, None, IfSome, IfOk, Result, Ok, Err, refl, sym, ap, subst, arith, set, set-get_or, Error, ◌>>=◌, Sections, UnitRecord, functions_of, location_at, Scope, unit_lines, LazyFunctions, CachedUnit, FramesStop, LazyLines, ViewState, AreEntriesOf, first_answer_of, has_answered, has_entries, has_entries_by, AreFunctionsOf, AreLinesOf, indexed_unit, indexed_units, is_uncached, no_lines, parsed_units, answers_in, as_sections, unboxed, verdict_in, view_by, FindsNothing, LookupStop, after_fault, asks_lines_of, or_stop, has_parsed, AreUnits, as_units_state, FramesResult, frames_in, function_by, function_in, View, is_open, verdict, view_scope}
+use Rattle.addr2line_units.proofs.Common.{◌≡◌, ◌∙◌, ℕ, ◌<◌, ◌&&◌, ◌||◌, true, false, not, is_none, is_ok, List, [], length, get_or, slice_get, Option, Some, None, IfSome, IfOk, Result, Ok, Err, refl, sym, ap, subst, arith, set, set-get_or, Error, ◌>>=◌, Sections, UnitRecord, functions_of, location_at, Scope, unit_lines, LazyFunctions, CachedUnit, FramesStop, LazyLines, ViewState, AreEntriesOf, first_answer_of, has_answered, has_entries, has_entries_by, AreFunctionsOf, AreLinesOf, indexed_unit, indexed_units, is_uncached, no_lines, parsed_units, answers_in, as_sections, unboxed, verdict_in, view_by, FindsNothing, LookupStop, after_fault, asks_lines_of, or_stop, has_parsed, AreUnits, as_units_state, FramesResult, frames_in, function_by, function_in, View, is_open, verdict, view_scope, first_so, second_so}
 use Rattle.std.specs.Prelude.{Box}
 use Rattle.std.specs.declared.alloc.Global.{Global}
 use Rattle.addr2line_units.specs.declared.entries.LazyFunctions.TheVariants as functions
@@ -13,7 +13,7 @@ use Rattle.addr2line_units.proofs.EntriesKnownLemmas.{known_is}
 use Rattle.addr2line_units.proofs.FramesNumberedLemmas.{frames_are, known_then}
 use Rattle.addr2line_units.proofs.UnitsAtLemmas.{all_entries, as_many, its_entries, its_lines, unit_is}
 use Rattle.addr2line_units.proofs.EntriesFrameLemmas.{lines_frames}
-use Rattle.addr2line_units.proofs.Facts.{and_first, and_second, slice_get_none}
+use Rattle.addr2line_units.proofs.Facts.{slice_get_none}
 use Rattle.addr2line_units.proofs.CachedUnits.{has_frames_at}
 
 -- what is absent
@@ -55,13 +55,13 @@ known_by_view {R} probe (states.Answered a) e = by_unit a.unit e
 
 module _ {R : Type 0} (scope : Scope) (u : UnitRecord) (c : CachedUnit R) (none : has_nothing c ≡ true) (probe : ℕ) where
   no_functions : c.entries.functions ≡ functions.Absent
-  no_functions = functions_absent c.entries.functions (and_first _ _ none)
+  no_functions = functions_absent c.entries.functions (first_so _ _ none)
 
   no_lines_there : c.lines.lines ≡ lines.Absent
-  no_lines_there = lines_absent c.lines.lines (and_first _ _ (and_second _ _ none))
+  no_lines_there = lines_absent c.lines.lines (first_so _ _ (second_so _ _ none))
 
   viewed : has_view c.entries.view.state ≡ true
-  viewed = and_second _ _ (and_second _ _ none)
+  viewed = second_so _ _ (second_so _ _ none)
 
   entries_known : has_entries probe c.entries ≡ true
   entries_known = ap (has_entries_by probe c.entries.view.state) no_functions ∙ known_by_view probe c.entries.view.state viewed
@@ -74,7 +74,7 @@ module _ {R : Type 0} (scope : Scope) (u : UnitRecord) (c : CachedUnit R) (none 
     here = verdict scope.file.sections u (first_answer_of c.entries)
 
     found : (v : View) × (here ≡ Some (Ok v))
-    found = view_there scope.file.sections u here c.entries.view.state viewed own.view.right
+    found = view_there scope.file.sections u here c.entries.view.state viewed own.view.verdict
 
     closed : is_open scope.file.sections u (first_answer_of c.entries) ≡ false
     closed = ap is_none found.1

@@ -52,7 +52,7 @@ cached_right shares scope view r old new before cache = by (were_read old) refl
   where
     by : (b : Bool) → were_read old ≡ b → AreFunctionsOf scope view new
     by true e = subst (AreFunctionsOf scope view) (sym (cache.kept e).0) before
-    by false e = cache.right e
+    by false e = cache.functions e
 
 module _ {R : Type 0} (shares : Bool) (scope : Scope) (view : UnitRecord) (probe : ℕ) (old mid : LazyFunctions R) where
   -- memory was refused for the functions
@@ -65,8 +65,8 @@ module _ {R : Type 0} (shares : Bool) (scope : Scope) (view : UnitRecord) (probe
 
     pub uncached_after : AreFunctionsOf scope view old → KeepsFunction scope view probe (Err x) old mid
     uncached_after before = record {
-      right = cached_right shares scope view (Err x) old mid before cache;
-      there = tt;
+      functions = cached_right shares scope view (Err x) old mid before cache;
+      places = tt;
       stay = not_read_stay old mid were_unread;
       within = λ n ne. ap (λ f. cached_detail (cached_functions f) n) cache.refused.1;
       kept = λ _. cache.refused.1;
@@ -88,8 +88,8 @@ module _ {R : Type 0} (shares : Bool) (scope : Scope) (view : UnitRecord) (probe
 
       pub absent_after : KeepsFunction scope view probe (Ok None) old mid
       absent_after = record {
-        right = now_right;
-        there = tt;
+        functions = now_right;
+        places = tt;
         stay = cached_stay scope view old mid kept;
         within = λ n ne. cache_reads_none old mid kept cache.empty n;
         kept = λ has. same_known old mid kept probe has;
@@ -104,8 +104,8 @@ module _ {R : Type 0} (shares : Bool) (scope : Scope) (view : UnitRecord) (probe
 
       pub faulty_after : KeepsFunction scope view probe (Err x) old (lazy.Faulty x)
       faulty_after = record {
-        right = subst (AreFunctionsOf scope view) is now_right;
-        there = tt;
+        functions = subst (AreFunctionsOf scope view) is now_right;
+        places = tt;
         stay = stay_faulty old mid kept x is;
         within = λ n ne. none_before old mid kept x is n;
         kept = λ has. sym is ∙ same_known old mid kept probe has;
@@ -124,8 +124,8 @@ module _ {R : Type 0} (shares : Bool) (scope : Scope) (view : UnitRecord) (probe
 
       pub nowhere_after : None ≡ function_place_at probe t.value → KeepsFunction scope view probe (Ok None) old (lazy.Read t)
       nowhere_after none = record {
-        right = table;
-        there = tt;
+        functions = table;
+        places = tt;
         stay = stay_read old mid kept t t is (table_same t.value);
         within = λ n ne. details_before old mid kept t cache.empty is n;
         kept = λ has. sym is ∙ same_known old mid kept probe has;
@@ -159,8 +159,8 @@ module _ {R : Type 0} (shares : Bool) (scope : Scope) (view : UnitRecord) (probe
 
           pub detail_after : KeepsFunction scope view probe (Err x) old put
           detail_after = let at = some_at t.value.functions n within in record {
-            right = table_stays scope view n t.value new (Err x) table read;
-            there = tt;
+            functions = table_stays scope view n t.value new (Err x) table read;
+            places = tt;
             stay = stays (Err x) read;
             within = reads (Err x) read;
             kept = same (Err x) read;
@@ -177,8 +177,8 @@ module _ {R : Type 0} (shares : Bool) (scope : Scope) (view : UnitRecord) (probe
 
             pub chain_after : KeepsFunction scope view probe (Err x) old put
             chain_after = let at = some_at t.value.functions n within in record {
-              right = table_stays scope view n t.value new (Ok tt) table read;
-              there = tt;
+              functions = table_stays scope view n t.value new (Ok tt) table read;
+              places = tt;
               stay = stays (Ok tt) read;
               within = reads (Ok tt) read;
               kept = same (Ok tt) read;
@@ -193,8 +193,8 @@ module _ {R : Type 0} (shares : Bool) (scope : Scope) (view : UnitRecord) (probe
 
             pub place_after : AllByRecursion (λ m. m < length new.inlined) p.inlined.items → KeepsFunction scope view probe (Ok (Some p)) old put
             place_after inlined = let at = some_at t.value.functions n within in record {
-              right = table_stays scope view n t.value new (Ok tt) table read;
-              there = record { function = below; inlined = inlined };
+              functions = table_stays scope view n t.value new (Ok tt) table read;
+              places = record { function = below; inlined = inlined };
               stay = stays (Ok tt) read;
               within = reads (Ok tt) read;
               kept = same (Ok tt) read;

@@ -124,7 +124,7 @@ module _ {R : Type 0} (shares : Bool) (scope : Scope) (u : UnitRecord) (probe : 
   -- the view has a fault
   pub faulty_view : (x : Error) → verdict scope.file.sections u (first_answer_of old) ≡ Some (Err x) → AfterFunctionIn shares scope u probe (Err x) old old
   faulty_view x is = record {
-    there = tt;
+    places = tt;
     stay = record { answer = refl; view = λ _. refl; functions = functions_stay scope u old.functions };
     within = record { alone = λ n ne. refl; kept = λ _. refl };
     ready = λ ne. fault_entries scope u probe old h decided x is old.functions ∙ cached_unless_oom x ne;
@@ -140,7 +140,7 @@ module _ {R : Type 0} (shares : Bool) (scope : Scope) (u : UnitRecord) (probe : 
 
     pub function_after : KeepsFunction inner unit probe result old.functions new → AfterFunctionIn shares scope u probe result old (with_functions new)
     function_after a = record {
-      there = a.there;
+      places = a.places;
       stay = record { answer = refl; view = λ _. refl; functions = a.stay };
       within = record {
         alone = a.within;
@@ -167,7 +167,7 @@ module _ {R : Type 0} (shares : Bool) (scope : Scope) (u : UnitRecord) (probe : 
   -- it waits
   module _ (waiting : waits mid.entries.view.state ≡ true) where
     open_now : is_open scope.file.sections u answer ≡ true
-    open_now = ap (is_open scope.file.sections u) (sym check.stay.answer) ∙ waiting_stays_open scope.file.sections u mid.entries.view waiting check.right.view
+    open_now = ap (is_open scope.file.sections u) (sym check.stay.answer) ∙ waiting_stays_open scope.file.sections u mid.entries.view waiting check.entries.view
 
     pub waits_gives : frames_or scope u probe was ≡ Ok None
     waits_gives = open_frames scope u was.lines.lang given answer probe open_now
@@ -176,7 +176,7 @@ module _ {R : Type 0} (shares : Bool) (scope : Scope) (u : UnitRecord) (probe : 
     waits_after = record {
       unit = looked.unit;
       read = inl (ap (λ (l : LinesCache). l.lines) looked.lines);
-      there = tt;
+      frames = tt;
       lines = stay_same mid looked.lines;
       stay = check.stay;
       within = record {
@@ -193,7 +193,7 @@ module _ {R : Type 0} (shares : Bool) (scope : Scope) (u : UnitRecord) (probe : 
   -- it doesn't, and the function was looked for
   module _ (shut : waits mid.entries.view.state ≡ false) (new : CachedUnit R) where
     closed : is_open scope.file.sections u answer ≡ false
-    closed = ap (is_open scope.file.sections u) (sym check.stay.answer) ∙ not_open scope u probe mid.entries check.right (checked_decides mid.entries.view.state check.known shut)
+    closed = ap (is_open scope.file.sections u) (sym check.stay.answer) ∙ not_open scope u probe mid.entries check.entries (checked_decides mid.entries.view.state check.known shut)
 
     before : {r : Result (Option FoundFunction) Error} → function_in scope u (first_answer_of mid.entries) probe ≡ r → function_in scope u answer probe ≡ r
     before h = ap (λ a. function_in scope u a probe) (sym check.stay.answer) ∙ h
@@ -229,7 +229,7 @@ module _ {R : Type 0} (shares : Bool) (scope : Scope) (u : UnitRecord) (probe : 
           record {
             unit = found_in.unit;
             read = inl (ap (λ (l : LinesCache). l.lines) same_lines);
-            there = tt;
+            frames = tt;
             lines = stay_same new same_lines;
             stay = stay_now f;
             within = within_now f;
@@ -273,7 +273,7 @@ module _ {R : Type 0} (shares : Bool) (scope : Scope) (u : UnitRecord) (probe : 
         no_lines_after = record {
           unit = found_in.unit;
           read = r.read;
-          there = tt;
+          frames = tt;
           lines = r.stay;
           stay = stay_now f;
           within = within_now f;
@@ -301,7 +301,7 @@ module _ {R : Type 0} (shares : Bool) (scope : Scope) (u : UnitRecord) (probe : 
         here_after = record {
           unit = found_in.unit;
           read = told.read;
-          there = (f.there, here.0);
+          frames = (f.places, here.0);
           lines = told.stay;
           stay = stay_now f;
           within = within_now f;

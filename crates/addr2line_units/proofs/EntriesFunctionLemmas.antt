@@ -1,5 +1,6 @@
 -- The function at an address by what is cached of a view (on specs/EntriesFunctions.antt).
 use Rattle.addr2line_units.proofs.Common.{Box, Global, ◌≡◌, ◌≢◌, ℕ, ◌+◌, ◌==◌, ◌&&◌, ◌⊎◌, inl, inr, nat_lt, not, Bool, true, false, cond, List, [], ◌∷◌, length, map, slice_get, slice_set, Option, Some, None, option_and_then, option_map, unwrap_or, Result, Ok, Err, refl, ap, sym, subst, ◌∙◌, zero, suc, AllByRecursion, AllZip, position_or_len, DwLang, Error, OutOfMemory, ◌>>=◌, ExactlyUnlessOomIf, fault_of, Section, UnitRecord, Detail, detail_at, InlinedEntry, FunctionRange, entries_of, function_offset_at, functions_of, functions_take_memory, AreDetailsOf, AreUnread, IsDetailOf, IsFunctionMore, IsReadAt, IsReadOf, IsReadOnce, IsTableMore, IsWithDetail, details_fault, all_read_once, AreListed, CachedFunction, FunctionTable, cached_detail, cached_inlined, cached_name, function_place_at, inlined_of_detail, name_of_detail, cached_offset_at, Location, exceeds_inline_room, Scope, all_at, get_set_other, some_at, read_more, read_right, unread_right, LazyFunctions, FrameRecord, found_frames, found_function, frames_from, function_at, function_from, ArePlacesIn, IsTableOf, ReadsNoOther, StayFunctions, cached_detail_takes_memory, cached_takes_memory, details_at, find_takes_memory, function_of_place, functions_fault, cached_functions, place_takes_memory, reading_takes_memory, table_takes_memory, were_read, memory_or_not}
+use Rattle.std.proofs.lemmas.Bool.{and_from}
 use Rattle.std.specs.Prelude.{IfSome, position, reverse}
 use Rattle.addr2line_lines.specs.CachedNames.{KnownNames, no_names}
 use Rattle.addr2line_lines.specs.References.{in_scope}
@@ -84,7 +85,7 @@ module _ (scope : Scope) (view : UnitRecord) (probe n : ℕ) (old new : Function
   -- after a detail was read, or its fault, it is cached
   pub record IsCached (v : Result Detail Error) : Type 0 where
     pub is : detail_at scope view f.offset ≡ v
-    pub there : slice_get new.functions n ≡ Some (record { offset = f.offset; detail = Some v })
+    pub function : slice_get new.functions n ≡ Some (record { offset = f.offset; detail = Some v })
 
   unfaulty : (r : Result Detail Error) → fault_of r ≡ Ok tt → (d : Detail) × (r ≡ Ok d)
   unfaulty (Ok d) e = (d, refl)
@@ -100,8 +101,8 @@ module _ (scope : Scope) (view : UnitRecord) (probe n : ℕ) (old new : Function
       by_detail : (x : Option (Result Detail Error)) → f.detail ≡ x → IsReadOnce scope view n f x old (Ok tt) new → (d : Detail) × IsCached (Ok d)
       by_detail None e k =
           let d = unfaulty (detail_at scope view f.offset) k.0 in
-          (d.0, record { is = d.1; there = new_at (detail_at scope view f.offset) k.1 ∙ ap (λ (v : Result Detail Error). Some (record { offset = f.offset; detail = Some v })) d.1 })
-      by_detail (Some (Ok d)) e k = (d, record { is = right (Ok d) e; there = same_at (Ok d) e k.1 })
+          (d.0, record { is = d.1; function = new_at (detail_at scope view f.offset) k.1 ∙ ap (λ (v : Result Detail Error). Some (record { offset = f.offset; detail = Some v })) d.1 })
+      by_detail (Some (Ok d)) e k = (d, record { is = right (Ok d) e; function = same_at (Ok d) e k.1 })
       by_detail (Some (Err x)) e k = absurd cc
 
   pub read_err : (x : Error) → IsDetailOf scope view f → IsReadAt scope view n old (Err x) new → IsCached (Err x) ⊎ ((x ≡ OutOfMemory) × (f.detail ≡ None) × (new ≡ old))
@@ -111,14 +112,14 @@ module _ (scope : Scope) (view : UnitRecord) (probe n : ℕ) (old new : Function
       by_detail None e k = elim (memory_or_not x) [
         | inl m ↦ inr (m, e, k.1 m)
         | inr ne ↦ (let r = k.0 ne in let is = faulty (detail_at scope view f.offset) x r.0 in
-            inl (record { is = is; there = new_at (detail_at scope view f.offset) r.1 ∙ ap (λ (v : Result Detail Error). Some (record { offset = f.offset; detail = Some v })) is }))
+            inl (record { is = is; function = new_at (detail_at scope view f.offset) r.1 ∙ ap (λ (v : Result Detail Error). Some (record { offset = f.offset; detail = Some v })) is }))
       ]
       by_detail (Some (Ok d)) e k = absurd cc
-      by_detail (Some (Err y)) e k = let same : y ≡ x = cc in let at : f.detail ≡ Some (Err x) = e ∙ ap (λ (z : Error). Some (Err z)) same in inl (record { is = right (Err x) at; there = same_at (Err x) at k.1 })
+      by_detail (Some (Err y)) e k = let same : y ≡ x = cc in let at : f.detail ≡ Some (Err x) = e ∙ ap (λ (z : Error). Some (Err z)) same in inl (record { is = right (Err x) at; function = same_at (Err x) at k.1 })
 
   -- what is cached then, by the place
   pub cached_is : (v : Result Detail Error) → IsCached v → cached_detail new n ≡ Some v
-  cached_is v h = ap (λ (o : Option CachedFunction). option_and_then (λ (g : CachedFunction). g.detail) o) h.there
+  cached_is v h = ap (λ (o : Option CachedFunction). option_and_then (λ (g : CachedFunction). g.detail) o) h.function
 
   -- the function at the address, by its detail or the fault of that
   pub from_detail : IsTableOf scope view old → cached_offset_at old n ≡ function_offset_at probe old.ranges → (v : Result Detail Error) → detail_at scope view f.offset ≡ v
@@ -139,7 +140,7 @@ module _ (scope : Scope) (view : UnitRecord) (probe n : ℕ) (old new : Function
       let inlined : cached_inlined new n ≡ d.inlined = ap (λ (o : Option (Result Detail Error)). elim o [ None ↦ [] | Some x ↦ inlined_of_detail x ]) (cached_is (Ok d) k) in
       let entries : inlined_chain probe (cached_inlined new n) ≡ map (entry_among new.inlined) p.inlined.items = cc in
       let listed : inlined_chain probe d.inlined ≡ map (entry_among new.inlined) p.inlined.items = ap (inlined_chain probe) (sym inlined) ∙ entries in
-      let offset : unwrap_or (cached_offset_at new p.place) 0 ≡ f.offset = ap (λ (m : ℕ). unwrap_or (cached_offset_at new m) 0) same ∙ ap (λ (o : Option CachedFunction). unwrap_or (option_map (λ (g : CachedFunction). g.offset) o) 0) k.there in
+      let offset : unwrap_or (cached_offset_at new p.place) 0 ≡ f.offset = ap (λ (m : ℕ). unwrap_or (cached_offset_at new m) 0) same ∙ ap (λ (o : Option CachedFunction). unwrap_or (option_map (λ (g : CachedFunction). g.offset) o) 0) k.function in
       let name : cached_name new p.place ≡ d.name = ap (cached_name new) same ∙ ap (option_and_then name_of_detail) (cached_is (Ok d) k) in
       from_detail h at (Ok d) k.is
       ∙ ap (λ (es : List InlinedEntry). Ok (Some (record { offset = f.offset; name = d.name; inlined = es }))) listed
@@ -147,11 +148,6 @@ module _ (scope : Scope) (view : UnitRecord) (probe n : ℕ) (old new : Function
       ∙ ap (λ (m : Option Section). Ok (Some (record { offset = unwrap_or (cached_offset_at new p.place) 0; name = m; inlined = map (entry_among new.inlined) p.inlined.items }))) (sym name)
 
   -- memory may be taken before and after where it was refused for a detail
-  both : (a b : Bool) → a ≡ true → b ≡ true → (a && b) ≡ true
-  both true true e h = refl
-  both true false e h = cc
-  both false b e h = cc
-
   abbrev pub MemoryLacks : Error → Type 0
   MemoryLacks x = (table_takes_memory probe old && table_takes_memory probe new) ≡ true → x ≢ OutOfMemory
 
@@ -160,7 +156,7 @@ module _ (scope : Scope) (view : UnitRecord) (probe n : ℕ) (old new : Function
     | inl c ↦ fault_found h at x c
     | inr m ↦ (let before : table_takes_memory probe old ≡ true = ap (place_takes_memory probe old) place ∙ ap (cached_detail_takes_memory probe) (ap (λ (o : Option CachedFunction). option_and_then (λ (g : CachedFunction). g.detail) o) q ∙ m.1) in
         let after : table_takes_memory probe new ≡ true = ap (table_takes_memory probe) m.2 ∙ before in
-        absurd (lacks (both _ _ before after) m.0))
+        absurd (lacks (and_from _ _ before after) m.0))
   ]
 
   -- memory is taken for more than 16 inlined functions before and after, so that no other refusal stands
@@ -170,7 +166,7 @@ module _ (scope : Scope) (view : UnitRecord) (probe n : ℕ) (old new : Function
       let never : (exceeds_inline_room (inlined_chain probe (cached_inlined new n)) ≡ true → x ≢ OutOfMemory) → ⊥ = λ m. (let w = given m in absurd cc) in
       elim (memory_or_not x) [
         | inr ne ↦ never (λ _. ne)
-        | inl m ↦ never (λ many. λ _. lacks (both _ _ (before c.0 c.1 many) (after c.0 c.1 many)) m)
+        | inl m ↦ never (λ many. λ _. lacks (and_from _ _ (before c.0 c.1 many) (after c.0 c.1 many)) m)
       ]
     where
       after : (d : Detail) → IsCached (Ok d) → exceeds_inline_room (inlined_chain probe (cached_inlined new n)) ≡ true → table_takes_memory probe new ≡ true

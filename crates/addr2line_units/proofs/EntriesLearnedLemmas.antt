@@ -1,6 +1,6 @@
 -- Of which functions details become known where a unit is asked (on specs/EntriesKnown.antt and
 -- specs/EntriesKnownCached.antt).
-use Rattle.addr2line_units.proofs.Common.{Box, Global, ◌≡◌, ◌≢◌, ◌⊎◌, inl, inr, ◌∙◌, ap, sym, refl, subst, ℕ, ◌<◌, ◌==◌, nat_lt, cond, lt-ltb, eqb-true, Bool, true, false, List, get_or, length, position, Option, Some, None, option_and_then, option_map, slice_get, Result, Ok, Err, if◌then◌else◌, cases_eq, slice_get-map, slice_get_read, slice_get_within, set, position_or_len, Error, ◌>>=◌, Sections, UnitRecord, AreUnread, CachedFunction, FunctionTable, cached_detail, function_place_at, function_offset_at, Scope, some_at, LazyFunctions, CachedUnit, EntriesCache, ViewState, AreEntriesOf, StayEntries, first_answer_of, AreFunctionsOf, ReadsNoDetail, ReadsNoOther, StayFunctions, cached_functions, has_detail, is_cached_fault, no_functions, were_read, known_answer, known_by, known_fault, known_function, known_functions, known_in, known_table, is_decided, as_sections, unboxed, verdict_in, view_by, AllKnown, FunctionsKnown, HasNoFunctions, KnownEntries, KnownFunction, LearnsNoDetails, LearnsNoFunctions, NothingKnown, is_detail_known, knows_detail, knows_detail_at, function_offset_among, function_offset_by, function_offset_in, View, verdict, view_scope}
+use Rattle.addr2line_units.proofs.Common.{Box, Global, ◌≡◌, ◌≢◌, ◌⊎◌, inl, inr, ◌∙◌, ap, sym, refl, subst, ℕ, ◌<◌, ◌==◌, nat_lt, cond, lt-ltb, eqb-true, Bool, true, false, List, get_or, length, position, Option, Some, None, option_and_then, option_map, slice_get, Result, Ok, Err, if◌then◌else◌, cases_eq, slice_get-map, slice_get_read, slice_get_within, set, position_or_len, Error, ◌>>=◌, Sections, UnitRecord, AreUnread, CachedFunction, FunctionTable, cached_detail, function_place_at, function_offset_at, Scope, some_at, LazyFunctions, CachedUnit, EntriesCache, ViewState, AreEntriesOf, StayEntries, first_answer_of, AreFunctionsOf, ReadsNoDetail, ReadsNoOther, StayFunctions, cached_functions, has_detail, is_cached_fault, no_functions, were_read, known_answer, known_by, known_fault, known_function, known_functions, known_in, known_table, is_decided, as_sections, unboxed, verdict_in, view_by, AllKnown, FunctionsKnown, HasNoFunctions, KnownEntries, KnownFunction, LearnsNoDetails, LearnsNoFunctions, NothingKnown, is_detail_known, knows_detail, knows_detail_at, function_offset_among, function_offset_by, function_offset_in, View, verdict, view_scope, get_set_other, get_set_same}
 use Rattle.std.proofs.lemmas.List.Folds.{find_at}
 use Rattle.std.proofs.lemmas.List.Quantifiers.{position-Some}
 use Rattle.std.specs.Prelude.{IfOk, IfSome, is_some, unwrap_or}
@@ -10,7 +10,7 @@ use Rattle.addr2line_units.proofs.LoadsAnswerLemmas.{decided_was_checked}
 use Rattle.addr2line_units.proofs.EntriesFunctionLemmas.{first_same, unread_at}
 use Rattle.addr2line_units.proofs.EntriesKnownLemmas.{known_unchanged}
 use Rattle.addr2line_units.proofs.EntriesKnownTableLemmas.{detail_known, find_known}
-use Rattle.addr2line_units.proofs.Facts.{got_set, never, others_stay}
+use Rattle.addr2line_units.proofs.Facts.{never}
 use Rattle.addr2line_units.proofs.EntriesLemmas.{undecided_view}
 
 -- the place of the first function whose entry begins at an offset
@@ -150,7 +150,7 @@ module _ {R : Type 0} (scope : Scope) (u : UnitRecord) (probe offset : ℕ) (v w
       x = view_read offset scope.file.sections u w.view.state w.functions e
 
       view_is : verdict scope.file.sections u (first_answer_of v) ≡ Some (Ok x.0)
-      view_is = sym (ap (verdict scope.file.sections u) stay.answer) ∙ sym (subst (λ o. IfSome o (λ cached. cached ≡ verdict scope.file.sections u (first_answer_of w))) x.1 after.view.right)
+      view_is = sym (ap (verdict scope.file.sections u) stay.answer) ∙ sym (subst (λ o. IfSome o (λ cached. cached ≡ verdict scope.file.sections u (first_answer_of w))) x.1 after.view.verdict)
 
       was_known : knows_detail offset (known_functions v.functions) ≡ true → knows_detail offset (known_by v.view.state v.functions) ≡ true
       was_known h =
@@ -271,7 +271,7 @@ module _ {R : Type 0} (vs : List (CachedUnit R)) (n : ℕ) (v w : CachedUnit R) 
   pub detail_set : (k : ℕ) → k ≡ n → knows_detail_at (known_in (set vs n w)) offset k ≡ knows_detail offset (known_by w.entries.view.state w.entries.functions)
   detail_set k e =
       ap (λ j. unwrap_or (option_map (knows_detail offset) (slice_get (known_in (set vs n w)) j)) false) e
-      ∙ ap (λ o. unwrap_or (option_map (knows_detail offset) o) false) (slice_get-map (λ (x : CachedUnit R). known_by x.entries.view.state x.entries.functions) (set vs n w) n ∙ ap (option_map (λ (x : CachedUnit R). known_by x.entries.view.state x.entries.functions)) (got_set vs n w within))
+      ∙ ap (λ o. unwrap_or (option_map (knows_detail offset) o) false) (slice_get-map (λ (x : CachedUnit R). known_by x.entries.view.state x.entries.functions) (set vs n w) n ∙ ap (option_map (λ (x : CachedUnit R). known_by x.entries.view.state x.entries.functions)) (get_set_same vs n w within))
 
   pub detail_at : (k : ℕ) → k ≡ n → knows_detail_at (known_in vs) offset k ≡ knows_detail offset (known_by v.entries.view.state v.entries.functions)
   detail_at k e =
@@ -282,7 +282,7 @@ module _ {R : Type 0} (vs : List (CachedUnit R)) (n : ℕ) (v w : CachedUnit R) 
   pub set_details : (knows_detail offset (known_by w.entries.view.state w.entries.functions) ≡ true → knows_detail offset (known_by v.entries.view.state v.entries.functions) ≡ true) → (k : ℕ) → knows_detail_at (known_in (set vs n w)) offset k ≡ true → knows_detail_at (known_in vs) offset k ≡ true
   set_details none k e = elim (cases_eq k n) [
     | inl is ↦ detail_at k is ∙ none (sym (detail_set k is) ∙ e)
-    | inr ne ↦ detail_unchanged vs (set vs n w) offset k (others_stay vs n k w ne) e
+    | inr ne ↦ detail_unchanged vs (set vs n w) offset k (get_set_other vs n k w ne) e
   ]
 
 -- of the unit of a number alone no function becomes known
@@ -292,11 +292,11 @@ set_learns {R} vs n v w within at none k = elim (cases_eq k n) [
     | inl same ↦ inl (now is ∙ ap Some same ∙ sym (was is))
     | inr h ↦ inr (subst (λ o. IfSome o HasNoFunctions) (sym (now is)) h)
   ]
-  | inr ne ↦ inl (known_unchanged vs (set vs n w) k (others_stay vs n k w ne))
+  | inr ne ↦ inl (known_unchanged vs (set vs n w) k (get_set_other vs n k w ne))
 ]
   where
     now : k ≡ n → slice_get (known_in (set vs n w)) k ≡ Some (known_by w.entries.view.state w.entries.functions)
-    now e = ap (slice_get (known_in (set vs n w))) e ∙ slice_get-map (λ (x : CachedUnit R). known_by x.entries.view.state x.entries.functions) (set vs n w) n ∙ ap (option_map (λ (x : CachedUnit R). known_by x.entries.view.state x.entries.functions)) (got_set vs n w within)
+    now e = ap (slice_get (known_in (set vs n w))) e ∙ slice_get-map (λ (x : CachedUnit R). known_by x.entries.view.state x.entries.functions) (set vs n w) n ∙ ap (option_map (λ (x : CachedUnit R). known_by x.entries.view.state x.entries.functions)) (get_set_same vs n w within)
 
     was : k ≡ n → slice_get (known_in vs) k ≡ Some (known_by v.entries.view.state v.entries.functions)
     was e = ap (slice_get (known_in vs)) e ∙ slice_get-map (λ (x : CachedUnit R). known_by x.entries.view.state x.entries.functions) vs n ∙ ap (option_map (λ (x : CachedUnit R). known_by x.entries.view.state x.entries.functions)) (slice_get_read vs (length vs) n v refl within at)

@@ -46,7 +46,7 @@ same_entries {v = v} {g = g} e k = ap (λ y. record { view = v; functions = y })
 -- after the view was looked at
 pub checked_keeps : {R : Type 0} (scope : Scope) (u : UnitRecord) (old new : EntriesCache R) → AreEntriesOf scope u new → AfterCheck scope.file.sections u old new → KeepsChecked scope u old new
 checked_keeps scope u old new right a = record {
-  right = right;
+  entries = right;
   known = a.view.known;
   stay = record { answer = a.view.answer; view = a.view.kept; functions = subst (λ f. StayFunctions old.functions f) (sym a.functions) (functions_stay scope u old.functions) };
   functions = a.functions;
@@ -83,7 +83,7 @@ module _ {R : Type 0} (scope : Scope) (u : UnitRecord) (probe : ℕ) (old : Entr
   by_state (states.Answered a) d e = (_, sym e)
 
   view_or_fault : (r : Result View Error) × (here ≡ Some r)
-  view_or_fault = by_state old.view.state decided h.view.right
+  view_or_fault = by_state old.view.state decided h.view.verdict
 
   -- the unit has a view, with this unit, and references lead from it as this scope says
   pub record IsView (inner : Scope) (x : UnitRecord) : Type 0 where
@@ -118,7 +118,7 @@ module _ {R : Type 0} (scope : Scope) (u : UnitRecord) (probe : ℕ) (old : Entr
 
   -- what is known of the unit where its view has a fault
   pub fault_entries : (x : Error) → here ≡ Some (Err x) → (fs : LazyFunctions R) → has_entries_by probe old.view.state fs ≡ is_cached_fault x
-  fault_entries x e fs = by_cached old.view.state decided h.view.right
+  fault_entries x e fs = by_cached old.view.state decided h.view.verdict
     where
       by_cached : (s : ViewState R) → is_decided s ≡ true → IfSome (verdict_in scope.file.sections u s) (λ cached. cached ≡ here) → has_entries_by probe s fs ≡ is_cached_fault x
       by_cached states.Undecided d k = cc
@@ -171,12 +171,12 @@ module _ {R : Type 0} (scope : Scope) (u : UnitRecord) (probe : ℕ) (old : Entr
       view = h.view;
       functions = subst (λ w. IfSome w (λ r. IfOk r (λ x. AreFunctionsOf (view_scope scope x) x.unit new))) (sym v.is)
           (subst (λ s. AreFunctionsOf s v.view.unit new) v.leads (subst (λ y. AreFunctionsOf inner y new) (sym v.unit) right));
-      unread = λ none. (let no : true ≡ false = sym (has_a_view old.view.state decided h.view.right) ∙ none in absurd cc);
+      unread = λ none. (let no : true ≡ false = sym (has_a_view old.view.state decided h.view.verdict) ∙ none in absurd cc);
     }
 
     -- what is known of the unit is what is known of the function
     pub function_entries : (fs : LazyFunctions R) → has_entries_by probe old.view.state fs ≡ cached_has_function probe fs
-    function_entries fs = by_cached old.view.state decided h.view.right
+    function_entries fs = by_cached old.view.state decided h.view.verdict
       where
         by_cached : (s : ViewState R) → is_decided s ≡ true → IfSome (verdict_in scope.file.sections u s) (λ cached. cached ≡ here) → has_entries_by probe s fs ≡ cached_has_function probe fs
         by_cached states.Undecided d k = cc

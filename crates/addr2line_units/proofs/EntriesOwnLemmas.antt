@@ -27,7 +27,7 @@ pub fresh_are_of : {R : Type 0} (scope : Scope) (u : UnitRecord) (v : EntriesCac
 fresh_are_of {R} scope u v order fresh = record {
   in_order = order;
   view = record {
-    right = subst (λ (kept : Option (Option (Result View Error))). IfSome kept (λ k. k ≡ verdict scope.file.sections u (first_answer_of v))) (sym (no_verdict scope.file.sections u v.view.state fresh.view)) tt;
+    verdict = subst (λ (kept : Option (Option (Result View Error))). IfSome kept (λ k. k ≡ verdict scope.file.sections u (first_answer_of v))) (sym (no_verdict scope.file.sections u v.view.state fresh.view)) tt;
     waited = λ e. absurd (none_some (ap (λ (a : Option (Option Sections)). is_some a) (sym (no_answer v.view.state fresh.view)) ∙ e));
   };
   functions = of_verdict (verdict scope.file.sections u (first_answer_of v));

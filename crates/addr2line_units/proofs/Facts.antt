@@ -1,37 +1,16 @@
 -- Facts on booleans, numbers, options and lists that the proofs of this crate cite, and that std
 -- doesn't have.
-use Rattle.addr2line_units.proofs.Common.{◌≡◌, ◌≢◌, ◌∙◌, ◌+◌, ◌-◌, ◌<◌, ◌≤◌, ◌==◌, ◌&&◌, ◌||◌, ◌⊎◌, inl, inr, ℕ, zero, suc, arith, nat_lt, nat_tests, Bool, true, false, not, cond, if◌then◌else◌, List, [], ◌∷◌, ◌++◌, length, map, filter, reverse, take, drop, take_all, length-drop, slice_get, set, map-append, reverse-append, Option, Some, None, IfSome, is_some, option_and_then, option_map, Result, Ok, Err, OnOk, AllByRecursion, refl, sym, ap, eqb-true, eq-eqb, fault_of, result_map}
+use Rattle.addr2line_units.proofs.Common.{◌≡◌, ◌∙◌, ◌+◌, ◌-◌, ◌<◌, ◌≤◌, ◌&&◌, ◌||◌, ◌⊎◌, inl, inr, ℕ, zero, suc, arith, nat_lt, nat_tests, Bool, true, false, not, cond, if◌then◌else◌, List, [], ◌∷◌, ◌++◌, length, map, filter, reverse, take, drop, take_all, length-drop, slice_get, map-append, reverse-append, Option, Some, None, IfSome, is_some, option_and_then, option_map, Result, Ok, Err, AllByRecursion, refl, sym, ap, fault_of, result_map, same_Some}
 
 -- ---- of booleans
 
-pub two_tests : (q : Bool) → q ≡ true → q ≡ false → ⊥
-two_tests q a b = cc
-
 pub never : {A : Type 0} → false ≡ true → A
 never e = absurd cc
-
-pub and_first : (a b : Bool) → (a && b) ≡ true → a ≡ true
-and_first true b e = refl
-and_first false b e = cc
-
-pub and_second : (a b : Bool) → (a && b) ≡ true → b ≡ true
-and_second true b e = e
-and_second false b e = cc
 
 pub and_not : (a b : Bool) → (a && not b) ≡ true → b ≡ false
 and_not true true e = cc
 and_not true false e = refl
 and_not false b e = cc
-
-pub and_comm : (a b : Bool) → (a && b) ≡ (b && a)
-and_comm true true = refl
-and_comm true false = refl
-and_comm false true = refl
-and_comm false false = refl
-
-pub and_same : (a : Bool) → a ≡ (a && a)
-and_same true = refl
-and_same false = refl
 
 -- a test beside another
 pub and_weaker : (a b c : Bool) → (a ≡ true → b ≡ true) → (a && c) ≡ true → (b && c) ≡ true
@@ -42,30 +21,14 @@ pub or_cond : (a b : Bool) → (a || b) ≡ cond a true b
 or_cond true b = refl
 or_cond false b = refl
 
-pub or_true : (b : Bool) → (b || true) ≡ true
-or_true true = refl
-or_true false = refl
-
 pub or_none : (a b : Bool) → (a || not b) ≡ false → (a ≡ false) × (b ≡ true)
 or_none true b e = cc
 or_none false true e = (refl, refl)
 or_none false false e = cc
 
--- a test that holds, or another
-pub first_takes : (before after : Bool) → before ≡ true → (before || after) ≡ true
-first_takes before after e = ap (λ b. b || after) e
-
 pub both_or : (a b : Bool) → not (a || b) ≡ (not a && not b)
 both_or true b = refl
 both_or false b = refl
-
-pub not_is : (q : Bool) → not q ≡ true → q ≡ false
-not_is true h = let bad : ⊥ = cc in absurd bad
-not_is false h = refl
-
-pub not_false : (q : Bool) → not q ≡ false → q ≡ true
-not_false true h = refl
-not_false false h = let bad : ⊥ = cc in absurd bad
 
 -- ---- of numbers
 
@@ -74,16 +37,6 @@ three zero zero = inr (inl refl)
 three zero (suc k) = inl (omega arith)
 three (suc n) zero = inr (inr (omega arith))
 three (suc n) (suc k) = elim (three n k) [ inl l ↦ inl (omega arith) | inr m ↦ elim m [ inl e ↦ inr (inl (ap suc e)) | inr l ↦ inr (inr (omega arith)) ] ]
-
-pub not_equal : (b c : ℕ) → b ≢ c → (b == c) ≡ false
-not_equal b c h =
-    elim (b == c) as (λ q. (b == c) ≡ q → q ≡ false) [
-      | true ↦ λ same. absurd (h (eqb-true b c same))
-      | false ↦ λ _. refl
-    ] refl
-
-pub equal_not : (b c : ℕ) → (b == c) ≡ false → b ≢ c
-equal_not b c h = λ same. let yes_equal : (b == c) ≡ true = eq-eqb b c same in let bad : ⊥ = cc in bad
 
 -- one of two numbers is not above the other
 pub at_or_behind : (n k : ℕ) → (n ≤ k) ⊎ (k < n)
@@ -103,9 +56,6 @@ below_or_at n k h = below_next n k (omega (arith, h))
 
 -- ---- of options and results
 
-pub some_inj : {A : Type 0} (x y : A) → Some x ≡ Some y → x ≡ y
-some_inj x y h = cc
-
 -- what is chosen by a test, where it is something
 pub some_if : {A : Type 0} (q : Bool) (o : Option A) (x : A) → (if q then o else None) ≡ Some x → (q ≡ true) × (o ≡ Some x)
 some_if true o x h = (refl, h)
@@ -117,17 +67,12 @@ then_some f (Some x) y h = (x, refl, h)
 
 pub map_some : {A B : Type 0} (f : A → B) (o : Option A) (y : B) → option_map f o ≡ Some y → (x : A) × (o ≡ Some x) × (f x ≡ y)
 map_some f None y h = let bad : ⊥ = cc in absurd bad
-map_some f (Some x) y h = (x, refl, some_inj _ _ h)
+map_some f (Some x) y h = (x, refl, same_Some _ _ h)
 
 -- an option that has nothing
 pub no_answer : {X : Type 0} (o : Option X) → is_some o ≡ false → o ≡ None
 no_answer None e = refl
 no_answer (Some x) e = absurd cc
-
--- what follows of an answer
-pub on_ok : {X E : Type 0} {P Q : Type 0} (r : Result X E) → (P → Q) → OnOk r P → OnOk r Q
-on_ok (Ok x) f h = f h
-on_ok (Err e) f h = tt
 
 -- a fault is no answer, and an answer no fault
 pub err_ok : {E : Type 0} (f : E) → ◌≡◌ {A = Result (Unit {0}) E} (Err f) (Ok tt) → ⊥
@@ -206,26 +151,3 @@ pub slice_get_none : {X : Type 0} (xs : List X) (n : ℕ) → slice_get xs n ≡
 slice_get_none [] n e = omega arith
 slice_get_none (x ∷ xs) zero e = absurd cc
 slice_get_none (x ∷ xs) (suc n) e = let k = slice_get_none xs n e in omega (arith, k)
-
--- other elements are the same
-pub others_stay : {X : Type 0} (vs : List X) (n k : ℕ) (w : X) → k ≢ n → slice_get (set vs n w) k ≡ slice_get vs k
-others_stay [] n k w ne = refl
-others_stay (v ∷ vs) zero zero w ne = absurd (ne refl)
-others_stay (v ∷ vs) zero (suc k) w ne = refl
-others_stay (v ∷ vs) (suc n) zero w ne = refl
-others_stay (v ∷ vs) (suc n) (suc k) w ne = others_stay vs n k w (λ e. ne (ap suc e))
-
-pub got_set : {X : Type 0} (xs : List X) (n : ℕ) (x : X) → n < length xs → slice_get (set xs n x) n ≡ Some x
-got_set [] n x h = absurd (omega arith)
-got_set (y ∷ xs) zero x h = refl
-got_set (y ∷ xs) (suc n) x h = got_set xs n x (omega arith)
-
-pub below_set : {X : Type 0} (xs : List X) (n : ℕ) (x : X) → n < length xs → n < length (set xs n x)
-below_set [] n x h = absurd (omega arith)
-below_set (y ∷ xs) zero x h = omega arith
-below_set (y ∷ xs) (suc n) x h = let less = below_set xs n x (omega arith) in omega (arith, less)
-
-pub past_set : {X : Type 0} (xs : List X) (n : ℕ) (x : X) → length xs ≤ n → set xs n x ≡ xs
-past_set [] n x h = refl
-past_set (y ∷ xs) zero x h = absurd (omega (arith, h))
-past_set (y ∷ xs) (suc n) x h = ap (λ z. y ∷ z) (past_set xs n x (omega (arith, h)))

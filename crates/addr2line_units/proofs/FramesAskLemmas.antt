@@ -1,6 +1,6 @@
 -- What the units of a context are after one of them was asked (on specs/UnitsAfter.antt and
 -- specs/UnitsStored.antt).
-use Rattle.addr2line_units.proofs.Common.{◌≡◌, ◌≢◌, ◌⊎◌, inl, inr, ℕ, ◌<◌, ◌≤◌, ◌&&◌, ◌||◌, Bool, true, false, not, List, [], ◌∷◌, length, get_or, slice_get, Option, Some, None, Result, Ok, Err, refl, sym, ap, subst, ◌∙◌, arith, set, IfErr, Error, OutOfMemory, ◌>>=◌, ExactlyUnlessOom, WasNotRefused, Sections, UnitRecord, exceeds_inline_room, Scope, OnFault, FramesStop, UnitRange, CachedUnit, AfterAsk, found_stop, stop_at, functions_in_take_memory, lines_of_take_memory, lines_take_memory, AreFramesIn, first_answer_of, frames_of_place, IsLendable, found_after_fault, as_stop, stop_of_found, indexed_unit, indexed_units, parsed_units, HaveEntriesOf, answers_in, FindsNothing, LookupStop, after_fault, asks_lines_of, ends_lookup, function_offset_of, functions_of_take_memory, inlined_at_number, or_stop, known_in, knows_detail_at, has_parsed, AreUnits, as_units_state, FramesResult, asks_lines_in, frames_in, inlined_of_unit, IsFaultAt, UnitsState, asked_by, takes_none_at, has_all_at, reads_no_memory_at, AreLinesOf, AsksNoMemoryIn, IsCacheOf, cached_lines_result}
+use Rattle.addr2line_units.proofs.Common.{◌≡◌, ◌≢◌, ◌⊎◌, inl, inr, ℕ, ◌<◌, ◌≤◌, ◌&&◌, ◌||◌, Bool, true, false, not, List, [], ◌∷◌, length, get_or, slice_get, Option, Some, None, Result, Ok, Err, refl, sym, ap, subst, ◌∙◌, arith, set, IfErr, Error, OutOfMemory, ◌>>=◌, ExactlyUnlessOom, WasNotRefused, Sections, UnitRecord, exceeds_inline_room, Scope, OnFault, FramesStop, UnitRange, CachedUnit, AfterAsk, found_stop, stop_at, functions_in_take_memory, lines_of_take_memory, lines_take_memory, AreFramesIn, first_answer_of, frames_of_place, IsLendable, found_after_fault, as_stop, stop_of_found, indexed_unit, indexed_units, parsed_units, HaveEntriesOf, answers_in, FindsNothing, LookupStop, after_fault, asks_lines_of, ends_lookup, function_offset_of, functions_of_take_memory, inlined_at_number, or_stop, known_in, knows_detail_at, has_parsed, AreUnits, as_units_state, FramesResult, asks_lines_in, frames_in, inlined_of_unit, IsFaultAt, UnitsState, asked_by, takes_none_at, has_all_at, reads_no_memory_at, AreLinesOf, AsksNoMemoryIn, IsCacheOf, cached_lines_result, first_so}
 use Rattle.std.specs.Prelude.{IfOk, unwrap_or}
 use Rattle.addr2line_units.specs.declared.frames.Asks.TheVariants as lookups
 use Rattle.addr2line_units.specs.declared.frames.FramesStop.TheVariants as stops
@@ -19,7 +19,7 @@ use Rattle.addr2line_units.proofs.EntriesStayLemmas.{stays_known}
 use Rattle.addr2line_units.proofs.UnitLinesLemmas.{not_refused_lines}
 use Rattle.addr2line_units.proofs.UnitsAtLemmas.{all_entries, as_many, cache_within, its_entries, its_lines, unit_is}
 use Rattle.addr2line_units.proofs.UnitsLinesLemmas.{stay_indexed, stay_parsed, stay_set}
-use Rattle.addr2line_units.proofs.Facts.{and_first, and_not, slice_get_none}
+use Rattle.addr2line_units.proofs.Facts.{and_not, slice_get_none}
 use Rattle.addr2line_units.proofs.CachedUnits.{AreFoundAt, IsStopIn, StayAllEntries, StayAllLines, frames_found_at, has_entries_at, has_frames_at}
 use Rattle.addr2line_units.specs.EntriesCached.{frames_or}
 
@@ -154,7 +154,7 @@ module _ {R : Type 0} {scope : Scope} {cs : List (CachedUnit R)} {last : FramesS
             pub stop_lendable : (f : UnitFrames) → found_after_fault faults result ≡ Ok f → IsLendable now_cs (found_stop n f)
             stop_lendable f is =
                 lendable_if_told scope probe faults us now_cs (indexed_units us cs) (answers_in cs) asks (range_of n) (Ok (found_stop n f)) (entries_set scope us cs n u w unit own cache_now.entries)
-                (sym units_same) (sym answers_same) (stop_right e.there f is) (asked_ok f is)
+                (sym units_same) (sym answers_same) (stop_right e.frames f is) (asked_ok f is)
                 (λ _. holds_alone (has_frames_at asks probe now_cs n) (asked_by (lookups.Frames faults) probe old n) (known_there (oom_before faults result (subst WasNotRefused (sym is) tt))))
 
             module _ (now : ℕ) (raised : steps ≤ now) (stop : LookupStop) where
@@ -178,7 +178,7 @@ module _ {R : Type 0} {scope : Scope} {cs : List (CachedUnit R)} {last : FramesS
               refused_alone x is none =
                   frames_are scope probe us cs n own within u c w unit at
                   ∙ subst (λ q. IfErr q (λ y. frames_in scope (indexed_unit u c.lines) (first_answer_of c.entries) probe ≡ Err y)) (refused_before faults result x is)
-                  (refused_frames (then_no_memory scope probe us cs n own within u c w unit at shares (sym none_is ∙ and_first _ _ none) (sym many_is ∙ and_not _ _ none)))
+                  (refused_frames (then_no_memory scope probe us cs n own within u c w unit at shares (sym none_is ∙ first_so _ _ none) (sym many_is ∙ and_not _ _ none)))
                 where
                   none_is : reads_no_memory_at shares probe new n ≡ ((has_entries_at probe now_cs n || not (functions_in_take_memory shares scope u (first_answer_of c.entries)))
                       && (not (asks_lines_in scope u (first_answer_of c.entries) probe) || (has_parsed (parsed_units now_cs) n || not (lines_take_memory shares u))))
@@ -219,7 +219,7 @@ module _ {R : Type 0} {scope : Scope} {cs : List (CachedUnit R)} {last : FramesS
                 stop = stored;
                 ready = λ told. all_is ∙ known_there (before told);
                 memory = λ few.
-                    let both = then_known scope probe us cs n own within u c w unit at (sym all_is ∙ and_first _ _ few) in
+                    let both = then_known scope probe us cs n own within u c w unit at (sym all_is ∙ first_so _ _ few) in
                     then (e.memory both.0 both.1 (sym many_is ∙ and_not _ _ few) not_oom);
                 no_memory = alone;
               }

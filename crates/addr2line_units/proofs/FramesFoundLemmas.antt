@@ -1,10 +1,9 @@
 -- The unit in which a lookup of frames has found something (on specs/FramesLookup.antt and
 -- specs/UnitsCached.antt).
-use Rattle.addr2line_units.proofs.Common.{◌≡◌, ℕ, Bool, true, false, ◌&&◌, ◌||◌, List, [], ◌∷◌, Option, Some, None, Result, Ok, Err, ap, refl, subst, Error, ◌>>=◌, ExactlyUnlessOom, WasNotRefused, Sections, UnitRecord, Scope, OnFault, Stop, Skip, FramesStop, UnitRange, CachedUnit, indexed_units, FrameRecord, LookupStop, Waits, Finds, FindsNothing, after_fault, asked_frames, ends_lookup, holds_along, or_stop, stop_along, HaveEntriesOf, answers_in, IsLendable, as_stop, FramesResult, frames_by, frames_in, function_in, IndexedUnit, FirstAnswers, is_open, frames_by_lines, unit_lines}
+use Rattle.addr2line_units.proofs.Common.{◌≡◌, ℕ, Bool, true, false, ◌&&◌, ◌||◌, List, [], ◌∷◌, Option, Some, None, Result, Ok, Err, ap, refl, subst, Error, ◌>>=◌, ExactlyUnlessOom, WasNotRefused, Sections, UnitRecord, Scope, OnFault, Stop, Skip, FramesStop, UnitRange, CachedUnit, indexed_units, FrameRecord, LookupStop, Waits, Finds, FindsNothing, after_fault, asked_frames, ends_lookup, holds_along, or_stop, stop_along, HaveEntriesOf, answers_in, IsLendable, as_stop, FramesResult, frames_by, frames_in, function_in, IndexedUnit, FirstAnswers, is_open, frames_by_lines, unit_lines, first_so, second_so, or_right}
 use Rattle.std.specs.Prelude.{IfOk, if◌then◌else◌}
 use Rattle.addr2line_units.specs.declared.frames.FramesStop.TheVariants as stops
 use Rattle.addr2line_units.proofs.FramesWaitLemmas.{waits_where_told}
-use Rattle.addr2line_units.proofs.Facts.{and_first, and_second}
 use Rattle.addr2line_units.proofs.CachedUnits.{IsStopIn, has_frames_at}
 
 number_of : LookupStop → ℕ → ℕ
@@ -31,10 +30,10 @@ module _ (holds : ℕ → Bool) (frames : ℕ → FramesResult) (n : ℕ) (fs : 
   unfolding has_frames
   told k rest more (Err x) e h w further = absurd cc
   told k rest more (Ok None) e h w further = absurd cc
-  told k rest more (Ok (Some [])) e h w further = further w (and_second (holds k) more h)
+  told k rest more (Ok (Some [])) e h w further = further w (second_so (holds k) more h)
   told k rest more (Ok (Some (g ∷ gs))) e h w further =
       let same = same_number k n (g ∷ gs) fs w in
-      (subst (λ j. has_frames (frames j) ≡ true) same (ap has_frames e), subst (λ j. holds j ≡ true) same (and_first (holds k) true h))
+      (subst (λ j. has_frames (frames j) ≡ true) same (ap has_frames e), subst (λ j. holds j ≡ true) same (first_so (holds k) true h))
 
   pub found_along : (ranges : List UnitRange) → holds_along holds frames ranges ≡ true → stop_along frames ranges ≡ Ok (Finds n fs) → (has_frames (frames n) ≡ true) × (holds n ≡ true)
   found_along [] h w = absurd cc
@@ -43,11 +42,7 @@ module _ (holds : ℕ → Bool) (frames : ℕ → FramesResult) (n : ℕ) (fs : 
 
 pub always_along : (frames : ℕ → FramesResult) (ranges : List UnitRange) → holds_along (λ _. true) frames ranges ≡ true
 always_along frames [] = refl
-always_along frames (r ∷ ranges) = by (ends_lookup (frames r.unit)) (always_along frames ranges)
-  where
-    by : (b : Bool) {rest : Bool} → rest ≡ true → (b || rest) ≡ true
-    by true e = refl
-    by false e = e
+always_along frames (r ∷ ranges) = or_right (ends_lookup (frames r.unit)) _ (always_along frames ranges)
 
 pub found_by_unit : (faults : OnFault) (r : FramesResult) → has_frames (after_fault faults r) ≡ true → has_frames r ≡ true
 unfolding has_frames

@@ -1,11 +1,10 @@
 -- Lookups of frames along ranges (on specs/FramesLookup.antt and specs/FramesCached.antt).
-use Rattle.addr2line_units.proofs.Common.{◌≡◌, ◌≢◌, ℕ, inl, inr, Bool, true, false, ◌&&◌, ◌||◌, List, [], ◌∷◌, Option, Some, None, Result, Ok, Err, refl, ap, sym, subst, ◌∙◌, DwLang, Error, OutOfMemory, ◌>>=◌, ExactlyUnlessOom, WasNotRefused, Section, InlinedEntry, Location, OnFault, Stop, Skip, FramesStop, UnitRange, CachedUnit, FrameRecord, frames_from, LookupStop, Finds, after_fault, ends_lookup, holds_along, or_stop, stop_along, found_after_fault, as_stop, stop_of_found, ParsesOnly, FramesResult}
+use Rattle.addr2line_units.proofs.Common.{◌≡◌, ◌≢◌, ℕ, inl, inr, Bool, true, false, ◌&&◌, ◌||◌, List, [], ◌∷◌, Option, Some, None, Result, Ok, Err, refl, ap, sym, subst, ◌∙◌, DwLang, Error, OutOfMemory, ◌>>=◌, ExactlyUnlessOom, WasNotRefused, Section, InlinedEntry, Location, OnFault, Stop, Skip, FramesStop, UnitRange, CachedUnit, FrameRecord, frames_from, LookupStop, Finds, after_fault, ends_lookup, holds_along, or_stop, stop_along, found_after_fault, as_stop, stop_of_found, ParsesOnly, FramesResult, first_so}
 use Rattle.std.specs.Prelude.{IfOk}
 use Rattle.addr2line_units.specs.declared.frames.FramesStop.TheVariants as stops
 use Rattle.addr2line_units.specs.declared.entries.UnitFrames.{UnitFrames}
 use Rattle.addr2line_units.specs.declared.entries.UnitFrames.TheVariants as found
 use Rattle.addr2line_units.proofs.CachedUnits.{AreFoundAt, IsStopIn, frames_found_at}
-use Rattle.addr2line_units.proofs.Facts.{and_first}
 
 -- a fault that a lookup passes over
 module _ (faults : OnFault) where
@@ -85,7 +84,7 @@ module _ (frames : ℕ → FramesResult) (r : UnitRange) (rest : List UnitRange)
   faults_there f e = ap (λ x. x >>= or_stop r.unit (stop_along frames rest)) e
 
   pub holds_first : (holds : ℕ → Bool) → holds_along holds frames (r ∷ rest) ≡ true → holds r.unit ≡ true
-  holds_first holds e = and_first (holds r.unit) _ e
+  holds_first holds e = first_so (holds r.unit) _ e
 
   pub holds_rest : (holds : ℕ → Bool) → ends_lookup (frames r.unit) ≡ false → holds_along holds frames (r ∷ rest) ≡ true → holds_along holds frames rest ≡ true
   holds_rest holds e k = of_bools (holds r.unit) (ends_lookup (frames r.unit)) (holds_along holds frames rest) e k

@@ -1,12 +1,12 @@
 -- What the unit of a number has at an address, of all units (on specs/FramesLookup.antt and
 -- specs/FramesCached.antt).
-use Rattle.addr2line_units.proofs.Common.{◌≡◌, ℕ, ◌<◌, ◌≤◌, ◌⊎◌, inl, inr, Bool, true, false, ◌&&◌, ◌||◌, not, List, [], length, get_or, slice_get, Option, Some, None, option_map, unwrap_or, Result, Ok, Err, refl, ap, sym, subst, ◌∙◌, set, slice_get_past, Error, ExactlyUnlessOom, UnitRecord, exceeds_inline_room, Scope, CachedUnit, functions_in_take_memory, lines_of_take_memory, lines_take_memory, indexed_unit, indexed_units, is_uncached, parsed_units, asks_lines_of, frames_of_number, function_offset_of, functions_of_take_memory, inlined_at_number, AreFramesIn, AsksNoMemoryIn, frames_of_place, has_entries, first_answer_of, functions_at, language_at, HaveEntriesOf, answers_in, ParsesOnly, has_parsed, asks_lines_in, frames_in, function_offset_in, inlined_of_unit}
+use Rattle.addr2line_units.proofs.Common.{◌≡◌, ℕ, ◌<◌, ◌≤◌, ◌⊎◌, inl, inr, Bool, true, false, ◌&&◌, ◌||◌, not, List, [], length, get_or, slice_get, Option, Some, None, option_map, unwrap_or, Result, Ok, Err, refl, ap, sym, subst, ◌∙◌, set, slice_get_past, Error, ExactlyUnlessOom, UnitRecord, exceeds_inline_room, Scope, CachedUnit, functions_in_take_memory, lines_of_take_memory, lines_take_memory, indexed_unit, indexed_units, is_uncached, parsed_units, asks_lines_of, frames_of_number, function_offset_of, functions_of_take_memory, inlined_at_number, AreFramesIn, AsksNoMemoryIn, frames_of_place, has_entries, first_answer_of, functions_at, language_at, HaveEntriesOf, answers_in, ParsesOnly, has_parsed, asks_lines_in, frames_in, function_offset_in, inlined_of_unit, first_so, second_so, get_set_same}
+use Rattle.std.proofs.Math.Seq.{lt-length-set}
 use Rattle.std.specs.Prelude.{IfOk}
 use Rattle.addr2line_units.specs.declared.entries.UnitFrames.{UnitFrames}
 use Rattle.addr2line_units.specs.declared.entries.UnitFrames.TheVariants as found
 use Rattle.addr2line_units.proofs.UnitsLinesLemmas.{no_parsed, no_unit, only_set, parsed_set, set_parsed, unit_at}
 use Rattle.addr2line_units.proofs.UnitsCachedLemmas.{answer_at, as_many_entries, parsed_by_lines, same_lines_set}
-use Rattle.addr2line_units.proofs.Facts.{and_first, and_second, below_set, got_set}
 use Rattle.addr2line_units.proofs.CachedUnits.{AreFoundAt, frames_found_at, has_entries_at, has_frames_at}
 
 module _ {R : Type 0} (scope : Scope) (probe : ℕ) (us : List UnitRecord) (cs : List (CachedUnit R)) (n : ℕ) where
@@ -52,7 +52,7 @@ module _ {R : Type 0} (scope : Scope) (probe : ℕ) (us : List UnitRecord) (cs :
     lines_take shares = rw (unit_is, lines_of_take_memory) refl
 
     there : slice_get (set cs n w) n ≡ Some w
-    there = got_set cs n w h
+    there = get_set_same cs n w h
 
     entries_there : has_entries_at probe (set cs n w) n ≡ has_entries probe w.entries
     entries_there = ap (λ (o : Option (CachedUnit R)). unwrap_or (option_map (λ x. has_entries probe x.entries) o) true) there
@@ -69,8 +69,8 @@ module _ {R : Type 0} (scope : Scope) (probe : ℕ) (us : List UnitRecord) (cs :
     pub places_there : (result : Result UnitFrames Error) → IfOk result (AreFramesIn w.lines w.entries) → IfOk result (AreFoundAt (set cs n w) n)
     places_there (Ok found.Open) g = tt
     places_there (Ok (found.Here None None)) g = tt
-    places_there (Ok (found.Here None (Some row))) g = record { unit = below_set cs n w h; function = tt; lines = rw there g.1 }
-    places_there (Ok (found.Here (Some p) row)) g = record { unit = below_set cs n w h; function = rw (there, functions_at) g.0; lines = rw there g.1 }
+    places_there (Ok (found.Here None (Some row))) g = record { unit = lt-length-set cs n w h; function = tt; lines = rw there g.1 }
+    places_there (Ok (found.Here (Some p) row)) g = record { unit = lt-length-set cs n w h; function = rw (there, functions_at) g.0; lines = rw there g.1 }
     places_there (Err e) g = tt
 
     -- no lines are read but those that are asked for
@@ -107,8 +107,8 @@ module _ {R : Type 0} (scope : Scope) (probe : ℕ) (us : List UnitRecord) (cs :
         && (not (asks_lines_in scope u (first_answer_of c.entries) probe) || (has_parsed (parsed_units (set cs n w)) n || not (lines_take_memory shares u)))) ≡ true
         → exceeds_inline_room (inlined_of_unit scope u (first_answer_of c.entries) probe) ≡ false → AsksNoMemoryIn shares scope u (first_answer_of c.entries) probe w.lines w.entries
     then_no_memory shares none few = record {
-      functions = λ takes. sym entries_there ∙ or_not (has_entries_at probe (set cs n w) n) (functions_in_take_memory shares scope u (first_answer_of c.entries)) (and_first _ _ none) takes;
-      lines = λ asked takes. set_parsed cs n w h (or_not (has_parsed (parsed_units (set cs n w)) n) (lines_take_memory shares u) (not_or (asks_lines_in scope u (first_answer_of c.entries) probe) _ (and_second _ _ none) asked) takes);
+      functions = λ takes. sym entries_there ∙ or_not (has_entries_at probe (set cs n w) n) (functions_in_take_memory shares scope u (first_answer_of c.entries)) (first_so _ _ none) takes;
+      lines = λ asked takes. set_parsed cs n w h (or_not (has_parsed (parsed_units (set cs n w)) n) (lines_take_memory shares u) (not_or (asks_lines_in scope u (first_answer_of c.entries) probe) _ (second_so _ _ none) asked) takes);
       few = few;
     }
       where

@@ -1,11 +1,10 @@
 -- The unit that a lookup of frames waits for has no answer yet (on specs/FramesLookup.antt and
 -- specs/UnitsCached.antt).
-use Rattle.addr2line_units.proofs.Common.{◌≡◌, ℕ, zero, suc, ◌<◌, arith, get_or, Bool, true, false, ◌&&◌, ◌||◌, List, [], ◌∷◌, length, slice_get, Option, Some, None, Result, Ok, Err, ap, refl, sym, subst, ◌∙◌, Error, ◌>>=◌, Sections, UnitRecord, Scope, OnFault, Stop, Skip, UnitRange, CachedUnit, EntriesCache, ViewState, indexed_units, FrameRecord, LookupStop, Waits, Finds, FindsNothing, after_fault, asked_frames, ends_lookup, frames_of_number, holds_along, or_stop, stop_along, has_entries, first_answer_of, HaveEntriesOf, answers_in, waits_at, was_checked, FramesResult, frames_by, frames_in, frames_by_lines, unit_lines, function_in, IndexedUnit, is_open, verdict}
+use Rattle.addr2line_units.proofs.Common.{◌≡◌, ℕ, zero, suc, ◌<◌, arith, get_or, Bool, true, false, ◌&&◌, ◌||◌, List, [], ◌∷◌, length, slice_get, Option, Some, None, Result, Ok, Err, ap, refl, sym, subst, ◌∙◌, Error, ◌>>=◌, Sections, UnitRecord, Scope, OnFault, Stop, Skip, UnitRange, CachedUnit, EntriesCache, ViewState, indexed_units, FrameRecord, LookupStop, Waits, Finds, FindsNothing, after_fault, asked_frames, ends_lookup, frames_of_number, holds_along, or_stop, stop_along, has_entries, first_answer_of, HaveEntriesOf, answers_in, waits_at, was_checked, FramesResult, frames_by, frames_in, frames_by_lines, unit_lines, function_in, IndexedUnit, is_open, verdict, first_so, second_so}
 use Rattle.std.specs.Prelude.{IfOk, IfSome, if◌then◌else◌}
 use Rattle.addr2line_units.specs.declared.unit.ViewState.TheVariants as states
 use Rattle.addr2line_units.proofs.LoadsAnswerLemmas.{got_unit, checked_waits}
 use Rattle.addr2line_units.proofs.UnitViewLemmas.{waiting_is_open}
-use Rattle.addr2line_units.proofs.Facts.{and_first, and_second}
 use Rattle.addr2line_units.proofs.CachedUnits.{HaveViewsOf, has_entries_at, has_frames_at}
 
 number_of : LookupStop → ℕ → ℕ
@@ -24,8 +23,8 @@ module _ (holds : ℕ → Bool) (frames : ℕ → FramesResult) (n : ℕ) where
   told k rest more (Err x) e h w further = absurd cc
   told k rest more (Ok None) e h w further =
       let same = same_number k n w in
-      (subst (λ j. frames j ≡ Ok None) same e, subst (λ j. holds j ≡ true) same (and_first (holds k) true h))
-  told k rest more (Ok (Some [])) e h w further = further w (and_second (holds k) more h)
+      (subst (λ j. frames j ≡ Ok None) same e, subst (λ j. holds j ≡ true) same (first_so (holds k) true h))
+  told k rest more (Ok (Some [])) e h w further = further w (second_so (holds k) more h)
   told k rest more (Ok (Some (f ∷ fs))) e h w further = absurd cc
 
   pub told_along : (ranges : List UnitRange) → holds_along holds frames ranges ≡ true → stop_along frames ranges ≡ Ok (Waits n) → (frames n ≡ Ok None) × (holds n ≡ true)
@@ -76,7 +75,7 @@ module _ {R : Type 0} (scope : Scope) (probe : ℕ) where
   waits_where_told faults us vs asks_lines ranges n own h w =
       let t = told_along (has_frames_at asks_lines probe vs) (asked_frames faults scope (indexed_units us vs) (answers_in vs) probe) n ranges h w in
       waits_there us vs n own (told_by_unit faults (frames_of_number scope (indexed_units us vs) (answers_in vs) probe n) t.0)
-      (and_first (has_entries_at probe vs n) _ t.1)
+      (first_so (has_entries_at probe vs n) _ t.1)
 
 -- beside each unit stands its view
 pub views_of_entries : {R : Type 0} (scope : Scope) (us : List UnitRecord) (vs : List (CachedUnit R)) → HaveEntriesOf scope us vs → HaveViewsOf scope.file.sections us vs

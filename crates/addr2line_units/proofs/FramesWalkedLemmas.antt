@@ -1,11 +1,12 @@
 -- Walks over the units of a context, one unit after another (on specs/UnitsAfter.antt).
 use Rattle.addr2line_units.proofs.Common.{◌≡◌, ◌≢◌, inl, inr, ℕ, ◌+◌, ◌≤◌, ◌&&◌, ◌||◌, Bool, true, false, not, List, [], ◌∷◌, slice_get, Some, None, Result, Ok, Err, refl, sym, ap, subst, ◌∙◌, arith, false≢true, ⊤, IfErr, Error, OutOfMemory, ◌>>=◌, Scope, Asks, UnitRange, FindsNothing, Finds, LookupAsks, LookupStop, Waits, asked_of_unit, asks_lines_of, ends_lookup, found_in_unit, function_offset_of, has_stopped, holds_along, or_stop, stop_along, LearnsDetailsAt, knows_at, steps_along, steps_in, ParsesOnly, has_parsed, IndexedUnit, FramesResult, AfterAsk, stop_at, IsFaultAt, UnitsState, asked_by, has_all_at, has_asked_at, has_asked_few_at, stop_of, takes_none_at, FirstAnswers}
+use Rattle.std.proofs.Math.Nat.{le_trans, lt_of_le_of_lt}
 use Rattle.addr2line_units.specs.declared.frames.Asks.TheVariants as lookups
 use Rattle.addr2line_units.specs.UnitsAfter.{AfterWalkAlong, IsFaultAlong, WereAsked, WereAskedFor}
 use Rattle.addr2line_units.proofs.FramesLookupLemmas.{faults_there, goes_on, holds_both, holds_ended, holds_first, holds_rest, parses_more}
 use Rattle.addr2line_units.proofs.EntriesStayLemmas.{known_twice}
 use Rattle.addr2line_units.proofs.LocationsWalkLemmas.{lines_first, lines_over}
-use Rattle.addr2line_units.proofs.UnitsLinesLemmas.{steps_counted, steps_first, steps_of_one, steps_raised, steps_within}
+use Rattle.addr2line_units.proofs.UnitsLinesLemmas.{steps_first, steps_of_one, steps_within}
 
 -- the unit of the first range is asked
 asked_first : (frames : ℕ → FramesResult) (r : UnitRange) (rest ranges all : List UnitRange) → ranges ≡ r ∷ rest → ((n : ℕ) → LookupAsks frames ranges n → LookupAsks frames all n)
@@ -135,8 +136,8 @@ asked_over : (asks : Asks) (asked : ℕ → Type 0) (k most probe : ℕ) (old mi
 asked_over lookups.Location asked k most probe old mid now w a first left rest bound is = (
   record {
     lines = lines_over asked k old mid now w.lines a.lines first;
-    raised = steps_raised old.steps mid.steps now.steps w.raised a.raised;
-    counted = λ found. steps_counted old.steps mid.steps now.steps w.raised (a.counted found);
+    raised = le_trans w.raised a.raised;
+    counted = λ found. lt_of_le_of_lt w.raised (a.counted found);
     cost = steps_of_one _ _ _ within;
   },
   within,

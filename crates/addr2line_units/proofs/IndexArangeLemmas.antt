@@ -1,5 +1,6 @@
 -- The ranges that `.debug_aranges` lists, in order (on specs/IndexAranges.antt).
 use Rattle.addr2line_units.proofs.Common.{ℕ, ◌≡◌, ◌≤◌, Bool, true, false, cond, not, ◌&&◌, ◌==◌, nat_cmp, leb, ltb, zero, suc, List, [], ◌∷◌, length, take, drop, arith, ◌∙◌, ap, sym, refl, filter, AllByRecursion, IsPartitionPoint, ties, nat_tests, ranks_by, filter_agree, in_order, IsInOrder, in_order_ties, UnitArange, is_arange_of, offset_sooner}
+use Rattle.std.proofs.lemmas.Map.Keys.{ge_from_not_lt}
 use Rattle.std.specs.Cmp.{IsStrictWeakOrder}
 use Rattle.std.specs.Ordering.{is_lt}
 use Rattle.std.proofs.lemmas.Cmp.{nat_cmp_total}
@@ -27,10 +28,7 @@ offset_of a = a.unit_offset.0
 -- in order the offsets don't fall
 later_offsets : (x : UnitArange) (xs : List UnitArange) → AllByRecursion (λ y. offset_sooner y x ≡ false) xs → AllByRecursion (λ y. offset_of x ≤ offset_of y) xs
 later_offsets x [] all = tt
-later_offsets x (y ∷ ys) all = (of_numbers (offset_of y) (offset_of x) all.0, later_offsets x ys all.1)
-  where
-    of_numbers : (a b : ℕ) → is_lt (nat_cmp a b) ≡ false → b ≤ a
-    of_numbers a b h = grind (arith, nat_tests)
+later_offsets x (y ∷ ys) all = (ge_from_not_lt (offset_of y) (offset_of x) all.0, later_offsets x ys all.1)
 
 pub offsets_up : (xs : List UnitArange) → IsInOrder offset_sooner xs → Up offset_of xs
 offsets_up [] up = tt

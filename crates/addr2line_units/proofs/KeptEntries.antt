@@ -11,7 +11,7 @@ use Rattle.addr2line_units.specs.UnitView.{SplitLoad}
 
 -- after a unit was looked at: what is cached is right, and stays, and no functions are read
 pub record KeepsChecked {R : Type 0} (scope : Scope) (u : UnitRecord) (old new : EntriesCache R) : Type 0 where
-  pub right : AreEntriesOf scope u new
+  pub entries : AreEntriesOf scope u new
   pub known : was_checked new.view.state ≡ true
   pub stay : StayEntries old new
   pub functions : new.functions ≡ old.functions
@@ -20,7 +20,7 @@ pub record KeepsChecked {R : Type 0} (scope : Scope) (u : UnitRecord) (old new :
 -- after an answer to its load: it is decided by it if it was open, and else by what it had; where
 -- memory was refused only that it was looked at may be new
 pub record KeepsAnswered {R : Type 0} (shares : Bool) (scope : Scope) (u : UnitRecord) (given : Option Sections) (result : Result (Unit {0}) Error) (old new : EntriesCache R) : Type 0 where
-  pub right : AreEntriesOf scope u new
+  pub entries : AreEntriesOf scope u new
   pub answer : OnOk result (first_answer_of new ≡ decided_answer scope.file.sections u (first_answer_of old) given)
   pub known : OnOk result (is_decided new.view.state ≡ true)
   pub refused : IfErr result (λ e. (e ≡ OutOfMemory) × StayEntries old new × (is_some given ≡ true))
@@ -40,7 +40,7 @@ pub record KeepsListed {R : Type 0} (scope : Scope) (number : ℕ) (u : UnitReco
 
 -- after its answer was forgotten
 pub record KeepsForgotten {R : Type 0} (scope : Scope) (u : UnitRecord) (old new : EntriesCache R) : Type 0 where
-  pub right : AreEntriesOf scope u new
+  pub entries : AreEntriesOf scope u new
   pub answer : first_answer_of new ≡ None
   pub kept : first_answer_of old ≡ None → new ≡ old
   pub empty : is_some (first_answer_of old) ≡ true → were_read new.functions ≡ false
@@ -50,8 +50,8 @@ pub record KeepsForgotten {R : Type 0} (scope : Scope) (u : UnitRecord) (old new
 -- where it is, memory is refused for more than 16 inlined functions alone; where it was, nothing is
 -- read
 pub record KeepsFunction {R : Type 0} (scope : Scope) (view : UnitRecord) (probe : ℕ) (result : Result (Option FunctionPlace) Error) (old new : LazyFunctions R) : Type 0 where
-  pub right : AreFunctionsOf scope view new
-  pub there : IfOk result (λ found. IfSome found (ArePlacesIn (cached_functions new)))
+  pub functions : AreFunctionsOf scope view new
+  pub places : IfOk result (λ found. IfSome found (ArePlacesIn (cached_functions new)))
   pub stay : StayFunctions old new
   pub within : ReadsNoOther probe (cached_functions old) (cached_functions new)
   pub kept : cached_has_function probe old ≡ true → new ≡ old
@@ -62,7 +62,7 @@ pub record KeepsFunction {R : Type 0} (scope : Scope) (view : UnitRecord) (probe
 -- cached is right, and stays, and where all that is read was cached nothing is changed; no detail
 -- is read where functions alone are; where functions take no memory, a refusal is their first fault
 pub record KeepsReadFunctions {R : Type 0} (shares : Bool) (depth : ReadingDepth) (scope : Scope) (view : UnitRecord) (result : Result (Unit {0}) Error) (old new : LazyFunctions R) : Type 0 where
-  pub right : AreFunctionsOf scope view new
+  pub functions : AreFunctionsOf scope view new
   pub stay : StayFunctions old new
   pub known : AfterReadingOf depth (read_of_functions depth scope view) result false (known_functions old) false (known_functions new)
   pub kept : IsReadyFor depth (known_functions old) → new ≡ old

@@ -1,11 +1,11 @@
 -- Elements after their lengths: the relation and the function agree.
-use Rattle.addr2line_units.proofs.Common.{◌≡◌, ◌∙◌, ◌<◌, ◌+◌, ℕ, zero, suc, true, false, cond, ◌&&◌, Some, None, List, [], ◌∷◌, ◌++◌, take, drop, length, length-append, take-append-drop, ap, sym, subst, refl, arith, ltb-true, lt-ltb, le-leb, is_ascii, is_ascii_digit, list_all, prefix_len, byte, digits_value, ascii_front, element_at, elements_by, elements_within, elements_at}
+use Rattle.addr2line_units.proofs.Common.{◌≡◌, ◌∙◌, ◌<◌, ◌+◌, ℕ, zero, suc, true, false, cond, ◌&&◌, Some, None, List, [], ◌∷◌, ◌++◌, take, drop, length, length-append, take-append-drop, ap, sym, subst, refl, arith, ltb-true, lt-ltb, le-leb, is_ascii, is_ascii_digit, list_all, prefix_len, byte, digits_value, ascii_front, element_at, elements_by, elements_within, elements_at, first_so, second_so}
 use Rattle.std.specs.Prelude.{nat_lt, if◌then◌else◌}
 use Rattle.std.proofs.Math.Seq.{take-append_seam, drop-append_seam}
 use Rattle.std.proofs.lemmas.List.Folds.{length-prefix_len}
 use Rattle.addr2line_units.proofs.LegacySteps.{front_parts, elements_some, elements_none}
 use Rattle.addr2line_units.specs.LegacyElements.{is_first, IsElement, AreElements}
-use Rattle.addr2line_units.proofs.Facts.{and_first, and_second, some_if}
+use Rattle.addr2line_units.proofs.Facts.{some_if}
 
 -- all digits that stand first, and none after them
 digits_first : (text : List ℕ) → list_all is_ascii_digit (take (prefix_len is_ascii_digit text) text) ≡ true
@@ -34,8 +34,8 @@ digits_len_of : (digits rest : List ℕ) → list_all is_ascii_digit digits ≡ 
 digits_len_of [] [] h none = refl
 digits_len_of [] (b ∷ bs) h none = ap (λ q. cond q (1 + prefix_len is_ascii_digit bs) 0) none
 digits_len_of (d ∷ ds) rest h none =
-    ap (λ q. cond q (1 + prefix_len is_ascii_digit (ds ++ rest)) 0) (and_first _ _ h)
-    ∙ ap (λ n. 1 + n) (digits_len_of ds rest (and_second _ _ h) none) ∙ omega arith
+    ap (λ q. cond q (1 + prefix_len is_ascii_digit (ds ++ rest)) 0) (first_so _ _ h)
+    ∙ ap (λ n. 1 + n) (digits_len_of ds rest (second_so _ _ h) none) ∙ omega arith
 
 -- an element that the function finds
 pub element_found : (text element rest : List ℕ) → element_at text ≡ Some (element, rest)

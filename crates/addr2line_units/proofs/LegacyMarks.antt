@@ -1,11 +1,11 @@
 -- Marks of LLVM, prefixes, hashes and suffixes: the relation and the function agree.
-use Rattle.addr2line_units.proofs.Common.{◌≡◌, ◌∙◌, ◌≤◌, ◌<◌, ℕ, zero, suc, true, false, ◌&&◌, Some, None, List, [], ◌∷◌, ◌++◌, drop, length, ap, sym, refl, arith, nat_eq, slice_index_or, Contains, list_all, starts_with, byte, All-contains, Decides-eqb, without_llvm, after_first, without_prefix, without_hash, suffix_at}
+use Rattle.addr2line_units.proofs.Common.{◌≡◌, ◌∙◌, ◌≤◌, ◌<◌, ℕ, zero, suc, true, false, ◌&&◌, Some, None, List, [], ◌∷◌, ◌++◌, drop, length, ap, sym, refl, arith, nat_eq, slice_index_or, Contains, list_all, starts_with, byte, All-contains, Decides-eqb, without_llvm, after_first, without_prefix, without_hash, suffix_at, first_so, second_so, same_Some}
 use Rattle.std.specs.Prelude.{if◌then◌else◌, ◌==◌}
 use Rattle.std.proofs.lemmas.Slice.Eq.{starts_is}
-use Rattle.std.proofs.lemmas.Bool.{eqb-true}
+use Rattle.std.proofs.lemmas.Bool.{both_ways, eqb-true}
 use Rattle.addr2line_units.specs.LegacyName.{llvm_mark, is_llvm_byte, IsFirstMark, IsKept, cut, whole, prefixes, is_suffix}
 use Rattle.addr2line_units.specs.LegacyElements.{is_hash, AreShown, hashed, all}
-use Rattle.addr2line_units.proofs.Facts.{and_first, and_second, head_is, last_is, nothing_last, some_if, some_inj, tail_is, two_tests}
+use Rattle.addr2line_units.proofs.Facts.{head_is, last_is, nothing_last, some_if, tail_is}
 
 -- a mark stands first
 mark_here : (bytes : List ℕ) → starts_with nat_eq bytes llvm_mark ≡ true → bytes ≡ llvm_mark ++ drop (length llvm_mark) bytes
@@ -21,7 +21,7 @@ mark_rest bytes rest h = ap (λ s. drop (length llvm_mark) s) h
 -- a first mark, one byte later
 first_later : (b : ℕ) (bs front rest : List ℕ) → starts_with nat_eq (b ∷ bs) llvm_mark ≡ false → IsFirstMark bs front rest
     → (earlier later : List ℕ) → b ∷ bs ≡ earlier ++ (llvm_mark ++ later) → length (b ∷ front) ≤ length earlier
-first_later b bs front rest apart m [] later h = absurd (two_tests _ (mark_there (b ∷ bs) later h) apart)
+first_later b bs front rest apart m [] later h = absurd (both_ways _ apart (mark_there (b ∷ bs) later h))
 first_later b bs front rest apart m (e ∷ es) later h =
     let less : length front ≤ length es = m.first es later (tail_is _ _ _ _ h) in
     omega arith
@@ -62,7 +62,7 @@ nothing_before bytes (f ∷ fs) rest here m =
 none_later : (b : ℕ) (bs : List ℕ) → starts_with nat_eq (b ∷ bs) llvm_mark ≡ false
     → ((front rest : List ℕ) → IsFirstMark bs front rest → list_all is_llvm_byte rest ≡ false)
     → (front rest : List ℕ) → IsFirstMark (b ∷ bs) front rest → list_all is_llvm_byte rest ≡ false
-none_later b bs apart none [] rest m = absurd (two_tests _ (mark_there (b ∷ bs) rest m.whole) apart)
+none_later b bs apart none [] rest m = absurd (both_ways _ apart (mark_there (b ∷ bs) rest m.whole))
 none_later b bs apart none (f ∷ fs) rest m = none fs rest (mark_sooner b f bs fs rest m)
 
 kept_later : (b : ℕ) (bs kept : List ℕ) → starts_with nat_eq (b ∷ bs) llvm_mark ≡ false → IsKept bs kept → IsKept (b ∷ bs) (b ∷ kept)
@@ -126,7 +126,7 @@ after_found [] name rest h = let bad : ⊥ = cc in absurd bad
 after_found (text ∷ texts) name rest h =
     elim (starts_with nat_eq name text) as (λ q. starts_with nat_eq name text ≡ q → (if q then Some (drop (length text) name) else after_first texts name) ≡ Some rest
     → (p : List ℕ) × Contains (text ∷ texts) p × (name ≡ p ++ rest)) [
-      | true ↦ λ here same. (text, (0, omega arith, refl), starts_first name text here ∙ ap (λ s. text ++ s) (some_inj _ _ same))
+      | true ↦ λ here same. (text, (0, omega arith, refl), starts_first name text here ∙ ap (λ s. text ++ s) (same_Some _ _ same))
       | false ↦ λ _ same.
           let found : (p : List ℕ) × Contains texts p × (name ≡ p ++ rest) = after_found texts name rest same in
           let there : Contains texts found.0 = found.1 in
@@ -190,8 +190,8 @@ unfolding suffix_at
 suffix_found [] suffix h = let bad : ⊥ = cc in absurd bad
 suffix_found (b ∷ bs) suffix h =
     let chosen : ((b == byte "E" && is_suffix bs) ≡ true) × (Some bs ≡ Some suffix) = some_if _ _ _ h in
-    let same : bs ≡ suffix = some_inj _ _ chosen.1 in
-    (ap (λ c. c ∷ bs) (eqb-true b (byte "E") (and_first _ _ chosen.0)) ∙ ap (λ s. byte "E" ∷ s) same, sym (ap is_suffix same) ∙ and_second _ _ chosen.0)
+    let same : bs ≡ suffix = same_Some _ _ chosen.1 in
+    (ap (λ c. c ∷ bs) (eqb-true b (byte "E") (first_so _ _ chosen.0)) ∙ ap (λ s. byte "E" ∷ s) same, sym (ap is_suffix same) ∙ second_so _ _ chosen.0)
 
 -- the function finds the suffix
 pub suffix_read : (suffix : List ℕ) → is_suffix suffix ≡ true → suffix_at (byte "E" ∷ suffix) ≡ Some suffix

@@ -1,16 +1,16 @@
 -- The text of an element: the relation and the function agree.
-use Rattle.addr2line_units.proofs.Common.{◌≡◌, ◌∙◌, ◌≤◌, ◌<◌, ◌+◌, ℕ, zero, suc, Bool, true, false, cond, not, ◌&&◌, Option, Some, None, List, [], ◌∷◌, ◌++◌, take, drop, length, length-append, length-drop, take-append-drop, get_or, ap, sym, subst, refl, arith, ltb-true, lt-ltb, nat_eq, codes, encode_utf8, IsScalar, is_control, list_all, prefix_len, position_or_len, starts_with, option_or, byte, bytes_eq, digits_value, eq-eqb, nat_tests, Decides-eqb, All-contains, shown_char, numbered_char, escape_char, escape_in, escape_text, plain_from, element_text}
+use Rattle.addr2line_units.proofs.Common.{◌≡◌, ◌∙◌, ◌≤◌, ◌<◌, ◌+◌, ℕ, zero, suc, Bool, true, false, cond, not, ◌&&◌, Option, Some, None, List, [], ◌∷◌, ◌++◌, take, drop, length, length-append, length-drop, take-append-drop, get_or, ap, sym, subst, refl, arith, ltb-true, lt-ltb, nat_eq, codes, encode_utf8, IsScalar, is_control, list_all, prefix_len, position_or_len, starts_with, option_or, byte, bytes_eq, digits_value, eq-eqb, nat_tests, Decides-eqb, All-contains, shown_char, numbered_char, escape_char, escape_in, escape_text, plain_from, element_text, first_so, second_so, same_Some}
 use Rattle.std.specs.Prelude.{nat_lt, nat_le, if◌then◌else◌, ◌==◌, option_and_then, option_map, map}
 use Rattle.std.specs.List.{position}
 use Rattle.std.specs.Map.{lookup}
 use Rattle.std.proofs.Math.Seq.{take-append_seam, drop-append-add, drop-cons}
-use Rattle.std.proofs.lemmas.Bool.{eqb-true}
+use Rattle.std.proofs.lemmas.Bool.{eqb-false, eqb-true, ne_eqb, not-false, not-true}
 use Rattle.std.proofs.lemmas.List.Sums.{prefix_len_stops, AllPass-from_list_all}
 use Rattle.std.proofs.lemmas.Map.Views.{Contains-from_lookup}
 use Rattle.std.proofs.lemmas.Slice.Eq.{bytes_eq-Decides, starts_is}
 use Rattle.addr2line_units.proofs.LegacySteps.{plain_skip}
 use Rattle.addr2line_units.specs.LegacyElements.{after_code_points, after_surrogates, first_surrogate, is_scalar_value, is_lower_hex, escapes, IsEscape, NoEscape, is_first, is_dot, IsPlain, IsElementText, AreTexts, by_name, by_number, nothing, dots, escape, as_it_stands, any_other, bare, other}
-use Rattle.addr2line_units.proofs.Facts.{and_first, and_second, equal_not, map_some, not_equal, not_false, not_is, or_cond, some_if, some_inj, then_some}
+use Rattle.addr2line_units.proofs.Facts.{map_some, or_cond, some_if, then_some}
 
 scalar_is : (n : ℕ) → is_scalar_value n ≡ true → IsScalar n
 scalar_is n h = sym (or_cond (nat_lt n first_surrogate) (nat_le after_surrogates n && nat_lt n after_code_points)) ∙ h
@@ -19,7 +19,7 @@ scalar_is n h = sym (or_cond (nat_lt n first_surrogate) (nat_le after_surrogates
 shown_is : (n c : ℕ) → shown_char n ≡ Some c → (n ≡ c) × IsScalar n × (is_control n ≡ false)
 shown_is n c h =
     let chosen : ((is_scalar_value n && not (is_control n)) ≡ true) × (Some n ≡ Some c) = some_if _ _ _ h in
-    (some_inj _ _ chosen.1, scalar_is n (and_first _ _ chosen.0), not_is _ (and_second _ _ chosen.0))
+    (same_Some _ _ chosen.1, scalar_is n (first_so _ _ chosen.0), not-true _ (second_so _ _ chosen.0))
 
 shown_if : (n : ℕ) → IsScalar n → is_control n ≡ false → shown_char n ≡ Some n
 shown_if n scalar control =
@@ -34,11 +34,11 @@ number_is : (body : List ℕ) (c : ℕ) → numbered_char body ≡ Some c → Is
 number_is [] c h = no_char c _ h
 number_is (b ∷ digits) c h =
     let chosen : ((b == byte "u" && (nat_lt 0 (length digits) && list_all is_lower_hex digits)) ≡ true) × (shown_char (digits_value 16 digits) ≡ Some c) = some_if _ _ _ h in
-    let u : b ≡ byte "u" = eqb-true b (byte "u") (and_first _ _ chosen.0) in
-    let rest : (nat_lt 0 (length digits) && list_all is_lower_hex digits) ≡ true = and_second _ _ chosen.0 in
+    let u : b ≡ byte "u" = eqb-true b (byte "u") (first_so _ _ chosen.0) in
+    let rest : (nat_lt 0 (length digits) && list_all is_lower_hex digits) ≡ true = second_so _ _ chosen.0 in
     let shown : (digits_value 16 digits ≡ c) × IsScalar (digits_value 16 digits) × (is_control (digits_value 16 digits) ≡ false) = shown_is _ c chosen.1 in
     let P : ℕ → Type 0 = λ x. IsEscape (x ∷ digits) c in
-    subst P (sym u) (subst (IsEscape (byte "u" ∷ digits)) shown.0 (by_number digits (ltb-true _ _ (and_first _ _ rest)) (and_second _ _ rest) shown.1 shown.2))
+    subst P (sym u) (subst (IsEscape (byte "u" ∷ digits)) shown.0 (by_number digits (ltb-true _ _ (first_so _ _ rest)) (second_so _ _ rest) shown.1 shown.2))
 
 -- what the function takes for an escape is one
 escape_is : (body : List ℕ) (c : ℕ) → escape_char body ≡ Some c → IsEscape body c
@@ -72,9 +72,9 @@ escape_known _ _ (by_number digits some hex scalar control) =
 dollar_found : (bytes : List ℕ) (k : ℕ) → position (λ b. b == byte "$") bytes ≡ Some k → bytes ≡ take k bytes ++ (byte "$" ∷ drop (suc k) bytes)
 dollar_found bytes k h =
     let chosen : (nat_lt (position_or_len (λ b. b == byte "$") bytes) (length bytes) ≡ true) × (Some (position_or_len (λ b. b == byte "$") bytes) ≡ Some k) = some_if _ _ _ h in
-    let same : position_or_len (λ b. b == byte "$") bytes ≡ k = some_inj _ _ chosen.1 in
+    let same : position_or_len (λ b. b == byte "$") bytes ≡ k = same_Some _ _ chosen.1 in
     let lt : position_or_len (λ b. b == byte "$") bytes < length bytes = ltb-true _ _ chosen.0 in
-    let dollar : get_or bytes (position_or_len (λ b. b == byte "$") bytes) 0 ≡ byte "$" = eqb-true _ _ (not_false _ (prefix_len_stops (λ b. not (b == byte "$")) bytes 0 lt)) in
+    let dollar : get_or bytes (position_or_len (λ b. b == byte "$") bytes) 0 ≡ byte "$" = eqb-true _ _ (not-false _ (prefix_len_stops (λ b. not (b == byte "$")) bytes 0 lt)) in
     sym (take-append-drop (position_or_len (λ b. b == byte "$") bytes) bytes)
     ∙ ap (λ s. take (position_or_len (λ b. b == byte "$") bytes) bytes ++ s) (drop-cons bytes (position_or_len (λ b. b == byte "$") bytes) 0 lt)
     ∙ ap (λ c. take (position_or_len (λ b. b == byte "$") bytes) bytes ++ (c ∷ drop (suc (position_or_len (λ b. b == byte "$") bytes)) bytes)) dollar
@@ -98,7 +98,7 @@ hex_byte b h = grind (arith, nat_tests)
 
 hex_bytes : (bytes : List ℕ) → list_all is_lower_hex bytes ≡ true → list_all (λ b. not (b == byte "$")) bytes ≡ true
 hex_bytes [] h = refl
-hex_bytes (b ∷ bs) h = ap (λ q. q && list_all (λ b. not (b == byte "$")) bs) (hex_byte b (and_first _ _ h)) ∙ hex_bytes bs (and_second _ _ h)
+hex_bytes (b ∷ bs) h = ap (λ q. q && list_all (λ b. not (b == byte "$")) bs) (hex_byte b (first_so _ _ h)) ∙ hex_bytes bs (second_so _ _ h)
 
 no_dollar : (body : List ℕ) (c : ℕ) → IsEscape body c → list_all (λ b. not (b == byte "$")) body ≡ true
 no_dollar _ _ (by_name body c among) =
@@ -109,8 +109,8 @@ no_dollar _ _ (by_number digits some hex scalar control) = hex_bytes digits hex
 dollar_len : (body rest : List ℕ) → list_all (λ b. not (b == byte "$")) body ≡ true → prefix_len (λ b. not (b == byte "$")) (body ++ (byte "$" ∷ rest)) ≡ length body
 dollar_len [] rest h = refl
 dollar_len (b ∷ bs) rest h =
-    ap (λ q. cond q (1 + prefix_len (λ b. not (b == byte "$")) (bs ++ (byte "$" ∷ rest))) 0) (and_first _ _ h)
-    ∙ ap (λ n. 1 + n) (dollar_len bs rest (and_second _ _ h)) ∙ omega arith
+    ap (λ q. cond q (1 + prefix_len (λ b. not (b == byte "$")) (bs ++ (byte "$" ∷ rest))) 0) (first_so _ _ h)
+    ∙ ap (λ n. 1 + n) (dollar_len bs rest (second_so _ _ h)) ∙ omega arith
 
 dollar_read : (body rest : List ℕ) → list_all (λ b. not (b == byte "$")) body ≡ true → position (λ b. b == byte "$") (body ++ (byte "$" ∷ rest)) ≡ Some (length body)
 dollar_read body rest h =
@@ -146,10 +146,10 @@ plain_same a b s t e f h =
 
 -- two dots
 dots_are : (b : ℕ) (bs : List ℕ) → (is_dot b && is_first is_dot bs) ≡ true → IsPlain (drop 1 bs) (plain_from 0 (drop 1 bs)) → IsPlain (b ∷ bs) (codes "::" ++ plain_from 1 bs)
-dots_are b [] h is = let none : false ≡ true = and_second (b == byte ".") false h in let bad : ⊥ = cc in absurd bad
+dots_are b [] h is = let none : false ≡ true = second_so (b == byte ".") false h in let bad : ⊥ = cc in absurd bad
 dots_are b (c ∷ cs) h is =
     plain_same (b ∷ c ∷ cs) (codes ".." ++ cs) _ _
-    (ap (λ x. x ∷ c ∷ cs) (eqb-true b (byte ".") (and_first _ _ h)) ∙ ap (λ x. byte "." ∷ x ∷ cs) (eqb-true c (byte ".") (and_second _ _ h))) refl (dots cs _ is)
+    (ap (λ x. x ∷ c ∷ cs) (eqb-true b (byte ".") (first_so _ _ h)) ∙ ap (λ x. byte "." ∷ x ∷ cs) (eqb-true c (byte ".") (second_so _ _ h))) refl (dots cs _ is)
 
 one_dot : (b : ℕ) (bs : List ℕ) → (is_dot b && is_first is_dot bs) ≡ false → b ≡ byte "." → is_first is_dot bs ≡ false
 one_dot b [] h e = refl
@@ -181,7 +181,7 @@ plain_is_within (suc n) (b ∷ bs) le =
       ] refl
       | false ↦ λ d. elim (is_dot b && is_first is_dot bs) as (λ q. (is_dot b && is_first is_dot bs) ≡ q → IsPlain (b ∷ bs) (if q then codes "::" ++ plain_from 1 bs else b ∷ plain_from 0 bs)) [
         | true ↦ λ h. dots_are b bs h (plain_is_within n (drop 1 bs) (omega (arith, length-drop 1 bs)))
-        | false ↦ λ h. any_other b bs (plain_from 0 bs) (equal_not b (byte "$") d) (one_dot b bs h) (plain_is_within n bs (omega arith))
+        | false ↦ λ h. any_other b bs (plain_from 0 bs) (eqb-false b (byte "$") d) (one_dot b bs h) (plain_is_within n bs (omega arith))
       ] refl
     ] refl
 
@@ -198,7 +198,7 @@ plain_only _ _ (as_it_stands rest none) = ap (λ o. escape_text o rest (λ k. pl
 plain_only _ _ (any_other b rest text other_byte alone is) =
     ap (λ s. b ∷ s) (plain_only rest text is)
     ∙ ap (λ q. if q then codes "::" ++ plain_from 1 rest else b ∷ plain_from 0 rest) (sym (not_both b rest alone))
-    ∙ ap (λ q. if q then escape_text (escape_in rest) rest (λ k. plain_from k rest) else if is_dot b && is_first is_dot rest then codes "::" ++ plain_from 1 rest else b ∷ plain_from 0 rest) (sym (not_equal b (byte "$") other_byte))
+    ∙ ap (λ q. if q then escape_text (escape_in rest) rest (λ k. plain_from k rest) else if is_dot b && is_first is_dot rest then codes "::" ++ plain_from 1 rest else b ∷ plain_from 0 rest) (sym (ne_eqb b (byte "$") other_byte))
 
 bare_found : (element rest : List ℕ) → element ≡ codes "_$" ++ rest → starts_with nat_eq element (codes "_$") ≡ true
 bare_found element rest h = (starts_is Decides-eqb element (codes "_$") _ refl).1 rest h

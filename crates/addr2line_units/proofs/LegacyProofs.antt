@@ -1,5 +1,5 @@
 -- That the relation of a legacy name and its text, and the function, agree.
-use Rattle.addr2line_units.proofs.Common.{◌≡◌, ◌∙◌, ◌<◌, ℕ, true, Some, List, [], ◌∷◌, ◌++◌, length, ap, sym, subst, arith, Contains, byte, without_llvm, without_prefix, element_at, elements_at, without_hash, element_text, elements_text, suffix_at, spelled_text, legacy_text, demangled}
+use Rattle.addr2line_units.proofs.Common.{◌≡◌, ◌∙◌, ◌<◌, ℕ, true, Some, List, [], ◌∷◌, ◌++◌, length, ap, sym, subst, arith, Contains, byte, without_llvm, without_prefix, element_at, elements_at, without_hash, element_text, elements_text, suffix_at, spelled_text, legacy_text, demangled, same_Some}
 use Rattle.std.specs.Prelude.{◌==◌, option_and_then, option_map, map}
 use Rattle.std.proofs.lemmas.Bool.{eqb-true}
 use Rattle.addr2line_units.proofs.LegacySteps.{elements_some}
@@ -9,7 +9,7 @@ use Rattle.addr2line_units.proofs.LegacyPlain.{texts_are, texts_only}
 use Rattle.addr2line_units.specs.LegacyName.{IsLegacyName, prefixes, is_suffix, joined}
 use Rattle.addr2line_units.specs.LegacyElements.{AreElements}
 use Rattle.addr2line_units.specs.LegacyLaws.{FindsLegacyNames, FindsOnlyLegacyNames, HasOneText}
-use Rattle.addr2line_units.proofs.Facts.{map_some, some_if, some_inj, then_some}
+use Rattle.addr2line_units.proofs.Facts.{map_some, some_if, then_some}
 
 -- what the function finds is a legacy name and its text
 text_is : (name text : List ℕ) → legacy_text name ≡ Some text → IsLegacyName name text
@@ -72,4 +72,4 @@ finds_only_names language name text h =
     (eqb-true language 0x1c chosen.0, text_is name text chosen.1)
 
 pub has_one_text : HasOneText
-has_one_text name text other a b = some_inj text other (sym (text_found name text a) ∙ text_found name other b)
+has_one_text name text other a b = same_Some text other (sym (text_found name text a) ∙ text_found name other b)

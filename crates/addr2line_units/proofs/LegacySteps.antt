@@ -1,12 +1,12 @@
 -- The steps by which the functions of *LegacyText* go through a name.
-use Rattle.addr2line_units.proofs.Common.{◌≡◌, ◌∙◌, ◌≤◌, ◌<◌, ◌+◌, ◌*◌, ℕ, zero, suc, Bool, true, false, ◌&&◌, Some, None, List, [], ◌∷◌, ◌++◌, take, drop, length, length-take, length-drop, length-append, take-append-drop, append_assoc, append-nil, get_or, map, ap, sym, refl, arith, add-one, leb-true, ltb-true, nat_eq, encode_utf8, codes, digit_value, is_ascii, is_ascii_digit, list_all, prefix_len, starts_with, nat_tests, drop_all, byte, digits_value, without_llvm, element_at, ascii_front, elements_by, elements_within, elements_at, without_hash, element_text, joint_text, escape_in, escape_text, plain_from}
+use Rattle.addr2line_units.proofs.Common.{◌≡◌, ◌∙◌, ◌≤◌, ◌<◌, ◌+◌, ◌*◌, ℕ, zero, suc, Bool, true, false, ◌&&◌, Some, None, List, [], ◌∷◌, ◌++◌, take, drop, length, length-take, length-drop, length-append, take-append-drop, append_assoc, append-nil, get_or, map, ap, sym, refl, arith, add-one, leb-true, ltb-true, nat_eq, encode_utf8, codes, digit_value, is_ascii, is_ascii_digit, list_all, prefix_len, starts_with, nat_tests, drop_all, byte, digits_value, without_llvm, element_at, ascii_front, elements_by, elements_within, elements_at, without_hash, element_text, joint_text, escape_in, escape_text, plain_from, first_so, second_so, same_Some}
 use Rattle.std.specs.Prelude.{nat_lt, nat_le, is_none, if◌then◌else◌, ◌==◌}
 use Rattle.std.proofs.lemmas.List.Sums.{prefix_len-le-length}
 use Rattle.std.proofs.lemmas.Str.Parse.{digits_value-take-le}
 use Rattle.std.proofs.lemmas.Int.Digits.{digits_value_more}
 use Rattle.addr2line_units.specs.LegacyName.{llvm_mark, is_llvm_byte, is_suffix_byte, is_suffix, joined, after_colons}
 use Rattle.addr2line_units.specs.LegacyElements.{is_hash, is_first, is_dot}
-use Rattle.addr2line_units.proofs.Facts.{and_first, and_second, some_if, some_inj}
+use Rattle.addr2line_units.proofs.Facts.{some_if}
 
 abbrev first_of_two : List ℕ × List ℕ → List ℕ
 first_of_two p = p.0
@@ -48,11 +48,11 @@ suffix_byte b h = grind (arith, nat_tests)
 
 suffix_bytes : (bs : List ℕ) → list_all is_suffix_byte bs ≡ true → list_all is_ascii bs ≡ true
 suffix_bytes [] h = refl
-suffix_bytes (b ∷ bs) h = rw (suffix_byte b (and_first _ _ h)) (suffix_bytes bs (and_second _ _ h))
+suffix_bytes (b ∷ bs) h = rw (suffix_byte b (first_so _ _ h)) (suffix_bytes bs (second_so _ _ h))
 
 pub suffix_is_text : (bs : List ℕ) → is_suffix bs ≡ true → list_all is_ascii bs ≡ true
 suffix_is_text [] h = refl
-suffix_is_text (b ∷ bs) h = suffix_bytes (b ∷ bs) (and_second _ _ h)
+suffix_is_text (b ∷ bs) h = suffix_bytes (b ∷ bs) (second_so _ _ h)
 
 -- a first element, and what follows it
 pub front_parts : (n : ℕ) (bytes front rest : List ℕ) → ascii_front n bytes ≡ Some (front, rest)
@@ -60,10 +60,10 @@ pub front_parts : (n : ℕ) (bytes front rest : List ℕ) → ascii_front n byte
 front_parts n bytes front rest h =
     let chosen : ((nat_le n (length bytes) && list_all is_ascii (take n bytes)) ≡ true) × (Some (take n bytes, drop n bytes) ≡ Some (front, rest)) = some_if _ _ _ h in
     let same : Some (take n bytes, drop n bytes) ≡ Some (front, rest) = chosen.1 in
-    let a : take n bytes ≡ front = ap first_of_two (some_inj _ _ same) in
-    let b : drop n bytes ≡ rest = ap second_of_two (some_inj _ _ same) in
-    let le : n ≤ length bytes = leb-true _ _ (and_first _ _ chosen.0) in
-    (sym (take-append-drop n bytes) ∙ ap (λ s. s ++ drop n bytes) a ∙ ap (λ s. front ++ s) b, sym (ap length a) ∙ omega (arith, length-take n bytes), sym (ap (list_all is_ascii) a) ∙ and_second _ _ chosen.0)
+    let a : take n bytes ≡ front = ap first_of_two (same_Some _ _ same) in
+    let b : drop n bytes ≡ rest = ap second_of_two (same_Some _ _ same) in
+    let le : n ≤ length bytes = leb-true _ _ (first_so _ _ chosen.0) in
+    (sym (take-append-drop n bytes) ∙ ap (λ s. s ++ drop n bytes) a ∙ ap (λ s. front ++ s) b, sym (ap length a) ∙ omega (arith, length-take n bytes), sym (ap (list_all is_ascii) a) ∙ second_so _ _ chosen.0)
 
 pub element_shorter : (text element rest : List ℕ) → element_at text ≡ Some (element, rest) → length rest < length text
 unfolding element_at
@@ -117,7 +117,7 @@ rest_none text all h e = sym (ap (λ p. p.1) (elements_none text h)) ∙ e
 pub text_drop : (n : ℕ) (bytes : List ℕ) → list_all is_ascii bytes ≡ true → list_all is_ascii (drop n bytes) ≡ true
 text_drop zero bytes h = h
 text_drop (suc n) [] h = refl
-text_drop (suc n) (b ∷ bs) h = text_drop n bs (and_second _ _ h)
+text_drop (suc n) (b ∷ bs) h = text_drop n bs (second_so _ _ h)
 
 pub plain_skip : (n : ℕ) (bytes : List ℕ) → plain_from n bytes ≡ plain_from 0 (drop n bytes)
 plain_skip zero bytes = refl
@@ -211,8 +211,8 @@ left_out_here : (element rest : List ℕ) → (is_hash element && is_none (eleme
     → (elements_at rest).0 ≡ [] × is_hash element ≡ true
 left_out_here element rest h =
     elim (element_at rest) as (λ o. element_at rest ≡ o → (is_hash element && is_none o) ≡ true → (elements_at rest).0 ≡ [] × is_hash element ≡ true) [
-      | None ↦ λ same q. (ap (λ p. p.0) (elements_none rest same), and_first _ _ q)
-      | Some e ↦ λ _ q. let bad : false ≡ true = and_second (is_hash element) false q in let worse : ⊥ = cc in absurd worse
+      | None ↦ λ same q. (ap (λ p. p.0) (elements_none rest same), first_so _ _ q)
+      | Some e ↦ λ _ q. let bad : false ≡ true = second_so (is_hash element) false q in let worse : ⊥ = cc in absurd worse
     ] refl h
 
 first_elements : (text element rest : List ℕ) → element_at text ≡ Some (element, rest) → (elements_at text).0 ≡ element ∷ (elements_at rest).0

@@ -38,7 +38,7 @@ unread_entries {R} scope u v f order h e = record { in_order = order; view = h; 
 
 -- what was looked at waits where the unit is open
 pub checked_waits : {R : Type 0} (d : Sections) (u : UnitRecord) (v : UnitView R) → IsViewOf d u v → was_checked v.state ≡ true → waits v.state ≡ is_open d u (answer_of_view v)
-checked_waits {R} d u v h k = by v.state (verdict d u (answer_of_view v)) h.right k
+checked_waits {R} d u v h k = by v.state (verdict d u (answer_of_view v)) h.verdict k
   where
     by : (s : ViewState R) (w : Option (Result View Error)) → IfSome (verdict_in d u s) (λ cached. cached ≡ w) → was_checked s ≡ true → waits s ≡ is_none w
     by states.Undecided w e l = absurd cc
@@ -84,8 +84,8 @@ module _ {R : Type 0} (shares : Bool) (scope : Scope) (u : UnitRecord) (given : 
   -- it doesn't wait
   shut_after : waits mid.view.state ≡ false → KeepsAnswered shares scope u given (Ok tt) old mid
   shut_after shut = record {
-    right = check.right;
-    answer = check.stay.answer ∙ sym (decided_if_not scope.file.sections u (first_answer_of old) given (open_by_check scope.file.sections u old.view mid.view false check.right.view check.known check.stay.answer (sym shut)));
+    entries = check.entries;
+    answer = check.stay.answer ∙ sym (decided_if_not scope.file.sections u (first_answer_of old) given (open_by_check scope.file.sections u old.view mid.view false check.entries.view check.known check.stay.answer (sym shut)));
     known = checked_decides mid.view.state check.known shut;
     refused = tt;
     functions = check.functions;
@@ -100,11 +100,11 @@ module _ {R : Type 0} (shares : Bool) (scope : Scope) (u : UnitRecord) (given : 
     never_decided h = never_waits old mid true h check.kept (sym waiting) refl
 
     was_open : is_open scope.file.sections u (first_answer_of old) ≡ true
-    was_open = open_by_check scope.file.sections u old.view mid.view true check.right.view check.known check.stay.answer (sym waiting)
+    was_open = open_by_check scope.file.sections u old.view mid.view true check.entries.view check.known check.stay.answer (sym waiting)
 
     decided_after : (view : UnitView R) → IsViewOf scope.file.sections u view → answer_of_view view ≡ Some given → is_decided view.state ≡ true → KeepsAnswered shares scope u given (Ok tt) old (record { view = view; functions = mid.functions })
     decided_after view right answer known = record {
-      right = unread_entries scope u view mid.functions check.right.in_order right (check.right.unread (undecided_view mid.view.state (waiting_is_undecided mid.view.state waiting)));
+      entries = unread_entries scope u view mid.functions check.entries.in_order right (check.entries.unread (undecided_view mid.view.state (waiting_is_undecided mid.view.state waiting)));
       answer = answer ∙ sym (decided_if_open scope.file.sections u (first_answer_of old) given was_open);
       known = known;
       refused = tt;
@@ -116,7 +116,7 @@ module _ {R : Type 0} (shares : Bool) (scope : Scope) (u : UnitRecord) (given : 
 
     undecided_after : (e : Error) → e ≡ OutOfMemory → is_some given ≡ true → (answer_takes_memory shares given ≡ false → answered_view scope.file.sections u given ≡ Err e) → KeepsAnswered shares scope u given (Err e) old mid
     undecided_after e oom some fault = record {
-      right = check.right;
+      entries = check.entries;
       answer = tt;
       known = tt;
       refused = (oom, check.stay, some);
@@ -124,11 +124,11 @@ module _ {R : Type 0} (shares : Bool) (scope : Scope) (u : UnitRecord) (given : 
       kept = λ h. absurd (never_decided h);
       none = λ shut. absurd (false≢true (sym shut ∙ was_open));
       no_memory = λ takes. ap (λ a. view_fault (verdict scope.file.sections u a)) (decided_if_open scope.file.sections u (first_answer_of old) given was_open)
-          ∙ ap view_fault (verdict_of_open scope.file.sections u given (waiting_is_open scope.file.sections u mid.view.state waiting check.right.view)) ∙ ap (λ (r : Result View Error). fault_of r) (fault takes);
+          ∙ ap view_fault (verdict_of_open scope.file.sections u given (waiting_is_open scope.file.sections u mid.view.state waiting check.entries.view)) ∙ ap (λ (r : Result View Error). fault_of r) (fault takes);
     }
 
     answered_after : (result : Result (Unit {0}) Error) (view : UnitView R) → AfterViewAnswer shares scope.file.sections u given result mid.view view → KeepsAnswered shares scope u given result old (record { view = view; functions = mid.functions })
-    answered_after (Ok tt) view a = decided_after view (answered_is_right scope.file.sections u given view (waiting_is_open scope.file.sections u mid.view.state waiting check.right.view) a.answer a.read) a.answer
+    answered_after (Ok tt) view a = decided_after view (answered_is_right scope.file.sections u given view (waiting_is_open scope.file.sections u mid.view.state waiting check.entries.view) a.answer a.read) a.answer
         (decided_by_verdict scope.file.sections u view.state (answered_view scope.file.sections u given) a.read)
     answered_after (Err e) view a = subst (λ v. KeepsAnswered shares scope u given (Err e) old (record { view = v; functions = mid.functions })) (sym a.refused.1) (undecided_after e a.refused.0 a.refused.2 a.no_memory)
 
@@ -151,7 +151,7 @@ keeps_answered {R} shares scope u given result old new h a = subst (λ f. KeepsA
 
 -- after the answer was forgotten
 pub keeps_forgotten : {R : Type 0} (scope : Scope) (u : UnitRecord) (old new : CachedUnit R) → AreEntriesOf scope u old.entries → AfterForgettingIn old new → KeepsForgotten scope u old.entries new.entries
-keeps_forgotten {R} scope u old new h a = record { right = by (first_answer_of old.entries) refl; answer = a.view.answer; kept = a.kept; empty = a.empty }
+keeps_forgotten {R} scope u old new h a = record { entries = by (first_answer_of old.entries) refl; answer = a.view.answer; kept = a.kept; empty = a.empty }
   where
     by : (o : Option (Option Sections)) → first_answer_of old.entries ≡ o → AreEntriesOf scope u new.entries
     by None e = subst (AreEntriesOf scope u) (sym (a.kept e)) h

@@ -1,11 +1,12 @@
 -- Laws of the loads that an address waits for (on specs/LoadsLaws.antt).
-use Rattle.addr2line_units.proofs.Common.{◌≡◌, ◌≢◌, ◌⊎◌, inl, inr, ℕ, zero, suc, ◌<◌, ◌≤◌, ◌==◌, ◌&&◌, not, cond, Bool, true, false, List, [], ◌∷◌, filter, length, slice_get, arith, subst, Option, Some, None, option_map, Result, Ok, Err, ap, refl, sym, ◌∙◌, eq-eqb, eqb_tells, set, slice_get_within, Error, ◌>>=◌, Sections, UnitRecord, Scope, UnitRange, Waits, answer_of, asked_frames, frames_of_number, or_stop, stop_along, with_answer, before_others, is_of_other, is_open_at, load_of_number, loads_along, LeadTo, FramesResult, frames_in, IndexedUnit, unit_records, FirstAnswers, SplitLoad, awaited_by, awaited_load, decided_answer, is_open, load_of_unit}
+use Rattle.addr2line_units.proofs.Common.{◌≡◌, ◌≢◌, ◌⊎◌, inl, inr, ℕ, zero, suc, ◌<◌, ◌≤◌, ◌==◌, ◌&&◌, not, cond, Bool, true, false, List, [], ◌∷◌, filter, length, slice_get, arith, subst, Option, Some, None, option_map, Result, Ok, Err, ap, refl, sym, ◌∙◌, eq-eqb, eqb_tells, set, slice_get_within, Error, ◌>>=◌, Sections, UnitRecord, Scope, UnitRange, Waits, answer_of, asked_frames, frames_of_number, or_stop, stop_along, with_answer, before_others, is_of_other, is_open_at, load_of_number, loads_along, LeadTo, FramesResult, frames_in, IndexedUnit, unit_records, FirstAnswers, SplitLoad, awaited_by, awaited_load, decided_answer, is_open, load_of_unit, get_set_other}
+use Rattle.std.proofs.Math.Bool.{and_comm, and_self}
 use Rattle.std.specs.Prelude.{is_some, unwrap_or}
 use Rattle.addr2line_units.specs.LoadsLaws.{IsListed, LeaveFewer, LeaveOthers, NeedLoadsToWait, WaitForListed, loads_of}
 use Rattle.addr2line_units.proofs.LoadsAnswerLemmas.{decided_if_not, decided_if_open}
 use Rattle.addr2line_units.proofs.LoadsLemmas.{answer_after, awaited_unit, open_awaits}
 use Rattle.addr2line_units.proofs.FramesWaitLemmas.{open_of_none, same_number, told_by_unit}
-use Rattle.addr2line_units.proofs.Facts.{and_comm, and_same, filter_twice, no_answer, others_stay}
+use Rattle.addr2line_units.proofs.Facts.{filter_twice, no_answer}
 
 -- whether a load is that of another unit, by the numbers
 other_not : (n : ℕ) (l : SplitLoad) → l.unit ≡ n → is_of_other n l ≡ false
@@ -48,7 +49,7 @@ taken_here n None loads own = refl
 taken_here n (Some l) loads own =
     ap (λ b. cond b (l ∷ filter (is_of_other n) (filter (is_of_other l.unit) loads)) (filter (is_of_other n) (filter (is_of_other l.unit) loads))) (other_not n l (own l refl))
     ∙ ap (λ m. filter (is_of_other n) (filter (is_of_other m) loads)) (own l refl)
-    ∙ filter_twice (is_of_other n) (is_of_other n) (is_of_other n) (λ x. and_same (is_of_other n x)) loads
+    ∙ filter_twice (is_of_other n) (is_of_other n) (is_of_other n) (λ x. sym (and_self (is_of_other n x))) loads
 
 taken_past : (n : ℕ) (o : Option SplitLoad) (loads : List SplitLoad) → ((l : SplitLoad) → o ≡ Some l → l.unit ≢ n) → before_others o (filter (is_of_other n) loads) ≡ filter (is_of_other n) (before_others o loads)
 taken_past n None loads ne = refl
@@ -133,7 +134,7 @@ module _ (d : Sections) (us : List UnitRecord) where
     where
       by : (o : Option UnitRecord) → answer_of (elim o [ None ↦ answers | Some u ↦ set answers n (decided_answer d u (answer_of answers n) given) ]) k ≡ answer_of answers k
       by None = refl
-      by (Some u) = ap (λ x. unwrap_or x None) (others_stay answers n k (decided_answer d u (answer_of answers n) given) ne)
+      by (Some u) = ap (λ x. unwrap_or x None) (get_set_other answers n k (decided_answer d u (answer_of answers n) given) ne)
 
   pub load_others : (answers : FirstAnswers) (n : ℕ) (given : Option Sections) (k : ℕ) → k ≢ n → load_of_number d us (with_answer d us answers n given) k ≡ load_of_number d us answers k
   load_others answers n given k ne = ap (λ a. load_or_none k a (slice_get us k)) (answers_others answers n given k ne)

@@ -136,20 +136,20 @@ module _ {R : Type 0} (scope : Scope) (n : ℕ) (u : UnitRecord) (marks marked :
     -- it doesn't wait
     not_listed : waits new.view.state ≡ false → KeepsListed scope n u marks marks (Ok None) old new
     not_listed shut =
-        let was = open_by_check d u old.view new.view false checked.right.view checked.known checked.stay.answer (sym shut) in
+        let was = open_by_check d u old.view new.view false checked.entries.view checked.known checked.stay.answer (sym shut) in
         let none : awaited ≡ None = no_answer awaited (sym (open_awaits d n u (first_answer_of old)) ∙ was) in
         record { checked = checked; gives = sym (ap (if_new marks) none); marks_load = marks_none marks awaited none; none = λ _. refl; refused = tt }
 
     -- it waits
     module _ (waiting : waits new.view.state ≡ true) where
       was_open : is_open d u (first_answer_of old) ≡ true
-      was_open = open_by_check d u old.view new.view true checked.right.view checked.known checked.stay.answer (sym waiting)
+      was_open = open_by_check d u old.view new.view true checked.entries.view checked.known checked.stay.answer (sym waiting)
 
       some : is_some awaited ≡ true
       some = sym (open_awaits d n u (first_answer_of old)) ∙ was_open
 
       no_verdict : verdict d u None ≡ None
-      no_verdict = waiting_is_open d u new.view.state waiting checked.right.view
+      no_verdict = waiting_is_open d u new.view.state waiting checked.entries.view
 
       given : (b : Bool) (l : Option SplitLoad) → is_marked marks n ≡ b → (if b then Ok None else load_of_unit d n u) ≡ Ok l → l ≡ if_new marks awaited
       given true l m e =

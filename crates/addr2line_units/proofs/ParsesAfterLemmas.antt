@@ -59,7 +59,7 @@ module _ {R : Type 0} (shares : Bool) (scope : Scope) (view : UnitRecord) (old n
 
     pub alone_after : KeepsReadFunctions shares depths.Functions scope view (cached_fault new) old new
     alone_after = record {
-      right = right;
+      functions = right;
       stay = cached_stay scope view old new kept;
       known = record {
         read = fault_read new read;
@@ -82,7 +82,7 @@ module _ {R : Type 0} (shares : Bool) (scope : Scope) (view : UnitRecord) (old n
   module _ (depth : ReadingDepth) (e : Error) (oom : e ≡ OutOfMemory) (same : new ≡ old) (unread : were_read old ≡ true → ⊥) (fault : functions_take_memory shares scope.file.sections view ≡ false → functions_of scope.file.sections view ≡ Err e) where
     pub refused_after : KeepsReadFunctions shares depth scope view (Err e) old new
     refused_after = record {
-      right = right;
+      functions = right;
       stay = cached_stay scope view old new (λ read. same);
       known = record {
         read = tt;
@@ -102,7 +102,7 @@ module _ {R : Type 0} (shares : Bool) (scope : Scope) (view : UnitRecord) (old n
       → OnOk result (were_read new ≡ true) → OnOk result (AllByRecursion HasDetail (cached_functions new).functions) → (WasNotRefused result → IsReadyFor depths.Details (known_functions new)) → (IsReadyFor depths.Details (known_functions new) → WasNotRefused result)
       → (IsReadyFor depths.Details (known_functions old) → result ≡ functions_fault scope view) → (IsReadyFor depths.Details (known_functions old) → new ≡ old) → KeepsReadFunctions shares depths.Details scope view result old new
   details_after result before gives stay read details ready memory exact same = record {
-    right = right;
+    functions = right;
     stay = stay;
     known = record {
       read = details_read scope view (reading_takes_memory shares scope view old) new result right gives read details;
@@ -147,7 +147,7 @@ module _ {R : Type 0} (shares : Bool) (depth : ReadingDepth) (scope : Scope) (u 
     refused_view_after = record {
       view = refl;
       stay = functions_stay scope u old.functions;
-      known = subst (λ k. AfterReadingOf depth reading (Err x) false k false k) (sym (fault_by_view scope.file.sections u answered x old.view.state old.functions decided before.view.right is)) (fault_after depth reading x view_refused);
+      known = subst (λ k. AfterReadingOf depth reading (Err x) false k false k) (sym (fault_by_view scope.file.sections u answered x old.view.state old.functions decided before.view.verdict is)) (fault_after depth reading x view_refused);
       details = λ _ n. refl;
       no_memory = λ none. view_refused;
     }
@@ -157,7 +157,7 @@ module _ {R : Type 0} (shares : Bool) (depth : ReadingDepth) (scope : Scope) (u 
     view_reads = ap (read_of_view depth scope) v.is ∙ view_read depth scope v.view inner x v.unit v.leads
 
     known_is : (f : LazyFunctions R) → known_by old.view.state f ≡ known_functions f
-    known_is f = functions_by_view scope.file.sections u answered v.view old.view.state f decided before.view.right v.is
+    known_is f = functions_by_view scope.file.sections u answered v.view old.view.state f decided before.view.verdict v.is
 
     pub view_gives : (result : Result (Unit {0}) Error) → ExactlyUnlessOom (λ y. y) result (read_of_functions depth inner x) → ExactlyUnlessOom (λ y. y) result reading
     view_gives result gives = subst (ExactlyUnlessOom (λ y. y) result) (sym view_reads) gives
@@ -186,7 +186,7 @@ module _ {R : Type 0} (shares : Bool) (depth : ReadingDepth) (scope : Scope) (u 
   answer_then = ap (λ v. answer_of_view v) a.view
 
   shut_now : is_open d u (first_answer_of new) ≡ false
-  shut_now = ap (is_open d u) answer_then ∙ not_open scope u 0 mid given.right given.known
+  shut_now = ap (is_open d u) answer_then ∙ not_open scope u 0 mid given.entries given.known
 
   -- of what was known of a unit that wasn't open
   was_decided : IsDecidedAndReady depth (is_open d u (first_answer_of old)) (known_by old.view.state old.functions) → is_decided old.view.state ≡ true

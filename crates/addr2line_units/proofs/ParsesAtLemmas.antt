@@ -1,12 +1,11 @@
 -- What a parse of functions leaves of the unit of a number (on specs/ParsesAfter.antt and
 -- specs/UnitsStored.antt).
-use Rattle.addr2line_units.proofs.Common.{◌≡◌, ◌∙◌, inl, inr, ℕ, zero, suc, ◌<◌, arith, Bool, true, false, List, [], ◌∷◌, length, get_or, slice_get, Option, Some, None, option_map, Result, Ok, Err, refl, sym, ap, subst, set, slice_get-map, slice_get_past, slice_get_read, IfErr, OnOk, Error, Sections, UnitRecord, Scope, FramesStop, ReadingDepth, CachedUnit, EntriesCache, first_answer_of, has_entries, known_by, known_in, answers_in, is_decided, was_checked, FindsNothing, LookupStop, answer_of, IsReadyFor, parse_of_takes_memory, parse_takes_memory, read_of_number, read_of_unit, is_open_at, AreUnits, as_units_state, UnitsState, FirstAnswers, is_open}
+use Rattle.addr2line_units.proofs.Common.{◌≡◌, ◌∙◌, inl, inr, ℕ, zero, suc, ◌<◌, arith, Bool, true, false, List, [], ◌∷◌, length, get_or, slice_get, Option, Some, None, option_map, Result, Ok, Err, refl, sym, ap, subst, set, slice_get-map, slice_get_past, slice_get_read, IfErr, OnOk, Error, Sections, UnitRecord, Scope, FramesStop, ReadingDepth, CachedUnit, EntriesCache, first_answer_of, has_entries, known_by, known_in, answers_in, is_decided, was_checked, FindsNothing, LookupStop, answer_of, IsReadyFor, parse_of_takes_memory, parse_takes_memory, read_of_number, read_of_unit, is_open_at, AreUnits, as_units_state, UnitsState, FirstAnswers, is_open, get_set_other, get_set_same}
 use Rattle.std.specs.Prelude.{IfSome, unwrap_or}
 use Rattle.addr2line_units.specs.CacheAfter.{AfterEntries}
 use Rattle.addr2line_units.specs.ParsesAfter.{AfterReadingAt, AfterReadingUnit}
 use Rattle.addr2line_units.specs.EntriesStayKnown.{IsReadBy, StaysKnownOf}
 use Rattle.addr2line_units.proofs.LoadsAnswerLemmas.{answered_all, answers_stay, decided_if_not, checked_waits}
-use Rattle.addr2line_units.proofs.ParsesCachedLemmas.{got_set}
 use Rattle.addr2line_units.proofs.UnitsCachedLemmas.{entries_more, same_lines_set}
 use Rattle.addr2line_units.proofs.EntriesKnownLemmas.{known_is, known_unchanged}
 use Rattle.addr2line_units.proofs.EntriesLearnedLemmas.{set_details}
@@ -16,7 +15,7 @@ use Rattle.addr2line_units.proofs.EntriesStayLemmas.{entries_whole, whole_was_ch
 use Rattle.addr2line_units.proofs.UnitsAtLemmas.{all_entries, as_many, cache_within, its_entries, unit_is, unit_within}
 use Rattle.addr2line_units.proofs.FramesWaitLemmas.{known_was_checked}
 use Rattle.addr2line_units.proofs.EntriesLemmas.{checked_decides}
-use Rattle.addr2line_units.proofs.Facts.{others_stay, slice_get_none}
+use Rattle.addr2line_units.proofs.Facts.{slice_get_none}
 use Rattle.addr2line_units.proofs.CachedUnits.{HaveSameLines}
 
 -- what is read of the unit of a number, whether it is open, and whether memory is taken, by its
@@ -127,7 +126,7 @@ module _ {R : Type 0} {scope : Scope} {held : List (CachedUnit R)} {last : Frame
     held_there = slice_get_read held (length held) n c refl within at
 
     now_there : slice_get now n ≡ Some after
-    now_there = got_set held n after within
+    now_there = get_set_same held n after within
 
     answer_was : answer_of (answers_in held) n ≡ first_answer_of v
     answer_was = answer_there held n c held_there
@@ -184,7 +183,7 @@ module _ {R : Type 0} {scope : Scope} {held : List (CachedUnit R)} {last : Frame
         | inr more ↦ inr (answered_all d us held n u c after None (unit_within i n there) within (unit_is i n there) at more)
       ];
       known = stays_known;
-      others = λ k ne. known_unchanged held now k (others_stay held n k after ne);
+      others = λ k ne. known_unchanged held now k (get_set_other held n k after ne);
       details = λ is k offset. set_details held n c after within at offset (a.details is offset) k;
       read = subst (λ o. OnOk result (IfSome o (IsReadBy depth))) (sym known_now) a.known.read;
       whole = λ h. a.known.whole (subst (λ o. IfSome o (IsReadBy depth)) known_was h);

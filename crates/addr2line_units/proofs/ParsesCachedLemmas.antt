@@ -1,6 +1,6 @@
 -- What is cached of the entries of a unit, and read of them, in a parse of functions (on
 -- specs/ParsesAfter.antt).
-use Rattle.addr2line_units.proofs.Common.{◌≡◌, ℕ, zero, suc, ◌<◌, Bool, true, false, not, ◌&&◌, ◌||◌, List, [], ◌∷◌, length, get_or, slice_get, Option, Some, None, Result, Ok, Err, is_some, refl, ap, sym, subst, ◌∙◌, arith, set, OnOk, AllByRecursion, Error, takes_memory_after, ◌>>=◌, ExactlyUnlessOomIf, fault_of, UnitRecord, Detail, FunctionRange, entries_of, functions_of, CachedFunction, HasDetail, IsDetailOf, details_fault, all_read_once, read_fault, Scope, LazyFunctions, ReadingDepth, CachedUnit, EntriesCache, answer_of, read_of_functions, read_of_number, read_of_unit, read_of_view, StayEntries, first_answer_of, AreFunctionsOf, StayFunctions, details_at, functions_fault, cached_functions, is_cached_fault, reading_takes_memory, were_read, answers_in, known_functions, View, view_scope}
+use Rattle.addr2line_units.proofs.Common.{◌≡◌, ℕ, ◌<◌, Bool, true, false, not, ◌&&◌, ◌||◌, List, [], ◌∷◌, length, get_or, Option, Some, None, Result, Ok, Err, is_some, refl, ap, sym, subst, ◌∙◌, OnOk, AllByRecursion, Error, takes_memory_after, ◌>>=◌, ExactlyUnlessOomIf, fault_of, UnitRecord, Detail, FunctionRange, entries_of, functions_of, CachedFunction, HasDetail, IsDetailOf, details_fault, all_read_once, read_fault, Scope, LazyFunctions, ReadingDepth, CachedUnit, EntriesCache, answer_of, read_of_functions, read_of_number, read_of_unit, read_of_view, StayEntries, first_answer_of, AreFunctionsOf, StayFunctions, details_at, functions_fault, cached_functions, is_cached_fault, reading_takes_memory, were_read, answers_in, known_functions, View, view_scope}
 use Rattle.addr2line_lines.specs.Details.{detail_takes_memory as takes}
 use Rattle.addr2line_units.specs.declared.entries.LazyFunctions.TheVariants as lazy
 use Rattle.addr2line_units.specs.declared.parses.ReadingDepth.TheVariants as depths
@@ -65,13 +65,6 @@ details_cached shares scope view (lazy.Read t) r right h gives =
     let all = all_have_detail t.value.functions h in
     exactly_ok ((all_read_once scope view t.value.functions).takes_memory shares) r (functions_fault scope view) (no_detail_memory shares scope view t.value.functions all)
     (fault_is scope view t.value right ∙ no_detail_fault scope view t.value.functions all right.details) gives
-
-module _ {R : Type 0} where
-  -- the unit of a number that was put back
-  pub got_set : (vs : List (CachedUnit R)) (n : ℕ) (w : CachedUnit R) → n < length vs → slice_get (set vs n w) n ≡ Some w
-  got_set [] n w h = absurd (omega arith)
-  got_set (x ∷ vs) zero w h = refl
-  got_set (x ∷ vs) (suc n) w h = got_set vs n w (omega arith)
 
 -- what is read of a view, by its unit and where references lead from it
 pub view_read : (r : ReadingDepth) (scope : Scope) (view : View) (inner : Scope) (x : UnitRecord) → view.unit ≡ x → inner ≡ view_scope scope view → read_of_view r scope (Some (Ok view)) ≡ read_of_functions r inner x

@@ -95,7 +95,7 @@ open_in d u (states.Answered a) h right = cc
 
 -- a unit whose view waits has no verdict without an answer
 pub waiting_is_open : {R : Type 0} (d : Sections) (u : UnitRecord) (s : ViewState R) → waits s ≡ true → IsViewOf d u (record { state = s }) → verdict d u None ≡ None
-waiting_is_open d u s h right = open_in d u s h right.right
+waiting_is_open d u s h right = open_in d u s h right.verdict
 
 first_by : (d main : _) (split : Sections) (first : Result (Option UnitRecord) Error) → ((first >>= λ u. Ok (option_map (λ x. relocated x main) u)) >>= λ x. Ok (view_by d main (Some split) x)) ≡ (first >>= λ u. Ok (first_view d main split u))
 first_by d main split (Err e) = refl
@@ -205,7 +205,7 @@ scope_of_split {R} scope split v e d u = subst (λ p. IfSome (verdict_or d u v.s
 
 -- what holds of the view that is cached of a unit holds of its view, where it is decided
 pub of_cached_view : {R : Type 0} (d : Sections) (u : UnitRecord) (v : UnitView R) (P : Result View Error → Type 0) → IsViewOf d u v → is_decided v.state ≡ true → IfSome (verdict_in d u v.state) (λ known. IfSome known P) → IfSome (verdict d u (answer_of_view v)) P
-of_cached_view {R} d u v P h decided p = by v.state (verdict d u (answer_of_view v)) decided h.right p
+of_cached_view {R} d u v P h decided p = by v.state (verdict d u (answer_of_view v)) decided h.verdict p
   where
     by : (s : ViewState R) (w : Option (Result View Error)) → is_decided s ≡ true → IfSome (verdict_in d u s) (λ cached. cached ≡ w) → IfSome (verdict_in d u s) (λ known. IfSome known P) → IfSome w P
     by states.Undecided w k e q = absurd cc
@@ -216,7 +216,7 @@ of_cached_view {R} d u v P h decided p = by v.state (verdict d u (answer_of_view
 
 -- and its fault is that of its view
 pub cached_fault : {R : Type 0} (d : Sections) (u : UnitRecord) (v : UnitView R) (r : Result (Unit {0}) Error) → IsViewOf d u v → is_decided v.state ≡ true → IfSome (verdict_in d u v.state) (λ known. IfSome known (λ view. r ≡ fault_of view)) → r ≡ view_fault (verdict d u (answer_of_view v))
-cached_fault {R} d u v r h decided p = by v.state (verdict d u (answer_of_view v)) decided h.right p
+cached_fault {R} d u v r h decided p = by v.state (verdict d u (answer_of_view v)) decided h.verdict p
   where
     by : (s : ViewState R) (w : Option (Result View Error)) → is_decided s ≡ true → IfSome (verdict_in d u s) (λ cached. cached ≡ w) → IfSome (verdict_in d u s) (λ known. IfSome known (λ view. r ≡ fault_of view)) → r ≡ view_fault w
     by states.Undecided w k e q = absurd cc
@@ -227,7 +227,7 @@ cached_fault {R} d u v r h decided p = by v.state (verdict d u (answer_of_view v
 
 -- what is cached of the verdict of a unit, or the bytes say, is its verdict
 pub verdict_or_is : {R : Type 0} (d : Sections) (u : UnitRecord) (v : UnitView R) → IsViewOf d u v → verdict_or d u v.state ≡ verdict d u (answer_of_view v)
-verdict_or_is {R} d u v h = by v.state h.right
+verdict_or_is {R} d u v h = by v.state h.verdict
   where
     by : (s : ViewState R) → IfSome (verdict_in d u s) (λ cached. cached ≡ verdict d u (answer_in s)) → verdict_or d u s ≡ verdict d u (answer_in s)
     by states.Undecided e = refl
@@ -250,14 +250,14 @@ checked_is_right d u old new h a = by (was_checked old.state) refl
     by : (b : Bool) → was_checked old.state ≡ b → IsViewOf d u new
     by true e = subst (IsViewOf d u) (sym (a.kept e)) h
     by false e = record {
-      right = subst (λ o. IfSome o (λ cached. cached ≡ verdict d u (answer_of_view new))) (sym (a.read e)) (ap (verdict d u) (sym (a.answer ∙ unchecked_has_none old.state e)));
+      verdict = subst (λ o. IfSome o (λ cached. cached ≡ verdict d u (answer_of_view new))) (sym (a.read e)) (ap (verdict d u) (sym (a.answer ∙ unchecked_has_none old.state e)));
       waited = λ some. h.waited (sym (ap is_some a.answer) ∙ some);
     }
 
 -- and after it was answered, where it waited
 pub answered_is_right : {R : Type 0} (d : Sections) (u : UnitRecord) (given : Option Sections) (v : UnitView R) → verdict d u None ≡ None → answer_of_view v ≡ Some given → verdict_in d u v.state ≡ Some (Some (answered_view d u given)) → IsViewOf d u v
 answered_is_right d u given v waiting answer read = record {
-  right = subst (λ o. IfSome o (λ cached. cached ≡ verdict d u (answer_of_view v))) (sym read) (sym (ap (verdict d u) answer ∙ verdict_of_open d u given waiting));
+  verdict = subst (λ o. IfSome o (λ cached. cached ≡ verdict d u (answer_of_view v))) (sym read) (sym (ap (verdict d u) answer ∙ verdict_of_open d u given waiting));
   waited = λ _. ap is_none waiting;
 }
 
@@ -271,7 +271,7 @@ decided_by_verdict d u (states.Answered a) r e = refl
 
 -- a unit that waits without an answer is right where it is open
 pub waiting_is_right : {R : Type 0} (d : Sections) (u : UnitRecord) (v : UnitView R) → waits v.state ≡ true → answer_of_view v ≡ None → is_open d u None ≡ true → IsViewOf d u v
-waiting_is_right {R} d u v w none open_is = record { right = by v.state w none; waited = λ _. open_is }
+waiting_is_right {R} d u v w none open_is = record { verdict = by v.state w none; waited = λ _. open_is }
   where
     no_verdict : (o : Option (Result View Error)) → is_none o ≡ true → o ≡ None
     no_verdict None e = refl

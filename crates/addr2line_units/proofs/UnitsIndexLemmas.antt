@@ -1,6 +1,7 @@
 -- The units of a context as they are read (on specs/UnitsRanged.antt and specs/UnitsIndex.antt and
 -- specs/UnitsIndexed.antt).
 use Rattle.addr2line_units.proofs.Common.{◌≡◌, ◌≢◌, ◌+◌, ℕ, suc, Bool, true, false, is_ok, if◌then◌else◌, ◌<◌, subst, arith, List, [], ◌∷◌, ◌++◌, length, map, drop, Option, Some, None, Result, Ok, Err, refl, sym, ap, ◌∙◌, nat_lt, length-map, map-append, Error, OffsetOutOfBounds, OutOfMemory, Section, after, Costed, free, UnitHeaderFields, Sections, UnitRecord, unit_by, unit_record_of, UnitArange, UnitRange, IndexedUnit, indexed_of, RangedUnit, has_lines, is_type_unit, range_of_unit, ranged_unit, unit_ranges_from, unit_of_header, unit_ranges, unless_faulty, by_abbreviations, has_abbreviations}
+use Rattle.std.proofs.lemmas.Bool.{true_from_ne_false}
 use Rattle.std.specs.Result.{result_ok}
 use Rattle.std.proofs.lemmas.List.{append-nil, append_assoc, length-append}
 use Rattle.gimli_read.specs.Abbrev.{table_at}
@@ -99,11 +100,7 @@ module _ (d : Sections) (h : UnitHeaderFields) (outside : has_abbreviations d h 
 -- a unit for which memory was taken, or whose record is read, has abbreviations
 module _ (d : Sections) (h : UnitHeaderFields) where
   unless_outside : ((has_abbreviations d h ≡ false) → ⊥) → has_abbreviations d h ≡ true
-  unless_outside f = of_bool (has_abbreviations d h) f
-    where
-      of_bool : (b : Bool) → (b ≡ false → ⊥) → b ≡ true
-      of_bool true f = refl
-      of_bool false f = absurd (f refl)
+  unless_outside f = true_from_ne_false (has_abbreviations d h) f
 
   pub where_taken : (shares : Bool) (cache : CachedTables) → cache.dwarf ≡ d → ((cached_unit_takes_memory shares cache h ≡ true → OutOfMemory ≢ OutOfMemory) → unit_record_of d h ≡ Err OutOfMemory) → has_abbreviations d h ≡ true
   where_taken shares cache same gives = unless_outside (λ outside.

@@ -1,10 +1,12 @@
 -- The units of a context whose lines are cached one after another (on specs/UnitLinesCached.antt and
 -- specs/LocationsParsed.antt).
-use Rattle.addr2line_units.proofs.Common.{◌≡◌, ℕ, zero, suc, ◌+◌, ◌-◌, ◌≤◌, ◌<◌, Bool, true, false, not, ◌||◌, List, [], ◌∷◌, ◌++◌, length, map, drop, add-one, get_or, Option, Some, None, slice_get, Result, Ok, Err, is_ok, refl, sym, ap, subst, arith, ◌∙◌, ◌⊎◌, inl, inr, drop_of_length-le, set, Error, Range, ◌>>=◌, ExactlyUnlessOom, fault_of, result_map, WasNotRefused, DwLang, Sections, UnitRecord, LineTable, read_all, unit_lines, LazyLines, CachedUnit, UnitRange, IndexedUnit, has_lines, range_of_unit, unit_ranges, all_lines, lines_of_unit, steps_along, steps_in, lines_of_take_memory, AllAskFor, AreParsed, AreReadyForAll, ParsesOnly, StaysParsed, TakeNone, TakeNoneForAll, can_be_read, has_parsed, parses_no_memory, AreLinesOf, CachesResult, HaveLinesOf, StayLines, indexed_unit, indexed_units, is_parsed, is_uncached, lines_result, lines_result_at, lines_at, parsed_units}
+use Rattle.addr2line_units.proofs.Common.{◌≡◌, ℕ, zero, suc, ◌+◌, ◌-◌, ◌≤◌, ◌<◌, Bool, true, false, not, ◌||◌, List, [], ◌∷◌, ◌++◌, length, map, drop, add-one, get_or, Option, Some, None, slice_get, Result, Ok, Err, is_ok, refl, sym, ap, subst, arith, ◌∙◌, inl, inr, drop_of_length-le, set, Error, Range, ◌>>=◌, ExactlyUnlessOom, fault_of, result_map, WasNotRefused, DwLang, Sections, UnitRecord, LineTable, read_all, unit_lines, LazyLines, CachedUnit, UnitRange, IndexedUnit, has_lines, range_of_unit, unit_ranges, all_lines, lines_of_unit, steps_along, steps_in, lines_of_take_memory, AllAskFor, AreParsed, AreReadyForAll, ParsesOnly, StaysParsed, TakeNone, TakeNoneForAll, can_be_read, has_parsed, parses_no_memory, AreLinesOf, CachesResult, HaveLinesOf, StayLines, indexed_unit, indexed_units, is_parsed, is_uncached, lines_result, lines_result_at, lines_at, parsed_units}
+use Rattle.std.proofs.Math.Nat.{eq-or-lt_of_le}
+use Rattle.std.proofs.lemmas.Bool.{not-true}
 use Rattle.std.proofs.lemmas.List.{append-nil}
 use Rattle.std.proofs.lemmas.List.Sums.{sum_by-cons}
 use Rattle.addr2line_units.specs.UnitsIndexed.{IndexState, appended, as_ranged_unit}
-use Rattle.addr2line_units.proofs.Facts.{below_or_at, err_ok, never, not_is, ok_err, three}
+use Rattle.addr2line_units.proofs.Facts.{below_or_at, err_ok, never, ok_err, three}
 use Rattle.addr2line_units.proofs.CachedUnits.{StayAllLines}
 
 pub stay_all : {R : Type 0} (rs : List (CachedUnit R)) → StayAllLines rs rs
@@ -37,7 +39,7 @@ pub stay_parsed : {R : Type 0} (rs ss : List (CachedUnit R)) → StayAllLines rs
 stay_parsed [] [] a n e = e
 stay_parsed [] (s ∷ ss) a n e = absurd a
 stay_parsed (r ∷ rs) [] a n e = absurd a
-stay_parsed (r ∷ rs) (s ∷ ss) a zero e = ap (λ l. not (is_uncached l)) (a.0.lines (not_is (is_uncached r.lines.lines) e)) ∙ e
+stay_parsed (r ∷ rs) (s ∷ ss) a zero e = ap (λ l. not (is_uncached l)) (a.0.lines (not-true (is_uncached r.lines.lines) e)) ∙ e
 stay_parsed (r ∷ rs) (s ∷ ss) a (suc n) e = stay_parsed rs ss a.1 n e
 
 -- beside each unit stand lines
@@ -78,7 +80,7 @@ parsed_set (x ∷ rs) (suc n) s h e = parsed_set rs n s (omega arith) e
 
 pub set_parsed : {R : Type 0} (rs : List (CachedUnit R)) (n : ℕ) (s : CachedUnit R) → n < length rs → has_parsed (parsed_units (set rs n s)) n ≡ true → is_uncached s.lines.lines ≡ false
 set_parsed [] n s h e = absurd (omega arith)
-set_parsed (x ∷ rs) zero s h e = not_is (is_uncached s.lines.lines) e
+set_parsed (x ∷ rs) zero s h e = not-true (is_uncached s.lines.lines) e
 set_parsed (x ∷ rs) (suc n) s h e = set_parsed rs n s (omega arith) e
 
 -- no lines are cached but those of the unit of a number
@@ -230,24 +232,14 @@ module _ (d : Sections) where
 
 -- the lines of the units before a number are parsed
 pub parsed_below : (p : List Bool) (k : ℕ) → ((n : ℕ) → n < k → has_parsed p n ≡ true) → has_parsed p k ≡ true → (n : ℕ) → n < k + 1 → has_parsed p n ≡ true
-parsed_below p k before at n h = elim (le_cases n k (omega arith)) [ inl e ↦ ap (has_parsed p) e ∙ at | inr l ↦ before n l ]
-  where
-    le_cases : (m k : ℕ) → m ≤ k → (m ≡ k) ⊎ (m < k)
-    le_cases zero zero h = inl refl
-    le_cases zero (suc k) h = inr (omega arith)
-    le_cases (suc m) zero h = absurd (omega arith)
-    le_cases (suc m) (suc k) h = elim (le_cases m k (omega arith)) [ inl e ↦ inl (ap suc e) | inr l ↦ inr (omega arith) ]
+parsed_below p k before at n h =
+    let le : n ≤ k = omega arith in
+    elim (eq-or-lt_of_le le) [ inl e ↦ ap (has_parsed p) e ∙ at | inr l ↦ before n l ]
 
 pub all_parsed : (p : List Bool) (k : ℕ) → length p ≤ k → ((n : ℕ) → n < k → has_parsed p n ≡ true) → (n : ℕ) → has_parsed p n ≡ true
 all_parsed [] k le f n = refl
 all_parsed (b ∷ p) k le f zero = f zero (omega arith)
 all_parsed (b ∷ p) k le f (suc n) = all_parsed p (k - 1) (omega arith) (λ m h. f (suc m) (omega arith)) n
-
-pub steps_raised : (a b c : ℕ) → a ≤ b → b ≤ c → a ≤ c
-steps_raised a b c h k = omega arith
-
-pub steps_counted : (a b c : ℕ) → a ≤ b → b < c → a < c
-steps_counted a b c h k = omega arith
 
 -- what is parsed by one more step is parsed by all of them
 pub only_more : (Asked : ℕ → Type 0) (first mid now : List Bool) (k : ℕ) → ParsesOnly Asked first mid → ParsesOnly (λ n. n ≡ k) mid now → Asked k → ParsesOnly Asked first now

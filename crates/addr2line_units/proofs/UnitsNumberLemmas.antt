@@ -1,6 +1,6 @@
 -- What is answered, loaded, listed and forgotten of the unit of a number (on
 -- specs/UnitsAfter.antt and specs/UnitsStored.antt).
-use Rattle.addr2line_units.proofs.Common.{◌≡◌, inl, inr, ℕ, ◌<◌, Bool, true, false, List, length, get_or, slice_get, Option, Some, None, Result, Ok, Err, refl, sym, ap, subst, ◌∙◌, AreEntriesOf, fault_of, is_decided, verdict_in, set, cases_eq, IfErr, OnOk, Error, UnknownToken, ◌>>=◌, Sections, UnitRecord, Scope, FramesStop, CachedUnit, EntriesCache, first_answer_of, known_in, answers_in, FindsNothing, LookupStop, answer_of, LearnsNoFunctions, is_open_at, load_of_number, load_result, view_fault, AreUnits, as_units_state, UnitsState, awaited_load, decided_answer, is_open, verdict, with_answer}
+use Rattle.addr2line_units.proofs.Common.{◌≡◌, inl, inr, ℕ, ◌<◌, Bool, true, false, List, length, get_or, slice_get, Option, Some, None, Result, Ok, Err, refl, sym, ap, subst, ◌∙◌, AreEntriesOf, fault_of, is_decided, verdict_in, set, cases_eq, IfErr, OnOk, Error, UnknownToken, ◌>>=◌, Sections, UnitRecord, Scope, FramesStop, CachedUnit, EntriesCache, first_answer_of, known_in, answers_in, FindsNothing, LookupStop, answer_of, LearnsNoFunctions, is_open_at, load_of_number, load_result, view_fault, AreUnits, as_units_state, UnitsState, awaited_load, decided_answer, is_open, verdict, with_answer, get_set_other}
 use Rattle.std.specs.Prelude.{IfSome, is_some}
 use Rattle.addr2line_units.specs.CacheAfter.{AfterAnswerIn, AfterForgettingIn, AfterNewLoadIn}
 use Rattle.addr2line_units.specs.UnitView.{SplitLoad}
@@ -16,7 +16,6 @@ use Rattle.addr2line_units.proofs.LoadsLemmas.{as_many_answers, keeps_listed, lo
 use Rattle.addr2line_units.proofs.LoadsOpenLemmas.{not_open_there}
 use Rattle.addr2line_units.proofs.UnitsAtLemmas.{all_entries, as_many, cache_within, its_entries, unit_is, unit_within}
 use Rattle.addr2line_units.proofs.UnitsStateLemmas.{after_answer, after_forget, after_listing, after_load}
-use Rattle.addr2line_units.proofs.Facts.{others_stay}
 use Rattle.addr2line_units.proofs.CachedUnits.{HaveSameLines, decided_at}
 
 -- the unit of a number
@@ -115,7 +114,7 @@ module _ {R : Type 0} {scope : Scope} {held : List (CachedUnit R)} {last : Frame
         -- its load was listed
         pub listed_there : (steps : ℕ) (was : LookupStop) → KeepsChecked scope u v w → AfterListing (λ k. k ≡ n) (as_units_state scope held steps was) (as_units_state scope now steps FindsNothing)
         listed_there steps was a = after_listing scope held (all_entries i) now same_lines_now steps was (λ k. k ≡ n) (stay_entries_set held n c after within at a.stay)
-            (λ k. elim (cases_eq k n) [ inl is ↦ inr is | inr ne ↦ inl (others_stay held n k after ne) ])
+            (λ k. elim (cases_eq k n) [ inl is ↦ inr is | inr ne ↦ inl (get_set_other held n k after ne) ])
             (set_learns held n c after within at (checked_learns scope u v w (its_entries i n there at) a.stay a.functions))
 
         module _ (given : Option Sections) (steps : ℕ) (was : LookupStop) where
@@ -130,7 +129,7 @@ module _ {R : Type 0} {scope : Scope} {held : List (CachedUnit R)} {last : Frame
             same_decided h = known_by_entries held now (same_entries_set held n c after at (a.kept (decided_there held n c at h)).0)
 
             many : length us ≡ length now
-            many = as_many_entries scope us now (entries_set scope us held n u after (unit_is i n there) (all_entries i) a.right)
+            many = as_many_entries scope us now (entries_set scope us held n u after (unit_is i n there) (all_entries i) a.entries)
 
             learns : LearnsNoFunctions (known_in held) (known_in now)
             learns = set_learns held n c after within at (answered_learns scope u v w (its_entries i n there at) a.functions (λ h. (a.kept h).0))
@@ -139,25 +138,25 @@ module _ {R : Type 0} {scope : Scope} {held : List (CachedUnit R)} {last : Frame
             answers = answered_if_ok d us held n u c after given r (unit_within i n there) within (unit_is i n there) at a.answer
 
             pub answered_there : AfterAnswer shares n given r old new
-            answered_there = after_answer scope held (all_entries i) now same_lines_now steps was n (λ k ne. others_stay held n k after ne) same_decided many shares given r
+            answered_there = after_answer scope held (all_entries i) now same_lines_now steps was n (λ k ne. get_set_other held n k after ne) same_decided many shares given r
                 answers (answers_if_refused held n c after r (is_some given ≡ true) within at a.refused) learns (λ h. a.none (shut_there h)) (λ takes. refused_told given r (a.no_memory takes))
 
           -- the answer was given
           pub loaded_there : {shares : Bool} → KeepsAnswered shares scope u given (Ok tt) v w → (r : Result (Unit {0}) Error) → r ≡ view_fault (verdict d u (first_answer_of w)) → AfterLoad shares n given r old new
           loaded_there {shares} a r fault =
               let told = load_told given r a.answer fault in
-              after_load scope held (all_entries i) now same_lines_now steps was n (λ k ne. others_stay held n k after ne) (same_decided a) (many a) shares given r (λ h. answers a) (inr (answers a)) (λ ne. absurd (ne told)) (λ shut. told) (λ takes. told) (learns a)
+              after_load scope held (all_entries i) now same_lines_now steps was n (λ k ne. get_set_other held n k after ne) (same_decided a) (many a) shares given r (λ h. answers a) (inr (answers a)) (λ ne. absurd (ne told)) (λ shut. told) (λ takes. told) (learns a)
 
           -- memory was refused
           pub refused_there : {shares : Bool} (e : Error) → KeepsAnswered shares scope u given (Err e) v w → AfterLoad shares n given (Err e) old new
           refused_there {shares} e a =
               let r = answers_if_refused held n c after (Err e) (is_some given ≡ true) within at a.refused in
-              after_load scope held (all_entries i) now same_lines_now steps was n (λ k ne. others_stay held n k after ne) (same_decided a) (many a) shares given (Err e) (λ told. absurd (told a.refused.0)) (inl r.1) (λ ne. (r.1, r.2))
+              after_load scope held (all_entries i) now same_lines_now steps was n (λ k ne. get_set_other held n k after ne) (same_decided a) (many a) shares given (Err e) (λ told. absurd (told a.refused.0)) (inl r.1) (λ ne. (r.1, r.2))
               (λ h. absurd (let no = a.none (shut_there h) in cc))
               (λ takes. sym (a.no_memory takes) ∙ sym (load_is given)) (learns a)
 
         pub forgotten_there : (steps : ℕ) (was : LookupStop) → KeepsForgotten scope u v w → AfterForget n (as_units_state scope held steps was) (as_units_state scope now steps FindsNothing)
         forgotten_there steps was a = after_forget scope held (all_entries i) now same_lines_now steps was n
             (answers_set held n after ∙ ap (λ o. set (answers_in held) n o) a.answer)
-            (λ h. known_by_entries held now (same_entries_set held n c after at (a.kept (sym answer_is ∙ h)))) (λ k ne. others_stay held n k after ne)
+            (λ h. known_by_entries held now (same_entries_set held n c after at (a.kept (sym answer_is ∙ h)))) (λ k ne. get_set_other held n k after ne)
             (set_learns held n c after within at (forgotten_learns v w a.kept a.empty))

@@ -1,12 +1,12 @@
 -- Steps with the memory that they take, and the units of headers, one after another (on
 -- specs/UnitsOfHeaders.antt and gimli_read/specs/Costed.antt).
-use Rattle.addr2line_units.proofs.Common.{◌≡◌, ◌≢◌, ◌∙◌, ◌||◌, Bool, true, false, List, [], ◌∷◌, ◌++◌, Option, option_to_list, Result, Ok, Err, refl, sym, ap, subst, Error, OutOfMemory, Costed, free, takes_memory_after, UnitHeaderFields, put_to, units_of}
+use Rattle.addr2line_units.proofs.Common.{◌≡◌, ◌≢◌, ◌∙◌, ◌||◌, Bool, true, false, List, [], ◌∷◌, ◌++◌, Option, option_to_list, Result, Ok, Err, refl, sym, ap, subst, Error, OutOfMemory, Costed, free, takes_memory_after, UnitHeaderFields, put_to, units_of, or_left}
+use Rattle.std.proofs.Math.Bool.{or-true}
 use Rattle.gimli_read.specs.Costed.{◌>>=◌}
 use Rattle.gimli_read.specs.Reading as reading
-use Rattle.addr2line_units.proofs.Facts.{first_takes, or_true}
 
 pub then_takes : {A : Type 0} (before : Bool) (given : Result A Error) (takes : A → Bool) (x : A) → given ≡ Ok x → takes x ≡ true → (before || takes_memory_after given takes) ≡ true
-then_takes before given takes x e t = ap (λ r. before || takes_memory_after r takes) e ∙ ap (λ b. before || b) t ∙ or_true before
+then_takes before given takes x e t = ap (λ r. before || takes_memory_after r takes) e ∙ ap (λ b. before || b) t ∙ or-true before
 
 -- nothing is taken to make something of a value
 pub made_takes : {A : Type 0} (before : Bool) (given : Result A Error) → (before || takes_memory_after given (λ x. false)) ≡ true → before ≡ true
@@ -38,7 +38,7 @@ put_to_nothing {Y} shares c = record { gives = same c.given; takes = λ t. made_
 -- memory may be taken for units where readers share their bytes
 pub shared_take : {U : Type 0} (shares : Bool) (read : UnitHeaderFields → Costed (Option U)) (headers : List (Result UnitHeaderFields Error)) → shares ≡ true → (units_of read headers).takes_memory shares ≡ true
 shared_take shares read [] e = e
-shared_take shares read (header ∷ headers) e = first_takes _ _ (first_takes shares _ e)
+shared_take shares read (header ∷ headers) e = or_left _ _ (or_left shares _ e)
 
 -- the unit of the first header that is left, and of those after it
 module _ {U S : Type 0} (shares : Bool) (read : UnitHeaderFields → Costed (Option U)) (put : S → List U → S) (s : S) (left rest : List (Result UnitHeaderFields Error)) (h : UnitHeaderFields) (is : left ≡ Ok h ∷ rest) where
@@ -64,12 +64,12 @@ module _ {U S : Type 0} (shares : Bool) (read : UnitHeaderFields → Costed (Opt
           let put_is : put s (option_to_list unit) ≡ t = cc in
           record {
             gives = ap (λ u. (all u rest).given) (sym put_is) ∙ of_rest (option_to_list unit) (units_of read rest).given ∙ sym (ap from same);
-            takes = λ k. first_takes _ _ (then_takes _ _ _ unit same (first_takes _ _ (made_takes _ _ k)));
+            takes = λ k. or_left _ _ (then_takes _ _ _ unit same (or_left _ _ (made_takes _ _ k)));
           }
 
   pub unit_fault : (e : Error) → ((one.takes_memory shares ≡ true → e ≢ OutOfMemory) → one.given ≡ Err e) → ((all s left).takes_memory shares ≡ true → e ≢ OutOfMemory) → (all s left).given ≡ Err e
   unit_fault e k = subst (λ headers. ((all s headers).takes_memory shares ≡ true → e ≢ OutOfMemory) → (all s headers).given ≡ Err e) (sym is) (λ may.
-      of_unit (read h).given refl (k (λ t. may (first_takes _ _ (first_takes _ _ (then_takes shares (Ok h) (λ x. (read x).takes_memory shares) h refl (made_takes _ _ t)))))))
+      of_unit (read h).given refl (k (λ t. may (or_left _ _ (or_left _ _ (then_takes shares (Ok h) (λ x. (read x).takes_memory shares) h refl (made_takes _ _ t)))))))
     where
       of_unit : (r : Result (Option U) Error) → (read h).given ≡ r → reading.◌>>=◌ r (λ unit. Ok (put s (option_to_list unit))) ≡ Err e → (all s (Ok h ∷ rest)).given ≡ Err e
       of_unit (Ok unit) same q = absurd cc

@@ -56,7 +56,7 @@ pub record CountsSteps (most : ℕ) (found : Bool) (old new : ℕ) : Type 0 wher
 -- functions that were just read are those of the view, or their fault, without any detail
 pub record AreNewFunctionsOf {R : Type 0} (scope : Scope) (view : UnitRecord) (f : LazyFunctions R)
     : Type 0 where
-  pub right : AreFunctionsOf scope view f
+  pub functions : AreFunctionsOf scope view f
   pub read : were_read f ≡ true
   pub empty : AreUnread (cached_functions f)
 
@@ -71,7 +71,7 @@ IsRefusalOf shares scope view e = (e ≡ OutOfMemory)
 -- detail yet; where memory was refused nothing is changed
 pub record AfterCachingFunctions {R : Type 0} (shares : Bool) (scope : Scope) (view : UnitRecord)
     (result : Result (Unit {0}) Error) (old new : LazyFunctions R) : Type 0 where
-  pub right : were_read old ≡ false → AreFunctionsOf scope view new
+  pub functions : were_read old ≡ false → AreFunctionsOf scope view new
   pub read : OnOk result (were_read new ≡ true)
   pub empty : were_read old ≡ false → AreUnread (cached_functions new)
   pub kept : were_read old ≡ true → (new ≡ old) × (result ≡ Ok tt)
@@ -84,7 +84,7 @@ pub record AfterCachingFunctions {R : Type 0} (shares : Bool) (scope : Scope) (v
 pub record AfterFunctionIn {R : Type 0} (shares : Bool) (scope : Scope) (u : UnitRecord)
     (probe : ℕ) (result : Result (Option FunctionPlace) Error) (old new : EntriesCache R)
     : Type 0 where
-  pub there : IfOk result (λ found. IfSome found (ArePlacesIn (cached_functions new.functions)))
+  pub places : IfOk result (λ found. IfSome found (ArePlacesIn (cached_functions new.functions)))
   pub stay : StayEntries old new
   pub within : ReadsEntriesOf probe old new
   pub ready : WasNotRefused result → has_entries probe new ≡ true
@@ -135,7 +135,7 @@ pub record AfterFramesIn {R : Type 0} (shares : Bool) (scope : Scope) (u : UnitR
   pub unit : WasLookedAt scope u new
   pub read : (new.lines.lines ≡ old.lines.lines)
       ⊎ AreLinesOf scope.file.sections u new.lines.lines
-  pub there : IfOk result (AreFramesIn new.lines new.entries)
+  pub frames : IfOk result (AreFramesIn new.lines new.entries)
   pub lines : StayLines old.lines new.lines
   pub stay : StayEntries old.entries new.entries
   pub within : ReadsEntriesOf probe old.entries new.entries

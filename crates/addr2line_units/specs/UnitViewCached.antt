@@ -83,7 +83,7 @@ has_view _ = false
 -- what is cached is what the bytes and the first answer give, and only a unit that waited for it
 -- has a first answer
 pub record IsViewOf {R : Type 0} (d : Sections) (u : UnitRecord) (v : UnitView R) : Type 0 where
-  pub right : IfSome (verdict_in d u v.state) (λ cached. cached ≡ verdict d u (answer_of_view v))
+  pub verdict : IfSome (verdict_in d u v.state) (λ cached. cached ≡ verdict d u (answer_of_view v))
   pub waited : is_some (answer_of_view v) ≡ true → is_open d u None ≡ true
 
 -- the sections of the split file that an answer's view is in, if it is in one

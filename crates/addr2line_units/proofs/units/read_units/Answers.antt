@@ -1,11 +1,10 @@
-use Rattle.addr2line_units.proofs.Common.{Ok, ap, refl, rules, subst, sym, ◌∙◌, ◌≡◌, err_from_is_err_and, free, all_headers, units_of, unit_of_header}
+use Rattle.addr2line_units.proofs.Common.{Ok, ap, refl, rules, subst, sym, ◌∙◌, ◌≡◌, err_from_is_err_and, free, all_headers, units_of, unit_of_header, or_left}
 use Rattle.gimli_read.specs.Costed.{◌>>=◌}
 use Rattle.addr2line_units.specs.UnitsIndexed.{IndexState, appended, as_index, indexed_with}
 use Rattle.addr2line_units.proofs.UnitsOfHeadersLemmas.{IsRestOf, fault_of_rest, rest_of_rest, shared_take, unit_fault, unit_step}
 use Rattle.addr2line_units.proofs.UnitsIndexLemmas.{appended_more, appended_none, given_fault, given_none, given_some, shorter}
 use Rattle.addr2line_units.proofs.UnitsLinesLemmas.{as_many}
 use Rattle.addr2line_units.proofs.UnitsNewLemmas.{header_more}
-use Rattle.addr2line_units.proofs.Facts.{first_takes}
 use Rattle.addr2line_units.proofs.units.read_units.Goals as goal
 
 pub returns-in_err-headers-clause-gives : goal.returns-in_err-headers-clause-gives
@@ -13,7 +12,7 @@ returns-in_err-headers-clause-gives g c =
     let p = err_from_is_err_and c.from_residual.result c.from_residual.ensures.1 in
     let d = c.args.dwarf.now in
     let read = unit_of_header d c.args.aranges.now in
-    rw (p.1, p.2) (λ may. absurd (let no = c.in_err-headers.ensures.gives (λ e _. may (first_takes _ _ (shared_take g.R.Reader.shares read (all_headers d.debug_info) e))) in cc))
+    rw (p.1, p.2) (λ may. absurd (let no = c.in_err-headers.ensures.gives (λ e _. may (or_left _ _ (shared_take g.R.Reader.shares read (all_headers d.debug_info) e))) in cc))
 
 pub loop-index-init : goal.loop-index-init
 loop-index-init g c =
@@ -60,7 +59,7 @@ returns-in_err-header-clause-gives g c =
     let d = c.args.dwarf.now in
     let read = unit_of_header d c.args.aranges.now in
     rw (p.1, p.2) (λ may.
-    let left = given_fault _ _ (c.in_err-header.ensures.gives (λ e _. may (first_takes _ _ (shared_take g.R.Reader.shares read (all_headers d.debug_info) e)))) in
+    let left = given_fault _ _ (c.in_err-header.ensures.gives (λ e _. may (or_left _ _ (shared_take g.R.Reader.shares read (all_headers d.debug_info) e)))) in
     sym c.loop-index.invariant.left.gives ∙ ap (λ headers. (units_of read headers >>= λ units. free (Ok (appended d (as_index c.loop-index.index) units))).given) left)
 
 pub returns-clause-gives : goal.returns-clause-gives

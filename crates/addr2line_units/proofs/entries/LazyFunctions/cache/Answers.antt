@@ -9,7 +9,7 @@ returns-in_err-self g c =
     let unread : were_read c.args.self.now ≡ false = search rules in
     rw (p.1, p.2) (record {
       after = record {
-        right = λ _. unread_are (as_scope c.args.scope) c.args.view.now c.args.self.now unread;
+        functions = λ _. unread_are (as_scope c.args.scope) c.args.view.now c.args.self.now unread;
         read = tt;
         empty = λ _. unread_has_none c.args.self.now unread;
         kept = λ read. absurd (false≢true (sym unread ∙ read));
@@ -23,7 +23,7 @@ returns-in_ok-self g c =
     let new = c.in_ok-self.ensures.read in
     record {
       after = record {
-        right = λ _. new.right;
+        functions = λ _. new.functions;
         read = new.read;
         empty = λ _. new.empty;
         kept = λ read. absurd (false≢true (sym unread ∙ read));
@@ -36,7 +36,7 @@ returns-else-not-were_read g c =
     let read : were_read c.args.self.now ≡ true = search rules in
     record {
       after = record {
-        right = λ unread. absurd (false≢true (sym unread ∙ read));
+        functions = λ unread. absurd (false≢true (sym unread ∙ read));
         read = read;
         empty = λ unread. absurd (false≢true (sym unread ∙ read));
         kept = λ _. (refl, refl);

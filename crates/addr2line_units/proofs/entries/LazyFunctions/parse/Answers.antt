@@ -8,7 +8,7 @@ returns-in_ok-new-in-Some g c =
     let table = read_table (as_scope c.args.scope) c.args.view.now c.in-Ok.functions c.in-Ok.ensures.gives c.in-Ok.ensures.functions c.in-Ok.ensures.empty c.in-Ok.ensures.names in
     record {
       read = record {
-        right = subst (IsTableOf (as_scope c.args.scope) c.args.view.now) (sym c.in_ok-new-in-Some.ensures.ok) table;
+        functions = subst (IsTableOf (as_scope c.args.scope) c.args.view.now) (sym c.in_ok-new-in-Some.ensures.ok) table;
         read = refl;
         empty = subst (λ (t : FunctionTable). AreUnread t) (sym c.in_ok-new-in-Some.ensures.ok) c.in-Ok.ensures.empty;
       };
@@ -19,7 +19,7 @@ pub returns-in-None : goal.returns-in-None
 returns-in-None g c =
     let table = read_table (as_scope c.args.scope) c.args.view.now c.in-Ok.functions c.in-Ok.ensures.gives c.in-Ok.ensures.functions c.in-Ok.ensures.empty c.in-Ok.ensures.names in
     record {
-      read = record { right = table.ranges ∙ ap Ok (no_ranges c.in-Ok.functions c.in-Ok.ensures.functions (sym c.in-None.ensures.gives)); read = refl; empty = tt };
+      read = record { functions = table.ranges ∙ ap Ok (no_ranges c.in-Ok.functions c.in-Ok.ensures.functions (sym c.in-None.ensures.gives)); read = refl; empty = tt };
       refused = tt;
     }
 
@@ -32,7 +32,7 @@ returns-in_err-new-in-Some-clause-refused g c =
 pub returns-in_default : goal.returns-in_default
 returns-in_default g c = record {
   read = record {
-    right = c.in-Err.ensures.gives (λ _. c.in_default.not-OutOfMemory);
+    functions = c.in-Err.ensures.gives (λ _. c.in_default.not-OutOfMemory);
     read = refl;
     empty = tt;
   };

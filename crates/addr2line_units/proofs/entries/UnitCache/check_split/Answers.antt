@@ -15,4 +15,4 @@ invariant_of-self g c =
     let own = own_entries scope u (record { lines = s.lines; entries = s.entries; unit = looked_at_unit s.unit.value }) c.requires.in_order of_unit c.self.invariant in
     let after = subst (λ d. AfterCheck d u s.entries c.check_split.new.self) c.deref.ensures c.check_split.ensures.after in
     let is = ap looked_at_unit c.of-2.ensures ∙ ap (λ x. Some (record { scope = scope_of x; unit = c.of.result.value })) c.of-sources.ensures ∙ ap (λ x. Some (record { scope = scope; unit = x })) c.of.ensures in
-    own_then scope u (looked_at_unit c.of-2.result.value) c.check_split.new.self is (keeps_checked scope u s.entries c.check_split.new.self own after).right
+    own_then scope u (looked_at_unit c.of-2.result.value) c.check_split.new.self is (keeps_checked scope u s.entries c.check_split.new.self own after).entries

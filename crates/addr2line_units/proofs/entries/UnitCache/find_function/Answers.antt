@@ -29,7 +29,7 @@ invariant_of-self g c =
     let mid = c.cache.new.self in
     let cache = c.in_err-cache.ensures.after in
     let e = c.in_err-cache.field-0.0 in
-    v.own mid (uncached_after shares inner x c.args.probe old mid e cache v.functions).right
+    v.own mid (uncached_after shares inner x c.args.probe old mid e cache v.functions).functions
 
 pub returns-in_err-cache : goal.returns-in_err-cache
 returns-in_err-cache g c =
@@ -59,7 +59,7 @@ invariant_of-self-in-Faulty g c =
     let mid = c.cache.new.self in
     let cache = c.in_ok-cache.ensures.after in
     let is = c.in-Faulty.is in
-    v.own (lazy.Faulty c.in-Faulty.error) (faulty_after shares inner x c.args.probe old mid v.functions cache c.in-Faulty.error is).right
+    v.own (lazy.Faulty c.in-Faulty.error) (faulty_after shares inner x c.args.probe old mid v.functions cache c.in-Faulty.error is).functions
 
 pub returns-in-Faulty : goal.returns-in-Faulty
 returns-in-Faulty g c =
@@ -88,7 +88,7 @@ invariant_of-self-in-Absent g c =
     let mid = c.cache.new.self in
     let cache = c.in_ok-cache.ensures.after in
     let is = c.in-Absent.is in
-    v.own mid (absent_after shares inner x c.args.probe old mid v.functions cache is).right
+    v.own mid (absent_after shares inner x c.args.probe old mid v.functions cache is).functions
 
 pub returns-in-Absent : goal.returns-in-Absent
 returns-in-Absent g c =
@@ -129,7 +129,7 @@ invariant_of-self-in_default g c =
     let t = c.in-Read.functions in
     let is = c.in-Read.is in
     let at = rw c.deref-2.ensures at c.in_default.ensures in
-    v.own (lazy.Read t) (nowhere_after shares inner x c.args.probe old mid v.functions cache t is at.gives).right
+    v.own (lazy.Read t) (nowhere_after shares inner x c.args.probe old mid v.functions cache t is at.gives).functions
 
 pub returns-in_default : goal.returns-in_default
 returns-in_default g c =
@@ -164,7 +164,7 @@ invariant_of-self-in_err-read g c =
     let at = rw c.deref-2.ensures at c.in-Some.ensures in
     let e = c.in_err-read.field-0.0 in
     let r = rw c.deref_mut.ensures.value at c.in_err-read.ensures in
-    v.own (lazy.Read (with_value t c.read.new.self)) (detail_after shares inner x c.args.probe old mid v.functions cache t is c.in-Some.place (sym at.gives) at.found at.within c.read.new.self e r.gives).right
+    v.own (lazy.Read (with_value t c.read.new.self)) (detail_after shares inner x c.args.probe old mid v.functions cache t is c.in-Some.place (sym at.gives) at.found at.within c.read.new.self e r.gives).functions
 
 pub returns-in_err-read : goal.returns-in_err-read
 returns-in_err-read g c =
@@ -204,7 +204,7 @@ invariant_of-self-in_err-inlined g c =
     let e = c.in_err-inlined.field-0.0 in
     let same : c.in-Read-functions.functions.value ≡ c.read.new.self = sym (ap (λ (f : LazyFunctions g.row.R.Denot). cached_functions f) c.in-Read-functions.is) in
     let chain = rw same at (rw c.deref-3.ensures at c.in_err-inlined.ensures.gives) in
-    v.own (lazy.Read (with_value t c.read.new.self)) (chain_after shares inner x c.args.probe old mid v.functions cache t is c.in-Some.place (sym at.gives) at.found at.within c.read.new.self r.gives e chain).right
+    v.own (lazy.Read (with_value t c.read.new.self)) (chain_after shares inner x c.args.probe old mid v.functions cache t is c.in-Some.place (sym at.gives) at.found at.within c.read.new.self r.gives e chain).functions
 
 pub returns-in_err-inlined : goal.returns-in_err-inlined
 returns-in_err-inlined g c =
@@ -246,7 +246,7 @@ invariant_of-self-2 g c =
     let same : c.in-Read-functions.functions.value ≡ c.read.new.self = sym (ap (λ (f : LazyFunctions g.row.R.Denot). cached_functions f) c.in-Read-functions.is) in
     let chain = rw same at (rw c.deref-3.ensures at c.in_ok-inlined.ensures) in
     let found : FunctionPlace = record { place = c.in-Some.place; inlined = c.in_ok-inlined.inlined } in
-    v.own (lazy.Read (with_value t c.read.new.self)) (place_after shares inner x c.args.probe old mid v.functions cache t is c.in-Some.place (sym at.gives) at.found at.within c.read.new.self r.gives found refl chain.gives chain.within).right
+    v.own (lazy.Read (with_value t c.read.new.self)) (place_after shares inner x c.args.probe old mid v.functions cache t is c.in-Some.place (sym at.gives) at.found at.within c.read.new.self r.gives found refl chain.gives chain.within).functions
 
 pub returns : goal.returns
 returns g c =

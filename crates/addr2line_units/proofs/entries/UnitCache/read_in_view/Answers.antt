@@ -1,4 +1,4 @@
-use Rattle.addr2line_units.proofs.Common.{were_read, cached_fault, LazyFunctions, ◌≡◌, ◌∙◌, refl, ap, sym, subst, Ok, Err, err_from_is_err_and, as_scope, FunctionTable, Result, Error, ExactlyUnlessOom, ExactlyUnlessOomIf, ReadingDepth, all_read_once, functions_fault, read_of_functions, reading_takes_memory, false≢true}
+use Rattle.addr2line_units.proofs.Common.{were_read, cached_fault, LazyFunctions, ◌≡◌, ◌∙◌, refl, ap, sym, subst, Ok, Err, err_from_is_err_and, as_scope, FunctionTable, Result, Error, ExactlyUnlessOom, ExactlyUnlessOomIf, ReadingDepth, all_read_once, functions_fault, read_of_functions, reading_takes_memory, false≢true, on_ok_weaker}
 use Rattle.addr2line_units.specs.EntriesOwn.{CachedUnit, looked_at_unit}
 use Rattle.addr2line_units.specs.SupScope.{scope_of}
 use Rattle.addr2line_units.specs.declared.parses.ReadingDepth.TheVariants as depths
@@ -9,7 +9,6 @@ use Rattle.addr2line_lines.proofs.ReadLemmas.{details_fault_is, own_right}
 use Rattle.addr2line_units.proofs.EntriesFunctionLemmas.{exactly_weaker, fault_is, reading_before, stay_read, table_more}
 use Rattle.addr2line_units.proofs.EntriesKnownTableLemmas.{to_fault_cached, to_fault_known}
 use Rattle.addr2line_units.proofs.EntriesLemmas.{exactly_unless_oom}
-use Rattle.addr2line_units.proofs.Facts.{on_ok}
 use Rattle.addr2line_units.proofs.LoadsLemmas.{exactly_this}
 use Rattle.addr2line_units.proofs.EntriesViewedLemmas.{faulty, viewed}
 use Rattle.addr2line_units.proofs.KeptEntries.{KeepsReadFunctions}
@@ -35,7 +34,7 @@ invariant_of-self g c =
     let inner = as_scope c.scope_of-scope.result in
     let v = viewed g.R.Reader.shares (scope_of c.args.sources.now) c.args.dw_unit.now k c.args.self.now c.self.view_is c.requires.in_order c.requires.unit c.self.invariant c.requires.decided c.deref.result.now c.deref.ensures c.in_ok-unit.unit.dwarf.now x inner c.in_ok-unit.ensures.gives (as_scope c.scope.result) c.scope.ensures.gives c.scope_of-scope.ensures.gives in
     let keeps = unread_after g.R.Reader.shares inner x s.entries.functions c.cache.new.self v.functions c.args.depth c.in_err-cache.field-0.0 c.in_err-cache.ensures.after in
-    v.own c.cache.new.self keeps.right
+    v.own c.cache.new.self keeps.functions
 
 pub returns-in_err-cache : goal.returns-in_err-cache
 returns-in_err-cache g c =
@@ -59,7 +58,7 @@ invariant_of-self-in-Faulty g c =
     let inner = as_scope c.scope_of-scope.result in
     let v = viewed g.R.Reader.shares (scope_of c.args.sources.now) c.args.dw_unit.now k c.args.self.now c.self.view_is c.requires.in_order c.requires.unit c.self.invariant c.requires.decided c.deref.result.now c.deref.ensures c.in_ok-unit.unit.dwarf.now x inner c.in_ok-unit.ensures.gives (as_scope c.scope.result) c.scope.ensures.gives c.scope_of-scope.ensures.gives in
     let keeps = faulty_after g.R.Reader.shares inner x s.entries.functions c.cache.new.self v.functions c.in_ok-cache.ensures.after c.in-Faulty.error c.in-Faulty.is c.args.depth in
-    v.own (lazy.Faulty c.in-Faulty.error) keeps.right
+    v.own (lazy.Faulty c.in-Faulty.error) keeps.functions
 
 pub returns-in-Faulty : goal.returns-in-Faulty
 returns-in-Faulty g c =
@@ -175,7 +174,7 @@ returns g c =
     (reading_before before mid kept shares inner x t c.in-Read.is table)
     (subst (λ (r : Result (Unit {0}) Error). ExactlyUnlessOomIf may (λ x. x) result r) (details_fault_is inner x t.value.functions table.details ∙ sym (fault_is inner x t.value table)) e.gives) in
     let keeps = details_after shares inner x before (lazy.Read (with_value t new)) (table_more inner x t.value new table e.after.more (own_right inner x t.value.functions new.functions e.after.details table.details)) result v.functions gives
-    (stay_read before mid kept t (with_value t new) c.in-Read.is e.after.more) (on_ok result (λ _. refl) e.after.known) e.after.known
+    (stay_read before mid kept t (with_value t new) c.in-Read.is e.after.more) (on_ok_weaker result (λ _. refl) e.after.known) e.after.known
     (λ ne. to_fault_known new.functions (e.after.whole (not_oom result ne))) (λ ready. had_not_oom result (e.after.memory (to_fault_cached new.functions ready)))
     (λ ready. e.after.exact (to_fault_cached t.value.functions (ready_then depths.Details before mid kept ready (lazy.Read t) c.in-Read.is)) ∙ details_fault_is inner x t.value.functions table.details ∙ sym (fault_is inner x t.value table))
     (λ ready. ap (λ y. lazy.Read (with_value t y)) (e.after.same (to_fault_cached t.value.functions (ready_then depths.Details before mid kept ready (lazy.Read t) c.in-Read.is))) ∙ sym c.in-Read.is ∙ ready_same depths.Details before mid kept ready) in

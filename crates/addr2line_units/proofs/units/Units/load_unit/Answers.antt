@@ -64,7 +64,7 @@ returns g c =
     let after = c.in_ok-answered.ensures.after in
     let a = kept_answer i c.args.token.number there at w after.lines after.entries in
     let view = subst (λ (v : EntriesCache _). IfSome (verdict_in c.scope-scope.result.file.dwarf.now c.in-Some.dw_unit.now v.view.state) (λ known. IfSome known (λ view. c.check_view.result ≡ fault_of view))) (ap (λ (x : CachedUnit _). x.entries) c.cache.view_is) c.check_view.ensures.gives in
-    let fault = fault_told i c.args.token.number there at w after.lines c.scope-scope.ensures.gives a.right a.known view in
+    let fault = fault_told i c.args.token.number there at w after.lines c.scope-scope.ensures.gives a.entries a.known view in
     let told = load_told i c.args.token.number there at w after.lines given c.check_view.result a.answer fault in
     rw (sym c.self.view_is) (record {
       gives = exactly_this c.check_view.result _ told;

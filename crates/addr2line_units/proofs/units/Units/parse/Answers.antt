@@ -1,7 +1,6 @@
-use Rattle.addr2line_units.proofs.Common.{subst, sym, ◌∙◌, err_from_is_err_and, HaveNewCaches}
+use Rattle.addr2line_units.proofs.Common.{subst, sym, ◌∙◌, err_from_is_err_and, HaveNewCaches, or_left}
 use Rattle.addr2line_units.proofs.UnitsOfHeadersLemmas.{then_takes}
 use Rattle.addr2line_units.proofs.UnitsNewLemmas.{are_units, index_is, sup_fault, units_fault, units_made}
-use Rattle.addr2line_units.proofs.Facts.{first_takes}
 use Rattle.addr2line_units.proofs.units.Units.parse.Goals as goal
 
 pub returns-in_err-indexed : goal.returns-in_err-indexed
@@ -9,7 +8,7 @@ returns-in_err-indexed g c =
     let p = err_from_is_err_and c.from_residual.result c.from_residual.ensures.1 in
     let d = c.args.dwarf.value in
     let units = rw c.deref.ensures at c.in_err-indexed.ensures.gives in
-    record { gives = rw (p.1, p.2) (λ may. units_fault d _ (sym (index_is d) ∙ units (λ takes. may (first_takes _ _ takes)))) }
+    record { gives = rw (p.1, p.2) (λ may. units_fault d _ (sym (index_is d) ∙ units (λ takes. may (or_left _ _ takes)))) }
 
 pub returns-in_err-sup : goal.returns-in_err-sup
 returns-in_err-sup g c =

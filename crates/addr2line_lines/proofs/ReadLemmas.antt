@@ -1,7 +1,8 @@
 -- Details that are read one after another (on specs/FunctionDetails.antt).
-use Rattle.addr2line_lines.proofs.Common.{◌≡◌, ◌≢◌, ℕ, ◌+◌, ◌<◌, ◌≤◌, ◌⊎◌, Bool, true, false, List, [], ◌∷◌, drop, length, slice_get, slice_set, take, Option, Some, None, Result, Ok, Err, refl, ap, sym, subst, ◌∙◌, arith, inl, inr, zero, suc, AllByRecursion, AllZip, length_all_zip, Error, OutOfMemory, ExactlyAtCost, ◌>>=◌, fault_of, takes_memory_after, UnitRecord, Detail, detail_at, CachedFunction, FunctionTable, Scope, or_left, or_right, drop_all}
-use Rattle.addr2line_lines.specs.FunctionDetails.{AreCachedToFault, AreDetailsOf, AreUnread, HasDetail, IsCachedToFault, IsDetailOf, IsFunctionMore, IsReadAt, IsReadOf, IsReadOnce, IsTableMore, IsWithDetail, IsWithItsDetail, details_fault, all_read_once, read_fault, read_once}
+use Rattle.addr2line_lines.proofs.Common.{◌≡◌, ◌≢◌, ℕ, ◌+◌, ◌<◌, ◌≤◌, ◌⊎◌, Bool, true, false, List, [], ◌∷◌, drop, length, slice_get, slice_set, take, Option, Some, None, Result, Ok, Err, refl, ap, sym, subst, ◌∙◌, arith, inl, inr, zero, suc, AllByRecursion, AllZip, length_all_zip, Error, OutOfMemory, ExactlyAtCost, ◌>>=◌, fault_of, takes_memory_after, UnitRecord, Costed, Detail, detail_at, CachedFunction, FunctionTable, Scope, or_left, or_right, drop_all}
+use Rattle.addr2line_lines.specs.FunctionDetails.{AreCachedToFault, AreDetailsOf, AreSameBehind, AreUnread, HasDetail, IsCachedToFault, IsDetailOf, IsFunctionMore, IsReadAt, IsReadOf, IsReadOnce, IsSameBehind, IsTableMore, IsWithDetail, IsWithItsDetail, details_fault, all_read_once, read_fault, read_once}
 use Rattle.gimli_read.proofs.FaultLemmas.{memory_or_not}
+use Rattle.std.proofs.lemmas.Grind.{drop_more_same}
 use Rattle.addr2line_lines.proofs.CachedNameLemmas.{names_on, names_same}
 use Rattle.addr2line_lines.proofs.NestingLemmas.{grown_not, grown_on}
 use Rattle.addr2line_lines.proofs.Facts.{all_weaker, before_set, drop_at, drop_set, get_set_same, set_same, some_at, take_set, take_whole, zip_same, zip_set, zip_twice}
@@ -101,6 +102,28 @@ read_own scope u n old new result h = by_read scope u n old new (λ (t : Functio
     (λ f q none w. subst (AllZip (IsWithItsDetail scope u) old.functions) (sym w.functions)
     (zip_set (IsWithItsDetail scope u) (its_same scope u) old.functions n f (record { offset = f.offset; detail = Some (detail_at scope u f.offset) }) q (record { offset = refl; detail = inr (none, refl) }))) result h
 
+-- a detail that is read changes no function behind
+read_rest : (scope : Scope) (u : UnitRecord) (n : ℕ) (old new : FunctionTable) (result : Result (Unit {0}) Error) → IsReadAt scope u n old result new → drop (suc n) new.functions ≡ drop (suc n) old.functions
+read_rest scope u n old new result h = by_read scope u n old new (λ (t : FunctionTable). drop (suc n) t.functions ≡ drop (suc n) old.functions) refl
+    (λ f q none w. ap (λ fs. drop (suc n) fs) w.functions ∙ drop_set old.functions n (record { offset = f.offset; detail = Some (detail_at scope u f.offset) })) result h
+
+-- and those before keep their details
+read_before : (scope : Scope) (u : UnitRecord) (n : ℕ) (old new : FunctionTable) (result : Result (Unit {0}) Error) → IsReadAt scope u n old result new → AllByRecursion HasDetail (take n old.functions) → AllByRecursion HasDetail (take n new.functions)
+read_before scope u n old new result h all = by_read scope u n old new (λ (t : FunctionTable). AllByRecursion HasDetail (take n t.functions)) all
+    (λ f q none w. subst (λ fs. AllByRecursion HasDetail (take n fs)) (sym w.functions) (before_set HasDetail old.functions n (record { offset = f.offset; detail = Some (detail_at scope u f.offset) }) all)) result h
+
+-- where memory is refused nothing changes
+refused_same : (scope : Scope) (u : UnitRecord) (n : ℕ) (old new : FunctionTable) (e : Error) → e ≡ OutOfMemory → IsReadAt scope u n old (Err e) new → new ≡ old
+refused_same scope u n old new e oom h = by_function (slice_get old.functions n) h
+  where
+    by_detail : (f : CachedFunction) (o : Option (Result Detail Error)) → IsReadOnce scope u n f o old (Err e) new → new ≡ old
+    by_detail f None k = k.1 oom
+    by_detail f (Some d) k = k.1
+
+    by_function : (o : Option CachedFunction) → IsReadOf scope u n o old (Err e) new → new ≡ old
+    by_function None k = k.1
+    by_function (Some f) k = by_detail f f.detail k
+
 -- what is cached stays right
 pub read_right : (scope : Scope) (u : UnitRecord) (n : ℕ) (old new : FunctionTable) (result : Result (Unit {0}) Error) → AreDetailsOf scope u old → IsReadAt scope u n old result new → AreDetailsOf scope u new
 read_right scope u n old new result all h = own_right scope u old.functions new.functions (read_own scope u n old new result h) all
@@ -194,6 +217,46 @@ no_memory_to_fault shares scope u (f ∷ fs) all = by_detail (no_memory_to_fault
     by_detail rest (Some (Ok d)) h = rest h
     by_detail rest (Some (Err e)) h = refl
 
+-- details that are cached, and have no fault, leave what follows to read
+past_cached : (scope : Scope) (u : UnitRecord) (n : ℕ) (fs : List CachedFunction) → AllByRecursion HasDetail (take n fs) → all_read_once scope u fs ≡ all_read_once scope u (drop n fs)
+past_cached scope u zero fs all = refl
+past_cached scope u (suc n) [] all = refl
+past_cached scope u (suc n) (f ∷ fs) all = ap (λ o. all_read_once scope u (record { offset = f.offset; detail = o } ∷ fs)) all.0.1 ∙ past_cached scope u n fs all.1
+
+-- where all are, nothing is left
+pub none_left : (scope : Scope) (u : UnitRecord) (fs : List CachedFunction) → AllByRecursion HasDetail fs → (all_read_once scope u fs).given ≡ Ok tt
+none_left scope u [] all = refl
+none_left scope u (f ∷ fs) all = ap (λ o. (all_read_once scope u (record { offset = f.offset; detail = o } ∷ fs)).given) all.0.1 ∙ none_left scope u fs all.1
+
+-- a cached fault behind them is the first
+fault_given : (scope : Scope) (u : UnitRecord) (fs : List CachedFunction) (n : ℕ) (f : CachedFunction) (e : Error) → AllByRecursion HasDetail (take n fs) → slice_get fs n ≡ Some f → f.detail ≡ Some (Err e) → (all_read_once scope u fs).given ≡ Err e
+fault_given scope u fs n f e before at is =
+    ap (λ (c : Costed (Unit {0})). c.given) (past_cached scope u n fs before) ∙ ap (λ gs. (all_read_once scope u gs).given) (drop_at fs n f at)
+    ∙ ap (λ o. (all_read_once scope u (record { offset = f.offset; detail = o } ∷ drop (suc n) fs)).given) is
+
+-- one of two, by the detail of a function
+same_or : (A B : Type 0) (o : Option (Result Detail Error)) → A → B → IsSameBehind o A B
+same_or A B None a b = b
+same_or A B (Some (Ok d)) a b = a
+same_or A B (Some (Err e)) a b = b
+
+behind_itself : (fs : List CachedFunction) → AreSameBehind fs fs
+behind_itself [] = tt
+behind_itself (f ∷ fs) = same_or (AreSameBehind fs fs) (fs ≡ fs) f.detail (behind_itself fs) refl
+
+-- functions that are the same behind one, before which all are cached, and have no fault
+same_behind : (fs gs : List CachedFunction) (n : ℕ) → AllByRecursion HasDetail (take n gs) → drop (suc n) gs ≡ drop (suc n) fs → AreSameBehind fs gs
+same_behind [] gs n all rest = tt
+same_behind (f ∷ fs) [] n all rest = tt
+same_behind (f ∷ fs) (g ∷ gs) zero all rest = same_or (AreSameBehind fs gs) (gs ≡ fs) g.detail (subst (λ hs. AreSameBehind fs hs) (sym rest) (behind_itself fs)) rest
+same_behind (f ∷ fs) (g ∷ gs) (suc n) all rest = subst (λ o. IsSameBehind o (AreSameBehind fs gs) (gs ≡ fs)) (sym all.0.1) (same_behind fs gs n all.1 rest)
+
+-- what is the same from a place on is so from the next
+next_same : (fs gs : List CachedFunction) (n : ℕ) → drop n fs ≡ drop n gs → drop (suc n) fs ≡ drop (suc n) gs
+next_same fs gs n e =
+    let one : n + 1 ≡ suc n = omega arith in
+    subst (λ m. drop m fs ≡ drop m gs) one (drop_more_same fs gs n e)
+
 -- a detail that was cached is the answer, and nothing changes
 read_cached : (scope : Scope) (u : UnitRecord) (n : ℕ) (f : CachedFunction) (old new : FunctionTable) (result : Result (Unit {0}) Error) (d : Result Detail Error) → slice_get old.functions n ≡ Some f → f.detail ≡ Some d
     → IsReadAt scope u n old result new → new ≡ old
@@ -242,9 +305,24 @@ pub record IsReadTo (shares : Bool) (scope : Scope) (u : UnitRecord) (old now : 
   pub takes : (all_read_once scope u (drop n now.functions)).takes_memory shares ≡ true → (all_read_once scope u old.functions).takes_memory shares ≡ true
   pub cached : AllByRecursion HasDetail (take n now.functions)
   pub same : AreCachedToFault old.functions → now ≡ old
+  pub rest : drop n now.functions ≡ drop n old.functions
+
+-- so they are where they are cached, and have no fault
+cached_read : (shares : Bool) (scope : Scope) (u : UnitRecord) (t : FunctionTable) (n : ℕ) → AllByRecursion HasDetail (take n t.functions) → IsReadTo shares scope u t t n
+cached_read shares scope u t n all =
+    let left = past_cached scope u n t.functions all in
+    record {
+      kept = table_same t;
+      details = zip_same (IsWithItsDetail scope u) (its_same scope u) t.functions;
+      fault = ap (λ (c : Costed (Unit {0})). c.given) left;
+      takes = λ e. ap (λ (c : Costed (Unit {0})). c.takes_memory shares) left ∙ e;
+      cached = all;
+      same = λ _. refl;
+      rest = refl;
+    }
 
 pub none_read : (shares : Bool) (scope : Scope) (u : UnitRecord) (t : FunctionTable) → IsReadTo shares scope u t t 0
-none_read shares scope u t = record { kept = table_same t; details = zip_same (IsWithItsDetail scope u) (its_same scope u) t.functions; fault = refl; takes = λ e. e; cached = tt; same = λ _. refl }
+none_read shares scope u t = cached_read shares scope u t 0 tt
 
 pub same_number : (shares : Bool) (scope : Scope) (u : UnitRecord) (old now : FunctionTable) (n : ℕ) → IsReadTo shares scope u old now n → length old.functions ≡ length now.functions
 same_number shares scope u old now n h = length_all_zip IsFunctionMore old.functions now.functions h.kept.functions
@@ -278,6 +356,7 @@ one_read shares scope u old now next n h l k well =
           ∙ ap (λ r. takes_memory_after r (λ _. (all_read_once scope u (drop (suc n) now.functions)).takes_memory shares)) well ∙ ap (λ fs. (all_read_once scope u fs).takes_memory shares) (sym next_left) ∙ e));
       cached = subst (λ fs. AllByRecursion HasDetail (take (suc n) fs)) (sym step.functions) (take_set HasDetail now.functions n step.now h.cached step.has);
       same = λ ready. reads_nothing shares scope u old now next n (Ok tt) h l k ready;
+      rest = next_left ∙ next_same now.functions old.functions n h.rest;
     })
 
 -- a detail is refused
@@ -292,6 +371,21 @@ fault_read shares scope u old now n e h l exact ne =
     let takes : (read_once scope u (slice_get now.functions n)).takes_memory shares ≡ true → (all_read_once scope u old.functions).takes_memory shares ≡ true = λ t. h.takes (ap (λ fs. (all_read_once scope u fs).takes_memory shares) left
     ∙ or_left ((read_once scope u (Some at.0)).takes_memory shares) (takes_memory_after (read_fault scope u (Some at.0)) (λ _. (all_read_once scope u rest).takes_memory shares)) (ap (λ o. (read_once scope u o).takes_memory shares) (sym at.1) ∙ t)) in
     h.fault ∙ ap (λ fs. (all_read_once scope u fs).given) left ∙ ap (λ r. r >>= λ _. (all_read_once scope u rest).given) (ap (read_fault scope u) (sym at.1) ∙ exact (λ t. ne (takes t)))
+
+-- what is left then gives it too; where memory was refused, it takes memory
+pub fault_left : (shares : Bool) (scope : Scope) (u : UnitRecord) (now next : FunctionTable) (n : ℕ) (e : Error) → AllByRecursion HasDetail (take n now.functions) → n < length now.functions → IsReadAt scope u n now (Err e) next
+    → ExactlyAtCost {X = Unit {0}} shares (λ x. x) (Err e) (read_once scope u (slice_get now.functions n)) → ExactlyAtCost {X = Unit {0}} shares (λ x. x) (Err e) (all_read_once scope u next.functions)
+fault_left shares scope u now next n e cached l k exact = elim (memory_or_not e) [ inl oom ↦ refused oom | inr ne ↦ faulty ne ]
+  where
+    refused : e ≡ OutOfMemory → ExactlyAtCost {X = Unit {0}} shares (λ x. x) (Err e) (all_read_once scope u next.functions)
+    refused oom = subst (λ (t : FunctionTable). ExactlyAtCost {X = Unit {0}} shares (λ x. x) (Err e) (all_read_once scope u t.functions)) (sym (refused_same scope u n now next e oom k))
+        (fault_read shares scope u now now n e (cached_read shares scope u now n cached) l exact)
+
+    faulty : e ≢ OutOfMemory → ExactlyAtCost {X = Unit {0}} shares (λ x. x) (Err e) (all_read_once scope u next.functions)
+    faulty ne =
+        let at = some_at now.functions n l in
+        let step = fault_step scope u n at.0 now next e l at.1 ne k in
+        λ _. fault_given scope u next.functions n step.now e (step.before cached) step.at step.is
 
 pub fault_kept : (shares : Bool) (scope : Scope) (u : UnitRecord) (old now next : FunctionTable) (n : ℕ) (result : Result (Unit {0}) Error) → IsReadTo shares scope u old now n → IsReadAt scope u n now result next → IsTableMore old next × AllZip (IsWithItsDetail scope u) old.functions next.functions
 fault_kept shares scope u old now next n result h k =
@@ -332,3 +426,12 @@ had_memory shares scope u old now next n e h l k ready oom = by_function (some_a
 
 pub all_ready : (shares : Bool) (scope : Scope) (u : UnitRecord) (old now : FunctionTable) (n : ℕ) → IsReadTo shares scope u old now n → length old.functions ≤ n → AreCachedToFault now.functions
 all_ready shares scope u old now n h l = all_to_fault now.functions (all_read shares scope u old now n h l).1
+
+-- nothing is changed behind the details that are read
+pub read_behind : (shares : Bool) (scope : Scope) (u : UnitRecord) (old now : FunctionTable) (n : ℕ) → IsReadTo shares scope u old now n → AreSameBehind old.functions now.functions
+read_behind shares scope u old now n h = same_behind old.functions now.functions n h.cached (next_same now.functions old.functions n h.rest)
+
+-- nor behind one that is refused
+pub fault_behind : (shares : Bool) (scope : Scope) (u : UnitRecord) (old now next : FunctionTable) (n : ℕ) (result : Result (Unit {0}) Error) → IsReadTo shares scope u old now n → IsReadAt scope u n now result next → AreSameBehind old.functions next.functions
+fault_behind shares scope u old now next n result h k =
+    same_behind old.functions next.functions n (read_before scope u n now next result k h.cached) (read_rest scope u n now next result k ∙ next_same now.functions old.functions n h.rest)

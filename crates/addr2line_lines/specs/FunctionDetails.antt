@@ -1,10 +1,10 @@
 -- How the details of functions come to be cached (DWARF 5, section 3.3).
 -- Own: the detail of a function is read when it is first asked for, and cached then, its fault too.
 -- OutOfMemory is never cached.
-use Rattle.std.specs.Prelude.{◌≡◌, ◌≢◌, ◌⊎◌, ℕ, ◌&&◌, not, is_some, List, [], ◌∷◌, slice_get, slice_set, Option, Some, None, OnOk, Result, Ok, Err}
+use Rattle.std.specs.Prelude.{◌≡◌, ◌≢◌, ◌⊎◌, ℕ, ◌&&◌, Bool, not, is_some, List, [], ◌∷◌, slice_get, slice_set, Option, Some, None, OnOk, Result, Ok, Err}
 use Rattle.std.specs.List.{AllByRecursion, AllZip}
 use Rattle.gimli_read.specs.Costed as costed
-use Rattle.addr2line_lines.specs.Common.{Error, OutOfMemory, Costed, free, ◌>>=◌, fault_of, UnitRecord}
+use Rattle.addr2line_lines.specs.Common.{Error, OutOfMemory, Costed, ExactlyAtCost, free, ◌>>=◌, fault_of, UnitRecord}
 use Rattle.addr2line_lines.specs.CachedNames.{AreNamesMore}
 use Rattle.addr2line_lines.specs.CostedSteps.{on_parts}
 use Rattle.addr2line_lines.specs.Details.{Detail, detail_at, stored_detail_at}
@@ -120,6 +120,19 @@ abbrev pub AreCachedToFault : List CachedFunction → Type 0
 AreCachedToFault [] = Unit {0}
 AreCachedToFault (f ∷ functions) = IsCachedToFault f.detail (AreCachedToFault functions)
 
+-- behind a function whose detail is cached, and has no fault, what is said of the rest; behind
+-- another all is as it was
+abbrev pub IsSameBehind : Option (Result Detail Error) → Type 0 → Type 0 → Type 0
+IsSameBehind None rest same = same
+IsSameBehind (Some (Ok d)) rest same = rest
+IsSameBehind (Some (Err e)) rest same = same
+
+-- the functions behind the first one whose detail isn't cached, or is a fault, are as they were
+abbrev pub AreSameBehind : List CachedFunction → List CachedFunction → Type 0
+AreSameBehind [] new = Unit {0}
+AreSameBehind (f ∷ old) [] = Unit {0}
+AreSameBehind (f ∷ old) (g ∷ new) = IsSameBehind g.detail (AreSameBehind old new) (new ≡ old)
+
 -- a function is the same, and what was cached of it is
 pub record IsFunctionMore (f g : CachedFunction) : Type 0 where
   pub offset : g.offset ≡ f.offset
@@ -142,9 +155,11 @@ pub record IsWithItsDetail (scope : Scope) (u : UnitRecord) (f g : CachedFunctio
 -- after details were read in the order of functions: what was cached stays, and of each function is
 -- cached what was, or its detail; where nothing is refused each is cached, and has no fault; unless
 -- memory was refused, all up to the first fault are, and that, and where they are it wasn't; where
--- they were before, the answer is by them, and nothing changes
-pub record AfterReadingAll (scope : Scope) (u : UnitRecord) (result : Result (Unit {0}) Error)
-    (old new : FunctionTable) : Type 0 where
+-- they were before, the answer is by them, and nothing changes. Memory is refused only where what
+-- is left to read takes memory. The functions behind the first one whose detail isn't cached then,
+-- or is a fault, are as they were
+pub record AfterReadingAll (shares : Bool) (scope : Scope) (u : UnitRecord)
+    (result : Result (Unit {0}) Error) (old new : FunctionTable) : Type 0 where
   pub more : IsTableMore old new
   pub details : AllZip (IsWithItsDetail scope u) old.functions new.functions
   pub known : OnOk result (AllByRecursion HasDetail new.functions)
@@ -152,6 +167,8 @@ pub record AfterReadingAll (scope : Scope) (u : UnitRecord) (result : Result (Un
   pub memory : AreCachedToFault new.functions → result ≢ Err OutOfMemory
   pub exact : AreCachedToFault old.functions → result ≡ (all_read_once scope u old.functions).given
   pub same : AreCachedToFault old.functions → new ≡ old
+  pub left : ExactlyAtCost shares (λ x. x) result (all_read_once scope u new.functions)
+  pub behind : AreSameBehind old.functions new.functions
 
 -- the functions stay those that have a range where more is cached
 abbrev pub MoreKeepsListed : Type 0

@@ -318,19 +318,21 @@ impl<R: Reader> Functions<R> {
 
     /// Reads the details of all functions, in the order of their entries, as `read` does, up to the
     /// first fault. What was cached stays cached; unless memory is refused, the details up to the
-    /// first fault are cached then, and that fault too.
+    /// first fault are cached then, and that fault too. Of the functions behind that fault, or
+    /// behind the first one whose detail isn't cached then, nothing more is cached.
     ///
     /// `unit` and `scope` are those of `parse`. Refused by the first fault of a detail; may fail
-    /// with `OutOfMemory` instead, which is not cached, only where `read` may for a function, and
-    /// no detail of a function before it has a fault. Takes no memory, and changes nothing, where
-    /// the details up to the first fault are cached, and that fault. Source: DWARF 5, section
-    /// 3.3.8.
+    /// with `OutOfMemory` instead, which is not cached, only where after the call `read` may for a
+    /// function, and no detail of a function before it has a fault. Takes no memory, and changes
+    /// nothing, where the details up to the first fault are cached, and that fault. Source: DWARF
+    /// 5, section 3.3.8.
     pub fn read_all(&mut self, scope: Scope<'_, R>, unit: &Unit<R>) -> Result<(), Error>
         requires in_order { IsScope (as_scope scope) }
         requires unit { AreNamesIn (as_scope scope) unit.now self.old.names }
         ensures gives { ExactlyAtCost R.shares (λ x. x) result
             (all_read_once (as_scope scope.entry) unit.now self.old.functions) }
-        ensures after { AfterReadingAll (as_scope scope.entry) unit.now result self.old self.new }
+        ensures after { AfterReadingAll R.shares (as_scope scope.entry) unit.now result self.old
+            self.new }
     {
         let count = self.functions.len();
         for place in 0..count {

@@ -1,5 +1,5 @@
 use Rattle.addr2line_lines.proofs.Common.{◌≡◌, true, false, Err, length, map, ap, sym, ◌∙◌, arith, err_from_is_err_and, OutOfMemory, FunctionTable, as_function, as_details, as_scope, length-map}
-use Rattle.addr2line_lines.proofs.ReadLemmas.{all_read, all_ready, fault_kept, fault_read, fault_ready, had_memory, no_memory_to_fault, none_read, one_read, reads_nothing}
+use Rattle.addr2line_lines.proofs.ReadLemmas.{all_read, all_ready, fault_behind, fault_kept, fault_left, fault_read, fault_ready, had_memory, no_memory_to_fault, none_left, none_read, one_read, read_behind, reads_nothing, same_number}
 use Rattle.addr2line_lines.proofs.functions.Functions.read_all.Goals as goal
 
 pub loop-place-init : goal.loop-place-init
@@ -53,6 +53,8 @@ returns-in_err-read-clause-after g c =
       exact = λ ready. sym (fault_read shares scope u old now n e i.read (omega arith) c.in_err-read.ensures.exact
           (λ takes. absurd (let no : true ≡ false = sym takes ∙ no_memory_to_fault shares scope u old.functions ready in cc)));
       same = reads_nothing shares scope u old now c.read.new.self n c.read.result i.read (omega arith) c.read.ensures.gives;
+      left = fault_left shares scope u now c.read.new.self n e i.read.cached (let many = same_number shares scope u old now n i.read in omega arith) c.in_err-read.ensures.gives c.in_err-read.ensures.exact;
+      behind = fault_behind shares scope u old now c.read.new.self n c.read.result i.read c.read.ensures.gives;
     })
 
 pub returns-clause-gives : goal.returns-clause-gives
@@ -75,4 +77,6 @@ returns-clause-after g c =
       memory = λ ready. λ q. absurd cc;
       exact = λ ready. sym read.0;
       same = i.read.same;
+      left = none_left (as_scope c.args.scope) c.args.unit.now c.loop-place.self.functions read.1;
+      behind = read_behind g.R.Reader.shares (as_scope c.args.scope) c.args.unit.now c.args.self.now c.loop-place.self c.loop-place.place i.read;
     }

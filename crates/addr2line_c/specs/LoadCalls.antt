@@ -15,10 +15,6 @@ use Rattle.addr2line_c.specs.declared.status.Status.TheVariants.{Done, Waits, Ot
 use Rattle.addr2line_c.specs.AskedLoads.{load_of_token, with_loads, with_waits}
 use Rattle.addr2line_c.specs.Status.{after_reply, status_of_error}
 
--- whether there are bytes of a file
-abbrev pub has_bytes : List ℕ → Bool
-has_bytes bytes = not (length bytes == 0)
-
 -- what the file that bytes are has for a load, nothing where there are no bytes
 abbrev pub answer_of_bytes : SplitLoad → List ℕ → Loading (Option Sections)
 answer_of_bytes load bytes = if length bytes == 0
@@ -63,8 +59,8 @@ module _ {R : Type 0} where
       → List (AskedLoad R) → List (AskedLoad R) → Type 0
   AnswersTokenAs token bytes s old new asked left = elim (load_of_token asked token) [
     | None ↦ RefusesToken s old new asked left
-    | Some load ↦ AnswersLoadAs (has_bytes bytes) (answer_of_bytes load bytes) load.unit s old new
-        × (left ≡ loads_answered s asked token)
+    | Some load ↦ AnswersLoadAs (not (length bytes == 0)) (answer_of_bytes load bytes) load.unit s
+        old new × (left ≡ loads_answered s asked token)
   ]
 
   -- the answer to the load of a token was taken back, or there is no such load

@@ -155,9 +155,9 @@ pub record IsWithItsDetail (scope : Scope) (u : UnitRecord) (f g : CachedFunctio
 -- after details were read in the order of functions: what was cached stays, and of each function is
 -- cached what was, or its detail; where nothing is refused each is cached, and has no fault; unless
 -- memory was refused, all up to the first fault are, and that, and where they are it wasn't; where
--- they were before, the answer is by them, and nothing changes. Memory is refused only where what
--- is left to read takes memory. The functions behind the first one whose detail isn't cached then,
--- or is a fault, are as they were
+-- they were before, the answer is by them, and nothing changes. What is answered is what is left to
+-- read then, or OutOfMemory where that takes memory. The functions behind the first one whose
+-- detail isn't cached then, or is a fault, are as they were
 pub record AfterReadingAll (shares : Bool) (scope : Scope) (u : UnitRecord)
     (result : Result (Unit {0}) Error) (old new : FunctionTable) : Type 0 where
   pub more : IsTableMore old new

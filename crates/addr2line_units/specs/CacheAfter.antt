@@ -77,10 +77,10 @@ pub record AfterCachingFunctions {R : Type 0} (shares : Bool) (scope : Scope) (v
   pub kept : were_read old ≡ true → (new ≡ old) × (result ≡ Ok tt)
   pub refused : IfErr result (λ e. IsRefusalOf shares scope view e × (new ≡ old))
 
--- after the function at the probe was looked for in the view of a unit: what is cached stays, and
--- no other detail is read; unless memory was refused the function is known, and where it is, memory
--- is refused for more than 16 inlined functions alone; where the functions take no memory a refusal
--- is the first fault
+-- after the function at the probe was looked for in the view of a unit: what was found stands in
+-- what is cached; what was cached stays, and no other detail is read; unless memory was refused the
+-- function is known, and where it is, memory is refused for more than 16 inlined functions alone;
+-- where the functions take no memory a refusal is the first fault
 pub record AfterFunctionIn {R : Type 0} (shares : Bool) (scope : Scope) (u : UnitRecord)
     (probe : ℕ) (result : Result (Option FunctionPlace) Error) (old new : EntriesCache R)
     : Type 0 where
@@ -126,10 +126,11 @@ pub record AfterCheck {R : Type 0} (d : Sections) (u : UnitRecord) (old new : En
   pub functions : new.functions ≡ old.functions
 
 -- after the frames at the probe were looked for: the unit was looked at; its lines are as they
--- were, or were read of it now; what is cached stays; no other detail is read, and lines only where
--- they are asked for; unless memory was refused all that is asked for is known, and where it is,
--- and the lines' fault isn't OutOfMemory, memory is refused for more than 16 inlined functions
--- alone; where nothing of it takes memory either, a refusal is the first fault
+-- were, or were read of it now; what was found stands in what is cached, and what was cached stays;
+-- no other detail is read, and lines only where they are asked for; unless memory was refused all
+-- that is asked for is known, and where it is, and the lines' fault isn't OutOfMemory, memory is
+-- refused for more than 16 inlined functions alone; where nothing of it takes memory either, a
+-- refusal is the first fault
 pub record AfterFramesIn {R : Type 0} (shares : Bool) (scope : Scope) (u : UnitRecord) (probe : ℕ)
     (result : Result UnitFrames Error) (old new : CachedUnit R) : Type 0 where
   pub unit : WasLookedAt scope u new

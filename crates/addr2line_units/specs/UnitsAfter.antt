@@ -122,7 +122,7 @@ StayRead old new = new
 -- what was known stays unless it was open, and nothing is changed where it had an answer; no
 -- function becomes known; after OutOfMemory in the place of given sections all first answers are as
 -- before, and what was known stays known; where the answer takes no memory, over readers that share
--- their bytes or don't, there is none; along ranges that lead to the unit fewer loads are left
+-- their bytes or don't, there is none; along ranges where its load is left fewer are left then
 pub record AfterAnswer (shares : Bool) (n : ℕ) (given : Option Sections)
     (result : Result (Unit {0}) Error) (old new : UnitsState) : Type 0 where
   pub stays : StayRead old new
@@ -203,8 +203,8 @@ pub record AfterPreloadAlong {X : Type 0} (ranges : List UnitRange) (result : Re
 -- parse reads, and where it is, none was refused; where it was before, the result is that of the
 -- reading, and nothing is changed of what is known and answered; where nothing that is read takes
 -- memory, over readers that share their bytes or don't, a refusal is the first fault. Without a
--- fault all is read, and where details are read and all lines can be, no lookup waits or has a
--- fault; of units behind the first fault nothing becomes known
+-- fault all is read, and where details are read and all lines can be, no lookup of frames waits or
+-- has a fault; of units behind the first fault nothing becomes known
 pub record AfterReading (shares : Bool) (depth : ReadingDepth) (result : Result (Unit {0}) Error)
     (old new : UnitsState) : Type 0 where
   pub stays : StayRead old new

@@ -16,7 +16,8 @@ use Rattle.addr2line_units.specs.LocationsParsed.{has_parsed, parses_no_memory}
 use Rattle.addr2line_units.specs.UnitsRanged.{unit_records}
 use Rattle.addr2line_units.specs.UnitsState.{IsFaultAt, UnitsState, asked_by, has_asked_at, has_asked_few_at, takes_none_at}
 
--- so many units there are, which are those of the scope, by all that is listed of them
+-- the units are those of the scope, and so many, as their first answers are, and what is listed of
+-- their lines and entries
 pub record CountsUnits (count : ℕ) (s : UnitsState) : Type 0 where
   pub are : unit_records s.units ≡ s.scope.file.units
   pub units : count ≡ length s.units

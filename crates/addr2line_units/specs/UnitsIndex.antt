@@ -22,23 +22,6 @@ pub record UnitIndex : Type 0 where
 abbrev pub sup_unit_of_header : Sections → UnitHeaderFields → Costed (Option UnitRecord)
 sup_unit_of_header d h = by_abbreviations d h (Ok (result_ok (unit_record_of d h)))
 
--- the sections of a supplementary file as those of a file of its own
-abbrev pub sup_sections : SupSections → Sections
-sup_sections s = record {
-  debug_abbrev = s.debug_abbrev;
-  debug_addr = s.debug_addr;
-  debug_aranges = s.debug_aranges;
-  debug_info = s.debug_info;
-  debug_line = s.debug_line;
-  debug_line_str = s.debug_line_str;
-  debug_ranges = s.debug_ranges;
-  debug_rnglists = s.debug_rnglists;
-  debug_str = s.debug_str;
-  debug_str_offsets = s.debug_str_offsets;
-  file_type = Main;
-  sup = None;
-}
-
 -- the units of the supplementary file as they are read, or the first fault
 abbrev pub sup_read : Option SupSections → Costed (List UnitRecord)
 sup_read None = free (Ok [])

@@ -5,7 +5,7 @@ use Rattle.std.specs.Prelude.{◌≡◌, ℕ, List, [], ◌∷◌, codes, Option
 use Rattle.gimli.specs.Common.{Section, ◌>>=◌}
 use Rattle.gimli.specs.declared.load.SectionId.{SectionId}
 use Rattle.gimli.specs.declared.load.SectionId.TheVariants.{DebugAbbrev, DebugAddr, DebugAranges, DebugInfo, DebugLine, DebugLineStr, DebugRanges, DebugRngLists, DebugStr, DebugStrOffsets}
-use Rattle.gimli.specs.Sections.{Sections, SupSections}
+use Rattle.gimli.specs.Sections.{Sections, SupSections, sup_sections}
 
 -- the name of a section
 abbrev pub section_name : SectionId → List ℕ
@@ -51,17 +51,15 @@ Asked see step f (x ∷ xs) answers =
           × (answers ≡ (more >>= λ rest. Ok (see a ∷ rest)))
     ]
 
--- the sections of a supplementary file, in the order in which they are asked for
-abbrev pub sup_section_list : SupSections → List Section
-sup_section_list d =
-    d.debug_abbrev ∷ d.debug_addr ∷ d.debug_aranges ∷ d.debug_info ∷ d.debug_line
-    ∷ d.debug_line_str ∷ d.debug_ranges ∷ d.debug_rnglists ∷ d.debug_str ∷ d.debug_str_offsets ∷ []
-
 -- the sections of a file, in the order in which they are asked for
 abbrev pub section_list : Sections → List Section
 section_list d =
     d.debug_abbrev ∷ d.debug_addr ∷ d.debug_aranges ∷ d.debug_info ∷ d.debug_line
     ∷ d.debug_line_str ∷ d.debug_ranges ∷ d.debug_rnglists ∷ d.debug_str ∷ d.debug_str_offsets ∷ []
+
+-- those of a supplementary file
+abbrev pub sup_section_list : SupSections → List Section
+sup_section_list d = section_list (sup_sections d)
 
 -- the sections that a caller gave are those of a file's supplementary file from then on; or the
 -- answer is the caller's first refusal, or OutOfMemory if they can't be shared, and the file is as

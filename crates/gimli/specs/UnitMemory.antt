@@ -1,6 +1,6 @@
 -- Where memory may be taken for a unit.
 -- Own: OutOfMemory is an answer only there.
-use Rattle.std.specs.Prelude.{◌||◌, Bool, false, Option, Some, None, is_some, Result, Ok, Err, if◌then◌else◌}
+use Rattle.std.specs.Prelude.{◌||◌, Bool, false, Option, is_some, Result, Ok, Err}
 use Rattle.std.specs.Option.{option_map_or}
 use Rattle.gimli.specs.Common.{Error, AttributeValue, Section}
 use Rattle.gimli_read.specs.HeldBytes.{holds_bytes}
@@ -18,10 +18,6 @@ gives_some (Err e) = false
 abbrev pub gives_bytes_if : Result (Option (AttributeValue Section)) Error → Bool
 gives_bytes_if (Ok given) = option_map_or holds_bytes given false
 gives_bytes_if (Err e) = false
-
--- a value, none where it holds bytes
-abbrev pub if_without_bytes : AttributeValue Section → Option (AttributeValue Section)
-if_without_bytes value = if holds_bytes value then None else Some value
 
 -- whether memory may be taken for the abbreviations from an offset on: for the table's own entries,
 -- or where readers share their bytes; none past the section's end

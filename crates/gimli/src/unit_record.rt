@@ -1,11 +1,12 @@
 //! Units: headers with what their root entry says.
 
-ghost use Rattle.std.specs.Prelude.{◌≡◌, Ok, Some, box_value, option_map};
+ghost use Rattle.std.specs.Prelude.{◌≡◌, None, Ok, Some, box_value, if◌then◌else◌, option_map};
+ghost use Rattle.gimli_read.specs.HeldBytes.{holds_bytes};
 ghost use Rattle.gimli_read.specs.Costed.{ExactlyAtCost};
 ghost use Rattle.gimli.specs.Common.{Exactly, ExactlyUnlessOomFor, ExactlyUnlessOomIf, as_value};
 ghost use Rattle.gimli.specs.Split.{dwo_name_fault, dwo_name_of, relocated};
 ghost use Rattle.gimli.specs.Unit.{first_base, low_pc_of, line_program_of, name_and_directory_of, program_and_low_pc_of, readable_string, dwo_id_of, completed_record, unit_record_of};
-ghost use Rattle.gimli.specs.UnitMemory.{gives_bytes_if, gives_some, if_without_bytes, unit_takes_memory};
+ghost use Rattle.gimli.specs.UnitMemory.{gives_bytes_if, gives_some, unit_takes_memory};
 
 use crate::constants::{
     RNGLISTS_HEADER_32, RNGLISTS_HEADER_64, STR_OFFSETS_HEADER_32, STR_OFFSETS_HEADER_64,
@@ -284,7 +285,8 @@ impl<R: Reader> Dwarf<R> {
 // The same value for another reader, none where it holds bytes. Takes no memory.
 fn without_bytes<R: Reader, S: Reader>(value: AttributeValue<S>) -> Option<AttributeValue<R>>
     ensures gives { option_map (as_value R.section) result
-        ≡ if_without_bytes (as_value S.section value) }
+        ≡ if holds_bytes (as_value S.section value) then None
+        else Some (as_value S.section value) }
 {
     match value {
         AttributeValue::Block(_) | AttributeValue::Exprloc(_) | AttributeValue::String(_) => None,

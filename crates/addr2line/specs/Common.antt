@@ -3,7 +3,7 @@ pub use Rattle.gimli_read.specs.Reading.{Exactly, ExactlyUnlessOom, ExactlyUnles
 pub use Rattle.gimli_read.specs.Section.{Section}
 pub use Rattle.gimli_read.specs.declared.error.Error.{Error}
 pub use Rattle.gimli_read.specs.declared.error.Error.TheVariants.{OutOfMemory}
-pub use Rattle.gimli.specs.Sections.{Sections, SupSections}
+pub use Rattle.gimli.specs.Sections.{Sections, SupSections, sup_sections}
 pub use Rattle.gimli.specs.Unit.{UnitRecord}
 pub use Rattle.elf.specs.Loading.{Loading, LoadsUnlessOom}
 pub use Rattle.elf.specs.ObjectFile.{ObjectFile}
@@ -23,7 +23,7 @@ pub use Rattle.addr2line_units.specs.EntriesStayKnown.{IsReadBy, IsReadyAt, Stay
 pub use Rattle.addr2line_units.specs.Continuation.{IfLoad, IfOutput, IsOkOutput, SkipsTo, rests}
 pub use Rattle.addr2line_units.specs.EntriesFrames.{FramesResult, frames_in, function_in}
 unfoldable pub use Rattle.addr2line_units.specs.EntriesFrames.{frames_by_lines}
-pub use Rattle.addr2line_units.specs.UnitsIndex.{UnitIndex, index_units, sup_sections, sup_units}
+pub use Rattle.addr2line_units.specs.UnitsIndex.{UnitIndex, index_units, sup_units}
 pub use Rattle.addr2line_units.specs.UnitsState.{UnitsState, asks_no_memory_at, has_all_at, has_few_at, waiting_unit}
 pub use Rattle.addr2line_units.specs.UnitView.{FirstAnswers, SplitLoad, View, awaited_load, first_unit, parts_of}
 unfoldable pub use Rattle.addr2line_units.specs.UnitView.{load_of_unit}

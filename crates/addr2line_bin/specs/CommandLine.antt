@@ -106,7 +106,3 @@ IsWordFault words fault.OutOfMemory = Unit {0}
 abbrev pub WantsMemoryAlone : List Text → WordFault → Type 0
 WantsMemoryAlone words e =
     are_taken words ≡ true → is_complete (matches_in words) ≡ true → e ≡ fault.OutOfMemory
-
--- why words ask for nothing
-abbrev pub IsRefusal : List (String Global) → WordFault → Type 0
-IsRefusal words e = IsWordFault (texts_in words) e × WantsMemoryAlone (texts_in words) e

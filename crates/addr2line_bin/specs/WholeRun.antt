@@ -13,7 +13,7 @@ use Rattle.addr2line.specs.Files.{Files, as_read}
 use Rattle.addr2line.specs.Loaded.{IsLoaded, loaded}
 use Rattle.addr2line.specs.Loader.{as_loader}
 use Rattle.addr2line.specs.declared.loader.LoaderOver.{LoaderOver}
-use Rattle.addr2line_bin.specs.CommandLine.{IsRefusal, IsRequest}
+use Rattle.addr2line_bin.specs.CommandLine.{IsRequest, IsWordFault, WantsMemoryAlone, texts_in}
 use Rattle.addr2line_bin.specs.InputLines.{InputState}
 use Rattle.addr2line_bin.specs.LoaderAnswers.{loader_answers}
 use Rattle.addr2line_bin.specs.Print.{last_text}
@@ -61,7 +61,8 @@ IsWholeRun known files (Ok words) state input oo on eo en status =
     ((request : Request) × IsRequest words.items request
     × ((e : Exit) × RunsWith known files request state input oo on eo en e
     × (status ≡ status_at e)))
-    ⊎ ((fault : WordFault) × IsRefusal words.items fault
+    ⊎ ((fault : WordFault) × IsWordFault (texts_in words.items) fault
+    × WantsMemoryAlone (texts_in words.items) fault
     × AnswersFault (program_name words.items) fault oo on eo en status)
 IsWholeRun known files (Err fault) state input oo on eo en status =
     ((fault ≡ kind.OutOfMemory) × TellsNoMemory (program_name []) oo on eo en status)

@@ -1,6 +1,6 @@
 //! The texts of an address that is asked for.
 
-ghost use Rattle.std.specs.Prelude.{◌≡◌, ◌++◌, IfOk, List, ℕ, OnOk, option_map, string_bytes};
+ghost use Rattle.std.specs.Prelude.{◌≡◌, ◌++◌, [], IfOk, List, ℕ, OnOk, option_map, string_bytes};
 ghost use Rattle.std.specs.Option.{option_copied};
 ghost use Rattle.addr2line_bin.specs.Common.{result_map, as_location};
 ghost use Rattle.addr2line_units.specs.FramesLeft.{frames_left};
@@ -27,8 +27,10 @@ pub struct Texts {
 }
 
 impl Texts {
-    /// No texts.
-    pub fn new(alloc: Global) -> Texts {
+    /// No texts. Takes no memory.
+    pub fn new(alloc: Global) -> Texts
+        ensures gives { (string_bytes result.out ≡ []) × (string_bytes result.err ≡ []) }
+    {
         Texts {
             out: String::new(alloc),
             err: String::new(alloc),

@@ -18,19 +18,19 @@ done_is_no_refusal true q = absurd cc
 done_is_no_refusal false q = absurd cc
 
 -- a lookup that had memory is not refused it
-pub had_memory : {X : Type 0} (missing : Status) (fits : Bool) (r : Result (Option X) Error) (s : Status)
+pub was_not_refused : {X : Type 0} (missing : Status) (fits : Bool) (r : Result (Option X) Error) (s : Status)
     → missing ≢ Refused OutOfMemory → s ≡ status_by missing fits r → WasNotRefused r → s ≢ Refused OutOfMemory
-had_memory missing fits (Ok (Some x)) s ne is had q = done_is_no_refusal fits (sym is ∙ q)
-had_memory missing fits (Ok None) s ne is had q = ne (sym is ∙ q)
-had_memory missing fits (Err e) s ne is had q = refused (sym is ∙ q)
+was_not_refused missing fits (Ok (Some x)) s ne is had q = done_is_no_refusal fits (sym is ∙ q)
+was_not_refused missing fits (Ok None) s ne is had q = ne (sym is ∙ q)
+was_not_refused missing fits (Err e) s ne is had q = refused (sym is ∙ q)
   where
     refused : Refused (loader_error_of e) ≡ Refused OutOfMemory → ⊥
     refused w = not_told e had cc
 
-had_memory_reply : {X : Type 0} (fits : Bool) (r : Result X Error) (s : Status)
+reply_not_refused : {X : Type 0} (fits : Bool) (r : Result X Error) (s : Status)
     → s ≡ after_reply (was_made r) (done_if fits) → WasNotRefused r → s ≢ Refused OutOfMemory
-had_memory_reply fits (Ok x) s is had q = done_is_no_refusal fits (sym is ∙ q)
-had_memory_reply fits (Err e) s is had q = refused (sym is ∙ q)
+reply_not_refused fits (Ok x) s is had q = done_is_no_refusal fits (sym is ∙ q)
+reply_not_refused fits (Err e) s is had q = refused (sym is ∙ q)
   where
     refused : Refused (loader_error_of e) ≡ Refused OutOfMemory → ⊥
     refused w = not_told e had cc
@@ -76,10 +76,10 @@ leaves_location probe fits s r old new is a = record {
 }
 
 -- where it was ready, it had memory
-pub located_had_memory : {X : Type 0} (probe : ℕ) (fits : Bool) (s : Status) (r : Result (Option X) Error)
+pub location_not_refused : {X : Type 0} (probe : ℕ) (fits : Bool) (s : Status) (r : Result (Option X) Error)
     (old new : ContextState) → s ≡ status_by Nothing fits r → AfterLookup probe r old new
     → IsReady old probe → s ≢ Refused OutOfMemory
-located_had_memory probe fits s r old new is a ready = had_memory Nothing fits r s (λ q. absurd cc) is
+location_not_refused probe fits s r old new is a ready = was_not_refused Nothing fits r s (λ q. absurd cc) is
     (a.memory (subst (λ d. IsReady (record new { sections = d }) probe) (sym a.stays.sections)
     (subst (λ p. IsReady (record old { parsed = p }) probe) (sym (a.same ready)) ready)))
 
@@ -110,10 +110,10 @@ pub leaves_range : {X : Type 0} (low high : ℕ) (fits : Bool) (s : Status) (r :
 leaves_range low high fits s r old new is a =
     record { came = was_made r; status = is; after = range_came low high r old new a }
 
-pub range_had_memory : {X : Type 0} (low high : ℕ) (fits : Bool) (s : Status) (r : Result X Error)
+pub range_not_refused : {X : Type 0} (low high : ℕ) (fits : Bool) (s : Status) (r : Result X Error)
     (old new : ContextState) → s ≡ after_reply (was_made r) (done_if fits)
     → AfterRangeLookup low high r old new → IsReadyForRange old low high → s ≢ Refused OutOfMemory
-range_had_memory low high fits s r old new is a ready = had_memory_reply fits r s is
+range_not_refused low high fits s r old new is a ready = reply_not_refused fits r s is
     (a.memory (subst (λ d. IsReadyForRange (record new { sections = d }) low high) (sym a.stays.sections)
     (subst (λ p. IsReadyForRange (record old { parsed = p }) low high) (sym (a.same ready)) ready)))
 
@@ -175,12 +175,12 @@ leaves_waiting probe fits s old new held is same a =
       };
     })
 
-pub frames_had_memory : {X : Type 0} (shares : Bool) (probe : ℕ) (fits : Bool) (s : Status) (r : Result X Error)
+pub frames_not_refused : {X : Type 0} (shares : Bool) (probe : ℕ) (fits : Bool) (s : Status) (r : Result X Error)
     (old new : ContextState) → s ≡ status_by Waits fits (found_some r)
     → AfterFramesOver shares Stop probe r old new → WaitsForNone old probe → IsKnownFew Stop old probe
     → s ≢ Refused OutOfMemory
-frames_had_memory {X} shares probe fits s r old new is a ended few =
-    had_memory Waits fits (found_some r) s (λ q. absurd cc) is (by r a.after)
+frames_not_refused {X} shares probe fits s r old new is a ended few =
+    was_not_refused Waits fits (found_some r) s (λ q. absurd cc) is (by r a.after)
   where
     by : (r : Result X Error) → AfterFrames Stop probe r old new → WasNotRefused (found_some r)
     by (Ok x) b = tt

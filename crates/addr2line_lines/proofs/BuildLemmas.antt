@@ -3,7 +3,7 @@ use Rattle.addr2line_lines.proofs.Common.{ℕ, ◌≡◌, ◌+◌, ◌-◌, ◌*
 use Rattle.std.proofs.lemmas.Bool.{eq-eqb}
 use Rattle.std.proofs.lemmas.List.{length-drop}
 use Rattle.gimli_line.specs.Taking.{fault_after}
-use Rattle.addr2line_lines.specs.Building.{Built, IsBuilder, StoredBuilt, stored_rows, stored_taken, all_built, built, closed, built_ended, has_address, nothing_built, row_taken, with_row, without_last, without_last_from}
+use Rattle.addr2line_lines.specs.Building.{Built, IsBuilder, StoredBuilt, stored_rows, stored_taken, built, closed, built_ended, has_address, nothing_built, row_taken, with_row, without_last, without_last_from}
 use Rattle.addr2line_lines.specs.declared.rows.ShortRow.{ShortRow}
 use Rattle.addr2line_lines.specs.StoredRows.{fits, row_of_short, shortened}
 use Rattle.addr2line_lines.proofs.StoredRowLemmas.{short_is}
@@ -11,6 +11,10 @@ use Rattle.addr2line_lines.proofs.PackedLemmas.{all_push, all_same, all_within, 
 use Rattle.addr2line_lines.proofs.SeekLemmas.{last_is}
 use Rattle.addr2line_lines.proofs.RowGroupLemmas.{IsPending, ended_is, falls_back, falls_replaced, none_open, pending_more, pending_replaced, replaced}
 use Rattle.addr2line_lines.proofs.Facts.{same_more}
+
+-- what rows make of what there is
+abbrev pub all_built : Built → List LineRow → Built
+all_built b rows = fold row_taken b rows
 
 -- sequences, and rows that go on
 abbrev going : List Sequence → List LineRow → Built

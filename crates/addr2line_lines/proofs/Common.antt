@@ -38,7 +38,7 @@ pub use Rattle.gimli.proofs.ItemReads.{items_end, items_fault, items_more, text_
 pub use Rattle.gimli.specs.Entries.{entry_bytes_from, entry_unit, unit_length}
 pub use Rattle.gimli.specs.Entry.{EntryUnit, depth_after_closing}
 unfoldable pub use Rattle.gimli.specs.Entry.{attributes_at, entry_code_at}
-pub use Rattle.gimli.specs.EntryCursor.{EntriesLeft, EntryCursor, depth_after_code, entries_at, entries_from, items_left, next_offset_of}
+pub use Rattle.gimli.specs.EntryCursor.{EntriesLeft, EntryCursor, depth_after_code, entries_at, entries_from, items_left}
 unfoldable pub use Rattle.gimli.specs.EntryCursor.{entry_abbreviation_at, next_item_at}
 pub use Rattle.gimli.specs.Items.{Entry, Item, depth_after, depth_behind, items_after, items_at, items_from, items_inside, items_of, offset_of, subtree_of}
 unfoldable pub use Rattle.gimli.specs.Items.{item_at, items_within}
@@ -48,10 +48,10 @@ pub use Rattle.gimli.specs.Unit.{UnitRecord, attr_string_of, program_and_low_pc_
 unfoldable pub use Rattle.gimli.specs.Unit.{completed_record, unit_by, unit_record_of}
 pub use Rattle.addr2line_lines.specs.CachedDetails.{AreDetailsMore, CachedDetails, IsDetailPlace, IsNextPlace, IsOfEntryBetween, IsRefusedThen, between, detail_of, listed_ranges, as_details}
 pub use Rattle.addr2line_lines.specs.CachedNames.{AreNamesIn, AreNamesMore, AreNamesOf, CachedName, GrowNames, IsKnownAs, IsNameOf, IsOneMoreAtMost, KnownNames, as_cached_name, as_names, as_shared, no_names}
-pub use Rattle.addr2line_lines.specs.Details.{Detail, PlacedItem, WholeEntry, detail_at, detail_takes_memory, first_whole, inlined_in, is_in_function, open_after, placed_items, whole_entry_at, with_inlined, with_inlined_entry}
+pub use Rattle.addr2line_lines.specs.Details.{Detail, PlacedItem, WholeEntry, detail_at, first_whole, inlined_in, is_in_function, open_after, placed_items, whole_entry_at, with_inlined, with_inlined_entry}
 unfoldable pub use Rattle.addr2line_lines.specs.Details.{stored_detail_at}
-pub use Rattle.addr2line_lines.specs.FoundFunctions.{AreFoundUnread, AreFunctions, FoundFunctions, IsPlaceIn, IsUnread, found_from, found_in, found_more, function_address, function_offsets, function_range_of, item_has_function, item_takes_memory, next_found_at, none_found, as_functions, with_attributes, with_found, with_ranges}
-pub use Rattle.addr2line_lines.specs.FoundInlined.{FoundInlined, IsFoundMore, IsPlaceAmong, entry_among, first_found, found_ranges_from, inlined_address, inlined_more, named_lists, no_inlined, none_inlined, range_among, as_lists, with_inlined_found, with_inlined_ranges}
+pub use Rattle.addr2line_lines.specs.FoundFunctions.{AreFoundUnread, AreFunctions, FoundFunctions, IsPlaceIn, IsUnread, found_in, found_more, function_address, function_offsets, function_range_of, item_has_function, item_takes_memory, next_found_at, none_found, as_functions, with_attributes, with_found, with_ranges}
+pub use Rattle.addr2line_lines.specs.FoundInlined.{FoundInlined, IsFoundMore, entry_among, first_found, inlined_address, inlined_more, named_lists, no_inlined, none_inlined, range_among, as_lists, with_inlined_found, with_inlined_ranges}
 pub use Rattle.addr2line_lines.specs.FoundNames.{BeginsAbove, BeginsBy, found_name, is_name_attribute, name_after, as_name_or_origin, as_place, unit_begins_by, with_linkage}
 pub use Rattle.addr2line_lines.specs.FunctionCache.{AreCachedFunctions, AreDetailsApart, AreRuns, HasPlace, inlined_size, name_size, place_read, ranges_size, read_at, as_function, as_lazy, size_of}
 pub use Rattle.addr2line_lines.specs.FunctionTable.{AreListed, CachedFunction, FunctionTable, cached_inlined, cached_name, cached_offset_at, function_place_at, inlined_of_detail, name_of_detail}

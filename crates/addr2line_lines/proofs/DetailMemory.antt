@@ -1,5 +1,5 @@
 -- Where memory is taken for the details of a function (on specs/Details.antt).
-use Rattle.addr2line_lines.proofs.Common.{◌≡◌, ℕ, ◌<◌, ◌++◌, true, false, List, [], ◌∷◌, append-nil, length, map, Option, Result, Ok, Err, refl, ap, subst, sym, ◌∙◌, arith, Error, Range, Costed, free, Section, Sections, UnitRecord, RangeAttributes, InlinedFunctionAddress, Detail, WholeEntry, detail_at, detail_takes_memory, inlined_in, stored_detail_at, whole_entry_at, FoundInlined, inlined_address, with_inlined_ranges, InlinedRange, name_of, attribute_ranges, gives_a_range, Scope}
+use Rattle.addr2line_lines.proofs.Common.{◌≡◌, ℕ, ◌<◌, ◌++◌, true, false, List, [], ◌∷◌, append-nil, length, map, Option, Result, Ok, Err, refl, ap, subst, sym, ◌∙◌, arith, Error, Range, Costed, free, Section, Sections, UnitRecord, RangeAttributes, InlinedFunctionAddress, Detail, WholeEntry, detail_at, inlined_in, stored_detail_at, whole_entry_at, FoundInlined, inlined_address, with_inlined_ranges, InlinedRange, name_of, attribute_ranges, gives_a_range, Scope, Bool}
 use Rattle.gimli_read.specs.Reading as reading
 use Rattle.addr2line_lines.specs.CostedSteps.{map_at_cost, then_room_if}
 use Rattle.addr2line_lines.specs.FoundDetails.{detail_found_at}
@@ -7,6 +7,10 @@ use Rattle.addr2line_lines.proofs.CostLemmas.{AgreesGiven, TakesIfRead, map_take
 use Rattle.addr2line_lines.proofs.DetailOrder.{IsFrom, detail_agrees, detail_made}
 use Rattle.addr2line_lines.proofs.FunctionMemory.{listed_well}
 use Rattle.addr2line_lines.proofs.WholeEntries.{detail_of}
+
+-- whether memory may be taken for the details of a function, where readers don't share their bytes
+abbrev pub detail_takes_memory : Scope → UnitRecord → ℕ → Bool
+detail_takes_memory scope u offset = (stored_detail_at scope u offset).takes_memory false
 
 -- where ranges are added, the attributes give one
 pub pushed_well : (d : Sections) (u : UnitRecord) (a : RangeAttributes) (depth function : ℕ) (old new : List InlinedFunctionAddress) → with_inlined_ranges d u a depth function old ≡ Ok new → length old < length new → gives_a_range d u a ≡ true

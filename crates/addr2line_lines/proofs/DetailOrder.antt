@@ -1,5 +1,5 @@
 -- The details of a function are what is found of it (on specs/FoundDetails.antt).
-use Rattle.addr2line_lines.proofs.Common.{◌≡◌, ℕ, ◌+◌, ◌-◌, ◌<◌, nat_lt, ◌≤◌, ◌==◌, ◌&&◌, Bool, true, false, cond, List, [], ◌∷◌, ◌++◌, count_by, map, length, Option, Some, None, Result, Ok, Err, refl, ap, sym, subst, ◌∙◌, arith, length-drop, ℤ, pos, eqb-true, ne_eqb, nat_tests, sum_by-cons, drop-length, Error, OffsetOutOfBounds, Range, Abbrev, NamedValue, rest_of, Costed, free, Reading, fold_run, Section, after, entry_bytes_from, unit_length, EntryUnit, attributes_at, Entry, Item, depth_after, items_inside, subtree_of, EntriesLeft, EntryCursor, entries_at, entry_abbreviation_at, items_left, next_item_at, UnitRecord, Kind, Detail, detail_at, inlined_in, is_in_function, open_after, placed_items, stored_detail_at, with_inlined, with_inlined_entry, InlinedAttributes, InlinedRange, inlined_attributes_of, inlined_entry, inlined_ranges, is_inlined, FoundInlined, inlined_more, range_among, found_ranges_from, with_inlined_found, name_after, is_subprogram, name_of, attribute_ranges, gives_a_range, Scope}
+use Rattle.addr2line_lines.proofs.Common.{◌≡◌, ℕ, ◌+◌, ◌-◌, ◌<◌, nat_lt, ◌≤◌, ◌==◌, ◌&&◌, Bool, true, false, cond, List, [], ◌∷◌, ◌++◌, count_by, map, length, Option, Some, None, Result, Ok, Err, refl, ap, sym, subst, ◌∙◌, arith, length-drop, ℤ, pos, eqb-true, ne_eqb, nat_tests, sum_by-cons, drop-length, Error, OffsetOutOfBounds, Range, Abbrev, NamedValue, rest_of, Costed, free, Reading, fold_run, Section, after, entry_bytes_from, unit_length, EntryUnit, attributes_at, Entry, Item, depth_after, items_inside, subtree_of, EntriesLeft, EntryCursor, entries_at, entry_abbreviation_at, items_left, next_item_at, UnitRecord, Kind, Detail, detail_at, inlined_in, is_in_function, open_after, placed_items, stored_detail_at, with_inlined, with_inlined_entry, InlinedAttributes, InlinedRange, inlined_attributes_of, inlined_entry, inlined_ranges, is_inlined, FoundInlined, inlined_more, range_among, with_inlined_found, name_after, is_subprogram, name_of, attribute_ranges, gives_a_range, Scope}
 use Rattle.gimli_read.specs.declared.constants.TheConstants.DwTag.{DW_TAG_inlined_subroutine, DW_TAG_subprogram}
 use Rattle.gimli_read.specs.Costed.{◌>>=◌}
 use Rattle.gimli_read.specs.Reading as reading
@@ -12,7 +12,7 @@ use Rattle.addr2line_lines.specs.CostedSteps.{fold_at_cost, map_at_cost, stored_
 use Rattle.addr2line_lines.specs.FoundDetails.{abbreviation_of, detail_found_at, function_found_at}
 use Rattle.addr2line_lines.specs.OpenEntries.{closed_once, is_inlined_kind, is_listed, is_subprogram_kind, kind_of, opened}
 use Rattle.addr2line_lines.proofs.CostLemmas.{Agrees, AgreesGiven, IsPartOf, agrees_after, agrees_made, agrees_map, agrees_room, agrees_then, room_more}
-use Rattle.addr2line_lines.proofs.DetailRanges.{AreFrom, more_places, more_ranges, none_from}
+use Rattle.addr2line_lines.proofs.DetailRanges.{AreFrom, more_places, more_ranges, none_from, found_ranges_from}
 use Rattle.addr2line_lines.proofs.WholeEntries.{detail_is, detail_read}
 
 -- what the kinds of open entries tell

@@ -1,6 +1,14 @@
 -- Ranges by the places of inlined entries, where more are found (on specs/FoundInlined.antt).
-use Rattle.addr2line_lines.proofs.Common.{◌≡◌, ℕ, ◌+◌, ◌≤◌, List, [], ◌∷◌, ◌++◌, drop, map, length, slice_index_or, refl, ap, sym, subst, ◌∙◌, arith, length-append, append-nil, All, AllByRecursion, drop-append-le, map-append, All-append, All-head, All-map, All-tail, All-weaker, recursion_from_All, drop-length, Range, InlinedFunctionAddress, InlinedEntry, InlinedRange, FoundInlined, IsPlaceAmong, inlined_address, inlined_more, range_among, no_inlined, found_ranges_from, inlined_place, IsOfEntryBetween, get_or_append_left}
+use Rattle.addr2line_lines.proofs.Common.{◌≡◌, ℕ, ◌+◌, ◌≤◌, List, [], ◌∷◌, ◌++◌, drop, map, length, slice_index_or, refl, ap, sym, subst, ◌∙◌, arith, length-append, append-nil, All, AllByRecursion, drop-append-le, map-append, All-append, All-head, All-map, All-tail, All-weaker, recursion_from_All, drop-length, Range, InlinedFunctionAddress, InlinedEntry, InlinedRange, FoundInlined, inlined_address, inlined_more, range_among, no_inlined, inlined_place, IsOfEntryBetween, get_or_append_left, ◌<◌}
 use Rattle.addr2line_lines.proofs.SeekLemmas.{Up}
+
+-- the ranges from a place on, by their inlined entries
+abbrev pub found_ranges_from : ℕ → FoundInlined → List InlinedRange
+found_ranges_from n found = map (range_among found.entries) (drop n found.ranges)
+
+-- a place is that of an inlined entry
+abbrev pub IsPlaceAmong : List InlinedEntry → InlinedFunctionAddress → Type 0
+IsPlaceAmong entries a = a.function < length entries
 
 -- a range of an inlined entry
 abbrev pub of_entry : ℕ → InlinedEntry → Range → InlinedRange

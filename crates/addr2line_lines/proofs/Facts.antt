@@ -1,6 +1,6 @@
 -- Facts on booleans, numbers, orderings, options and lists that the proofs of this crate and of those
 -- above it cite, and that std doesn't have.
-use Rattle.addr2line_lines.proofs.Common.{All, AllByRecursion, AllZip, Bool, Bor, Equal, Greater, Less, List, None, Option, Ordering, Some, [], ap, append-nil, append_assoc, arith, cases_eq, common_steps, count_by, drop, drop_all, eqb-true, false, get_or, get_or_from_slice_get, inl, inr, length, length-append, list_any, map, nat_le, nat_lt, nat_tests, option_copied, option_map, or_left, or_right, ordering_then, refl, reverse, reverse-append, rules, set, set_split, slice_get, slice_get-map, slice_get_past, slice_get_read, slice_index_or, slice_set, subst, suc, sym, take, true, zero, ℕ, ◌&&◌, ◌++◌, ◌+◌, ◌<◌, ◌==◌, ◌||◌, ◌∙◌, ◌∷◌, ◌≡◌, ◌≤◌, ◌⊎◌}
+use Rattle.addr2line_lines.proofs.Common.{All, AllByRecursion, AllZip, Bool, Bor, Equal, Greater, Less, List, None, Option, Ordering, Some, [], ap, append-nil, append_assoc, arith, cases_eq, common_steps, count_by, drop, drop_all, eqb-true, false, get_or, get_or_from_slice_get, inl, inr, length, length-append, list_any, map, nat_le, nat_lt, nat_tests, option_copied, option_map, or_left, or_right, ordering_then, refl, reverse, reverse-append, rules, set, set_split, slice_get, slice_get-map, slice_get_past, slice_get_read, slice_index_or, slice_set, subst, suc, sym, take, true, zero, ℕ, ◌&&◌, ◌++◌, ◌+◌, ◌<◌, ◌==◌, ◌||◌, ◌∙◌, ◌∷◌, ◌≡◌, ◌≤◌, ◌⊎◌, cond}
 use Rattle.std.specs.List.{slice_get}
 use Rattle.std.specs.Slice.{IsItemAt}
 use Rattle.addr2line_lines.specs.Grown.{IsGrown}
@@ -119,6 +119,12 @@ pub all_first : {X : Type 0} (P : X → Type 0) (n : ℕ) (xs : List X) → AllB
 all_first P zero xs all = tt
 all_first P (suc n) [] all = tt
 all_first P (suc n) (x ∷ xs) all = (all.0, all_first P n xs all.1)
+
+-- two elements of which one test at most holds may change places
+pub cond_swaps : {X : Type 0} (x y : X) (a b : Bool) (zs : List X) → (a ≡ true → b ≡ true → ⊥) → cond b (y ∷ cond a (x ∷ zs) zs) (cond a (x ∷ zs) zs) ≡ cond a (x ∷ cond b (y ∷ zs) zs) (cond b (y ∷ zs) zs)
+cond_swaps x y true true zs h = absurd (h refl refl)
+cond_swaps x y true false zs h = refl
+cond_swaps x y false b zs h = refl
 
 -- what holds of all holds at a place
 pub all_at : {X : Type 0} (P : X → Type 0) (xs : List X) (n : ℕ) (x : X) → AllByRecursion P xs → slice_get xs n ≡ Some x → P x

@@ -1,14 +1,14 @@
 -- No reading of a unit's lines, functions or details gives OutOfMemory (on specs/UnitLines.antt, Functions, Details and those that they stand on).
-use Rattle.addr2line_lines.proofs.Common.{ℕ, zero, suc, ◌==◌, ◌&&◌, Bool, true, false, cond, List, [], ◌∷◌, map, Option, Some, None, IfOk, Result, Ok, Err, DW_AT_low_pc, DW_AT_high_pc, DW_AT_ranges, DW_AT_name, Error, NoEntryAtGivenOffset, Range, AttributeValue, Abbrev, Specification, NamedValue, free, ◌>>=◌, Run, Section, File, Header, Program, Entry, Item, items_of, items_at, subtree_of, ranges_at, Sections, UnitRecord, RangeAttributes, read_all, attr_address, no_range_attributes, with_range_attribute, range_attributes_of, ranges_of, all_ranges, attribute_ranges, FunctionRange, is_subprogram, entry_ranges, with_function, functions_of, FileRecord, EntryPlace, Scope, unit_at, entry_in, sup_scope, entry_in_sup, referred, is_linkage_name, is_origin, NameOrOrigin, no_name, with_name_or_origin, linkage_name_of, named_at, entry_specifications, visited, most_visited, name_within, referred_name, or_referred_name, with_name, name_of, InlinedAttributes, InlinedRange, no_inlined_attributes, is_inlined, with_inlined_attribute, inlined_attributes_of, PlacedItem, placed_items, is_in_function, with_inlined, with_inlined_entry, inlined_in, WholeEntry, first_whole, whole_entry_at, detail_at, stored_detail_at, CachedFunction}
+use Rattle.addr2line_lines.proofs.Common.{ℕ, zero, suc, ◌==◌, ◌&&◌, Bool, true, false, cond, List, [], ◌∷◌, map, Option, Some, None, IfOk, Result, Ok, Err, DW_AT_low_pc, DW_AT_high_pc, DW_AT_ranges, DW_AT_name, Error, NoEntryAtGivenOffset, Range, AttributeValue, Abbrev, Specification, NamedValue, free, ◌>>=◌, Run, Section, File, Header, Program, Entry, Item, items_of, items_at, subtree_of, ranges_at, Sections, UnitRecord, RangeAttributes, read_all, attr_address, no_range_attributes, with_range_attribute, range_attributes_of, ranges_of, all_ranges, attribute_ranges, FunctionRange, is_subprogram, entry_ranges, with_function, functions_of, FileRecord, EntryPlace, Scope, unit_at, entry_in, sup_scope, entry_in_sup, referred, is_linkage_name, is_origin, NameOrOrigin, no_name, with_name_or_origin, linkage_name_of, named_at, entry_specifications, visited, most_visited, name_within, referred_name, or_referred_name, with_name, name_of, InlinedAttributes, InlinedRange, no_inlined_attributes, is_inlined, with_inlined_attribute, inlined_attributes_of, PlacedItem, placed_items, is_in_function, with_inlined, with_inlined_entry, inlined_in, WholeEntry, first_whole, whole_entry_at, detail_at, stored_detail_at}
 use Rattle.gimli_read.specs.declared.value.AttributeValue.TheVariants as values
 use Rattle.gimli_read.specs.Version.{is_before_5}
-use Rattle.gimli_read.proofs.FaultLemmas.{IsByBytes, AreByBytes, step, either, value, fault, moved_fault, result_map_is, fault_of_is, fold_run_is, fold_of_is, attribute_is}
+use Rattle.gimli_read.proofs.FaultLemmas.{IsByBytes, AreByBytes, step, either, value, fault, moved_fault, result_map_is, fold_run_is, fold_of_is, attribute_is}
 use Rattle.gimli_line.specs.Lines.{lines_of}
 use Rattle.gimli_line.proofs.FaultLemmas.{rows_of_are}
 use Rattle.gimli.proofs.FaultLemmas.{attr_string_is, indexed_number_is, ranges_offset_is, ranges_are, list_items_are, entry_bytes_is, entry_code_is, items_of_end, items_at_end, subtree_end, taken_in_is}
 use Rattle.addr2line_lines.specs.FileTexts.{optional_string, file_directory, text_of_file, texts_of, file_texts}
 use Rattle.addr2line_lines.specs.UnitLines.{program_lines, lines_in, unit_lines}
-use Rattle.addr2line_lines.specs.FunctionDetails.{details_fault}
+use Rattle.addr2line_lines.specs.FunctionDetails.{details_at}
 use Rattle.addr2line_lines.specs.ItemsAround.{items_inside_at}
 
 -- ---- choices and lists
@@ -202,6 +202,6 @@ unfolding stored_detail_at
 detail_is scope u offset =
     after_whole (λ x h. step (name_is scope u x.entry.attributes) (λ name. step (inlined_in_is scope u x.inside h) (λ inlined. value))) u offset
 
-pub details_fault_is : (scope : Scope) (u : UnitRecord) (functions : List CachedFunction) → IsByBytes (details_fault scope u functions)
-details_fault_is scope u [] = value
-details_fault_is scope u (f ∷ functions) = step (fault_of_is (detail_is scope u f.offset)) (λ v. details_fault_is scope u functions)
+pub details_at_are : (scope : Scope) (u : UnitRecord) (offsets : List ℕ) → IsByBytes (details_at scope u offsets)
+details_at_are scope u [] = value
+details_at_are scope u (offset ∷ offsets) = step (detail_is scope u offset) (λ detail. details_at_are scope u offsets)

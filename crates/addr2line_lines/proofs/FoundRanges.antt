@@ -1,5 +1,5 @@
 -- The attributes of ranges among others (on specs/FoundRanges.antt).
-use Rattle.addr2line_lines.proofs.Common.{◌≡◌, ◌==◌, ◌&&◌, Bool, true, false, length, Some, Result, Ok, Err, refl, ◌∙◌, list_any, DW_AT_high_pc, DW_AT_low_pc, DW_AT_ranges, Error, Abbrev, Section, ◌>>=◌, Exactly, ExactlyUnlessOomIf, NamedValue, rest_of, EntryUnit, attributes_at, EntryCursor, entry_abbreviation_at, next_offset_of, Sections, UnitRecord, RangeAttributes, FoundFunctions, next_found_at, is_subprogram, no_range_attributes, range_attributes_after, with_range_attribute}
+use Rattle.addr2line_lines.proofs.Common.{◌≡◌, ◌==◌, ◌&&◌, Bool, true, false, length, Some, Result, Ok, Err, refl, ◌∙◌, list_any, DW_AT_high_pc, DW_AT_low_pc, DW_AT_ranges, Error, Abbrev, Section, ◌>>=◌, Exactly, ExactlyUnlessOomIf, NamedValue, rest_of, EntryUnit, attributes_at, EntryCursor, entry_abbreviation_at, Sections, UnitRecord, RangeAttributes, FoundFunctions, next_found_at, is_subprogram, no_range_attributes, range_attributes_after, with_range_attribute, offset_of}
 use Rattle.std.proofs.lemmas.Bool.{cond-false}
 use Rattle.gimli_read.specs.declared.endian.Encoding.{Encoding}
 use Rattle.gimli.specs.WantedAttributes.{HasNoWanted}
@@ -27,7 +27,7 @@ module _ (d : Sections) (u : UnitRecord) (unit : EntryUnit) where
 
       by_kind : (b : Bool) → is_subprogram a ≡ b → (b && list_any is_range_specification a.attributes) ≡ false → (r : Result (Unit {0}) Error) → Exactly (λ _. s.left) r (rest_of (attributes_at e a.attributes t.left)) → ExactlyUnlessOomIf may (λ _. (found, s)) r (next_found_at d u unit c found)
       by_kind false is n r g = other_found d u unit may c t s found a e r h k q is m g
-      by_kind true is n (Ok z) g = function_found d u unit c t s found a e no_range_attributes (next_offset_of unit c) h k q is (none (none_holds is_range_specification a.attributes n) (Ok s.left) g) g m refl
+      by_kind true is n (Ok z) g = function_found d u unit c t s found a e no_range_attributes (offset_of unit c.left) h k q is (none (none_holds is_range_specification a.attributes n) (Ok s.left) g) g m refl
       by_kind true is n (Err f) g = λ ne. function_fault d u unit c t found a e f h k q is (none (none_holds is_range_specification a.attributes n) (Err f) g)
 
 -- the abbreviation of functions with ranges is one of functions

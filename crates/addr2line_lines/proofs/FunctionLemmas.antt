@@ -1,9 +1,15 @@
 -- The functions of a unit, one item at a time (on specs/FoundFunctions.antt).
-use Rattle.addr2line_lines.proofs.Common.{◌≡◌, ℕ, ◌<◌, ◌≤◌, ◌==◌, ◌&&◌, Bool, true, false, cond, List, [], ◌∷◌, ◌++◌, map, length, Option, Some, None, Result, Ok, Err, OnOk, refl, ap, sym, ◌∙◌, arith, append-nil, length-append, Error, Range, Abbrev, Section, Reading, ◌>>=◌, Exactly, ExactlyUnlessOomIf, NamedValue, rest_of, Run, cons, fold_of, fold_run, EntryUnit, attributes_at, Item, EntryCursor, entry_abbreviation_at, items_left, next_item_at, next_offset_of, Sections, UnitRecord, items_end, items_fault, items_more, RangeAttributes, FunctionAddress, attribute_ranges, gives_a_range, no_range_attributes, range_attributes_after, range_attributes_of, is_subprogram, FoundFunctions, next_found_at, found_from, found_more, function_address, item_has_function, with_attributes, with_found, with_ranges}
+use Rattle.addr2line_lines.proofs.Common.{◌≡◌, ℕ, ◌<◌, ◌≤◌, ◌==◌, ◌&&◌, Bool, true, false, cond, List, [], ◌∷◌, ◌++◌, map, length, Option, Some, None, Result, Ok, Err, OnOk, refl, ap, sym, ◌∙◌, arith, append-nil, length-append, Error, Range, Abbrev, Section, Reading, ◌>>=◌, Exactly, ExactlyUnlessOomIf, NamedValue, rest_of, Run, cons, fold_of, fold_run, EntryUnit, attributes_at, Item, EntryCursor, entry_abbreviation_at, items_left, next_item_at, Sections, UnitRecord, items_end, items_fault, items_more, RangeAttributes, FunctionAddress, attribute_ranges, gives_a_range, no_range_attributes, range_attributes_after, range_attributes_of, is_subprogram, FoundFunctions, next_found_at, found_more, function_address, item_has_function, with_attributes, with_found, with_ranges, offset_of}
 use Rattle.gimli_read.specs.declared.endian.Encoding.{Encoding}
 use Rattle.gimli_read.proofs.SkipLemmas.{attributes_leave}
 use Rattle.gimli.proofs.CursorLemmas.{item_coded, item_from, item_is, item_here}
 use Rattle.gimli.proofs.EntryLemmas.{abbreviation_takes}
+
+-- the functions of the items from a place on, after what was found
+abbrev pub found_from : Sections → UnitRecord → EntryUnit → EntryCursor → FoundFunctions
+    → Result FoundFunctions Error
+found_from d u unit cursor found =
+    fold_of (with_found d u) found (items_left unit cursor) >>= λ more. Ok more.0
 
 -- an answer, and a place beside it; memory may be taken for the part only if it may for the whole
 pub beside_if : {X Y Z : Type 0} (part may : Bool) (r : Result Z Error) (x : X) (y : Y) (given : Result X Error) (whole : Result (X × Y) Error) → (part ≡ true → may ≡ true) → whole ≡ (given >>= λ v. Ok (v, y)) → ExactlyUnlessOomIf part (λ _. x) r given → ExactlyUnlessOomIf may (λ _. (x, y)) r whole
@@ -45,7 +51,7 @@ module _ (d : Sections) (u : UnitRecord) (unit : EntryUnit) where
   not_function : (c t : EntryCursor) (found : FoundFunctions) (a : Abbrev) → is_subprogram a ≡ false → (read : Reading (List NamedValue)) → found_entry c t found a read ≡ (rest_of read >>= λ s. Ok (found, record { left = s; depth = t.depth }))
   not_function c t found a h (Err e) = refl
   not_function c t found a h (Ok x) =
-      ap (λ b. ending (record { left = x.1; depth = t.depth }) (cond {A = Result FoundFunctions Error} b (range_attributes_of d u x.0 >>= λ r. with_attributes d u r (next_offset_of unit c) found) (Ok found))) h
+      ap (λ b. ending (record { left = x.1; depth = t.depth }) (cond {A = Result FoundFunctions Error} b (range_attributes_of d u x.0 >>= λ r. with_attributes d u r (offset_of unit c.left) found) (Ok found))) h
 
   pub other_found : (may : Bool) (c t s : EntryCursor) (found : FoundFunctions) (a : Abbrev) (e : Encoding) (r : Result (Unit {0}) Error) → (length c.left.bytes == 0) ≡ false → entry_abbreviation_at unit.abbreviations c ≡ Ok (Some a, t) → e ≡ unit.encoding → is_subprogram a ≡ false
       → s.depth ≡ t.depth → Exactly (λ _. s.left) r (rest_of (attributes_at e a.attributes t.left)) → ExactlyUnlessOomIf may (λ _. (found, s)) r (next_found_at d u unit c found)
@@ -59,14 +65,14 @@ module _ (d : Sections) (u : UnitRecord) (unit : EntryUnit) where
 
   -- a function's entry
   function_is : (c t : EntryCursor) (found : FoundFunctions) (a : Abbrev) → is_subprogram a ≡ true → (read : Reading (List NamedValue))
-      → found_entry c t found a read ≡ (read >>= λ x. range_attributes_of d u x.0 >>= λ r. ending (record { left = x.1; depth = t.depth }) (with_attributes d u r (next_offset_of unit c) found))
+      → found_entry c t found a read ≡ (read >>= λ x. range_attributes_of d u x.0 >>= λ r. ending (record { left = x.1; depth = t.depth }) (with_attributes d u r (offset_of unit c.left) found))
   function_is c t found a h (Err e) = refl
   function_is c t found a h (Ok x) =
-      ap (λ b. ending (record { left = x.1; depth = t.depth }) (cond {A = Result FoundFunctions Error} b (range_attributes_of d u x.0 >>= λ r. with_attributes d u r (next_offset_of unit c) found) (Ok found))) h
+      ap (λ b. ending (record { left = x.1; depth = t.depth }) (cond {A = Result FoundFunctions Error} b (range_attributes_of d u x.0 >>= λ r. with_attributes d u r (offset_of unit c.left) found) (Ok found))) h
       ∙ nested (range_attributes_of d u x.0)
     where
-      nested : (r : Result RangeAttributes Error) → ending (record { left = x.1; depth = t.depth }) (r >>= λ v. with_attributes d u v (next_offset_of unit c) found)
-          ≡ (r >>= λ v. ending (record { left = x.1; depth = t.depth }) (with_attributes d u v (next_offset_of unit c) found))
+      nested : (r : Result RangeAttributes Error) → ending (record { left = x.1; depth = t.depth }) (r >>= λ v. with_attributes d u v (offset_of unit c.left) found)
+          ≡ (r >>= λ v. ending (record { left = x.1; depth = t.depth }) (with_attributes d u v (offset_of unit c.left) found))
       nested (Ok v) = refl
       nested (Err e) = refl
 
@@ -74,23 +80,23 @@ module _ (d : Sections) (u : UnitRecord) (unit : EntryUnit) where
       → range_attributes_after d u (Ok no_range_attributes) (attributes_at e a.attributes t.left) ≡ Err f → next_found_at d u unit c found ≡ Err f
   function_fault c t found a e f h k q n m = at_entry c t found a e h k q ∙ function_is c t found a n (attributes_at e a.attributes t.left) ∙ faulty (attributes_at e a.attributes t.left) m
     where
-      faulty : (read : Reading (List NamedValue)) → range_attributes_after d u (Ok no_range_attributes) read ≡ Err f → (read >>= λ x. range_attributes_of d u x.0 >>= λ r. ending (record { left = x.1; depth = t.depth }) (with_attributes d u r (next_offset_of unit c) found)) ≡ Err f
-      faulty (Ok x) m = ap (λ v. v >>= λ r. ending (record { left = x.1; depth = t.depth }) (with_attributes d u r (next_offset_of unit c) found)) m
+      faulty : (read : Reading (List NamedValue)) → range_attributes_after d u (Ok no_range_attributes) read ≡ Err f → (read >>= λ x. range_attributes_of d u x.0 >>= λ r. ending (record { left = x.1; depth = t.depth }) (with_attributes d u r (offset_of unit c.left) found)) ≡ Err f
+      faulty (Ok x) m = ap (λ v. v >>= λ r. ending (record { left = x.1; depth = t.depth }) (with_attributes d u r (offset_of unit c.left) found)) m
       faulty (Err g) m = let same : g ≡ f = cc in ap Err same
 
   pub function_found : (c t s : EntryCursor) (found : FoundFunctions) (a : Abbrev) (e : Encoding) (r : RangeAttributes) (offset : ℕ) → (length c.left.bytes == 0) ≡ false → entry_abbreviation_at unit.abbreviations c ≡ Ok (Some a, t) → e ≡ unit.encoding → is_subprogram a ≡ true
-      → range_attributes_after d u (Ok no_range_attributes) (attributes_at e a.attributes t.left) ≡ Ok r → rest_of (attributes_at e a.attributes t.left) ≡ Ok s.left → s.depth ≡ t.depth → offset ≡ next_offset_of unit c
+      → range_attributes_after d u (Ok no_range_attributes) (attributes_at e a.attributes t.left) ≡ Ok r → rest_of (attributes_at e a.attributes t.left) ≡ Ok s.left → s.depth ≡ t.depth → offset ≡ offset_of unit c.left
       → next_found_at d u unit c found ≡ ending s (with_attributes d u r offset found)
   function_found c t s found a e r offset h k q n m l z o = at_entry c t found a e h k q ∙ function_is c t found a n (attributes_at e a.attributes t.left) ∙ whole (attributes_at e a.attributes t.left) m l
     where
       whole : (read : Reading (List NamedValue)) → range_attributes_after d u (Ok no_range_attributes) read ≡ Ok r → rest_of read ≡ Ok s.left
-          → (read >>= λ x. range_attributes_of d u x.0 >>= λ v. ending (record { left = x.1; depth = t.depth }) (with_attributes d u v (next_offset_of unit c) found)) ≡ ending s (with_attributes d u r offset found)
+          → (read >>= λ x. range_attributes_of d u x.0 >>= λ v. ending (record { left = x.1; depth = t.depth }) (with_attributes d u v (offset_of unit c.left) found)) ≡ ending s (with_attributes d u r offset found)
       whole (Err g) m l = cc
       whole (Ok x) m l =
           let left : x.1 ≡ s.left = cc in
-          ap (λ v. v >>= λ w. ending (record { left = x.1; depth = t.depth }) (with_attributes d u w (next_offset_of unit c) found)) m
-          ∙ ap (λ v. ending (record { left = v; depth = t.depth }) (with_attributes d u r (next_offset_of unit c) found)) left
-          ∙ ap (λ v. ending (record { left = s.left; depth = v }) (with_attributes d u r (next_offset_of unit c) found)) (sym z)
+          ap (λ v. v >>= λ w. ending (record { left = x.1; depth = t.depth }) (with_attributes d u w (offset_of unit c.left) found)) m
+          ∙ ap (λ v. ending (record { left = v; depth = t.depth }) (with_attributes d u r (offset_of unit c.left) found)) left
+          ∙ ap (λ v. ending (record { left = s.left; depth = v }) (with_attributes d u r (offset_of unit c.left) found)) (sym z)
           ∙ ap (λ v. ending s (with_attributes d u r v found)) (sym o)
 
   -- where the range attributes of a function's entry give a range, the next item does

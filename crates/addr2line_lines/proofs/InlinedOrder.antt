@@ -11,7 +11,7 @@ use Rattle.addr2line_lines.proofs.OrderLemmas.{begins_order, in_order_all, in_or
 use Rattle.addr2line_lines.proofs.OrderPick.{pick_in_order}
 use Rattle.addr2line_lines.proofs.SeekLemmas.{Up}
 use Rattle.addr2line_lines.proofs.StoredRangeLemmas.{images_sorted}
-use Rattle.addr2line_lines.proofs.Facts.{from_left}
+use Rattle.addr2line_lines.proofs.Facts.{from_left, cond_swaps}
 
 -- a list in order is one where elements that tie are the same
 module _ {X : Type 0} (lt : X → X → Bool) (o : IsStrictWeakOrder lt) (one : (x y : X) → ties lt x y ≡ true → y ≡ x) where
@@ -85,14 +85,9 @@ module _ {X : Type 0} (lt : X → X → Bool) (q : X → Bool) where
   put_keeps x [] all = refl
   put_keeps x (y ∷ ys) all = by_cases (lt y x) refl (put_keeps x ys all.1)
     where
-      swaps : (a b : Bool) (zs : List X) → (a ≡ true → b ≡ true → ⊥) → cond b (y ∷ cond a (x ∷ zs) zs) (cond a (x ∷ zs) zs) ≡ cond a (x ∷ cond b (y ∷ zs) zs) (cond b (y ∷ zs) zs)
-      swaps true true zs h = absurd (h refl refl)
-      swaps true false zs h = refl
-      swaps false b zs h = refl
-
       by_cases : (b : Bool) → lt y x ≡ b → filter q (put lt x ys) ≡ filter q (x ∷ ys) → filter q (cond b (y ∷ put lt x ys) (x ∷ y ∷ ys)) ≡ filter q (x ∷ y ∷ ys)
       by_cases false e rest = refl
-      by_cases true e rest = ap (λ zs. cond (q y) (y ∷ zs) zs) rest ∙ swaps (q x) (q y) (filter q ys) (λ f g. let h = all.0 f g in cc)
+      by_cases true e rest = ap (λ zs. cond (q y) (y ∷ zs) zs) rest ∙ cond_swaps x y (q x) (q y) (filter q ys) (λ f g. let h = all.0 f g in cc)
 
   pub in_order_keeps : (xs : List X) → NoneSooner xs → filter q (in_order lt xs) ≡ filter q xs
   in_order_keeps [] h = refl

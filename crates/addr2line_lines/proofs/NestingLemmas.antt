@@ -1,5 +1,5 @@
 -- The entries that are open, one at a time (on specs/OpenEntries.antt and specs/FoundItems.antt).
-use Rattle.addr2line_lines.proofs.Common.{◌≡◌, ℕ, ◌<◌, ◌≤◌, ◌==◌, ◌&&◌, ◌||◌, Bool, true, false, is_ok, cond, List, [], ◌∷◌, ◌++◌, length, length-append, map, reverse, Option, Some, None, Result, Ok, Err, OnErr, OnOk, refl, ap, subst, sym, arith, ◌∙◌, append-nil, append_assoc, ℤ, pos, int_lt, ne_eqb, reverse-append, Error, OutOfMemory, UnexpectedEof, Abbrev, with_code, NamedValue, rest_of, Costed, free, Reading, ExactlyUnlessOomIf, Run, cons, fold_run, Section, entry_bytes_from, EntryUnit, attributes_at, depth_after_closing, Item, depth_after, items_inside, EntriesLeft, EntryCursor, entries_at, entries_from, entry_abbreviation_at, items_left, next_item_at, next_offset_of, UnitRecord, items_end, items_fault, items_more, Kind, FoundInlined, IsFoundMore, inlined_address, inlined_more, with_inlined_found, with_inlined_ranges, name_after, InlinedAttributes, inlined_entry, attribute_ranges, Range, Sections, InlinedFunctionAddress, Scope}
+use Rattle.addr2line_lines.proofs.Common.{◌≡◌, ℕ, ◌<◌, ◌≤◌, ◌==◌, ◌&&◌, ◌||◌, Bool, true, false, is_ok, cond, List, [], ◌∷◌, ◌++◌, length, length-append, map, reverse, Option, Some, None, Result, Ok, Err, OnErr, OnOk, refl, ap, subst, sym, arith, ◌∙◌, append-nil, append_assoc, ℤ, pos, int_lt, ne_eqb, reverse-append, Error, OutOfMemory, UnexpectedEof, Abbrev, with_code, NamedValue, rest_of, Costed, free, Reading, ExactlyUnlessOomIf, Run, cons, fold_run, Section, entry_bytes_from, EntryUnit, attributes_at, depth_after_closing, Item, depth_after, items_inside, EntriesLeft, EntryCursor, entries_at, entries_from, entry_abbreviation_at, items_left, next_item_at, UnitRecord, items_end, items_fault, items_more, Kind, FoundInlined, IsFoundMore, inlined_address, inlined_more, with_inlined_found, with_inlined_ranges, name_after, InlinedAttributes, inlined_entry, attribute_ranges, Range, Sections, InlinedFunctionAddress, Scope, offset_of}
 use Rattle.gimli_read.specs.Costed.{◌>>=◌}
 use Rattle.gimli_read.specs.Reading as reading
 use Rattle.gimli.proofs.CursorLemmas.{abbreviation_is, item_coded, item_from, item_is, item_here, opening_entry}
@@ -12,7 +12,7 @@ use Rattle.addr2line_lines.specs.FoundDetails.{abbreviation_of, detail_found_at,
 use Rattle.addr2line_lines.specs.OpenEntries.{closed_once, kind_of, opened}
 use Rattle.addr2line_lines.proofs.CostLemmas.{IsPartOf, IsRestOf, first_part, made_part, part_on, rest_map, rest_next, rest_on, rest_part}
 use Rattle.addr2line_lines.proofs.DetailLemmas.{empty_code, entry-rest}
-use Rattle.addr2line_lines.proofs.FunctionLemmas.{closing_shorter, entry_shorter}
+use Rattle.addr2line_lines.proofs.FunctionLemmas.{entry_shorter}
 use Rattle.addr2line_lines.proofs.Facts.{no_bytes}
 
 -- a code takes a byte
@@ -63,7 +63,7 @@ module _ (scope : Scope) (u : UnitRecord) (unit : EntryUnit) where
 
   -- an entry that is found, and room for it while it is open
   abbrev pub entry_opened : EntryCursor → EntryCursor → FoundAround → Abbrev → Costed (FoundAround × EntryCursor)
-  entry_opened c t state a = map_at_cost (after_entry state a t) (then_room_if a.has_children (entry_found_at scope u state.around (next_offset_of unit c) a t.left state.found))
+  entry_opened c t state a = map_at_cost (after_entry state a t) (then_room_if a.has_children (entry_found_at scope u state.around (offset_of unit c.left) a t.left state.found))
 
   pub item-entry : (c t : EntryCursor) (state : FoundAround) (a : Abbrev) → u.header.encoding ≡ unit.encoding → entry_abbreviation_at unit.abbreviations c ≡ Ok (Some a, t) → IsRestOf (entry_opened c t state a) (item_found_at scope u unit c state)
   item-entry c t state a e h =
@@ -71,7 +71,7 @@ module _ (scope : Scope) (u : UnitRecord) (unit : EntryUnit) where
       (by_read (attributes_at u.header.encoding a.attributes t.left))
     where
       entry : List NamedValue → Costed FoundInlined
-      entry xs = with_entry_found scope u state.around (next_offset_of unit c) state.found (record { abbreviation = a; attributes = xs })
+      entry xs = with_entry_found scope u state.around (offset_of unit c.left) state.found (record { abbreviation = a; attributes = xs })
 
       read_of : Reading (List NamedValue) → Costed (FoundAround × EntryCursor)
       read_of read = item_read state (reading.◌>>=◌ {B = Option Item × EntryCursor} read (λ x. Ok (Some (item_here unit c (Some (record { abbreviation = a; attributes = x.0 }))), record { left = x.1; depth = t.depth })))
@@ -98,9 +98,6 @@ module _ (scope : Scope) (u : UnitRecord) (unit : EntryUnit) where
       → (entry_found_at scope u around offset a t.left found).given ≡ Ok (more, rest) → length rest.bytes < length c.left.bytes
   entry-shorter c t a rest around offset found more h k =
       entry_shorter scope.file.sections u unit c t rest a u.header.encoding h (entry-rest scope u around offset a t.left found more rest k)
-
-  pub item-shorter : (c t : EntryCursor) → entry_abbreviation_at unit.abbreviations c ≡ Ok (None, t) → length t.left.bytes < length c.left.bytes
-  item-shorter c t h = closing_shorter scope.file.sections u unit c t h
 
   -- what is found of a run of items
   abbrev folded : FoundAround → Run Item (Unit {0}) → Costed FoundInlined

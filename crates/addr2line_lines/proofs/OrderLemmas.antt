@@ -4,7 +4,7 @@ use Rattle.std.specs.Cmp.{IsStrictWeakOrder}
 use Rattle.std.specs.List.{filter}
 use Rattle.std.proofs.lemmas.Cmp.{on_total, then_total, nat_cmp_total}
 use lib.ListN.{get_or}
-use Rattle.addr2line_lines.proofs.Facts.{all_weaker}
+use Rattle.addr2line_lines.proofs.Facts.{all_weaker, cond_swaps}
 
 -- what holds of all elements holds of each
 pub All-in : {X : Type 0} (P : X → Type 0) (xs : List X) (z : X) → AllByRecursion P xs → In z xs → P z
@@ -100,16 +100,11 @@ module _ {X : Type 0} (lt : X → X → Bool) (o : IsStrictWeakOrder lt) where
   put_ties z x [] = refl
   put_ties z x (y ∷ ys) = by_cases (lt y x) refl (put_ties z x ys)
     where
-      swaps : (p q : Bool) (zs : List X) → (p ≡ true → q ≡ true → ⊥) → cond q (y ∷ cond p (x ∷ zs) zs) (cond p (x ∷ zs) zs) ≡ cond p (x ∷ cond q (y ∷ zs) zs) (cond q (y ∷ zs) zs)
-      swaps true true zs h = absurd (h refl refl)
-      swaps true false zs h = refl
-      swaps false q zs h = refl
-
       by_cases : (b : Bool) → lt y x ≡ b → filter (ties lt z) (put lt x ys) ≡ filter (ties lt z) (x ∷ ys) → filter (ties lt z) (cond b (y ∷ put lt x ys) (x ∷ y ∷ ys)) ≡ filter (ties lt z) (x ∷ y ∷ ys)
       by_cases false e rest = refl
       by_cases true e rest =
           ap (λ zs. cond (ties lt z y) (y ∷ zs) zs) rest
-          ∙ swaps (ties lt z x) (ties lt z y) (filter (ties lt z) ys) (λ p q. let f = o.chain y z x (tie_right z y q) (tie_left z x p) in cc)
+          ∙ cond_swaps x y (ties lt z x) (ties lt z y) (filter (ties lt z) ys) (λ p q. let f = o.chain y z x (tie_right z y q) (tie_left z x p) in cc)
 
   pub in_order_ordered : (xs : List X) → IsInOrder lt (in_order lt xs)
   in_order_ordered [] = tt

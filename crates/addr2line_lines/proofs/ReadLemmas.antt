@@ -1,11 +1,33 @@
 -- Details that are read one after another (on specs/FunctionDetails.antt).
-use Rattle.addr2line_lines.proofs.Common.{◌≡◌, ◌≢◌, ℕ, ◌+◌, ◌<◌, ◌≤◌, ◌⊎◌, Bool, true, false, List, [], ◌∷◌, drop, length, slice_get, slice_set, take, Option, Some, None, Result, Ok, Err, refl, ap, sym, subst, ◌∙◌, arith, inl, inr, zero, suc, AllByRecursion, AllZip, length_all_zip, Error, OutOfMemory, ExactlyAtCost, ◌>>=◌, fault_of, takes_memory_after, UnitRecord, Costed, Detail, detail_at, CachedFunction, FunctionTable, Scope, or_left, or_right, drop_all}
-use Rattle.addr2line_lines.specs.FunctionDetails.{AreCachedToFault, AreDetailsOf, AreSameBehind, AreUnread, HasDetail, IsCachedToFault, IsDetailOf, IsFunctionMore, IsReadAt, IsReadOf, IsReadOnce, IsSameBehind, IsTableMore, IsWithDetail, IsWithItsDetail, details_fault, all_read_once, read_fault, read_once}
+use Rattle.addr2line_lines.proofs.Common.{◌≡◌, ◌≢◌, ℕ, ◌+◌, ◌<◌, ◌≤◌, ◌++◌, ◌⊎◌, Bool, true, false, List, [], ◌∷◌, append-nil, drop, length, map, slice_get, slice_set, take, unwrap_or, Option, Some, None, OnOk, Result, Ok, Err, refl, ap, sym, subst, ◌∙◌, arith, inl, inr, zero, suc, AllByRecursion, AllZip, length_all_zip, on_ok_weaker, Error, OutOfMemory, ExactlyAtCost, ◌>>=◌, fault_of, takes_memory_after, UnitRecord, Detail, detail_at, CachedFunction, FunctionTable, Scope, or_left, or_right, drop_all, Costed, free}
+use Rattle.std.proofs.Common.{take-append-drop, take_all}
+use Rattle.addr2line_lines.specs.FunctionDetails.{AfterReadingAll, AreCachedToFault, AreDetailsOf, AreReadInTurn, AreUnread, IsCachedToFault, IsDetailOf, IsFunctionMore, IsReadAt, IsReadOf, IsReadOnce, IsTableMore, IsWithDetail, detail_once, details_at, read_once, with_detail, IsReadBehind}
+use Rattle.gimli_read.specs.Costed as costed
 use Rattle.gimli_read.proofs.FaultLemmas.{memory_or_not}
-use Rattle.std.proofs.lemmas.Grind.{drop_more_same}
 use Rattle.addr2line_lines.proofs.CachedNameLemmas.{names_on, names_same}
+use Rattle.addr2line_lines.proofs.FaultLemmas.{detail_is}
 use Rattle.addr2line_lines.proofs.NestingLemmas.{grown_not, grown_on}
-use Rattle.addr2line_lines.proofs.Facts.{all_weaker, before_set, drop_at, drop_set, get_set_same, set_same, some_at, take_set, take_whole, zip_same, zip_set, zip_twice}
+use Rattle.addr2line_lines.proofs.Facts.{all_weaker, drop_at, drop_set, set_same, some_at, zip_same, zip_set, zip_twice}
+
+-- whether the detail of a function can be read, without its memory
+abbrev pub read_fault : Scope → UnitRecord → Option CachedFunction → Result (Unit {0}) Error
+read_fault scope u f = (read_once scope u f).given
+
+-- whether the details of functions can be read, in their order, up to the first fault
+abbrev pub all_read_once : Scope → UnitRecord → List CachedFunction → Costed (Unit {0})
+all_read_once scope u [] = free (Ok tt)
+all_read_once scope u (f ∷ functions) =
+    costed.◌>>=◌ (read_once scope u (Some f)) (λ _. all_read_once scope u functions)
+
+-- the detail of a function is cached, and has no fault
+abbrev pub HasDetail : CachedFunction → Type 0
+HasDetail f = (d : Detail) × (f.detail ≡ Some (Ok d))
+
+-- a function is the same; of it is cached what was, or, where nothing was, its detail or the fault
+-- of that
+pub record IsWithItsDetail (scope : Scope) (u : UnitRecord) (f g : CachedFunction) : Type 0 where
+  pub offset : g.offset ≡ f.offset
+  pub detail : (g.detail ≡ f.detail) ⊎ ((f.detail ≡ None) × (g.detail ≡ Some (detail_at scope u f.offset)))
 
 function_same : (f : CachedFunction) → IsFunctionMore f f
 function_same f = record { offset = refl; detail = λ d e. e }
@@ -102,336 +124,300 @@ read_own scope u n old new result h = by_read scope u n old new (λ (t : Functio
     (λ f q none w. subst (AllZip (IsWithItsDetail scope u) old.functions) (sym w.functions)
     (zip_set (IsWithItsDetail scope u) (its_same scope u) old.functions n f (record { offset = f.offset; detail = Some (detail_at scope u f.offset) }) q (record { offset = refl; detail = inr (none, refl) }))) result h
 
--- a detail that is read changes no function behind
-read_rest : (scope : Scope) (u : UnitRecord) (n : ℕ) (old new : FunctionTable) (result : Result (Unit {0}) Error) → IsReadAt scope u n old result new → drop (suc n) new.functions ≡ drop (suc n) old.functions
-read_rest scope u n old new result h = by_read scope u n old new (λ (t : FunctionTable). drop (suc n) t.functions ≡ drop (suc n) old.functions) refl
-    (λ f q none w. ap (λ fs. drop (suc n) fs) w.functions ∙ drop_set old.functions n (record { offset = f.offset; detail = Some (detail_at scope u f.offset) })) result h
-
--- and those before keep their details
-read_before : (scope : Scope) (u : UnitRecord) (n : ℕ) (old new : FunctionTable) (result : Result (Unit {0}) Error) → IsReadAt scope u n old result new → AllByRecursion HasDetail (take n old.functions) → AllByRecursion HasDetail (take n new.functions)
-read_before scope u n old new result h all = by_read scope u n old new (λ (t : FunctionTable). AllByRecursion HasDetail (take n t.functions)) all
-    (λ f q none w. subst (λ fs. AllByRecursion HasDetail (take n fs)) (sym w.functions) (before_set HasDetail old.functions n (record { offset = f.offset; detail = Some (detail_at scope u f.offset) }) all)) result h
-
--- where memory is refused nothing changes
-refused_same : (scope : Scope) (u : UnitRecord) (n : ℕ) (old new : FunctionTable) (e : Error) → e ≡ OutOfMemory → IsReadAt scope u n old (Err e) new → new ≡ old
-refused_same scope u n old new e oom h = by_function (slice_get old.functions n) h
-  where
-    by_detail : (f : CachedFunction) (o : Option (Result Detail Error)) → IsReadOnce scope u n f o old (Err e) new → new ≡ old
-    by_detail f None k = k.1 oom
-    by_detail f (Some d) k = k.1
-
-    by_function : (o : Option CachedFunction) → IsReadOf scope u n o old (Err e) new → new ≡ old
-    by_function None k = k.1
-    by_function (Some f) k = by_detail f f.detail k
-
 -- what is cached stays right
 pub read_right : (scope : Scope) (u : UnitRecord) (n : ℕ) (old new : FunctionTable) (result : Result (Unit {0}) Error) → AreDetailsOf scope u old → IsReadAt scope u n old result new → AreDetailsOf scope u new
 read_right scope u n old new result all h = own_right scope u old.functions new.functions (read_own scope u n old new result h) all
 
--- what a detail that could be read leaves
-record IsStep (scope : Scope) (u : UnitRecord) (n : ℕ) (f : CachedFunction) (old new : FunctionTable) : Type 0 where
-  pub now : CachedFunction
-  pub has : HasDetail now
-  pub functions : new.functions ≡ slice_set old.functions n now
-
-read_step : (scope : Scope) (u : UnitRecord) (n : ℕ) (f : CachedFunction) (old new : FunctionTable) → slice_get old.functions n ≡ Some f → IsReadAt scope u n old (Ok tt) new → IsStep scope u n f old new
-read_step scope u n f old new q h = by_detail f.detail refl (subst (λ o. IsReadOf scope u n o old (Ok tt) new) q h)
+-- what is cached of a function, where it is right, is its detail
+once_is : (scope : Scope) (u : UnitRecord) (f : CachedFunction) → IsDetailOf scope u f → detail_once scope u f ≡ detail_at scope u f.offset
+once_is scope u f right = by_detail f.detail refl
   where
-    unfaulty : (r : Result Detail Error) → fault_of r ≡ Ok tt → (d : Detail) × (r ≡ Ok d)
-    unfaulty (Ok d) e = (d, refl)
-    unfaulty (Err e) k = absurd cc
-
-    by_detail : (d : Option (Result Detail Error)) → f.detail ≡ d → IsReadOnce scope u n f d old (Ok tt) new → IsStep scope u n f old new
-    by_detail None e k =
-        let d = unfaulty (detail_at scope u f.offset) k.0 in
-        record {
-          now = record { offset = f.offset; detail = Some (detail_at scope u f.offset) };
-          has = (d.0, ap Some d.1);
-          functions = k.1.functions;
-        }
-    by_detail (Some (Ok d)) e k = record {
-      now = f;
-      has = (d, e);
-      functions = ap (λ (t : FunctionTable). t.functions) k.1 ∙ sym (set_same old.functions n f q);
-    }
-    by_detail (Some (Err x)) e k = absurd cc
-
--- what is cached of a function, where it is right, doesn't change whether its detail can be read
-fault_is : (scope : Scope) (u : UnitRecord) (f : CachedFunction) → IsDetailOf scope u f → read_fault scope u (Some f) ≡ fault_of (detail_at scope u f.offset)
-fault_is scope u f right = by_detail f.detail refl
-  where
-    by_detail : (d : Option (Result Detail Error)) → f.detail ≡ d → read_fault scope u (Some (record { offset = f.offset; detail = d })) ≡ fault_of (detail_at scope u f.offset)
+    by_detail : (d : Option (Result Detail Error)) → f.detail ≡ d → unwrap_or d (detail_at scope u f.offset) ≡ detail_at scope u f.offset
     by_detail None e = refl
-    by_detail (Some d) e = ap fault_of (sym (right d e))
+    by_detail (Some d) e = sym (right d e)
 
--- nor the first fault of all
-pub details_fault_is : (scope : Scope) (u : UnitRecord) (fs : List CachedFunction) → AllByRecursion (IsDetailOf scope u) fs → (all_read_once scope u fs).given ≡ details_fault scope u fs
-details_fault_is scope u [] all = refl
-details_fault_is scope u (f ∷ fs) all =
-    ap (λ r. r >>= λ _. (all_read_once scope u fs).given) (fault_is scope u f all.0)
-    ∙ ap (λ (r : Result (Unit {0}) Error). fault_of (detail_at scope u f.offset) >>= λ _. r) (details_fault_is scope u fs all.1)
-
--- details that are all cached, or up to a fault
-pub all_to_fault : (fs : List CachedFunction) → AllByRecursion HasDetail fs → AreCachedToFault fs
-all_to_fault [] all = tt
-all_to_fault (f ∷ fs) all = subst (λ d. IsCachedToFault d (AreCachedToFault fs)) (sym all.0.1) (all_to_fault fs all.1)
-
-to_fault : (fs : List CachedFunction) (n : ℕ) (f : CachedFunction) (e : Error) → e ≢ OutOfMemory → AllByRecursion HasDetail (take n fs) → slice_get fs n ≡ Some f → f.detail ≡ Some (Err e) → AreCachedToFault fs
-to_fault [] n f e ne before at detail = tt
-to_fault (g ∷ fs) zero f e ne before at detail =
-    let same : g ≡ f = cc in
-    subst (λ d. IsCachedToFault d (AreCachedToFault fs)) (sym (ap (λ (h : CachedFunction). h.detail) same ∙ detail)) ne
-to_fault (g ∷ fs) (suc n) f e ne before at detail =
-    subst (λ d. IsCachedToFault d (AreCachedToFault fs)) (sym before.0.1) (to_fault fs n f e ne before.1 at detail)
-
--- where they are cached up to the first fault, the one after details without a fault is cached
-next_cached : (fs : List CachedFunction) (n : ℕ) (f : CachedFunction) → AreCachedToFault fs → AllByRecursion HasDetail (take n fs) → slice_get fs n ≡ Some f → (d : Result Detail Error) × (f.detail ≡ Some d)
-next_cached [] n f all before at = absurd cc
-next_cached (g ∷ fs) zero f all before at =
-    let same : g ≡ f = cc in
-    by_detail f.detail (subst (λ (h : CachedFunction). IsCachedToFault h.detail (AreCachedToFault fs)) same all)
+-- so the first fault of all is that of the details
+pub first_fault_is : (scope : Scope) (u : UnitRecord) (fs : List CachedFunction) → AllByRecursion (IsDetailOf scope u) fs
+    → (all_read_once scope u fs).given ≡ details_at scope u (map (λ (f : CachedFunction). f.offset) fs)
+first_fault_is scope u [] all = refl
+first_fault_is scope u (f ∷ fs) all = by_detail (first_fault_is scope u fs all.1) (detail_once scope u f) ∙ ap (λ (r : Result Detail Error). r >>= λ _. details_at scope u (map (λ (f : CachedFunction). f.offset) fs)) (once_is scope u f all.0)
   where
-    by_detail : (o : Option (Result Detail Error)) → IsCachedToFault o (AreCachedToFault fs) → (d : Result Detail Error) × (o ≡ Some d)
-    by_detail None h = absurd h
-    by_detail (Some d) h = (d, refl)
-next_cached (g ∷ fs) (suc n) f all before at =
-    next_cached fs n f (subst (λ d. IsCachedToFault d (AreCachedToFault fs)) before.0.1 all) before.1 at
+    by_detail : (all_read_once scope u fs).given ≡ details_at scope u (map (λ (f : CachedFunction). f.offset) fs) → (r : Result Detail Error)
+        → (fault_of r >>= λ _. (all_read_once scope u fs).given) ≡ (r >>= λ _. details_at scope u (map (λ (f : CachedFunction). f.offset) fs))
+    by_detail rest (Ok d) = rest
+    by_detail rest (Err e) = refl
 
--- and where it is a fault, that isn't OutOfMemory
-next_fault : (fs : List CachedFunction) (n : ℕ) (f : CachedFunction) (e : Error) → AreCachedToFault fs → AllByRecursion HasDetail (take n fs) → slice_get fs n ≡ Some f → f.detail ≡ Some (Err e) → e ≢ OutOfMemory
-next_fault [] n f e all before at q = absurd cc
-next_fault (g ∷ fs) zero f e all before at q =
-    let same : g ≡ f = cc in
-    subst (λ d. IsCachedToFault d (AreCachedToFault fs)) q (subst (λ (h : CachedFunction). IsCachedToFault h.detail (AreCachedToFault fs)) same all)
-next_fault (g ∷ fs) (suc n) f e all before at q =
-    next_fault fs n f e (subst (λ d. IsCachedToFault d (AreCachedToFault fs)) before.0.1 all) before.1 at q
+-- a reading without a fault, or with one
+pub well_read : (r : Result Detail Error) → fault_of r ≡ Ok tt → (d : Detail) × (r ≡ Ok d)
+well_read (Ok d) e = (d, refl)
+well_read (Err e) k = absurd cc
 
--- and no memory is taken
-pub no_memory_to_fault : (shares : Bool) (scope : Scope) (u : UnitRecord) (fs : List CachedFunction) → AreCachedToFault fs → (all_read_once scope u fs).takes_memory shares ≡ false
-no_memory_to_fault shares scope u [] all = refl
-no_memory_to_fault shares scope u (f ∷ fs) all = by_detail (no_memory_to_fault shares scope u fs) f.detail all
+pub badly_read : (r : Result Detail Error) (e : Error) → fault_of r ≡ Err e → r ≡ Err e
+badly_read (Ok d) e q = absurd cc
+badly_read (Err x) e q = let same : x ≡ e = cc in ap Err same
+
+-- one function whose detail is read
+module _ (scope : Scope) (u : UnitRecord) (f : CachedFunction) where
+  with_function : IsFunctionMore f (with_detail scope u f)
+  with_function = record { offset = refl; detail = λ d e. ap (λ o. Some (unwrap_or o (detail_at scope u f.offset))) e }
+
+  with_its : IsWithItsDetail scope u f (with_detail scope u f)
+  with_its = record { offset = refl; detail = by_detail f.detail refl }
+    where
+      by_detail : (o : Option (Result Detail Error)) → f.detail ≡ o → (Some (detail_once scope u f) ≡ f.detail) ⊎ ((f.detail ≡ None) × (Some (detail_once scope u f) ≡ Some (detail_at scope u f.offset)))
+      by_detail None e = inr (e, ap (λ o. Some (unwrap_or o (detail_at scope u f.offset))) e)
+      by_detail (Some d) e = inl (ap (λ o. Some (unwrap_or o (detail_at scope u f.offset))) e ∙ sym e)
+
+  with_has : (read_once scope u (Some f)).given ≡ Ok tt → HasDetail (with_detail scope u f)
+  with_has e = let d = well_read (detail_once scope u f) e in (d.0, ap Some d.1)
+
+  with_fault : (e : Error) → (read_once scope u (Some f)).given ≡ Err e → (with_detail scope u f).detail ≡ Some (Err e)
+  with_fault e is = ap Some (badly_read (detail_once scope u f) e is)
+
+  taken_unread : (shares : Bool) → (read_once scope u (Some f)).takes_memory shares ≡ true → f.detail ≡ None
+  taken_unread shares = by_detail f.detail refl
+    where
+      by_detail : (o : Option (Result Detail Error)) → f.detail ≡ o → (read_once scope u (Some (record { offset = f.offset; detail = o }))).takes_memory shares ≡ true → f.detail ≡ None
+      by_detail None e takes = e
+      by_detail (Some d) e takes = absurd cc
+
+-- what is cached to a fault: the first detail, and what follows one without a fault
+first_cached : (f : CachedFunction) (rest : Type 0) → IsCachedToFault f.detail rest → (d : Result Detail Error) × (f.detail ≡ Some d)
+first_cached f rest = by_detail f.detail refl
   where
-    by_detail : (AreCachedToFault fs → (all_read_once scope u fs).takes_memory shares ≡ false) → (o : Option (Result Detail Error)) → IsCachedToFault o (AreCachedToFault fs)
-        → (all_read_once scope u (record { offset = f.offset; detail = o } ∷ fs)).takes_memory shares ≡ false
-    by_detail rest None h = absurd h
-    by_detail rest (Some (Ok d)) h = rest h
-    by_detail rest (Some (Err e)) h = refl
+    by_detail : (o : Option (Result Detail Error)) → f.detail ≡ o → IsCachedToFault o rest → (d : Result Detail Error) × (f.detail ≡ Some d)
+    by_detail None e h = absurd h
+    by_detail (Some d) e h = (d, e)
 
--- details that are cached, and have no fault, leave what follows to read
-past_cached : (scope : Scope) (u : UnitRecord) (n : ℕ) (fs : List CachedFunction) → AllByRecursion HasDetail (take n fs) → all_read_once scope u fs ≡ all_read_once scope u (drop n fs)
-past_cached scope u zero fs all = refl
-past_cached scope u (suc n) [] all = refl
-past_cached scope u (suc n) (f ∷ fs) all = ap (λ o. all_read_once scope u (record { offset = f.offset; detail = o } ∷ fs)) all.0.1 ∙ past_cached scope u n fs all.1
-
--- where all are, nothing is left
-pub none_left : (scope : Scope) (u : UnitRecord) (fs : List CachedFunction) → AllByRecursion HasDetail fs → (all_read_once scope u fs).given ≡ Ok tt
-none_left scope u [] all = refl
-none_left scope u (f ∷ fs) all = ap (λ o. (all_read_once scope u (record { offset = f.offset; detail = o } ∷ fs)).given) all.0.1 ∙ none_left scope u fs all.1
-
--- a cached fault behind them is the first
-fault_given : (scope : Scope) (u : UnitRecord) (fs : List CachedFunction) (n : ℕ) (f : CachedFunction) (e : Error) → AllByRecursion HasDetail (take n fs) → slice_get fs n ≡ Some f → f.detail ≡ Some (Err e) → (all_read_once scope u fs).given ≡ Err e
-fault_given scope u fs n f e before at is =
-    ap (λ (c : Costed (Unit {0})). c.given) (past_cached scope u n fs before) ∙ ap (λ gs. (all_read_once scope u gs).given) (drop_at fs n f at)
-    ∙ ap (λ o. (all_read_once scope u (record { offset = f.offset; detail = o } ∷ drop (suc n) fs)).given) is
-
--- one of two, by the detail of a function
-same_or : (A B : Type 0) (o : Option (Result Detail Error)) → A → B → IsSameBehind o A B
-same_or A B None a b = b
-same_or A B (Some (Ok d)) a b = a
-same_or A B (Some (Err e)) a b = b
-
-behind_itself : (fs : List CachedFunction) → AreSameBehind fs fs
-behind_itself [] = tt
-behind_itself (f ∷ fs) = same_or (AreSameBehind fs fs) (fs ≡ fs) f.detail (behind_itself fs) refl
-
--- functions that are the same behind one, before which all are cached, and have no fault
-same_behind : (fs gs : List CachedFunction) (n : ℕ) → AllByRecursion HasDetail (take n gs) → drop (suc n) gs ≡ drop (suc n) fs → AreSameBehind fs gs
-same_behind [] gs n all rest = tt
-same_behind (f ∷ fs) [] n all rest = tt
-same_behind (f ∷ fs) (g ∷ gs) zero all rest = same_or (AreSameBehind fs gs) (gs ≡ fs) g.detail (subst (λ hs. AreSameBehind fs hs) (sym rest) (behind_itself fs)) rest
-same_behind (f ∷ fs) (g ∷ gs) (suc n) all rest = subst (λ o. IsSameBehind o (AreSameBehind fs gs) (gs ≡ fs)) (sym all.0.1) (same_behind fs gs n all.1 rest)
-
--- what is the same from a place on is so from the next
-next_same : (fs gs : List CachedFunction) (n : ℕ) → drop n fs ≡ drop n gs → drop (suc n) fs ≡ drop (suc n) gs
-next_same fs gs n e =
-    let one : n + 1 ≡ suc n = omega arith in
-    subst (λ m. drop m fs ≡ drop m gs) one (drop_more_same fs gs n e)
-
--- a detail that was cached is the answer, and nothing changes
-read_cached : (scope : Scope) (u : UnitRecord) (n : ℕ) (f : CachedFunction) (old new : FunctionTable) (result : Result (Unit {0}) Error) (d : Result Detail Error) → slice_get old.functions n ≡ Some f → f.detail ≡ Some d
-    → IsReadAt scope u n old result new → new ≡ old
-read_cached scope u n f old new result d at detail k =
-    (subst (λ o. IsReadOnce scope u n f o old result new) detail (subst (λ o. IsReadOf scope u n o old result new) at k)).1
-
--- what a fault leaves: the functions before it as they were, and its own
-record IsFault (n : ℕ) (e : Error) (old new : FunctionTable) : Type 0 where
-  pub now : CachedFunction
-  pub at : slice_get new.functions n ≡ Some now
-  pub is : now.detail ≡ Some (Err e)
-  pub before : AllByRecursion HasDetail (take n old.functions) → AllByRecursion HasDetail (take n new.functions)
-
-fault_step : (scope : Scope) (u : UnitRecord) (n : ℕ) (f : CachedFunction) (old new : FunctionTable) (e : Error) → n < length old.functions → slice_get old.functions n ≡ Some f → e ≢ OutOfMemory → IsReadAt scope u n old (Err e) new → IsFault n e old new
-fault_step scope u n f old new e l at ne k = by_detail f.detail refl (subst (λ o. IsReadOf scope u n o old (Err e) new) at k)
+rest_cached : (scope : Scope) (u : UnitRecord) (f : CachedFunction) (rest : Type 0) → IsCachedToFault f.detail rest → (read_once scope u (Some f)).given ≡ Ok tt → rest
+rest_cached scope u f rest = by_detail f.detail
   where
-    faulty : (r : Result Detail Error) → fault_of r ≡ Err e → r ≡ Err e
-    faulty (Ok d) q = absurd cc
-    faulty (Err x) q = let same : x ≡ e = cc in ap Err same
+    by_detail : (o : Option (Result Detail Error)) → IsCachedToFault o rest → fault_of (unwrap_or o (detail_at scope u f.offset)) ≡ Ok tt → rest
+    by_detail None h e = absurd h
+    by_detail (Some (Ok d)) h e = h
+    by_detail (Some (Err x)) h e = absurd cc
 
-    by_detail : (o : Option (Result Detail Error)) → f.detail ≡ o → IsReadOnce scope u n f o old (Err e) new → IsFault n e old new
-    by_detail None q h =
-        let r = h.0 ne in
-        let x : CachedFunction = record { offset = f.offset; detail = Some (detail_at scope u f.offset) } in
-        record {
-          now = x;
-          at = ap (λ fs. slice_get fs n) r.1.functions ∙ get_set_same old.functions n x l;
-          is = ap Some (faulty (detail_at scope u f.offset) r.0);
-          before = λ all. subst (λ fs. AllByRecursion HasDetail (take n fs)) (sym r.1.functions) (before_set HasDetail old.functions n x all);
-        }
-    by_detail (Some (Ok d)) q h = absurd cc
-    by_detail (Some (Err x)) q h =
-        let same : x ≡ e = cc in
-        record {
-          now = f;
-          at = ap (λ (t : FunctionTable). slice_get t.functions n) h.1 ∙ at;
-          is = q ∙ ap (λ y. Some (Err y)) same;
-          before = λ all. subst (λ (t : FunctionTable). AllByRecursion HasDetail (take n t.functions)) (sym h.1) all;
-        }
+-- what holds of details that are read in turn, by the first of them
+module _ (shares : Bool) (scope : Scope) (u : UnitRecord) where
+  by_turn : (P : List CachedFunction → Result (Unit {0}) Error → List CachedFunction → Type 0) → P [] (Ok tt) []
+      → ((f : CachedFunction) (fs : List CachedFunction) → (read_once scope u (Some f)).takes_memory shares ≡ true → P (f ∷ fs) (Err OutOfMemory) (f ∷ fs))
+      → ((f : CachedFunction) (fs : List CachedFunction) (e : Error) → (read_once scope u (Some f)).given ≡ Err e → P (f ∷ fs) (Err e) (with_detail scope u f ∷ fs))
+      → ((f : CachedFunction) (fs gs : List CachedFunction) (r : Result (Unit {0}) Error) → (read_once scope u (Some f)).given ≡ Ok tt → P fs r gs → P (f ∷ fs) r (with_detail scope u f ∷ gs))
+      → (fs gs : List CachedFunction) (r : Result (Unit {0}) Error) → AreReadInTurn shares scope u fs r gs → P fs r gs
+  by_turn P none refused faulty more [] gs r h = subst (λ s. P [] s gs) (sym h.0) (subst (P [] (Ok tt)) (sym h.1) none)
+  by_turn P none refused faulty more (f ∷ fs) gs r (inl h) = subst (λ s. P (f ∷ fs) s gs) (sym h.0) (subst (P (f ∷ fs) (Err OutOfMemory)) (sym h.2) (refused f fs h.1))
+  by_turn P none refused faulty more (f ∷ fs) gs r (inr h) = subst (P (f ∷ fs) r) (sym h.1) (by_given (by_turn P none refused faulty more fs h.0 r) (read_once scope u (Some f)).given refl h.2)
+    where
+      by_given : (AreReadInTurn shares scope u fs r h.0 → P fs r h.0) → (given : Result (Unit {0}) Error) → (read_once scope u (Some f)).given ≡ given
+          → IsReadBehind given (AreReadInTurn shares scope u fs r h.0) r fs h.0 → P (f ∷ fs) r (with_detail scope u f ∷ h.0)
+      by_given rest (Ok x) is k = more f fs h.0 r is (rest k)
+      by_given rest (Err e) is k = subst (λ s. P (f ∷ fs) s (with_detail scope u f ∷ h.0)) (sym k.0) (subst (λ rest. P (f ∷ fs) (Err e) (with_detail scope u f ∷ rest)) (sym k.1) (faulty f fs e is))
 
--- the details of the functions before a place are read
+  -- what was cached stays
+  turn_more : (fs gs : List CachedFunction) (r : Result (Unit {0}) Error) → AreReadInTurn shares scope u fs r gs → AllZip IsFunctionMore fs gs
+  turn_more = by_turn (λ fs r gs. AllZip IsFunctionMore fs gs) tt (λ f fs takes. functions_same (f ∷ fs)) (λ f fs e is. (with_function scope u f, functions_same fs)) (λ f fs gs r is all. (with_function scope u f, all))
+
+  turn_own : (fs gs : List CachedFunction) (r : Result (Unit {0}) Error) → AreReadInTurn shares scope u fs r gs → AllZip (IsWithItsDetail scope u) fs gs
+  turn_own = by_turn (λ fs r gs. AllZip (IsWithItsDetail scope u) fs gs) tt (λ f fs takes. zip_same (IsWithItsDetail scope u) (its_same scope u) (f ∷ fs))
+      (λ f fs e is. (with_its scope u f, zip_same (IsWithItsDetail scope u) (its_same scope u) fs)) (λ f fs gs r is all. (with_its scope u f, all))
+
+  -- without a fault each is cached, and has none
+  turn_known : (fs gs : List CachedFunction) (r : Result (Unit {0}) Error) → AreReadInTurn shares scope u fs r gs → OnOk r (AllByRecursion HasDetail gs)
+  turn_known = by_turn (λ fs r gs. OnOk r (AllByRecursion HasDetail gs)) tt (λ f fs takes. tt) (λ f fs e is. tt) (λ f fs gs r is all. on_ok_weaker r (λ have. (with_has scope u f is, have)) all)
+
+  -- unless memory was refused all are cached up to the first fault, and that; where they are, it wasn't
+  turn_whole : (fs gs : List CachedFunction) (r : Result (Unit {0}) Error) → AreReadInTurn shares scope u fs r gs → r ≢ Err OutOfMemory → AreCachedToFault gs
+  turn_whole = by_turn (λ fs r gs. r ≢ Err OutOfMemory → AreCachedToFault gs) (λ ne. tt) (λ f fs takes. λ ne. absurd (ne refl))
+      (λ f fs e is. λ ne. subst (λ o. IsCachedToFault o (AreCachedToFault fs)) (sym (with_fault scope u f e is)) (λ oom. ne (ap Err oom)))
+      (λ f fs gs r is whole. λ ne. subst (λ o. IsCachedToFault o (AreCachedToFault gs)) (sym (with_has scope u f is).1) (whole ne))
+
+  turn_memory : (fs gs : List CachedFunction) (r : Result (Unit {0}) Error) → AreReadInTurn shares scope u fs r gs → AreCachedToFault gs → r ≢ Err OutOfMemory
+  turn_memory = by_turn (λ fs r gs. AreCachedToFault gs → r ≢ Err OutOfMemory) (λ ready. λ q. absurd cc)
+      (λ f fs takes. λ ready. absurd (subst (λ o. IsCachedToFault o (AreCachedToFault fs)) (taken_unread scope u f shares takes) ready))
+      (λ f fs e is. λ ready. λ q. subst (λ o. IsCachedToFault o (AreCachedToFault fs)) (with_fault scope u f e is) ready (let same : e ≡ OutOfMemory = cc in same))
+      (λ f fs gs r is memory. λ ready. memory (subst (λ o. IsCachedToFault o (AreCachedToFault gs)) (with_has scope u f is).1 ready))
+
+  -- where they were, the answer is by them
+  turn_exact : (fs gs : List CachedFunction) (r : Result (Unit {0}) Error) → AreReadInTurn shares scope u fs r gs → AreCachedToFault fs → r ≡ (all_read_once scope u fs).given
+  turn_exact = by_turn (λ fs r gs. AreCachedToFault fs → r ≡ (all_read_once scope u fs).given) (λ ready. refl)
+      (λ f fs takes. λ ready. absurd (subst (λ o. IsCachedToFault o (AreCachedToFault fs)) (taken_unread scope u f shares takes) ready))
+      (λ f fs e is. λ ready. sym (ap (λ s. s >>= λ _. (all_read_once scope u fs).given) is))
+      (λ f fs gs r is exact. λ ready. exact (rest_cached scope u f (AreCachedToFault fs) ready is) ∙ sym (ap (λ s. s >>= λ _. (all_read_once scope u fs).given) is))
+
+  -- it is the first fault of all, or OutOfMemory where one takes memory before it
+  turn_gives : (fs gs : List CachedFunction) (r : Result (Unit {0}) Error) → AreReadInTurn shares scope u fs r gs → ExactlyAtCost {X = Unit {0}} shares (λ x. x) r (all_read_once scope u fs)
+  turn_gives = by_turn (λ fs r gs. ExactlyAtCost {X = Unit {0}} shares (λ x. x) r (all_read_once scope u fs)) refl
+      (λ f fs takes. λ ne. absurd (ne (or_left ((read_once scope u (Some f)).takes_memory shares) (takes_memory_after (read_once scope u (Some f)).given (λ _. (all_read_once scope u fs).takes_memory shares)) takes) refl))
+      (λ f fs e is. λ ne. ap (λ s. s >>= λ _. (all_read_once scope u fs).given) is) more
+    where
+      more : (f : CachedFunction) (fs gs : List CachedFunction) (r : Result (Unit {0}) Error) → (read_once scope u (Some f)).given ≡ Ok tt → ExactlyAtCost {X = Unit {0}} shares (λ x. x) r (all_read_once scope u fs)
+          → ExactlyAtCost {X = Unit {0}} shares (λ x. x) r (all_read_once scope u (f ∷ fs))
+      more f fs gs (Ok x) is gives = ap (λ s. s >>= λ _. (all_read_once scope u fs).given) is ∙ gives
+      more f fs gs (Err e) is gives = λ ne. ap (λ s. s >>= λ _. (all_read_once scope u fs).given) is
+          ∙ gives (λ t. ne (or_right ((read_once scope u (Some f)).takes_memory shares) (takes_memory_after (read_once scope u (Some f)).given (λ _. (all_read_once scope u fs).takes_memory shares))
+          (ap (λ s. takes_memory_after s (λ _. (all_read_once scope u fs).takes_memory shares)) is ∙ t)))
+
+-- what is left of a table after all details were read in turn
+pub record IsReadInTurn (shares : Bool) (scope : Scope) (u : UnitRecord) (result : Result (Unit {0}) Error) (old new : FunctionTable) : Type 0 where
+  pub gives : ExactlyAtCost {X = Unit {0}} shares (λ x. x) result (all_read_once scope u old.functions)
+  pub more : IsTableMore old new
+  pub details : AllZip (IsWithItsDetail scope u) old.functions new.functions
+  pub known : OnOk result (AllByRecursion HasDetail new.functions)
+  pub whole : result ≢ Err OutOfMemory → AreCachedToFault new.functions
+  pub memory : AreCachedToFault new.functions → result ≢ Err OutOfMemory
+  pub exact : AreCachedToFault old.functions → result ≡ (all_read_once scope u old.functions).given
+  pub same : AreCachedToFault old.functions → new ≡ old
+
+pub read_in_turn : (shares : Bool) (scope : Scope) (u : UnitRecord) (result : Result (Unit {0}) Error) (old new : FunctionTable) → AfterReadingAll shares scope u result old new → IsReadInTurn shares scope u result old new
+read_in_turn shares scope u result old new h = record {
+  gives = turn_gives shares scope u old.functions new.functions result h.functions;
+  more = record { ranges = h.ranges; functions = turn_more shares scope u old.functions new.functions result h.functions; inlined = h.inlined; names = h.names };
+  details = turn_own shares scope u old.functions new.functions result h.functions;
+  known = turn_known shares scope u old.functions new.functions result h.functions;
+  whole = turn_whole shares scope u old.functions new.functions result h.functions;
+  memory = turn_memory shares scope u old.functions new.functions result h.functions;
+  exact = turn_exact shares scope u old.functions new.functions result h.functions;
+  same = h.same;
+}
+
+-- a list with an element that is set, by what stands before it
+set_taken : {X : Type 0} (xs rest : List X) (n : ℕ) (x : X) → n < length xs → take (suc n) (slice_set xs n x) ++ rest ≡ take n xs ++ x ∷ rest
+set_taken [] rest n x l = absurd (omega arith)
+set_taken (y ∷ xs) rest zero x l = refl
+set_taken (y ∷ xs) rest (suc n) x l = ap (λ zs. y ∷ zs) (set_taken xs rest n x (omega arith))
+
+set_parts : {X : Type 0} (xs : List X) (n : ℕ) (x : X) → n < length xs → take n xs ++ x ∷ drop (suc n) xs ≡ slice_set xs n x
+set_parts [] n x l = absurd (omega arith)
+set_parts (y ∷ xs) zero x l = refl
+set_parts (y ∷ xs) (suc n) x l = ap (λ zs. y ∷ zs) (set_parts xs n x (omega arith))
+
+-- the detail of the function of a place was read
+module _ (shares : Bool) (scope : Scope) (u : UnitRecord) (n : ℕ) (now next : FunctionTable) (f : CachedFunction) (at : slice_get now.functions n ≡ Some f) where
+  -- it is cached, its fault too; or memory was refused, and nothing is changed
+  abbrev IsReadThen : Result (Unit {0}) Error → Type 0
+  IsReadThen r = ((r ≡ Err OutOfMemory) × ((read_once scope u (Some f)).takes_memory shares ≡ true) × (next.functions ≡ now.functions))
+      ⊎ (((read_once scope u (Some f)).given ≡ r) × (next.functions ≡ slice_set now.functions n (with_detail scope u f)))
+
+  -- a detail that was cached
+  cached_then : (d : Result Detail Error) → f.detail ≡ Some d → next ≡ now → next.functions ≡ slice_set now.functions n (with_detail scope u f)
+  cached_then d e same =
+      let own : f ≡ with_detail scope u f = ap (λ o. record { offset = f.offset; detail = o }) (e ∙ sym (ap (λ o. Some (unwrap_or o (detail_at scope u f.offset))) e)) in
+      ap (λ (t : FunctionTable). t.functions) same ∙ sym (set_same now.functions n f at) ∙ ap (slice_set now.functions n) own
+
+  -- and one that wasn't
+  unread_then : f.detail ≡ None → IsWithDetail n f (detail_at scope u f.offset) now next → next.functions ≡ slice_set now.functions n (with_detail scope u f)
+  unread_then e w = w.functions ∙ ap (λ o. slice_set now.functions n (record { offset = f.offset; detail = Some (unwrap_or o (detail_at scope u f.offset)) })) (sym e)
+
+  given_unread : f.detail ≡ None → (read_once scope u (Some f)).given ≡ fault_of (detail_at scope u f.offset)
+  given_unread e = ap (λ o. fault_of (unwrap_or o (detail_at scope u f.offset))) e
+
+  -- a detail never has OutOfMemory in place of a fault
+  never_oom : (r : Result Detail Error) → r ≢ Err OutOfMemory → fault_of r ≢ Err OutOfMemory
+  never_oom (Ok d) ne = λ q. absurd cc
+  never_oom (Err e) ne = λ q. ne (let same : e ≡ OutOfMemory = cc in ap Err same)
+
+  read_then : (r : Result (Unit {0}) Error) → IsReadAt scope u n now r next → ExactlyAtCost {X = Unit {0}} shares (λ x. x) r (read_once scope u (slice_get now.functions n)) → IsReadThen r
+  read_then r k gives = by_detail f.detail refl (subst (λ o. IsReadOf scope u n o now r next) at k) (subst (λ o. ExactlyAtCost {X = Unit {0}} shares (λ x. x) r (read_once scope u o)) at gives)
+    where
+      refused : f.detail ≡ None → next ≡ now → (b : Bool) → (read_once scope u (Some f)).takes_memory shares ≡ b → ExactlyAtCost {X = Unit {0}} shares (λ x. x) (Err OutOfMemory) (read_once scope u (Some f)) → IsReadThen (Err OutOfMemory)
+      refused e same true takes exact = inl (refl, takes, ap (λ (t : FunctionTable). t.functions) same)
+      refused e same false takes exact = absurd (never_oom (detail_at scope u f.offset) (detail_is scope u f.offset).by
+          (sym (given_unread e) ∙ exact (λ t. absurd (let no : false ≡ true = sym takes ∙ t in cc))))
+
+      by_result : f.detail ≡ None → (s : Result (Unit {0}) Error) → IsReadOnce scope u n f None now s next → ExactlyAtCost {X = Unit {0}} shares (λ x. x) s (read_once scope u (Some f)) → IsReadThen s
+      by_result e (Ok x) h exact = inr (given_unread e ∙ h.0, unread_then e h.1)
+      by_result e (Err x) h exact = elim (memory_or_not x) [
+        | inl oom ↦ subst (λ y. IsReadThen (Err y)) (sym oom) (refused e (h.1 oom) _ refl (subst (λ y. ExactlyAtCost {X = Unit {0}} shares (λ x. x) (Err y) (read_once scope u (Some f))) oom exact))
+        | inr ne ↦ (let given = h.0 ne in inr (given_unread e ∙ given.0, unread_then e given.1))
+      ]
+
+      by_detail : (o : Option (Result Detail Error)) → f.detail ≡ o → IsReadOnce scope u n f o now r next → ExactlyAtCost {X = Unit {0}} shares (λ x. x) r (read_once scope u (Some f)) → IsReadThen r
+      by_detail None e h exact = by_result e r h exact
+      by_detail (Some d) e h exact = inr (ap (λ o. fault_of (unwrap_or o (detail_at scope u f.offset))) e ∙ sym h.0, cached_then d e h.1)
+
+  -- where it was cached nothing is changed
+  read_cached : (r : Result (Unit {0}) Error) (d : Result Detail Error) → f.detail ≡ Some d → IsReadAt scope u n now r next → next ≡ now
+  read_cached r d e k = (subst (λ o. IsReadOnce scope u n f o now r next) e (subst (λ o. IsReadOf scope u n o now r next) at k)).1
+
+-- the details of the functions before a place are read: what is read of those from it on makes all
+-- be read in turn
 pub record IsReadTo (shares : Bool) (scope : Scope) (u : UnitRecord) (old now : FunctionTable) (n : ℕ) : Type 0 where
   pub kept : IsTableMore old now
-  pub details : AllZip (IsWithItsDetail scope u) old.functions now.functions
-  pub fault : (all_read_once scope u old.functions).given ≡ (all_read_once scope u (drop n now.functions)).given
-  pub takes : (all_read_once scope u (drop n now.functions)).takes_memory shares ≡ true → (all_read_once scope u old.functions).takes_memory shares ≡ true
-  pub cached : AllByRecursion HasDetail (take n now.functions)
-  pub same : AreCachedToFault old.functions → now ≡ old
-  pub rest : drop n now.functions ≡ drop n old.functions
-
--- so they are where they are cached, and have no fault
-cached_read : (shares : Bool) (scope : Scope) (u : UnitRecord) (t : FunctionTable) (n : ℕ) → AllByRecursion HasDetail (take n t.functions) → IsReadTo shares scope u t t n
-cached_read shares scope u t n all =
-    let left = past_cached scope u n t.functions all in
-    record {
-      kept = table_same t;
-      details = zip_same (IsWithItsDetail scope u) (its_same scope u) t.functions;
-      fault = ap (λ (c : Costed (Unit {0})). c.given) left;
-      takes = λ e. ap (λ (c : Costed (Unit {0})). c.takes_memory shares) left ∙ e;
-      cached = all;
-      same = λ _. refl;
-      rest = refl;
-    }
+  pub goes_on : (result : Result (Unit {0}) Error) (rest : List CachedFunction) → AreReadInTurn shares scope u (drop n now.functions) result rest → AreReadInTurn shares scope u old.functions result (take n now.functions ++ rest)
+  pub same : AreCachedToFault old.functions → (now ≡ old) × AreCachedToFault (drop n now.functions)
 
 pub none_read : (shares : Bool) (scope : Scope) (u : UnitRecord) (t : FunctionTable) → IsReadTo shares scope u t t 0
-none_read shares scope u t = cached_read shares scope u t 0 tt
+none_read shares scope u t = record { kept = table_same t; goes_on = λ r rest. λ h. h; same = λ ready. (refl, ready) }
 
-pub same_number : (shares : Bool) (scope : Scope) (u : UnitRecord) (old now : FunctionTable) (n : ℕ) → IsReadTo shares scope u old now n → length old.functions ≡ length now.functions
-same_number shares scope u old now n h = length_all_zip IsFunctionMore old.functions now.functions h.kept.functions
+module _ (shares : Bool) (scope : Scope) (u : UnitRecord) (old now : FunctionTable) (n : ℕ) (h : IsReadTo shares scope u old now n) where
+  pub same_number : length old.functions ≡ length now.functions
+  same_number = length_all_zip IsFunctionMore old.functions now.functions h.kept.functions
 
--- where the details are cached up to the first fault nothing changes
-pub reads_nothing : (shares : Bool) (scope : Scope) (u : UnitRecord) (old now next : FunctionTable) (n : ℕ) (result : Result (Unit {0}) Error) → IsReadTo shares scope u old now n → n < length old.functions → IsReadAt scope u n now result next
-    → AreCachedToFault old.functions → next ≡ old
-reads_nothing shares scope u old now next n result h l k ready =
-    let same = h.same ready in
-    let at = some_at now.functions n (subst (λ (t : FunctionTable). n < length t.functions) (sym same) l) in
-    let cached = next_cached now.functions n at.0 (subst (λ (t : FunctionTable). AreCachedToFault t.functions) (sym same) ready) h.cached at.1 in
-    read_cached scope u n at.0 now next result cached.0 at.1 cached.1 k ∙ same
+  -- all are read
+  pub all_read : length old.functions ≤ n → AfterReadingAll shares scope u (Ok (tt {0})) old now
+  all_read l =
+      let many = same_number in
+      let below : length now.functions ≤ n = omega arith in
+      let whole = h.goes_on (Ok tt) [] (subst (λ fs. AreReadInTurn shares scope u fs (Ok tt) []) (sym (drop_all n now.functions below)) (refl, refl)) in
+      record {
+        ranges = h.kept.ranges;
+        functions = subst (AreReadInTurn shares scope u old.functions (Ok tt)) (append-nil (take n now.functions) ∙ take_all n now.functions below) whole;
+        inlined = h.kept.inlined;
+        names = h.kept.names;
+        same = λ ready. (h.same ready).0;
+      }
 
--- one more detail is read
-pub one_read : (shares : Bool) (scope : Scope) (u : UnitRecord) (old now next : FunctionTable) (n : ℕ) → IsReadTo shares scope u old now n → n < length old.functions → IsReadAt scope u n now (Ok tt) next
-    → read_fault scope u (slice_get now.functions n) ≡ Ok tt → IsReadTo shares scope u old next (n + 1)
-one_read shares scope u old now next n h l k well =
-    let same = same_number shares scope u old now n h in
-    let at = some_at now.functions n (omega arith) in
-    let step = read_step scope u n at.0 now next at.1 k in
-    let left : drop n now.functions ≡ at.0 ∷ drop (suc n) now.functions = drop_at now.functions n at.0 at.1 in
-    let next_left : drop (suc n) next.functions ≡ drop (suc n) now.functions = ap (λ fs. drop (suc n) fs) step.functions ∙ drop_set now.functions n step.now in
-    let one : suc n ≡ n + 1 = omega arith in
-    subst (IsReadTo shares scope u old next) one (record {
-      kept = table_twice old now next h.kept (read_more scope u n now next (Ok tt) k);
-      details = zip_twice (IsWithItsDetail scope u) (its_twice scope u) old.functions now.functions next.functions h.details (read_own scope u n now next (Ok tt) k);
-      fault = h.fault ∙ ap (λ fs. (all_read_once scope u fs).given) left ∙ ap (λ r. r >>= λ _. (all_read_once scope u (drop (suc n) now.functions)).given) (ap (read_fault scope u) (sym at.1) ∙ well) ∙ ap (λ fs. (all_read_once scope u fs).given) (sym next_left);
-      takes = λ e. h.takes (ap (λ fs. (all_read_once scope u fs).takes_memory shares) left
-          ∙ or_right ((read_once scope u (Some at.0)).takes_memory shares) (takes_memory_after (read_fault scope u (Some at.0)) (λ _. (all_read_once scope u (drop (suc n) now.functions)).takes_memory shares))
-          (ap (λ o. takes_memory_after (read_fault scope u o) (λ _. (all_read_once scope u (drop (suc n) now.functions)).takes_memory shares)) (sym at.1)
-          ∙ ap (λ r. takes_memory_after r (λ _. (all_read_once scope u (drop (suc n) now.functions)).takes_memory shares)) well ∙ ap (λ fs. (all_read_once scope u fs).takes_memory shares) (sym next_left) ∙ e));
-      cached = subst (λ fs. AllByRecursion HasDetail (take (suc n) fs)) (sym step.functions) (take_set HasDetail now.functions n step.now h.cached step.has);
-      same = λ ready. reads_nothing shares scope u old now next n (Ok tt) h l k ready;
-      rest = next_left ∙ next_same now.functions old.functions n h.rest;
-    })
+  -- one more detail is read, or refused
+  module _ (next : FunctionTable) (l : n < length old.functions) where
+    below : n < length now.functions
+    below = let many = same_number in omega arith
 
--- a detail is refused
-pub fault_read : (shares : Bool) (scope : Scope) (u : UnitRecord) (old now : FunctionTable) (n : ℕ) (e : Error) → IsReadTo shares scope u old now n → n < length old.functions
-    → ExactlyAtCost {X = Unit {0}} shares (λ x. x) (Err e) (read_once scope u (slice_get now.functions n))
-    → ((all_read_once scope u old.functions).takes_memory shares ≡ true → e ≢ OutOfMemory) → (all_read_once scope u old.functions).given ≡ Err e
-fault_read shares scope u old now n e h l exact ne =
-    let same = same_number shares scope u old now n h in
-    let at = some_at now.functions n (omega arith) in
-    let rest = drop (suc n) now.functions in
-    let left : drop n now.functions ≡ at.0 ∷ rest = drop_at now.functions n at.0 at.1 in
-    let takes : (read_once scope u (slice_get now.functions n)).takes_memory shares ≡ true → (all_read_once scope u old.functions).takes_memory shares ≡ true = λ t. h.takes (ap (λ fs. (all_read_once scope u fs).takes_memory shares) left
-    ∙ or_left ((read_once scope u (Some at.0)).takes_memory shares) (takes_memory_after (read_fault scope u (Some at.0)) (λ _. (all_read_once scope u rest).takes_memory shares)) (ap (λ o. (read_once scope u o).takes_memory shares) (sym at.1) ∙ t)) in
-    h.fault ∙ ap (λ fs. (all_read_once scope u fs).given) left ∙ ap (λ r. r >>= λ _. (all_read_once scope u rest).given) (ap (read_fault scope u) (sym at.1) ∙ exact (λ t. ne (takes t)))
+    -- the function, and those from it on
+    one : (f : CachedFunction) × (slice_get now.functions n ≡ Some f)
+    one = some_at now.functions n below
 
--- what is left then gives it too; where memory was refused, it takes memory
-pub fault_left : (shares : Bool) (scope : Scope) (u : UnitRecord) (now next : FunctionTable) (n : ℕ) (e : Error) → AllByRecursion HasDetail (take n now.functions) → n < length now.functions → IsReadAt scope u n now (Err e) next
-    → ExactlyAtCost {X = Unit {0}} shares (λ x. x) (Err e) (read_once scope u (slice_get now.functions n)) → ExactlyAtCost {X = Unit {0}} shares (λ x. x) (Err e) (all_read_once scope u next.functions)
-fault_left shares scope u now next n e cached l k exact = elim (memory_or_not e) [ inl oom ↦ refused oom | inr ne ↦ faulty ne ]
-  where
-    refused : e ≡ OutOfMemory → ExactlyAtCost {X = Unit {0}} shares (λ x. x) (Err e) (all_read_once scope u next.functions)
-    refused oom = subst (λ (t : FunctionTable). ExactlyAtCost {X = Unit {0}} shares (λ x. x) (Err e) (all_read_once scope u t.functions)) (sym (refused_same scope u n now next e oom k))
-        (fault_read shares scope u now now n e (cached_read shares scope u now n cached) l exact)
+    left : drop n now.functions ≡ one.0 ∷ drop (suc n) now.functions
+    left = drop_at now.functions n one.0 one.1
 
-    faulty : e ≢ OutOfMemory → ExactlyAtCost {X = Unit {0}} shares (λ x. x) (Err e) (all_read_once scope u next.functions)
-    faulty ne =
-        let at = some_at now.functions n l in
-        let step = fault_step scope u n at.0 now next e l at.1 ne k in
-        λ _. fault_given scope u next.functions n step.now e (step.before cached) step.at step.is
+    -- all that are left are read in turn where this one is, and those behind it are
+    then_turn : (r : Result (Unit {0}) Error) (rest : List CachedFunction) → AreReadInTurn shares scope u (one.0 ∷ drop (suc n) now.functions) r rest → AreReadInTurn shares scope u old.functions r (take n now.functions ++ rest)
+    then_turn r rest k = h.goes_on r rest (subst (λ fs. AreReadInTurn shares scope u fs r rest) (sym left) k)
 
-pub fault_kept : (shares : Bool) (scope : Scope) (u : UnitRecord) (old now next : FunctionTable) (n : ℕ) (result : Result (Unit {0}) Error) → IsReadTo shares scope u old now n → IsReadAt scope u n now result next → IsTableMore old next × AllZip (IsWithItsDetail scope u) old.functions next.functions
-fault_kept shares scope u old now next n result h k =
-    (table_twice old now next h.kept (read_more scope u n now next result k), zip_twice (IsWithItsDetail scope u) (its_twice scope u) old.functions now.functions next.functions h.details (read_own scope u n now next result k))
+    -- where the details are cached up to the first fault nothing is changed
+    reads_nothing : (r : Result (Unit {0}) Error) → IsReadAt scope u n now r next → AreCachedToFault old.functions → (next ≡ old) × IsCachedToFault one.0.detail (AreCachedToFault (drop (suc n) now.functions))
+    reads_nothing r k ready =
+        let s = h.same ready in
+        let first = subst AreCachedToFault left s.1 in
+        let d = first_cached one.0 (AreCachedToFault (drop (suc n) now.functions)) first in
+        (read_cached shares scope u n now next one.0 one.1 r d.0 d.1 k ∙ s.0, first)
 
--- all are read
-pub all_read : (shares : Bool) (scope : Scope) (u : UnitRecord) (old now : FunctionTable) (n : ℕ) → IsReadTo shares scope u old now n → length old.functions ≤ n → ((all_read_once scope u old.functions).given ≡ Ok tt) × AllByRecursion HasDetail now.functions
-all_read shares scope u old now n h l =
-    let same = same_number shares scope u old now n h in
-    (h.fault ∙ ap (λ fs. (all_read_once scope u fs).given) (drop_all n now.functions (omega arith)), take_whole HasDetail now.functions n (omega arith) h.cached)
+    pub one_read : IsReadAt scope u n now (Ok tt) next → (read_once scope u (slice_get now.functions n)).given ≡ Ok tt → IsReadTo shares scope u old next (n + 1)
+    one_read k well = elim (read_then shares scope u n now next one.0 one.1 (Ok tt) k well) [ inl refused ↦ absurd (let q = refused.0 in cc) | inr r ↦ (
+        let plus : suc n ≡ n + 1 = omega arith in
+        let g = with_detail scope u one.0 in
+        let rest : drop (suc n) next.functions ≡ drop (suc n) now.functions = ap (λ fs. drop (suc n) fs) r.1 ∙ drop_set now.functions n g in
+        let goes : (s : Result (Unit {0}) Error) (gs : List CachedFunction) → AreReadInTurn shares scope u (drop (suc n) next.functions) s gs → AreReadInTurn shares scope u old.functions s (take (suc n) next.functions ++ gs) = λ s gs. λ turn.
+            subst (AreReadInTurn shares scope u old.functions s) (sym (ap (λ fs. take (suc n) fs ++ gs) r.1 ∙ set_taken now.functions gs n g below))
+            (then_turn s (g ∷ gs) (inr (gs, refl, subst (λ q. IsReadBehind q (AreReadInTurn shares scope u (drop (suc n) now.functions) s gs) s (drop (suc n) now.functions) gs) (sym r.0)
+            (subst (λ fs. AreReadInTurn shares scope u fs s gs) rest turn)))) in
+        subst (IsReadTo shares scope u old next) plus (record {
+          kept = table_twice old now next h.kept (read_more scope u n now next (Ok tt) k);
+          goes_on = goes;
+          same = λ ready. (let nothing = reads_nothing (Ok tt) k ready in (nothing.0, subst AreCachedToFault (sym rest) (rest_cached scope u one.0 (AreCachedToFault (drop (suc n) now.functions)) nothing.1 r.0)));
+        })
+    ) ]
 
--- all are cached up to a fault
-pub fault_ready : (shares : Bool) (scope : Scope) (u : UnitRecord) (old now next : FunctionTable) (n : ℕ) (e : Error) → IsReadTo shares scope u old now n → n < length old.functions → IsReadAt scope u n now (Err e) next → e ≢ OutOfMemory → AreCachedToFault next.functions
-fault_ready shares scope u old now next n e h l k ne =
-    let many = same_number shares scope u old now n h in
-    let below : n < length now.functions = omega arith in
-    let at = some_at now.functions n below in
-    let step = fault_step scope u n at.0 now next e below at.1 ne k in
-    to_fault next.functions n step.now e ne (step.before h.cached) step.at step.is
-
--- where they are, no memory was refused
-pub had_memory : (shares : Bool) (scope : Scope) (u : UnitRecord) (old now next : FunctionTable) (n : ℕ) (e : Error) → IsReadTo shares scope u old now n → n < length old.functions → IsReadAt scope u n now (Err e) next → AreCachedToFault next.functions → e ≢ OutOfMemory
-had_memory shares scope u old now next n e h l k ready oom = by_function (some_at now.functions n (let many = same_number shares scope u old now n h in omega arith))
-  where
-    by_detail : (f : CachedFunction) → slice_get now.functions n ≡ Some f → (o : Option (Result Detail Error)) → f.detail ≡ o → IsReadOnce scope u n f o now (Err e) next → ⊥
-    by_detail f at None q r =
-        let was = subst (λ (t : FunctionTable). AreCachedToFault t.functions) (r.1 oom) ready in
-        let cached = next_cached now.functions n f was h.cached at in
-        let no : ◌≡◌ {A = Option (Result Detail Error)} None (Some cached.0) = sym q ∙ cached.1 in
-        cc
-    by_detail f at (Some (Ok d)) q r = let no = r.0 in cc
-    by_detail f at (Some (Err x)) q r =
-        let same : x ≡ e = (let both = r.0 in cc) in
-        next_fault now.functions n f x (subst (λ (t : FunctionTable). AreCachedToFault t.functions) r.1 ready) h.cached at q (same ∙ oom)
-
-    by_function : (f : CachedFunction) × (slice_get now.functions n ≡ Some f) → ⊥
-    by_function at = by_detail at.0 at.1 at.0.detail refl (subst (λ o. IsReadOf scope u n o now (Err e) next) at.1 k)
-
-pub all_ready : (shares : Bool) (scope : Scope) (u : UnitRecord) (old now : FunctionTable) (n : ℕ) → IsReadTo shares scope u old now n → length old.functions ≤ n → AreCachedToFault now.functions
-all_ready shares scope u old now n h l = all_to_fault now.functions (all_read shares scope u old now n h l).1
-
--- nothing is changed behind the details that are read
-pub read_behind : (shares : Bool) (scope : Scope) (u : UnitRecord) (old now : FunctionTable) (n : ℕ) → IsReadTo shares scope u old now n → AreSameBehind old.functions now.functions
-read_behind shares scope u old now n h = same_behind old.functions now.functions n h.cached (next_same now.functions old.functions n h.rest)
-
--- nor behind one that is refused
-pub fault_behind : (shares : Bool) (scope : Scope) (u : UnitRecord) (old now next : FunctionTable) (n : ℕ) (result : Result (Unit {0}) Error) → IsReadTo shares scope u old now n → IsReadAt scope u n now result next → AreSameBehind old.functions next.functions
-fault_behind shares scope u old now next n result h k =
-    same_behind old.functions next.functions n (read_before scope u n now next result k h.cached) (read_rest scope u n now next result k ∙ next_same now.functions old.functions n h.rest)
+    pub one_refused : (e : Error) → IsReadAt scope u n now (Err e) next → ExactlyAtCost {X = Unit {0}} shares (λ x. x) (Err e) (read_once scope u (slice_get now.functions n)) → AfterReadingAll shares scope u (Err e) old next
+    one_refused e k exact =
+        let kept = table_twice old now next h.kept (read_more scope u n now next (Err e) k) in
+        record {
+          ranges = kept.ranges;
+          functions = elim (read_then shares scope u n now next one.0 one.1 (Err e) k exact) [
+            | inl r ↦ subst (AreReadInTurn shares scope u old.functions (Err e)) (ap (λ fs. take n now.functions ++ fs) (sym left) ∙ take-append-drop n now.functions ∙ sym r.2) (then_turn (Err e) (one.0 ∷ drop (suc n) now.functions) (inl (r.0, r.1, refl)))
+            | inr r ↦ subst (AreReadInTurn shares scope u old.functions (Err e)) (set_parts now.functions n (with_detail scope u one.0) below ∙ sym r.1)
+                (then_turn (Err e) (with_detail scope u one.0 ∷ drop (suc n) now.functions) (inr (drop (suc n) now.functions, refl, subst (λ q. IsReadBehind q (AreReadInTurn shares scope u (drop (suc n) now.functions) (Err e) (drop (suc n) now.functions)) (Err e) (drop (suc n) now.functions) (drop (suc n) now.functions)) (sym r.0) (refl, refl))))
+          ];
+          inlined = kept.inlined;
+          names = kept.names;
+          same = λ ready. (reads_nothing (Err e) k ready).0;
+        }

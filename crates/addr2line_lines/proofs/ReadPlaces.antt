@@ -2,7 +2,8 @@
 -- specs/FunctionDetails.antt).
 use Rattle.addr2line_lines.proofs.Common.{◌≡◌, ℕ, ◌≤◌, List, length, map, slice_get, Option, Some, None, Result, Ok, refl, ap, sym, subst, ◌∙◌, slice_get-map, slice_get_past, Error, UnitRecord, LazyFunction, Detail, as_function, fault_of, CachedFunction, FunctionTable, CachedDetails, Scope}
 use Rattle.std.specs.Option.{option_map}
-use Rattle.addr2line_lines.specs.FunctionDetails.{IsReadAt, IsReadOf, IsReadOnce, read_fault}
+use Rattle.addr2line_lines.specs.FunctionDetails.{IsReadAt, IsReadOf, IsReadOnce}
+use Rattle.addr2line_lines.proofs.ReadLemmas.{read_fault}
 
 -- past the last function there is none
 pub none_at : (d : CachedDetails) (fs : List LazyFunction) (n : ℕ) → length fs ≤ n → slice_get (map (as_function d) fs) n ≡ None

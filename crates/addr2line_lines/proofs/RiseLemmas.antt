@@ -33,7 +33,7 @@ walks_first : (r : LineRow) (ss : List RowGroup) → Low r.address ss → AllWal
 walks_first r [] l h = tt
 walks_first r (s ∷ ss) l h = ((l.0, (l.1, h.0)), h.1)
 
-tail_of : (r : LineRow) (rows : List LineRow) → NeverFalls (r ∷ rows) → NeverFalls rows
+pub tail_of : (r : LineRow) (rows : List LineRow) → NeverFalls (r ∷ rows) → NeverFalls rows
 tail_of r [] n = tt
 tail_of r (s ∷ rows) n = n.1
 

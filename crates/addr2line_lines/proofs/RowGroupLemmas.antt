@@ -4,6 +4,7 @@ use Rattle.std.proofs.lemmas.Bool.{eq-eqb}
 use Rattle.std.proofs.Math.Bool.{or_self_left}
 use Rattle.std.proofs.Math.Numerals.{lt_of_le_of_ne}
 use Rattle.addr2line_lines.proofs.Facts.{not_above}
+use Rattle.addr2line_lines.proofs.RiseLemmas.{tail_of}
 
 -- no two neighbours have one address
 abbrev pub Apart : List LineRow → Type 0
@@ -123,15 +124,11 @@ none_at m (s ∷ p) h = ap (λ b. b || list_any (at m) p) (not_above s.address m
 latest_same : (p : List LineRow) → Open p → Apart p → NeverFalls p → latest p ≡ p
 latest_same [] o a n = refl
 latest_same (r ∷ p) o a n =
-    ap (λ b. cond b (latest p) (r ∷ latest p)) (none_at r.address p (above r p o a n)) ∙ ap (λ rows. r ∷ rows) (latest_same p o.1 (apart_tail r p a) (falls_tail r p n))
+    ap (λ b. cond b (latest p) (r ∷ latest p)) (none_at r.address p (above r p o a n)) ∙ ap (λ rows. r ∷ rows) (latest_same p o.1 (apart_tail r p a) (tail_of r p n))
   where
     apart_tail : (r : LineRow) (p : List LineRow) → Apart (r ∷ p) → Apart p
     apart_tail r [] h = tt
     apart_tail r (s ∷ p) h = h.1
-
-    falls_tail : (r : LineRow) (p : List LineRow) → NeverFalls (r ∷ p) → NeverFalls p
-    falls_tail r [] h = tt
-    falls_tail r (s ∷ p) h = h.1
 
 falls_front : (p left : List LineRow) → NeverFalls (p ++ left) → NeverFalls p
 falls_front [] left h = tt

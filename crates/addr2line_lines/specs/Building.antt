@@ -63,10 +63,6 @@ row_taken b r =
     if r.end_sequence then built_ended b r
     else record { sequences = b.sequences; pending = with_row b.pending r }
 
--- what rows make of what there is
-abbrev pub all_built : Built → List LineRow → Built
-all_built b rows = fold row_taken b rows
-
 -- how many rows are stored
 abbrev pub stored_rows : Built → ℕ
 stored_rows b = rows_in b.sequences + length b.pending

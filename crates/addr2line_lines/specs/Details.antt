@@ -106,7 +106,3 @@ stored_detail_at scope u offset = do
 -- the details alone
 abbrev pub detail_at : Scope → UnitRecord → ℕ → Result Detail Error
 detail_at scope u offset = (stored_detail_at scope u offset).given
-
--- whether memory may be taken for them, where readers don't share their bytes
-abbrev pub detail_takes_memory : Scope → UnitRecord → ℕ → Bool
-detail_takes_memory scope u offset = (stored_detail_at scope u offset).takes_memory false

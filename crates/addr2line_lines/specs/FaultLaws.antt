@@ -7,9 +7,8 @@ use Rattle.addr2line_lines.specs.Common.{AttributeValue, WasNotRefused, NamedVal
 use Rattle.addr2line_lines.specs.declared.function.RangeAttributes.{RangeAttributes}
 use Rattle.addr2line_lines.specs.Details.{detail_at}
 use Rattle.addr2line_lines.specs.FileTexts.{file_texts}
-use Rattle.addr2line_lines.specs.FunctionDetails.{details_fault}
+use Rattle.addr2line_lines.specs.FunctionDetails.{details_at}
 use Rattle.addr2line_lines.specs.Functions.{functions_of}
-use Rattle.addr2line_lines.specs.FunctionTable.{CachedFunction}
 use Rattle.addr2line_lines.specs.InlinedEntries.{inlined_attributes_of}
 use Rattle.addr2line_lines.specs.ItemsAround.{items_inside_at}
 use Rattle.addr2line_lines.specs.Names.{name_of, referred_name, visited}
@@ -50,8 +49,8 @@ pub record DetailsAreNotRefused : Type 0 where
   pub items : (u : UnitRecord) (offset : ℕ) → WasNotRefused (items_inside_at u offset)
   pub one : (scope : Scope) (u : UnitRecord) (offset : ℕ)
       → WasNotRefused (detail_at scope u offset)
-  pub all : (scope : Scope) (u : UnitRecord) (functions : List CachedFunction)
-      → WasNotRefused (details_fault scope u functions)
+  pub all : (scope : Scope) (u : UnitRecord) (offsets : List ℕ)
+      → WasNotRefused (details_at scope u offsets)
 
 -- none of these readings does
 pub record UnitReadingsAreNotRefused : Type 0 where

@@ -81,12 +81,6 @@ abbrev pub item_takes_memory : Bool → Sections → UnitRecord → EntryUnit �
 item_takes_memory shares d u unit cursor =
     shares || item_has_function d u (next_item_at unit cursor)
 
--- those of the items from a place on, after what was found
-abbrev pub found_from : Sections → UnitRecord → EntryUnit → EntryCursor → FoundFunctions
-    → Result FoundFunctions Error
-found_from d u unit cursor found =
-    fold_of (with_found d u) found (items_left unit cursor) >>= λ more. Ok more.0
-
 -- what is found in a unit
 abbrev pub found_in : Sections → UnitRecord → Result FoundFunctions Error
 found_in d u = fold_of (with_found d u) none_found (items_of u) >>= λ more. Ok more.0

@@ -45,10 +45,6 @@ entry_among entries n = slice_index_or entries n no_inlined
 abbrev pub range_among : List InlinedEntry → InlinedFunctionAddress → InlinedRange
 range_among entries a = inlined_range_of (entry_among entries) a
 
--- the ranges from a place on, by their inlined entries
-abbrev pub found_ranges_from : ℕ → FoundInlined → List InlinedRange
-found_ranges_from n found = map (range_among found.entries) (drop n found.ranges)
-
 -- a range of the inlined entry of a place
 abbrev pub inlined_address : ℕ → ℕ → Range → InlinedFunctionAddress
 inlined_address depth function range =
@@ -80,10 +76,6 @@ abbrev pub with_inlined_found : Sections → UnitRecord → ℕ → ℕ → Foun
     → Result FoundInlined Error
 with_inlined_found d u offset depth found x = attribute_ranges d u x.ranges >>= λ ranges.
     Ok (inlined_more found (inlined_entry offset x) depth ranges)
-
--- a place is that of an inlined entry
-abbrev pub IsPlaceAmong : List InlinedEntry → InlinedFunctionAddress → Type 0
-IsPlaceAmong entries a = a.function < length entries
 
 -- what was found before stays, with more at its end
 pub record IsFoundMore (found more : FoundInlined) : Type 0 where

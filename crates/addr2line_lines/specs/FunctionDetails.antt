@@ -1,10 +1,9 @@
 -- How the details of functions come to be cached (DWARF 5, section 3.3).
 -- Own: the detail of a function is read when it is first asked for, and cached then, its fault too.
 -- OutOfMemory is never cached.
-use Rattle.std.specs.Prelude.{◌≡◌, ◌≢◌, ◌⊎◌, ℕ, ◌&&◌, Bool, not, is_some, List, [], ◌∷◌, slice_get, slice_set, Option, Some, None, OnOk, Result, Ok, Err}
+use Rattle.std.specs.Prelude.{◌≡◌, ◌≢◌, ◌⊎◌, ℕ, ◌&&◌, Bool, true, not, is_some, List, [], ◌∷◌, slice_get, slice_set, Option, Some, None, unwrap_or, Result, Ok, Err}
 use Rattle.std.specs.List.{AllByRecursion, AllZip}
-use Rattle.gimli_read.specs.Costed as costed
-use Rattle.addr2line_lines.specs.Common.{Error, OutOfMemory, Costed, ExactlyAtCost, free, ◌>>=◌, fault_of, UnitRecord}
+use Rattle.addr2line_lines.specs.Common.{Error, OutOfMemory, Costed, free, ◌>>=◌, fault_of, UnitRecord}
 use Rattle.addr2line_lines.specs.CachedNames.{AreNamesMore}
 use Rattle.addr2line_lines.specs.CostedSteps.{on_parts}
 use Rattle.addr2line_lines.specs.Details.{Detail, detail_at, stored_detail_at}
@@ -76,36 +75,24 @@ ReadKeepsDetails = (scope : Scope) (u : UnitRecord) (n : ℕ) (old new : Functio
     (result : Result (Unit {0}) Error) → AreDetailsOf scope u old
     → IsReadAt scope u n old result new → AreDetailsOf scope u new
 
--- the first fault among the details of functions, in their order
-abbrev pub details_fault : Scope → UnitRecord → List CachedFunction → Result (Unit {0}) Error
-details_fault scope u [] = Ok tt
-details_fault scope u (f ∷ functions) =
-    fault_of (detail_at scope u f.offset) >>= λ _. details_fault scope u functions
+-- the first fault among the details of functions, by where their entries begin
+abbrev pub details_at : Scope → UnitRecord → List ℕ → Result (Unit {0}) Error
+details_at scope u [] = Ok tt
+details_at scope u (offset ∷ offsets) = detail_at scope u offset >>= λ _. details_at scope u offsets
 
--- whether the detail of a function can be read, by what is cached of it or by its entries; where
--- nothing is cached of it, memory may be taken as its entries say; past the last function nothing
--- is read
+-- the detail of a function, or its fault: what is cached of it, or else what its entries say
+abbrev pub detail_once : Scope → UnitRecord → CachedFunction → Result Detail Error
+detail_once scope u f = unwrap_or f.detail (detail_at scope u f.offset)
+
+-- whether it can be read; memory may be taken where nothing is cached of it, as its entries say;
+-- past the last function nothing is read
 abbrev pub read_once : Scope → UnitRecord → Option CachedFunction → Costed (Unit {0})
 read_once scope u None = free (Ok tt)
 read_once scope u (Some f) = record {
-  given = elim f.detail [ None ↦ fault_of (detail_at scope u f.offset) | Some d ↦ fault_of d ];
+  given = fault_of (detail_once scope u f);
   takes_memory = λ shares. not (is_some f.detail)
       && (on_parts (stored_detail_at scope u f.offset)).takes_memory shares;
 }
-
--- its fault alone
-abbrev pub read_fault : Scope → UnitRecord → Option CachedFunction → Result (Unit {0}) Error
-read_fault scope u f = (read_once scope u f).given
-
--- the same of the details of functions, in their order, up to the first fault
-abbrev pub all_read_once : Scope → UnitRecord → List CachedFunction → Costed (Unit {0})
-all_read_once scope u [] = free (Ok tt)
-all_read_once scope u (f ∷ functions) =
-    costed.◌>>=◌ (read_once scope u (Some f)) (λ _. all_read_once scope u functions)
-
--- the detail of a function is cached, and has no fault
-abbrev pub HasDetail : CachedFunction → Type 0
-HasDetail f = (d : Detail) × (f.detail ≡ Some (Ok d))
 
 -- the detail of a function is cached, and where it has no fault, so is what follows; or its fault
 -- is, which isn't OutOfMemory
@@ -120,19 +107,6 @@ abbrev pub AreCachedToFault : List CachedFunction → Type 0
 AreCachedToFault [] = Unit {0}
 AreCachedToFault (f ∷ functions) = IsCachedToFault f.detail (AreCachedToFault functions)
 
--- behind a function whose detail is cached, and has no fault, what is said of the rest; behind
--- another all is as it was
-abbrev pub IsSameBehind : Option (Result Detail Error) → Type 0 → Type 0 → Type 0
-IsSameBehind None rest same = same
-IsSameBehind (Some (Ok d)) rest same = rest
-IsSameBehind (Some (Err e)) rest same = same
-
--- the functions behind the first one whose detail isn't cached, or is a fault, are as they were
-abbrev pub AreSameBehind : List CachedFunction → List CachedFunction → Type 0
-AreSameBehind [] new = Unit {0}
-AreSameBehind (f ∷ old) [] = Unit {0}
-AreSameBehind (f ∷ old) (g ∷ new) = IsSameBehind g.detail (AreSameBehind old new) (new ≡ old)
-
 -- a function is the same, and what was cached of it is
 pub record IsFunctionMore (f g : CachedFunction) : Type 0 where
   pub offset : g.offset ≡ f.offset
@@ -145,30 +119,40 @@ pub record IsTableMore (old new : FunctionTable) : Type 0 where
   pub inlined : IsGrown old.inlined new.inlined
   pub names : AreNamesMore old.names new.names
 
--- a function is the same; of it is cached what was, or, where nothing was, its detail or the fault
--- of that
-pub record IsWithItsDetail (scope : Scope) (u : UnitRecord) (f g : CachedFunction) : Type 0 where
-  pub offset : g.offset ≡ f.offset
-  pub detail : (g.detail ≡ f.detail)
-      ⊎ ((f.detail ≡ None) × (g.detail ≡ Some (detail_at scope u f.offset)))
+-- a function whose detail is cached, its fault too
+abbrev pub with_detail : Scope → UnitRecord → CachedFunction → CachedFunction
+with_detail scope u f = record { offset = f.offset; detail = Some (detail_once scope u f) }
 
--- after details were read in the order of functions: what was cached stays, and of each function is
--- cached what was, or its detail; where nothing is refused each is cached, and has no fault; unless
--- memory was refused, all up to the first fault are, and that, and where they are it wasn't; where
--- they were before, the answer is by them, and nothing changes. What is answered is what is left to
--- read then, or OutOfMemory where that takes memory. The functions behind the first one whose
--- detail isn't cached then, or is a fault, are as they were
+-- after a detail was read: where it has no fault, what is said of the functions behind; else that
+-- fault is the answer, and they are as they were
+abbrev pub IsReadBehind : Result (Unit {0}) Error → Type 0 → Result (Unit {0}) Error
+    → List CachedFunction → List CachedFunction → Type 0
+IsReadBehind (Ok x) rest result old new = rest
+IsReadBehind (Err e) rest result old new = (result ≡ Err e) × (new ≡ old)
+
+-- the details of functions were read in turn, up to the first fault, which is the answer: those
+-- that were read are cached then, and that fault; or memory was refused for one that takes some;
+-- from that one on, and behind that fault, the functions are as they were
+abbrev pub AreReadInTurn : Bool → Scope → UnitRecord → List CachedFunction
+    → Result (Unit {0}) Error → List CachedFunction → Type 0
+AreReadInTurn shares scope u [] result new = (result ≡ Ok tt) × (new ≡ [])
+AreReadInTurn shares scope u (f ∷ old) result new =
+    ((result ≡ Err OutOfMemory) × ((read_once scope u (Some f)).takes_memory shares ≡ true)
+    × (new ≡ f ∷ old))
+    ⊎ ((rest : List CachedFunction) × (new ≡ with_detail scope u f ∷ rest)
+    × IsReadBehind (read_once scope u (Some f)).given (AreReadInTurn shares scope u old result rest)
+    result old rest)
+
+-- after the details of all functions were read in turn: nothing else changes, but that more inlined
+-- entries, and more names of entries that are referred to, stand after those before; where all were
+-- cached, up to the first fault, nothing changes
 pub record AfterReadingAll (shares : Bool) (scope : Scope) (u : UnitRecord)
     (result : Result (Unit {0}) Error) (old new : FunctionTable) : Type 0 where
-  pub more : IsTableMore old new
-  pub details : AllZip (IsWithItsDetail scope u) old.functions new.functions
-  pub known : OnOk result (AllByRecursion HasDetail new.functions)
-  pub whole : result ≢ Err OutOfMemory → AreCachedToFault new.functions
-  pub memory : AreCachedToFault new.functions → result ≢ Err OutOfMemory
-  pub exact : AreCachedToFault old.functions → result ≡ (all_read_once scope u old.functions).given
+  pub ranges : new.ranges ≡ old.ranges
+  pub functions : AreReadInTurn shares scope u old.functions result new.functions
+  pub inlined : IsGrown old.inlined new.inlined
+  pub names : AreNamesMore old.names new.names
   pub same : AreCachedToFault old.functions → new ≡ old
-  pub left : ExactlyAtCost shares (λ x. x) result (all_read_once scope u new.functions)
-  pub behind : AreSameBehind old.functions new.functions
 
 -- the functions stay those that have a range where more is cached
 abbrev pub MoreKeepsListed : Type 0

@@ -29,7 +29,3 @@ is_narrow_range r = nat_lt r.depth (2 ^ 32) && nat_lt r.function (2 ^ 32)
 abbrev pub range_fits : ℕ → InlinedFunctionAddress → Bool
 range_fits upper r =
     (upper_half r.range.begin == upper) && (upper_half r.range.end == upper) && is_narrow_range r
-
--- the upper half beside which a range may fit
-abbrev pub upper_of_range : InlinedFunctionAddress → ℕ
-upper_of_range r = upper_half r.range.begin

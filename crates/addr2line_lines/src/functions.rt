@@ -9,7 +9,7 @@ ghost use Rattle.addr2line_lines.specs.InlinedChain.{inlined_chain};
 ghost use Rattle.addr2line_lines.specs.FoundInlined.{entry_among};
 ghost use Rattle.addr2line_lines.specs.FoundRanges.{is_function};
 ghost use Rattle.addr2line_lines.specs.FunctionCache.{read_at};
-ghost use Rattle.addr2line_lines.specs.FunctionDetails.{AfterReadingAll, AreUnread, IsReadAt, all_read_once, read_once};
+ghost use Rattle.addr2line_lines.specs.FunctionDetails.{AfterReadingAll, AreUnread, IsReadAt, read_once};
 ghost use Rattle.addr2line_lines.specs.FunctionTable.{AreListed, cached_inlined, cached_name, function_place_at, cached_offset_at};
 ghost use Rattle.addr2line_lines.specs.Functions.{function_offset_at, functions_of, functions_take_memory, is_subprogram};
 ghost use Rattle.addr2line_lines.specs.InlineRoom.{exceeds_inline_room};
@@ -299,9 +299,9 @@ impl<R: Reader> Functions<R> {
     pub fn read(&mut self, scope: Scope<'_, R>, unit: &Unit<R>, place: usize) -> Result<(), Error>
         requires in_order { IsScope (as_scope scope) }
         requires unit { AreNamesIn (as_scope scope) unit.now self.old.names }
-        ensures gives { IsReadAt (as_scope scope.entry) unit.now place self.old result self.new }
-        ensures exact { ExactlyAtCost R.shares (λ x. x) result (read_once (as_scope scope.entry)
+        ensures gives { ExactlyAtCost R.shares (λ x. x) result (read_once (as_scope scope.entry)
             unit.now (slice_get self.old.functions place)) }
+        ensures after { IsReadAt (as_scope scope.entry) unit.now place self.old result self.new }
     {
         let Some(function) = self.functions.get(place) else {
             return Ok(());
@@ -316,21 +316,18 @@ impl<R: Reader> Functions<R> {
         }
     }
 
-    /// Reads the details of all functions, in the order of their entries, as `read` does, up to the
-    /// first fault. What was cached stays cached; unless memory is refused, the details up to the
-    /// first fault are cached then, and that fault too. Of the functions behind that fault, or
-    /// behind the first one whose detail isn't cached then, nothing more is cached.
+    /// Reads the details of all functions in turn, in the order of their entries, as `read` does,
+    /// up to the first fault or to the first one that memory is refused for. What was cached stays
+    /// cached; the details up to there are cached then, and that fault too. Of the functions behind
+    /// it nothing more is cached.
     ///
     /// `unit` and `scope` are those of `parse`. Refused by the first fault of a detail; may fail
-    /// with `OutOfMemory` instead, which is not cached, only where after the call `read` may for a
-    /// function, and no detail of a function before it has a fault. Takes no memory, and changes
-    /// nothing, where the details up to the first fault are cached, and that fault. Source: DWARF
-    /// 5, section 3.3.8.
+    /// with `OutOfMemory` instead, which is not cached, only where `read` may for the function that
+    /// it came to. Takes no memory, and changes nothing, where the details up to the first fault
+    /// are cached, and that fault. Source: DWARF 5, section 3.3.8.
     pub fn read_all(&mut self, scope: Scope<'_, R>, unit: &Unit<R>) -> Result<(), Error>
         requires in_order { IsScope (as_scope scope) }
         requires unit { AreNamesIn (as_scope scope) unit.now self.old.names }
-        ensures gives { ExactlyAtCost R.shares (λ x. x) result
-            (all_read_once (as_scope scope.entry) unit.now self.old.functions) }
         ensures after { AfterReadingAll R.shares (as_scope scope.entry) unit.now result self.old
             self.new }
     {
@@ -353,9 +350,9 @@ impl<R: Reader> Functions<R> {
         requires unit { AreNamesIn (as_scope scope) unit.now self.old.names }
         requires unread { slice_get self.old.functions place
             ≡ Some (record { offset = offset.0; detail = None }) }
-        ensures gives { IsReadAt (as_scope scope.entry) unit.now place self.old result self.new }
-        ensures exact { ExactlyAtCost R.shares (λ x. x) result (read_once (as_scope scope.entry)
+        ensures gives { ExactlyAtCost R.shares (λ x. x) result (read_once (as_scope scope.entry)
             unit.now (slice_get self.old.functions place)) }
+        ensures after { IsReadAt (as_scope scope.entry) unit.now place self.old result self.new }
     {
         match self.details.read(scope, unit, offset) {
             Ok(detail) => {

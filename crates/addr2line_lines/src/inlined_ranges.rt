@@ -6,7 +6,7 @@ ghost use Rattle.addr2line_lines.specs.CachedDetails.{between};
 ghost use Rattle.addr2line_lines.specs.InOrder.{IsInOrder, in_order};
 ghost use Rattle.addr2line_lines.specs.InlinedOrder.{inlined_sooner, places_chain};
 ghost use Rattle.addr2line_lines.specs.InlineRoom.{exceeds_inline_room};
-ghost use Rattle.addr2line_lines.specs.StoredRanges.{address_of_halves, is_narrow_range, range_fits, range_of_short, upper_half, upper_of_range};
+ghost use Rattle.addr2line_lines.specs.StoredRanges.{address_of_halves, is_narrow_range, range_fits, range_of_short, upper_half};
 
 use crate::picks::{InlinedFunctionAddress, InlinedPlaces, find_chain, sort_inlined_from};
 use crate::rows::HALF;
@@ -70,7 +70,7 @@ impl Stored for ShortRange {
 }
 
 impl Short for ShortRange {
-    ghost base_of = { upper_of_range };
+    ghost base_of = { λ r. upper_half r.range.begin };
 
     ghost fits = { range_fits };
 

@@ -25,14 +25,14 @@ pub use Rattle.gimli_read.specs.declared.error.Error.{Error}
 pub use Rattle.gimli_read.specs.declared.error.Error.TheVariants.{OffsetOutOfBounds, OutOfMemory, UnknownToken}
 pub use Rattle.gimli_read.specs.declared.range.Range.{Range}
 pub use Rattle.gimli.specs.Header.{UnitHeaderFields}
-pub use Rattle.gimli.specs.Sections.{Sections, SupSections}
+pub use Rattle.gimli.specs.Sections.{Sections, SupSections, sup_sections}
 pub use Rattle.gimli.specs.Unit.{UnitRecord, attr_string_of}
 unfoldable pub use Rattle.gimli.specs.Unit.{unit_by, unit_record_of}
 pub use Rattle.gimli.specs.UnitsLeft.{all_headers}
 pub use Rattle.addr2line_lines.proofs.OrderLemmas.{in_order_ordered, in_order_ties, one_order, sorted_is}
-pub use Rattle.addr2line_lines.proofs.ReadLemmas.{functions_same, read_more, read_right, table_same, unread_right}
+pub use Rattle.addr2line_lines.proofs.ReadLemmas.{HasDetail, all_read_once, badly_read, functions_same, read_fault, read_more, read_right, table_same, unread_right, well_read}
 pub use Rattle.addr2line_lines.specs.Details.{Detail, detail_at}
-pub use Rattle.addr2line_lines.specs.FunctionDetails.{AreCachedToFault, AreDetailsOf, AreUnread, HasDetail, IsCachedToFault, IsDetailOf, IsFunctionMore, IsReadAt, IsReadOf, IsReadOnce, IsTableMore, IsWithDetail, details_fault, all_read_once, read_fault}
+pub use Rattle.addr2line_lines.specs.FunctionDetails.{AreCachedToFault, AreDetailsOf, AreUnread, IsCachedToFault, IsDetailOf, IsFunctionMore, IsReadAt, IsReadOf, IsReadOnce, IsTableMore, IsWithDetail, details_at}
 pub use Rattle.addr2line_lines.specs.FunctionTable.{AreListed, CachedFunction, FunctionTable, cached_detail, cached_inlined, cached_name, cached_offset_at, function_place_at, inlined_of_detail, name_of_detail}
 pub use Rattle.addr2line_lines.specs.Functions.{FunctionRange, entries_of, entry_gives_a_range, entry_ranges, function_begin, function_end, function_offset, function_offset_at, functions_of, functions_take_memory, has_function, have_function, is_subprogram, once_before, with_function}
 pub use Rattle.addr2line_lines.specs.InOrder.{IsInOrder, in_order}
@@ -44,13 +44,14 @@ pub use Rattle.addr2line_lines.specs.Rows.{read_all}
 pub use Rattle.addr2line_lines.specs.Scopes.{as_scope}
 pub use Rattle.addr2line_lines.specs.UnitLines.{IsFaultAtOnce, lines_in, unit_lines}
 unfoldable pub use Rattle.addr2line_lines.specs.UnitLines.{program_lines}
+pub use Rattle.addr2line_units.proofs.EntriesFunctionMemory.{cached_detail_takes_memory, cached_takes_memory, find_takes_memory, place_takes_memory, reading_takes_memory, table_takes_memory}
 pub use Rattle.addr2line_units.specs.EntriesMemory.{any_program_takes_memory, is_fault_at_once, lines_of_take_memory, view_takes_memory}
 unfoldable pub use Rattle.addr2line_units.specs.EntriesMemory.{functions_in_take_memory, lines_take_memory}
 pub use Rattle.addr2line_units.specs.UnitsAsked.{AfterAsk, AfterCachingAt, CountsUnits, found_stop, stop_at, row_stop}
 pub use Rattle.addr2line_units.specs.EntriesCached.{AreFramesIn, AreRead, AsksNoMemoryIn, ReadsEntriesOf, StayEntries, frames_of_place, has_answered, has_entries, has_entries_by}
 pub use Rattle.addr2line_units.specs.EntriesOwn.{AreEntriesOf, AreFresh, first_answer_of}
 pub use Rattle.addr2line_units.specs.FramesCached.{IsLendable, found_after_fault, frames_at_place, functions_at, language_at, as_stop, stop_of_found}
-pub use Rattle.addr2line_units.specs.EntriesFunctions.{AreFunctionsOf, ArePlacesIn, IsTableOf, ReadsNoDetail, ReadsNoOther, StayFunctions, cached_detail_takes_memory, cached_fault, cached_functions, cached_has_function, cached_takes_memory, details_at, find_takes_memory, function_of_place, functions_fault, has_detail, has_place, has_table, is_cached_fault, no_functions, place_takes_memory, reading_takes_memory, table_takes_memory, were_read}
+pub use Rattle.addr2line_units.specs.EntriesFunctions.{AreFunctionsOf, ArePlacesIn, IsTableOf, ReadsNoDetail, ReadsNoOther, StayFunctions, cached_fault, cached_functions, cached_has_function, function_of_place, functions_fault, has_detail, has_place, has_table, is_cached_fault, no_functions, were_read}
 pub use Rattle.addr2line_units.specs.EntriesKnownCached.{known_answer, known_by, known_detail, known_fault, known_function, known_functions, known_in, known_table}
 pub use Rattle.addr2line_units.specs.UnitLinesCached.{AreLinesOf, CachesResult, HaveLinesOf, StayLines, cached_files, cached_lines, cached_lines_result, cached_ranges, cached_spans, indexed_unit, indexed_units, is_parsed, is_uncached, lines_at, lines_in_cache, lines_result, lines_result_at, no_lines, parsed_units}
 pub use Rattle.addr2line_units.specs.UnitsCached.{AreFreshOf, HaveCachesOf, HaveNewCaches, IsCacheOf, answers_in, waits_at}

@@ -6,7 +6,7 @@ use Rattle.addr2line_lines.specs.InlinedChain.{inlined_chain}
 use Rattle.addr2line_units.specs.declared.entries.FunctionPlace.{FunctionPlace}
 use Rattle.addr2line_units.specs.declared.entries.LazyFunctions.TheVariants as lazy
 use Rattle.addr2line_units.specs.CacheAfter.{AfterCachingFunctions}
-use Rattle.addr2line_units.proofs.KeptEntries.{KeepsFunction}
+use Rattle.addr2line_units.proofs.EntriesKeeps.{KeepsFunction}
 use Rattle.addr2line_units.specs.EntriesFunctions.{found_in_cache}
 use Rattle.addr2line_units.proofs.EntriesFunctionLemmas.{chain_found, details_before, function_is, memory_before, none_before, none_found, number_stays, reads_one, refused_chain, refused_detail, stay_faulty, stay_read, table_stays}
 use Rattle.addr2line_units.proofs.EntriesLearnedLemmas.{cache_reads_none}

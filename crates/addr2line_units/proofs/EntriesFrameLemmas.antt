@@ -9,7 +9,7 @@ use Rattle.addr2line_units.specs.declared.entries.UnitFrames.TheVariants as foun
 use Rattle.addr2line_units.specs.CacheAfter.{AfterFramesIn, AfterFunctionIn, AfterLinesOf, AfterEntries, AfterCheck}
 use Rattle.addr2line_units.specs.EntriesFrames.{HasFewInlined}
 use Rattle.addr2line_units.specs.EntriesFunctions.{found_in_cache}
-use Rattle.addr2line_units.proofs.KeptEntries.{KeepsChecked, KeepsFunction}
+use Rattle.addr2line_units.proofs.EntriesKeeps.{KeepsChecked, KeepsFunction}
 use Rattle.addr2line_units.specs.UnitLinesCached.{location_or, lines_or}
 use Rattle.addr2line_units.proofs.EntriesLemmas.{IsView, checked_decides, exactly_unless_oom, fault_entries, fault_in, few_in, function_entries, function_is_in, functions_right, functions_stay, functions_take_in, not_open}
 use Rattle.addr2line_units.proofs.EntriesMemoryLemmas.{exactly_if_none, find_takes_none}

@@ -1,5 +1,5 @@
 -- The function at an address by what is cached of a view (on specs/EntriesFunctions.antt).
-use Rattle.addr2line_units.proofs.Common.{Box, Global, ◌≡◌, ◌≢◌, ℕ, ◌+◌, ◌==◌, ◌&&◌, ◌⊎◌, inl, inr, nat_lt, not, Bool, true, false, cond, List, [], ◌∷◌, length, map, slice_get, slice_set, Option, Some, None, option_and_then, option_map, unwrap_or, Result, Ok, Err, refl, ap, sym, subst, ◌∙◌, zero, suc, AllByRecursion, AllZip, position_or_len, DwLang, Error, OutOfMemory, ◌>>=◌, ExactlyUnlessOomIf, fault_of, Section, UnitRecord, Detail, detail_at, InlinedEntry, FunctionRange, entries_of, function_offset_at, functions_of, functions_take_memory, AreDetailsOf, AreUnread, IsDetailOf, IsFunctionMore, IsReadAt, IsReadOf, IsReadOnce, IsTableMore, IsWithDetail, details_fault, all_read_once, AreListed, CachedFunction, FunctionTable, cached_detail, cached_inlined, cached_name, function_place_at, inlined_of_detail, name_of_detail, cached_offset_at, Location, exceeds_inline_room, Scope, all_at, get_set_other, some_at, read_more, read_right, unread_right, LazyFunctions, FrameRecord, found_frames, found_function, frames_from, function_at, function_from, ArePlacesIn, IsTableOf, ReadsNoOther, StayFunctions, cached_detail_takes_memory, cached_takes_memory, details_at, find_takes_memory, function_of_place, functions_fault, cached_functions, place_takes_memory, reading_takes_memory, table_takes_memory, were_read, memory_or_not}
+use Rattle.addr2line_units.proofs.Common.{Box, Global, ◌≡◌, ◌≢◌, ℕ, ◌+◌, ◌==◌, ◌&&◌, ◌⊎◌, inl, inr, nat_lt, not, Bool, true, false, cond, List, [], ◌∷◌, length, map, slice_get, slice_set, Option, Some, None, option_and_then, option_map, unwrap_or, Result, Ok, Err, refl, ap, sym, subst, ◌∙◌, zero, suc, AllByRecursion, AllZip, position_or_len, DwLang, Error, OutOfMemory, ◌>>=◌, ExactlyUnlessOomIf, fault_of, Section, UnitRecord, Detail, detail_at, InlinedEntry, FunctionRange, entries_of, function_offset_at, functions_of, functions_take_memory, AreDetailsOf, AreUnread, IsDetailOf, IsFunctionMore, IsReadAt, IsReadOf, IsReadOnce, IsTableMore, IsWithDetail, all_read_once, AreListed, CachedFunction, FunctionTable, cached_detail, cached_inlined, cached_name, function_place_at, inlined_of_detail, name_of_detail, cached_offset_at, Location, exceeds_inline_room, Scope, all_at, get_set_other, some_at, read_more, read_right, unread_right, LazyFunctions, FrameRecord, found_frames, found_function, frames_from, function_at, function_from, ArePlacesIn, IsTableOf, ReadsNoOther, StayFunctions, cached_detail_takes_memory, cached_takes_memory, details_at, find_takes_memory, function_of_place, functions_fault, cached_functions, place_takes_memory, reading_takes_memory, table_takes_memory, were_read, memory_or_not, well_read, badly_read}
 use Rattle.std.proofs.lemmas.Bool.{and_from}
 use Rattle.std.specs.Prelude.{IfSome, position, reverse}
 use Rattle.addr2line_lines.specs.CachedNames.{KnownNames, no_names}
@@ -87,20 +87,12 @@ module _ (scope : Scope) (view : UnitRecord) (probe n : ℕ) (old new : Function
     pub is : detail_at scope view f.offset ≡ v
     pub function : slice_get new.functions n ≡ Some (record { offset = f.offset; detail = Some v })
 
-  unfaulty : (r : Result Detail Error) → fault_of r ≡ Ok tt → (d : Detail) × (r ≡ Ok d)
-  unfaulty (Ok d) e = (d, refl)
-  unfaulty (Err e) k = absurd cc
-
-  faulty : (r : Result Detail Error) (e : Error) → fault_of r ≡ Err e → r ≡ Err e
-  faulty (Ok d) e k = absurd cc
-  faulty (Err x) e k = let same : x ≡ e = cc in ap Err same
-
   pub read_ok : IsDetailOf scope view f → IsReadAt scope view n old (Ok tt) new → (d : Detail) × IsCached (Ok d)
   read_ok right k = by_detail f.detail refl (subst (λ o. IsReadOf scope view n o old (Ok tt) new) q k)
     where
       by_detail : (x : Option (Result Detail Error)) → f.detail ≡ x → IsReadOnce scope view n f x old (Ok tt) new → (d : Detail) × IsCached (Ok d)
       by_detail None e k =
-          let d = unfaulty (detail_at scope view f.offset) k.0 in
+          let d = well_read (detail_at scope view f.offset) k.0 in
           (d.0, record { is = d.1; function = new_at (detail_at scope view f.offset) k.1 ∙ ap (λ (v : Result Detail Error). Some (record { offset = f.offset; detail = Some v })) d.1 })
       by_detail (Some (Ok d)) e k = (d, record { is = right (Ok d) e; function = same_at (Ok d) e k.1 })
       by_detail (Some (Err x)) e k = absurd cc
@@ -111,7 +103,7 @@ module _ (scope : Scope) (view : UnitRecord) (probe n : ℕ) (old new : Function
       by_detail : (y : Option (Result Detail Error)) → f.detail ≡ y → IsReadOnce scope view n f y old (Err x) new → IsCached (Err x) ⊎ ((x ≡ OutOfMemory) × (f.detail ≡ None) × (new ≡ old))
       by_detail None e k = elim (memory_or_not x) [
         | inl m ↦ inr (m, e, k.1 m)
-        | inr ne ↦ (let r = k.0 ne in let is = faulty (detail_at scope view f.offset) x r.0 in
+        | inr ne ↦ (let r = k.0 ne in let is = badly_read (detail_at scope view f.offset) x r.0 in
             inl (record { is = is; function = new_at (detail_at scope view f.offset) r.1 ∙ ap (λ (v : Result Detail Error). Some (record { offset = f.offset; detail = Some v })) is }))
       ]
       by_detail (Some (Ok d)) e k = absurd cc
@@ -229,21 +221,11 @@ table_stays scope view n old new r h k =
     let more = read_more scope view n old new r k in
     record { ranges = h.ranges ∙ ap Ok (sym more.ranges); listed = more_listed old new h.listed more; details = read_right scope view n old new r h.details k; names = more.names.unit ∙ h.names }
 
--- the first fault among details, by the functions and by their entries
-pub details_by_entries : (scope : Scope) (view : UnitRecord) (fs : List CachedFunction) → details_fault scope view fs ≡ details_at scope view (map (λ (f : CachedFunction). f.offset) fs)
-details_by_entries scope view [] = refl
-details_by_entries scope view (f ∷ fs) =
-    ap (λ (r : Result (Unit {0}) Error). fault_of (detail_at scope view f.offset) >>= λ _. r) (details_by_entries scope view fs) ∙ by_detail (detail_at scope view f.offset)
-  where
-    by_detail : (r : Result Detail Error) → (fault_of r >>= λ _. details_at scope view (map (λ (f : CachedFunction). f.offset) fs)) ≡ (r >>= λ _. details_at scope view (map (λ (f : CachedFunction). f.offset) fs))
-    by_detail (Ok d) = refl
-    by_detail (Err e) = refl
-
 -- the first fault of all is that of the details
-pub fault_is : (scope : Scope) (view : UnitRecord) (t : FunctionTable) → IsTableOf scope view t → functions_fault scope view ≡ details_fault scope view t.functions
+pub fault_is : (scope : Scope) (view : UnitRecord) (t : FunctionTable) → IsTableOf scope view t → functions_fault scope view ≡ details_at scope view (map (λ (f : CachedFunction). f.offset) t.functions)
 fault_is scope view t h =
     ap (λ (r : Result (List FunctionRange) Error). r >>= λ ranges. details_at scope view (entries_of ranges)) h.ranges
-    ∙ ap (details_at scope view) (sym h.listed) ∙ sym (details_by_entries scope view t.functions)
+    ∙ ap (details_at scope view) (sym h.listed)
 
 -- functions stay those of the view where more right details are cached
 pub table_more : (scope : Scope) (view : UnitRecord) (old new : FunctionTable) → IsTableOf scope view old → IsTableMore old new → AreDetailsOf scope view new → IsTableOf scope view new

@@ -3,7 +3,7 @@ use Rattle.addr2line_units.proofs.Common.{◌≡◌, ◌∙◌, ℕ, ap, sym, re
 use Rattle.std.specs.Prelude.{Box, is_ok}
 use Rattle.addr2line_units.specs.CacheAfter.{AfterCheck}
 use Rattle.addr2line_units.specs.UnitViewCached.{has_view}
-use Rattle.addr2line_units.proofs.KeptEntries.{KeepsChecked}
+use Rattle.addr2line_units.proofs.EntriesKeeps.{KeepsChecked}
 use Rattle.addr2line_units.proofs.UnitViewLemmas.{checked_is_right}
 use Rattle.std.specs.declared.alloc.Global.{Global}
 use Rattle.addr2line_units.specs.declared.entries.LazyFunctions.TheVariants as lazy

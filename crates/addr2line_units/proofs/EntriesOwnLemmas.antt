@@ -6,15 +6,9 @@ use Rattle.addr2line_lines.specs.References.{UnitInScope}
 use Rattle.addr2line_units.specs.EntriesOwn.{AreOwnEntries, CachedUnit}
 use Rattle.addr2line_units.specs.UnitsCached.{AreOfUnit}
 use Rattle.addr2line_units.proofs.LoadsAnswerLemmas.{decided_was_checked, unread_are}
+use Rattle.addr2line_units.proofs.UnitViewLemmas.{unchecked_has_none}
 
 -- of a unit that wasn't looked at nothing is cached
-pub no_answer : {R : Type 0} (s : ViewState R) → was_checked s ≡ false → answer_in s ≡ None
-no_answer states.Undecided e = refl
-no_answer states.Open e = absurd cc
-no_answer states.Main e = absurd cc
-no_answer (states.Unnamed f) e = absurd cc
-no_answer (states.Answered a) e = absurd cc
-
 no_verdict : {R : Type 0} (d : Sections) (u : UnitRecord) (s : ViewState R) → was_checked s ≡ false → verdict_in d u s ≡ None
 no_verdict d u states.Undecided e = refl
 no_verdict d u states.Open e = absurd cc
@@ -28,7 +22,7 @@ fresh_are_of {R} scope u v order fresh = record {
   in_order = order;
   view = record {
     verdict = subst (λ (kept : Option (Option (Result View Error))). IfSome kept (λ k. k ≡ verdict scope.file.sections u (first_answer_of v))) (sym (no_verdict scope.file.sections u v.view.state fresh.view)) tt;
-    waited = λ e. absurd (none_some (ap (λ (a : Option (Option Sections)). is_some a) (sym (no_answer v.view.state fresh.view)) ∙ e));
+    waited = λ e. absurd (none_some (ap (λ (a : Option (Option Sections)). is_some a) (sym (unchecked_has_none v.view.state fresh.view)) ∙ e));
   };
   functions = of_verdict (verdict scope.file.sections u (first_answer_of v));
   unread = λ e. fresh.functions;

@@ -11,7 +11,7 @@ use Rattle.addr2line_units.specs.UnitViewCached.{verdict_or}
 use Rattle.addr2line_units.proofs.EntriesFrameLemmas.{faulty_view, function_after, function_given}
 use Rattle.addr2line_units.proofs.EntriesLemmas.{IsView, fault_in, fault_known, functions_keep, functions_right, view_known}
 use Rattle.addr2line_units.proofs.EntriesOwnLemmas.{decided_was_looked_at, own_entries, own_then}
-use Rattle.addr2line_units.proofs.KeptEntries.{KeepsFunction, KeepsReadFunctions}
+use Rattle.addr2line_units.proofs.EntriesKeeps.{KeepsFunction, KeepsReadFunctions}
 use Rattle.addr2line_units.proofs.ParsesAfterLemmas.{refused_view_after, view_after, view_gives, view_refused}
 use Rattle.addr2line_units.proofs.UnitViewLemmas.{of_cached_view, verdict_or_is}
 

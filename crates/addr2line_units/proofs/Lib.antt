@@ -1,4 +1,6 @@
 pub mod Common
+pub mod EntriesFunctionMemory
+pub mod EntriesKeeps
 pub mod FaultLemmas
 pub mod LegacySteps
 pub mod LegacyMarks
@@ -33,7 +35,6 @@ pub mod FramesDecidedLemmas
 pub mod EntriesKnownTableLemmas
 pub mod EntriesKnownLemmas
 pub mod CachedUnits
-pub mod KeptEntries
 pub mod Facts
 pub mod UnitsCachedLemmas
 pub mod ParsesLemmas

@@ -4,7 +4,7 @@ use Rattle.std.specs.Prelude.{IfOk, IfSome, is_none, is_some, if◌then◌else�
 use Rattle.addr2line_units.specs.declared.entries.LazyFunctions.TheVariants as lazy
 use Rattle.addr2line_units.specs.declared.unit.ViewState.TheVariants as states
 use Rattle.addr2line_units.specs.CacheAfter.{AfterAnswerIn, AfterForgettingIn, AfterViewAnswer}
-use Rattle.addr2line_units.proofs.KeptEntries.{KeepsAnswered, KeepsChecked, KeepsForgotten}
+use Rattle.addr2line_units.proofs.EntriesKeeps.{KeepsAnswered, KeepsChecked, KeepsForgotten}
 use Rattle.addr2line_units.specs.LoadsMemory.{answer_takes_memory}
 use Rattle.addr2line_units.specs.UnitView.{answered_view}
 use Rattle.addr2line_units.proofs.EntriesLemmas.{checked_decides, keeps_checked, undecided_view}

@@ -3,7 +3,7 @@
 use Rattle.addr2line_units.proofs.Common.{◌≡◌, ◌∙◌, Bool, true, false, [], Option, Some, Result, Ok, Err, None, refl, sym, ap, subst, inr, IfErr, OnOk, AllByRecursion, Error, OutOfMemory, ExactlyUnlessOomIf, WasNotRefused, Sections, UnitRecord, HasDetail, cached_detail, functions_of, functions_take_memory, AreUnread, Scope, LazyFunctions, ReadingDepth, EntriesCache, functions_in_take_memory, AreEntriesOf, first_answer_of, AreFunctionsOf, StayFunctions, cached_fault, cached_functions, functions_fault, is_cached_fault, reading_takes_memory, were_read, known_by, known_fault, known_functions, is_decided, answer_of_view, IsReadyFor, read_of_functions, read_of_view, View, is_open, verdict, ExactlyUnlessOom, StayEntries, knows_detail}
 use Rattle.addr2line_units.specs.declared.entries.LazyFunctions.TheVariants as lazy
 use Rattle.addr2line_units.specs.declared.parses.ReadingDepth.TheVariants as depths
-use Rattle.addr2line_units.proofs.KeptEntries.{KeepsAnswered, KeepsReadFunctions}
+use Rattle.addr2line_units.proofs.EntriesKeeps.{KeepsAnswered, KeepsReadFunctions}
 use Rattle.addr2line_units.specs.ParsesAfter.{AfterReadingOf, AfterReadingUnit, AfterReadingView, IsDecidedAndReady}
 use Rattle.addr2line_units.specs.EntriesStayKnown.{IsReadBy}
 use Rattle.addr2line_units.proofs.LoadsAnswerLemmas.{decided_if_not, checked_waits}

@@ -94,7 +94,7 @@ module _ {R : Type 0} {scope : Scope} {held : List (CachedUnit R)} {last : Frame
       stays = refl;
       answers = λ ne. sym (unknown_answer d us (answers_in held) n None none);
       begun = inl refl;
-      known = λ shut. record { at = λ probe q. q; whole = λ kind q. q };
+      known = λ shut. record { at = λ probe q. q; whole = λ needed q. q };
       others = λ k ne. refl;
       details = λ is k offset e. e;
       read = subst (λ o. IfSome o (IsReadBy depth)) (sym none_known) tt;
@@ -159,9 +159,9 @@ module _ {R : Type 0} {scope : Scope} {held : List (CachedUnit R)} {last : Frame
           let has = sym (ap (λ o. unwrap_or (option_map (λ (x : CachedUnit R). has_entries probe x.entries) o) true) held_there) ∙ sym (known_is probe held n) ∙ q in
           known_is probe now n ∙ ap (λ o. unwrap_or (option_map (λ (x : CachedUnit R). has_entries probe x.entries) o) true) now_there
           ∙ entries_more probe v w (a.stay (decided (known_was_checked probe v has) shut)) has;
-      whole = λ kind q.
-          let ready = subst (λ o. IfSome o (IsReadyFor kind)) known_was q in
-          subst (λ o. IfSome o (IsReadyFor kind)) (sym known_now) (entries_whole kind v w (a.stay (decided (whole_was_checked kind v.view.state v.functions ready) shut)) ready);
+      whole = λ needed q.
+          let ready = subst (λ o. IfSome o (IsReadyFor needed)) known_was q in
+          subst (λ o. IfSome o (IsReadyFor needed)) (sym known_now) (entries_whole needed v w (a.stay (decided (whole_was_checked needed v.view.state v.functions ready) shut)) ready);
     }
 
     -- where all was known nothing is changed

@@ -1,7 +1,7 @@
 -- What is cached of the entries of a unit, and read of them, in a parse of functions (on
 -- specs/ParsesAfter.antt).
-use Rattle.addr2line_units.proofs.Common.{◌≡◌, ℕ, ◌<◌, Bool, true, false, not, ◌&&◌, ◌||◌, List, [], ◌∷◌, length, get_or, Option, Some, None, Result, Ok, Err, is_some, refl, ap, sym, subst, ◌∙◌, OnOk, AllByRecursion, Error, takes_memory_after, ◌>>=◌, ExactlyUnlessOomIf, fault_of, UnitRecord, Detail, FunctionRange, entries_of, functions_of, CachedFunction, HasDetail, IsDetailOf, details_fault, all_read_once, read_fault, Scope, LazyFunctions, ReadingDepth, CachedUnit, EntriesCache, answer_of, read_of_functions, read_of_number, read_of_unit, read_of_view, StayEntries, first_answer_of, AreFunctionsOf, StayFunctions, details_at, functions_fault, cached_functions, is_cached_fault, reading_takes_memory, were_read, answers_in, known_functions, View, view_scope}
-use Rattle.addr2line_lines.specs.Details.{detail_takes_memory as takes}
+use Rattle.addr2line_units.proofs.Common.{◌≡◌, ℕ, ◌<◌, Bool, true, false, not, ◌&&◌, ◌||◌, List, [], ◌∷◌, length, get_or, Option, Some, None, Result, Ok, Err, is_some, refl, ap, sym, subst, ◌∙◌, OnOk, AllByRecursion, Error, takes_memory_after, ◌>>=◌, ExactlyUnlessOomIf, UnitRecord, Detail, FunctionRange, entries_of, functions_of, CachedFunction, HasDetail, IsDetailOf, all_read_once, read_fault, Scope, LazyFunctions, ReadingDepth, CachedUnit, EntriesCache, answer_of, read_of_functions, read_of_number, read_of_unit, read_of_view, StayEntries, first_answer_of, AreFunctionsOf, StayFunctions, details_at, functions_fault, cached_functions, is_cached_fault, reading_takes_memory, were_read, answers_in, known_functions, View, view_scope, map}
+use Rattle.addr2line_lines.proofs.DetailMemory.{detail_takes_memory as takes}
 use Rattle.addr2line_units.specs.declared.entries.LazyFunctions.TheVariants as lazy
 use Rattle.addr2line_units.specs.declared.parses.ReadingDepth.TheVariants as depths
 use Rattle.addr2line_units.specs.EntriesStayKnown.{IsReadBy}
@@ -36,10 +36,10 @@ details_read scope view may (lazy.Faulty e) (Ok x) right gives read details =
     absurd (let no = sym (ap (λ (r : Result (List FunctionRange) Error). r >>= λ ranges. details_at scope view (entries_of ranges)) right) ∙ gives in cc)
 
 -- where all details are cached none has a fault, and no memory is taken
-no_detail_fault : (scope : Scope) (view : UnitRecord) (fs : List CachedFunction) → AllByRecursion HasDetail fs → AllByRecursion (IsDetailOf scope view) fs → details_fault scope view fs ≡ Ok tt
+no_detail_fault : (scope : Scope) (view : UnitRecord) (fs : List CachedFunction) → AllByRecursion HasDetail fs → AllByRecursion (IsDetailOf scope view) fs → details_at scope view (map (λ (f : CachedFunction). f.offset) fs) ≡ Ok tt
 no_detail_fault scope view [] all right = refl
 no_detail_fault scope view (f ∷ fs) all right =
-    ap (λ (r : Result Detail Error). fault_of r >>= λ _. details_fault scope view fs) (right.0 (Ok all.0.0) all.0.1)
+    ap (λ (r : Result Detail Error). r >>= λ _. details_at scope view (map (λ (f : CachedFunction). f.offset) fs)) (right.0 (Ok all.0.0) all.0.1)
     ∙ no_detail_fault scope view fs all.1 right.1
 
 no_detail_memory : (shares : Bool) (scope : Scope) (view : UnitRecord) (fs : List CachedFunction) → AllByRecursion HasDetail fs → (all_read_once scope view fs).takes_memory shares ≡ false

@@ -6,7 +6,7 @@ use Rattle.addr2line_units.specs.declared.parses.ReadingDepth.TheVariants as dep
 use Rattle.addr2line_units.specs.CacheAfter.{AfterCachingFunctions}
 use Rattle.addr2line_units.proofs.EntriesFindLemmas.{cached_right, were_unread}
 use Rattle.addr2line_units.proofs.EntriesFunctionLemmas.{no_fault_of, stay_faulty}
-use Rattle.addr2line_units.proofs.KeptEntries.{KeepsReadFunctions}
+use Rattle.addr2line_units.proofs.EntriesKeeps.{KeepsReadFunctions}
 use Rattle.addr2line_units.proofs.ParsesAfterLemmas.{alone_after, alone_gives, details_after, fault_of_depth, refused_after}
 use Rattle.addr2line_units.proofs.ParsesCachedLemmas.{cached_stay}
 use Rattle.addr2line_units.proofs.ParsesReadyLemmas.{fault_of_functions, known_not_oom, ready_fault, ready_same}

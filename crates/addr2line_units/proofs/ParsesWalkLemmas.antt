@@ -72,7 +72,7 @@ read_first depth old = record {
   stays = refl;
   answers = refl;
   before = λ n below. absurd (omega (arith, below));
-  known = λ n shut. record { at = λ probe q. q; whole = λ kind q. q };
+  known = λ n shut. record { at = λ probe q. q; whole = λ needed q. q };
   details = λ is n offset e. e;
   read = λ n below. absurd (omega (arith, below));
   same = λ ready. (refl, refl);
@@ -180,7 +180,7 @@ module _ (shares : Bool) (depth : ReadingDepth) (k : ℕ) (old mid now : UnitsSt
       answers = λ ne. one_more ((a given).answers ne) ∙ sym (after_stop depth old.scope us old.answers k e many w.before (fault_there (gives ne)));
       begun = elim (begun given) [ inl is ↦ (k, w.before, inl is) | inr is ↦ (k, w.before, inr is) ];
       known = λ probe n shut q. (known_now given n shut).at probe q;
-      whole = λ kind n shut q. (known_now given n shut).whole kind q;
+      whole = λ needed n shut q. (known_now given n shut).whole needed q;
       only = λ n. elim (at_or_behind n k) [ inl l ↦ inr (before_less depth old k w.before n l) | inr l ↦ inl (known_behind given n l) ];
       details = details_now given;
       read = tt;
@@ -278,7 +278,7 @@ module _ (depth : ReadingDepth) (k : ℕ) (old now : UnitsState) (w : ReadSoFar 
     answers = λ _. w.answers ∙ sym (after_end depth old.scope records old.answers k beside past w.before);
     begun = (k, w.before, inl w.answers);
     known = λ probe n shut q. (w.known n shut).at probe q;
-    whole = λ kind n shut q. (w.known n shut).whole kind q;
+    whole = λ needed n shut q. (w.known n shut).whole needed q;
     only = λ n. elim (at_or_behind n k) [ inl l ↦ inr (before_less depth old k w.before n l) | inr l ↦ inl (w.behind n (omega (arith, l))) ];
     details = w.details;
     read = all_of (IsReadBy depth) now.known read_all;

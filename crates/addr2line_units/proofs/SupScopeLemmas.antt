@@ -1,14 +1,15 @@
 -- The units that references lead to in a context, and what is cached of their entries at first (on
 -- specs/UnitsIndexLaws.antt, specs/FramesLookup.antt and specs/UnitsCached.antt).
-use Rattle.addr2line_units.proofs.Common.{◌≡◌, ◌∙◌, ap, sym, refl, subst, Bool, true, false, List, [], ◌∷◌, ◌++◌, filter_map, map, Option, Some, None, option_map, IfSome, Result, Ok, Err, if◌then◌else◌, DwLang, Error, Range, Costed, free, ◌>>=◌, result_map, UnitHeaderFields, Sections, SupSections, UnitRecord, unit_record_of, all_headers, read_all, AreInOrder, IsFileInOrder, IsScope, Scope, UnitArange, CachedUnit, HaveLinesOf, indexed_units, main_scope, AreFreshOf, HaveCachesOf, answers_in, by_abbreviations, units_of, aranges_in, indexed_of, unit_records, RangedUnit, listed_in_unit, is_type_unit, ranged_units, unit_ranges_from, unit_of_header, unless_faulty, FirstAnswers}
+use Rattle.addr2line_units.proofs.Common.{◌≡◌, ◌∙◌, ap, sym, refl, subst, Bool, true, false, List, [], ◌∷◌, ◌++◌, filter_map, map, Option, Some, None, option_map, IfSome, Result, Ok, Err, if◌then◌else◌, DwLang, Error, Range, Costed, free, ◌>>=◌, result_map, UnitHeaderFields, Sections, SupSections, UnitRecord, unit_record_of, all_headers, read_all, AreInOrder, IsFileInOrder, IsScope, Scope, UnitArange, CachedUnit, HaveLinesOf, indexed_units, main_scope, AreFreshOf, HaveCachesOf, answers_in, by_abbreviations, units_of, aranges_in, indexed_of, unit_records, RangedUnit, listed_in_unit, is_type_unit, ranged_units, unit_ranges_from, unit_of_header, unless_faulty, FirstAnswers, sup_sections}
 use Rattle.std.specs.Prelude.{option_to_list}
 use Rattle.std.specs.Result.{result_ok}
 use Rattle.gimli.proofs.HeaderOrder.{headers_in_order}
 use Rattle.addr2line_lines.proofs.UnitOrder.{kept_in_order, record_header, units_read}
-use Rattle.addr2line_units.specs.UnitsIndex.{UnitIndex, index_units, sup_sections, sup_unit_of_header, sup_units}
+use Rattle.addr2line_units.specs.UnitsIndex.{UnitIndex, index_units, sup_unit_of_header, sup_units}
 use Rattle.addr2line_lines.specs.References.{UnitInScope}
 use Rattle.addr2line_units.specs.UnitsCached.{AreOfUnit, IsFresh}
-use Rattle.addr2line_units.proofs.EntriesOwnLemmas.{fresh_are_of, no_answer}
+use Rattle.addr2line_units.proofs.EntriesOwnLemmas.{fresh_are_of}
+use Rattle.addr2line_units.proofs.UnitViewLemmas.{unchecked_has_none}
 
 -- the unit of a header has it
 module _ (d : Sections) (aranges : List UnitArange) (h : UnitHeaderFields) (x : RangedUnit) where
@@ -23,13 +24,13 @@ module _ (d : Sections) (aranges : List UnitArange) (h : UnitHeaderFields) (x : 
   of_record (Err f) e k = absurd cc
   of_record (Ok u) e k = of_given u (record_header d h u e) (listed_in_unit d aranges u) k
 
-  of_kind : (b : Bool) → (if b then free (Ok None) else by_abbreviations d h (unless_faulty d aranges (unit_record_of d h))).given ≡ Ok (Some x) → x.indexed.unit.header ≡ h
-  of_kind true k = absurd cc
-  of_kind false k = of_record (unit_record_of d h) refl k
+  by_type : (b : Bool) → (if b then free (Ok None) else by_abbreviations d h (unless_faulty d aranges (unit_record_of d h))).given ≡ Ok (Some x) → x.indexed.unit.header ≡ h
+  by_type true k = absurd cc
+  by_type false k = of_record (unit_record_of d h) refl k
 
   ranged_header : (unit_of_header d aranges h).given ≡ Ok (Some x) → x.indexed.unit.header ≡ h
   unfolding unit_of_header
-  ranged_header k = of_kind (is_type_unit h.unit_type) k
+  ranged_header k = by_type (is_type_unit h.unit_type) k
 
 -- so has one of a supplementary file
 sup_header : (d : Sections) (h : UnitHeaderFields) (u : UnitRecord) → (sup_unit_of_header d h).given ≡ Ok (Some u) → u.header ≡ h
@@ -154,7 +155,7 @@ no_answers [] [] fresh = refl
 no_answers [] (v ∷ vs) fresh = absurd fresh
 no_answers (u ∷ us) [] fresh = absurd fresh
 no_answers (u ∷ us) (v ∷ vs) fresh =
-    ap (λ (a : Option (Option Sections)). a ∷ answers_in vs) (no_answer v.entries.view.state fresh.0.entries.view)
+    ap (λ (a : Option (Option Sections)). a ∷ answers_in vs) (unchecked_has_none v.entries.view.state fresh.0.entries.view)
     ∙ ap (λ (xs : FirstAnswers). None ∷ xs) (no_answers us vs fresh.1)
 
 -- one more unit that wasn't looked at

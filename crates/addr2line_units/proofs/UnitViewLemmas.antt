@@ -236,7 +236,7 @@ verdict_or_is {R} d u v h = by v.state h.verdict
     by (states.Unnamed x) e = e
     by (states.Answered a) e = e
 
-unchecked_has_none : {R : Type 0} (s : ViewState R) → was_checked s ≡ false → answer_in s ≡ None
+pub unchecked_has_none : {R : Type 0} (s : ViewState R) → was_checked s ≡ false → answer_in s ≡ None
 unchecked_has_none states.Undecided e = refl
 unchecked_has_none states.Open e = refl
 unchecked_has_none states.Main e = refl

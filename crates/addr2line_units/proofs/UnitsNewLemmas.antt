@@ -1,12 +1,12 @@
 -- The units of a context as they are read (on specs/UnitsState.antt and specs/UnitsStored.antt).
-use Rattle.addr2line_units.proofs.Common.{◌≡◌, List, [], ◌∷◌, map, Option, Some, None, option_map, option_to_list, IfOk, Result, Ok, Err, refl, sym, ap, subst, ◌∙◌, Error, ◌>>=◌, Sections, SupSections, UnitRecord, UnitHeaderFields, all_headers, FileRecord, IsScope, Scope, UnitArange, UnitRange, CachedUnit, indexed_units, parsed_units, HaveNewCaches, answers_in, FindsNothing, main_scope, units_of, known_in, KnownEntries, NothingKnown, IndexedUnit, RangedUnit, indexed_of, ranged_units, unit_of_header, unit_ranges_from, unit_records, AreUnits, as_units_state, aranges_in, UnitsState, first_state, new_units, FirstAnswers}
+use Rattle.addr2line_units.proofs.Common.{◌≡◌, List, [], ◌∷◌, map, Option, Some, None, option_map, option_to_list, IfOk, Result, Ok, Err, refl, sym, ap, subst, ◌∙◌, Error, ◌>>=◌, Sections, SupSections, UnitRecord, UnitHeaderFields, all_headers, FileRecord, IsScope, Scope, UnitArange, UnitRange, CachedUnit, indexed_units, parsed_units, HaveNewCaches, answers_in, FindsNothing, main_scope, units_of, known_in, KnownEntries, NothingKnown, IndexedUnit, RangedUnit, indexed_of, ranged_units, unit_of_header, unit_ranges_from, unit_records, AreUnits, as_units_state, aranges_in, UnitsState, first_state, new_units, FirstAnswers, sup_sections}
 use Rattle.addr2line_units.specs.declared.frames.FramesStop.TheVariants as stops
 use Rattle.addr2line_units.specs.declared.sup.SupUnits.{SupUnits}
 use Rattle.addr2line_units.specs.declared.units.Index.{Index}
 use Rattle.addr2line_units.specs.UnitsCached.{AddsUnitIf}
 use Rattle.addr2line_units.specs.UnitsIndexed.{IndexState, appended, as_index, index_of, index_read, with_header}
 use Rattle.addr2line_units.specs.SupScope.{scope_in}
-use Rattle.addr2line_units.specs.UnitsIndex.{UnitIndex, index_units, sup_sections, sup_units}
+use Rattle.addr2line_units.specs.UnitsIndex.{UnitIndex, index_units, sup_units}
 use Rattle.addr2line_units.proofs.UnitsLinesLemmas.{own_push}
 use Rattle.addr2line_units.proofs.EntriesKnownLemmas.{nothing_known}
 use Rattle.addr2line_units.proofs.SupScopeLemmas.{fresh_caches, fresh_push, main_scope_in_order, no_answers, records_beside}

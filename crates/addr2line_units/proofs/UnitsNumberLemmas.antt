@@ -4,7 +4,7 @@ use Rattle.addr2line_units.proofs.Common.{◌≡◌, inl, inr, ℕ, ◌<◌, Boo
 use Rattle.std.specs.Prelude.{IfSome, is_some}
 use Rattle.addr2line_units.specs.CacheAfter.{AfterAnswerIn, AfterForgettingIn, AfterNewLoadIn}
 use Rattle.addr2line_units.specs.UnitView.{SplitLoad}
-use Rattle.addr2line_units.proofs.KeptEntries.{KeepsAnswered, KeepsChecked, KeepsForgotten, KeepsListed}
+use Rattle.addr2line_units.proofs.EntriesKeeps.{KeepsAnswered, KeepsChecked, KeepsForgotten, KeepsListed}
 use Rattle.addr2line_units.proofs.UnitViewLemmas.{cached_fault}
 use Rattle.addr2line_units.specs.UnitsAfter.{AfterAnswer, AfterForget, AfterListing, AfterLoad}
 use Rattle.addr2line_units.proofs.LoadsAnswerLemmas.{answer_at, answered_if_ok, answers_if_refused, answers_set, decided_there, keeps_answered, keeps_forgotten}
@@ -35,7 +35,7 @@ module _ {R : Type 0} {scope : Scope} {held : List (CachedUnit R)} {last : Frame
       refused = tt;
       others = λ k ne. refl;
       functions = λ k. inl refl;
-      known = λ shut k. record { at = λ probe q. q; whole = λ kind q. q };
+      known = λ shut k. record { at = λ probe q. q; whole = λ needed q. q };
       same = λ one e. refl;
       not_open = λ shut. refl;
       no_memory = λ takes. tt;
@@ -48,8 +48,8 @@ module _ {R : Type 0} {scope : Scope} {held : List (CachedUnit R)} {last : Frame
       stays = refl;
       answers = λ told. sym (unknown_answer d us (answers_in held) n given none);
       begun = inl refl;
-      refused = λ ne. (refl, λ k. record { at = λ probe q. q; whole = λ kind q. q });
-      known = λ shut k. record { at = λ probe q. q; whole = λ kind q. q };
+      refused = λ ne. (refl, λ k. record { at = λ probe q. q; whole = λ needed q. q });
+      known = λ shut k. record { at = λ probe q. q; whole = λ needed q. q };
       same = λ one e. refl;
       others = λ k ne. refl;
       functions = λ k. inl refl;

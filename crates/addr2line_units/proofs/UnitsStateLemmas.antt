@@ -122,17 +122,17 @@ module _ {R : Type 0} (scope : Scope) (held : List (CachedUnit R)) where
         | inr past ↦ known_is probe entries k ∙ none_asked probe entries k (subst (λ l. l ≤ k) many past)
       ]
 
-      shut_whole : (kind : ReadingDepth) (k : ℕ) → is_open_at d us (answers_in held) n ≡ false → (k ≡ n) ⊎ (k ≢ n) → IsReadyAt kind (known_in held) k → IsReadyAt kind (known_in entries) k
-      shut_whole kind k shut (inr ne) q = subst (λ o. IfSome o (IsReadyFor kind)) (sym (known_unchanged held entries k (others k ne))) q
-      shut_whole kind k shut (inl e) q = elim (whole_is_decided kind scope us held k own (subst (λ j. is_open_at d us (answers_in held) j ≡ false) (sym e) shut) q) [
-        | inl decided ↦ subst (λ known. IsReadyAt kind known k) (sym (same_decided (subst (λ j. decided_at held j ≡ true) e decided))) q
-        | inr past ↦ none_whole kind entries k (subst (λ l. l ≤ k) many past)
+      shut_whole : (needed : ReadingDepth) (k : ℕ) → is_open_at d us (answers_in held) n ≡ false → (k ≡ n) ⊎ (k ≢ n) → IsReadyAt needed (known_in held) k → IsReadyAt needed (known_in entries) k
+      shut_whole needed k shut (inr ne) q = subst (λ o. IfSome o (IsReadyFor needed)) (sym (known_unchanged held entries k (others k ne))) q
+      shut_whole needed k shut (inl e) q = elim (whole_is_decided needed scope us held k own (subst (λ j. is_open_at d us (answers_in held) j ≡ false) (sym e) shut) q) [
+        | inl decided ↦ subst (λ known. IsReadyAt needed known k) (sym (same_decided (subst (λ j. decided_at held j ≡ true) e decided))) q
+        | inr past ↦ none_whole needed entries k (subst (λ l. l ≤ k) many past)
       ]
 
       stays_shut : is_open_at d us (answers_in held) n ≡ false → StaysKnown (known_in held) (known_in entries)
       stays_shut shut k = record {
         at = λ probe q. shut_stays probe k shut (same_or n k) q;
-        whole = λ kind q. shut_whole kind k shut (same_or n k) q;
+        whole = λ needed q. shut_whole needed k shut (same_or n k) q;
       }
 
       pub after_answer : (shares : Bool) (given : Option Sections) (result : Result (Unit {0}) Error) → OnOk result (answers_in entries ≡ with_answer d us (answers_in held) n given)

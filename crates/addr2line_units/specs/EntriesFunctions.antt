@@ -1,14 +1,13 @@
 -- What is cached of the functions of a view, as the private functions see it.
 -- Own: functions are read when they are first asked for, and cached then, their fault too; so is
 -- each detail. OutOfMemory is never cached. Absent are functions only where a view has none.
-use Rattle.std.specs.Prelude.{◌≡◌, ◌≢◌, ◌<◌, ℕ, Bool, true, false, List, [], ◌∷◌, length, map, Option, Some, None, option_map, unwrap_or, Result, Ok, Err, box_value}
+use Rattle.std.specs.Prelude.{◌≡◌, ◌≢◌, ◌<◌, ℕ, Bool, true, false, [], length, map, Option, Some, None, option_map, unwrap_or, Result, Ok, Err, box_value}
 use Rattle.std.specs.List.{AllByRecursion}
-use Rattle.addr2line_units.specs.Common.{Error, OutOfMemory, ◌>>=◌, UnitRecord, AreListed, FunctionTable, cached_detail, cached_name, function_place_at, inlined_of_detail, cached_offset_at, entries_of, functions_of, functions_take_memory, exceeds_inline_room, Scope}
+use Rattle.addr2line_units.specs.Common.{Error, OutOfMemory, ◌>>=◌, UnitRecord, AreListed, FunctionTable, cached_detail, cached_name, function_place_at, cached_offset_at, entries_of, functions_of, Scope}
 use Rattle.addr2line_lines.specs.CachedNames.{AreNamesIn, no_names}
-use Rattle.addr2line_lines.specs.Details.{Detail, detail_at}
-use Rattle.addr2line_lines.specs.InlinedChain.{inlined_chain}
+use Rattle.addr2line_lines.specs.Details.{Detail}
 use Rattle.addr2line_lines.specs.FoundInlined.{entry_among}
-use Rattle.addr2line_lines.specs.FunctionDetails.{AreDetailsOf, IsTableMore, all_read_once}
+use Rattle.addr2line_lines.specs.FunctionDetails.{AreDetailsOf, IsTableMore, details_at}
 use Rattle.addr2line_units.specs.declared.entries.FunctionPlace.{FunctionPlace}
 use Rattle.addr2line_units.specs.declared.entries.LazyFunctions.{LazyFunctions}
 use Rattle.addr2line_units.specs.declared.entries.LazyFunctions.TheVariants as lazy
@@ -83,37 +82,6 @@ abbrev pub found_in_cache : {R : Type 0} → LazyFunctions R → Option Function
     → Option FoundFunction
 found_in_cache f = option_map (function_of_place (cached_functions f))
 
--- whether memory may be taken to find a function by what is cached of it: nothing is, or there are
--- many inlined functions
-abbrev pub cached_detail_takes_memory : ℕ → Option (Result Detail Error) → Bool
-cached_detail_takes_memory probe None = true
-cached_detail_takes_memory probe (Some d) =
-    exceeds_inline_room (inlined_chain probe (inlined_of_detail d))
-
--- the same of the function of a place; where there is none no memory is taken
-abbrev pub place_takes_memory : ℕ → FunctionTable → Option ℕ → Bool
-place_takes_memory probe t None = false
-place_takes_memory probe t (Some n) = cached_detail_takes_memory probe (cached_detail t n)
-
--- the same of the function at the probe
-abbrev pub table_takes_memory : ℕ → FunctionTable → Bool
-table_takes_memory probe t = place_takes_memory probe t (function_place_at probe t)
-
--- whether memory may be taken for the functions of a view, where they weren't read, or for
--- something of those that are cached
-abbrev pub cached_takes_memory : {R : Type 0} → Bool → Scope → UnitRecord → (FunctionTable → Bool)
-    → LazyFunctions R → Bool
-cached_takes_memory shares scope view takes lazy.Unread =
-    functions_take_memory shares scope.file.sections view
-cached_takes_memory shares scope view takes (lazy.Read t) = takes (box_value t)
-cached_takes_memory shares scope view takes _ = false
-
--- the same to find the function at the probe
-abbrev pub find_takes_memory : {R : Type 0} → Bool → Scope → UnitRecord → ℕ → LazyFunctions R
-    → Bool
-find_takes_memory shares scope view probe f =
-    cached_takes_memory shares scope view (table_takes_memory probe) f
-
 -- whether a fault is one that is cached: any but OutOfMemory
 abbrev pub is_cached_fault : Error → Bool
 is_cached_fault OutOfMemory = false
@@ -141,18 +109,7 @@ cached_has_function probe lazy.Absent = true
 cached_has_function probe (lazy.Read t) = has_table probe (box_value t)
 cached_has_function probe (lazy.Faulty e) = is_cached_fault e
 
--- the first fault among the details of functions, by where their entries begin
-abbrev pub details_at : Scope → UnitRecord → List ℕ → Result (Unit {0}) Error
-details_at scope view [] = Ok tt
-details_at scope view (offset ∷ offsets) =
-    detail_at scope view offset >>= λ _. details_at scope view offsets
-
 -- the first fault of the functions of a view, and among the details of these
 abbrev pub functions_fault : Scope → UnitRecord → Result (Unit {0}) Error
 functions_fault scope view = functions_of scope.file.sections view >>= λ ranges.
     details_at scope view (entries_of ranges)
-
--- whether memory may be taken to read the functions of a view with all details
-abbrev pub reading_takes_memory : {R : Type 0} → Bool → Scope → UnitRecord → LazyFunctions R → Bool
-reading_takes_memory shares scope view f = cached_takes_memory shares scope view
-    (λ (t : FunctionTable). (all_read_once scope view t.functions).takes_memory shares) f

@@ -3,7 +3,7 @@
 -- alone: the first that waits for an answer, that has a fault, or that has frames ends the lookup.
 -- A lookup of a unit passes over each unit with a fault.
 use Rattle.std.specs.Prelude.{ℕ, Bool, true, false, List, [], ◌∷◌, set, slice_get, Option, Some, None, option_and_then, option_map, unwrap_or, Result, Ok, Err}
-use Rattle.addr2line_units.specs.Common.{Error, ◌>>=◌, Sections, UnitRecord, InlinedEntry, Location, Scope}
+use Rattle.addr2line_units.specs.Common.{Error, ◌>>=◌, Sections, UnitRecord, InlinedEntry, Location, Scope, sup_sections}
 use Rattle.addr2line_units.specs.declared.frames.Asks.{Asks}
 use Rattle.addr2line_units.specs.declared.frames.Asks.TheVariants as lookups
 use Rattle.addr2line_units.specs.declared.index.UnitRange.{UnitRange}
@@ -14,7 +14,7 @@ use Rattle.addr2line_units.specs.IndexCover.{ComesTo, holds_until}
 use Rattle.addr2line_units.specs.Frames.{FrameRecord, location_frames}
 use Rattle.addr2line_units.specs.Locations.{location_in}
 use Rattle.addr2line_units.specs.EntriesFrames.{FramesResult, asks_lines_in, frames_in, inlined_of_unit, function_offset_in}
-use Rattle.addr2line_units.specs.UnitsIndex.{UnitIndex, sup_sections}
+use Rattle.addr2line_units.specs.UnitsIndex.{UnitIndex}
 use Rattle.addr2line_units.specs.UnitsRanged.{IndexedUnit, unit_records}
 use Rattle.addr2line_units.specs.UnitView.{FirstAnswers, View, decided_answer, parts_of, verdict}
 

@@ -6,8 +6,7 @@
 -- Own: in the supplementary file every unit whose record can be read counts.
 use Rattle.std.specs.Prelude.{List, [], map, Option, Some, None, Result, Ok}
 use Rattle.std.specs.Result.{result_ok}
-use Rattle.addr2line_units.specs.Common.{Error, ◌>>=◌, Costed, free, UnitHeaderFields, Sections, SupSections, UnitRecord, unit_record_of, all_headers}
-use Rattle.gimli.specs.declared.dwarf.DwarfFileType.TheVariants.{Main}
+use Rattle.addr2line_units.specs.Common.{Error, ◌>>=◌, Costed, free, UnitHeaderFields, Sections, SupSections, sup_sections, UnitRecord, unit_record_of, all_headers}
 use Rattle.addr2line_units.specs.declared.index.UnitRange.{UnitRange}
 use Rattle.addr2line_units.specs.UnitsOfHeaders.{by_abbreviations, units_of}
 use Rattle.addr2line_units.specs.UnitsRanged.{IndexedUnit, indexed_of, unit_ranges_from, ranged_units}

@@ -1,8 +1,8 @@
 //! The units of a supplementary file.
 
 ghost use Rattle.std.specs.Prelude.{◌≡◌, ◌++◌, [], IfErr, IfOk, None, Ok, option_map};
-ghost use Rattle.addr2line_units.specs.Common.{OutOfMemory, ExactlyAtCost, ExactlyUnlessOomIf, all_headers};
-ghost use Rattle.addr2line_units.specs.UnitsIndex.{sup_sections, sup_unit_of_header, sup_read};
+ghost use Rattle.addr2line_units.specs.Common.{OutOfMemory, ExactlyAtCost, ExactlyUnlessOomIf, all_headers, sup_sections};
+ghost use Rattle.addr2line_units.specs.UnitsIndex.{sup_unit_of_header, sup_read};
 ghost use Rattle.addr2line_units.specs.UnitsOfHeaders.{put_to, units_of};
 
 use gimli::read::{Error, Reader};

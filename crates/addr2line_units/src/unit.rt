@@ -174,7 +174,6 @@ fn is_uncached(lines: &LazyLines) -> bool
 fn sequence_ranges(alloc: Global, lines: &LazyLines) -> Result<Vec<Range>, Error>
     ensures gives { ExactlyUnlessOomIf (nat_lt 0 (length (cached_ranges lines.now)))
         (λ v. v.items) result (Ok (cached_ranges lines.now)) }
-    ensures refused { IfErr result (λ e. e ≡ OutOfMemory) }
 {
     let mut ranges = Vec::new(alloc);
     let LazyLines::Read(lines) = lines else {
@@ -204,7 +203,6 @@ pub(crate) fn lines_and_ranges<R: Reader>(
     ensures read { IfOk result (λ x. AreLinesOf dwarf.now dw_unit.now x.0.lines) }
     ensures known { IfOk result (λ x. is_parsed x.0
         ≡ has_lines (as_ranged_unit dw_unit.now lang listed.items)) }
-    ensures refused { IfErr result (λ e. e ≡ OutOfMemory) }
     ensures exact { asks_lines (as_ranged_unit dw_unit.now lang listed.items) ≡ false
         → IsOk result }
 {
@@ -237,10 +235,9 @@ impl LinesCache {
         dwarf: &Dwarf<R>,
         dw_unit: &Unit<R>,
     ) -> Result<(), Error>
-        ensures gives { OnOk result (cached_lines_result self.new.lines
-            ≡ lines_result_or dwarf.now dw_unit.now self.old.lines) }
+        ensures gives { ExactlyUnlessOom (λ _. cached_lines_result self.new.lines) result
+            (Ok (lines_result_or dwarf.now dw_unit.now self.old.lines)) }
         ensures after { AfterLinesOf R.shares dwarf.now dw_unit.now result self.old self.new }
-        ensures refused { IfErr result (λ e. e ≡ OutOfMemory) }
     {
         if is_uncached(&self.lines) {
             self.lines = parse_lines(alloc, dwarf, dw_unit)?;

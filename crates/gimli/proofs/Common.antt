@@ -31,7 +31,7 @@ pub use Rattle.gimli.specs.AttributeSinks.{IsTakenIn, SaysNothingElse, or_fault}
 pub use Rattle.gimli.specs.CachedTables.{CachedTables, cached_unit_takes_memory, is_cached}
 pub use Rattle.gimli.specs.Entry.{EntryUnit, depth_after_closing, depth_after_entry, known_abbreviation, root_specifications}
 unfoldable pub use Rattle.gimli.specs.Entry.{entry_code_at, root_attributes}
-pub use Rattle.gimli.specs.EntryCursor.{EntryCursor, IsInUnit, depth_after_code, depth_after_next, entries_from, items_left, next_offset_of}
+pub use Rattle.gimli.specs.EntryCursor.{EntryCursor, IsInUnit, depth_after_code, depth_after_next, entries_from, items_left}
 unfoldable pub use Rattle.gimli.specs.EntryCursor.{entry_abbreviation_at, next_item_at}
 pub use Rattle.gimli.specs.Header.{UnitHeaderFields, dwo_id_at, signature_at, type_fields_at, unit_type_of}
 unfoldable pub use Rattle.gimli.specs.Header.{fields_4_at, fields_5_at, header_fields_at, next_header_at, unit_header_at, unit_type_at}

@@ -1,5 +1,5 @@
 -- What is read at a place is what is read of its bytes, at its depth (on specs/EntryCursor.antt).
-use Rattle.gimli.proofs.Common.{◌≡◌, ℕ, ◌==◌, Bool, true, false, cond, List, length, Option, Some, None, Result, Ok, Err, refl, sym, ap, ◌∙◌, ℤ, Error, UnknownAbbreviation, Section, Reading, ◌>>=◌, uleb128_at, Abbrev, with_code, NamedValue, attributes_at, EntryUnit, depth_after_entry, depth_after_closing, entry_code_at, known_abbreviation, EntryCursor, depth_after_code, depth_after_next, entry_abbreviation_at, next_item_at, next_offset_of, Entry, Item, entry_of_code, item_at}
+use Rattle.gimli.proofs.Common.{◌≡◌, ℕ, ◌==◌, Bool, true, false, cond, List, length, Option, Some, None, Result, Ok, Err, refl, sym, ap, ◌∙◌, ℤ, Error, UnknownAbbreviation, Section, Reading, ◌>>=◌, uleb128_at, Abbrev, with_code, NamedValue, attributes_at, EntryUnit, depth_after_entry, depth_after_closing, entry_code_at, known_abbreviation, EntryCursor, depth_after_code, depth_after_next, entry_abbreviation_at, next_item_at, Entry, Item, entry_of_code, item_at, offset_of}
 
 -- the abbreviation of a code, where the table has it, and the place after it
 abbrev pub opening_entry : Option Abbrev → EntryCursor → Result (Option Abbrev × EntryCursor) Error
@@ -50,7 +50,7 @@ code_refused table c e h = at (entry_code_at table c.left) h
 
 -- an item that begins at a place
 abbrev pub item_here : EntryUnit → EntryCursor → Option Entry → Item
-item_here unit start entry = record { offset = next_offset_of unit start; depth = start.depth; entry = entry }
+item_here unit start entry = record { offset = offset_of unit start.left; depth = start.depth; entry = entry }
 
 -- the item whose code is read: a closing entry, or an entry, whose attributes follow
 abbrev pub item_from : EntryUnit → EntryCursor → Option Abbrev × EntryCursor → Result (Option Item × EntryCursor) Error

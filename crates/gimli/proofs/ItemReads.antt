@@ -1,5 +1,5 @@
 -- Each list of items whose texts are the bytes is what is read (on specs/ItemLaws.antt).
-use Rattle.gimli.proofs.Common.{◌≡◌, ◌≢◌, ℕ, zero, suc, add-one, ◌+◌, ◌<◌, ◌≤◌, ◌==◌, cond, List, [], ◌∷◌, ◌++◌, length, Option, Some, None, Result, Ok, Err, refl, sym, ap, subst, ◌∙◌, arith, ℤ, length-append, append_assoc, IsOk, ne_eqb, Error, Encoding, Section, Reading, ◌>>=◌, IsUleb128, uleb128_at, Abbrev, Specification, with_code, NamedValue, attribute_at, attributes_at, Run, cons, EntryUnit, depth_after_entry, depth_after_closing, Entry, Item, depth_after, depth_behind, item_at, items_after, items_from, items_within, EntryCursor, entry_abbreviation_at, items_left, next_item_at, next_offset_of, AreAttributes, IsEntryText, AreItems, ItemsAlone}
+use Rattle.gimli.proofs.Common.{◌≡◌, ◌≢◌, ℕ, zero, suc, add-one, ◌+◌, ◌<◌, ◌≤◌, ◌==◌, cond, List, [], ◌∷◌, ◌++◌, length, Option, Some, None, Result, Ok, Err, refl, sym, ap, subst, ◌∙◌, arith, ℤ, length-append, append_assoc, IsOk, ne_eqb, Error, Encoding, Section, Reading, ◌>>=◌, IsUleb128, uleb128_at, Abbrev, Specification, with_code, NamedValue, attribute_at, attributes_at, Run, cons, EntryUnit, depth_after_entry, depth_after_closing, Entry, Item, depth_after, depth_behind, item_at, items_after, items_from, items_within, EntryCursor, entry_abbreviation_at, items_left, next_item_at, AreAttributes, IsEntryText, AreItems, ItemsAlone, offset_of}
 use Rattle.gimli_read.specs.declared.endian.RunTimeEndian.{RunTimeEndian}
 use Rattle.gimli_read.specs.Value.{section_of}
 use Rattle.gimli_read.proofs.Leb128Texts.{uleb128_reads}
@@ -111,7 +111,7 @@ item_read unit order depth text rest o h = next_coded unit c some ∙ at o h
 empty_ends : (unit : EntryUnit) (c : EntryCursor) → c.left.bytes ≡ [] → next_item_at unit c ≡ Ok (None, c)
 empty_ends unit c h = item_is unit c ∙ ap (λ (xs : List ℕ). cond (length xs == 0) (Ok (None, c)) (entry_abbreviation_at unit.abbreviations c >>= λ x. item_from unit c x)) h
 
-alone_at : (unit : EntryUnit) (c : EntryCursor) (items : List Item) → length c.left.bytes ≤ unit.length → AreItems unit c.left.endian (next_offset_of unit c) c.depth items c.left.bytes
+alone_at : (unit : EntryUnit) (c : EntryCursor) (items : List Item) → length c.left.bytes ≤ unit.length → AreItems unit c.left.endian (offset_of unit c.left) c.depth items c.left.bytes
     → ((items_left unit c).items ≡ items) × IsOk (items_left unit c).end
 alone_at unit c [] l h = let e = items_end unit c c (empty_ends unit c h) in (ap (λ r. r.items) e, subst (λ (r : Run Item Section). IsOk r.end) (sym e) refl)
 alone_at unit c (x ∷ xs) l h =
@@ -127,7 +127,7 @@ alone_at unit c (x ∷ xs) l h =
     let whole : length c.left.bytes ≡ length (h.0 ++ h.1) = ap (λ (bs : List ℕ). length bs) h.2 in
     let long = length-append h.0 h.1 in
     let within : length h.1 ≤ unit.length = omega (arith, l, whole, long) in
-    let next : next_offset_of unit c + length h.0 ≡ next_offset_of unit d = omega (arith, l, whole, long) in
+    let next : offset_of unit c.left + length h.0 ≡ offset_of unit d.left = omega (arith, l, whole, long) in
     let rest = subst (λ (n : ℕ). AreItems unit c.left.endian n (depth_after x) xs h.1) next h.6 in
     let ih = alone_at unit d xs within rest in
     let e = items_more unit c d x read in

@@ -1,5 +1,5 @@
 -- The texts of items, one after another (on specs/ItemLaws.antt).
-use Rattle.gimli.proofs.Common.{◌≡◌, ℕ, zero, suc, ◌+◌, ◌≤◌, ◌==◌, Bool, true, false, cond, List, [], ◌∷◌, ◌++◌, length, IfOk, Option, Some, None, Result, Ok, Err, refl, sym, ap, subst, ◌∙◌, arith, length-append, append_assoc, ℤ, eqb-true, eqb-false, nil_from_length, Error, Encoding, Section, Reading, ◌>>=◌, IsUleb128, uleb128_in, uleb128_at, Abbrev, Specification, with_code, NamedValue, attribute_at, attributes_at, bind_ok, same_rest, same_value, EntryUnit, depth_after_entry, depth_after_closing, Item, depth_after, item_at, items_after, items_within, offset_of, EntryCursor, entry_abbreviation_at, next_item_at, next_offset_of, AreAttributes, IsEntryText, AreItems, ItemsCover}
+use Rattle.gimli.proofs.Common.{◌≡◌, ℕ, zero, suc, ◌+◌, ◌≤◌, ◌==◌, Bool, true, false, cond, List, [], ◌∷◌, ◌++◌, length, IfOk, Option, Some, None, Result, Ok, Err, refl, sym, ap, subst, ◌∙◌, arith, length-append, append_assoc, ℤ, eqb-true, eqb-false, nil_from_length, Error, Encoding, Section, Reading, ◌>>=◌, IsUleb128, uleb128_in, uleb128_at, Abbrev, Specification, with_code, NamedValue, attribute_at, attributes_at, bind_ok, same_rest, same_value, EntryUnit, depth_after_entry, depth_after_closing, Item, depth_after, item_at, items_after, items_within, offset_of, EntryCursor, entry_abbreviation_at, next_item_at, AreAttributes, IsEntryText, AreItems, ItemsCover}
 use Rattle.gimli_read.specs.Value.{section_of}
 use Rattle.gimli_read.specs.ValueLaws.{IsTextAndRest}
 use Rattle.gimli_read.proofs.Leb128Texts.{uleb128_alone}
@@ -39,7 +39,7 @@ pub record IsItemText (unit : EntryUnit) (start following : EntryCursor) (x : It
   pub text : List ℕ
   pub is : IsEntryText unit start.left.endian x.entry text
   pub rest : IsTextAndRest start.left text following.left
-  pub offset : x.offset ≡ next_offset_of unit start
+  pub offset : x.offset ≡ offset_of unit start.left
   pub depth : x.depth ≡ start.depth
   pub after : following.depth ≡ depth_after x
 

@@ -6,7 +6,7 @@ use Rattle.gimli.specs.Common.{Error, Abbrev, ◌>>=◌, Run, Section}
 use Rattle.gimli.specs.Entries.{entry_bytes_from, entry_unit}
 use Rattle.gimli.specs.Entry.{EntryUnit, depth_after_entry, depth_after_closing, entry_code_at}
 use Rattle.gimli.specs.Header.{UnitHeaderFields}
-use Rattle.gimli.specs.Items.{Item, depth_after, item_at, items_from, offset_of}
+use Rattle.gimli.specs.Items.{Item, depth_after, item_at, items_from}
 use Rattle.gimli.specs.Unit.{UnitRecord}
 
 -- the bytes that are left of a unit's entries, and the depth of the next item: how many entries
@@ -35,10 +35,6 @@ unfoldable pub entry_abbreviation_at : List Abbrev → EntryCursor
     → Result (Option Abbrev × EntryCursor) Error
 entry_abbreviation_at table cursor = entry_code_at table cursor.left >>= λ code.
     Ok (code.0, record { left = code.1; depth = depth_after_code code.0 cursor.depth })
-
--- where the next item begins
-abbrev pub next_offset_of : EntryUnit → EntryCursor → ℕ
-next_offset_of unit cursor = offset_of unit cursor.left
 
 -- the depth after the next item, if there is one
 abbrev pub depth_after_next : Option Item → ℤ → ℤ

@@ -7,11 +7,12 @@ pub use Rattle.std.proofs.lemmas.Result.{err_from_is_err_and}
 pub use Rattle.gimli_read.proofs.AbbrevLemmas.{IsBegun, begun_by}
 pub use Rattle.gimli_read.proofs.Shorter.{Shorter, TakesBytes, fixed-shorter, shorter_bind, shorter_by, shorter_err, shorter_if, shorter_ok, shorter_then, shorter_weaker, sleb128-shorter, split-shorter, takes_by, uleb128-shorter}
 pub use Rattle.gimli_read.proofs.Steps.{done, guard_ok}
+pub use Rattle.gimli_read.proofs.RunLemmas.{with_front}
 pub use Rattle.gimli_read.specs.Form.{as_value}
 unfoldable pub use Rattle.gimli_read.specs.Form.{value_at}
 pub use Rattle.gimli_read.specs.Number.{ended_at, fits_i64, fixed_at, is_address_size, null_terminated_at, number_of, skipped_at}
 pub use Rattle.gimli_read.specs.Reading.{Exactly, Reading, fault_of, mapped, ◌>>=◌}
-pub use Rattle.gimli_read.specs.Run.{Run, collected, run_of, with_front}
+pub use Rattle.gimli_read.specs.Run.{Run, collected, run_of}
 pub use Rattle.gimli_read.specs.Section.{Section, after}
 pub use Rattle.gimli_read.specs.declared.error.Error.{Error}
 pub use Rattle.gimli_read.specs.declared.error.Error.TheVariants.{AddressOverflow, BadLineHeader, UnexpectedEof, UnknownVersion, UnsupportedAddressSize, UnsupportedSegmentSize}

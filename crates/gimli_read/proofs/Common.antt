@@ -18,7 +18,7 @@ unfoldable pub use Rattle.gimli_read.specs.Leb128.{sleb128_in, sum_from, uleb128
 pub use Rattle.gimli_read.specs.Number.{address_at, ended_at, fits_i64, fits_u64, fixed_at, is_address_size, null_terminated_at, number_of, offset_at, offset_size, signed_byte_at, skipped_at, split_at}
 unfoldable pub use Rattle.gimli_read.specs.Number.{address_size_at, initial_length_at, long_length_at}
 pub use Rattle.gimli_read.specs.Reading.{Exactly, ExactlyUnlessOom, ExactlyUnlessOomIf, Reading, WasNotRefused, fault_of, mapped, refused_if, result_map, ◌>>=◌}
-pub use Rattle.gimli_read.specs.Run.{More, Next, Run, Stop, collected, cons, continued, fold_of, listed, next_of, run_of, with_front}
+pub use Rattle.gimli_read.specs.Run.{More, Next, Run, Stop, collected, cons, continued, fold_of, listed, next_of, run_of}
 unfoldable pub use Rattle.gimli_read.specs.Run.{fold_run, listed_with, run_within}
 pub use Rattle.gimli_read.specs.Section.{Section, after, first}
 pub use Rattle.gimli_read.specs.Value.{IsAddress, IsAddressOrOffset, IsAttributeValue, IsBlock, IsEnded, IsFixed, IsIndirectValue, IsListedValue, IsMadeOf, IsOffset, IsValue, high_first, low_first, number_in, section_of}

@@ -1,6 +1,11 @@
 -- Runs, one step at a time (on specs/Run.antt).
-use Rattle.gimli_read.proofs.Common.{◌≡◌, ℕ, zero, suc, ◌+◌, ◌<◌, List, [], ◌∷◌, ◌++◌, length, Option, Some, None, Result, Ok, Err, refl, sym, ap, ◌∙◌, arith, append_assoc, add-one, Error, Section, Reading, ◌>>=◌, Run, Next, More, Stop, next_of, cons, continued, run_within, run_of, collected, with_front, fold_run, fold_of}
+use Rattle.gimli_read.proofs.Common.{◌≡◌, ℕ, zero, suc, ◌+◌, ◌<◌, List, [], ◌∷◌, ◌++◌, length, Option, Some, None, Result, Ok, Err, refl, sym, ap, ◌∙◌, arith, append_assoc, add-one, Error, Section, Reading, ◌>>=◌, Run, Next, More, Stop, next_of, cons, continued, run_within, run_of, collected, fold_run, fold_of}
 use Rattle.gimli_read.proofs.Shorter.{TakesBytes, shorter_by, Shorter}
+
+-- what was collected, after what stands in front of it
+abbrev pub with_front : {X Z : Type 0} → List X → Result (List X × Z) Error
+    → Result (List X × Z) Error
+with_front front r = r >>= λ x. Ok (front ++ x.0, x.1)
 
 -- a step that goes on leaves less
 abbrev pub Shrinks : {X S Z : Type 0} → (S → Next X S Z) → (S → ℕ) → Type 0

@@ -1,6 +1,6 @@
 -- Runs: what is read part by part, up to the end or the first fault.
 -- Own: a run keeps the parts before its fault, since they count where the fault is never met.
-use Rattle.std.specs.Prelude.{ℕ, zero, suc, ◌+◌, ◌++◌, length, List, [], ◌∷◌, Option, Some, None, Result, Ok, Err}
+use Rattle.std.specs.Prelude.{ℕ, zero, suc, ◌+◌, length, List, [], ◌∷◌, Option, Some, None, Result, Ok, Err}
 use Rattle.gimli_read.specs.declared.error.Error.{Error}
 use Rattle.gimli_read.specs.declared.error.Error.TheVariants.{UnexpectedEof}
 use Rattle.gimli_read.specs.Section.{Section}
@@ -49,11 +49,6 @@ collected r = r.end >>= λ z. Ok (r.items, z)
 -- the run of a reading of which each part takes a byte at least
 abbrev pub run_of : {X : Type 0} → (Section → Reading (Option X)) → Section → Run X Section
 run_of part s = run_within (λ t. next_of (part t)) (length s.bytes + 1) s
-
--- what was collected, after what stands in front of it
-abbrev pub with_front : {X Z : Type 0} → List X → Result (List X × Z) Error
-    → Result (List X × Z) Error
-with_front front r = r >>= λ x. Ok (front ++ x.0, x.1)
 
 -- each part of a run in turn, and then what stands after it
 abbrev pub fold_of : {X Z A : Type 0} → (A → X → Result A Error) → A → Run X Z

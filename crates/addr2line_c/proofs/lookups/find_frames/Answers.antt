@@ -1,5 +1,5 @@
 use Rattle.addr2line_c.proofs.Common.{rules, ◌∙◌, ap, inl, inr, refl, Waits, status_of_error}
-use Rattle.addr2line_c.proofs.LeftLemmas.{frames_had_memory, leaves_frames, leaves_waiting}
+use Rattle.addr2line_c.proofs.LeftLemmas.{frames_not_refused, leaves_frames, leaves_waiting}
 use Rattle.addr2line_c.proofs.lookups.find_frames.Goals as goal
 
 pub returns-in-Output-clause-left : goal.returns-in-Output-clause-left
@@ -7,7 +7,7 @@ returns-in-Output-clause-left g c = leaves_frames g.R.Reader.shares c.args.probe
 
 pub returns-in-Output-clause-memory : goal.returns-in-Output-clause-memory
 returns-in-Output-clause-memory g c = λ raw ended few.
-    frames_had_memory g.R.Reader.shares c.args.probe _ c.put_found_frames.result c.in-Output.found c.args.context.now c.find_frames.follows.lender-at-none (c.put_found_frames.ensures.memory raw) (search rules) ended few
+    frames_not_refused g.R.Reader.shares c.args.probe _ c.put_found_frames.result c.in-Output.found c.args.context.now c.find_frames.follows.lender-at-none (c.put_found_frames.ensures.memory raw) (search rules) ended few
 
 pub returns-in-Ok-clause-left : goal.returns-in-Ok-clause-left
 returns-in-Ok-clause-left g c = leaves_waiting c.args.probe _ Waits c.args.context.now _ c.in-Load.continuation.ctx.now (inr refl) (search rules) c.in-Load.ensures.left.2.after

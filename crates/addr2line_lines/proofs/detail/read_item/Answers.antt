@@ -1,13 +1,14 @@
-use Rattle.addr2line_lines.proofs.Common.{◌&&◌, ℤ, List, Ok, Result, false, is_ok, subst, sym, ap, ◌∙◌, err_from_is_err_and, ◌>>=◌, Section, EntryCursor, next_offset_of, Kind, as_scope, FoundInlined, as_lists, or_right}
+use Rattle.addr2line_lines.proofs.Common.{◌&&◌, ℤ, List, Ok, Result, false, is_ok, subst, sym, ap, ◌∙◌, err_from_is_err_and, ◌>>=◌, Section, EntryCursor, Kind, as_scope, FoundInlined, as_lists, or_right, offset_of}
 use Rattle.gimli_read.specs.declared.error.Error.{Error as Fault}
 use Rattle.addr2line_lines.specs.CostedSteps.{then_room_if}
 use Rattle.addr2line_lines.specs.FoundItems.{FoundAround, entry_found_at, item_found_at, as_around}
 use Rattle.addr2line_lines.specs.OpenEntries.{kind_of, opened}
 use Rattle.addr2line_lines.proofs.CachedNameLemmas.{names_same}
 use Rattle.addr2line_lines.proofs.CostLemmas.{IsPartOf, map_part, part_on, refused_part, rest_part, room_part}
-use Rattle.addr2line_lines.proofs.NestingLemmas.{after_entry, code-fault, entered, entry-shorter, found_same, item-closing, item-entry, item-shorter}
+use Rattle.addr2line_lines.proofs.NestingLemmas.{after_entry, code-fault, entered, entry-shorter, found_same, item-closing, item-entry}
 use Rattle.addr2line_lines.proofs.RangeLemmas.{on_ok}
 use Rattle.addr2line_lines.proofs.detail.read_item.Goals as goal
+use Rattle.addr2line_lines.proofs.FunctionLemmas.{closing_shorter}
 
 pub returns-in_err-read_abbreviation-clause-gives : goal.returns-in_err-read_abbreviation-clause-gives
 returns-in_err-read_abbreviation-clause-gives g c =
@@ -30,7 +31,7 @@ returns-in_err-read_entry-in-Some-clause-gives g c =
     let t = c.read_abbreviation.new.self.cursor in
     let code = rw c.in-Some.is at c.in_ok-read_abbreviation.ensures.gives in
     let rest = item-entry scope u unit start t state a (sym c.requires.encoding) code in
-    let entry = entry_found_at scope u around (next_offset_of unit start) a t.left lists in
+    let entry = entry_found_at scope u around (offset_of unit start.left) a t.left lists in
     let part = part_on (room_part a.has_children entry) (part_on (map_part (after_entry scope u unit state a t) (then_room_if a.has_children entry)) (rest_part rest)) in
     rw (p.1, p.2) (refused_part g.R.Reader.shares _ (subst (λ o. IsPartOf (entry_found_at scope u around o a t.left lists) (item_found_at scope u unit start state)) (sym c.next_offset-offset.ensures.gives) part) c.in_err-read_entry-in-Some.ensures.gives)
 
@@ -48,7 +49,7 @@ returns-in-None-clause-gives g c =
     item-closing scope u unit start t state (rw c.in-None.is at c.in_ok-read_abbreviation.ensures.gives) ∙ ap (λ k. Ok (made k)) (sym c.close.ensures.gives)
 
 pub returns-in-None-clause-shorter : goal.returns-in-None-clause-shorter
-returns-in-None-clause-shorter g c = item-shorter (as_scope c.args.scope) c.args.unit.now c.args.entries.now.unit _ _ (rw c.in-None.is at c.in_ok-read_abbreviation.ensures.gives)
+returns-in-None-clause-shorter g c = closing_shorter (as_scope c.args.scope).file.sections c.args.unit.now c.args.entries.now.unit _ _ (rw c.in-None.is at c.in_ok-read_abbreviation.ensures.gives)
 
 pub returns-in_ok-read_entry-in-Some-clause-gives : goal.returns-in_ok-read_entry-in-Some-clause-gives
 returns-in_ok-read_entry-in-Some-clause-gives g c =
@@ -67,7 +68,7 @@ returns-in_ok-read_entry-in-Some-clause-gives g c =
     let end = c.read_entry.new.entries.cursor in
     let at : List Kind → ℤ → FoundAround × EntryCursor = λ k z. (record { found = more; around = k }, record { left = end.left; depth = z }) in
     let made : List Kind → FoundAround × EntryCursor = λ k. (record { found = more; around = k }, end) in
-    let entry = entry_found_at scope u around (next_offset_of unit start) a t.left lists in
+    let entry = entry_found_at scope u around (offset_of unit start.left) a t.left lists in
     let found = ap (λ o. (entry_found_at scope u around o a t.left lists).given) (sym c.next_offset-offset.ensures.gives) ∙ c.in_ok-read_entry-in-Some.ensures.gives in
     entered _ c.has_children.result c.enter.result made c.enter.new.self (opened c.kind_of.result c.has_children.result around) _
     (λ opens. or_right g.R.Reader.shares _ (rest.takes false (or_right (entry.takes_memory false) _ (ap (λ r. is_ok r && a.has_children) found ∙ sym c.has_children.ensures.gives ∙ opens))))

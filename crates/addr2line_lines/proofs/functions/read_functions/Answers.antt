@@ -1,5 +1,5 @@
-use Rattle.addr2line_lines.proofs.Common.{sym, ap, ◌∙◌, err_from_is_err_and, items_left, have_function, found_from, as_functions}
-use Rattle.addr2line_lines.proofs.FunctionLemmas.{found_end, found_fault, found_step}
+use Rattle.addr2line_lines.proofs.Common.{sym, ap, ◌∙◌, err_from_is_err_and, items_left, have_function, as_functions}
+use Rattle.addr2line_lines.proofs.FunctionLemmas.{found_end, found_fault, found_step, found_from}
 use Rattle.addr2line_lines.proofs.FunctionMemory.{have_next, have_step}
 use Rattle.addr2line_lines.proofs.functions.read_functions.Goals as goal
 use Rattle.addr2line_lines.proofs.Facts.{or_more}

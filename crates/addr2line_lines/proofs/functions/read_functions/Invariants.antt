@@ -1,5 +1,6 @@
-use Rattle.addr2line_lines.proofs.Common.{◌≡◌, true, length, items_of, items_left, have_function, AreFoundUnread, found_from, found_in, as_functions}
+use Rattle.addr2line_lines.proofs.Common.{◌≡◌, true, length, items_of, items_left, have_function, AreFoundUnread, found_in, as_functions}
 use Rattle.addr2line_lines.proofs.functions.read_functions.Given as goal
+use Rattle.addr2line_lines.proofs.FunctionLemmas.{found_from}
 
 abbrev pub invariant-loop-unit : goal.invariant-loop-unit
 invariant-loop-unit g l =

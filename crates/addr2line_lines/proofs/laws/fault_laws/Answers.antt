@@ -1,5 +1,5 @@
 use Rattle.gimli_read.proofs.FaultLemmas.{not_refused}
-use Rattle.addr2line_lines.proofs.FaultLemmas.{attribute_ranges_are, detail_is, details_fault_is, file_texts_are, functions_are, inlined_attributes_are, items_inside_are, name_is, program_lines_are, range_attributes_are, referred_is, referred_name_is, unit_lines_are, visited_is}
+use Rattle.addr2line_lines.proofs.FaultLemmas.{attribute_ranges_are, detail_is, details_at_are, file_texts_are, functions_are, inlined_attributes_are, items_inside_are, name_is, program_lines_are, range_attributes_are, referred_is, referred_name_is, unit_lines_are, visited_is}
 use Rattle.addr2line_lines.proofs.laws.fault_laws.Goals as goal
 
 pub returns : goal.returns
@@ -25,7 +25,7 @@ returns c = record {
       inlined = λ scope u attributes. not_refused (inlined_attributes_are scope u attributes);
       items = λ u offset. not_refused (items_inside_are u offset);
       one = λ scope u offset. not_refused (detail_is scope u offset);
-      all = λ scope u functions. not_refused (details_fault_is scope u functions);
+      all = λ scope u offsets. not_refused (details_at_are scope u offsets);
     };
   };
 }

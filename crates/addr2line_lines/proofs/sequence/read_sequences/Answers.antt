@@ -1,6 +1,6 @@
 use Rattle.addr2line_lines.proofs.Common.{Ok, ◌∙◌, ap, fold, sym, err_from_is_err_and, rows_before, result_map, read_all, sequences_of}
-use Rattle.addr2line_lines.specs.Building.{StoredBuilt, all_built, need_width, nothing_built, nothing_stored, stored_taken}
-use Rattle.addr2line_lines.proofs.BuildLemmas.{taken_all, read_fault, read_whole, stored_sequences}
+use Rattle.addr2line_lines.specs.Building.{StoredBuilt, need_width, nothing_built, nothing_stored, stored_taken}
+use Rattle.addr2line_lines.proofs.BuildLemmas.{taken_all, read_fault, read_whole, stored_sequences, all_built}
 use Rattle.addr2line_lines.proofs.PackedLemmas.{all_among}
 use Rattle.addr2line_lines.proofs.RiseLemmas.{rising_of}
 use Rattle.addr2line_lines.proofs.sequence.read_sequences.Goals as goal

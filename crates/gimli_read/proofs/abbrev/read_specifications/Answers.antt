@@ -1,5 +1,5 @@
-use Rattle.gimli_read.proofs.Common.{inl, inr, is_ok, refl, ap, sym, Ok, ◌∙◌, append-nil, err_from_is_err_and, specification_at, with_front}
-use Rattle.gimli_read.proofs.RunLemmas.{collected-more, collected-end, collected-fault}
+use Rattle.gimli_read.proofs.Common.{inl, inr, is_ok, refl, ap, sym, Ok, ◌∙◌, append-nil, err_from_is_err_and, specification_at}
+use Rattle.gimli_read.proofs.RunLemmas.{collected-more, collected-end, collected-fault, with_front}
 use Rattle.gimli_read.proofs.Shorter.{shorter_by}
 use Rattle.gimli_read.proofs.AbbrevLemmas.{specification_takes, begun_by}
 use Rattle.gimli_read.proofs.abbrev.read_specifications.Goals as goal

@@ -1,6 +1,7 @@
-use Rattle.gimli_read.proofs.Common.{◌≡◌, ◌⊎◌, [], is_ok, length, true, specification_at, collected, run_of, with_front}
+use Rattle.gimli_read.proofs.Common.{◌≡◌, ◌⊎◌, [], is_ok, length, true, specification_at, collected, run_of}
 use Rattle.gimli_read.proofs.AbbrevLemmas.{IsBegun}
 use Rattle.gimli_read.proofs.abbrev.read_specifications.Given as goal
+use Rattle.gimli_read.proofs.RunLemmas.{with_front}
 
 abbrev pub invariant-loop-attribute : goal.invariant-loop-attribute
 invariant-loop-attribute g l =

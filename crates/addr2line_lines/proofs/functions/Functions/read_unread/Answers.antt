@@ -1,6 +1,7 @@
 use Rattle.addr2line_lines.proofs.Common.{Ok, Err, slice_get, slice_set, ap, subst, refl, ◌∙◌, arith, sym, get_or_from_slice_get, slice_get_within, LazyFunction, detail_at, fault_of, FunctionTable, IsRefusedThen, as_details, as_scope, AreCachedFunctions}
 use Rattle.addr2line_lines.specs.declared.functions.LazyDetail.TheVariants.{Read, Faulty}
-use Rattle.addr2line_lines.specs.FunctionDetails.{IsReadAt, read_fault, read_once}
+use Rattle.addr2line_lines.specs.FunctionDetails.{IsReadAt, read_once}
+use Rattle.addr2line_lines.proofs.ReadLemmas.{read_fault}
 use Rattle.addr2line_lines.proofs.FunctionCacheLemmas.{fault_cached, nothing_cached, read_cached, reads, table_fault, table_of, table_read, unread_at}
 use Rattle.addr2line_lines.proofs.functions.Functions.read_unread.Goals as goal
 
@@ -52,9 +53,9 @@ returns-in-Ok g c =
     let new = table_of (slice_set fs n y) addresses more in
     let with_detail = table_read fs n at.0 y at.1 entry addresses cached more c.self.invariant at.3 c.read.ensures.kept c.in-Ok.detail refl c.in-Ok.ensures.within c.in-Ok.ensures.after c.args.offset.0 (detail_at scope u c.args.offset.0) at.2 c.in-Ok.ensures.gives in
     record {
-      gives = subst (λ (t : FunctionTable). IsReadAt scope u n t (Ok tt) new) c.self.view_is
+      after = subst (λ (t : FunctionTable). IsReadAt scope u n t (Ok tt) new) c.self.view_is
           (reads scope u n c.args.offset.0 (table_of fs addresses cached) new (Ok tt) unread (ap fault_of c.in-Ok.ensures.gives, with_detail));
-      exact = ap (read_fault scope u) c.requires.unread ∙ ap fault_of c.in-Ok.ensures.gives;
+      gives = ap (read_fault scope u) c.requires.unread ∙ ap fault_of c.in-Ok.ensures.gives;
     }
 
 pub returns-in_default : goal.returns-in_default
@@ -74,20 +75,20 @@ returns-in_default g c =
     let faulty = c.in-Err.ensures.gives (λ t. c.in_default.not-OutOfMemory) in
     let with_fault = table_fault fs n at.0 y at.1 entry addresses cached more c.self.invariant at.3 c.read.ensures.kept e refl c.in-Err.ensures.refused c.args.offset.0 (detail_at scope u c.args.offset.0) at.2 faulty in
     record {
-      gives = subst (λ (t : FunctionTable). IsReadAt scope u n t (Err e) (table_of (slice_set fs n y) addresses more)) c.self.view_is
+      after = subst (λ (t : FunctionTable). IsReadAt scope u n t (Err e) (table_of (slice_set fs n y) addresses more)) c.self.view_is
           (reads scope u n c.args.offset.0 (table_of fs addresses cached) (table_of (slice_set fs n y) addresses more) (Err e) unread
           (λ ne. (ap fault_of faulty, with_fault), λ oom. absurd (c.in_default.not-OutOfMemory oom)));
-      exact = λ t. ap (read_fault scope u) c.requires.unread ∙ ap fault_of faulty;
+      gives = λ t. ap (read_fault scope u) c.requires.unread ∙ ap fault_of faulty;
     }
 
-pub returns-in-OutOfMemory-clause-exact : goal.returns-in-OutOfMemory-clause-exact
-returns-in-OutOfMemory-clause-exact g c =
+pub returns-in-OutOfMemory-clause-gives : goal.returns-in-OutOfMemory-clause-gives
+returns-in-OutOfMemory-clause-gives g c =
     let scope = as_scope c.args.scope in
     let u = c.args.unit.now in
     λ h. ap (read_fault scope u) c.requires.unread ∙ ap fault_of (c.in-Err.ensures.gives (λ t. h (ap (λ o. (read_once scope u o).takes_memory g.R.Reader.shares) c.requires.unread ∙ t)))
 
-pub returns-in-OutOfMemory-clause-gives : goal.returns-in-OutOfMemory-clause-gives
-returns-in-OutOfMemory-clause-gives g c =
+pub returns-in-OutOfMemory-clause-after : goal.returns-in-OutOfMemory-clause-after
+returns-in-OutOfMemory-clause-after g c =
     let addresses = c.self.inside.addresses in
     let fs = c.self.inside.functions.items in
     let cached = as_details g.R.Reader.section c.self.inside.details in

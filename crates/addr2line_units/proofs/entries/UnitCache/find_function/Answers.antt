@@ -164,7 +164,7 @@ invariant_of-self-in_err-read g c =
     let at = rw c.deref-2.ensures at c.in-Some.ensures in
     let e = c.in_err-read.field-0.0 in
     let r = rw c.deref_mut.ensures.value at c.in_err-read.ensures in
-    v.own (lazy.Read (with_value t c.read.new.self)) (detail_after shares inner x c.args.probe old mid v.functions cache t is c.in-Some.place (sym at.gives) at.found at.within c.read.new.self e r.gives).functions
+    v.own (lazy.Read (with_value t c.read.new.self)) (detail_after shares inner x c.args.probe old mid v.functions cache t is c.in-Some.place (sym at.gives) at.found at.within c.read.new.self e r.after).functions
 
 pub returns-in_err-read : goal.returns-in_err-read
 returns-in_err-read g c =
@@ -183,7 +183,7 @@ returns-in_err-read g c =
     let e = c.in_err-read.field-0.0 in
     let r = rw c.deref_mut.ensures.value at c.in_err-read.ensures in
     let p = err_from_is_err_and c.from_residual-in_err-read.result c.from_residual-in_err-read.ensures.1 in
-    let done = v.found c.args.probe (Err e) (lazy.Read (with_value t c.read.new.self)) (detail_gives shares inner x c.args.probe old mid v.functions cache t is c.in-Some.place (sym at.gives) at.found at.within c.read.new.self e r.gives) (detail_after shares inner x c.args.probe old mid v.functions cache t is c.in-Some.place (sym at.gives) at.found at.within c.read.new.self e r.gives) in
+    let done = v.found c.args.probe (Err e) (lazy.Read (with_value t c.read.new.self)) (detail_gives shares inner x c.args.probe old mid v.functions cache t is c.in-Some.place (sym at.gives) at.found at.within c.read.new.self e r.after) (detail_after shares inner x c.args.probe old mid v.functions cache t is c.in-Some.place (sym at.gives) at.found at.within c.read.new.self e r.after) in
     rw (p.1, p.2) (record { gives = done.0; after = done.1 })
 
 pub invariant_of-self-in_err-inlined : goal.invariant_of-self-in_err-inlined
@@ -204,7 +204,7 @@ invariant_of-self-in_err-inlined g c =
     let e = c.in_err-inlined.field-0.0 in
     let same : c.in-Read-functions.functions.value ≡ c.read.new.self = sym (ap (λ (f : LazyFunctions g.row.R.Denot). cached_functions f) c.in-Read-functions.is) in
     let chain = rw same at (rw c.deref-3.ensures at c.in_err-inlined.ensures.gives) in
-    v.own (lazy.Read (with_value t c.read.new.self)) (chain_after shares inner x c.args.probe old mid v.functions cache t is c.in-Some.place (sym at.gives) at.found at.within c.read.new.self r.gives e chain).functions
+    v.own (lazy.Read (with_value t c.read.new.self)) (chain_after shares inner x c.args.probe old mid v.functions cache t is c.in-Some.place (sym at.gives) at.found at.within c.read.new.self r.after e chain).functions
 
 pub returns-in_err-inlined : goal.returns-in_err-inlined
 returns-in_err-inlined g c =
@@ -225,7 +225,7 @@ returns-in_err-inlined g c =
     let same : c.in-Read-functions.functions.value ≡ c.read.new.self = sym (ap (λ (f : LazyFunctions g.row.R.Denot). cached_functions f) c.in-Read-functions.is) in
     let chain = rw same at (rw c.deref-3.ensures at c.in_err-inlined.ensures.gives) in
     let p = err_from_is_err_and c.from_residual-in_err-inlined.result c.from_residual-in_err-inlined.ensures.1 in
-    let done = v.found c.args.probe (Err e) (lazy.Read (with_value t c.read.new.self)) (chain_gives shares inner x c.args.probe old mid v.functions cache t is c.in-Some.place (sym at.gives) at.found at.within c.read.new.self r.gives e chain) (chain_after shares inner x c.args.probe old mid v.functions cache t is c.in-Some.place (sym at.gives) at.found at.within c.read.new.self r.gives e chain) in
+    let done = v.found c.args.probe (Err e) (lazy.Read (with_value t c.read.new.self)) (chain_gives shares inner x c.args.probe old mid v.functions cache t is c.in-Some.place (sym at.gives) at.found at.within c.read.new.self r.after e chain) (chain_after shares inner x c.args.probe old mid v.functions cache t is c.in-Some.place (sym at.gives) at.found at.within c.read.new.self r.after e chain) in
     rw (p.1, p.2) (record { gives = done.0; after = done.1 })
 
 pub invariant_of-self-2 : goal.invariant_of-self-2
@@ -246,7 +246,7 @@ invariant_of-self-2 g c =
     let same : c.in-Read-functions.functions.value ≡ c.read.new.self = sym (ap (λ (f : LazyFunctions g.row.R.Denot). cached_functions f) c.in-Read-functions.is) in
     let chain = rw same at (rw c.deref-3.ensures at c.in_ok-inlined.ensures) in
     let found : FunctionPlace = record { place = c.in-Some.place; inlined = c.in_ok-inlined.inlined } in
-    v.own (lazy.Read (with_value t c.read.new.self)) (place_after shares inner x c.args.probe old mid v.functions cache t is c.in-Some.place (sym at.gives) at.found at.within c.read.new.self r.gives found refl chain.gives chain.within).functions
+    v.own (lazy.Read (with_value t c.read.new.self)) (place_after shares inner x c.args.probe old mid v.functions cache t is c.in-Some.place (sym at.gives) at.found at.within c.read.new.self r.after found refl chain.gives chain.within).functions
 
 pub returns : goal.returns
 returns g c =
@@ -266,7 +266,7 @@ returns g c =
     let same : c.in-Read-functions.functions.value ≡ c.read.new.self = sym (ap (λ (f : LazyFunctions g.row.R.Denot). cached_functions f) c.in-Read-functions.is) in
     let chain = rw same at (rw c.deref-3.ensures at c.in_ok-inlined.ensures) in
     let found : FunctionPlace = record { place = c.in-Some.place; inlined = c.in_ok-inlined.inlined } in
-    let done = v.found c.args.probe (Ok (Some found)) (lazy.Read (with_value t c.read.new.self)) (place_gives shares inner x c.args.probe old mid v.functions cache t is c.in-Some.place (sym at.gives) at.found at.within c.read.new.self r.gives found refl chain.gives) (place_after shares inner x c.args.probe old mid v.functions cache t is c.in-Some.place (sym at.gives) at.found at.within c.read.new.self r.gives found refl chain.gives chain.within) in
+    let done = v.found c.args.probe (Ok (Some found)) (lazy.Read (with_value t c.read.new.self)) (place_gives shares inner x c.args.probe old mid v.functions cache t is c.in-Some.place (sym at.gives) at.found at.within c.read.new.self r.after found refl chain.gives) (place_after shares inner x c.args.probe old mid v.functions cache t is c.in-Some.place (sym at.gives) at.found at.within c.read.new.self r.after found refl chain.gives chain.within) in
     record { gives = done.0; after = done.1 }
 
 pub read-requires-clause-unit : goal.read-requires-clause-unit

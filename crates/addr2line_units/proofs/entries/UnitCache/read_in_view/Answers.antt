@@ -5,13 +5,13 @@ use Rattle.addr2line_units.specs.declared.parses.ReadingDepth.TheVariants as dep
 use Rattle.addr2line_units.specs.declared.entries.LazyFunctions.TheVariants as lazy
 use Rattle.std.specs.Box.{with_value}
 use Rattle.addr2line_lines.specs.CachedNames.{AreNamesIn}
-use Rattle.addr2line_lines.proofs.ReadLemmas.{details_fault_is, own_right}
+use Rattle.addr2line_lines.proofs.ReadLemmas.{first_fault_is, own_right, read_in_turn}
 use Rattle.addr2line_units.proofs.EntriesFunctionLemmas.{exactly_weaker, fault_is, reading_before, stay_read, table_more}
 use Rattle.addr2line_units.proofs.EntriesKnownTableLemmas.{to_fault_cached, to_fault_known}
 use Rattle.addr2line_units.proofs.EntriesLemmas.{exactly_unless_oom}
 use Rattle.addr2line_units.proofs.LoadsLemmas.{exactly_this}
 use Rattle.addr2line_units.proofs.EntriesViewedLemmas.{faulty, viewed}
-use Rattle.addr2line_units.proofs.KeptEntries.{KeepsReadFunctions}
+use Rattle.addr2line_units.proofs.EntriesKeeps.{KeepsReadFunctions}
 use Rattle.addr2line_units.proofs.ParsesAfterLemmas.{details_after}
 use Rattle.addr2line_units.proofs.ParsesReadyLemmas.{had_not_oom, not_oom, ready_same, ready_then}
 use Rattle.addr2line_units.proofs.ParsesViewLemmas.{faulty_after, faulty_gives, kept_by_cache, none_after, none_gives, reads_details, mid_after, mid_gives, now_right, table_now, unread_after, unread_gives}
@@ -149,7 +149,8 @@ invariant_of-self-2 g c =
     let result = c.read_all.result in
     let table = table_now shares inner x before mid v.functions a t c.in-Read.is in
     let e = rw c.deref_mut.ensures.value at c.read_all.ensures in
-    v.own (lazy.Read (with_value t new)) (table_more inner x t.value new table e.after.more (own_right inner x t.value.functions new.functions e.after.details table.details))
+    let read = read_in_turn shares inner x result t.value new e.after in
+    v.own (lazy.Read (with_value t new)) (table_more inner x t.value new table read.more (own_right inner x t.value.functions new.functions read.details table.details))
 
 pub returns : goal.returns
 returns g c =
@@ -168,16 +169,17 @@ returns g c =
     let result = c.read_all.result in
     let table = table_now shares inner x before mid v.functions a t c.in-Read.is in
     let e = rw c.deref_mut.ensures.value at c.read_all.ensures in
+    let read = read_in_turn shares inner x result t.value new e.after in
     let depth : c.args.depth ≡ depths.Details = elim c.match-matches.branch [ in-Functions w ↦ absurd (false≢true (sym c.if-matches.false ∙ w.matches-is)) | in_default w ↦ reads_details c.args.depth w.in_default.not-Functions ] in
     let may = (all_read_once inner x t.value.functions).takes_memory shares in
     let gives = exactly_weaker may (reading_takes_memory shares inner x before) (λ x. x) result (functions_fault inner x)
     (reading_before before mid kept shares inner x t c.in-Read.is table)
-    (subst (λ (r : Result (Unit {0}) Error). ExactlyUnlessOomIf may (λ x. x) result r) (details_fault_is inner x t.value.functions table.details ∙ sym (fault_is inner x t.value table)) e.gives) in
-    let keeps = details_after shares inner x before (lazy.Read (with_value t new)) (table_more inner x t.value new table e.after.more (own_right inner x t.value.functions new.functions e.after.details table.details)) result v.functions gives
-    (stay_read before mid kept t (with_value t new) c.in-Read.is e.after.more) (on_ok_weaker result (λ _. refl) e.after.known) e.after.known
-    (λ ne. to_fault_known new.functions (e.after.whole (not_oom result ne))) (λ ready. had_not_oom result (e.after.memory (to_fault_cached new.functions ready)))
-    (λ ready. e.after.exact (to_fault_cached t.value.functions (ready_then depths.Details before mid kept ready (lazy.Read t) c.in-Read.is)) ∙ details_fault_is inner x t.value.functions table.details ∙ sym (fault_is inner x t.value table))
-    (λ ready. ap (λ y. lazy.Read (with_value t y)) (e.after.same (to_fault_cached t.value.functions (ready_then depths.Details before mid kept ready (lazy.Read t) c.in-Read.is))) ∙ sym c.in-Read.is ∙ ready_same depths.Details before mid kept ready) in
+    (subst (λ (r : Result (Unit {0}) Error). ExactlyUnlessOomIf may (λ x. x) result r) (first_fault_is inner x t.value.functions table.details ∙ sym (fault_is inner x t.value table)) read.gives) in
+    let keeps = details_after shares inner x before (lazy.Read (with_value t new)) (table_more inner x t.value new table read.more (own_right inner x t.value.functions new.functions read.details table.details)) result v.functions gives
+    (stay_read before mid kept t (with_value t new) c.in-Read.is read.more) (on_ok_weaker result (λ _. refl) read.known) read.known
+    (λ ne. to_fault_known new.functions (read.whole (not_oom result ne))) (λ ready. had_not_oom result (read.memory (to_fault_cached new.functions ready)))
+    (λ ready. read.exact (to_fault_cached t.value.functions (ready_then depths.Details before mid kept ready (lazy.Read t) c.in-Read.is)) ∙ first_fault_is inner x t.value.functions table.details ∙ sym (fault_is inner x t.value table))
+    (λ ready. ap (λ y. lazy.Read (with_value t y)) (read.same (to_fault_cached t.value.functions (ready_then depths.Details before mid kept ready (lazy.Read t) c.in-Read.is))) ∙ sym c.in-Read.is ∙ ready_same depths.Details before mid kept ready) in
     record {
       gives = v.gives c.args.depth result (subst (λ (r : ReadingDepth). ExactlyUnlessOom (λ y. y) result (read_of_functions r inner x)) (sym depth) (exactly_unless_oom (reading_takes_memory shares inner x before) (λ y. y) result (functions_fault inner x) gives));
       after = v.after c.args.depth result (lazy.Read (with_value t new)) (subst (λ (r : ReadingDepth). KeepsReadFunctions shares r inner x result before (lazy.Read (with_value t new))) (sym depth) keeps);

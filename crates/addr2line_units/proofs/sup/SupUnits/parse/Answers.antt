@@ -1,5 +1,5 @@
-use Rattle.addr2line_units.proofs.Common.{Err, Ok, Result, Some, ap, option_map, sym, ◌∙◌, ◌≡◌, err_from_is_err_and, Error, Sections, all_headers, units_of}
-use Rattle.addr2line_units.specs.UnitsIndex.{sup_read, sup_sections, sup_unit_of_header}
+use Rattle.addr2line_units.proofs.Common.{Err, Ok, Result, Some, ap, option_map, sym, ◌∙◌, ◌≡◌, err_from_is_err_and, Error, Sections, all_headers, units_of, sup_sections}
+use Rattle.addr2line_units.specs.UnitsIndex.{sup_read, sup_unit_of_header}
 use Rattle.addr2line_units.proofs.UnitsOfHeadersLemmas.{shared_take}
 use Rattle.addr2line_units.proofs.sup.SupUnits.parse.Goals as goal
 

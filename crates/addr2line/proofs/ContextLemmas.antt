@@ -7,12 +7,12 @@ use Rattle.addr2line_lines.specs.Rows.{read_all}
 use Rattle.addr2line_units.specs.declared.frames.Asks.TheVariants as lookups
 use Rattle.addr2line_units.specs.LocationsParsed.{parses_no_memory}
 use Rattle.addr2line_units.specs.UnitsAfter as left
-use Rattle.addr2line_units.proofs.UnitsNewLemmas.{ok_is}
 use Rattle.addr2line_units.proofs.FramesLookupLemmas.{holds_both, holds_first, holds_rest}
 use Rattle.addr2line_units.proofs.LocationsWalkLemmas.{located_fault}
 use Rattle.addr2line_units.proofs.UnitsLinesLemmas.{parsed_none_along}
 use Rattle.addr2line_units.proofs.Facts.{err_ok, rest_ok}
 use Rattle.addr2line.proofs.Facts.{both_more}
+use Rattle.addr2line_lines.proofs.Facts.{ok_is}
 
 -- an answer that isn't OutOfMemory is exactly what is given
 pub exactly_told : {X Y : Type 0} (see : X → Y) (r : Result X Error) (given : Result Y Error) → ExactlyUnlessOom see r given → WasNotRefused r → Exactly see r given

@@ -5,9 +5,9 @@ use Rattle.addr2line.specs.declared.compressed.CompressedSections.{CompressedSec
 use Rattle.addr2line.specs.FramesByFiles.{ended_frames_of, stop_frames}
 use Rattle.addr2line.specs.LoadsByFiles.{AfterAnswers, AfterFramesByFiles, AnswersInTurn, MayLackMemory, WaitsForNone}
 use Rattle.addr2line.proofs.HistoryLemmas.{given_ended}
-use Rattle.addr2line_units.proofs.UnitsNewLemmas.{ok_is}
 use Rattle.addr2line.proofs.UncoveredLemmas.{uncovered_few, uncovered_stop}
 use Rattle.addr2line.proofs.Facts.{both_more}
+use Rattle.addr2line_lines.proofs.Facts.{ok_is}
 
 -- along ranges what follows of each number
 pub holds_more : (h k : ℕ → Bool) (frames : ℕ → FramesResult) (ranges : List UnitRange) → ((n : ℕ) → h n ≡ true → k n ≡ true) → holds_along h frames ranges ≡ true → holds_along k frames ranges ≡ true

@@ -1,6 +1,6 @@
 -- Lookups of an address that no unit covers (on specs/Context.antt and specs/AfterLookups.antt).
 use Rattle.addr2line.proofs.Common.{◌≡◌, ℕ, Bool, true, false, [], Option, Result, Ok, Err, is_ok, ap, refl, subst, sym, ◌∙◌, Error, ◌>>=◌, ExactlyUnlessOom, WasNotRefused, LookupResult, Load, Output, OnFault, cover, FindsNothing, LookupStop, Waits, holds_along, is_waiting, stop_along, IfLoad, IfOutput, IsOkOutput, UnitIndex, index_units, View, AfterFrames, AfterFramesOver, IsKnownFew, has_few_of, ContextState, IsUncovered, asked_of, ended_with, lookup_stop, stop_in, view_found, found_of_context}
-use Rattle.addr2line_units.proofs.UnitsNewLemmas.{ok_is}
+use Rattle.addr2line_lines.proofs.Facts.{ok_is}
 
 -- which units cover an address is told by the sections alone
 pub still_uncovered : (probe : ℕ) (old new : ContextState) → new.sections ≡ old.sections → IsUncovered new probe → IsUncovered old probe

@@ -1,5 +1,5 @@
 -- Recorded calls and answers, as contracts see them.
-use Rattle.std.specs.Prelude.{◌≡◌, map, Option, Some, None, option_map, IfOk, Result}
+use Rattle.std.specs.Prelude.{◌≡◌, ℕ, List, map, Option, Some, None, option_map, IfOk, Result}
 use Rattle.addr2line.specs.Common.{Error, Sections, token_number}
 use Rattle.addr2line_units.specs.declared.parses.ReadingDepth.TheVariants.{Details, Functions}
 use Rattle.addr2line.specs.declared.reply.Reply.{Reply}
@@ -7,6 +7,8 @@ use Rattle.addr2line.specs.declared.session.Answer.{Answer}
 use Rattle.addr2line.specs.declared.session.Answer.TheVariants.{Give, Abandon}
 use Rattle.addr2line.specs.declared.session.Call.{Call}
 use Rattle.addr2line.specs.declared.session.Call.TheVariants as calls
+use Rattle.addr2line.specs.declared.session.Lookup.{Lookup}
+use Rattle.addr2line.specs.declared.session.Lookup.TheVariants as lookups
 use Rattle.addr2line.specs.Context.{ContextState}
 use Rattle.addr2line.specs.History.{AfterCall, Given, Answered, Abandoned, HistoryCall, AsksLocation, AsksRange, AsksFrames, AsksUnit, AsksLoads, AnswersLoad, Forgets, ParsesLines, ParsesFunctions, reply_to}
 use Rattle.addr2line.specs.OwnedReplies.{as_reply}
@@ -34,6 +36,11 @@ as_call (calls.Forget unit) = Forgets (token_number unit)
 as_call calls.ParseLines = ParsesLines
 as_call calls.ParseFunctions = ParsesFunctions Functions
 as_call calls.ParseInlinedFunctions = ParsesFunctions Details
+
+-- a lookup that may wait, with what is given to its loads, as a call
+abbrev pub asks_by : Lookup → ℕ → List Given → HistoryCall
+asks_by lookups.Frames = AsksFrames
+asks_by lookups.Unit = AsksUnit
 
 -- a call was made: what it replies, unless memory was refused, and what it leaves
 abbrev pub Makes : HistoryCall → Result Reply Error → ContextState → ContextState → Type 0

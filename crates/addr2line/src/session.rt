@@ -4,11 +4,11 @@ ghost use Rattle.std.specs.Prelude.{◌≡◌, IfErr, IfOk, map, option_map};
 ghost use Rattle.addr2line.specs.Common.{OutOfMemory, token_number, location_of, spans_of};
 ghost use Rattle.addr2line_units.specs.declared.parses.ReadingDepth.TheVariants as depths;
 ghost use Rattle.addr2line.specs.Context.{lines_of_all};
-ghost use Rattle.addr2line.specs.History.{AfterCall, AfterCalls, AnswersLoad, AsksFrames, AsksLoads, AsksLocation, AsksRange, AsksUnit, Forgets, ParsesFunctions, ParsesLines, replies_to, reply_to};
+ghost use Rattle.addr2line.specs.History.{AfterCall, AfterCalls, AnswersLoad, AsksLoads, AsksLocation, AsksRange, Forgets, ParsesFunctions, ParsesLines, replies_to, reply_to};
 ghost use Rattle.addr2line.specs.Loads.{forget_reply, load_reply, parse_reply};
 ghost use Rattle.addr2line.specs.Lookups.{loads_at};
 ghost use Rattle.addr2line.specs.Replies.{Ended, Listed, Located, SuspendedAt, copied_load, reply_of_range};
-ghost use Rattle.addr2line.specs.RecordedCalls.{Makes, given_by, as_call, as_given};
+ghost use Rattle.addr2line.specs.RecordedCalls.{Makes, asks_by, given_by, as_call, as_given};
 ghost use Rattle.addr2line.specs.OwnedReplies.{as_reply};
 
 use crate::context::Context;
@@ -124,29 +124,34 @@ macro_rules! answer_in_turn {
     }};
 }
 
-// `find_frames` with answers to its loads.
-fn replay_frames<R: Reader>(
+// A lookup that may wait for split files.
+#[derive(Clone, Copy)]
+enum Lookup {
+    // `find_frames`.
+    Frames,
+    // `find_dwarf_and_unit`.
+    Unit,
+}
+
+// A lookup of an address, with answers to its loads.
+fn replay_lookup<R: Reader>(
     context: &mut Context<R>,
+    lookup: Lookup,
     probe: u64,
     answers: &[Answer<R>],
 ) -> Result<Reply, Error>
-    ensures after { Makes (AsksFrames probe (map as_given answers.now)) result context.old
+    ensures after { Makes (asks_by lookup probe (map as_given answers.now)) result context.old
         context.new }
 {
     let alloc = context.alloc;
-    answer_in_turn!(context.find_frames(probe), answers, frames => frames_reply(alloc, frames))
-}
-
-// `find_dwarf_and_unit` with answers to its loads.
-fn replay_unit<R: Reader>(
-    context: &mut Context<R>,
-    probe: u64,
-    answers: &[Answer<R>],
-) -> Result<Reply, Error>
-    ensures after { Makes (AsksUnit probe (map as_given answers.now)) result context.old
-        context.new }
-{
-    answer_in_turn!(context.find_dwarf_and_unit(probe), answers, unit => unit_reply(unit))
+    match lookup {
+        Lookup::Frames => answer_in_turn!(
+            context.find_frames(probe), answers, frames => frames_reply(alloc, frames)
+        ),
+        Lookup::Unit => answer_in_turn!(
+            context.find_dwarf_and_unit(probe), answers, unit => unit_reply(unit)
+        ),
+    }
 }
 
 // `find_location` of an address.
@@ -240,8 +245,12 @@ fn make_call<R: Reader>(context: &mut Context<R>, call: &Call<R>) -> Result<Repl
     match call {
         Call::Location(probe) => replay_location(context, *probe),
         Call::LocationRange(low, high) => replay_range(context, *low, *high),
-        Call::Frames(probe, answers) => replay_frames(context, *probe, answers.as_slice()),
-        Call::Unit(probe, answers) => replay_unit(context, *probe, answers.as_slice()),
+        Call::Frames(probe, answers) => {
+            replay_lookup(context, Lookup::Frames, *probe, answers.as_slice())
+        }
+        Call::Unit(probe, answers) => {
+            replay_lookup(context, Lookup::Unit, *probe, answers.as_slice())
+        }
         Call::Preload(probe) => replay_preload(context, *probe),
         Call::LoadUnit(unit, sections) => replay_load(context, *unit, sections),
         Call::Forget(unit) => replay_forget(context, *unit),

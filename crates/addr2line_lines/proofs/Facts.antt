@@ -1,6 +1,6 @@
 -- Facts on booleans, numbers, orderings, options and lists that the proofs of this crate and of those
 -- above it cite, and that std doesn't have.
-use Rattle.addr2line_lines.proofs.Common.{All, AllByRecursion, AllZip, Bool, Bor, Equal, Greater, Less, List, None, Option, Ordering, Some, [], ap, append-nil, append_assoc, arith, cases_eq, common_steps, count_by, drop, drop_all, eqb-true, false, get_or, get_or_from_slice_get, inl, inr, length, length-append, list_any, map, nat_le, nat_lt, nat_tests, option_copied, option_map, or_left, or_right, ordering_then, refl, reverse, reverse-append, rules, set, set_split, slice_get, slice_get-map, slice_get_past, slice_get_read, slice_index_or, slice_set, subst, suc, sym, take, true, zero, ℕ, ◌&&◌, ◌++◌, ◌+◌, ◌<◌, ◌==◌, ◌||◌, ◌∙◌, ◌∷◌, ◌≡◌, ◌≤◌, ◌⊎◌, cond}
+use Rattle.addr2line_lines.proofs.Common.{All, AllByRecursion, AllZip, Bool, Bor, Equal, Greater, Less, List, None, Option, Ordering, Some, [], ap, append-nil, append_assoc, arith, cases_eq, common_steps, count_by, drop, drop_all, eqb-true, false, get_or, get_or_from_slice_get, inl, inr, length, length-append, list_any, map, nat_le, nat_lt, nat_tests, option_copied, option_map, or_left, or_right, ordering_then, refl, reverse, reverse-append, rules, set, set_split, slice_get, slice_get-map, slice_get_past, slice_get_read, slice_index_or, slice_set, subst, suc, sym, take, true, zero, ℕ, ◌&&◌, ◌++◌, ◌+◌, ◌<◌, ◌==◌, ◌||◌, ◌∙◌, ◌∷◌, ◌≡◌, ◌≤◌, ◌⊎◌, cond, Error, Ok, Result}
 use Rattle.std.specs.List.{slice_get}
 use Rattle.std.specs.Slice.{IsItemAt}
 use Rattle.addr2line_lines.specs.Grown.{IsGrown}
@@ -71,6 +71,12 @@ ordering_then_assoc Greater y z = refl
 
 pub from_left : (x y z w : Ordering) → ordering_then x (ordering_then y (ordering_then z w)) ≡ ordering_then (ordering_then (ordering_then x y) z) w
 from_left x y z w = ordering_then_assoc x y (ordering_then z w) ∙ ordering_then_assoc (ordering_then x y) z w
+
+-- ---- of answers
+
+-- values that are given alike are the same
+pub ok_is : {X : Type 0} (x y : X) → ◌≡◌ {A = Result X Error} (Ok x) (Ok y) → x ≡ y
+ok_is x y e = cc
 
 -- ---- of lists
 

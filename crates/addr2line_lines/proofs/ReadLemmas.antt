@@ -392,20 +392,27 @@ module _ (shares : Bool) (scope : Scope) (u : UnitRecord) (old now : FunctionTab
         (read_cached shares scope u n now next one.0 one.1 r d.0 d.1 k ∙ s.0, first)
 
     pub one_read : IsReadAt scope u n now (Ok tt) next → (read_once scope u (slice_get now.functions n)).given ≡ Ok tt → IsReadTo shares scope u old next (n + 1)
-    one_read k well = elim (read_then shares scope u n now next one.0 one.1 (Ok tt) k well) [ inl refused ↦ absurd (let q = refused.0 in cc) | inr r ↦ (
-        let plus : suc n ≡ n + 1 = omega arith in
-        let g = with_detail scope u one.0 in
-        let rest : drop (suc n) next.functions ≡ drop (suc n) now.functions = ap (λ fs. drop (suc n) fs) r.1 ∙ drop_set now.functions n g in
-        let goes : (s : Result (Unit {0}) Error) (gs : List CachedFunction) → AreReadInTurn shares scope u (drop (suc n) next.functions) s gs → AreReadInTurn shares scope u old.functions s (take (suc n) next.functions ++ gs) = λ s gs. λ turn.
-            subst (AreReadInTurn shares scope u old.functions s) (sym (ap (λ fs. take (suc n) fs ++ gs) r.1 ∙ set_taken now.functions gs n g below))
-            (then_turn s (g ∷ gs) (inr (gs, refl, subst (λ q. IsReadBehind q (AreReadInTurn shares scope u (drop (suc n) now.functions) s gs) s (drop (suc n) now.functions) gs) (sym r.0)
-            (subst (λ fs. AreReadInTurn shares scope u fs s gs) rest turn)))) in
-        subst (IsReadTo shares scope u old next) plus (record {
-          kept = table_twice old now next h.kept (read_more scope u n now next (Ok tt) k);
-          goes_on = goes;
-          same = λ ready. (let nothing = reads_nothing (Ok tt) k ready in (nothing.0, subst AreCachedToFault (sym rest) (rest_cached scope u one.0 (AreCachedToFault (drop (suc n) now.functions)) nothing.1 r.0)));
-        })
-    ) ]
+    one_read k well = elim (read_then shares scope u n now next one.0 one.1 (Ok tt) k well) [
+      | inl refused ↦ absurd (let q = refused.0 in cc)
+      | inr r ↦ (
+          let plus : suc n ≡ n + 1 = omega arith in
+          let g = with_detail scope u one.0 in
+          let rest : drop (suc n) next.functions ≡ drop (suc n) now.functions = ap (λ fs. drop (suc n) fs) r.1 ∙ drop_set now.functions n g in
+          let goes : (s : Result (Unit {0}) Error) (gs : List CachedFunction) → AreReadInTurn shares scope u (drop (suc n) next.functions) s gs → AreReadInTurn shares scope u old.functions s (take (suc n) next.functions ++ gs) = λ s gs. λ turn.
+          subst (AreReadInTurn shares scope u old.functions s) (sym (ap (λ fs. take (suc n) fs ++ gs) r.1 ∙ set_taken now.functions gs n g below))
+          (then_turn s (g ∷ gs) (inr (
+            gs,
+            refl,
+            subst (λ q. IsReadBehind q (AreReadInTurn shares scope u (drop (suc n) now.functions) s gs) s (drop (suc n) now.functions) gs) (sym r.0)
+                (subst (λ fs. AreReadInTurn shares scope u fs s gs) rest turn),
+          ))) in
+          subst (IsReadTo shares scope u old next) plus (record {
+            kept = table_twice old now next h.kept (read_more scope u n now next (Ok tt) k);
+            goes_on = goes;
+            same = λ ready. (let nothing = reads_nothing (Ok tt) k ready in (nothing.0, subst AreCachedToFault (sym rest) (rest_cached scope u one.0 (AreCachedToFault (drop (suc n) now.functions)) nothing.1 r.0)));
+          })
+          )
+    ]
 
     pub one_refused : (e : Error) → IsReadAt scope u n now (Err e) next → ExactlyAtCost {X = Unit {0}} shares (λ x. x) (Err e) (read_once scope u (slice_get now.functions n)) → AfterReadingAll shares scope u (Err e) old next
     one_refused e k exact =

@@ -98,8 +98,10 @@ impl<R: Reader> NameOrOrigin<R> {
     // Sets the name to a string, if it is one.
     fn set_name(&mut self, string: Option<R>)
         ensures gives { as_name_or_origin R.section self.new
-            ≡ record (as_name_or_origin R.section self.old) { name = option_or
-            (option_map R.section string) (as_name_or_origin R.section self.old).name } }
+            ≡ record (as_name_or_origin R.section self.old) {
+              name = option_or
+                  (option_map R.section string) (as_name_or_origin R.section self.old).name;
+            } }
     {
         if string.is_some() {
             self.name = string;
@@ -110,7 +112,8 @@ impl<R: Reader> NameOrOrigin<R> {
     fn set_origin(&mut self, value: AttributeValue<R>)
         ensures gives { as_name_or_origin R.section self.new
             ≡ record (as_name_or_origin R.section self.old) {
-            origin = Some (as_value R.section value) } }
+              origin = Some (as_value R.section value);
+            } }
     {
         self.origin = Some(value);
     }

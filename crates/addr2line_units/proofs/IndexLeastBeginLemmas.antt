@@ -9,6 +9,7 @@ use Rattle.addr2line_units.specs.IndexCover.{ends_sooner}
 use Rattle.addr2line_units.specs.IndexLeastBegins.{AreIndexed, AreLeastBegins, EndFits, range_begins_by, is_between, least_begin, unit_range_of, with_least_begins}
 use Rattle.addr2line_units.proofs.IndexLemmas.{ends_order}
 use Rattle.addr2line_units.proofs.Facts.{rest_is}
+use Rattle.addr2line_lines.proofs.Facts.{ok_is}
 
 -- the ranges that were taken from the end, and what was made of them
 pub record IsMade (all left : List UnitRange) (made : List IndexedRange) (least : ℕ) : Type 0 where
@@ -102,11 +103,8 @@ found_from low last items xs ys n e f le h =
     ∙ ap (λ zs. filter (is_between low last) (map unit_range_of zs)) e
 
 -- the table of ranges that were put in order
-ok_is : (xs ys : List IndexedRange) → ◌≡◌ {A = Result (List IndexedRange) Error} (Ok xs) (Ok ys) → ys ≡ xs
-ok_is xs ys e = cc
-
 pub given_is : (listed ordered : List UnitRange) (made : List IndexedRange) → ordered ≡ in_order ends_sooner listed → ◌≡◌ {A = Result (List IndexedRange) Error} (Ok (with_least_begins ordered)) (Ok made) → in_order ends_sooner listed ≡ map unit_range_of made
-given_is listed ordered made e h = sym e ∙ sym (ranges_beside ordered) ∙ sym (ap (map unit_range_of) (ok_is _ _ h))
+given_is listed ordered made e h = sym e ∙ sym (ranges_beside ordered) ∙ sym (ap (map unit_range_of) (sym (ok_is _ _ h)))
 
 pub indexed_is : (listed ordered : List UnitRange) (made : List IndexedRange) → ordered ≡ in_order ends_sooner listed → ◌≡◌ {A = Result (List IndexedRange) Error} (Ok (with_least_begins ordered)) (Ok made) → AllByRecursion EndFits ordered → AreIndexed listed made
 indexed_is listed ordered made e h fit =
@@ -114,7 +112,7 @@ indexed_is listed ordered made e h fit =
     record {
       sorted = sym is;
       ordered = subst (IsInOrder ends_sooner) is (in_order_ordered ends_sooner ends_order listed);
-      least = ok_is _ _ h ∙ ap with_least_begins (e ∙ is);
+      least = sym (ok_is _ _ h) ∙ ap with_least_begins (e ∙ is);
       fit = subst (AllByRecursion EndFits) (e ∙ is) fit;
     }
 

@@ -10,9 +10,7 @@ use Rattle.addr2line_units.specs.UnitsIndex.{UnitIndex, index_units, sup_units}
 use Rattle.addr2line_units.proofs.UnitsLinesLemmas.{own_push}
 use Rattle.addr2line_units.proofs.EntriesKnownLemmas.{nothing_known}
 use Rattle.addr2line_units.proofs.SupScopeLemmas.{fresh_caches, fresh_push, main_scope_in_order, no_answers, records_beside}
-
-pub ok_is : {X : Type 0} (x y : X) → ◌≡◌ {A = Result X Error} (Ok x) (Ok y) → x ≡ y
-ok_is x y e = cc
+use Rattle.addr2line_lines.proofs.Facts.{ok_is}
 
 -- the first answers of units before any answer
 abbrev no_answers_of : {U : Type 0} → List U → FirstAnswers

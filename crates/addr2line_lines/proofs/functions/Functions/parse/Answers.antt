@@ -1,13 +1,10 @@
-use Rattle.addr2line_lines.proofs.Common.{◌≡◌, List, map, Ok, Result, refl, ap, subst, ◌∙◌, err_from_is_err_and, items_of, FunctionAddress, LazyFunction, entries_of, functions_of, have_function, AreFunctions, function_range_of, as_functions, as_function, CachedFunction, CachedDetails, as_details, as_scope, or_right}
-use Rattle.gimli_read.specs.declared.error.Error.{Error as Fault}
+use Rattle.addr2line_lines.proofs.Common.{map, Ok, refl, ap, subst, ◌∙◌, err_from_is_err_and, items_of, LazyFunction, entries_of, functions_of, have_function, AreFunctions, function_range_of, as_functions, as_function, CachedFunction, CachedDetails, as_details, as_scope, or_right}
 use Rattle.addr2line_lines.proofs.FunctionCacheLemmas.{runs_unread, functions_unread}
 use Rattle.addr2line_lines.proofs.FunctionMemory.{found_has}
 use Rattle.addr2line_lines.proofs.FunctionOrder.{AgreesFound, are_functions, functions_agree}
 use Rattle.addr2line_lines.proofs.ListedFunctions.{offsets_seen}
 use Rattle.addr2line_lines.proofs.functions.Functions.parse.Goals as goal
-
-ok_is : (xs ys : List FunctionAddress) → ◌≡◌ {A = Result (List FunctionAddress) Fault} (Ok xs) (Ok ys) → xs ≡ ys
-ok_is xs ys e = cc
+use Rattle.addr2line_lines.proofs.Facts.{ok_is}
 
 pub returns-in_err-functions : goal.returns-in_err-functions
 returns-in_err-functions g c =

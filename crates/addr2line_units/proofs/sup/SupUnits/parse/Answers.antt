@@ -2,9 +2,7 @@ use Rattle.addr2line_units.proofs.Common.{Err, Ok, Result, Some, ap, option_map,
 use Rattle.addr2line_units.specs.UnitsIndex.{sup_read, sup_unit_of_header}
 use Rattle.addr2line_units.proofs.UnitsOfHeadersLemmas.{shared_take}
 use Rattle.addr2line_units.proofs.sup.SupUnits.parse.Goals as goal
-
-ok_is : (a b : Sections) → ◌≡◌ {A = Result Sections Error} (Ok a) (Ok b) → a ≡ b
-ok_is a b e = cc
+use Rattle.addr2line_lines.proofs.Facts.{ok_is}
 
 ok_err : (a : Sections) (f : Error) → ◌≡◌ {A = Result Sections Error} (Ok a) (Err f) → ⊥
 ok_err a f e = cc

@@ -1,10 +1,8 @@
-use Rattle.addr2line_units.proofs.Common.{◌≡◌, ◌++◌, ◌∙◌, List, Ok, Result, ap, length, map, rules, subst, sym, Error, Range, AreLinesOf, LinesCache, is_parsed, range_of_unit, unit_ranges}
+use Rattle.addr2line_units.proofs.Common.{◌≡◌, ◌++◌, ◌∙◌, ap, length, map, rules, subst, sym, AreLinesOf, LinesCache, is_parsed, range_of_unit, unit_ranges}
 use Rattle.addr2line_units.specs.UnitsIndexed.{as_ranged_unit}
 use Rattle.addr2line_units.proofs.UnitsLinesLemmas.{pushed}
 use Rattle.addr2line_units.proofs.units.Index.push.Goals as goal
-
-ok_is : (a b : List Range) → ◌≡◌ {A = Result (List Range) Error} (Ok a) (Ok b) → a ≡ b
-ok_is a b e = cc
+use Rattle.addr2line_lines.proofs.Facts.{ok_is}
 
 pub returns-clause-read : goal.returns-clause-read
 returns-clause-read g c = record {

@@ -1,6 +1,10 @@
 -- One answer more of a lookup, and one call more of a history (on specs/History.antt).
-use Rattle.addr2line.proofs.Common.{◌≡◌, ◌⊎◌, inl, inr, ℕ, suc, ◌+◌, ◌<◌, add-one, append_assoc, Bool, true, false, List, [], ◌∷◌, ◌++◌, drop, get_or, length, map, take, Option, Result, Ok, Err, refl, sym, ap, subst, ◌∙◌, append-nil, get_or-map, length-map, take-append-drop, take_more, Error, Sections, LookupResult, Output, OnFault, LookupStop, Waits, Finds, FindsNothing, is_waiting, WasNotRefused, StaysParsed, has_parsed, IfOutput, AfterResume, answered, ContextState, Given, Answered, Abandoned, answers_given, where_waiting, lookup_stop, FirstAnswers}
+use Rattle.addr2line.proofs.Common.{◌≡◌, ◌⊎◌, inl, inr, ℕ, suc, ◌+◌, ◌<◌, add-one, append_assoc, Bool, true, false, List, [], ◌∷◌, ◌++◌, drop, get_or, length, map, take, Option, Result, Ok, Err, refl, sym, ap, subst, ◌∙◌, append-nil, get_or-map, length-map, take-append-drop, take_more, Error, Sections, LookupResult, Output, OnFault, LookupStop, Waits, Finds, FindsNothing, is_waiting, WasNotRefused, StaysParsed, has_parsed, IfOutput, AfterResume, answered, ContextState, Given, Answered, Abandoned, answers_given, where_waiting, lookup_stop, FirstAnswers, IfErr, OnOk}
 use Rattle.std.proofs.Math.Seq.{drop-cons}
+use Rattle.addr2line_units.specs.declared.parses.ReadingDepth.{ReadingDepth}
+use Rattle.addr2line.specs.Loads.{AfterParse}
+use Rattle.addr2line.specs.History.{ParsesFunctions, AfterCall}
+use Rattle.gimli_read.specs.declared.error.Error.TheVariants.{OutOfMemory}
 
 -- where a lookup waits it goes on
 where_waits : {X : Type 0} (f : ℕ → X) (x : X) (s : Result LookupStop Error) (n : ℕ) → s ≡ Ok (Waits n) → where_waiting f x s ≡ f n
@@ -95,3 +99,20 @@ pub resumed_output : {L D S X : Type 0} (shares : Bool) (faults : OnFault) (prob
 resumed_output shares faults probe n x old result o is asked same new lender ends rests =
     subst (λ q. AfterResume shares faults q n x o old new) same (subst (λ s. AfterResume shares faults asked n x o old s) (sym ends)
     (subst (λ r. IfOutput r (λ q. AfterResume shares faults asked n x q old lender)) is rests))
+
+-- what a parse of functions leaves, where the reply can be made unless memory was refused
+pub parse_leaves : {X : Type 0} (depth : ReadingDepth) (done : Result (Unit {0}) Error) (r : Result X Error) (old new : ContextState) → AfterParse depth done old new → OnOk r (WasNotRefused done)
+    → IfErr r (λ e. (e ≡ OutOfMemory) × (done ≡ Err OutOfMemory)) → AfterCall (ParsesFunctions depth) r old new
+parse_leaves {X = X} depth done r old new a told refused = by r told refused
+  where
+    parsed : StaysParsed old.parsed new.parsed
+    parsed = subst (StaysParsed old.parsed) (sym a.stays.parsed) (λ n e. e)
+
+    by : (r : Result X Error) → OnOk r (WasNotRefused done) → IfErr r (λ e. (e ≡ OutOfMemory) × (done ≡ Err OutOfMemory)) → AfterCall (ParsesFunctions depth) r old new
+    by (Ok x) told refused = record { sections = a.stays.sections; answers = a.answers told; refused = tt; parsed = parsed }
+    by (Err e) told refused = record {
+      sections = a.stays.sections;
+      answers = tt;
+      refused = (refused.0, λ m is. (let begun = a.begun m is in (begun.0, begun.1.before, begun.1.decided)));
+      parsed = parsed;
+    }

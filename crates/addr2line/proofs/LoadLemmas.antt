@@ -5,7 +5,7 @@ use Rattle.addr2line_units.specs.declared.parses.ReadingDepth.{ReadingDepth}
 use Rattle.addr2line_units.specs.declared.parses.ReadingDepth.TheVariants as depths
 use Rattle.addr2line_units.specs.UnitsAfter as left
 use Rattle.addr2line_units.specs.ParsesLaws.{IsReached}
-use Rattle.addr2line_units.specs.Parses.{AreFirstDecided, AreReadBefore, AreReadyFor, ReadsNoMemory, answers_after_parse, read_of_units}
+use Rattle.addr2line_units.specs.Parses.{AreReadyFor, ReadsNoMemory, answers_after_parse, read_of_units}
 use Rattle.addr2line.specs.Loads.{load_reply}
 use Rattle.addr2line.proofs.AnsweredLemmas.{answers_are, read_context, scope_same, units_same}
 use Rattle.addr2line.proofs.ContextLemmas.{at_made, at_now, by_made, of_made, of_now, or_made}
@@ -85,10 +85,9 @@ module _ (ranges : List UnitRange) (u : UnitsState) (i : IsContext ranges u) whe
     after_parse = record {
       stays = stays_read now a.stays;
       answers = λ told. a.answers told ∙ sym (parsed_is depth);
-      begun = of_made ranges u i (λ s xs rs. AreFirstDecided depth s s.file.units u.answers now.answers) a.begun;
+      begun = of_made ranges u i (λ s xs rs. (n : ℕ) × left.HasComeTo depth s s.file.units u.answers u.known now.answers now.known n) a.begun;
       known = of_made ranges u i (λ s xs rs. (probe n : ℕ) → is_open_at s.file.sections s.file.units u.answers n ≡ false → knows_at u.known probe n ≡ true → knows_at now.known probe n ≡ true) a.known;
       whole = of_made ranges u i (λ s xs rs. (needed : ReadingDepth) (n : ℕ) → is_open_at s.file.sections s.file.units u.answers n ≡ false → IsReadyAt needed u.known n → IsReadyAt needed now.known n) a.whole;
-      only = of_made ranges u i (λ s xs rs. (n : ℕ) → (slice_get now.known n ≡ slice_get u.known n) ⊎ AreReadBefore depth s s.file.units u.answers n) a.only;
       details = a.details;
       read = a.read;
       whole_known = a.whole_known;

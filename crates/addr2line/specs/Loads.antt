@@ -8,13 +8,14 @@ use Rattle.addr2line.specs.Common.{Error, ◌>>=◌, WasNotRefused, Sections, On
 use Rattle.addr2line_units.specs.declared.parses.ReadingDepth.{ReadingDepth}
 use Rattle.addr2line_units.specs.declared.parses.ReadingDepth.TheVariants as depths
 use Rattle.addr2line_units.specs.ParsesLaws.{IsReached}
-use Rattle.addr2line_units.specs.Parses.{AreFirstDecided, AreReadBefore, AreReadyFor, ReadsNoMemory, answers_after_parse, read_of_units}
+use Rattle.addr2line_units.specs.Parses.{AreReadyFor, ReadsNoMemory, answers_after_parse, read_of_units}
 use Rattle.addr2line.specs.Answers.{answered}
 pub use Rattle.addr2line.specs.Answers.{load_reply}
 use Rattle.addr2line.specs.Context.{ContextState, lines_of_all, IsUncovered}
 use Rattle.addr2line.specs.Lookups.{lookup_stop}
 use Rattle.addr2line_lines.specs.LastAddress.{last_address}
 use Rattle.addr2line_units.specs.LoadsMemory.{answer_takes_memory}
+use Rattle.addr2line_units.specs.UnitsAfter.{HasComeTo}
 
 -- what it gives to forget the answer of the unit of a number
 abbrev pub forget_reply : Sections → ℕ → Result (Unit {0}) Error
@@ -118,7 +119,7 @@ IsReadyToRead depth c = (m : UnitIndex) → index_units c.sections ≡ Ok m
     → AreReadyFor depth (main_scope c.sections m) (unit_records m.units) c.answers c.known
 
 -- after a parse of all functions open units are decided by none, up to the first fault; where
--- memory was refused, some of the first ones. What was known of the others stays, and where
+-- memory was refused, up to the unit that it was refused for. What was known of the others stays, and where
 -- functions alone are read no detail becomes known. Unless memory was refused all is known that the
 -- parse reads, and where it is, none was refused; where it was before, nothing is changed of what
 -- is known and answered
@@ -127,17 +128,14 @@ pub record AfterParse (depth : ReadingDepth) (result : Result (Unit {0}) Error)
   pub stays : StaysRead old new
   pub answers : WasNotRefused result → new.answers ≡ parsed_answers depth old.sections old.answers
   pub begun : (m : UnitIndex) → index_units old.sections ≡ Ok m
-      → AreFirstDecided depth (main_scope old.sections m) (unit_records m.units) old.answers
-      new.answers
+      → (n : ℕ) × HasComeTo depth (main_scope old.sections m) (unit_records m.units) old.answers
+      old.known new.answers new.known n
   pub known : (m : UnitIndex) → index_units old.sections ≡ Ok m → (probe n : ℕ)
       → is_open_at old.sections (unit_records m.units) old.answers n ≡ false
       → knows_at old.known probe n ≡ true → knows_at new.known probe n ≡ true
   pub whole : (m : UnitIndex) → index_units old.sections ≡ Ok m → (needed : ReadingDepth) (n : ℕ)
       → is_open_at old.sections (unit_records m.units) old.answers n ≡ false
       → IsReadyAt needed old.known n → IsReadyAt needed new.known n
-  pub only : (m : UnitIndex) → index_units old.sections ≡ Ok m → (n : ℕ)
-      → (slice_get new.known n ≡ slice_get old.known n)
-      ⊎ AreReadBefore depth (main_scope old.sections m) (unit_records m.units) old.answers n
   pub details : depth ≡ depths.Functions → LearnsNoDetails old.known new.known
   pub read : OnOk result (AreReadBy depth new)
   pub whole_known : AreReadBy depth old → result ≡ Ok tt

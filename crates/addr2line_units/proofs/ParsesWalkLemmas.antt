@@ -79,10 +79,6 @@ read_first depth old = record {
   behind = λ n past. refl;
 }
 
--- units before one that can be read can be read
-before_less : (depth : ReadingDepth) (old : UnitsState) (k : ℕ) → AreReadBefore depth old.scope old.scope.file.units old.answers k → (n : ℕ) → n ≤ k → AreReadBefore depth old.scope old.scope.file.units old.answers n
-before_less depth old k before n l = λ m h. before m (omega (arith, l, h))
-
 module _ (shares : Bool) (depth : ReadingDepth) (k : ℕ) (old mid now : UnitsState) (w : ReadSoFar depth k old mid) {count : ℕ} (counts : CountsUnits count (record old { stop = FindsNothing })) (within : k < count) where
   abbrev d : Sections
   d = old.scope.file.sections
@@ -178,10 +174,9 @@ module _ (shares : Bool) (depth : ReadingDepth) (k : ℕ) (old mid now : UnitsSt
     read_fault_after = record {
       stays = (a given).stays;
       answers = λ ne. one_more ((a given).answers ne) ∙ sym (after_stop depth old.scope us old.answers k e many w.before (fault_there (gives ne)));
-      begun = elim (begun given) [ inl is ↦ (k, w.before, inl is) | inr is ↦ (k, w.before, inr is) ];
+      begun = (k, record { before = w.before; read = still_read given; decided = begun given; behind = known_behind given });
       known = λ probe n shut q. (known_now given n shut).at probe q;
       whole = λ needed n shut q. (known_now given n shut).whole needed q;
-      only = λ n. elim (at_or_behind n k) [ inl l ↦ inr (before_less depth old k w.before n l) | inr l ↦ inl (known_behind given n l) ];
       details = details_now given;
       read = tt;
       whole_known = λ all. (a given).whole (subst (λ o. IfSome o (IsReadBy depth)) (sym (w.behind k (omega arith))) (one_of (IsReadBy depth) old.known all k));
@@ -276,10 +271,9 @@ module _ (depth : ReadingDepth) (k : ℕ) (old now : UnitsState) (w : ReadSoFar 
   read_last_after = record {
     stays = w.stays;
     answers = λ _. w.answers ∙ sym (after_end depth old.scope records old.answers k beside past w.before);
-    begun = (k, w.before, inl w.answers);
+    begun = (k, record { before = w.before; read = w.read; decided = inl w.answers; behind = λ n l. w.behind n (omega (arith, l)) });
     known = λ probe n shut q. (w.known n shut).at probe q;
     whole = λ needed n shut q. (w.known n shut).whole needed q;
-    only = λ n. elim (at_or_behind n k) [ inl l ↦ inr (before_less depth old k w.before n l) | inr l ↦ inl (w.behind n (omega (arith, l))) ];
     details = w.details;
     read = all_of (IsReadBy depth) now.known read_all;
     whole_known = λ all. refl;

@@ -2,9 +2,9 @@
 -- Own: a lookup parses only lines that it asks for, and reads nothing of a unit that it doesn't
 -- ask; what is known stays known. The first answer to a unit's load counts until the unit is
 -- forgotten.
-use Rattle.std.specs.Prelude.{◌≡◌, ◌≢◌, ◌⊎◌, ◌+◌, ◌<◌, ◌≤◌, ℕ, Bool, true, false, List, length, IfErr, IsOk, OnOk, is_some, slice_get, Option, Some, None, Result, Ok, Err}
+use Rattle.std.specs.Prelude.{◌≡◌, ◌≢◌, ◌⊎◌, ◌+◌, ◌<◌, ◌≤◌, ℕ, suc, Bool, true, false, List, length, IfErr, IfSome, IsOk, OnOk, is_some, slice_get, Option, Some, None, Result, Ok, Err}
 use Rattle.std.specs.List.{AllByRecursion}
-use Rattle.addr2line_units.specs.Common.{Error, OutOfMemory, WasNotRefused, Sections, fault_of}
+use Rattle.addr2line_units.specs.Common.{Error, OutOfMemory, WasNotRefused, Sections, UnitRecord, Scope, fault_of}
 use Rattle.addr2line_units.specs.declared.frames.Asks.{Asks}
 use Rattle.addr2line_units.specs.declared.frames.Asks.TheVariants.{Location, Frames}
 use Rattle.addr2line_units.specs.declared.frames.OnFault.{OnFault}
@@ -12,8 +12,8 @@ use Rattle.addr2line_units.specs.declared.index.UnitRange.{UnitRange}
 use Rattle.addr2line_units.specs.declared.parses.ReadingDepth.{ReadingDepth}
 use Rattle.addr2line_units.specs.declared.parses.ReadingDepth.TheVariants as depths
 use Rattle.addr2line_units.specs.FramesLookup.{FindsNothing, LookupAsks, answer_of, asks_lines_of, has_stopped, holds_along, function_offset_of, with_answer}
-use Rattle.addr2line_units.specs.Parses.{AreFirstDecided, AreReadBefore, AreReadyFor, ReadsNoMemory, answers_after_parse, read_of_units}
-use Rattle.addr2line_units.specs.EntriesKnown.{LearnsDetailsAt, LearnsNoDetails, LearnsNoFunctions, knows_at}
+use Rattle.addr2line_units.specs.Parses.{AreReadBefore, AreReadyFor, ReadsNoMemory, answers_after_parse, first_decided, read_of_units}
+use Rattle.addr2line_units.specs.EntriesKnown.{KnownEntries, LearnsDetailsAt, LearnsNoDetails, LearnsNoFunctions, knows_at}
 use Rattle.addr2line_units.specs.Loads.{NoneOpen, forgotten, is_open_at, load_result}
 use Rattle.addr2line_units.specs.LoadsMemory.{answer_takes_memory}
 use Rattle.addr2line_units.specs.LoadsLaws.{IsListed, loads_of}
@@ -22,6 +22,7 @@ use Rattle.addr2line_units.specs.ParsesLaws.{IsReached}
 use Rattle.addr2line_units.specs.LocationsParsed.{AllAskFor, AreAllParsed, AreParsed, AreReadyForAll, LeadTo, ParsesOnly, StaysParsed, TakeNone, TakeNoneForAll}
 use Rattle.addr2line_units.specs.EntriesStayKnown.{IsReadBy, IsReadyAt, StaysKnown}
 use Rattle.addr2line_units.specs.UnitsState.{IsFaultAt, UnitsState, asked_by, has_asked_at, has_asked_few_at, stop_of, takes_none_at}
+use Rattle.addr2line_units.specs.UnitView.{FirstAnswers}
 
 -- nothing is changed but which lines are parsed, how often they were looked at, and what is stored
 -- of the last lookup: those stay parsed that were, and no others are but those that are asked for
@@ -197,8 +198,20 @@ pub record AfterPreloadAlong {X : Type 0} (ranges : List UnitRange) (result : Re
       → IsOk result
   pub refused : IfErr result (λ e. e ≡ OutOfMemory)
 
+-- a parse of functions has come to the unit of a number: all units before it can be read, and all
+-- that it reads of them is known then, and those that were open are decided by none; that one may
+-- be, and of those behind it nothing is changed
+pub record HasComeTo (depth : ReadingDepth) (scope : Scope) (us : List UnitRecord)
+    (answers : FirstAnswers) (known : List KnownEntries) (new_answers : FirstAnswers)
+    (new_known : List KnownEntries) (n : ℕ) : Type 0 where
+  pub before : AreReadBefore depth scope us answers n
+  pub read : (m : ℕ) → m < n → IfSome (slice_get new_known m) (IsReadBy depth)
+  pub decided : (new_answers ≡ first_decided scope.file.sections n us answers)
+      ⊎ (new_answers ≡ first_decided scope.file.sections (suc n) us answers)
+  pub behind : (m : ℕ) → n < m → slice_get new_known m ≡ slice_get known m
+
 -- after a parse of all functions open units are decided by none, up to the first fault; where
--- memory was refused, some of the first ones. What was known of the others stays, and where
+-- memory was refused, up to the unit that it was refused for. What was known of the others stays, and where
 -- functions alone are read no detail becomes known. Unless memory was refused all is known that the
 -- parse reads, and where it is, none was refused; where it was before, the result is that of the
 -- reading, and nothing is changed of what is known and answered; where nothing that is read takes
@@ -210,15 +223,14 @@ pub record AfterReading (shares : Bool) (depth : ReadingDepth) (result : Result 
   pub stays : StayRead old new
   pub answers : WasNotRefused result → new.answers
       ≡ answers_after_parse depth old.scope old.scope.file.units old.answers
-  pub begun : AreFirstDecided depth old.scope old.scope.file.units old.answers new.answers
+  pub begun : (n : ℕ) × HasComeTo depth old.scope old.scope.file.units old.answers old.known
+      new.answers new.known n
   pub known : (probe n : ℕ)
       → is_open_at old.scope.file.sections old.scope.file.units old.answers n ≡ false
       → knows_at old.known probe n ≡ true → knows_at new.known probe n ≡ true
   pub whole : (needed : ReadingDepth) (n : ℕ)
       → is_open_at old.scope.file.sections old.scope.file.units old.answers n ≡ false
       → IsReadyAt needed old.known n → IsReadyAt needed new.known n
-  pub only : (n : ℕ) → (slice_get new.known n ≡ slice_get old.known n)
-      ⊎ AreReadBefore depth old.scope old.scope.file.units old.answers n
   pub details : depth ≡ depths.Functions → LearnsNoDetails old.known new.known
   pub read : OnOk result (AllByRecursion (IsReadBy depth) new.known)
   pub whole_known : AllByRecursion (IsReadBy depth) old.known → result ≡ Ok tt

@@ -113,6 +113,6 @@ parse_leaves {X = X} depth done r old new a told refused = by r told refused
     by (Err e) told refused = record {
       sections = a.stays.sections;
       answers = tt;
-      refused = (refused.0, λ m is. (let begun = a.begun m is in (begun.0, begun.1.before, begun.1.decided)));
+      refused = (refused.0, λ m is. (let begun = a.begun m is in (begun.0, begun.1.decided)));
       parsed = parsed;
     }

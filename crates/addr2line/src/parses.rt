@@ -23,8 +23,8 @@ impl<R: Reader> Context<R> {
     /// the first fault are left as they are.
     ///
     /// Refused by the first fault of a view or its functions; may fail with `OutOfMemory` instead,
-    /// which is never cached: then the units before the one that memory was refused for are parsed,
-    /// and those behind it are left as they are. Takes no memory where of each unit up to the first
+    /// which is never cached: then the units before some unit are decided and parsed, that unit may
+    /// be decided too, and those behind it are left as they are. Takes no memory where of each unit up to the first
     /// fault the functions are cached, that fault too, or take none to read: unless readers share
     /// their bytes they take none where a view has none. So the same call after it gives the same,
     /// until a unit is forgotten or answered.

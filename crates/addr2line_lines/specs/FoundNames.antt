@@ -1,12 +1,13 @@
 -- Names as they are found, and the units and entries that references lead to, as the private
 -- functions see them.
 use Rattle.std.specs.Prelude.{ℕ, ◌≡◌, ◌==◌, ◌||◌, leb, Bool, true, false, List, Option, option_map, Result}
+use Rattle.std.specs.Option.{option_or}
 use Rattle.addr2line_lines.specs.Common.{DwAt, DW_AT_name, Error, NamedValue, as_value, Reading, Section, taken_after, UnitRecord}
 use Rattle.addr2line_lines.specs.declared.references.EntryPlace.{EntryPlace as EntryPlaceOf}
 use Rattle.addr2line_lines.specs.declared.found_name.FoundName.{FoundName}
 use Rattle.addr2line_lines.specs.declared.found_name.FoundName.TheVariants.{Own, Shared}
 use Rattle.addr2line_lines.specs.declared.name.NameOrOrigin.{NameOrOrigin as NameOrOriginOf}
-use Rattle.addr2line_lines.specs.Names.{NameOrOrigin, is_linkage_name, is_origin, with_name}
+use Rattle.addr2line_lines.specs.Names.{NameOrOrigin, is_linkage_name, is_origin, with_name, linkage_name_of, with_name_or_origin}
 use Rattle.addr2line_lines.specs.References.{EntryPlace, Scope}
 use Rattle.addr2line_lines.specs.Scopes.{as_scope}
 
@@ -48,6 +49,16 @@ is_name_attribute name = is_linkage_name name || name.0 == DW_AT_name.0 || is_or
 -- the linkage name that an attribute gives, beside what is found after it
 abbrev pub with_linkage : Option Section → NameOrOrigin → Option Section × NameOrOrigin
 with_linkage linkage found = (linkage, found)
+
+-- the same of one more attribute
+abbrev pub linkage_and_found : Scope → UnitRecord → NameOrOrigin → NamedValue
+    → Option Section × NameOrOrigin
+linkage_and_found scope u found a =
+    with_linkage (linkage_name_of scope u a) (with_name_or_origin scope u found a)
+
+-- a string after what was found, if there is one
+abbrev pub with_string : Option Section → NameOrOrigin → NameOrOrigin
+with_string string found = record found { name = option_or string found.name }
 
 -- the name by attributes that are read, after those that were read before
 abbrev pub name_after : Scope → UnitRecord → Result (Option Section) Error

@@ -119,7 +119,7 @@ pub record IsTableMore (old new : FunctionTable) : Type 0 where
   pub inlined : IsGrown old.inlined new.inlined
   pub names : AreNamesMore old.names new.names
 
--- a function whose detail is cached, its fault too
+-- a function with its detail, or the fault of that, cached
 abbrev pub with_detail : Scope → UnitRecord → CachedFunction → CachedFunction
 with_detail scope u f = record { offset = f.offset; detail = Some (detail_once scope u f) }
 
@@ -131,8 +131,8 @@ IsReadBehind (Ok x) rest result old new = rest
 IsReadBehind (Err e) rest result old new = (result ≡ Err e) × (new ≡ old)
 
 -- the details of functions were read in turn, up to the first fault, which is the answer: those
--- that were read are cached then, and that fault; or memory was refused for one that takes some;
--- from that one on, and behind that fault, the functions are as they were
+-- before it are cached then, and that fault; or up to one that memory was refused for, and that
+-- takes some: those before it are cached then; the functions behind are as they were
 abbrev pub AreReadInTurn : Bool → Scope → UnitRecord → List CachedFunction
     → Result (Unit {0}) Error → List CachedFunction → Type 0
 AreReadInTurn shares scope u [] result new = (result ≡ Ok tt) × (new ≡ [])

@@ -317,9 +317,9 @@ impl<R: Reader> Functions<R> {
     }
 
     /// Reads the details of all functions in turn, in the order of their entries, as `read` does,
-    /// up to the first fault or to the first one that memory is refused for. What was cached stays
-    /// cached; the details up to there are cached then, and that fault too. Of the functions behind
-    /// it nothing more is cached.
+    /// up to the first fault, which is cached too, or to the first one that memory is refused for.
+    /// What was cached stays cached, and the details before that one are cached then. Of the
+    /// functions behind it nothing more is cached.
     ///
     /// `unit` and `scope` are those of `parse`. Refused by the first fault of a detail; may fail
     /// with `OutOfMemory` instead, which is not cached, only where `read` may for the function that

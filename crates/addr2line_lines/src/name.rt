@@ -1,12 +1,11 @@
 //! The names of functions and inlined entries.
 
 ghost use Rattle.std.specs.Prelude.{◌≡◌, Ok, Some, option_map};
-ghost use Rattle.std.specs.Option.{option_or};
 ghost use Rattle.gimli_read.specs.declared.value.AttributeValue.TheVariants as values;
 ghost use Rattle.addr2line_lines.specs.Common.{as_value, ExactlyUnlessOomIf};
 ghost use Rattle.addr2line_lines.specs.CachedNames.{AreNamesIn, AreNamesMore};
-ghost use Rattle.addr2line_lines.specs.FoundNames.{found_name, is_name_attribute, as_name_or_origin, as_place, with_linkage};
-ghost use Rattle.addr2line_lines.specs.Names.{is_linkage_name, is_origin, linkage_name_of, named_at, no_name, or_referred_name, readable, referred_name, visited, with_name, with_name_or_origin};
+ghost use Rattle.addr2line_lines.specs.FoundNames.{found_name, is_name_attribute, linkage_and_found, as_name_or_origin, as_place, with_linkage, with_string};
+ghost use Rattle.addr2line_lines.specs.Names.{is_linkage_name, is_origin, named_at, no_name, or_referred_name, readable, referred_name, visited, with_name};
 ghost use Rattle.addr2line_lines.specs.References.{IsScope};
 ghost use Rattle.addr2line_lines.specs.Scopes.{as_scope};
 
@@ -98,10 +97,7 @@ impl<R: Reader> NameOrOrigin<R> {
     // Sets the name to a string, if it is one.
     fn set_name(&mut self, string: Option<R>)
         ensures gives { as_name_or_origin R.section self.new
-            ≡ record (as_name_or_origin R.section self.old) {
-              name = option_or
-                  (option_map R.section string) (as_name_or_origin R.section self.old).name;
-            } }
+            ≡ with_string (option_map R.section string) (as_name_or_origin R.section self.old) }
     {
         if string.is_some() {
             self.name = string;
@@ -127,9 +123,8 @@ impl<R: Reader> NameOrOrigin<R> {
     ) -> Result<Option<R>, Error>
         ensures gives { ExactlyUnlessOomIf R.shares (λ linkage. with_linkage
             (option_map R.section linkage) (as_name_or_origin R.section self.new)) result
-            (Ok (with_linkage (linkage_name_of (as_scope scope.entry) unit.now attribute)
-            (with_name_or_origin (as_scope scope.entry) unit.now
-            (as_name_or_origin R.section self.old) attribute))) }
+            (Ok (linkage_and_found (as_scope scope.entry) unit.now
+            (as_name_or_origin R.section self.old) attribute)) }
     {
         let name = attribute.name();
         let value = attribute.value();

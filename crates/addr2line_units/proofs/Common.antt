@@ -92,5 +92,5 @@ pub use Rattle.addr2line_units.specs.declared.unit.LazyLines.{LazyLines}
 pub use Rattle.addr2line_units.specs.declared.unit.LinesCache.{LinesCache}
 pub use Rattle.addr2line_units.specs.declared.unit.UnitView.{UnitView}
 pub use Rattle.addr2line_units.specs.declared.unit.ViewState.{ViewState}
-pub use Rattle.addr2line_units.proofs.CachedUnits.{HaveEntriesOf}
+pub use Rattle.addr2line_units.proofs.UnitsCaches.{HaveEntriesOf}
 pub use Rattle.addr2line_lines.proofs.Facts.{all_at, get_set_other, get_set_same, some_at}

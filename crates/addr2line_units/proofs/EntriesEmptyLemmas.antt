@@ -14,7 +14,7 @@ use Rattle.addr2line_units.proofs.FramesNumberedLemmas.{frames_are, known_then}
 use Rattle.addr2line_units.proofs.UnitsAtLemmas.{all_entries, as_many, its_entries, its_lines, unit_is}
 use Rattle.addr2line_units.proofs.EntriesFrameLemmas.{lines_frames}
 use Rattle.addr2line_units.proofs.Facts.{slice_get_none}
-use Rattle.addr2line_units.proofs.CachedUnits.{has_frames_at}
+use Rattle.addr2line_units.proofs.UnitsCaches.{has_frames_at}
 
 -- what is absent
 functions_absent : {R : Type 0} (f : LazyFunctions R) → has_no_functions f ≡ true → f ≡ functions.Absent

@@ -1,11 +1,11 @@
--- What a lookup of a function leaves of the functions of a view (on specs/CacheAfter.antt).
+-- What a lookup of a function leaves of the functions of a view (on specs/UnitAfter.antt).
 use Rattle.addr2line_units.proofs.Common.{Box, Global, ◌≡◌, ◌≢◌, ◌∙◌, ℕ, ◌<◌, ◌&&◌, Bool, true, false, List, [], length, map, Some, None, Result, Ok, Err, refl, ap, sym, subst, arith, some_at, read_more, table_same, AllByRecursion, Error, ExactlyUnlessOomIf, AreUnread, OutOfMemory, UnitRecord, InlinedEntry, FunctionTable, cached_detail, cached_inlined, cached_offset_at, function_offset_at, function_place_at, functions_of, functions_take_memory, exceeds_inline_room, IsReadAt, Scope, LazyFunctions, function_at, AreFunctionsOf, IsTableOf, ReadsNoOther, StayFunctions, cached_functions, cached_has_function, find_takes_memory, function_of_place, has_place, table_takes_memory, were_read}
 use Rattle.std.specs.Box.{with_value}
 use Rattle.addr2line_lines.specs.FoundInlined.{entry_among}
 use Rattle.addr2line_lines.specs.InlinedChain.{inlined_chain}
 use Rattle.addr2line_units.specs.declared.entries.FunctionPlace.{FunctionPlace}
 use Rattle.addr2line_units.specs.declared.entries.LazyFunctions.TheVariants as lazy
-use Rattle.addr2line_units.specs.CacheAfter.{AfterCachingFunctions}
+use Rattle.addr2line_units.specs.UnitAfter.{AfterCachingFunctions}
 use Rattle.addr2line_units.proofs.EntriesKeeps.{KeepsFunction}
 use Rattle.addr2line_units.specs.EntriesFunctions.{found_in_cache}
 use Rattle.addr2line_units.proofs.EntriesFunctionLemmas.{chain_found, details_before, function_is, memory_before, none_before, none_found, number_stays, reads_one, refused_chain, refused_detail, stay_faulty, stay_read, table_stays}

@@ -6,7 +6,7 @@ use Rattle.addr2line_units.specs.declared.unit.LazyLines.TheVariants as lines
 use Rattle.addr2line_units.specs.declared.unit.ViewState.TheVariants as states
 use Rattle.addr2line_units.specs.declared.entries.FunctionPlace.{FunctionPlace}
 use Rattle.addr2line_units.specs.declared.entries.UnitFrames.TheVariants as found
-use Rattle.addr2line_units.specs.CacheAfter.{AfterFramesIn, AfterFunctionIn, AfterLinesOf, AfterEntries, AfterCheck}
+use Rattle.addr2line_units.specs.UnitAfter.{AfterFramesIn, AfterFunctionIn, AfterLinesOf, AfterEntries, AfterCheck}
 use Rattle.addr2line_units.specs.EntriesFrames.{HasFewInlined}
 use Rattle.addr2line_units.specs.EntriesFunctions.{found_in_cache}
 use Rattle.addr2line_units.proofs.EntriesKeeps.{KeepsChecked, KeepsFunction}

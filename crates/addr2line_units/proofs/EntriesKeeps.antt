@@ -1,5 +1,5 @@
 -- What calls leave of what is cached of the entries of a unit, where that was right before (on
--- specs/CacheAfter.antt).
+-- specs/UnitAfter.antt).
 use Rattle.addr2line_units.proofs.Common.{◌≡◌, ℕ, Bool, true, false, List, Option, None, Result, Ok, Err, IfErr, OnOk, Error, OutOfMemory, Sections, UnitRecord, Scope, LazyFunctions, ReadingDepth, EntriesCache, AreEntriesOf, StayEntries, first_answer_of, were_read, is_decided, was_checked, awaited_load, decided_answer, is_open, verdict, view_fault, AreFunctionsOf, ArePlacesIn, IsReadyFor, ReadsNoDetail, ReadsNoOther, StayFunctions, WasNotRefused, cached_functions, cached_has_function, exceeds_inline_room, function_at, functions_take_memory, inlined_of_found, known_functions, read_of_functions}
 use Rattle.std.specs.Prelude.{IfOk, IfSome, is_some}
 use Rattle.addr2line_units.specs.declared.entries.FunctionPlace.{FunctionPlace}

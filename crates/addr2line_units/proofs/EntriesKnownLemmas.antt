@@ -3,7 +3,7 @@ use Rattle.addr2line_units.proofs.Common.{◌≡◌, ◌∙◌, ap, sym, refl, �
 use Rattle.addr2line_units.specs.declared.entries.LazyFunctions.TheVariants as lazy
 use Rattle.addr2line_units.specs.declared.unit.ViewState.TheVariants as states
 use Rattle.addr2line_units.proofs.EntriesKnownTableLemmas.{table_known}
-use Rattle.addr2line_units.proofs.CachedUnits.{has_entries_at}
+use Rattle.addr2line_units.proofs.UnitsCaches.{has_entries_at}
 
 fault_known : (probe : ℕ) (e : Error) → is_known_at probe (known_fault e) ≡ is_cached_fault e
 fault_known probe e = by (is_cached_fault e)

@@ -1,7 +1,7 @@
 -- What is cached of the entries of a unit (on specs/EntriesCached.antt and specs/EntriesFrames.antt).
 use Rattle.addr2line_units.proofs.Common.{◌≡◌, ◌∙◌, ℕ, ap, sym, refl, subst, Bool, true, false, Option, Some, IfOk, IfSome, is_none, Result, Ok, Err, Error, ◌>>=◌, ExactlyUnlessOom, ExactlyUnlessOomIf, Sections, UnitRecord, functions_take_memory, exceeds_inline_room, Scope, table_same, LazyFunctions, EntriesCache, UnitView, ViewState, functions_in_take_memory, view_takes_memory, function_at, AreEntriesOf, has_answered, has_entries_by, first_answer_of, AreFunctionsOf, StayFunctions, cached_has_function, is_cached_fault, were_read, is_decided, parts_or_fault, as_sections, unboxed, verdict_in, view_by, waits, was_checked, function_by, function_in, inlined_of_unit, inlined_of_found, View, is_open, parts_of, verdict, view_scope}
 use Rattle.std.specs.Prelude.{Box, is_ok}
-use Rattle.addr2line_units.specs.CacheAfter.{AfterCheck}
+use Rattle.addr2line_units.specs.UnitAfter.{AfterCheck}
 use Rattle.addr2line_units.specs.UnitViewCached.{has_view}
 use Rattle.addr2line_units.proofs.EntriesKeeps.{KeepsChecked}
 use Rattle.addr2line_units.proofs.UnitViewLemmas.{checked_is_right}

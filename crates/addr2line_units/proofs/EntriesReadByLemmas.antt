@@ -7,7 +7,7 @@ use Rattle.addr2line_units.proofs.LoadsAnswerLemmas.{checked_waits}
 use Rattle.addr2line_units.proofs.FramesWaitLemmas.{known_was_checked}
 use Rattle.addr2line_units.specs.EntriesStayKnown.{IsReadBy}
 use Rattle.addr2line_units.proofs.EntriesLemmas.{checked_decides}
-use Rattle.addr2line_units.proofs.CachedUnits.{decided_at, has_entries_at}
+use Rattle.addr2line_units.proofs.UnitsCaches.{decided_at, has_entries_at}
 
 -- no fault was read
 pub never_fault : (depth : ReadingDepth) (b : Bool) → IsReadBy depth (if b then AllKnown else NothingKnown) → ⊥

@@ -10,7 +10,7 @@ use Rattle.addr2line_units.proofs.EntriesKnownLemmas.{known_is}
 use Rattle.addr2line_units.proofs.EntriesKnownTableLemmas.{to_fault_cached, to_fault_known}
 use Rattle.addr2line_units.specs.EntriesStayKnown.{IsReadyAt, StaysKnown, StaysKnownOf}
 use Rattle.addr2line_units.proofs.EntriesLemmas.{checked_decides}
-use Rattle.addr2line_units.proofs.CachedUnits.{StayAllEntries, decided_at}
+use Rattle.addr2line_units.proofs.UnitsCaches.{StayAllEntries, decided_at}
 
 pub known_of_twice : (n : ℕ) (old mid new : List KnownEntries) → StaysKnownOf n old mid → StaysKnownOf n mid new → StaysKnownOf n old new
 known_of_twice n old mid new a b = record {

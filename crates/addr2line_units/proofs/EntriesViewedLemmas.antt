@@ -1,8 +1,8 @@
--- What calls on the functions in the view of a unit leave of its cache (on specs/CacheAfter.antt and
+-- What calls on the functions in the view of a unit leave of its cache (on specs/UnitAfter.antt and
 -- specs/ParsesAfter.antt).
 use Rattle.addr2line_units.proofs.Common.{◌≡◌, refl, ℕ, Bool, true, sym, subst, ◌&&◌, Option, Some, Result, Ok, Err, IfOk, IfSome, Error, ExactlyUnlessOom, ExactlyUnlessOomIf, Sections, UnitRecord, IsScope, Scope, LazyFunctions, CachedUnit, EntriesCache, ReadingDepth, AreEntriesOf, AreFunctionsOf, first_answer_of, find_takes_memory, function_at, function_in, is_decided, parts_or_fault, read_of_functions, read_of_view, verdict, verdict_in, view_scope}
 use Rattle.addr2line_units.specs.declared.entries.FunctionPlace.{FunctionPlace}
-use Rattle.addr2line_units.specs.CacheAfter.{AfterEntries, AfterFunctionIn, WasLookedAt}
+use Rattle.addr2line_units.specs.UnitAfter.{AfterEntries, AfterFunctionIn, WasLookedAt}
 use Rattle.addr2line_units.specs.EntriesFunctions.{found_in_cache}
 use Rattle.addr2line_units.specs.EntriesOwn.{AreOwnEntries, CachedUnit}
 use Rattle.addr2line_units.specs.ParsesAfter.{AfterReadingView}

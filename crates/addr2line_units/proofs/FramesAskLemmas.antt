@@ -5,7 +5,7 @@ use Rattle.std.specs.Prelude.{IfOk, unwrap_or}
 use Rattle.addr2line_units.specs.declared.frames.Asks.TheVariants as lookups
 use Rattle.addr2line_units.specs.declared.frames.FramesStop.TheVariants as stops
 use Rattle.addr2line_units.specs.declared.entries.UnitFrames.{UnitFrames}
-use Rattle.addr2line_units.specs.CacheAfter.{AfterFramesIn}
+use Rattle.addr2line_units.specs.UnitAfter.{AfterFramesIn}
 use Rattle.addr2line_units.specs.EntriesOwn.{AreOwnEntries}
 use Rattle.addr2line_units.proofs.UnitsCachedLemmas.{entries_set, reads_set, same_answers, stay_entries_set}
 use Rattle.addr2line_units.proofs.FramesFoundLemmas.{lendable_if_told}
@@ -20,7 +20,7 @@ use Rattle.addr2line_units.proofs.UnitLinesLemmas.{not_refused_lines}
 use Rattle.addr2line_units.proofs.UnitsAtLemmas.{all_entries, as_many, cache_within, its_entries, its_lines, unit_is}
 use Rattle.addr2line_units.proofs.UnitsLinesLemmas.{stay_indexed, stay_parsed, stay_set}
 use Rattle.addr2line_units.proofs.Facts.{and_not, slice_get_none}
-use Rattle.addr2line_units.proofs.CachedUnits.{AreFoundAt, IsStopIn, StayAllEntries, StayAllLines, frames_found_at, has_entries_at, has_frames_at}
+use Rattle.addr2line_units.proofs.UnitsCaches.{AreFoundAt, IsStopIn, StayAllEntries, StayAllLines, frames_found_at, has_entries_at, has_frames_at}
 use Rattle.addr2line_units.specs.EntriesCached.{frames_or}
 
 -- a range of the unit of a number

@@ -3,7 +3,7 @@
 use Rattle.addr2line_units.proofs.Common.{◌≡◌, ℕ, zero, suc, List, [], ◌∷◌, length, ◌<◌, get_or, None, option_and_then, option_map, unwrap_or, ap, sym, subst, ◌∙◌, arith, Sections, UnitRecord, CachedUnit, answer_of, readable_view, view_of_number, first_answer_of, answers_in, IsViewOf, parts_of, verdict}
 use Rattle.addr2line_units.proofs.LoadsAnswerLemmas.{got_unit}
 use Rattle.addr2line_units.proofs.UnitsCachedLemmas.{answer_at}
-use Rattle.addr2line_units.proofs.CachedUnits.{HaveViewsOf}
+use Rattle.addr2line_units.proofs.UnitsCaches.{HaveViewsOf}
 
 -- what is cached of the view of the unit of a number is its own
 pub view_at : {R : Type 0} → (d : Sections) (us : List UnitRecord) (vs : List (CachedUnit R)) (n : ℕ) (u : UnitRecord) (v : CachedUnit R) → HaveViewsOf d us vs → n < length vs → u ≡ get_or us n u → v ≡ get_or vs n v → IsViewOf d u v.entries.view

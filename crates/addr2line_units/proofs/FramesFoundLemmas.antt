@@ -4,7 +4,7 @@ use Rattle.addr2line_units.proofs.Common.{◌≡◌, ℕ, Bool, true, false, ◌
 use Rattle.std.specs.Prelude.{IfOk, if◌then◌else◌}
 use Rattle.addr2line_units.specs.declared.frames.FramesStop.TheVariants as stops
 use Rattle.addr2line_units.proofs.FramesWaitLemmas.{waits_where_told}
-use Rattle.addr2line_units.proofs.CachedUnits.{IsStopIn, has_frames_at}
+use Rattle.addr2line_units.proofs.UnitsCaches.{IsStopIn, has_frames_at}
 
 number_of : LookupStop → ℕ → ℕ
 number_of (Waits n) d = d

@@ -4,7 +4,7 @@ use Rattle.std.specs.Prelude.{IfOk}
 use Rattle.addr2line_units.specs.declared.frames.FramesStop.TheVariants as stops
 use Rattle.addr2line_units.specs.declared.entries.UnitFrames.{UnitFrames}
 use Rattle.addr2line_units.specs.declared.entries.UnitFrames.TheVariants as found
-use Rattle.addr2line_units.proofs.CachedUnits.{AreFoundAt, IsStopIn, frames_found_at}
+use Rattle.addr2line_units.proofs.UnitsCaches.{AreFoundAt, IsStopIn, frames_found_at}
 
 -- a fault that a lookup passes over
 module _ (faults : OnFault) where

@@ -7,7 +7,7 @@ use Rattle.addr2line_units.specs.declared.entries.UnitFrames.{UnitFrames}
 use Rattle.addr2line_units.specs.declared.entries.UnitFrames.TheVariants as found
 use Rattle.addr2line_units.proofs.UnitsLinesLemmas.{no_parsed, no_unit, only_set, parsed_set, set_parsed, unit_at}
 use Rattle.addr2line_units.proofs.UnitsCachedLemmas.{answer_at, as_many_entries, parsed_by_lines, same_lines_set}
-use Rattle.addr2line_units.proofs.CachedUnits.{AreFoundAt, frames_found_at, has_entries_at, has_frames_at}
+use Rattle.addr2line_units.proofs.UnitsCaches.{AreFoundAt, frames_found_at, has_entries_at, has_frames_at}
 
 module _ {R : Type 0} (scope : Scope) (probe : ℕ) (us : List UnitRecord) (cs : List (CachedUnit R)) (n : ℕ) where
   abbrev asks : ℕ → Bool

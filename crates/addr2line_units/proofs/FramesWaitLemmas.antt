@@ -5,7 +5,7 @@ use Rattle.std.specs.Prelude.{IfOk, IfSome, if◌then◌else◌}
 use Rattle.addr2line_units.specs.declared.unit.ViewState.TheVariants as states
 use Rattle.addr2line_units.proofs.LoadsAnswerLemmas.{got_unit, checked_waits}
 use Rattle.addr2line_units.proofs.UnitViewLemmas.{waiting_is_open}
-use Rattle.addr2line_units.proofs.CachedUnits.{HaveViewsOf, has_entries_at, has_frames_at}
+use Rattle.addr2line_units.proofs.UnitsCaches.{HaveViewsOf, has_entries_at, has_frames_at}
 
 number_of : LookupStop → ℕ → ℕ
 number_of (Waits n) d = n

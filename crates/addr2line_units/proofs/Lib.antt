@@ -34,7 +34,7 @@ pub mod FramesFoundLemmas
 pub mod FramesDecidedLemmas
 pub mod EntriesKnownTableLemmas
 pub mod EntriesKnownLemmas
-pub mod CachedUnits
+pub mod UnitsCaches
 pub mod Facts
 pub mod UnitsCachedLemmas
 pub mod ParsesLemmas

@@ -3,14 +3,14 @@ use Rattle.addr2line_units.proofs.Common.{◌≡◌, ℕ, zero, suc, ◌<◌, Bo
 use Rattle.std.specs.Prelude.{IfOk, IfSome, is_none, is_some, if◌then◌else◌}
 use Rattle.addr2line_units.specs.declared.entries.LazyFunctions.TheVariants as lazy
 use Rattle.addr2line_units.specs.declared.unit.ViewState.TheVariants as states
-use Rattle.addr2line_units.specs.CacheAfter.{AfterAnswerIn, AfterForgettingIn, AfterViewAnswer}
+use Rattle.addr2line_units.specs.UnitAfter.{AfterAnswerIn, AfterForgettingIn, AfterViewAnswer}
 use Rattle.addr2line_units.proofs.EntriesKeeps.{KeepsAnswered, KeepsChecked, KeepsForgotten}
 use Rattle.addr2line_units.specs.LoadsMemory.{answer_takes_memory}
 use Rattle.addr2line_units.specs.UnitView.{answered_view}
 use Rattle.addr2line_units.proofs.EntriesLemmas.{checked_decides, keeps_checked, undecided_view}
 use Rattle.addr2line_units.proofs.UnitViewLemmas.{answered_is_right, decided_by_verdict, verdict_of_open, waiting_is_open, waiting_is_right}
 use Rattle.addr2line_units.proofs.UnitsCachedLemmas.{stay_entries_set}
-use Rattle.addr2line_units.proofs.CachedUnits.{StayAllEntries, decided_at}
+use Rattle.addr2line_units.proofs.UnitsCaches.{StayAllEntries, decided_at}
 
 -- what waits isn't decided
 waiting_is_undecided : {R : Type 0} (s : ViewState R) → waits s ≡ true → is_decided s ≡ false

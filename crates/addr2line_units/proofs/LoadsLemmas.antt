@@ -6,7 +6,7 @@ use Rattle.std.specs.Option.{option_to_list}
 use Rattle.std.specs.Prelude.{IfSome, is_none, is_some, if◌then◌else◌}
 use Rattle.gimli.specs.declared.unit.DwoId.{DwoId}
 use Rattle.addr2line_units.specs.LoadsListed.{MarksLoad, MarksUnit, if_new, is_marked, is_new}
-use Rattle.addr2line_units.specs.CacheAfter.{AfterCheck, AfterNewLoadIn, load_unless_marked}
+use Rattle.addr2line_units.specs.UnitAfter.{AfterCheck, AfterNewLoadIn, load_unless_marked}
 use Rattle.addr2line_units.proofs.EntriesKeeps.{KeepsChecked, KeepsListed}
 use Rattle.addr2line_units.proofs.EntriesLemmas.{keeps_checked}
 use Rattle.addr2line_units.proofs.UnitViewLemmas.{open_has_load, open_has_no_fault, waiting_is_open}

@@ -5,7 +5,7 @@ use Rattle.std.specs.Prelude.{option_map}
 use Rattle.addr2line_lines.specs.declared.row.Row.{Row}
 use Rattle.addr2line_units.specs.declared.frames.Asks.TheVariants as lookups
 use Rattle.addr2line_units.specs.declared.unit.LazyLines.TheVariants.{Absent, Faulty, Read, Unread}
-use Rattle.addr2line_units.specs.CacheAfter.{CountsSteps}
+use Rattle.addr2line_units.specs.UnitAfter.{CountsSteps}
 use Rattle.addr2line_units.specs.UnitsAfter.{AfterLines}
 use Rattle.addr2line_units.proofs.EntriesMemoryLemmas.{either_none, none_refused, alone_if_none}
 use Rattle.addr2line_units.proofs.UnitsCachedLemmas.{same_entries_set}
@@ -13,7 +13,7 @@ use Rattle.addr2line_units.proofs.UnitsStateLemmas.{after_lines}
 use Rattle.addr2line_units.proofs.UnitsAtLemmas.{all_lines, as_many, cache_within, unit_is, unit_within}
 use Rattle.addr2line_units.proofs.UnitsLinesLemmas.{answer_cached, lines_read, lines_set, no_parsed, no_unit, only_set, parsed_set, set_parsed, stay_indexed, stay_set, unit_at}
 use Rattle.addr2line_units.proofs.Facts.{slice_get_none}
-use Rattle.addr2line_units.proofs.CachedUnits.{StayAllLines}
+use Rattle.addr2line_units.proofs.UnitsCaches.{StayAllLines}
 
 -- lines in which a row was found were read
 read_if_found : (d : Sections) (u : UnitRecord) (probe : ℕ) (lines : LazyLines) (found : Option Location) → AreLinesOf d u lines → is_uncached lines ≡ false → (unit_lines d u >>= λ table. Ok (location_at probe table)) ≡ Ok found → AreRead lines

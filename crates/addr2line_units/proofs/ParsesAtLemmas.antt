@@ -2,7 +2,7 @@
 -- specs/UnitsStored.antt).
 use Rattle.addr2line_units.proofs.Common.{◌≡◌, ◌∙◌, inl, inr, ℕ, zero, suc, ◌<◌, arith, Bool, true, false, List, [], ◌∷◌, length, get_or, slice_get, Option, Some, None, option_map, Result, Ok, Err, refl, sym, ap, subst, set, slice_get-map, slice_get_past, slice_get_read, IfErr, OnOk, Error, Sections, UnitRecord, Scope, FramesStop, ReadingDepth, CachedUnit, EntriesCache, first_answer_of, has_entries, known_by, known_in, answers_in, is_decided, was_checked, FindsNothing, LookupStop, answer_of, IsReadyFor, parse_of_takes_memory, parse_takes_memory, read_of_number, read_of_unit, is_open_at, AreUnits, as_units_state, UnitsState, FirstAnswers, is_open, get_set_other, get_set_same}
 use Rattle.std.specs.Prelude.{IfSome, unwrap_or}
-use Rattle.addr2line_units.specs.CacheAfter.{AfterEntries}
+use Rattle.addr2line_units.specs.UnitAfter.{AfterEntries}
 use Rattle.addr2line_units.specs.ParsesAfter.{AfterReadingAt, AfterReadingUnit}
 use Rattle.addr2line_units.specs.EntriesStayKnown.{IsReadBy, StaysKnownOf}
 use Rattle.addr2line_units.proofs.LoadsAnswerLemmas.{answered_all, answers_stay, decided_if_not, checked_waits}
@@ -16,7 +16,7 @@ use Rattle.addr2line_units.proofs.UnitsAtLemmas.{all_entries, as_many, cache_wit
 use Rattle.addr2line_units.proofs.FramesWaitLemmas.{known_was_checked}
 use Rattle.addr2line_units.proofs.EntriesLemmas.{checked_decides}
 use Rattle.addr2line_units.proofs.Facts.{slice_get_none}
-use Rattle.addr2line_units.proofs.CachedUnits.{HaveSameLines}
+use Rattle.addr2line_units.proofs.UnitsCaches.{HaveSameLines}
 
 -- what is read of the unit of a number, whether it is open, and whether memory is taken, by its
 -- record and its first answer

@@ -1,9 +1,9 @@
 -- What a parse of functions leaves of a unit that is decided, and of the functions in its view (on
--- specs/CacheAfter.antt and specs/ParsesAfter.antt).
+-- specs/UnitAfter.antt and specs/ParsesAfter.antt).
 use Rattle.addr2line_units.proofs.Common.{◌≡◌, ◌∙◌, Bool, true, refl, sym, ap, subst, Ok, Err, Error, ExactlyUnlessOom, UnitRecord, Scope, FunctionTable, LazyFunctions, ReadingDepth, AreFunctionsOf, StayFunctions, cached_fault, read_of_functions, were_read, Box, Global, IsTableOf}
 use Rattle.addr2line_units.specs.declared.entries.LazyFunctions.TheVariants as lazy
 use Rattle.addr2line_units.specs.declared.parses.ReadingDepth.TheVariants as depths
-use Rattle.addr2line_units.specs.CacheAfter.{AfterCachingFunctions}
+use Rattle.addr2line_units.specs.UnitAfter.{AfterCachingFunctions}
 use Rattle.addr2line_units.proofs.EntriesFindLemmas.{cached_right, were_unread}
 use Rattle.addr2line_units.proofs.EntriesFunctionLemmas.{no_fault_of, stay_faulty}
 use Rattle.addr2line_units.proofs.EntriesKeeps.{KeepsReadFunctions}

@@ -1,6 +1,6 @@
--- The cached lines of a unit (on specs/UnitLinesCached.antt and specs/CacheAfter.antt).
+-- The cached lines of a unit (on specs/UnitLinesCached.antt and specs/UnitAfter.antt).
 use Rattle.addr2line_units.proofs.Common.{◌≡◌, ◌⊎◌, ◌∙◌, ◌≤◌, inl, inr, ℕ, ap, arith, Bool, true, false, refl, IfErr, Result, Ok, Err, Some, subst, sym, false≢true, Error, OutOfMemory, Exactly, ExactlyUnlessOom, WasNotRefused, ◌>>=◌, Sections, UnitRecord, LineTable, location_at, unit_lines, LazyLines, LinesCache, AreLinesOf, cached_lines, cached_lines_result, is_uncached, lines_result, lines_take_memory, IndexedUnit, location_in, steps_in}
-use Rattle.addr2line_units.specs.CacheAfter.{AfterLinesOf, CountsSteps}
+use Rattle.addr2line_units.specs.UnitAfter.{AfterLinesOf, CountsSteps}
 use Rattle.addr2line_units.specs.UnitLinesCached.{cached_steps, lines_or, lines_result_or, location_or}
 use Rattle.addr2line_units.specs.declared.unit.LazyLines.TheVariants.{Unread, Absent, Read, Faulty}
 

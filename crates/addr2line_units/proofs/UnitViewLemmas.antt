@@ -8,7 +8,7 @@ use Rattle.gimli.proofs.UnitLemmas.{read_takes_memory}
 use Rattle.addr2line_lines.specs.FileTexts.{optional_string}
 use Rattle.addr2line_units.specs.declared.unit.AnsweredLoad.{AnsweredLoad}
 use Rattle.addr2line_units.specs.declared.unit.ViewState.TheVariants as states
-use Rattle.addr2line_units.specs.CacheAfter.{AfterViewCheck}
+use Rattle.addr2line_units.specs.UnitAfter.{AfterViewCheck}
 use Rattle.addr2line_units.specs.UnitViewCached.{verdict_or}
 
 decided_by : (d : Sections) (u : UnitRecord) (load : Result (Option SplitLoad) Error) (r : Result View Error) (answer : Option (Option Sections)) → verdict_by d u load None ≡ Some r → verdict_by d u load answer ≡ Some r

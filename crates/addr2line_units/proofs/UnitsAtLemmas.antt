@@ -3,7 +3,7 @@
 use Rattle.addr2line_units.proofs.Common.{◌≡◌, ℕ, ◌<◌, nat_lt, ltb-false, ltb-true, true, false, List, length, get_or, slice_get, Option, Some, None, refl, sym, ap, subst, ◌∙◌, set, length-map, get_or_from_slice_get, slice_get_past, slice_get_read, slice_get_within, UnitRecord, Scope, FramesStop, LinesCache, CachedUnit, CountsUnits, AreEntriesOf, first_answer_of, IsLendable, known_by, AreLinesOf, HaveLinesOf, is_parsed, HaveEntriesOf, IsCacheOf, LookupStop, AreUnits, as_units_state, IndexedUnit, UnitsState}
 use Rattle.addr2line_units.specs.declared.frames.FramesStop.TheVariants as stops
 use Rattle.std.specs.Prelude.{IfSome}
-use Rattle.addr2line_units.specs.CacheAfter.{WasLookedAt}
+use Rattle.addr2line_units.specs.UnitAfter.{WasLookedAt}
 use Rattle.addr2line_lines.specs.References.{UnitInScope}
 use Rattle.addr2line_units.specs.EntriesOwn.{AreOwnEntries, CachedUnit}
 use Rattle.addr2line_units.specs.UnitsCached.{AreOfUnit}

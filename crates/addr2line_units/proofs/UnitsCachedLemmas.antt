@@ -7,7 +7,7 @@ use Rattle.addr2line_lines.proofs.NestingLemmas.{grown_not}
 use Rattle.addr2line_units.specs.declared.entries.LazyFunctions.TheVariants as lazy
 use Rattle.addr2line_units.specs.declared.unit.ViewState.TheVariants as states
 use Rattle.addr2line_units.proofs.EntriesFunctionLemmas.{place_stays}
-use Rattle.addr2line_units.proofs.CachedUnits.{HaveSameEntries, HaveSameLines, ReadsOnly, StayAllEntries, has_entries_at}
+use Rattle.addr2line_units.proofs.UnitsCaches.{HaveSameEntries, HaveSameLines, ReadsOnly, StayAllEntries, has_entries_at}
 
 -- a detail that is cached is cached where more is
 more_detail : (a b : Option (Result Detail Error)) → ((d : Result Detail Error) → a ≡ Some d → b ≡ Some d) → has_detail a ≡ true → has_detail b ≡ true

@@ -7,7 +7,7 @@ use Rattle.std.proofs.lemmas.List.{append-nil}
 use Rattle.std.proofs.lemmas.List.Sums.{sum_by-cons}
 use Rattle.addr2line_units.specs.UnitsIndexed.{IndexState, appended, as_ranged_unit}
 use Rattle.addr2line_units.proofs.Facts.{below_or_at, err_ok, never, ok_err, three}
-use Rattle.addr2line_units.proofs.CachedUnits.{StayAllLines}
+use Rattle.addr2line_units.proofs.UnitsCaches.{StayAllLines}
 
 pub stay_all : {R : Type 0} (rs : List (CachedUnit R)) → StayAllLines rs rs
 stay_all [] = tt

@@ -2,7 +2,7 @@
 -- specs/UnitsAfter.antt and specs/UnitsStored.antt).
 use Rattle.addr2line_units.proofs.Common.{◌≡◌, inl, inr, ℕ, ◌<◌, Bool, true, false, List, length, get_or, slice_get, Option, Some, None, Result, Ok, Err, refl, sym, ap, subst, ◌∙◌, AreEntriesOf, fault_of, is_decided, verdict_in, set, cases_eq, IfErr, OnOk, Error, UnknownToken, ◌>>=◌, Sections, UnitRecord, Scope, FramesStop, CachedUnit, EntriesCache, first_answer_of, known_in, answers_in, FindsNothing, LookupStop, answer_of, LearnsNoFunctions, is_open_at, load_of_number, load_result, view_fault, AreUnits, as_units_state, UnitsState, awaited_load, decided_answer, is_open, verdict, with_answer, get_set_other}
 use Rattle.std.specs.Prelude.{IfSome, is_some}
-use Rattle.addr2line_units.specs.CacheAfter.{AfterAnswerIn, AfterForgettingIn, AfterNewLoadIn}
+use Rattle.addr2line_units.specs.UnitAfter.{AfterAnswerIn, AfterForgettingIn, AfterNewLoadIn}
 use Rattle.addr2line_units.specs.UnitView.{SplitLoad}
 use Rattle.addr2line_units.proofs.EntriesKeeps.{KeepsAnswered, KeepsChecked, KeepsForgotten, KeepsListed}
 use Rattle.addr2line_units.proofs.UnitViewLemmas.{cached_fault}
@@ -16,7 +16,7 @@ use Rattle.addr2line_units.proofs.LoadsLemmas.{as_many_answers, keeps_listed, lo
 use Rattle.addr2line_units.proofs.LoadsOpenLemmas.{not_open_there}
 use Rattle.addr2line_units.proofs.UnitsAtLemmas.{all_entries, as_many, cache_within, its_entries, unit_is, unit_within}
 use Rattle.addr2line_units.proofs.UnitsStateLemmas.{after_answer, after_forget, after_listing, after_load}
-use Rattle.addr2line_units.proofs.CachedUnits.{HaveSameLines, decided_at}
+use Rattle.addr2line_units.proofs.UnitsCaches.{HaveSameLines, decided_at}
 
 -- the unit of a number
 module _ {R : Type 0} {scope : Scope} {held : List (CachedUnit R)} {last : FramesStop} (i : AreUnits scope held last) (n : ℕ) where

@@ -18,7 +18,7 @@ use Rattle.addr2line_units.proofs.LoadsLemmas.{as_many_answers}
 use Rattle.addr2line_units.proofs.EntriesReadByLemmas.{answered_is_decided, known_is_decided, none_asked}
 use Rattle.addr2line_units.proofs.EntriesStayLemmas.{none_whole, stays_known, whole_is_decided}
 use Rattle.addr2line_units.proofs.UnitsLinesLemmas.{stay_indexed, stay_length, stay_parsed}
-use Rattle.addr2line_units.proofs.CachedUnits.{HaveSameEntries, HaveSameLines, StayAllEntries, StayAllLines, decided_at}
+use Rattle.addr2line_units.proofs.UnitsCaches.{HaveSameEntries, HaveSameLines, StayAllEntries, StayAllLines, decided_at}
 
 -- what is stored that waits for a unit waits for one that waits
 pub waits_if_stored : {R : Type 0} (views : List (CachedUnit R)) (last : FramesStop) (n : ℕ) → as_stop views last ≡ Waits n → IsLendable views last → waits_at views n ≡ true

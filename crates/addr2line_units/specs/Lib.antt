@@ -35,7 +35,7 @@ pub mod EntriesOwn
 pub mod EntriesCached
 pub mod FramesCached
 pub mod UnitsCached
-pub mod CacheAfter
+pub mod UnitAfter
 pub mod EntriesKnown
 pub mod EntriesKnownCached
 pub mod Loads

@@ -124,10 +124,15 @@ first_decided d (suc n) (u ∷ us) (answer ∷ answers) =
     decided_answer d u answer None ∷ first_decided d n us answers
 first_decided d (suc n) _ answers = answers
 
--- all units before the one of some number can be read, and those that were open are decided by
--- none; that one may be, and no other
-abbrev pub AreFirstDecided : ReadingDepth → Scope → List UnitRecord → FirstAnswers
-    → FirstAnswers → Type 0
-AreFirstDecided depth scope us old new = (n : ℕ) × AreReadBefore depth scope us old n
+-- all units before the one of a number can be read, and those that were open are decided by none;
+-- that unit may be decided too, and no other
+abbrev pub IsDecidedTo : ReadingDepth → Scope → List UnitRecord → FirstAnswers → FirstAnswers
+    → ℕ → Type 0
+IsDecidedTo depth scope us old new n = AreReadBefore depth scope us old n
     × ((new ≡ first_decided scope.file.sections n us old)
     ⊎ (new ≡ first_decided scope.file.sections (suc n) us old))
+
+-- the same of some unit
+abbrev pub AreFirstDecided : ReadingDepth → Scope → List UnitRecord → FirstAnswers
+    → FirstAnswers → Type 0
+AreFirstDecided depth scope us old new = (n : ℕ) × IsDecidedTo depth scope us old new n

@@ -2,7 +2,7 @@
 -- Own: a lookup parses only lines that it asks for, and reads nothing of a unit that it doesn't
 -- ask; what is known stays known. The first answer to a unit's load counts until the unit is
 -- forgotten.
-use Rattle.std.specs.Prelude.{◌≡◌, ◌≢◌, ◌⊎◌, ◌+◌, ◌<◌, ◌≤◌, ℕ, suc, Bool, true, false, List, length, IfErr, IfSome, IsOk, OnOk, is_some, slice_get, Option, Some, None, Result, Ok, Err}
+use Rattle.std.specs.Prelude.{◌≡◌, ◌≢◌, ◌⊎◌, ◌+◌, ◌<◌, ◌≤◌, ℕ, Bool, true, false, List, length, IfErr, IfSome, IsOk, OnOk, is_some, slice_get, Option, Some, None, Result, Ok, Err}
 use Rattle.std.specs.List.{AllByRecursion}
 use Rattle.addr2line_units.specs.Common.{Error, OutOfMemory, WasNotRefused, Sections, UnitRecord, Scope, fault_of}
 use Rattle.addr2line_units.specs.declared.frames.Asks.{Asks}
@@ -12,7 +12,7 @@ use Rattle.addr2line_units.specs.declared.index.UnitRange.{UnitRange}
 use Rattle.addr2line_units.specs.declared.parses.ReadingDepth.{ReadingDepth}
 use Rattle.addr2line_units.specs.declared.parses.ReadingDepth.TheVariants as depths
 use Rattle.addr2line_units.specs.FramesLookup.{FindsNothing, LookupAsks, answer_of, asks_lines_of, has_stopped, holds_along, function_offset_of, with_answer}
-use Rattle.addr2line_units.specs.Parses.{AreReadBefore, AreReadyFor, ReadsNoMemory, answers_after_parse, first_decided, read_of_units}
+use Rattle.addr2line_units.specs.Parses.{AreReadyFor, IsDecidedTo, ReadsNoMemory, answers_after_parse, read_of_units}
 use Rattle.addr2line_units.specs.EntriesKnown.{KnownEntries, LearnsDetailsAt, LearnsNoDetails, LearnsNoFunctions, knows_at}
 use Rattle.addr2line_units.specs.Loads.{NoneOpen, forgotten, is_open_at, load_result}
 use Rattle.addr2line_units.specs.LoadsMemory.{answer_takes_memory}
@@ -198,26 +198,23 @@ pub record AfterPreloadAlong {X : Type 0} (ranges : List UnitRange) (result : Re
       → IsOk result
   pub refused : IfErr result (λ e. e ≡ OutOfMemory)
 
--- a parse of functions has come to the unit of a number: all units before it can be read, and all
--- that it reads of them is known then, and those that were open are decided by none; that one may
--- be, and of those behind it nothing is changed
+-- a parse of functions has come to the unit of a number: those before it are decided, and all that
+-- the parse reads of them is known; of those behind it nothing is changed
 pub record HasComeTo (depth : ReadingDepth) (scope : Scope) (us : List UnitRecord)
     (answers : FirstAnswers) (known : List KnownEntries) (new_answers : FirstAnswers)
     (new_known : List KnownEntries) (n : ℕ) : Type 0 where
-  pub before : AreReadBefore depth scope us answers n
+  pub decided : IsDecidedTo depth scope us answers new_answers n
   pub read : (m : ℕ) → m < n → IfSome (slice_get new_known m) (IsReadBy depth)
-  pub decided : (new_answers ≡ first_decided scope.file.sections n us answers)
-      ⊎ (new_answers ≡ first_decided scope.file.sections (suc n) us answers)
   pub behind : (m : ℕ) → n < m → slice_get new_known m ≡ slice_get known m
 
 -- after a parse of all functions open units are decided by none, up to the first fault; where
--- memory was refused, up to the unit that it was refused for. What was known of the others stays, and where
--- functions alone are read no detail becomes known. Unless memory was refused all is known that the
--- parse reads, and where it is, none was refused; where it was before, the result is that of the
--- reading, and nothing is changed of what is known and answered; where nothing that is read takes
--- memory, over readers that share their bytes or don't, a refusal is the first fault. Without a
--- fault all is read, and where details are read and all lines can be, no lookup of frames waits or
--- has a fault; of units behind the first fault nothing becomes known
+-- memory was refused, the parse has come to some unit. What was known of the others stays, and
+-- where functions alone are read no detail becomes known. Unless memory was refused all is known
+-- that the parse reads, and where it is, none was refused; where it was before, the result is that
+-- of the reading, and nothing is changed of what is known and answered; where nothing that is read
+-- takes memory, over readers that share their bytes or don't, a refusal is the first fault. Without
+-- a fault all is read, and where details are read and all lines can be, no lookup of frames waits
+-- or has a fault
 pub record AfterReading (shares : Bool) (depth : ReadingDepth) (result : Result (Unit {0}) Error)
     (old new : UnitsState) : Type 0 where
   pub stays : StayRead old new

@@ -35,7 +35,7 @@ impl<R: Reader> LazyFunctions<R> {
     ghost use Rattle.std.specs.Prelude.{◌≡◌, IfErr, IfOk};
     ghost use Rattle.addr2line_units.specs.Common.{as_scope};
     ghost use Rattle.addr2line_units.specs.EntriesFunctions.{were_read};
-    ghost use Rattle.addr2line_units.specs.CacheAfter.{AfterCachingFunctions, AreNewFunctionsOf, IsRefusalOf};
+    ghost use Rattle.addr2line_units.specs.UnitAfter.{AfterCachingFunctions, AreNewFunctionsOf, IsRefusalOf};
 
     // The functions of a view, or their fault, as they are cached. Refused `OutOfMemory` alone, and
     // only where the functions take memory.
@@ -90,7 +90,7 @@ pub(crate) struct EntriesCache<R: Reader> {
 impl<R: Reader> EntriesCache<R> {
     ghost use Rattle.std.specs.Prelude.{◌≡◌, None};
     ghost use Rattle.addr2line_units.specs.EntriesOwn.{AreFresh, first_answer_of};
-    ghost use Rattle.addr2line_units.specs.CacheAfter.{AfterCheck};
+    ghost use Rattle.addr2line_units.specs.UnitAfter.{AfterCheck};
 
     // Before anybody asks for something. Takes no memory.
     fn new() -> EntriesCache<R>
@@ -156,7 +156,7 @@ pub(crate) enum UnitFrames {
 impl<R: Reader> UnitCache<R> {
     ghost use Rattle.std.specs.Prelude.{◌≡◌, ◌≤◌, true};
     ghost use Rattle.addr2line_units.specs.Common.{ExactlyUnlessOom, IsScope};
-    ghost use Rattle.addr2line_units.specs.CacheAfter.{AfterCheck, AfterEntries, AfterFramesIn, AfterFunctionIn};
+    ghost use Rattle.addr2line_units.specs.UnitAfter.{AfterCheck, AfterEntries, AfterFramesIn, AfterFunctionIn};
     ghost use Rattle.addr2line_units.specs.EntriesCached.{frames_of_place, frames_or};
     ghost use Rattle.addr2line_units.specs.EntriesEmpty.{has_nothing};
     ghost use Rattle.addr2line_units.specs.EntriesFrames.{function_in};

@@ -9,7 +9,7 @@ ghost use Rattle.addr2line_units.specs.SupScope.{scope_of};
 ghost use Rattle.addr2line_units.specs.UnitsCached.{AreOfUnit};
 ghost use Rattle.addr2line_units.specs.UnitsAfter.{AfterForget, AfterLoad, AfterPreloadAlong};
 ghost use Rattle.addr2line_units.specs.UnitsAsked.{AfterNewLoad};
-ghost use Rattle.addr2line_units.specs.CacheAfter.{AfterAnswerIn, AfterEntries, AfterForgettingIn, AfterNewLoadIn};
+ghost use Rattle.addr2line_units.specs.UnitAfter.{AfterAnswerIn, AfterEntries, AfterForgettingIn, AfterNewLoadIn};
 ghost use Rattle.addr2line_units.specs.LoadsListed.{MarksUnit, if_new, is_marked};
 ghost use Rattle.addr2line_units.specs.RangeIterLeft.{ranges_left};
 

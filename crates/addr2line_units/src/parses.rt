@@ -2,7 +2,7 @@
 
 ghost use Rattle.std.specs.Prelude.{◌≡◌, true};
 ghost use Rattle.addr2line_units.specs.Common.{IsUnlessOom, IsScope};
-ghost use Rattle.addr2line_units.specs.CacheAfter.{AfterEntries};
+ghost use Rattle.addr2line_units.specs.UnitAfter.{AfterEntries};
 ghost use Rattle.addr2line_units.specs.EntriesFunctions.{cached_fault};
 ghost use Rattle.addr2line_units.specs.EntriesOwn.{first_answer_of};
 ghost use Rattle.addr2line_units.specs.Parses.{read_of_number, read_of_unit, read_of_units, read_of_view};
@@ -128,9 +128,8 @@ impl<R: Reader> Units<R> {
     /// as they are.
     ///
     /// Refused by the first fault of a view, its functions and the details; may fail with
-    /// `OutOfMemory` instead, which is never cached: then the units before the one that memory was
-    /// refused for are read, that one may be decided, and those behind it are left as they are.
-    /// Takes no memory where of each unit up to the first fault what it reads is cached, that fault
+    /// `OutOfMemory` instead, which is never cached: then the units before some unit are decided and
+    /// read, that unit may be decided too, and those behind it are left as they are. Takes no memory where of each unit up to the first fault what it reads is cached, that fault
     /// too, or the functions take none to read; changes nothing where all of it is cached. Source:
     /// DWARF 5, sections 3.3.1 and 3.3.8.
     pub fn read_functions(&mut self, depth: ReadingDepth) -> Result<(), Error>

@@ -8,7 +8,7 @@ ghost use Rattle.addr2line_units.specs.EntriesMemory.{lines_take_memory};
 ghost use Rattle.addr2line_units.specs.Locations.{is_found};
 ghost use Rattle.addr2line_units.specs.IndexAranges.{range_in};
 ghost use Rattle.addr2line_units.specs.UnitLinesCached.{AreLinesOf, cached_lines_result, cached_files, cached_steps, cached_ranges, cached_row, is_parsed, lines_result, lines_result_or, location_or, cached_lines, is_uncached};
-ghost use Rattle.addr2line_units.specs.CacheAfter.{AfterLinesOf, AfterViewAnswer, AfterViewCheck, AfterViewForgetting, CountsSteps};
+ghost use Rattle.addr2line_units.specs.UnitAfter.{AfterLinesOf, AfterViewAnswer, AfterViewCheck, AfterViewForgetting, CountsSteps};
 ghost use Rattle.addr2line_units.specs.UnitsIndexed.{as_ranged_unit};
 ghost use Rattle.addr2line_units.specs.LoadsMemory.{answer_takes_memory};
 ghost use Rattle.addr2line_units.specs.UnitViewCached.{answer_in, has_view, parts_or_fault, answer_of_view, as_sections, split_file_by, split_file_in, split_unit, unboxed, verdict_in, view_in, waits, was_checked, verdict_or};
@@ -170,7 +170,8 @@ fn is_uncached(lines: &LazyLines) -> bool
     matches!(lines, LazyLines::Unread)
 }
 
-// The ranges of the sequences of cached lines. Refused `OutOfMemory` alone.
+// The ranges of the sequences of cached lines. Refused `OutOfMemory` alone, and only where there are
+// some.
 fn sequence_ranges(alloc: Global, lines: &LazyLines) -> Result<Vec<Range>, Error>
     ensures gives { ExactlyUnlessOomIf (nat_lt 0 (length (cached_ranges lines.now)))
         (λ v. v.items) result (Ok (cached_ranges lines.now)) }

@@ -1,5 +1,5 @@
 use Rattle.addr2line_units.proofs.Common.{Some, ap, subst, sym, ◌∙◌, scope_of}
-use Rattle.addr2line_units.specs.CacheAfter.{AfterCheck}
+use Rattle.addr2line_units.specs.UnitAfter.{AfterCheck}
 use Rattle.addr2line_units.specs.EntriesOwn.{looked_at_unit}
 use Rattle.addr2line_units.specs.UnitsCached.{AreOfUnit}
 use Rattle.addr2line_units.proofs.EntriesLemmas.{keeps_checked}

@@ -1,6 +1,6 @@
 use Rattle.addr2line_units.proofs.Common.{CachedUnit, get_or, Err, Ok, Option, Some, arith, refl, subst, sym, ◌∙◌, ◌≡◌, ◌≢◌, OutOfMemory, err_from_is_err_and, false, option_map, location_of_row, lines_take_memory, as_stop, cached_files, indexed_unit, location_in, row_stop, stop_at, set, FindsNothing}
 use Rattle.addr2line_lines.specs.declared.row.Row.{Row}
-use Rattle.addr2line_units.specs.CacheAfter.{AfterLinesOf}
+use Rattle.addr2line_units.specs.UnitAfter.{AfterLinesOf}
 use Rattle.addr2line_units.specs.EntriesOwn.{looked_at_unit}
 use Rattle.addr2line_units.specs.UnitLinesCached.{location_or}
 use Rattle.addr2line_units.specs.declared.frames.Asks.TheVariants as lookups

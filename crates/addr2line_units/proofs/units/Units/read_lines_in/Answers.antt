@@ -1,5 +1,5 @@
 use Rattle.addr2line_units.proofs.Common.{CachedUnit, get_or, refl, Ok, arith, slice_get, subst, sym, ◌≡◌, ExactlyUnlessOom, as_stop, cached_lines, lines_result_at, UnitsState}
-use Rattle.addr2line_units.specs.CacheAfter.{AfterLinesOf}
+use Rattle.addr2line_units.specs.UnitAfter.{AfterLinesOf}
 use Rattle.addr2line_units.specs.EntriesOwn.{looked_at_unit}
 use Rattle.addr2line_units.proofs.LocationsAtLemmas.{caching_after, none_after_caching, none_read, read_there}
 use Rattle.addr2line_units.proofs.UnitsAtLemmas.{cache_within, its_lines, none_got, sections_seen, unit_got, units_with_lines}

@@ -12,7 +12,7 @@ begun_nothing d answers (AsksLoads probe) = refl
 begun_nothing d answers (AnswersLoad n x) = inl refl
 begun_nothing d answers (Forgets n) = refl
 begun_nothing d answers ParsesLines = refl
-begun_nothing d answers (ParsesFunctions depth) = λ m e. (0, (λ k h. absurd (omega arith)), inl refl)
+begun_nothing d answers (ParsesFunctions depth) = λ m e. (0, ((λ k h. absurd (omega arith)), inl refl))
 
 cut_nothing : (d : Sections) (answers : FirstAnswers) (calls : List HistoryCall) → IsCutShort d answers calls answers
 cut_nothing d answers [] = refl

@@ -55,7 +55,7 @@ pub use Rattle.addr2line_lines.specs.FoundInlined.{FoundInlined, IsFoundMore, en
 pub use Rattle.addr2line_lines.specs.FoundNames.{BeginsAbove, BeginsBy, found_name, is_name_attribute, name_after, as_name_or_origin, as_place, unit_begins_by, with_linkage}
 pub use Rattle.addr2line_lines.specs.FunctionCache.{AreCachedFunctions, AreDetailsApart, AreRuns, HasPlace, inlined_size, name_size, place_read, ranges_size, read_at, as_function, as_lazy, size_of}
 pub use Rattle.addr2line_lines.specs.FunctionTable.{AreListed, CachedFunction, FunctionTable, cached_inlined, cached_name, cached_offset_at, function_place_at, inlined_of_detail, name_of_detail}
-pub use Rattle.addr2line_lines.specs.Functions.{FunctionRange, entries_of, entry_gives_a_range, entry_ranges, function_begin, function_end, function_offset, function_offset_at, functions_of, has_function, have_function, is_subprogram, once_before, with_function}
+pub use Rattle.addr2line_lines.specs.Functions.{FunctionRange, entries_of, entry_ranges, function_at_cost, function_begin, function_end, function_offset, function_offset_at, functions_at_cost, functions_of, functions_take_memory, has_function, is_subprogram, once_before, with_function}
 pub use Rattle.addr2line_lines.specs.InOrder.{IsInOrder, OrderIsFree, begins_sooner, in_order, put}
 pub use Rattle.addr2line_lines.specs.InlinedEntries.{InlinedAttributes, InlinedEntry, InlinedRange, inlined_attributes_of, inlined_entry, inlined_ranges, is_inlined, no_inlined_attributes, with_call, with_call_constant}
 unfoldable pub use Rattle.addr2line_lines.specs.InlinedEntries.{with_inlined_attribute}

@@ -4,7 +4,7 @@ use Rattle.addr2line_lines.proofs.Common.{◌≡◌, ◌≢◌, ◌&&◌, ◌||�
 use Rattle.gimli_read.specs.Costed.{◌>>=◌}
 use Rattle.gimli_read.specs.Reading as reading
 use Rattle.gimli_read.proofs.Steps.{bind_ok}
-use Rattle.addr2line_lines.specs.CostedSteps.{map_at_cost, then_room_if}
+use Rattle.addr2line_lines.specs.CostedSteps.{map_at_cost, on_parts, then_room_if}
 use Rattle.addr2line_lines.proofs.Facts.{or_both, or_more}
 
 -- a reading whose fault is that of a whole, and whose memory too
@@ -131,6 +131,10 @@ agrees_made {A} {B} {D} {make} {holds} {next} {ends} {c} {d} g h more = record {
     by_given : (r : Result A Error) (q : Result B Error) → AgreesGiven make holds r q → AgreesGiven next ends r (reading.◌>>=◌ q (λ x. Ok (g x)))
     by_given r (Ok x) k = let m = more x k.1 in (k.0 ∙ ap Ok m.0, m.1)
     by_given r (Err e) k = k
+
+-- parts of the bytes on the way
+pub agrees_parts : {A B : Type 0} {make : B → A} {holds : B → Type 0} {c : Costed A} {d : Costed B} → Agrees make holds c d → Agrees make holds (on_parts c) (on_parts d)
+agrees_parts {c = c} {d = d} h = record { given = h.given; takes = λ shares. or_more shares (d.takes_memory false) (c.takes_memory false) (h.takes false) }
 
 -- room after both, or after the first
 pub agrees_room : {A B : Type 0} {make : B → A} {holds : B → Type 0} {c : Costed A} {d : Costed B} (stores : Bool) → Agrees make holds c d → Agrees make holds (then_room_if stores c) (then_room_if stores d)

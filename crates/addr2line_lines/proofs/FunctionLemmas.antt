@@ -1,15 +1,9 @@
 -- The functions of a unit, one item at a time (on specs/FoundFunctions.antt).
-use Rattle.addr2line_lines.proofs.Common.{◌≡◌, ℕ, ◌<◌, ◌≤◌, ◌==◌, ◌&&◌, Bool, true, false, cond, List, [], ◌∷◌, ◌++◌, map, length, Option, Some, None, Result, Ok, Err, OnOk, refl, ap, sym, ◌∙◌, arith, append-nil, length-append, Error, Range, Abbrev, Section, Reading, ◌>>=◌, Exactly, ExactlyUnlessOomIf, NamedValue, rest_of, Run, cons, fold_of, fold_run, EntryUnit, attributes_at, Item, EntryCursor, entry_abbreviation_at, items_left, next_item_at, Sections, UnitRecord, items_end, items_fault, items_more, RangeAttributes, FunctionAddress, attribute_ranges, gives_a_range, no_range_attributes, range_attributes_after, range_attributes_of, is_subprogram, FoundFunctions, next_found_at, found_more, function_address, item_has_function, with_attributes, with_found, with_ranges, offset_of}
+use Rattle.addr2line_lines.proofs.Common.{◌≡◌, ℕ, ◌<◌, ◌≤◌, ◌==◌, ◌&&◌, Bool, true, false, cond, List, [], ◌∷◌, ◌++◌, map, length, Option, Some, None, Result, Ok, Err, OnOk, refl, ap, sym, ◌∙◌, arith, append-nil, length-append, Error, Range, Abbrev, takes_memory_after, Section, Reading, ◌>>=◌, Exactly, ExactlyUnlessOomIf, NamedValue, rest_of, EntryUnit, attributes_at, Item, EntryCursor, entry_abbreviation_at, next_item_at, Sections, UnitRecord, RangeAttributes, FunctionAddress, attribute_ranges, gives_a_range, no_range_attributes, range_attributes_after, range_attributes_of, is_subprogram, FoundFunctions, next_found_at, found_more, function_address, item_has_function, with_attributes, with_found, with_ranges, offset_of}
 use Rattle.gimli_read.specs.declared.endian.Encoding.{Encoding}
 use Rattle.gimli_read.proofs.SkipLemmas.{attributes_leave}
-use Rattle.gimli.proofs.CursorLemmas.{item_coded, item_from, item_is, item_here}
+use Rattle.gimli.proofs.CursorLemmas.{item_coded, item_from, item_here}
 use Rattle.gimli.proofs.EntryLemmas.{abbreviation_takes}
-
--- the functions of the items from a place on, after what was found
-abbrev pub found_from : Sections → UnitRecord → EntryUnit → EntryCursor → FoundFunctions
-    → Result FoundFunctions Error
-found_from d u unit cursor found =
-    fold_of (with_found d u) found (items_left unit cursor) >>= λ more. Ok more.0
 
 -- an answer, and a place beside it; memory may be taken for the part only if it may for the whole
 pub beside_if : {X Y Z : Type 0} (part may : Bool) (r : Result Z Error) (x : X) (y : Y) (given : Result X Error) (whole : Result (X × Y) Error) → (part ≡ true → may ≡ true) → whole ≡ (given >>= λ v. Ok (v, y)) → ExactlyUnlessOomIf part (λ _. x) r given → ExactlyUnlessOomIf may (λ _. (x, y)) r whole
@@ -109,7 +103,7 @@ module _ (d : Sections) (u : UnitRecord) (unit : EntryUnit) where
       entry_item read = read >>= λ x. Ok (Some (item_here unit c (Some (record { abbreviation = a; attributes = x.0 }))), record { left = x.1; depth = t.depth })
 
       given : Result RangeAttributes Error → Bool
-      given v = elim v [ Ok x ↦ gives_a_range d u x | Err f ↦ false ]
+      given v = takes_memory_after v (gives_a_range d u)
 
       whole : (read : Reading (List NamedValue)) → range_attributes_after d u (Ok no_range_attributes) read ≡ Ok r → item_has_function d u (entry_item read) ≡ true
       whole (Err g) v = absurd cc
@@ -141,52 +135,6 @@ module _ (d : Sections) (u : UnitRecord) (unit : EntryUnit) where
       by_code (Ok (None, z)) e = let no = ap gives_item e in absurd cc
       by_code (Ok (Some a, z)) e = by_values (attributes_at unit.encoding a.attributes z.left) a z e
       by_code (Err f) e = absurd cc
-
-  -- what is found of a run of items
-  abbrev found_run : FoundFunctions → Run Item Section → Result FoundFunctions Error
-  found_run found items = fold_of (with_found d u) found items >>= λ more. Ok more.0
-
-  pub found_end : (c : EntryCursor) (found : FoundFunctions) → (length c.left.bytes == 0) ≡ true → found_from d u unit c found ≡ Ok found
-  unfolding fold_run
-  found_end c found h = ap (found_run found) (items_end unit c c (item_is unit c ∙ ap (λ b. cond b (Ok (None, c)) (entry_abbreviation_at unit.abbreviations c >>= λ x. item_from unit c x)) h))
-
-  pub one_found : (r : Result FoundFunctions Error) (items : Run Item Section) (more : FoundFunctions) (s t : EntryCursor) → ending t r ≡ Ok (more, s) → (r ≡ Ok more) × (t ≡ s)
-  one_found (Ok v) items more s t e = let p : ◌≡◌ {A = FoundFunctions × EntryCursor} (v, t) (more, s) = cc in (ap Ok (ap (λ x. x.0) p), ap (λ x. x.1) p)
-  one_found (Err f) items more s t e = absurd cc
-
-  none_one : (r : Result FoundFunctions Error) (t : EntryCursor) (e : Error) → ending t r ≡ Err e → r ≡ Err e
-  none_one (Ok v) t e h = absurd cc
-  none_one (Err f) t e h = let same : f ≡ e = cc in ap Err same
-
-  found_with : (found : FoundFunctions) (x : Item) (items : Run Item Section) → found_run found (cons x items) ≡ (with_found d u found x >>= λ more. found_run more items)
-  unfolding fold_run
-  found_with found x items = nested (with_found d u found x)
-    where
-      nested : (r : Result FoundFunctions Error) → ((r >>= λ b. fold_run (with_found d u) b items.items items.end) >>= λ more. Ok more.0) ≡ (r >>= λ more. found_run more items)
-      nested (Ok v) = refl
-      nested (Err e) = refl
-
-  pub found_step : (c s : EntryCursor) (found more : FoundFunctions) → (length c.left.bytes == 0) ≡ false → next_found_at d u unit c found ≡ Ok (more, s) → found_from d u unit c found ≡ found_from d u unit s more
-  found_step c s found more h k = by_cases (next_item_at unit c) refl k
-    where
-      by_cases : (r : Result (Option Item × EntryCursor) Error) → next_item_at unit c ≡ r → found_after found r ≡ Ok (more, s) → found_from d u unit c found ≡ found_from d u unit s more
-      by_cases (Err e) q k = absurd cc
-      by_cases (Ok (None, t)) q k = absurd (some_item c t h q)
-      by_cases (Ok (Some x, t)) q k =
-          let one = one_found (with_found d u found x) (items_left unit t) more s t k in
-          ap (found_run found) (items_more unit c t x q) ∙ found_with found x (items_left unit t)
-          ∙ ap (λ r. r >>= λ v. found_run v (items_left unit t)) one.0 ∙ ap (λ v. found_run more (items_left unit v)) one.1
-
-  pub found_fault : (c : EntryCursor) (found : FoundFunctions) (e : Error) → (length c.left.bytes == 0) ≡ false → next_found_at d u unit c found ≡ Err e → found_from d u unit c found ≡ Err e
-  unfolding fold_run
-  found_fault c found e h k = by_cases (next_item_at unit c) refl k
-    where
-      by_cases : (r : Result (Option Item × EntryCursor) Error) → next_item_at unit c ≡ r → found_after found r ≡ Err e → found_from d u unit c found ≡ Err e
-      by_cases (Err f) q k = let same : f ≡ e = cc in ap (found_run found) (items_fault unit c f q) ∙ ap Err same
-      by_cases (Ok (None, t)) q k = absurd (some_item c t h q)
-      by_cases (Ok (Some x, t)) q k =
-          ap (found_run found) (items_more unit c t x q) ∙ found_with found x (items_left unit t)
-          ∙ ap (λ r. r >>= λ v. found_run v (items_left unit t)) (none_one (with_found d u found x) t e k)
 
 -- the function of an entry, by the ranges of its attributes
 module _ (d : Sections) (u : UnitRecord) (attributes : RangeAttributes) (offset function : ℕ) (found : FoundFunctions) where

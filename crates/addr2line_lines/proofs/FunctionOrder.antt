@@ -1,11 +1,13 @@
 -- The places of functions are in the order of their entries (on specs/FoundFunctions.antt).
-use Rattle.addr2line_lines.proofs.Common.{◌≡◌, ℕ, ◌+◌, ◌<◌, ◌≤◌, Bool, true, false, cond, nat_lt, List, [], ◌∷◌, ◌++◌, map, length, slice_index_or, Option, Some, None, Result, Ok, Err, refl, ap, sym, subst, ◌∙◌, arith, inl, inr, length-append, append-nil, zero, suc, ℤ, pos, All, nat_tests, common_steps, map-append, All-append, All-head, All-map, All-push, All-tail, All-weaker, recursion_from_All, Error, Range, UnitOffset, ◌>>=◌, fold_run, Section, EntryUnit, entry_unit, Entry, Item, depth_after, items_of, offset_of, Sections, UnitRecord, RangeAttributes, FunctionAddress, attribute_ranges, range_attributes_of, FunctionRange, entries_of, entry_ranges, function_begin, function_end, function_offset, function_offset_at, functions_of, is_subprogram, with_function, FoundFunctions, AreFunctions, IsPlaceIn, function_address, found_in, found_more, function_range_of, none_found, with_attributes, with_found, address_begin, address_end, address_function, shortest_function_at, In, text_some}
+use Rattle.addr2line_lines.proofs.Common.{◌≡◌, ℕ, ◌+◌, ◌<◌, ◌≤◌, Bool, true, false, cond, nat_lt, List, [], ◌∷◌, ◌++◌, map, length, slice_index_or, Option, Some, None, Result, Ok, Err, refl, ap, sym, subst, ◌∙◌, arith, inl, inr, length-append, append-nil, zero, suc, ℤ, pos, All, nat_tests, common_steps, map-append, All-append, All-head, All-map, All-push, All-tail, All-weaker, recursion_from_All, Error, Range, UnitOffset, ◌>>=◌, fold_run, Section, EntryUnit, entry_unit, Entry, Item, depth_after, items_of, offset_of, Sections, UnitRecord, RangeAttributes, FunctionAddress, attribute_ranges, range_attributes_of, FunctionRange, entries_of, entry_ranges, function_begin, function_end, function_offset, function_at_cost, function_offset_at, functions_at_cost, is_subprogram, FoundFunctions, AreFunctions, IsPlaceIn, function_address, found_in, found_more, function_range_of, none_found, with_attributes, with_found, address_begin, address_end, address_function, shortest_function_at, In, text_some}
 use Rattle.std.specs.Option.{option_map}
 use Rattle.gimli_read.specs.declared.endian.RunTimeEndian.{RunTimeEndian}
 use Rattle.gimli.specs.ItemLaws.{AreItems}
 use Rattle.gimli.proofs.ItemTexts.{items_cover}
 use Rattle.addr2line_lines.specs.Shortest.{shortest, holds, IsNoLonger}
-use Rattle.addr2line_lines.proofs.CostLemmas.{AgreesGiven, given_then}
+use Rattle.addr2line_lines.specs.CostedSteps.{fold_at_cost, on_parts}
+use Rattle.addr2line_lines.proofs.CostLemmas.{Agrees, AgreesGiven, agrees_map, agrees_parts, agrees_then}
+use Rattle.addr2line_lines.proofs.FunctionMemory.{found_at_cost, run_at_cost}
 use Rattle.addr2line_lines.proofs.ListedFunctions.{entries_more, ranges_below}
 use Rattle.addr2line_lines.proofs.OrderLemmas.{All-in}
 use Rattle.addr2line_lines.proofs.ShortestLemmas.{shortest_holds, shortest_is, shortest_least, some_shortest}
@@ -136,20 +138,17 @@ module _ (d : Sections) (u : UnitRecord) where
       by_test false = (refl, all)
 
   fold_agrees : (items : List Item) (end : Result Section Error) (found : FoundFunctions) → AreInPlace found
-      → AgreesGiven (λ m. (ranges_found m.0, m.1)) (λ (m : FoundFunctions × Section). AreInPlace m.0) (fold_run (with_function d u) (ranges_found found) items end) (fold_run (with_found d u) found items end)
+      → Agrees (λ m. (ranges_found m.0, m.1)) (λ (m : FoundFunctions × Section). AreInPlace m.0) (fold_at_cost (function_at_cost d u) (ranges_found found) items end) (fold_at_cost (found_at_cost d u) found items end)
   unfolding fold_run
-  fold_agrees [] (Ok z) found all = (refl, all)
-  fold_agrees [] (Err e) found all = refl
+  fold_agrees [] (Ok z) found all = record { given = (refl, all); takes = λ shares t. t }
+  fold_agrees [] (Err e) found all = record { given = refl; takes = λ shares t. t }
   fold_agrees (x ∷ xs) end found all =
-      given_then ranges_found AreInPlace (λ m. (ranges_found m.0, m.1)) (λ m. AreInPlace m.0) (λ b. fold_run (with_function d u) b xs end) (λ b. fold_run (with_found d u) b xs end) (λ more. fold_agrees xs end more)
-      (with_function d u (ranges_found found) x) (with_found d u found x) (agree_at found x.offset x.entry all)
+      agrees_then {make = ranges_found} {holds = AreInPlace} (λ b. fold_at_cost (function_at_cost d u) b xs end) (λ b. fold_at_cost (found_at_cost d u) b xs end)
+      (record { given = agree_at found x.offset x.entry all; takes = λ shares t. t }) (λ more. fold_agrees xs end more)
 
-  -- the functions of a unit are those that are found
-  pub functions_agree : AgreesFound (functions_of d u) (found_in d u)
-  functions_agree =
-      given_then (λ m. (ranges_found m.0, m.1)) (λ m. AreInPlace m.0) ranges_found AreInPlace (λ f. Ok f.0) (λ more. Ok more.0) (λ more k. (refl, k))
-      (fold_run (with_function d u) [] (items_of u).items (items_of u).end) (fold_run (with_found d u) none_found (items_of u).items (items_of u).end)
-      (fold_agrees (items_of u).items (items_of u).end none_found (λ k e l. absurd (omega arith)))
+  -- the functions of a unit are those that are found, and take memory where those do
+  pub functions_agree : Agrees ranges_found AreInPlace (functions_at_cost d u) (on_parts (run_at_cost d u none_found (items_of u)))
+  functions_agree = agrees_parts (agrees_map (λ f. f.0) (λ more. more.0) (fold_agrees (items_of u).items (items_of u).end none_found (λ k e l. absurd (omega arith))) (λ more k. (refl, k)))
 
   below_with : (found more : FoundFunctions) (offset n : ℕ) (o : Option Entry) → found_with found offset o ≡ Ok more → AreFoundBelow found offset → offset < n → AreFoundBelow more n
   below_with found more offset n None e h l = let same : found ≡ more = cc in subst (λ (f : FoundFunctions). AreFoundBelow f n) same (found_below_more found offset n [] h l)

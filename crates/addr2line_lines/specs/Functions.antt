@@ -1,10 +1,11 @@
 -- The functions of a unit (DWARF 5, section 3.3).
 -- Own: all subprogram entries, at any depth, whose range attributes give a range; the entries are
 -- read to the unit's end, and the first fault is that of all functions.
-use Rattle.std.specs.Prelude.{ℕ, ◌==◌, ◌&&◌, ◌||◌, Bool, false, is_ok, List, [], ◌∷◌, ◌++◌, map, Option, Some, None, Result, Ok, Err, if◌then◌else◌}
+use Rattle.std.specs.Prelude.{ℕ, ◌==◌, ◌&&◌, Bool, false, List, [], ◌∷◌, ◌++◌, map, Option, Some, None, Result, Ok, if◌then◌else◌}
 use Rattle.std.specs.Option.{option_map}
-use Rattle.addr2line_lines.specs.Common.{Error, Range, Abbrev, ◌>>=◌, fold_of, Entry, Item, items_of, Sections, UnitRecord}
+use Rattle.addr2line_lines.specs.Common.{Error, Range, Abbrev, Costed, takes_memory_after, ◌>>=◌, fold_of, Entry, Item, items_of, Sections, UnitRecord}
 use Rattle.gimli_read.specs.declared.constants.TheConstants.DwTag.{DW_TAG_subprogram}
+use Rattle.addr2line_lines.specs.CostedSteps.{fold_at_cost, map_at_cost, on_parts, stored_if}
 use Rattle.addr2line_lines.specs.RangeAttributes.{attribute_ranges, gives_a_range, range_attributes_of}
 use Rattle.addr2line_lines.specs.Shortest.{shortest}
 
@@ -59,30 +60,27 @@ abbrev pub entries_of : List FunctionRange → List ℕ
 entries_of [] = []
 entries_of (f ∷ ranges) = once_before f.offset (entries_of ranges)
 
--- whether the range attributes of an entry give a range before any fault
-abbrev pub entry_gives_a_range : Sections → UnitRecord → Entry → Bool
-entry_gives_a_range d u e = elim (range_attributes_of d u e.attributes) [
-  | Ok r ↦ gives_a_range d u r
-  | Err f ↦ false
-]
-
 -- whether an item is the entry of a function that has a range before any fault
 abbrev pub has_function : Sections → UnitRecord → Item → Bool
 has_function d u x = elim x.entry [
   | None ↦ false
-  | Some e ↦ is_subprogram e.abbreviation && entry_gives_a_range d u e
+  | Some e ↦ is_subprogram e.abbreviation
+      && takes_memory_after (range_attributes_of d u e.attributes) (gives_a_range d u)
 ]
 
--- whether one of items is, with no fault of a function before it
-abbrev pub have_function : Sections → UnitRecord → List Item → Bool
-have_function d u [] = false
-have_function d u (x ∷ items) =
-    has_function d u x || is_ok (with_function d u [] x) && have_function d u items
+-- the functions of one more item, with the memory for one that has a range before any fault
+abbrev pub function_at_cost : Sections → UnitRecord → List FunctionRange → Item
+    → Costed (List FunctionRange)
+function_at_cost d u found x = stored_if (has_function d u x) (with_function d u found x)
 
--- whether memory is taken for the functions of a unit: for those that have a range, and for each
--- value where a reader's parts share its bytes
+-- those of a unit; where a reader's parts share its bytes, memory is taken for each value too
+abbrev pub functions_at_cost : Sections → UnitRecord → Costed (List FunctionRange)
+functions_at_cost d u = on_parts (map_at_cost (λ found. found.0)
+    (fold_at_cost (function_at_cost d u) [] (items_of u).items (items_of u).end))
+
+-- whether memory is taken for the functions of a unit
 abbrev pub functions_take_memory : Bool → Sections → UnitRecord → Bool
-functions_take_memory shares d u = shares || have_function d u (items_of u).items
+functions_take_memory shares d u = (functions_at_cost d u).takes_memory shares
 
 -- the function with the shortest range that holds the probe, by where its entry begins
 abbrev pub function_offset_at : ℕ → List FunctionRange → Option ℕ

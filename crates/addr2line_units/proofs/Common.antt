@@ -34,7 +34,7 @@ pub use Rattle.addr2line_lines.proofs.ReadLemmas.{HasDetail, all_read_once, badl
 pub use Rattle.addr2line_lines.specs.Details.{Detail, detail_at}
 pub use Rattle.addr2line_lines.specs.FunctionDetails.{AreCachedToFault, AreDetailsOf, AreUnread, IsCachedToFault, IsDetailOf, IsFunctionMore, IsReadAt, IsReadOf, IsReadOnce, IsTableMore, IsWithDetail, details_at}
 pub use Rattle.addr2line_lines.specs.FunctionTable.{AreListed, CachedFunction, FunctionTable, cached_detail, cached_inlined, cached_name, cached_offset_at, function_place_at, inlined_of_detail, name_of_detail}
-pub use Rattle.addr2line_lines.specs.Functions.{FunctionRange, entries_of, entry_gives_a_range, entry_ranges, function_begin, function_end, function_offset, function_offset_at, functions_of, functions_take_memory, has_function, have_function, is_subprogram, once_before, with_function}
+pub use Rattle.addr2line_lines.specs.Functions.{FunctionRange, entries_of, function_begin, function_end, function_offset, function_offset_at, functions_of, functions_take_memory, once_before}
 pub use Rattle.addr2line_lines.specs.InOrder.{IsInOrder, in_order}
 pub use Rattle.addr2line_lines.specs.InlineRoom.{exceeds_inline_room}
 pub use Rattle.addr2line_lines.specs.InlinedEntries.{InlinedEntry, InlinedRange}
@@ -53,7 +53,7 @@ pub use Rattle.addr2line_units.specs.EntriesOwn.{AreEntriesOf, AreFresh, first_a
 pub use Rattle.addr2line_units.specs.FramesCached.{IsLendable, found_after_fault, frames_at_place, functions_at, language_at, as_stop, stop_of_found}
 pub use Rattle.addr2line_units.specs.EntriesFunctions.{AreFunctionsOf, ArePlacesIn, IsTableOf, ReadsNoDetail, ReadsNoOther, StayFunctions, cached_fault, cached_functions, cached_has_function, function_of_place, functions_fault, has_detail, has_place, has_table, is_cached_fault, no_functions, were_read}
 pub use Rattle.addr2line_units.specs.EntriesKnownCached.{known_answer, known_by, known_detail, known_fault, known_function, known_functions, known_in, known_table}
-pub use Rattle.addr2line_units.specs.UnitLinesCached.{AreLinesOf, CachesResult, HaveLinesOf, StayLines, cached_files, cached_lines, cached_lines_result, cached_ranges, cached_spans, indexed_unit, indexed_units, is_parsed, is_uncached, lines_at, lines_in_cache, lines_result, lines_result_at, no_lines, parsed_units}
+pub use Rattle.addr2line_units.specs.UnitLinesCached.{AreLinesOf, HaveLinesOf, StayLines, cached_files, cached_lines, cached_lines_result, cached_ranges, cached_spans, indexed_unit, indexed_units, is_parsed, is_uncached, lines_at, lines_in_cache, lines_result, lines_result_at, no_lines, parsed_units}
 pub use Rattle.addr2line_units.specs.UnitsCached.{AreFreshOf, HaveCachesOf, HaveNewCaches, IsCacheOf, answers_in, waits_at}
 pub use Rattle.addr2line_units.specs.UnitViewCached.{IsViewOf, answer_in, is_decided, parts_or_fault, answer_of_view, as_sections, split_file_by, split_file_in, split_unit, unboxed, verdict_in, view_by, waits, was_checked}
 pub use Rattle.addr2line_units.specs.Frames.{FoundFunction, FrameRecord, call_location, found_frames, found_function, frames_from, function_frame, function_from, location_frames}

@@ -14,7 +14,7 @@ use Rattle.addr2line_units.specs.UnitLinesCached.{location_or, lines_or}
 use Rattle.addr2line_units.proofs.EntriesLemmas.{IsView, checked_decides, exactly_unless_oom, fault_entries, fault_in, few_in, function_entries, function_is_in, functions_right, functions_stay, functions_take_in, not_open}
 use Rattle.addr2line_units.proofs.EntriesMemoryLemmas.{exactly_if_none, find_takes_none}
 use Rattle.addr2line_units.proofs.EntriesPlaceLemmas.{cached_is_not_oom, cached_unless_oom}
-use Rattle.addr2line_units.proofs.UnitLinesLemmas.{lines_are, lines_or_stays}
+use Rattle.addr2line_units.proofs.UnitLinesLemmas.{LinesFollow, lines_are, lines_follow, lines_left, lines_or_stays}
 use Rattle.addr2line_units.proofs.UnitViewLemmas.{waiting_is_open}
 use Rattle.addr2line_units.specs.EntriesCached.{frames_or}
 
@@ -161,9 +161,6 @@ module _ {R : Type 0} (shares : Bool) (scope : Scope) (u : UnitRecord) (probe : 
   abbrev given : Result Lines Error
   given = lines_or scope.file.sections u was.lines.lines
 
-  stay_same : (new : CachedUnit R) → new.lines ≡ was.lines → StayLines was.lines new.lines
-  stay_same new same = record { language = ap (λ (l : LinesCache). l.lang) same; lines = λ _. ap (λ (l : LinesCache). l.lines) same }
-
   -- it waits
   module _ (waiting : waits mid.entries.view.state ≡ true) where
     open_now : is_open scope.file.sections u answer ≡ true
@@ -175,9 +172,8 @@ module _ {R : Type 0} (shares : Bool) (scope : Scope) (u : UnitRecord) (probe : 
     pub waits_after : AfterFramesIn shares scope u probe (Ok found.Open) was mid
     waits_after = record {
       unit = looked.unit;
-      read = inl (ap (λ (l : LinesCache). l.lines) looked.lines);
+      lines = inl looked.lines;
       frames = tt;
-      lines = stay_same mid looked.lines;
       stay = check.stay;
       within = record {
         alone = λ n ne. ap (λ (fs : LazyFunctions R). cached_detail (cached_functions fs) n) check.functions;
@@ -228,9 +224,8 @@ module _ {R : Type 0} (shares : Bool) (scope : Scope) (u : UnitRecord) (probe : 
           let f = found_in.entries in
           record {
             unit = found_in.unit;
-            read = inl (ap (λ (l : LinesCache). l.lines) same_lines);
+            lines = inl same_lines;
             frames = tt;
-            lines = stay_same new same_lines;
             stay = stay_now f;
             within = within_now f;
             kept = λ _. same_lines;
@@ -260,8 +255,11 @@ module _ {R : Type 0} (shares : Bool) (scope : Scope) (u : UnitRecord) (probe : 
 
       -- the lines are refused
       module _ (e : Error) (after : AfterLinesOf {X = Option Row} shares scope.file.sections u (Err e) new.lines l) (located : e ≢ OutOfMemory → location_or scope.file.sections u probe new.lines.lines ≡ Err e) where
-        r : AfterLinesOf {X = Option Row} shares scope.file.sections u (Err e) was.lines l
-        r = subst (λ (x : LinesCache). AfterLinesOf {X = Option Row} shares scope.file.sections u (Err e) x l) same_then after
+        lines_asked : AfterLinesOf {X = Option Row} shares scope.file.sections u (Err e) was.lines l
+        lines_asked = subst (λ (x : LinesCache). AfterLinesOf {X = Option Row} shares scope.file.sections u (Err e) x l) same_then after
+
+        r : LinesFollow {X = Option Row} shares scope.file.sections u (Err e) was.lines l
+        r = lines_follow lines_asked
 
         in_unit : e ≢ OutOfMemory → location_or scope.file.sections u probe was.lines.lines ≡ Err e
         in_unit ne = ap (λ (x : LinesCache). location_or scope.file.sections u probe x.lines) (sym same_then) ∙ located ne
@@ -272,9 +270,8 @@ module _ {R : Type 0} (shares : Bool) (scope : Scope) (u : UnitRecord) (probe : 
         pub no_lines_after : AfterFramesIn shares scope u probe (Err e) was now
         no_lines_after = record {
           unit = found_in.unit;
-          read = r.read;
+          lines = lines_left lines_asked;
           frames = tt;
-          lines = r.stay;
           stay = stay_now f;
           within = within_now f;
           kept = unasked;
@@ -287,8 +284,11 @@ module _ {R : Type 0} (shares : Bool) (scope : Scope) (u : UnitRecord) (probe : 
 
       -- the row is found, or there is none
       module _ (row : Option Row) (after : AfterLinesOf shares scope.file.sections u (Ok row) new.lines l) (located : location_or scope.file.sections u probe new.lines.lines ≡ Ok (option_map (location_of_row (cached_files l.lines)) row)) where
-        told : AfterLinesOf shares scope.file.sections u (Ok row) was.lines l
-        told = subst (λ (x : LinesCache). AfterLinesOf shares scope.file.sections u (Ok row) x l) same_then after
+        row_asked : AfterLinesOf shares scope.file.sections u (Ok row) was.lines l
+        row_asked = subst (λ (x : LinesCache). AfterLinesOf shares scope.file.sections u (Ok row) x l) same_then after
+
+        told : LinesFollow shares scope.file.sections u (Ok row) was.lines l
+        told = lines_follow row_asked
 
         here : (AreRead l.lines) × (frames_or scope u probe was ≡ Ok (Some (found_frames (cached_files l.lines) was.lines.lang (found_in_cache new.entries.functions p) (option_map (location_of_row (cached_files l.lines)) row))))
         here = lines_frames scope u was.lines.lang given answer probe closed (found_in_cache new.entries.functions p) (before gives) l.lines row (lines_or_stays told) told.known
@@ -300,9 +300,8 @@ module _ {R : Type 0} (shares : Bool) (scope : Scope) (u : UnitRecord) (probe : 
         pub here_after : AfterFramesIn shares scope u probe (Ok (found.Here p row)) was now
         here_after = record {
           unit = found_in.unit;
-          read = told.read;
+          lines = lines_left row_asked;
           frames = (f.places, here.0);
-          lines = told.stay;
           stay = stay_now f;
           within = within_now f;
           kept = unasked;

@@ -16,7 +16,7 @@ use Rattle.addr2line_units.proofs.FramesNumberedLemmas.{asks_are, frames_are, fr
 use Rattle.addr2line_units.proofs.EntriesFrameLemmas.{frames_are_in}
 use Rattle.addr2line_units.proofs.EntriesOwnLemmas.{looked_at_is_cache}
 use Rattle.addr2line_units.proofs.EntriesStayLemmas.{stays_known}
-use Rattle.addr2line_units.proofs.UnitLinesLemmas.{not_refused_lines}
+use Rattle.addr2line_units.proofs.UnitLinesLemmas.{left_are, left_stay, not_refused_lines}
 use Rattle.addr2line_units.proofs.UnitsAtLemmas.{all_entries, as_many, cache_within, its_entries, its_lines, unit_is}
 use Rattle.addr2line_units.proofs.UnitsLinesLemmas.{stay_indexed, stay_parsed, stay_set}
 use Rattle.addr2line_units.proofs.Facts.{and_not, slice_get_none}
@@ -120,7 +120,7 @@ module _ {R : Type 0} {scope : Scope} {cs : List (CachedUnit R)} {last : FramesS
           -- what is known after it
           module _ {shares : Bool} (e : AfterFramesIn shares scope u probe result c w) (own_entries_now : AreOwnEntries w.unit w.entries) where
             lines_now : AreLinesOf d u w.lines.lines
-            lines_now = elim e.read [ inl same ↦ subst (AreLinesOf d u) (sym same) (its_lines i n there at) | inr read ↦ read ]
+            lines_now = left_are e.lines (its_lines i n there at)
 
             -- it is its own
             pub cache_now : IsCacheOf scope u w
@@ -133,7 +133,7 @@ module _ {R : Type 0} {scope : Scope} {cs : List (CachedUnit R)} {last : FramesS
             refused_frames takes = subst (λ given. IfErr result (λ y. given ≡ Err y)) (frames_are_in scope u probe c (its_lines i n there at)) (e.no_memory takes not_oom)
 
             stay_lines : StayAllLines cs now_cs
-            stay_lines = stay_set cs n c w within at e.lines
+            stay_lines = stay_set cs n c w within at (left_stay e.lines)
 
             stay_entries : StayAllEntries cs now_cs
             stay_entries = stay_entries_set cs n c w within at e.stay

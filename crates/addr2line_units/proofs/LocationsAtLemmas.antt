@@ -1,5 +1,5 @@
 -- The lines of the unit of a number (on specs/UnitsAsked.antt and specs/UnitsStored.antt).
-use Rattle.addr2line_units.proofs.Common.{◌≡◌, inl, ℕ, ◌+◌, ◌<◌, ◌≤◌, Bool, true, false, List, length, get_or, slice_get, Option, Some, None, Result, Ok, Err, refl, sym, ap, subst, ◌∙◌, arith, set, false≢true, IfErr, Error, ExactlyUnlessOom, WasNotRefused, Sections, UnitRecord, LineTable, location_of_row, Scope, FramesStop, LinesCache, CachedUnit, AfterCachingAt, lines_of_take_memory, lines_take_memory, AreLinesOf, CachesResult, StayLines, cached_files, indexed_unit, is_uncached, lines_result, lines_result_at, parsed_units, FindsNothing, LookupStop, is_found, location_in, steps_in, has_parsed, AreUnits, as_units_state, UnitsState, ◌≢◌, ◌>>=◌, LazyLines, AfterAsk, AreRead, IsLendable, IsFaultAt, takes_none_at, location_frames, Finds, as_stop, has_stopped, or_stop, parses_no_memory, row_stop, stop_at, unit_lines, location_at, IndexedUnit, LocationResult, OutOfMemory, Location}
+use Rattle.addr2line_units.proofs.Common.{◌≡◌, inl, ℕ, ◌+◌, ◌<◌, ◌≤◌, Bool, true, false, List, length, get_or, slice_get, Option, Some, None, Result, Ok, Err, refl, sym, ap, subst, ◌∙◌, arith, set, false≢true, IfErr, Error, ExactlyUnlessOom, WasNotRefused, Sections, UnitRecord, LineTable, location_of_row, Scope, FramesStop, LinesCache, CachedUnit, AfterCachingAt, lines_of_take_memory, lines_take_memory, AreLinesOf, StayLines, cached_files, indexed_unit, is_uncached, lines_result, lines_result_at, parsed_units, FindsNothing, LookupStop, is_found, location_in, steps_in, has_parsed, AreUnits, as_units_state, UnitsState, ◌≢◌, ◌>>=◌, LazyLines, AfterAsk, AreRead, IsLendable, IsFaultAt, takes_none_at, location_frames, Finds, as_stop, has_stopped, or_stop, parses_no_memory, row_stop, stop_at, unit_lines, location_at, IndexedUnit, LocationResult, OutOfMemory, Location}
 use Rattle.std.proofs.Math.Seq.{lt-length-set}
 use Rattle.std.specs.Prelude.{option_map}
 use Rattle.addr2line_lines.specs.declared.row.Row.{Row}
@@ -11,6 +11,7 @@ use Rattle.addr2line_units.proofs.EntriesMemoryLemmas.{either_none, none_refused
 use Rattle.addr2line_units.proofs.UnitsCachedLemmas.{same_entries_set}
 use Rattle.addr2line_units.proofs.UnitsStateLemmas.{after_lines}
 use Rattle.addr2line_units.proofs.UnitsAtLemmas.{all_lines, as_many, cache_within, unit_is, unit_within}
+use Rattle.addr2line_units.proofs.UnitLinesLemmas.{CachesResult}
 use Rattle.addr2line_units.proofs.UnitsLinesLemmas.{answer_cached, lines_read, lines_set, no_parsed, no_unit, only_set, parsed_set, set_parsed, stay_indexed, stay_set, unit_at}
 use Rattle.addr2line_units.proofs.Facts.{slice_get_none}
 use Rattle.addr2line_units.proofs.UnitsCaches.{StayAllLines}

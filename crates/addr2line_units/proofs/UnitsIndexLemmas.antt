@@ -1,15 +1,16 @@
 -- The units of a context as they are read (on specs/UnitsRanged.antt and specs/UnitsIndex.antt and
 -- specs/UnitsIndexed.antt).
-use Rattle.addr2line_units.proofs.Common.{◌≡◌, ◌≢◌, ◌+◌, ℕ, suc, Bool, true, false, is_ok, if◌then◌else◌, ◌<◌, subst, arith, List, [], ◌∷◌, ◌++◌, length, map, drop, Option, Some, None, Result, Ok, Err, refl, sym, ap, ◌∙◌, nat_lt, length-map, map-append, Error, OffsetOutOfBounds, OutOfMemory, Section, after, Costed, free, UnitHeaderFields, Sections, UnitRecord, unit_by, unit_record_of, UnitArange, UnitRange, IndexedUnit, indexed_of, RangedUnit, has_lines, is_type_unit, range_of_unit, ranged_unit, unit_ranges_from, unit_of_header, unit_ranges, unless_faulty, by_abbreviations, has_abbreviations}
+use Rattle.addr2line_units.proofs.Common.{◌≡◌, ◌≢◌, ◌+◌, ℕ, suc, Bool, true, false, is_ok, if◌then◌else◌, ◌<◌, subst, arith, List, [], ◌∷◌, ◌++◌, length, map, drop, Option, Some, None, Result, Ok, Err, refl, sym, ap, ◌∙◌, nat_lt, length-map, map-append, option_to_list, put_to, Error, OffsetOutOfBounds, OutOfMemory, Section, after, Costed, ExactlyUnlessOom, free, or_left, UnitHeaderFields, Sections, UnitRecord, unit_by, unit_record_of, UnitArange, UnitRange, IndexedUnit, indexed_of, RangedUnit, has_lines, is_type_unit, range_of_unit, ranged_unit, unit_ranges_from, unit_of_header, unit_ranges, unless_faulty, by_abbreviations, has_abbreviations}
 use Rattle.std.proofs.lemmas.Bool.{true_from_ne_false}
 use Rattle.std.specs.Result.{result_ok}
 use Rattle.std.proofs.lemmas.List.{append-nil, append_assoc, length-append}
 use Rattle.gimli_read.specs.Abbrev.{table_at}
+use Rattle.gimli_read.specs.Costed.{ExactlyAtCost}
 use Rattle.gimli_read.specs.Reading as reading
 use Rattle.gimli_read.specs.Yields.{next_given}
 use Rattle.gimli.specs.CachedTables.{CachedTables, cached_unit_takes_memory, is_cached}
 use Rattle.gimli.specs.Text.{from_offset}
-use Rattle.addr2line_units.specs.UnitsIndexed.{IndexState, appended}
+use Rattle.addr2line_units.specs.UnitsIndexed.{IndexState, appended, with_header}
 
 -- what was left, by what a call gave of it
 module _ {X : Type 0} where
@@ -55,14 +56,17 @@ ranges_append d n (u ∷ us) vs =
     number k = omega arith
 
 -- the units that are read go behind those that were
-module _ (d : Sections) (m : IndexState) where
-  of_parts : {a b : List IndexedUnit} {p q : List UnitRange} {v w : List Bool} → a ≡ b → p ≡ q → v ≡ w → ◌≡◌ {A = IndexState} (record { units = a; ranges = p; parsed = v }) (record { units = b; ranges = q; parsed = w })
+module _ (m : IndexState) where
+  abbrev d : Sections
+  d = m.sections
+
+  of_parts : {a b : List IndexedUnit} {p q : List UnitRange} {v w : List Bool} → a ≡ b → p ≡ q → v ≡ w → ◌≡◌ {A = IndexState} (record { sections = d; units = a; ranges = p; parsed = v }) (record { sections = d; units = b; ranges = q; parsed = w })
   of_parts e f g = cc
 
-  pub appended_none : appended d m [] ≡ m
+  pub appended_none : appended m [] ≡ m
   appended_none = of_parts (append-nil m.units) (append-nil m.ranges) (append-nil m.parsed)
 
-  pub appended_more : (us vs : List RangedUnit) → appended d m (us ++ vs) ≡ appended d (appended d m us) vs
+  pub appended_more : (us vs : List RangedUnit) → appended m (us ++ vs) ≡ appended (appended m us) vs
   appended_more us vs =
       of_parts
       (ap (λ xs. m.units ++ xs) (map-append indexed_of us vs) ∙ sym (append_assoc m.units (map indexed_of us) (map indexed_of vs)))
@@ -70,6 +74,14 @@ module _ (d : Sections) (m : IndexState) where
       ∙ sym (append_assoc m.ranges (unit_ranges_from d (length m.units) us) (unit_ranges_from d (length m.units + length us) vs))
       ∙ ap (λ k. (m.ranges ++ unit_ranges_from d (length m.units) us) ++ unit_ranges_from d k vs) (sym (length-append m.units (map indexed_of us) ∙ ap (λ k. length m.units + k) (length-map us indexed_of))))
       (ap (λ xs. m.parsed ++ xs) (map-append has_lines us vs) ∙ sym (append_assoc m.parsed (map has_lines us) (map has_lines vs)))
+
+  -- they are of the same sections
+  pub header_sections : (unit : Costed (Option RangedUnit)) (now : IndexState) → (put_to appended m unit).given ≡ Ok now → now.sections ≡ m.sections
+  header_sections unit now e = by unit.given e
+    where
+      by : (r : Result (Option RangedUnit) Error) → reading.◌>>=◌ r (λ u. Ok (appended m (option_to_list u))) ≡ Ok now → now.sections ≡ m.sections
+      by (Ok u) h = let same : appended m (option_to_list u) ≡ now = cc in ap (λ (i : IndexState). i.sections) (sym same)
+      by (Err f) h = absurd cc
 
 -- what is left after one more is less
 pub shorter : {X : Type 0} (left rest : List (Result X Error)) (x : X) → left ≡ Ok x ∷ rest → length rest < length left
@@ -132,3 +144,9 @@ module _ (d : Sections) (h : UnitHeaderFields) where
   pub kept_fault : (aranges : List UnitArange) (u : UnitRecord) (f : Error) → is_type_unit h.unit_type ≡ false → unit_record_of d h ≡ Ok u → ranged_unit d aranges u ≡ Err f → (unit_of_header d aranges h).given ≡ Err f
   unfolding unit_of_header
   kept_fault aranges u f e rec k = ap (λ b. (if b then free (Ok None) else by_abbreviations d h (unless_faulty d aranges (unit_record_of d h))).given) e ∙ ap (unless_faulty d aranges) rec ∙ ap (λ r. reading.◌>>=◌ r (λ x. Ok (Some x))) k
+
+-- the unit of a header that isn't passed over was added, or memory was refused
+pub header_gives : {X : Type 0} (m : IndexState) (shares : Bool) (aranges : List UnitArange) (h : UnitHeaderFields) (unit : RangedUnit) (see : X → IndexState) (result : Result X Error) → (unit_of_header m.sections aranges h).given ≡ Ok (Some unit)
+    → ExactlyUnlessOom see result (Ok (appended m (unit ∷ []))) → ExactlyAtCost shares see result (with_header aranges m h)
+header_gives m shares aranges h unit see (Ok x) read gives = ap (λ r. reading.◌>>=◌ r (λ u. Ok (appended m (option_to_list u)))) read ∙ gives
+header_gives m shares aranges h unit see (Err e) read gives = λ may. absurd (let no = gives (may (or_left _ _ (where_kept m.sections h shares aranges unit read))) in cc)

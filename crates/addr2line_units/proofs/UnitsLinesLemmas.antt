@@ -1,12 +1,13 @@
 -- The units of a context whose lines are cached one after another (on specs/UnitLinesCached.antt and
 -- specs/LocationsParsed.antt).
-use Rattle.addr2line_units.proofs.Common.{◌≡◌, ℕ, zero, suc, ◌+◌, ◌-◌, ◌≤◌, ◌<◌, Bool, true, false, not, ◌||◌, List, [], ◌∷◌, ◌++◌, length, map, drop, add-one, get_or, Option, Some, None, slice_get, Result, Ok, Err, is_ok, refl, sym, ap, subst, arith, ◌∙◌, inl, inr, drop_of_length-le, set, Error, Range, ◌>>=◌, ExactlyUnlessOom, fault_of, result_map, WasNotRefused, DwLang, Sections, UnitRecord, LineTable, read_all, unit_lines, LazyLines, CachedUnit, UnitRange, IndexedUnit, has_lines, range_of_unit, unit_ranges, all_lines, lines_of_unit, steps_along, steps_in, lines_of_take_memory, AllAskFor, AreParsed, AreReadyForAll, ParsesOnly, StaysParsed, TakeNone, TakeNoneForAll, can_be_read, has_parsed, parses_no_memory, AreLinesOf, CachesResult, HaveLinesOf, StayLines, indexed_unit, indexed_units, is_parsed, is_uncached, lines_result, lines_result_at, lines_at, parsed_units}
+use Rattle.addr2line_units.proofs.Common.{◌≡◌, ℕ, zero, suc, ◌+◌, ◌-◌, ◌≤◌, ◌<◌, Bool, true, false, not, ◌||◌, List, [], ◌∷◌, ◌++◌, length, map, drop, add-one, get_or, Option, Some, None, slice_get, Result, Ok, Err, is_ok, refl, sym, ap, subst, arith, ◌∙◌, inl, inr, drop_of_length-le, set, Error, Range, ◌>>=◌, ExactlyUnlessOom, fault_of, result_map, WasNotRefused, DwLang, Sections, UnitRecord, LineTable, read_all, unit_lines, LazyLines, CachedUnit, UnitRange, IndexedUnit, has_lines, range_of_unit, unit_ranges, all_lines, lines_of_unit, steps_along, steps_in, lines_of_take_memory, AllAskFor, AreParsed, AreReadyForAll, ParsesOnly, StaysParsed, TakeNone, TakeNoneForAll, can_be_read, has_parsed, parses_no_memory, AreLinesOf, HaveLinesOf, StayLines, indexed_unit, indexed_units, is_parsed, is_uncached, lines_result, lines_result_at, lines_at, parsed_units}
 use Rattle.std.proofs.Math.Nat.{eq-or-lt_of_le}
 use Rattle.std.proofs.lemmas.Bool.{not-true}
 use Rattle.std.proofs.lemmas.List.{append-nil}
 use Rattle.std.proofs.lemmas.List.Sums.{sum_by-cons}
 use Rattle.addr2line_units.specs.UnitsIndexed.{IndexState, appended, as_ranged_unit}
 use Rattle.addr2line_units.proofs.Facts.{below_or_at, err_ok, never, ok_err, three}
+use Rattle.addr2line_units.proofs.UnitLinesLemmas.{CachesResult}
 use Rattle.addr2line_units.proofs.UnitsCaches.{StayAllLines}
 
 pub stay_all : {R : Type 0} (rs : List (CachedUnit R)) → StayAllLines rs rs
@@ -130,8 +131,8 @@ parsed_push (y ∷ rs) r = ap (λ bs. is_parsed y.lines ∷ bs) (parsed_push rs 
 
 pub pushed : {R : Type 0} (d : Sections) (us : List UnitRecord) (rs : List (CachedUnit R)) (u : UnitRecord) (lang : Option DwLang) (new : CachedUnit R) (given : List Range) (ranges now : List UnitRange) → length us ≡ length rs → new.lines.lang ≡ lang → is_parsed new.lines ≡ has_lines (as_ranged_unit u lang given)
     → now ≡ ranges ++ map (range_of_unit (length rs)) (unit_ranges d (as_ranged_unit u lang given))
-    → ◌≡◌ {A = IndexState} (record { units = indexed_units (us ++ u ∷ []) (rs ++ new ∷ []); ranges = now; parsed = parsed_units (rs ++ new ∷ []) })
-    (appended d (record { units = indexed_units us rs; ranges = ranges; parsed = parsed_units rs }) (as_ranged_unit u lang given ∷ []))
+    → ◌≡◌ {A = IndexState} (record { sections = d; units = indexed_units (us ++ u ∷ []) (rs ++ new ∷ []); ranges = now; parsed = parsed_units (rs ++ new ∷ []) })
+    (appended (record { sections = d; units = indexed_units us rs; ranges = ranges; parsed = parsed_units rs }) (as_ranged_unit u lang given ∷ []))
 pushed d us rs u lang new given ranges now many same parsed more =
     of_parts
     (indexed_push us rs u new many ∙ ap (λ l. indexed_units us rs ++ record { unit = u; language = l } ∷ []) same)
@@ -140,7 +141,7 @@ pushed d us rs u lang new given ranges now many same parsed more =
     ∙ ap (λ rs. ranges ++ rs) (sym (append-nil (map (range_of_unit (length (indexed_units us rs))) (unit_ranges d (as_ranged_unit u lang given))))))
     (parsed_push rs new ∙ ap (λ b. parsed_units rs ++ b ∷ []) parsed)
   where
-    of_parts : {a b : List IndexedUnit} {p q : List UnitRange} {v w : List Bool} → a ≡ b → p ≡ q → v ≡ w → ◌≡◌ {A = IndexState} (record { units = a; ranges = p; parsed = v }) (record { units = b; ranges = q; parsed = w })
+    of_parts : {a b : List IndexedUnit} {p q : List UnitRange} {v w : List Bool} → a ≡ b → p ≡ q → v ≡ w → ◌≡◌ {A = IndexState} (record { sections = d; units = a; ranges = p; parsed = v }) (record { sections = d; units = b; ranges = q; parsed = w })
     of_parts e f g = cc
 
 -- an answer is cached, unless it is OutOfMemory

@@ -1,10 +1,9 @@
 -- The units of a context as they are read (on specs/UnitsState.antt and specs/UnitsStored.antt).
-use Rattle.addr2line_units.proofs.Common.{◌≡◌, List, [], ◌∷◌, map, Option, Some, None, option_map, option_to_list, IfOk, Result, Ok, Err, refl, sym, ap, subst, ◌∙◌, Error, ◌>>=◌, Sections, SupSections, UnitRecord, UnitHeaderFields, all_headers, FileRecord, IsScope, Scope, UnitArange, UnitRange, CachedUnit, indexed_units, parsed_units, HaveNewCaches, answers_in, FindsNothing, main_scope, units_of, known_in, KnownEntries, NothingKnown, IndexedUnit, RangedUnit, indexed_of, ranged_units, unit_of_header, unit_ranges_from, unit_records, AreUnits, as_units_state, aranges_in, UnitsState, first_state, new_units, FirstAnswers, sup_sections}
+use Rattle.addr2line_units.proofs.Common.{◌≡◌, ◌++◌, List, [], ◌∷◌, map, Option, Some, None, option_map, Result, Ok, Err, refl, sym, ap, subst, ◌∙◌, Error, ◌>>=◌, Sections, SupSections, UnitRecord, all_headers, FileRecord, IsScope, Scope, UnitArange, UnitRange, CachedUnit, indexed_units, parsed_units, AreLinesOf, HaveNewCaches, answers_in, FindsNothing, main_scope, units_of, known_in, KnownEntries, NothingKnown, IndexedUnit, RangedUnit, indexed_of, ranged_units, unit_of_header, unit_ranges_from, unit_records, AreUnits, as_units_state, aranges_in, UnitsState, first_state, new_units, FirstAnswers, sup_sections}
 use Rattle.addr2line_units.specs.declared.frames.FramesStop.TheVariants as stops
 use Rattle.addr2line_units.specs.declared.sup.SupUnits.{SupUnits}
-use Rattle.addr2line_units.specs.declared.units.Index.{Index}
-use Rattle.addr2line_units.specs.UnitsCached.{AddsUnitIf}
-use Rattle.addr2line_units.specs.UnitsIndexed.{IndexState, appended, as_index, index_of, index_read, with_header}
+use Rattle.addr2line_units.specs.UnitsCached.{IsFresh}
+use Rattle.addr2line_units.specs.UnitsIndexed.{IndexState, index_of, index_read, indexed_with}
 use Rattle.addr2line_units.specs.SupScope.{scope_in}
 use Rattle.addr2line_units.specs.UnitsIndex.{UnitIndex, index_units, sup_units}
 use Rattle.addr2line_units.proofs.UnitsLinesLemmas.{own_push}
@@ -29,31 +28,15 @@ no_more_known [] = refl
 no_more_known (u ∷ units) = ap (λ (xs : List KnownEntries). NothingKnown ∷ xs) (no_more_known units)
 
 -- a unit more, and beside it its cache
-one_more : {R : Type 0} (d : Sections) (unit : Option RangedUnit) (old new : Index R) → HaveNewCaches d old.dw_units.items old.caches.items → AddsUnitIf d unit old new → HaveNewCaches d new.dw_units.items new.caches.items
-one_more d None old new before same = subst (λ (i : Index _). HaveNewCaches d i.dw_units.items i.caches.items) (sym same) before
-one_more d (Some u) old new before adds =
-    let us = old.dw_units.items in
-    let cs = old.caches.items in
-    rw (adds.units, adds.caches) (record {
-      lines = own_push d us cs u.indexed.unit adds.cache before.lines adds.lines;
-      fresh = fresh_push us cs u.indexed.unit adds.cache before.fresh adds.fresh;
-    })
-
--- those of one more header
-pub header_more : {R : Type 0} (d : Sections) (aranges : List UnitArange) (h : UnitHeaderFields) (m : IndexState) (old new : Index R) → (with_header d aranges m h).given ≡ Ok (as_index new) → IfOk (unit_of_header d aranges h).given (λ unit. AddsUnitIf d unit old new)
-    → HaveNewCaches d old.dw_units.items old.caches.items → HaveNewCaches d new.dw_units.items new.caches.items
-header_more d aranges h m old new read adds before = of_unit (unit_of_header d aranges h).given read adds
-  where
-    of_unit : (r : Result (Option RangedUnit) Error) → (r >>= λ unit. Ok (appended d m (option_to_list unit))) ≡ Ok (as_index new) → IfOk r (λ unit. AddsUnitIf d unit old new) → HaveNewCaches d new.dw_units.items new.caches.items
-    of_unit (Ok unit) k a = one_more d unit old new before a
-    of_unit (Err e) k a = absurd cc
+pub one_more : {R : Type 0} (d : Sections) (us : List UnitRecord) (cs : List (CachedUnit R)) (u : UnitRecord) (c : CachedUnit R) → HaveNewCaches d us cs → AreLinesOf d u c.lines.lines → IsFresh c → HaveNewCaches d (us ++ u ∷ []) (cs ++ c ∷ [])
+one_more d us cs u c before lines fresh = record { lines = own_push d us cs u c before.lines lines; fresh = fresh_push us cs u c before.fresh fresh }
 
 -- units that are made
 module _ {R : Type 0} (d : Sections) (us : List UnitRecord) (cs : List (CachedUnit R)) (ranges : List UnitRange) (sup : SupUnits R)
-    (e : (ranged_units d >>= λ units. Ok (index_of d units)) ≡ Ok (record { units = indexed_units us cs; ranges = ranges; parsed = parsed_units cs })) (f : sup_units d.sup ≡ Ok sup.units.items) (sup_is : sup.dwarf ≡ option_map sup_sections d.sup)
+    (e : (ranged_units d >>= λ units. Ok (index_of d units)) ≡ Ok (record { sections = d; units = indexed_units us cs; ranges = ranges; parsed = parsed_units cs })) (f : sup_units d.sup ≡ Ok sup.units.items) (sup_is : sup.dwarf ≡ option_map sup_sections d.sup)
     (new : HaveNewCaches d us cs) where
   abbrev index : IndexState
-  index = record { units = indexed_units us cs; ranges = ranges; parsed = parsed_units cs }
+  index = record { sections = d; units = indexed_units us cs; ranges = ranges; parsed = parsed_units cs }
 
   abbrev made : UnitIndex
   made = record { units = indexed_units us cs; ranges = ranges; sup_units = sup.units.items }
@@ -167,3 +150,18 @@ index_is d = of_aranges (aranges_in d.debug_aranges)
     of_aranges : (r : Result (List UnitArange) Error) → ((r >>= λ xs. Ok xs) >>= λ aranges. (units aranges >>= λ us. Ok (index_of d us)) >>= λ index. Ok index) ≡ ((r >>= λ aranges. units aranges) >>= λ us. Ok (index_of d us))
     of_aranges (Ok aranges) = of_units (units aranges)
     of_aranges (Err e) = refl
+
+-- they are of these sections
+pub indexed_sections : (d : Sections) (aranges : List UnitArange) (m : IndexState) → (indexed_with d aranges).given ≡ Ok m → m.sections ≡ d
+indexed_sections d aranges m e = by (units_of (unit_of_header d aranges) (all_headers d.debug_info)).given e
+  where
+    by : (r : Result (List RangedUnit) Error) → (r >>= λ units. Ok (index_of d units)) ≡ Ok m → m.sections ≡ d
+    by (Ok units) h = ap (λ (x : IndexState). x.sections) (sym (ok_is (index_of d units) m h))
+    by (Err f) h = absurd cc
+
+pub index_sections : (d : Sections) (m : IndexState) → (index_read d).given ≡ Ok m → m.sections ≡ d
+index_sections d m e = by (ranged_units d) (sym (index_is d) ∙ e)
+  where
+    by : (r : Result (List RangedUnit) Error) → (r >>= λ units. Ok (index_of d units)) ≡ Ok m → m.sections ≡ d
+    by (Ok units) h = ap (λ (x : IndexState). x.sections) (sym (ok_is (index_of d units) m h))
+    by (Err f) h = absurd cc

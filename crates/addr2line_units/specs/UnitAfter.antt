@@ -14,26 +14,33 @@ use Rattle.addr2line_units.specs.EntriesCached.{AreFramesIn, AsksNoMemoryIn, Has
 use Rattle.addr2line_units.specs.EntriesFrames.{HasFewInlined, asks_lines_in, function_in}
 use Rattle.addr2line_units.specs.EntriesFunctions.{AreFunctionsOf, ArePlacesIn, cached_functions, were_read}
 use Rattle.addr2line_units.specs.EntriesMemory.{functions_in_take_memory, lines_take_memory}
-use Rattle.addr2line_units.specs.UnitLinesCached.{AreLinesOf, CachesResult, StayLines, cached_lines_result, is_uncached, lines_or}
+use Rattle.addr2line_units.specs.UnitLinesCached.{StayLines, cached_lines_result, is_uncached, lines_or, lines_result_or}
 use Rattle.addr2line_units.specs.UnitView.{answered_view, verdict, SplitLoad, load_of_unit}
 use Rattle.addr2line_units.specs.LoadsListed.{MarksUnit, is_marked}
 use Rattle.addr2line_units.specs.LoadsMemory.{answer_takes_memory}
 use Rattle.addr2line_units.specs.declared.unit.UnitView.{UnitView}
 use Rattle.addr2line_units.specs.UnitViewCached.{answer_of_view, was_checked, verdict_in, waits}
 
--- after the lines of a unit were asked for: what is cached is as it was, or was read of this unit
--- now, and what was cached stays; unless memory was refused the lines are cached, or their fault,
--- and where they are, none was, if that fault isn't OutOfMemory; where they take no memory a
--- refusal is the fault that was cached, or where nothing was that of the unit's lines
-pub record AfterLinesOf {X : Type 0} (shares : Bool) (d : Sections) (u : UnitRecord)
-    (result : Result X Error) (old new : LinesCache) : Type 0 where
-  pub read : (new.lines ≡ old.lines) ⊎ AreLinesOf d u new.lines
+-- the lines of a unit are cached: those that were, or else those that its bytes give
+pub record CachesLines (d : Sections) (u : UnitRecord) (old new : LinesCache) : Type 0 where
   pub stay : StayLines old new
-  pub known : CachesResult old.lines result new.lines
-  pub memory : is_uncached new.lines ≡ false → WasNotRefused (cached_lines_result new.lines)
-      → WasNotRefused result
-  pub no_memory : lines_take_memory shares u ≡ false
-      → IfErr result (λ e. lines_or d u old.lines ≡ Err e)
+  pub lines : cached_lines_result new.lines ≡ lines_result_or d u old.lines
+
+-- memory was refused that the lines of a unit take, which aren't cached: nothing is changed
+pub record LacksLines {X : Type 0} (shares : Bool) (u : UnitRecord) (result : Result X Error)
+    (old new : LinesCache) : Type 0 where
+  pub same : new ≡ old
+  pub unread : is_uncached old.lines ≡ true
+  pub takes : lines_take_memory shares u ≡ true
+  pub refused : result ≡ Err OutOfMemory
+
+-- after the lines of a unit were asked for: they are cached, and a refusal is their fault; or
+-- memory was refused
+abbrev pub AfterLinesOf : {X : Type 0} → Bool → Sections → UnitRecord → Result X Error → LinesCache
+    → LinesCache → Type 0
+AfterLinesOf shares d u result old new =
+    (CachesLines d u old new × IfErr result (λ e. lines_or d u old.lines ≡ Err e))
+    ⊎ LacksLines shares u result old new
 
 -- the unit was looked at whose entries are cached
 abbrev pub WasLookedAt : {R : Type 0} → Scope → UnitRecord → CachedUnit R → Type 0
@@ -134,10 +141,8 @@ pub record AfterCheck {R : Type 0} (d : Sections) (u : UnitRecord) (old new : En
 pub record AfterFramesIn {R : Type 0} (shares : Bool) (scope : Scope) (u : UnitRecord) (probe : ℕ)
     (result : Result UnitFrames Error) (old new : CachedUnit R) : Type 0 where
   pub unit : WasLookedAt scope u new
-  pub read : (new.lines.lines ≡ old.lines.lines)
-      ⊎ AreLinesOf scope.file.sections u new.lines.lines
+  pub lines : (new.lines ≡ old.lines) ⊎ CachesLines scope.file.sections u old.lines new.lines
   pub frames : IfOk result (AreFramesIn new.lines new.entries)
-  pub lines : StayLines old.lines new.lines
   pub stay : StayEntries old.entries new.entries
   pub within : ReadsEntriesOf probe old.entries new.entries
   pub kept : asks_lines_in scope u (first_answer_of old.entries) probe ≡ false

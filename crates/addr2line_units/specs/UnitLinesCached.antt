@@ -2,9 +2,9 @@
 -- Own: lines are read when they are first asked for, and cached then, their fault too. OutOfMemory
 -- is never cached. Absent are lines only where the unit has no rows and no files, as where it has
 -- no line program.
-use Rattle.std.specs.Prelude.{◌≡◌, ◌≢◌, ℕ, Bool, true, false, not, List, [], ◌∷◌, map, Option, Some, None, slice_get, Result, Ok, Err, box_value}
+use Rattle.std.specs.Prelude.{◌≡◌, ◌≢◌, ℕ, Bool, true, false, not, List, [], ◌∷◌, map, Option, Some, None, slice_get, Result, Ok, Err, box_value, if◌then◌else◌}
 use Rattle.std.specs.List.{AllZip}
-use Rattle.addr2line_units.specs.Common.{Error, OutOfMemory, Range, ◌>>=◌, fault_of, Sections, UnitRecord, LocatedSpan, location_at, locations_in_range, sequence_ranges, unit_lines}
+use Rattle.addr2line_units.specs.Common.{DwLang, Error, OutOfMemory, Range, ◌>>=◌, fault_of, Sections, UnitRecord, LocatedSpan, location_at, locations_in_range, sequence_ranges, unit_lines}
 use Rattle.addr2line_lines.specs.declared.row.Row.{Row}
 use Rattle.addr2line_lines.specs.Location.{LineTable as Lines}
 use Rattle.addr2line_lines.specs.Counts.{most_steps_in}
@@ -13,7 +13,8 @@ use Rattle.addr2line_units.specs.declared.unit.LazyLines.{LazyLines}
 use Rattle.addr2line_units.specs.declared.unit.LazyLines.TheVariants.{Unread, Absent, Read, Faulty}
 use Rattle.addr2line_units.specs.declared.unit.LinesCache.{LinesCache}
 use Rattle.addr2line_units.specs.EntriesOwn.{CachedUnit}
-use Rattle.addr2line_units.specs.UnitsRanged.{IndexedUnit}
+use Rattle.gimli_line.specs.Header.{Program}
+use Rattle.addr2line_units.specs.UnitsRanged.{IndexedUnit, RangedUnit, has_lines, unit_ranges}
 use Rattle.addr2line_units.specs.Locations.{LocationResult, all_read}
 
 -- no lines
@@ -46,15 +47,37 @@ abbrev pub is_uncached : LazyLines → Bool
 is_uncached Unread = true
 is_uncached _ = false
 
--- after an answer the lines are cached, or their fault; after OutOfMemory they are as before
-abbrev pub CachesResult : {X : Type 0} → LazyLines → Result X Error → LazyLines → Type 0
-CachesResult old (Ok x) new = is_uncached new ≡ false
-CachesResult old (Err e) new =
-    (e ≢ OutOfMemory → is_uncached new ≡ false) × (e ≡ OutOfMemory → new ≡ old)
+-- the lines before they are asked for: without a line program there are none
+abbrev pub unparsed_lines : Option Program → LazyLines
+unparsed_lines None = Absent
+unparsed_lines (Some p) = Unread
 
 -- what the lines of a unit are once they are cached
 abbrev pub lines_result : Sections → UnitRecord → Result (Option Lines) Error
 lines_result d u = unit_lines d u >>= λ lines. Ok (Some lines)
+
+-- of a unit that a context is made of: its language, its lines as they are cached then, or their
+-- fault, and the ranges that lead to it
+pub record FirstLines : Type 0 where
+  pub language : Option DwLang
+  pub lines : Result (Option Lines) Error
+  pub ranges : List Range
+
+-- the same by its record: lines are parsed where they give the ranges
+abbrev pub first_lines : Sections → RangedUnit → FirstLines
+first_lines d u = record {
+  language = u.indexed.language;
+  lines = if has_lines u then lines_result d u.indexed.unit else Ok None;
+  ranges = unit_ranges d u;
+}
+
+-- the same by what is cached
+abbrev pub as_first_lines : LinesCache → List Range → FirstLines
+as_first_lines cache ranges = record {
+  language = cache.lang;
+  lines = cached_lines_result cache.lines;
+  ranges = ranges;
+}
 
 -- the cached lines or their cached fault, or where nothing is cached what the unit's bytes give
 abbrev pub lines_or : Sections → UnitRecord → LazyLines → Result Lines Error

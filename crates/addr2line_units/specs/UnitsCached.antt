@@ -1,14 +1,12 @@
 -- What is cached of all units of a context, as the private functions see it: a cache beside each
 -- unit, their first answers, and which units wait.
-use Rattle.std.specs.Prelude.{◌≡◌, ℕ, Bool, false, List, [], ◌∷◌, ◌++◌, map, Option, Some, None, IfSome, option_map, slice_get, unwrap_or}
+use Rattle.std.specs.Prelude.{◌≡◌, ℕ, Bool, false, List, map, None, IfSome, option_map, slice_get, unwrap_or}
 use Rattle.std.specs.List.{AllZip}
 use Rattle.addr2line_units.specs.Common.{Sections, UnitRecord, Scope}
 use Rattle.addr2line_units.specs.EntriesOwn.{AreEntriesOf, AreFresh, CachedUnit, first_answer_of}
-use Rattle.addr2line_units.specs.declared.units.Index.{Index}
 use Rattle.addr2line_units.specs.UnitViewCached.{waits}
 use Rattle.addr2line_units.specs.UnitLinesCached.{AreLinesOf, HaveLinesOf}
 use Rattle.addr2line_units.specs.UnitView.{FirstAnswers}
-use Rattle.addr2line_units.specs.UnitsRanged.{RangedUnit}
 
 -- the entries that are cached are of this unit, if one was looked at
 abbrev pub AreOfUnit : {R : Type 0} → Scope → UnitRecord → CachedUnit R → Type 0
@@ -39,19 +37,6 @@ pub record HaveNewCaches {R : Type 0} (d : Sections) (us : List UnitRecord)
     (cs : List (CachedUnit R)) : Type 0 where
   pub lines : HaveLinesOf d us cs
   pub fresh : AreFreshOf us cs
-
--- a unit is added, and beside it its cache: its lines, and it wasn't looked at yet
-pub record AddsUnit {R : Type 0} (d : Sections) (u : UnitRecord) (old new : Index R) : Type 0 where
-  pub cache : CachedUnit R
-  pub units : new.dw_units.items ≡ old.dw_units.items ++ u ∷ []
-  pub caches : new.caches.items ≡ old.caches.items ++ cache ∷ []
-  pub lines : AreLinesOf d u cache.lines.lines
-  pub fresh : IsFresh cache
-
--- a unit is added, and nothing where it is passed over
-abbrev pub AddsUnitIf : {R : Type 0} → Sections → Option RangedUnit → Index R → Index R → Type 0
-AddsUnitIf d None old new = new ≡ old
-AddsUnitIf d (Some u) old new = AddsUnit d u.indexed.unit old new
 
 -- the first answers of units
 abbrev pub answers_in : {R : Type 0} → List (CachedUnit R) → FirstAnswers

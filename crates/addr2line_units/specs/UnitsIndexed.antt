@@ -5,27 +5,28 @@ use Rattle.addr2line_units.specs.Common.{DwLang, Range, Costed, free, Section, U
 use Rattle.gimli_read.specs.Costed.{◌>>=◌}
 use Rattle.addr2line_units.specs.declared.index.UnitArange.{UnitArange}
 use Rattle.addr2line_units.specs.declared.index.UnitRange.{UnitRange}
-use Rattle.addr2line_units.specs.declared.units.Index.{Index}
-use Rattle.addr2line_units.specs.declared.units.IndexedUnits.{IndexedUnits}
+use Rattle.addr2line_units.specs.EntriesOwn.{CachedUnit}
 use Rattle.addr2line_units.specs.UnitLinesCached.{indexed_units, parsed_units}
 use Rattle.addr2line_units.specs.UnitsOfHeaders.{put_to, units_of}
 use Rattle.addr2line_units.specs.UnitsRanged.{IndexedUnit, indexed_of, RangedUnit, has_lines, unit_ranges_from, unit_of_header}
 use Rattle.addr2line_units.specs.IndexAranges.{aranges_in, lists_aranges}
 use Rattle.addr2line_units.specs.UnitsIndex.{sup_read}
 
--- units, the ranges that lead to them, and of which units the lines are parsed
+-- the units of sections, the ranges that lead to them, and of which units the lines are parsed
 pub record IndexState : Type 0 where
+  pub sections : Sections
   pub units : List IndexedUnit
   pub ranges : List UnitRange
   pub parsed : List Bool
 
 -- before the first unit
-abbrev pub no_index : IndexState
-no_index = record { units = []; ranges = []; parsed = [] }
+abbrev pub no_index : Sections → IndexState
+no_index d = record { sections = d; units = []; ranges = []; parsed = [] }
 
 -- those of units that are read
 abbrev pub index_of : Sections → List RangedUnit → IndexState
 index_of d units = record {
+  sections = d;
   units = map indexed_of units;
   ranges = unit_ranges_from d 0 units;
   parsed = map has_lines units;
@@ -54,32 +55,25 @@ index_read d = do
   free (Ok index)
 
 -- units that are read, behind those that were
-abbrev pub appended : Sections → IndexState → List RangedUnit → IndexState
-appended d m units = record {
+abbrev pub appended : IndexState → List RangedUnit → IndexState
+appended m units = record m {
   units = m.units ++ map indexed_of units;
-  ranges = m.ranges ++ unit_ranges_from d (length m.units) units;
+  ranges = m.ranges ++ unit_ranges_from m.sections (length m.units) units;
   parsed = m.parsed ++ map has_lines units;
 }
 
 -- what was read, and the unit of one more header behind it, unless that is passed over
-abbrev pub with_header : Sections → List UnitArange → IndexState → UnitHeaderFields
-    → Costed IndexState
-with_header d aranges m h = put_to (appended d) m (unit_of_header d aranges h)
+abbrev pub with_header : List UnitArange → IndexState → UnitHeaderFields → Costed IndexState
+with_header aranges m h = put_to appended m (unit_of_header m.sections aranges h)
 
--- what was read so far
-abbrev pub as_index : {R : Type 0} → Index R → IndexState
-as_index i = record {
-  units = indexed_units i.dw_units.items i.caches.items;
-  ranges = i.ranges.items;
-  parsed = parsed_units i.caches.items;
-}
-
--- the units of a file and their ranges
-abbrev pub as_indexed_units : {R : Type 0} → IndexedUnits R → IndexState
-as_indexed_units u = record {
-  units = indexed_units u.dw_units.items u.caches.items;
-  ranges = u.ranges;
-  parsed = parsed_units u.caches.items;
+-- what was read of sections, by the units, what is cached of them, and the ranges
+abbrev pub index_state : {R : Type 0} → Sections → List UnitRecord → List (CachedUnit R)
+    → List UnitRange → IndexState
+index_state d dw_units caches ranges = record {
+  sections = d;
+  units = indexed_units dw_units caches;
+  ranges = ranges;
+  parsed = parsed_units caches;
 }
 
 -- a unit with its language, and the ranges that are listed for it

@@ -7,7 +7,7 @@ ghost use Rattle.addr2line_units.specs.UnitsRanged.{is_partial, is_type_unit, li
 ghost use Rattle.addr2line_units.specs.EntriesMemory.{lines_take_memory};
 ghost use Rattle.addr2line_units.specs.Locations.{is_found};
 ghost use Rattle.addr2line_units.specs.IndexAranges.{range_in};
-ghost use Rattle.addr2line_units.specs.UnitLinesCached.{AreLinesOf, cached_lines_result, cached_files, cached_steps, cached_ranges, cached_row, is_parsed, lines_result, lines_result_or, location_or, cached_lines, is_uncached};
+ghost use Rattle.addr2line_units.specs.UnitLinesCached.{as_first_lines, cached_lines_result, cached_files, cached_steps, cached_ranges, cached_row, first_lines, lines_result, lines_result_or, location_or, cached_lines, is_uncached, unparsed_lines};
 ghost use Rattle.addr2line_units.specs.UnitAfter.{AfterLinesOf, AfterViewAnswer, AfterViewCheck, AfterViewForgetting, CountsSteps};
 ghost use Rattle.addr2line_units.specs.UnitsIndexed.{as_ranged_unit};
 ghost use Rattle.addr2line_units.specs.LoadsMemory.{answer_takes_memory};
@@ -117,8 +117,7 @@ pub(crate) fn read_ranged_unit<R: Reader>(
 // The lines of a unit before they are asked for: a unit without a line program has none. Takes no
 // memory.
 fn lines_at_first<R: Reader>(unit: &Unit<R>) -> LazyLines
-    ensures gives { is_uncached result ≡ is_some unit.now.line_program }
-    ensures read { (d : Sections) → AreLinesOf d unit.now result }
+    ensures gives { result ≡ unparsed_lines unit.now.line_program }
 {
     match &unit.line_program {
         Some(_) => LazyLines::Unread,
@@ -133,15 +132,8 @@ fn parse_lines<R: Reader>(
     dwarf: &Dwarf<R>,
     unit: &Unit<R>,
 ) -> Result<LazyLines, Error>
-    ensures gives { IfOk result (λ l. cached_lines_result l
-        ≡ lines_result dwarf.now unit.now) }
-    ensures read { IfOk result
-        (AreLinesOf dwarf.now unit.now) }
-    ensures known { IfOk result (λ l. is_uncached l ≡ false) }
-    ensures fault { IfOk result (λ l. cached_lines_result l ≢ Err OutOfMemory) }
-    ensures refused { IfErr result (λ e. e ≡ OutOfMemory) }
-    ensures no_memory { lines_take_memory R.shares unit.now ≡ false
-        → IfErr result (λ e. lines_result dwarf.now unit.now ≡ Err e) }
+    ensures gives { ExactlyUnlessOomIf (lines_take_memory R.shares unit.now) cached_lines_result
+        result (Ok (lines_result dwarf.now unit.now)) }
 {
     let Some(_) = &unit.line_program else {
         return Ok(LazyLines::Absent);
@@ -198,14 +190,9 @@ pub(crate) fn lines_and_ranges<R: Reader>(
     lang: Option<DwLang>,
     listed: Vec<Range>,
 ) -> Result<(LinesCache, Vec<Range>), Error>
-    ensures gives { ExactlyUnlessOom (λ x. x.1.items) result (Ok (unit_ranges dwarf.now
-        (as_ranged_unit dw_unit.now lang listed.items))) }
-    ensures kept { IfOk result (λ x. x.0.lang ≡ lang) }
-    ensures read { IfOk result (λ x. AreLinesOf dwarf.now dw_unit.now x.0.lines) }
-    ensures known { IfOk result (λ x. is_parsed x.0
-        ≡ has_lines (as_ranged_unit dw_unit.now lang listed.items)) }
-    ensures exact { asks_lines (as_ranged_unit dw_unit.now lang listed.items) ≡ false
-        → IsOk result }
+    ensures gives { ExactlyUnlessOomIf (asks_lines (as_ranged_unit dw_unit.now lang listed.items))
+        (λ x. as_first_lines x.0 x.1.items) result
+        (Ok (first_lines dwarf.now (as_ranged_unit dw_unit.now lang listed.items))) }
 {
     if !listed.is_empty() || is_partial(dw_unit.header.type_()) {
         let lines = lines_at_first(dw_unit);

@@ -1,9 +1,8 @@
 //! The units of a context, and the ranges that lead to them.
 
-ghost use Rattle.std.specs.Prelude.{◌≡◌, ◌++◌, [], ◌∷◌, IfErr, IfOk, IsOk, OnOk, length, map, option_map};
-ghost use Rattle.addr2line_units.specs.Common.{OutOfMemory, ExactlyAtCost, ExactlyUnlessOomIf, as_scope};
-ghost use Rattle.addr2line_units.specs.UnitsCached.{AddsUnit, AddsUnitIf, HaveNewCaches};
-ghost use Rattle.addr2line_units.specs.UnitsIndexed.{appended, context_takes_memory, as_index, index_read, indexed_with, no_index, as_ranged_unit, as_indexed_units, with_header};
+ghost use Rattle.std.specs.Prelude.{◌≡◌, ◌++◌, [], ◌∷◌, IfErr, IsOk, Ok, OnOk, map, option_map};
+ghost use Rattle.addr2line_units.specs.Common.{OutOfMemory, ExactlyAtCost, ExactlyUnlessOom, ExactlyUnlessOomIf, as_scope};
+ghost use Rattle.addr2line_units.specs.UnitsIndexed.{appended, context_takes_memory, index_read, indexed_with, no_index, as_ranged_unit, with_header};
 ghost use Rattle.addr2line_units.specs.UnitsRanged.{range_of_unit, unit_of_header};
 ghost use Rattle.addr2line_units.specs.SupScope.{scope_of};
 ghost use Rattle.addr2line_units.specs.UnitsState.{new_units};
@@ -59,17 +58,41 @@ impl<R: Reader> Model for Units<R> {
 // The units of a file as they are read, and the ranges that lead to them.
 #[derive(Drop)]
 struct IndexedUnits<R: Reader> {
+    dwarf: Rc<Dwarf<R>>,
     dw_units: Vec<Unit<R>>,
     caches: Vec<UnitCache<R>>,
     ranges: UnitRanges,
 }
 
+impl<R: Reader> Model for IndexedUnits<R> {
+    ghost use Rattle.addr2line_units.specs.UnitsCached.{HaveNewCaches};
+    ghost use Rattle.addr2line_units.specs.UnitsIndexed.{IndexState, index_state};
+
+    ghost Value = { IndexState };
+
+    ghost view = { λ u. index_state u.dwarf.value u.dw_units.items u.caches.items u.ranges };
+
+    ghost invariant = { λ u. HaveNewCaches u.dwarf.value u.dw_units.items u.caches.items };
+}
+
 // The units and ranges that were read so far.
 #[derive(Drop)]
-struct Index<R: Reader> {
+struct Index<'d, R: Reader> {
+    dwarf: &'d Dwarf<R>,
     dw_units: Vec<Unit<R>>,
     caches: Vec<UnitCache<R>>,
     ranges: Vec<UnitRange>,
+}
+
+impl<'d, R: Reader> Model for Index<'d, R> {
+    ghost use Rattle.addr2line_units.specs.UnitsCached.{HaveNewCaches};
+    ghost use Rattle.addr2line_units.specs.UnitsIndexed.{IndexState, index_state};
+
+    ghost Value = { IndexState };
+
+    ghost view = { λ i. index_state i.dwarf.now i.dw_units.items i.caches.items i.ranges.items };
+
+    ghost invariant = { λ i. HaveNewCaches i.dwarf.now i.dw_units.items i.caches.items };
 }
 
 // The unit of a header, its language, and its listed ranges; none where it is passed over.
@@ -117,13 +140,13 @@ fn push_ranges(unit_ranges: &mut Vec<UnitRange>, unit: usize, ranges: &[Range]) 
     Ok(())
 }
 
-impl<R: Reader> Index<R> {
-    // Before the first unit.
-    fn new(alloc: Global) -> Index<R>
-        ensures none { as_index result ≡ no_index }
-        ensures empty { (result.dw_units.items ≡ []) × (result.caches.items ≡ []) }
+impl<'d, R: Reader> Index<'d, R> {
+    // Before the first unit. Takes no memory.
+    fn new(alloc: Global, dwarf: &'d Dwarf<R>) -> Index<'d, R>
+        ensures gives { result ≡ no_index dwarf.now }
     {
         Index {
+            dwarf,
             dw_units: Vec::new(alloc),
             caches: Vec::new(alloc),
             ranges: Vec::new(alloc),
@@ -133,66 +156,66 @@ impl<R: Reader> Index<R> {
     // Adds a unit, what is cached of it from the start, and the ranges that lead to it. Refused
     // `OutOfMemory` alone.
     fn push(
-        &mut self,
+        self,
         alloc: Global,
-        dwarf: &Dwarf<R>,
         dw_unit: Unit<R>,
         lang: Option<DwLang>,
         listed: Vec<Range>,
-    ) -> Result<(), Error>
-        requires beside { length self.old.dw_units.items ≡ length self.old.caches.items }
-        ensures gives { OnOk result (as_index self.new ≡ appended dwarf.now
-            (as_index self.old) (as_ranged_unit dw_unit lang listed.items ∷ [])) }
-        ensures read { OnOk result (AddsUnit dwarf.now dw_unit self.old self.new) }
-        ensures refused { IfErr result (λ e. e ≡ OutOfMemory) }
+    ) -> Result<Index<'d, R>, Error>
+        ensures gives { ExactlyUnlessOom (λ i. i) result
+            (Ok (appended self.entry (as_ranged_unit dw_unit lang listed.items ∷ []))) }
     {
+        let Index {
+            dwarf,
+            mut dw_units,
+            mut caches,
+            ranges: mut unit_ranges,
+        } = self;
         let (lines, ranges) = lines_and_ranges(alloc, dwarf, &dw_unit, lang, listed)?;
-        push_ranges(&mut self.ranges, self.caches.len(), &ranges)?;
-        self.dw_units.push(dw_unit)?;
-        self.caches.push(UnitCache::new(lines))?;
-        Ok(())
+        push_ranges(&mut unit_ranges, caches.len(), &ranges)?;
+        dw_units.push(dw_unit)?;
+        caches.push(UnitCache::new(lines))?;
+        Ok(Index {
+            dwarf,
+            dw_units,
+            caches,
+            ranges: unit_ranges,
+        })
     }
 
     // Adds the unit of a header, unless it is passed over.
     fn take(
-        &mut self,
+        self,
         alloc: Global,
-        dwarf: &Dwarf<R>,
         abbreviations: &mut AbbreviationsCache<'_, R>,
         aranges: &UnitAranges,
         header: UnitHeader<R>,
-    ) -> Result<(), Error>
-        requires same { abbreviations.old.dwarf ≡ dwarf.now }
-        requires beside { length self.old.dw_units.items ≡ length self.old.caches.items }
-        ensures gives { ExactlyAtCost R.shares (λ _. as_index self.new) result
-            (with_header dwarf.now aranges.now (as_index self.old) header) }
-        ensures dwarf { abbreviations.new.dwarf ≡ dwarf.now }
-        ensures read { OnOk result (IfOk (unit_of_header dwarf.now aranges.now header).given
-            (λ unit. AddsUnitIf dwarf.now unit self.old self.new)) }
+    ) -> Result<Index<'d, R>, Error>
+        requires same { abbreviations.old.dwarf ≡ self.sections }
+        ensures gives { ExactlyAtCost R.shares (λ i. i) result
+            (with_header aranges.now self.entry header) }
+        ensures dwarf { abbreviations.new.dwarf ≡ self.entry.sections }
     {
-        let read = read_unit(alloc, dwarf, abbreviations, aranges, header)?;
-        if let Some((dw_unit, lang, listed)) = read {
-            self.push(alloc, dwarf, dw_unit, lang, listed)?;
+        match read_unit(alloc, self.dwarf, abbreviations, aranges, header)? {
+            Some((dw_unit, lang, listed)) => self.push(alloc, dw_unit, lang, listed),
+            None => Ok(self),
         }
-        Ok(())
     }
 }
 
 // The units of the headers of a section, each whole before the next header.
-fn read_units<R: Reader>(
+fn read_units<'d, R: Reader>(
     alloc: Global,
-    dwarf: &Dwarf<R>,
+    dwarf: &'d Dwarf<R>,
     aranges: &UnitAranges,
-) -> Result<Index<R>, Error>
-    ensures gives { ExactlyAtCost R.shares as_index result
-        (indexed_with dwarf.now aranges.now) }
-    ensures read { IfOk result (λ i. HaveNewCaches dwarf.now i.dw_units.items i.caches.items) }
+) -> Result<Index<'d, R>, Error>
+    ensures gives { ExactlyAtCost R.shares (λ i. i) result (indexed_with dwarf.now aranges.now) }
 {
     let mut headers = dwarf.units()?;
     let mut abbreviations = AbbreviationsCache::new(alloc, dwarf);
-    let mut index = Index::new(alloc);
+    let mut index = Index::new(alloc, dwarf);
     while let Some(header) = headers.next()? {
-        index.take(alloc, dwarf, &mut abbreviations, aranges, header)?;
+        index = index.take(alloc, &mut abbreviations, aranges, header)?;
     }
     Ok(index)
 }
@@ -200,18 +223,19 @@ fn read_units<R: Reader>(
 impl<R: Reader> IndexedUnits<R> {
     // The units of `.debug_info` that a context has, and the ranges that lead to them, as
     // `Units::parse` reads them.
-    fn parse(alloc: Global, dwarf: &Dwarf<R>) -> Result<IndexedUnits<R>, Error>
-        ensures gives { ExactlyAtCost R.shares as_indexed_units result (index_read dwarf.now) }
-        ensures read { IfOk result (λ u. HaveNewCaches dwarf.now u.dw_units.items u.caches.items) }
+    fn parse(alloc: Global, dwarf: Rc<Dwarf<R>>) -> Result<IndexedUnits<R>, Error>
+        ensures gives { ExactlyAtCost R.shares (λ u. u) result (index_read dwarf.value) }
     {
         let aranges = UnitAranges::parse(alloc, &dwarf.debug_aranges)?;
         let Index {
+            dwarf: _,
             dw_units,
             caches,
             ranges,
-        } = read_units(alloc, dwarf, &aranges)?;
+        } = read_units(alloc, &dwarf, &aranges)?;
         let ranges = UnitRanges::new(alloc, ranges)?;
         Ok(IndexedUnits {
+            dwarf,
             dw_units,
             caches,
             ranges,
@@ -254,9 +278,10 @@ impl<R: Reader> Units<R> {
         ensures gives { ExactlyUnlessOomIf (context_takes_memory R.shares dwarf.value)
             (λ x. (x.0, x.1)) result (new_units dwarf.value) }
     {
-        let indexed = IndexedUnits::parse(alloc, &dwarf)?;
-        let sup = SupUnits::parse(alloc, &dwarf)?;
+        let indexed = IndexedUnits::parse(alloc, dwarf)?;
+        let sup = SupUnits::parse(alloc, &indexed.dwarf)?;
         let IndexedUnits {
+            dwarf,
             dw_units,
             caches,
             ranges,

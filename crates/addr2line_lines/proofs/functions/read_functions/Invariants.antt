@@ -1,15 +1,15 @@
-use Rattle.addr2line_lines.proofs.Common.{◌≡◌, true, length, items_of, items_left, have_function, AreFoundUnread, found_in, as_functions}
+use Rattle.addr2line_lines.proofs.Common.{◌≡◌, length, items_of, AreFoundUnread, none_found, as_functions}
+use Rattle.addr2line_lines.proofs.CostLemmas.{IsRestOf}
 use Rattle.addr2line_lines.proofs.functions.read_functions.Given as goal
-use Rattle.addr2line_lines.proofs.FunctionLemmas.{found_from}
+use Rattle.addr2line_lines.proofs.FunctionMemory.{found_from, run_at_cost}
 
 abbrev pub invariant-loop-unit : goal.invariant-loop-unit
 invariant-loop-unit g l =
     let d = l.fn.unit.dwarf.now in
     let u = l.fn.unit.unit.now in
     record {
-      gives : found_from d u l.entries.unit l.entries.cursor (as_functions l.found) ≡ found_in d u;
+      rest : IsRestOf (found_from d u l.entries.unit l.entries.cursor (as_functions l.found)) (run_at_cost d u none_found (items_of u));
       unit : l.entries.unit.encoding ≡ u.header.encoding;
-      has : have_function d u (items_left l.entries.unit l.entries.cursor).items ≡ true → have_function d u (items_of u).items ≡ true;
       unread : AreFoundUnread l.found;
     }
 

@@ -1,6 +1,6 @@
-use Rattle.addr2line_units.proofs.Common.{◌≡◌, Ok, length, free, HaveNewCaches, units_of, unit_of_header}
+use Rattle.addr2line_units.proofs.Common.{◌≡◌, Ok, length, free, units_of, unit_of_header}
 use Rattle.gimli_read.specs.Costed.{◌>>=◌}
-use Rattle.addr2line_units.specs.UnitsIndexed.{appended, as_index, indexed_with}
+use Rattle.addr2line_units.specs.UnitsIndexed.{appended, indexed_with}
 use Rattle.addr2line_units.proofs.UnitsOfHeadersLemmas.{IsRestOf}
 use Rattle.addr2line_units.proofs.units.read_units.Given as goal
 
@@ -8,9 +8,9 @@ abbrev pub invariant-loop-index : goal.invariant-loop-index
 invariant-loop-index g l =
     let d = l.dwarf in
     record {
-      left : IsRestOf g.R.Reader.shares (units_of (unit_of_header d l.aranges) l.headers >>= λ units. free (Ok (appended d (as_index l.index) units))) (indexed_with d l.aranges);
+      left : IsRestOf g.R.Reader.shares (units_of (unit_of_header d l.aranges) l.headers >>= λ units. free (Ok (appended l.index units))) (indexed_with d l.aranges);
       same : l.abbreviations.dwarf ≡ d;
-      read : HaveNewCaches d l.index.dw_units.items l.index.caches.items;
+      sections : l.index.sections ≡ d;
     }
 
 abbrev pub decreases-loop-index : goal.decreases-loop-index

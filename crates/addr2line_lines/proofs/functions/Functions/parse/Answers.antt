@@ -1,6 +1,6 @@
-use Rattle.addr2line_lines.proofs.Common.{map, Ok, refl, ap, subst, ◌∙◌, err_from_is_err_and, items_of, LazyFunction, entries_of, functions_of, have_function, AreFunctions, function_range_of, as_functions, as_function, CachedFunction, CachedDetails, as_details, as_scope, or_right}
+use Rattle.addr2line_lines.proofs.Common.{nat_lt, map, Ok, refl, ap, subst, ◌∙◌, length-map, err_from_is_err_and, LazyFunction, entries_of, functions_of, AreFunctions, function_range_of, as_functions, as_function, CachedFunction, CachedDetails, as_details, as_scope}
 use Rattle.addr2line_lines.proofs.FunctionCacheLemmas.{runs_unread, functions_unread}
-use Rattle.addr2line_lines.proofs.FunctionMemory.{found_has}
+use Rattle.addr2line_lines.proofs.FunctionMemory.{functions_take}
 use Rattle.addr2line_lines.proofs.FunctionOrder.{AgreesFound, are_functions, functions_agree}
 use Rattle.addr2line_lines.proofs.ListedFunctions.{offsets_seen}
 use Rattle.addr2line_lines.proofs.functions.Functions.parse.Goals as goal
@@ -12,7 +12,7 @@ returns-in_err-functions g c =
     let d = (as_scope c.args.scope).file.sections in
     let u = c.args.unit.now in
     record {
-      gives = rw (p.1, p.2) (λ ne. subst (AgreesFound (functions_of d u)) ((rw (c.new.ensures.dwarf, c.new.ensures.unit) at c.in_err-functions.ensures.gives) ne) (functions_agree d u));
+      gives = rw (p.1, p.2) (λ ne. subst (AgreesFound (functions_of d u)) ((rw (c.new.ensures.dwarf, c.new.ensures.unit) at c.in_err-functions.ensures.gives) ne) (functions_agree d u).given);
       empty = rw p.1 tt;
       functions = rw p.1 tt;
       names = rw p.1 tt;
@@ -25,7 +25,8 @@ returns-in_err-addresses-clause-gives g c =
     let u = c.args.unit.now in
     let found = as_functions c.in_ok-functions.field-0 in
     let read = rw (c.new.ensures.dwarf, c.new.ensures.unit) at c.in_ok-functions.ensures.gives in
-    rw (p.1, p.2) (λ ne. (let no = c.in_err-addresses.ensures.gives (λ some. ne (or_right g.R.Reader.shares (have_function d u (items_of u).items) (found_has d u found read some))) in absurd cc))
+    let a = subst (AgreesFound (functions_of d u)) read (functions_agree d u).given in
+    rw (p.1, p.2) (λ ne. (let no = c.in_err-addresses.ensures.gives (λ some. ne (functions_take d u g.R.Reader.shares _ a.0 (ap (nat_lt 0) (length-map found.addresses (function_range_of found.offsets)) ∙ some))) in absurd cc))
 
 pub invariant_of-result : goal.invariant_of-result
 invariant_of-result g c =
@@ -44,7 +45,7 @@ returns g c =
     let found = as_functions c.in_ok-functions.field-0 in
     let read = rw (c.new.ensures.dwarf, c.new.ensures.unit) at c.in_ok-functions.ensures.gives in
     let listed = ok_is _ _ c.in_ok-addresses.ensures.gives in
-    let a = subst (AgreesFound (functions_of d u)) read (functions_agree d u) in
+    let a = subst (AgreesFound (functions_of d u)) read (functions_agree d u).given in
     record {
       gives = a.0 ∙ ap (λ xs. Ok (map (function_range_of found.offsets) xs)) listed;
       empty = functions_unread (as_details g.R.Reader.section c.new-3.result) _ c.in_ok-functions.ensures.empty;

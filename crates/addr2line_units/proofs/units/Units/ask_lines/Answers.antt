@@ -5,7 +5,7 @@ use Rattle.addr2line_units.specs.EntriesOwn.{looked_at_unit}
 use Rattle.addr2line_units.specs.UnitLinesCached.{location_or}
 use Rattle.addr2line_units.specs.declared.frames.Asks.TheVariants as lookups
 use Rattle.addr2line_units.proofs.LocationsAtLemmas.{fault_after, none_after_row, none_row, row_after, row_fault, row_lendable, row_told}
-use Rattle.addr2line_units.proofs.UnitLinesLemmas.{lines_fault, location_is, memory_after, no_memory_after, own_after, steps_are}
+use Rattle.addr2line_units.proofs.UnitLinesLemmas.{lines_fault, lines_follow, location_is, memory_after, no_memory_after, own_after, steps_are}
 use Rattle.addr2line_units.proofs.UnitsAtLemmas.{cache_within, its_entries, its_lines, its_unit, none_got, sections_seen, unit_got, units_with, units_with_lines}
 use Rattle.addr2line_units.proofs.units.Units.ask_lines.Goals as goal
 
@@ -32,7 +32,7 @@ invariant_of-self-in_err-row g c =
     let there = unit_got c.scope-scope.ensures.gives c.as_slice.ensures.gives n c.in-Some.ensures.lookup.0 c.in-Some.ensures.lookup.1 in
     let v : CachedUnit g.row.R.Denot = record { lines = c.cache.inside.lines; entries = c.cache.inside.entries; unit = looked_at_unit c.cache.inside.unit.value } in
     let at = subst (λ (y : CachedUnit g.row.R.Denot). y ≡ get_or c.self.inside.caches.items c.args.number y) (sym c.cache.view_is) c.index_mut-cache.ensures.value in
-    let a = subst (λ d. AfterLinesOf g.R.Reader.shares d c.in-Some.dw_unit.now c.find_row.result v.lines c.find_row.new.self) (sections_seen c.scope-scope.ensures.gives) c.find_row.ensures.after in
+    let a = lines_follow (subst (λ d. AfterLinesOf g.R.Reader.shares d c.in-Some.dw_unit.now c.find_row.result v.lines c.find_row.new.self) (sections_seen c.scope-scope.ensures.gives) c.find_row.ensures.after) in
     units_with_lines i n there at _ (own_after (its_lines i n there at) a) refl refl
 
 pub returns-in_err-row : goal.returns-in_err-row
@@ -53,7 +53,7 @@ returns-in_err-row g c =
     let d = s.sources.dwarf.value in
     let unit = indexed_unit u v.lines in
     let own = its_lines i n there at in
-    let a = subst (λ d. AfterLinesOf {X = Option Row} g.R.Reader.shares d u (Err x) v.lines l) is e.after in
+    let a = lines_follow (subst (λ d. AfterLinesOf {X = Option Row} g.R.Reader.shares d u (Err x) v.lines l) is e.after) in
     let fault : (x ≢ OutOfMemory → location_in d c.args.probe (Some unit) ≡ Err x) = (λ ne. sym (location_is d unit v.lines.lines own c.args.probe) ∙ subst (λ d. location_or d u c.args.probe v.lines.lines ≡ Err x) is (e.gives ne)) in
     let counts = steps_are d unit l.lines (own_after own a) e.steps in
     let alone : (lines_take_memory g.R.Reader.shares u ≡ false → location_in d c.args.probe (Some unit) ≡ Err x) = (λ takes. lines_fault d c.args.probe unit x (no_memory_after own a takes)) in
@@ -78,7 +78,7 @@ invariant_of-self-2 g c =
     let row = c.in_ok-row.row in
     let d = s.sources.dwarf.value in
     let own = its_lines i n there at in
-    let a = subst (λ d. AfterLinesOf g.R.Reader.shares d u (Ok row) v.lines l) is e.after in
+    let a = lines_follow (subst (λ d. AfterLinesOf g.R.Reader.shares d u (Ok row) v.lines l) is e.after) in
     let found = sym (location_is d (indexed_unit u v.lines) v.lines.lines own c.args.probe) ∙ subst (λ d. location_or d u c.args.probe v.lines.lines ≡ Ok (option_map (location_of_row (cached_files l.lines)) row)) is e.gives in
     let right = own_after own a in
     rw c.row_stop.ensures.gives (units_with i n there (record v { lines = l }) (record { lines = right; entries = its_entries i n there at; unit = its_unit i n there at }) (row_lendable i n s.steps was there at l a.stay c.args.probe row right a.known found))
@@ -100,7 +100,7 @@ returns g c =
     let d = s.sources.dwarf.value in
     let unit = indexed_unit u v.lines in
     let own = its_lines i n there at in
-    let a = subst (λ d. AfterLinesOf g.R.Reader.shares d u (Ok row) v.lines l) is e.after in
+    let a = lines_follow (subst (λ d. AfterLinesOf g.R.Reader.shares d u (Ok row) v.lines l) is e.after) in
     let found = sym (location_is d unit v.lines.lines own c.args.probe) ∙ subst (λ d. location_or d u c.args.probe v.lines.lines ≡ Ok (option_map (location_of_row (cached_files l.lines)) row)) is e.gives in
     let counts = steps_are d unit l.lines (own_after own a) e.steps in
     rw c.row_stop.ensures.gives (record {

@@ -1,39 +1,44 @@
-use Rattle.addr2line_units.proofs.Common.{subst, sym, ◌∙◌, err_from_is_err_and, HaveNewCaches, or_left}
+use Rattle.addr2line_units.proofs.Common.{◌≡◌, ◌≢◌, true, Err, Ok, ap, subst, sym, ◌∙◌, err_from_is_err_and, OutOfMemory, Sections, HaveNewCaches, or_left, new_units}
+use Rattle.addr2line_units.specs.UnitsIndex.{sup_read}
+use Rattle.addr2line_units.specs.UnitsIndexed.{IndexState, index_read}
 use Rattle.addr2line_units.proofs.UnitsOfHeadersLemmas.{then_takes}
-use Rattle.addr2line_units.proofs.UnitsNewLemmas.{are_units, index_is, sup_fault, units_fault, units_made}
+use Rattle.addr2line_units.proofs.UnitsNewLemmas.{are_units, index_is, index_sections, sup_fault, units_fault, units_made}
 use Rattle.addr2line_units.proofs.units.Units.parse.Goals as goal
 
 pub returns-in_err-indexed : goal.returns-in_err-indexed
 returns-in_err-indexed g c =
     let p = err_from_is_err_and c.from_residual.result c.from_residual.ensures.1 in
     let d = c.args.dwarf.value in
-    let units = rw c.deref.ensures at c.in_err-indexed.ensures.gives in
-    record { gives = rw (p.1, p.2) (λ may. units_fault d _ (sym (index_is d) ∙ units (λ takes. may (or_left _ _ takes)))) }
+    record { gives = rw (p.1, p.2) (λ may. units_fault d _ (sym (index_is d) ∙ c.in_err-indexed.ensures.gives (λ takes. may (or_left _ _ takes)))) }
 
 pub returns-in_err-sup : goal.returns-in_err-sup
 returns-in_err-sup g c =
     let p = err_from_is_err_and c.from_residual-in_err-sup.result c.from_residual-in_err-sup.ensures.1 in
     let d = c.args.dwarf.value in
-    let units = rw c.deref.ensures at c.in_ok-indexed.ensures.gives in
-    let sup = rw c.deref-2.ensures at c.in_err-sup.ensures.gives in
+    let e = c.in_err-sup.field-0.0 in
+    let units = c.in_ok-indexed.ensures.gives in
+    let of = ap (λ (m : IndexState). m.sections) c.indexed.view_is ∙ index_sections d _ units in
+    let sup = subst (λ (x : Sections). ((sup_read x.sup).takes_memory g.R.Reader.shares ≡ true → e ≢ OutOfMemory) → (sup_read x.sup).given ≡ Err e) (c.deref.ensures ∙ of) c.in_err-sup.ensures.gives in
     record { gives = rw (p.1, p.2) (λ may. sup_fault d _ _ (sym (index_is d) ∙ units) (sup (λ takes. may (then_takes _ _ _ _ units takes)))) }
 
 pub invariant_of-units : goal.invariant_of-units
 invariant_of-units g c =
-    let d = c.args.dwarf.value in
-    let made = c.in_ok-indexed.indexed in
-    let units = rw c.deref.ensures at c.in_ok-indexed.ensures.gives in
-    let read = subst (λ d. HaveNewCaches d made.dw_units.items made.caches.items) c.deref.ensures c.in_ok-indexed.ensures.read in
-    let sup = rw c.deref-2.ensures at c.in_ok-sup.ensures.gives in
-    let sup_is = rw c.deref-2.ensures at c.in_ok-sup.ensures.dwarf in
-    are_units d made.dw_units.items made.caches.items made.ranges c.in_ok-sup.sup (sym (index_is d) ∙ units) sup sup_is read
+    let s = c.indexed.inside in
+    let d = s.dwarf.value in
+    let of = ap (λ (m : IndexState). m.sections) c.indexed.view_is ∙ index_sections c.args.dwarf.value _ c.in_ok-indexed.ensures.gives in
+    let units = subst (λ x. (index_read x).given ≡ Ok c.in_ok-indexed.indexed) (sym of) c.in_ok-indexed.ensures.gives in
+    let sup = rw c.deref.ensures at c.in_ok-sup.ensures.gives in
+    let sup_is = rw c.deref.ensures at c.in_ok-sup.ensures.dwarf in
+    are_units d s.dw_units.items s.caches.items s.ranges c.in_ok-sup.sup (sym (index_is d) ∙ units ∙ ap (λ m. Ok m) (sym c.indexed.view_is)) sup sup_is c.indexed.invariant
 
 pub returns : goal.returns
 returns g c =
-    let d = c.args.dwarf.value in
-    let made = c.in_ok-indexed.indexed in
-    let units = rw c.deref.ensures at c.in_ok-indexed.ensures.gives in
-    let read = subst (λ d. HaveNewCaches d made.dw_units.items made.caches.items) c.deref.ensures c.in_ok-indexed.ensures.read in
-    let sup = rw c.deref-2.ensures at c.in_ok-sup.ensures.gives in
-    let sup_is = rw c.deref-2.ensures at c.in_ok-sup.ensures.dwarf in
-    record { gives = rw c.new.ensures.gives (units_made d made.dw_units.items made.caches.items made.ranges c.in_ok-sup.sup (sym (index_is d) ∙ units) sup sup_is read) }
+    let s = c.indexed.inside in
+    let d = s.dwarf.value in
+    let of = ap (λ (m : IndexState). m.sections) c.indexed.view_is ∙ index_sections c.args.dwarf.value _ c.in_ok-indexed.ensures.gives in
+    let units = subst (λ x. (index_read x).given ≡ Ok c.in_ok-indexed.indexed) (sym of) c.in_ok-indexed.ensures.gives in
+    let sup = rw c.deref.ensures at c.in_ok-sup.ensures.gives in
+    let sup_is = rw c.deref.ensures at c.in_ok-sup.ensures.dwarf in
+    record {
+      gives = rw c.new.ensures.gives (sym (ap new_units of) ∙ units_made d s.dw_units.items s.caches.items s.ranges c.in_ok-sup.sup (sym (index_is d) ∙ units ∙ ap (λ m. Ok m) (sym c.indexed.view_is)) sup sup_is c.indexed.invariant);
+    }

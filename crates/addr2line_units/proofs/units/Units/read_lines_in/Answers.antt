@@ -4,7 +4,7 @@ use Rattle.addr2line_units.specs.EntriesOwn.{looked_at_unit}
 use Rattle.addr2line_units.proofs.LocationsAtLemmas.{caching_after, none_after_caching, none_read, read_there}
 use Rattle.addr2line_units.proofs.UnitsAtLemmas.{cache_within, its_lines, none_got, sections_seen, unit_got, units_with_lines}
 use Rattle.addr2line_units.specs.UnitLinesCached.{lines_result_or}
-use Rattle.addr2line_units.proofs.UnitLinesLemmas.{results_are, memory_after, no_memory_after, own_after}
+use Rattle.addr2line_units.proofs.UnitLinesLemmas.{lines_follow, results_are, memory_after, no_memory_after, own_after}
 use Rattle.addr2line_units.proofs.UnitsLinesLemmas.{answer_cached}
 use Rattle.addr2line_units.proofs.units.Units.read_lines_in.Goals as goal
 
@@ -31,7 +31,7 @@ invariant_of-self-2 g c =
     let there = unit_got c.scope-scope.ensures.gives c.as_slice.ensures.gives n c.in-Some.ensures.lookup.0 c.in-Some.ensures.lookup.1 in
     let v : CachedUnit g.row.R.Denot = record { lines = c.cache.inside.lines; entries = c.cache.inside.entries; unit = looked_at_unit c.cache.inside.unit.value } in
     let at = subst (λ (y : CachedUnit g.row.R.Denot). y ≡ get_or c.self.inside.caches.items c.args.number y) (sym c.cache.view_is) c.index_mut-cache.ensures.value in
-    let a = subst (λ d. AfterLinesOf g.R.Reader.shares d c.in-Some.dw_unit.now c.read_lines.result v.lines c.read_lines.new.self) (sections_seen c.scope-scope.ensures.gives) c.read_lines.ensures.after in
+    let a = lines_follow (subst (λ d. AfterLinesOf g.R.Reader.shares d c.in-Some.dw_unit.now c.read_lines.result v.lines c.read_lines.new.self) (sections_seen c.scope-scope.ensures.gives) c.read_lines.ensures.after) in
     units_with_lines i n there at _ (own_after (its_lines i n there at) a) refl refl
 
 pub returns : goal.returns
@@ -49,7 +49,7 @@ returns g c =
     let is = sections_seen c.scope-scope.ensures.gives in
     let own = its_lines i c.args.number there at in
     let told = subst (λ given. ExactlyUnlessOom (λ _. cached_lines l.lines) r given) (results_are s.sources.dwarf.value u v.lines.lines own) (subst (λ d. ExactlyUnlessOom (λ _. cached_lines l.lines) r (lines_result_or d u v.lines.lines)) is e.gives) in
-    let a = subst (λ d. AfterLinesOf g.R.Reader.shares d u r v.lines l) is e.after in
+    let a = lines_follow (subst (λ d. AfterLinesOf g.R.Reader.shares d u r v.lines l) is e.after) in
     record {
       gives = subst (λ (y : UnitsState). ExactlyUnlessOom (λ x. x) r (lines_result_at y.scope.file.sections (slice_get y.units c.args.number))) c.self.view_is (read_there i c.args.number s.steps was there at l a.stay (cached_lines l.lines) r told);
       after = rw (sym c.self.view_is) (caching_after i c.args.number s.steps was there at l a.stay g.R.Reader.shares r (answer_cached v.lines.lines r l.lines a.known) (memory_after own a) (no_memory_after own a));

@@ -1,12 +1,24 @@
 -- What holds of a context once a lookup was lent from it that it had stored (on
 -- specs/AfterLookups.antt and specs/Skips.antt).
 use Rattle.addr2line.proofs.Common.{◌≡◌, inl, inr, ℕ, Bool, true, false, Option, Some, None, option_map, Result, Ok, Err, refl, sym, ap, subst, ◌∙◌, IfErr, OnOk, Error, ◌>>=◌, ExactlyUnlessOom, WasNotRefused, Sections, LookupResult, Load, Output, OnFault, LookupStop, Waits, Finds, FindsNothing, is_waiting, readable_view, unit_found, view_of_number, IfLoad, IfOutput, unit_records, UnitIndex, index_units, FirstAnswers, SplitLoad, View, parts_of, AfterFrames, AfterFramesOver, IsLent, IsStored, NeedsNoMemory, Suspends, ContextState, IsFaultOfAsked, IsLoadOf, ended_with, lookup_stop, unit_value, view_found, waiting_unit, found_of_context}
+use Rattle.addr2line.specs.AfterAnswering.{AfterAnswering, AfterAnsweringOver, AfterResume}
 use Rattle.addr2line.specs.Skips.{AfterSkip, skipped_answers}
 
 -- what holds of a lookup that waits
 pub if_load : {L O D S : Type 0} (P Q : L → Type 0) (result : LookupResult L O D S) → ((c : L) → P c → Q c) → IfLoad result P → IfLoad result Q
 if_load P Q (Load c) f h = f c h
 if_load P Q (Output o) f h = tt
+
+-- what holds of an output
+pub if_output : {L O D S : Type 0} (P Q : O → Type 0) (result : LookupResult L O D S) → ((o : O) → P o → Q o) → IfOutput result P → IfOutput result Q
+if_output P Q (Load c) f h = tt
+if_output P Q (Output o) f h = f o h
+
+-- the refusal of an answer with which a lookup doesn't go on
+pub resume_refused : {X : Type 0} (shares : Bool) (faults : OnFault) (probe n : ℕ) (given : Option Sections) (e : Error) (old new : ContextState) → AfterAnsweringOver shares n given (Err e) old new → AfterResume {X = X} shares faults probe n given (Err e) old new
+resume_refused shares faults probe n given e old new a =
+    let oom = a.after.refused.0 in
+    inr (ap (λ x. Err x) oom, subst (λ x. AfterAnswering n given (Err x) old new) oom a.after, λ none. a.no_memory none ∙ ap (λ x. Err x) oom)
 
 -- a lookup that has ended gives the same in a context with the same sections and first answers
 pub outputs_same : {L V X D S : Type 0} (reading : Sections → FirstAnswers → ℕ → Result V Error) (see : X → V) (probe : ℕ) (old mid : ContextState) (result : LookupResult L (Result X Error) D S) → mid.sections ≡ old.sections → mid.answers ≡ old.answers

@@ -115,7 +115,10 @@ impl<'ctx, R: Reader, K: Lent<'ctx, Context<R>>> LookupContinuation
             load: _,
             kind: _,
         } = self;
-        resume_with(ctx, probe, number, input)
+        match ctx.answer(number, input) {
+            Ok(()) => begin(ctx, probe),
+            Err(error) => LookupResult::Output(Err(error)),
+        }
     }
 }
 
@@ -199,31 +202,4 @@ pub(crate) fn begin<'ctx, R: Reader, K: Lent<'ctx, Context<R>>>(
 {
     let walked = ctx.walk(probe, K::on_fault());
     lend(ctx, probe, walked)
-}
-
-// The rest of a lookup after an answer to the load that it waited for.
-fn resume_with<'ctx, R: Reader, K: Lent<'ctx, Context<R>>>(
-    ctx: &'ctx mut Context<R>,
-    probe: u64,
-    number: usize,
-    input: Option<Rc<Dwarf<R>>>,
-) -> LookupResult<Suspended<'ctx, R, K, SplitDwarfLoad<R>>>
-    requires stands { waits_for number
-        (lookup_stop K.faults ctx.old.sections ctx.old.answers probe) ≡ true }
-    ensures* ends { RestsAs 𝓛 (λ c. c.ctx.ghost_name) R.row R.Reader ctx.entry result
-        (λ o n. AfterResume R.shares K.faults probe number (option_map (λ d. d.value) input) o
-        ctx.old n) }
-    ensures left { IfLoad result (λ c. SuspendsAgainIn K.faults ctx.entry probe number
-        (option_map (λ d. d.value) input) c.ctx c.probe c.number c.load) }
-    ensures shorter { IfLoad result (λ c. count_loads c.ctx.now c.probe
-        < count_loads ctx.old probe) }
-    ensures gives { IfOutput result (λ o. ExactlyUnlessOom (λ f. Some (K.see f)) o
-        (found_answered K.faults K.value_of ctx.old number (option_map (λ d. d.value) input)
-        probe)) }
-    ensures refused { IsRefusedAs K.faults result }
-{
-    match ctx.answer(number, input) {
-        Ok(()) => begin(ctx, probe),
-        Err(error) => LookupResult::Output(Err(error)),
-    }
 }

@@ -1,6 +1,6 @@
 -- What recorded lookups are given, answer by answer, and the replies that they come to (on
 -- specs/History.antt).
-use Rattle.addr2line.proofs.Common.{◌≡◌, inl, inr, ℕ, ◌+◌, ◌<◌, ◌≤◌, Bool, true, false, List, ◌∷◌, ◌++◌, drop, get_or, length, map, slice_get, take, Option, Some, None, option_map, Result, Ok, Err, refl, sym, ap, subst, ◌∙◌, take_all, IfErr, IfOk, OnOk, Error, ◌>>=◌, WasNotRefused, Section, Sections, UnitRecord, LookupResult, Output, OnFault, LookupStop, Waits, Finds, FindsNothing, is_waiting, StaysParsed, has_parsed, IfOutput, UnitIndex, index_units, unit_records, FirstAnswers, SplitLoad, View, load_by, load_of_unit, split_name_of, AfterResume, SuspendsAgain, answered, ContextState, Given, Answered, Abandoned, Leaves, answers_given, AfterFramesOver, Suspends, IsLoadOf, ended_with, found_at, lookup_stop, stop_in, view_found, CopiedReply, SuspendedAt, as_reply}
+use Rattle.addr2line.proofs.Common.{◌≡◌, inl, inr, ℕ, ◌+◌, ◌<◌, ◌≤◌, Bool, true, false, List, ◌∷◌, ◌++◌, drop, get_or, length, map, slice_get, take, Option, Some, None, option_map, Result, Ok, Err, refl, sym, ap, subst, ◌∙◌, take_all, IfErr, IfOk, OnOk, Error, ◌>>=◌, WasNotRefused, Section, Sections, UnitRecord, LookupResult, Output, OnFault, Skip, Stop, LookupStop, Waits, Finds, FindsNothing, is_waiting, StaysParsed, has_parsed, IfOutput, UnitIndex, index_units, unit_records, FirstAnswers, SplitLoad, View, load_by, load_of_unit, split_name_of, AfterResume, SuspendsAgain, answered, ContextState, Given, Answered, Abandoned, Leaves, answers_given, frames_replied, unit_replied, AfterFramesOver, Suspends, IsLoadOf, ended_with, found_at, lookup_stop, stop_in, unit_of, view_found, CopiedReply, SuspendedAt, reply_of_frames, reply_of_unit, given_by, as_reply}
 use Rattle.gimli_read.specs.declared.error.Error.TheVariants.{OutOfMemory}
 use Rattle.gimli.specs.declared.unit.DwoId.{DwoId}
 use Rattle.addr2line.proofs.HistoryLemmas.{HasGiven, given_all, given_ended, given_last, given_more, given_up, resumed_answers, resumed_begun, resumed_output, resumed_parsed, resumed_sections, take_drop_one, take_then}
@@ -39,8 +39,13 @@ pub record IsNext (all : List Given) (i : ℕ) (x : Given) : Type 0 where
   pub whole : take i all ++ (x ∷ drop (i + 1) all) ≡ all
   pub more : (rest : List Given) → take (i + 1) all ++ rest ≡ take i all ++ (x ∷ rest)
 
-pub next_of : {A : Type 0} (see : A → Given) (xs : List A) (i : ℕ) (a : A) → i < length xs → a ≡ get_or xs i a → (x : Given) → x ≡ see a → IsNext (map see xs) i x
+next_of : {A : Type 0} (see : A → Given) (xs : List A) (i : ℕ) (a : A) → i < length xs → a ≡ get_or xs i a → (x : Given) → x ≡ see a → IsNext (map see xs) i x
 next_of see xs i a h e x given = subst (IsNext (map see xs) i) (sym given) (record { whole = take_drop_one see xs i a h e; more = take_then see xs i a h e })
+
+-- an answer that was shared comes next
+pub next_shared : {A D : Type 0} (see : A → Given) (value : D → Sections) (xs : List A) (i : ℕ) (a : A) → i < length xs → a ≡ get_or xs i a → {o p : Option (Option D)} → o ≡ p → given_by (option_map (option_map value) o) ≡ see a
+    → IsNext (map see xs) i (given_by (option_map (option_map value) p))
+next_shared see value xs i a h e is gives = next_of see xs i a h e _ (sym (ap (λ q. given_by (option_map (option_map value) q)) is) ∙ gives)
 
 -- a lookup was given so many answers, and waits for the unit of a number
 pub record HasAnswered (faults : OnFault) (probe : ℕ) (first : ContextState) (all : List Given) (i number : ℕ) (now : ContextState) : Type 0 where
@@ -83,7 +88,7 @@ module _ (faults : OnFault) (probe : ℕ) (first : ContextState) (all : List Giv
   ends_at_once shares replied o new a r h told oom =
       replies_by replied first.answers r new h (λ w. given_ended faults first.sections probe first.answers all w) told (λ t. a.after.answers) oom (0, a.after.answers) a.after.sections a.after.parsed
 
-  module _ (i number : ℕ) (now : ContextState) (so : HasAnswered faults probe first all i number now) where
+  module _ {i number : ℕ} {now : ContextState} (so : HasAnswered faults probe first all i number now) where
     own_waits : lookup_stop faults first.sections now.answers probe ≡ Ok (Waits number)
     own_waits = ap (λ d. lookup_stop faults d now.answers probe) (sym so.sections) ∙ so.waits
 
@@ -111,7 +116,7 @@ module _ (faults : OnFault) (probe : ℕ) (first : ContextState) (all : List Giv
     pub left_at_end : length all ≤ i → all_given ≡ now.answers
     left_at_end h = ap (answers_given faults first.sections probe first.answers) (sym (take_all i all h)) ∙ given_all faults first.sections probe first.answers now.answers (take i all) so.given
 
-    pub is_left : (replied : FirstAnswers → CopiedReply) → (lookup_stop faults first.sections now.answers probe ≡ Ok (Waits number) → replied now.answers ≡ SuspendedAt number)
+    is_left : (replied : FirstAnswers → CopiedReply) → (lookup_stop faults first.sections now.answers probe ≡ Ok (Waits number) → replied now.answers ≡ SuspendedAt number)
         → (token : ℕ) → token ≡ number → (y : Reply) → as_reply y ≡ SuspendedAt token → (new : ContextState) → new ≡ now → all_given ≡ now.answers → Replies replied (Ok y) new
     is_left replied told token own y is new e left = (
       is ∙ ap (λ n. SuspendedAt n) own ∙ sym (told own_waits) ∙ ap replied (sym left),
@@ -165,6 +170,17 @@ module _ (faults : OnFault) (probe : ℕ) (first : ContextState) (all : List Giv
         where
           after : AfterResume shares faults probe number x o now new
           after = resumed_output shares faults probe number x now result o is asked same new lender ends rests
+
+-- a lookup that is left where it waits replies at which unit, of frames
+pub frames_suspended : {probe : ℕ} {first : ContextState} {all : List Given} {i number : ℕ} {now : ContextState} → HasAnswered Stop probe first all i number now → {token : ℕ} → token ≡ number → (y : Reply) → as_reply y ≡ SuspendedAt token → (new : ContextState) → new ≡ now
+    → all_given Stop probe first all ≡ now.answers → Replies Stop probe first all (frames_replied first.sections probe) (Ok y) new
+frames_suspended {probe} {first} {all} so own y is new e left = is_left Stop probe first all so (frames_replied first.sections probe) (λ w. ap reply_of_frames w) _ own y is new e left
+
+-- of a unit
+pub unit_suspended : {probe : ℕ} {first : ContextState} {all : List Given} {i number : ℕ} {now : ContextState} → HasAnswered Skip probe first all i number now → {token : ℕ} → token ≡ number → (y : Reply) → as_reply y ≡ SuspendedAt token → (new : ContextState) → new ≡ now
+    → all_given Skip probe first all ≡ now.answers → Replies Skip probe first all (unit_replied first.sections probe) (Ok y) new
+unit_suspended {probe} {first} {all} {now = now} so own y is new e left =
+    is_left Skip probe first all so (unit_replied first.sections probe) (λ w. ap (λ r. reply_of_unit r (unit_of first.sections now.answers probe)) w) _ own y is new e left
 
 -- a lookup that waits has found nothing
 pub found_waiting : {V : Type 0} (faults : OnFault) (value_of : LookupStop → Option View → V) (d : Sections) (answers : FirstAnswers) (probe : ℕ) → is_waiting (lookup_stop faults d answers probe) ≡ true → found_at faults value_of d answers probe ≡ Ok None

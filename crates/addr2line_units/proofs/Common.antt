@@ -70,7 +70,6 @@ pub use Rattle.addr2line_units.specs.LocationsParsed.{AllAskFor, AreAllParsed, A
 pub use Rattle.addr2line_units.specs.UnitsRanged.{IndexedUnit, RangedUnit, has_lines, indexed_of, is_partial, is_type_unit, listed_unit_ranges, or_attribute_ranges, range_of_unit, ranged_unit, ranged_units, unit_ranges, unit_ranges_from, unit_records, unless_faulty}
 unfoldable pub use Rattle.addr2line_units.specs.UnitsRanged.{listed_in_unit, unit_of_header}
 pub use Rattle.addr2line_units.specs.UnitsStored.{AreUnits, as_units_state}
-pub use Rattle.addr2line_units.specs.SupScope.{scope_of}
 pub use Rattle.addr2line_units.specs.IndexAranges.{aranges_at, aranges_in, is_arange_of, lists_aranges, offset_sooner, range_in, set_aranges, some_lists, unit_arange}
 pub use Rattle.addr2line_units.specs.EntriesFrames.{FramesResult, frames_in, frames_by, function_by, function_in, function_offset_among, function_offset_by, inlined_of_found}
 unfoldable pub use Rattle.addr2line_units.specs.EntriesFrames.{asks_lines_in, frames_by_lines, function_offset_in, inlined_of_unit}

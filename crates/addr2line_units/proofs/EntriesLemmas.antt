@@ -55,7 +55,6 @@ checked_keeps scope u old new right a = record {
 
 pub keeps_checked : {R : Type 0} (scope : Scope) (u : UnitRecord) (old new : EntriesCache R) → AreEntriesOf scope u old → AfterCheck scope.file.sections u old new → KeepsChecked scope u old new
 keeps_checked {R} scope u old new h a = checked_keeps scope u old new (record {
-  in_order = h.in_order;
   view = checked_is_right scope.file.sections u old.view new.view h.view a.view;
   functions = subst (λ f. IfSome (verdict scope.file.sections u (first_answer_of new)) (λ r. IfOk r (λ x. AreFunctionsOf (view_scope scope x) x.unit f))) (sym a.functions)
       (subst (λ o. IfSome (verdict scope.file.sections u o) (λ r. IfOk r (λ x. AreFunctionsOf (view_scope scope x) x.unit old.functions))) (sym a.view.answer) h.functions);
@@ -167,7 +166,6 @@ module _ {R : Type 0} (scope : Scope) (u : UnitRecord) (probe : ℕ) (old : Entr
     -- the unit stays right where other functions of its view are cached
     pub functions_keep : (new : LazyFunctions R) → AreFunctionsOf inner unit new → AreEntriesOf scope u (record { view = old.view; functions = new })
     functions_keep new right = record {
-      in_order = h.in_order;
       view = h.view;
       functions = subst (λ w. IfSome w (λ r. IfOk r (λ x. AreFunctionsOf (view_scope scope x) x.unit new))) (sym v.is)
           (subst (λ s. AreFunctionsOf s v.view.unit new) v.leads (subst (λ y. AreFunctionsOf inner y new) (sym v.unit) right));

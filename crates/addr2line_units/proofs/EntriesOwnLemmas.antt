@@ -1,5 +1,5 @@
 -- Whose entries are cached (on specs/EntriesOwn.antt and specs/UnitsCached.antt).
-use Rattle.addr2line_units.proofs.Common.{◌≡◌, ◌∙◌, ap, sym, refl, subst, true, false, Option, Some, None, is_some, IfSome, IfOk, Result, Ok, Err, Error, Sections, UnitRecord, IsScope, Scope, EntriesCache, ViewState, AreEntriesOf, AreFresh, first_answer_of, AreFunctionsOf, AreLinesOf, IsCacheOf, answer_in, is_decided, verdict_in, was_checked, View, verdict, view_scope}
+use Rattle.addr2line_units.proofs.Common.{◌≡◌, ◌∙◌, ap, sym, refl, subst, true, false, Option, Some, None, is_some, IfSome, IfOk, Result, Ok, Err, Error, Sections, UnitRecord, Scope, EntriesCache, ViewState, AreEntriesOf, AreFresh, first_answer_of, AreFunctionsOf, AreLinesOf, IsCacheOf, answer_in, is_decided, verdict_in, was_checked, View, verdict, view_scope}
 use Rattle.addr2line_units.specs.declared.unit.ViewState.TheVariants as states
 use Rattle.addr2line_units.specs.UnitAfter.{WasLookedAt}
 use Rattle.addr2line_lines.specs.References.{UnitInScope}
@@ -17,9 +17,8 @@ no_verdict d u (states.Unnamed f) e = absurd cc
 no_verdict d u (states.Answered a) e = absurd cc
 
 -- what nobody has asked for is that of every unit
-pub fresh_are_of : {R : Type 0} (scope : Scope) (u : UnitRecord) (v : EntriesCache R) → IsScope scope → AreFresh v → AreEntriesOf scope u v
-fresh_are_of {R} scope u v order fresh = record {
-  in_order = order;
+pub fresh_are_of : {R : Type 0} (scope : Scope) (u : UnitRecord) (v : EntriesCache R) → AreFresh v → AreEntriesOf scope u v
+fresh_are_of {R} scope u v fresh = record {
   view = record {
     verdict = subst (λ (kept : Option (Option (Result View Error))). IfSome kept (λ k. k ≡ verdict scope.file.sections u (first_answer_of v))) (sym (no_verdict scope.file.sections u v.view.state fresh.view)) tt;
     waited = λ e. absurd (none_some (ap (λ (a : Option (Option Sections)). is_some a) (sym (unchecked_has_none v.view.state fresh.view)) ∙ e));
@@ -41,11 +40,11 @@ this scope u = record { scope = scope; unit = u }
 
 module _ {R : Type 0} (scope : Scope) (u : UnitRecord) where
   -- entries of the unit that was looked at are those of a unit that it is
-  pub own_entries : (c : CachedUnit R) → IsScope scope → AreOfUnit scope u c → AreOwnEntries c.unit c.entries → AreEntriesOf scope u c.entries
-  own_entries c order of_unit own = by c.unit own of_unit
+  pub own_entries : (c : CachedUnit R) → AreOfUnit scope u c → AreOwnEntries c.unit c.entries → AreEntriesOf scope u c.entries
+  own_entries c of_unit own = by c.unit own of_unit
     where
       by : (x : Option UnitInScope) → AreOwnEntries x c.entries → IfSome x (λ y. y ≡ this scope u) → AreEntriesOf scope u c.entries
-      by None own e = fresh_are_of scope u c.entries order own
+      by None own e = fresh_are_of scope u c.entries own
       by (Some x) own e = subst (λ (y : UnitInScope). AreEntriesOf y.scope y.unit c.entries) e own
 
   -- a unit that is decided was looked at

@@ -1,6 +1,6 @@
 -- What calls on the functions in the view of a unit leave of its cache (on specs/UnitAfter.antt and
 -- specs/ParsesAfter.antt).
-use Rattle.addr2line_units.proofs.Common.{◌≡◌, refl, ℕ, Bool, true, sym, subst, ◌&&◌, Option, Some, Result, Ok, Err, IfOk, IfSome, Error, ExactlyUnlessOom, ExactlyUnlessOomIf, Sections, UnitRecord, IsScope, Scope, LazyFunctions, CachedUnit, EntriesCache, ReadingDepth, AreEntriesOf, AreFunctionsOf, first_answer_of, find_takes_memory, function_at, function_in, is_decided, parts_or_fault, read_of_functions, read_of_view, verdict, verdict_in, view_scope}
+use Rattle.addr2line_units.proofs.Common.{◌≡◌, ◌∙◌, ap, refl, ℕ, Bool, true, sym, subst, ◌&&◌, Option, Some, Result, Ok, Err, IfOk, IfSome, Error, ExactlyUnlessOom, ExactlyUnlessOomIf, Sections, UnitRecord, Scope, LazyFunctions, CachedUnit, EntriesCache, ReadingDepth, AreEntriesOf, AreFunctionsOf, first_answer_of, find_takes_memory, function_at, function_in, is_decided, parts_or_fault, read_of_functions, read_of_view, verdict, verdict_in, view_scope}
 use Rattle.addr2line_units.specs.declared.entries.FunctionPlace.{FunctionPlace}
 use Rattle.addr2line_units.specs.UnitAfter.{AfterEntries, AfterFunctionIn, WasLookedAt}
 use Rattle.addr2line_units.specs.EntriesFunctions.{found_in_cache}
@@ -16,7 +16,7 @@ use Rattle.addr2line_units.proofs.ParsesAfterLemmas.{refused_view_after, view_af
 use Rattle.addr2line_units.proofs.UnitViewLemmas.{of_cached_view, verdict_or_is}
 
 -- a unit that is decided
-module _ {R : Type 0} (shares : Bool) (scope : Scope) (u : UnitRecord) (c : CachedUnit R) (order : IsScope scope) (of_unit : AreOfUnit scope u c) (own : AreOwnEntries c.unit c.entries) (decided : is_decided c.entries.view.state ≡ true) where
+module _ {R : Type 0} (shares : Bool) (scope : Scope) (u : UnitRecord) (c : CachedUnit R) (of_unit : AreOfUnit scope u c) (own : AreOwnEntries c.unit c.entries) (decided : is_decided c.entries.view.state ≡ true) where
   abbrev d : Sections
   d = scope.file.sections
 
@@ -24,7 +24,7 @@ module _ {R : Type 0} (shares : Bool) (scope : Scope) (u : UnitRecord) (c : Cach
   old = c.entries
 
   right : AreEntriesOf scope u old
-  right = own_entries scope u c order of_unit own
+  right = own_entries scope u c of_unit own
 
   looked : WasLookedAt scope u c
   looked = decided_was_looked_at scope u c of_unit own decided
@@ -98,7 +98,10 @@ pub record IsViewed {R : Type 0} (shares : Bool) (scope : Scope) (u : UnitRecord
   pub after : (depth : ReadingDepth) (result : Result (Unit {0}) Error) (f : LazyFunctions R) → KeepsReadFunctions shares depth inner x result c.entries.functions f
       → AfterEntries (AfterReadingView shares depth scope u result) scope u was (record { lines = c.lines; entries = record { view = c.entries.view; functions = f }; unit = c.unit })
 
-module _ {R : Type 0} (shares : Bool) (scope : Scope) (u : UnitRecord) (c was : CachedUnit R) (is : c ≡ was) (order : IsScope scope) (of_unit : AreOfUnit scope u was) (own : AreOwnEntries c.unit c.entries) (decided : is_decided was.entries.view.state ≡ true) (seen : Sections) (seen_is : seen ≡ scope.file.sections) where
+module _ {R : Type 0} (shares : Bool) (u : UnitRecord) {held scope : Scope} (held_is : held ≡ scope) {c was : CachedUnit R} (is : c ≡ was) (of_unit : AreOfUnit scope u was) (own : AreOwnEntries c.unit c.entries) (decided : is_decided was.entries.view.state ≡ true) {seen : Sections} (seen_is : seen ≡ held.file.sections) where
+  abbrev there : seen ≡ scope.file.sections
+  there = seen_is ∙ ap (λ (s : Scope). s.file.sections) held_is
+
   abbrev of_c : AreOfUnit scope u c
   of_c = subst (λ (y : CachedUnit R). AreOfUnit scope u y) (sym is) of_unit
 
@@ -107,40 +110,40 @@ module _ {R : Type 0} (shares : Bool) (scope : Scope) (u : UnitRecord) (c was : 
 
   module _ (e : Error) (fault : IfSome (verdict_in seen u c.entries.view.state) (λ known. IfSome known (λ view. parts_or_fault view ≡ Err e))) where
     fault_here : IfSome (verdict_in scope.file.sections u c.entries.view.state) (λ known. IfSome known (λ view. parts_or_fault view ≡ Err e))
-    fault_here = subst (λ (d : Sections). IfSome (verdict_in d u c.entries.view.state) (λ known. IfSome known (λ view. parts_or_fault view ≡ Err e))) seen_is fault
+    fault_here = subst (λ (d : Sections). IfSome (verdict_in d u c.entries.view.state) (λ known. IfSome known (λ view. parts_or_fault view ≡ Err e))) there fault
 
     pub faulty : IsFaulty shares scope u was e
     faulty = subst (λ (y : CachedUnit R). IsFaulty shares scope u y e) is (record {
-      finds = fault_gives shares scope u c order of_c own decided_c e fault_here;
-      found = λ probe. record { unit = looked shares scope u c order of_c own decided_c; lines = refl; entries = fault_after shares scope u c order of_c own decided_c e fault_here probe };
-      reads = fault_reads shares scope u c order of_c own decided_c e fault_here;
-      read = λ depth. record { unit = looked shares scope u c order of_c own decided_c; lines = refl; entries = fault_read_after shares scope u c order of_c own decided_c e fault_here depth };
+      finds = fault_gives shares scope u c of_c own decided_c e fault_here;
+      found = λ probe. record { unit = looked shares scope u c of_c own decided_c; lines = refl; entries = fault_after shares scope u c of_c own decided_c e fault_here probe };
+      reads = fault_reads shares scope u c of_c own decided_c e fault_here;
+      read = λ depth. record { unit = looked shares scope u c of_c own decided_c; lines = refl; entries = fault_read_after shares scope u c of_c own decided_c e fault_here depth };
     })
 
   module _ (dwarf : Sections) (x : UnitRecord) (inner : Scope) (parts : IfSome (verdict_in seen u c.entries.view.state) (λ known. IfSome known (λ view. parts_or_fault view ≡ Ok (dwarf, x))))
-      (from : Scope) (from_is : from ≡ scope) (leads : (d : Sections) (y : UnitRecord) → IfSome (verdict_or d y c.entries.view.state) (λ view. IfOk view (λ v. inner ≡ view_scope from v))) where
+      {from : Scope} (from_is : from ≡ scope) (leads : (d : Sections) (y : UnitRecord) → IfSome (verdict_or d y c.entries.view.state) (λ view. IfOk view (λ v. inner ≡ view_scope from v))) where
     parts_here : IfSome (verdict_in scope.file.sections u c.entries.view.state) (λ known. IfSome known (λ view. parts_or_fault view ≡ Ok (dwarf, x)))
-    parts_here = subst (λ (d : Sections). IfSome (verdict_in d u c.entries.view.state) (λ known. IfSome known (λ view. parts_or_fault view ≡ Ok (dwarf, x)))) seen_is parts
+    parts_here = subst (λ (d : Sections). IfSome (verdict_in d u c.entries.view.state) (λ known. IfSome known (λ view. parts_or_fault view ≡ Ok (dwarf, x)))) there parts
 
     leads_here : IfSome (verdict_or scope.file.sections u c.entries.view.state) (λ view. IfOk view (λ v. inner ≡ view_scope scope v))
     leads_here = subst (λ (s : Scope). IfSome (verdict_or scope.file.sections u c.entries.view.state) (λ view. IfOk view (λ v. inner ≡ view_scope s v))) from_is (leads scope.file.sections u)
 
     pub viewed : IsViewed shares scope u c was inner x
     viewed = subst (λ (y : CachedUnit R). IsViewed shares scope u c y inner x) is (record {
-      functions = functions_then shares scope u c order of_c own decided_c dwarf x inner parts_here leads_here;
-      own = functions_own shares scope u c order of_c own decided_c dwarf x inner parts_here leads_here;
+      functions = functions_then shares scope u c of_c own decided_c dwarf x inner parts_here leads_here;
+      own = functions_own shares scope u c of_c own decided_c dwarf x inner parts_here leads_here;
       found = λ probe result f gives keeps. (
-        found_gives shares scope u c order of_c own decided_c dwarf x inner parts_here leads_here probe result f gives,
+        found_gives shares scope u c of_c own decided_c dwarf x inner parts_here leads_here probe result f gives,
         record {
-          unit = looked shares scope u c order of_c own decided_c;
+          unit = looked shares scope u c of_c own decided_c;
           lines = refl;
-          entries = found_after shares scope u c order of_c own decided_c dwarf x inner parts_here leads_here probe result f gives keeps;
+          entries = found_after shares scope u c of_c own decided_c dwarf x inner parts_here leads_here probe result f gives keeps;
         },
       );
-      gives = read_gives shares scope u c order of_c own decided_c dwarf x inner parts_here leads_here;
+      gives = read_gives shares scope u c of_c own decided_c dwarf x inner parts_here leads_here;
       after = λ depth result f keeps. record {
-        unit = looked shares scope u c order of_c own decided_c;
+        unit = looked shares scope u c of_c own decided_c;
         lines = refl;
-        entries = read_after shares scope u c order of_c own decided_c dwarf x inner parts_here leads_here depth result f keeps;
+        entries = read_after shares scope u c of_c own decided_c dwarf x inner parts_here leads_here depth result f keeps;
       };
     })

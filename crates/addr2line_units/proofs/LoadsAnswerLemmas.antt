@@ -1,5 +1,5 @@
 -- Answers to the loads of units, and what is cached of their entries (on specs/EntriesCached.antt).
-use Rattle.addr2line_units.proofs.Common.{◌≡◌, ℕ, zero, suc, ◌<◌, Bool, true, false, List, [], ◌∷◌, length, get_or, slice_get, arith, Option, Some, None, Result, Ok, Err, ap, refl, sym, subst, ◌∙◌, set, false≢true, IfErr, OnOk, Error, OutOfMemory, Sections, UnitRecord, IsScope, Scope, LazyFunctions, CachedUnit, EntriesCache, UnitView, ViewState, answer_of, with_answer, AreEntriesOf, StayEntries, first_answer_of, AreFunctionsOf, were_read, answers_in, IsViewOf, is_decided, answer_of_view, verdict_in, waits, was_checked, FirstAnswers, View, decided_answer, is_open, verdict, view_scope, fault_of, view_fault}
+use Rattle.addr2line_units.proofs.Common.{◌≡◌, ℕ, zero, suc, ◌<◌, Bool, true, false, List, [], ◌∷◌, length, get_or, slice_get, arith, Option, Some, None, Result, Ok, Err, ap, refl, sym, subst, ◌∙◌, set, false≢true, IfErr, OnOk, Error, OutOfMemory, Sections, UnitRecord, Scope, LazyFunctions, CachedUnit, EntriesCache, UnitView, ViewState, answer_of, with_answer, AreEntriesOf, StayEntries, first_answer_of, AreFunctionsOf, were_read, answers_in, IsViewOf, is_decided, answer_of_view, verdict_in, waits, was_checked, FirstAnswers, View, decided_answer, is_open, verdict, view_scope, fault_of, view_fault}
 use Rattle.std.specs.Prelude.{IfOk, IfSome, is_none, is_some, if◌then◌else◌}
 use Rattle.addr2line_units.specs.declared.entries.LazyFunctions.TheVariants as lazy
 use Rattle.addr2line_units.specs.declared.unit.ViewState.TheVariants as states
@@ -27,9 +27,9 @@ unread_are scope u (lazy.Read t) e = absurd cc
 unread_are scope u (lazy.Faulty x) e = absurd cc
 
 -- where no functions were read the view is all that is cached
-unread_entries : {R : Type 0} (scope : Scope) (u : UnitRecord) (v : UnitView R) (f : LazyFunctions R) → IsScope scope → IsViewOf scope.file.sections u v → were_read f ≡ false
+unread_entries : {R : Type 0} (scope : Scope) (u : UnitRecord) (v : UnitView R) (f : LazyFunctions R) → IsViewOf scope.file.sections u v → were_read f ≡ false
     → AreEntriesOf scope u (record { view = v; functions = f })
-unread_entries {R} scope u v f order h e = record { in_order = order; view = h; functions = by (verdict scope.file.sections u (answer_of_view v)); unread = λ k. e }
+unread_entries {R} scope u v f h e = record { view = h; functions = by (verdict scope.file.sections u (answer_of_view v)); unread = λ k. e }
   where
     by : (w : Option (Result View Error)) → IfSome w (λ view. IfOk view (λ x. AreFunctionsOf (view_scope scope x) x.unit f))
     by None = tt
@@ -104,7 +104,7 @@ module _ {R : Type 0} (shares : Bool) (scope : Scope) (u : UnitRecord) (given : 
 
     decided_after : (view : UnitView R) → IsViewOf scope.file.sections u view → answer_of_view view ≡ Some given → is_decided view.state ≡ true → KeepsAnswered shares scope u given (Ok tt) old (record { view = view; functions = mid.functions })
     decided_after view right answer known = record {
-      entries = unread_entries scope u view mid.functions check.entries.in_order right (check.entries.unread (undecided_view mid.view.state (waiting_is_undecided mid.view.state waiting)));
+      entries = unread_entries scope u view mid.functions right (check.entries.unread (undecided_view mid.view.state (waiting_is_undecided mid.view.state waiting)));
       answer = answer ∙ sym (decided_if_open scope.file.sections u (first_answer_of old) given was_open);
       known = known;
       refused = tt;
@@ -157,7 +157,7 @@ keeps_forgotten {R} scope u old new h a = record { entries = by (first_answer_of
     by None e = subst (AreEntriesOf scope u) (sym (a.kept e)) h
     by (Some x) e =
         let some : is_some (first_answer_of old.entries) ≡ true = ap is_some e in
-        unread_entries scope u new.entries.view new.entries.functions h.in_order (waiting_is_right scope.file.sections u new.entries.view (a.view.opens some) a.view.answer (h.view.waited some)) (a.empty some)
+        unread_entries scope u new.entries.view new.entries.functions (waiting_is_right scope.file.sections u new.entries.view (a.view.opens some) a.view.answer (h.view.waited some)) (a.empty some)
 
 -- the first answer of the unit of a number
 pub answer_at : {R : Type 0} (vs : List (CachedUnit R)) (n : ℕ) (v : CachedUnit R) → n < length vs → v ≡ get_or vs n v → answer_of (answers_in vs) n ≡ first_answer_of v.entries

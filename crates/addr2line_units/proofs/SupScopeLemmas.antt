@@ -143,11 +143,11 @@ records_beside d (u ∷ us) (r ∷ rs) own = ap (λ (vs : List UnitRecord). u �
 fresh_of_unit : {R : Type 0} (scope : Scope) (u : UnitRecord) (c : CachedUnit R) → IsFresh c → AreOfUnit scope u c
 fresh_of_unit scope u c fresh = subst (λ (o : Option UnitInScope). IfSome o (λ x. x ≡ record { scope = scope; unit = u })) (sym fresh.unit) tt
 
-pub fresh_caches : {R : Type 0} (scope : Scope) (us : List UnitRecord) (cs : List (CachedUnit R)) → IsScope scope → HaveLinesOf scope.file.sections us cs → AreFreshOf us cs → HaveCachesOf scope us cs
-fresh_caches scope [] [] order lines fresh = tt
-fresh_caches scope [] (c ∷ cs) order lines fresh = absurd fresh
-fresh_caches scope (u ∷ us) [] order lines fresh = absurd fresh
-fresh_caches scope (u ∷ us) (c ∷ cs) order lines fresh = (record { lines = lines.0; entries = fresh_are_of scope u c.entries order fresh.0.entries; unit = fresh_of_unit scope u c fresh.0 }, fresh_caches scope us cs order lines.1 fresh.1)
+pub fresh_caches : {R : Type 0} (scope : Scope) (us : List UnitRecord) (cs : List (CachedUnit R)) → HaveLinesOf scope.file.sections us cs → AreFreshOf us cs → HaveCachesOf scope us cs
+fresh_caches scope [] [] lines fresh = tt
+fresh_caches scope [] (c ∷ cs) lines fresh = absurd fresh
+fresh_caches scope (u ∷ us) [] lines fresh = absurd fresh
+fresh_caches scope (u ∷ us) (c ∷ cs) lines fresh = (record { lines = lines.0; entries = fresh_are_of scope u c.entries fresh.0.entries; unit = fresh_of_unit scope u c fresh.0 }, fresh_caches scope us cs lines.1 fresh.1)
 
 -- no unit has an answer then
 pub no_answers : {R : Type 0} (us : List UnitRecord) (vs : List (CachedUnit R)) → AreFreshOf us vs → answers_in vs ≡ map (λ _. None) us

@@ -76,7 +76,6 @@ module _ {R : Type 0} {scope : Scope} {held : List (CachedUnit R)} {last : Frame
     -- and so is all where its own is put back
     pub units_with : (c : CachedUnit R) {stop : FramesStop} → IsCacheOf scope u c → IsLendable (set held n c) stop → AreUnits scope (set held n c) stop
     units_with c own lendable = record {
-      in_order = i.in_order;
       caches = cache_set scope scope.file.units held n u c unit_is i.caches own;
       stop = lendable;
     }
@@ -93,7 +92,7 @@ module _ {R : Type 0} {scope : Scope} {held : List (CachedUnit R)} {last : Frame
       pub units_forgotten : w.lines ≡ c.lines → w.unit ≡ c.unit → AreOwnEntries w.unit w.entries → AreUnits scope (set held n w) stops.FindsNothing
       units_forgotten lines unit own =
           let of_unit = subst (λ (o : Option UnitInScope). IfSome o (λ x. x ≡ record { scope = scope; unit = u })) (sym unit) (its_unit at) in
-          units_with w {stop = stops.FindsNothing} (record { lines = lines_same lines; entries = own_entries scope u w i.in_order of_unit own; unit = of_unit }) tt
+          units_with w {stop = stops.FindsNothing} (record { lines = lines_same lines; entries = own_entries scope u w of_unit own; unit = of_unit }) tt
 
       -- after a call on its lines
       pub units_with_lines : AreLinesOf scope.file.sections u w.lines.lines → w.entries ≡ c.entries → w.unit ≡ c.unit → AreUnits scope (set held n w) stops.FindsNothing

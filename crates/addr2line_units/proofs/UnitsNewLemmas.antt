@@ -73,13 +73,12 @@ module _ {R : Type 0} (d : Sections) (us : List UnitRecord) (cs : List (CachedUn
           ∙ ap (λ (x : IndexState). all x.units x.ranges sup.units.items) (ok_is (index_of d units) index h)
       of_units (Err x) h = absurd cc
 
-  scope_in_order : IsScope (scope_in d us sup)
+  pub scope_in_order : IsScope (scope_in d us sup)
   scope_in_order = subst IsScope (sym scope_is) (main_scope_in_order d made what_is_made)
 
   pub are_units : AreUnits (scope_in d us sup) cs stops.FindsNothing
   are_units = record {
-    in_order = scope_in_order;
-    caches = fresh_caches (scope_in d us sup) us cs scope_in_order new.lines new.fresh;
+    caches = fresh_caches (scope_in d us sup) us cs new.lines new.fresh;
     stop = tt;
   }
 

@@ -3,14 +3,13 @@
 -- then, their fault too, until the unit is forgotten; so is each detail. OutOfMemory is never
 -- cached.
 use Rattle.std.specs.Prelude.{◌≡◌, false, Option, Some, None, IfOk, IfSome}
-use Rattle.addr2line_units.specs.Common.{Sections, UnitRecord, IsScope, Scope}
+use Rattle.addr2line_units.specs.Common.{Sections, UnitRecord, Scope}
 use Rattle.addr2line_lines.specs.References.{UnitInScope, in_scope}
 use Rattle.addr2line_units.specs.declared.entries.EntriesCache.{EntriesCache}
 use Rattle.addr2line_units.specs.declared.entries.LookedAt.{LookedAt}
 use Rattle.addr2line_units.specs.declared.entries.LookedAt.TheVariants as looked
 use Rattle.addr2line_units.specs.declared.unit.LinesCache.{LinesCache}
 use Rattle.addr2line_units.specs.EntriesFunctions.{AreFunctionsOf, were_read}
-use Rattle.addr2line_units.specs.SupScope.{scope_of}
 use Rattle.addr2line_units.specs.UnitView.{verdict, view_scope}
 use Rattle.addr2line_units.specs.UnitViewCached.{IsViewOf, answer_of_view, has_view, was_checked}
 
@@ -18,11 +17,10 @@ use Rattle.addr2line_units.specs.UnitViewCached.{IsViewOf, answer_of_view, has_v
 abbrev pub first_answer_of : {R : Type 0} → EntriesCache R → Option (Option Sections)
 first_answer_of v = answer_of_view v.view
 
--- references lead from the unit to units in order; what is cached is the view of the unit and the
--- functions of that view, which are read only where it is known and has no fault
+-- what is cached is the view of the unit and the functions of that view, which are read only where
+-- it is known and has no fault
 pub record AreEntriesOf {R : Type 0} (scope : Scope) (u : UnitRecord) (v : EntriesCache R)
     : Type 0 where
-  pub in_order : IsScope scope
   pub view : IsViewOf scope.file.sections u v.view
   pub functions : IfSome (verdict scope.file.sections u (first_answer_of v)) (λ view.
       IfOk view (λ x. AreFunctionsOf (view_scope scope x) x.unit v.functions))
@@ -36,8 +34,7 @@ pub record AreFresh {R : Type 0} (v : EntriesCache R) : Type 0 where
 -- the unit that was looked at, if one was
 abbrev pub looked_at_unit : {R : Type 0} → LookedAt R → Option UnitInScope
 looked_at_unit looked.Nothing = None
-looked_at_unit (looked.Unit sources dw_unit) =
-    Some (in_scope (scope_of sources.value) dw_unit.value)
+looked_at_unit (looked.Unit sources dw_unit) = Some (in_scope sources.value dw_unit.value)
 
 -- what is cached of a unit: its lines with its language, its entries, and the unit that was looked
 -- at for these

@@ -3,7 +3,6 @@ use Rattle.std.specs.Prelude.{List, Option, Some, option_map}
 use Rattle.gimli.specs.declared.unit_ref.UnitRef.{UnitRef}
 use Rattle.addr2line_units.specs.Common.{Sections, UnitRecord, FileRecord, Scope}
 use Rattle.addr2line_units.specs.declared.sup.SupUnits.{SupUnits}
-use Rattle.addr2line_units.specs.declared.units.Sources.{Sources}
 
 -- the sections and the unit of a reference
 abbrev pub as_unit : {R : Type 0} → UnitRef R → Sections × UnitRecord
@@ -21,7 +20,3 @@ sup_file sup = option_map (λ d. record { sections = d; units = sup.units.items 
 -- where references lead from the units of a file
 abbrev pub scope_in : {R : Type 0} → Sections → List UnitRecord → SupUnits R → Scope
 scope_in d us sup = record { file = record { sections = d; units = us }; sup = sup_file sup }
-
--- the same of sources
-abbrev pub scope_of : {R : Type 0} → Sources R → Scope
-scope_of s = scope_in s.dwarf.value s.units.items s.sup

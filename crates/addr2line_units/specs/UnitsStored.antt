@@ -1,6 +1,6 @@
 -- That what is cached of the units of a context is their own, as the private functions see it.
 use Rattle.std.specs.Prelude.{ℕ, List}
-use Rattle.addr2line_units.specs.Common.{IsScope, Scope}
+use Rattle.addr2line_units.specs.Common.{Scope}
 use Rattle.addr2line_units.specs.declared.frames.FramesStop.{FramesStop}
 use Rattle.addr2line_units.specs.EntriesOwn.{CachedUnit}
 use Rattle.addr2line_units.specs.FramesCached.{IsLendable}
@@ -22,10 +22,8 @@ as_units_state scope caches steps stop = record {
   stop = stop;
 }
 
--- references lead to units in order, beside each unit stands its cache, and what is stored of the
--- last lookup can be lent
+-- beside each unit stands its cache, and what is stored of the last lookup can be lent
 pub record AreUnits {R : Type 0} (scope : Scope) (cs : List (CachedUnit R)) (last : FramesStop)
     : Type 0 where
-  pub in_order : IsScope scope
   pub caches : HaveCachesOf scope scope.file.units cs
   pub stop : IsLendable cs last

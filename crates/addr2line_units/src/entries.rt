@@ -155,14 +155,13 @@ pub(crate) enum UnitFrames {
 
 impl<R: Reader> UnitCache<R> {
     ghost use Rattle.std.specs.Prelude.{◌≡◌, ◌≤◌, true};
-    ghost use Rattle.addr2line_units.specs.Common.{ExactlyUnlessOom, IsScope};
+    ghost use Rattle.addr2line_units.specs.Common.{ExactlyUnlessOom};
     ghost use Rattle.addr2line_units.specs.UnitAfter.{AfterCheck, AfterEntries, AfterFramesIn, AfterFunctionIn};
     ghost use Rattle.addr2line_units.specs.EntriesCached.{frames_of_place, frames_or};
     ghost use Rattle.addr2line_units.specs.EntriesEmpty.{has_nothing};
     ghost use Rattle.addr2line_units.specs.EntriesFrames.{function_in};
     ghost use Rattle.addr2line_units.specs.EntriesFunctions.{found_in_cache};
     ghost use Rattle.addr2line_units.specs.EntriesOwn.{AreOwnEntries, first_answer_of};
-    ghost use Rattle.addr2line_units.specs.SupScope.{scope_of};
     ghost use Rattle.addr2line_units.specs.UnitsCached.{AreOfUnit, IsFresh};
     ghost use Rattle.addr2line_units.specs.UnitViewCached.{is_decided};
 
@@ -180,10 +179,9 @@ impl<R: Reader> UnitCache<R> {
 
     // Looks whether the unit waits for an answer, unless that was done. Takes no memory.
     pub(crate) fn check_split(&mut self, sources: &Sources<R>, dw_unit: &Unit<R>)
-        requires in_order { IsScope (scope_of sources.now) }
-        requires unit { AreOfUnit (scope_of sources.now) dw_unit.now self.old }
-        ensures after { AfterEntries (AfterCheck sources.now.dwarf.value dw_unit.now)
-            (scope_of sources.now) dw_unit.now self.old self.new }
+        requires unit { AreOfUnit sources.now dw_unit.now self.old }
+        ensures after { AfterEntries (AfterCheck sources.now.file.sections dw_unit.now) sources.now
+            dw_unit.now self.old self.new }
     {
         self.entries.check_split(&sources.dwarf, dw_unit);
         let sources = Snapshot::of(sources);
@@ -222,14 +220,12 @@ impl<R: Reader> UnitCache<R> {
         dw_unit: &Unit<R>,
         probe: u64,
     ) -> Result<Option<FunctionPlace>, Error>
-        requires in_order { IsScope (scope_of sources.now) }
-        requires unit { AreOfUnit (scope_of sources.now) dw_unit.now self.old }
+        requires unit { AreOfUnit sources.now dw_unit.now self.old }
         requires decided { is_decided self.old.entries.view.state ≡ true }
         ensures gives { ExactlyUnlessOom (found_in_cache self.new.entries.functions) result
-            (function_in (scope_of sources.now) dw_unit.now (first_answer_of self.old.entries)
-            probe) }
-        ensures after { AfterEntries (AfterFunctionIn R.shares (scope_of sources.now) dw_unit.now
-            probe result) (scope_of sources.now) dw_unit.now self.old self.new }
+            (function_in sources.now dw_unit.now (first_answer_of self.old.entries) probe) }
+        ensures after { AfterEntries (AfterFunctionIn R.shares sources.now dw_unit.now probe result)
+            sources.now dw_unit.now self.old self.new }
     {
         let unit = self.entries.view.unit_ref(&sources.dwarf, dw_unit)?;
         let scope = self.entries.view.scope_of(sources.scope());
@@ -268,12 +264,11 @@ impl<R: Reader> UnitCache<R> {
         steps: &mut Count,
         probe: u64,
     ) -> Result<UnitFrames, Error>
-        requires in_order { IsScope (scope_of sources.now) }
-        requires unit { AreOfUnit (scope_of sources.now) dw_unit.now self.old }
+        requires unit { AreOfUnit sources.now dw_unit.now self.old }
         ensures gives { ExactlyUnlessOom (frames_of_place self.new.lines self.new.entries) result
-            (frames_or (scope_of sources.now) dw_unit.now probe self.old) }
-        ensures after { AfterFramesIn R.shares (scope_of sources.now) dw_unit.now probe result
-            self.old self.new }
+            (frames_or sources.now dw_unit.now probe self.old) }
+        ensures after { AfterFramesIn R.shares sources.now dw_unit.now probe result self.old
+            self.new }
         ensures steps { steps.old ≤ steps.new }
     {
         self.check_split(sources, dw_unit);

@@ -597,8 +597,9 @@ impl<R: Reader> Units<R> {
             (slice_get self.now.scope.file.units number) ≡ Some (Ok (Some l))) }
         ensures refused { IfErr result (λ e. e ≡ OutOfMemory) }
     {
-        let dw_unit = &self.sources.units[number];
-        match read_load(&self.sources.dwarf, number, dw_unit)? {
+        let sources = &self.sources;
+        let dw_unit = &sources.units[number];
+        match read_load(&sources.dwarf, number, dw_unit)? {
             Some(load) => Ok(load),
             None => unreachable!(),
         }
@@ -625,9 +626,10 @@ impl<R: Reader> Units<R> {
         let FramesStop::Finds(place) = &self.stop else {
             return None;
         };
-        let dw_unit = &self.sources.units[place.unit];
+        let sources = &self.sources;
+        let dw_unit = &sources.units[place.unit];
         let cache = &self.caches[place.unit];
-        cache.entries.view.readable(&self.sources.dwarf, dw_unit)
+        cache.entries.view.readable(&sources.dwarf, dw_unit)
     }
 
     /// Decides the unit of a number by an answer to its load if it is open, and else leaves it as

@@ -2,10 +2,9 @@
 
 ghost use Rattle.std.specs.Prelude.{◌≡◌, Err, IfErr, IfOk, None, OnOk, Ok, Some, false, option_map, true, ◌++◌, ◌<◌, length, not, IfSome};
 ghost use Rattle.std.specs.Option.{option_to_list};
-ghost use Rattle.addr2line_units.specs.Common.{OutOfMemory, IsUnlessOom, IsScope, fault_of};
+ghost use Rattle.addr2line_units.specs.Common.{OutOfMemory, IsUnlessOom, fault_of};
 ghost use Rattle.addr2line_units.specs.UnitViewCached.{verdict_in};
 ghost use Rattle.addr2line_units.specs.Loads.{forget_result, load_of_number, load_result, loads_along};
-ghost use Rattle.addr2line_units.specs.SupScope.{scope_of};
 ghost use Rattle.addr2line_units.specs.UnitsCached.{AreOfUnit};
 ghost use Rattle.addr2line_units.specs.UnitsAfter.{AfterForget, AfterLoad, AfterPreloadAlong};
 ghost use Rattle.addr2line_units.specs.UnitsAsked.{AfterNewLoad};
@@ -56,11 +55,9 @@ impl<R: Reader> UnitCache<R> {
         dw_unit: &Unit<R>,
         sections: Option<Rc<Dwarf<R>>>,
     ) -> Result<(), Error>
-        requires in_order { IsScope (scope_of sources.now) }
-        requires unit { AreOfUnit (scope_of sources.now) dw_unit.now self.old }
-        ensures after { AfterEntries (AfterAnswerIn R.shares sources.now.dwarf.value dw_unit.now
-            (option_map (λ d. d.value) sections) result) (scope_of sources.now) dw_unit.now
-            self.old self.new }
+        requires unit { AreOfUnit sources.now dw_unit.now self.old }
+        ensures after { AfterEntries (AfterAnswerIn R.shares sources.now.file.sections dw_unit.now
+            (option_map (λ d. d.value) sections) result) sources.now dw_unit.now self.old self.new }
     {
         self.check_split(sources, dw_unit);
         let view = &mut self.entries.view;
@@ -147,12 +144,10 @@ impl<R: Reader> UnitCache<R> {
         marks: &mut Vec<bool>,
         number: usize,
     ) -> Result<Option<SplitDwarfLoad<R>>, Error>
-        requires in_order { IsScope (scope_of sources.now) }
-        requires unit { AreOfUnit (scope_of sources.now) dw_unit.now self.old }
-        requires within { number < length sources.now.units.items }
-        ensures after { AfterEntries (AfterNewLoadIn sources.now.dwarf.value number dw_unit.now
-            marks.old.items marks.new.items result) (scope_of sources.now) dw_unit.now self.old
-            self.new }
+        requires unit { AreOfUnit sources.now dw_unit.now self.old }
+        requires within { number < length sources.now.file.units }
+        ensures after { AfterEntries (AfterNewLoadIn sources.now.file.sections number dw_unit.now
+            marks.old.items marks.new.items result) sources.now dw_unit.now self.old self.new }
     {
         self.check_split(sources, dw_unit);
         if !self.entries.view.is_open() {

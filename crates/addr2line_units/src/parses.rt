@@ -1,13 +1,12 @@
 //! Parses of the functions of all units.
 
 ghost use Rattle.std.specs.Prelude.{◌≡◌, true};
-ghost use Rattle.addr2line_units.specs.Common.{IsUnlessOom, IsScope};
+ghost use Rattle.addr2line_units.specs.Common.{IsUnlessOom};
 ghost use Rattle.addr2line_units.specs.UnitAfter.{AfterEntries};
 ghost use Rattle.addr2line_units.specs.EntriesFunctions.{cached_fault};
 ghost use Rattle.addr2line_units.specs.EntriesOwn.{first_answer_of};
 ghost use Rattle.addr2line_units.specs.Parses.{read_of_number, read_of_unit, read_of_units, read_of_view};
 ghost use Rattle.addr2line_units.specs.ParsesAfter.{AfterReadingAt, AfterReadingUnit, AfterReadingView};
-ghost use Rattle.addr2line_units.specs.SupScope.{scope_of};
 ghost use Rattle.addr2line_units.specs.UnitsAfter.{AfterReading};
 ghost use Rattle.addr2line_units.specs.UnitsCached.{AreOfUnit};
 ghost use Rattle.addr2line_units.specs.UnitView.{verdict};
@@ -51,13 +50,12 @@ impl<R: Reader> UnitCache<R> {
         dw_unit: &Unit<R>,
         depth: ReadingDepth,
     ) -> Result<(), Error>
-        requires in_order { IsScope (scope_of sources.now) }
-        requires unit { AreOfUnit (scope_of sources.now) dw_unit.now self.old }
+        requires unit { AreOfUnit sources.now dw_unit.now self.old }
         requires decided { is_decided self.old.entries.view.state ≡ true }
-        ensures gives { IsUnlessOom result (read_of_view depth (scope_of sources.now)
-            (verdict sources.now.dwarf.value dw_unit.now (first_answer_of self.old.entries))) }
-        ensures after { AfterEntries (AfterReadingView R.shares depth (scope_of sources.now)
-            dw_unit.now result) (scope_of sources.now) dw_unit.now self.old self.new }
+        ensures gives { IsUnlessOom result (read_of_view depth sources.now
+            (verdict sources.now.file.sections dw_unit.now (first_answer_of self.old.entries))) }
+        ensures after { AfterEntries (AfterReadingView R.shares depth sources.now dw_unit.now
+            result) sources.now dw_unit.now self.old self.new }
     {
         let unit = self.entries.view.unit_ref(&sources.dwarf, dw_unit)?;
         let scope = self.entries.view.scope_of(sources.scope());
@@ -90,12 +88,11 @@ impl<R: Reader> UnitCache<R> {
         dw_unit: &Unit<R>,
         depth: ReadingDepth,
     ) -> Result<(), Error>
-        requires in_order { IsScope (scope_of sources.now) }
-        requires unit { AreOfUnit (scope_of sources.now) dw_unit.now self.old }
-        ensures gives { IsUnlessOom result (read_of_unit depth (scope_of sources.now) dw_unit.now
+        requires unit { AreOfUnit sources.now dw_unit.now self.old }
+        ensures gives { IsUnlessOom result (read_of_unit depth sources.now dw_unit.now
             (first_answer_of self.old.entries)) }
-        ensures after { AfterEntries (AfterReadingUnit R.shares depth (scope_of sources.now)
-            dw_unit.now result) (scope_of sources.now) dw_unit.now self.old self.new }
+        ensures after { AfterEntries (AfterReadingUnit R.shares depth sources.now dw_unit.now
+            result) sources.now dw_unit.now self.old self.new }
     {
         self.is_own();
         self.answer(alloc, sources, dw_unit, None)?;

@@ -4,7 +4,6 @@ ghost use Rattle.std.specs.Prelude.{◌≡◌, ◌++◌, [], ◌∷◌, IfErr, I
 ghost use Rattle.addr2line_units.specs.Common.{OutOfMemory, ExactlyAtCost, ExactlyUnlessOom, ExactlyUnlessOomIf, as_scope};
 ghost use Rattle.addr2line_units.specs.UnitsIndexed.{appended, context_takes_memory, index_read, indexed_with, no_index, as_ranged_unit, with_header};
 ghost use Rattle.addr2line_units.specs.UnitsRanged.{range_of_unit, unit_of_header};
-ghost use Rattle.addr2line_units.specs.SupScope.{scope_of};
 ghost use Rattle.addr2line_units.specs.UnitsState.{new_units};
 
 use crate::entries::UnitCache;
@@ -28,6 +27,17 @@ pub(crate) struct Sources<R: Reader> {
     pub(crate) sup: SupUnits<R>,
 }
 
+impl<R: Reader> Model for Sources<R> {
+    ghost use Rattle.addr2line_units.specs.Common.{IsScope, Scope};
+    ghost use Rattle.addr2line_units.specs.SupScope.{scope_in};
+
+    ghost Value = { Scope };
+
+    ghost view = { λ s. scope_in s.dwarf.value s.units.items s.sup };
+
+    ghost invariant = { λ s. IsScope (scope_in s.dwarf.value s.units.items s.sup) };
+}
+
 /// The units of a context, with what is cached of them.
 #[derive(Drop)]
 pub struct Units<R: Reader> {
@@ -43,16 +53,15 @@ pub struct Units<R: Reader> {
 
 impl<R: Reader> Model for Units<R> {
     ghost use Rattle.addr2line_units.specs.FramesCached.{as_stop};
-    ghost use Rattle.addr2line_units.specs.SupScope.{scope_of};
     ghost use Rattle.addr2line_units.specs.UnitsStored.{AreUnits, as_units_state};
     ghost use Rattle.addr2line_units.specs.UnitsState.{UnitsState};
 
     ghost Value = { UnitsState };
 
-    ghost view = { λ u. as_units_state (scope_of u.sources) u.caches.items u.steps
+    ghost view = { λ u. as_units_state u.sources u.caches.items u.steps
         (as_stop u.caches.items u.stop) };
 
-    ghost invariant = { λ u. AreUnits (scope_of u.sources) u.caches.items u.stop };
+    ghost invariant = { λ u. AreUnits u.sources u.caches.items u.stop };
 }
 
 // The units of a file as they are read, and the ranges that lead to them.
@@ -246,7 +255,7 @@ impl<R: Reader> IndexedUnits<R> {
 impl<R: Reader> Sources<R> {
     // Where references lead from the units of the file. Takes no memory.
     pub(crate) fn scope(&self) -> Scope<'_, R>
-        ensures gives { as_scope result ≡ scope_of self.now }
+        ensures gives { as_scope result ≡ self.now }
     {
         Scope {
             file: FileUnits {

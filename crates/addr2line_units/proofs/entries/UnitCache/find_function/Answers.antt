@@ -3,28 +3,23 @@ use Rattle.addr2line_units.specs.declared.entries.FunctionPlace.{FunctionPlace}
 use Rattle.addr2line_units.specs.declared.entries.LazyFunctions.TheVariants as lazy
 use Rattle.std.specs.Box.{with_value}
 use Rattle.addr2line_lines.specs.CachedNames.{AreNamesIn}
-use Rattle.addr2line_units.specs.EntriesOwn.{CachedUnit, looked_at_unit}
-use Rattle.addr2line_units.specs.SupScope.{scope_of}
 use Rattle.addr2line_units.proofs.EntriesFindLemmas.{absent_after, absent_gives, cached_right, chain_after, chain_gives, detail_after, detail_gives, faulty_after, faulty_gives, nowhere_after, nowhere_gives, place_after, place_gives, uncached_after, uncached_gives}
 use Rattle.addr2line_units.proofs.EntriesViewedLemmas.{faulty, viewed}
 use Rattle.addr2line_units.proofs.entries.UnitCache.find_function.Goals as goal
 
 pub returns-in_err-unit : goal.returns-in_err-unit
 returns-in_err-unit g c =
-    let s = c.self.inside in
-    let k : CachedUnit g.row.R.Denot = record { lines = s.lines; entries = s.entries; unit = looked_at_unit s.unit.value } in
     let p = err_from_is_err_and c.from_residual.result c.from_residual.ensures.1 in
-    let is = faulty g.R.Reader.shares (scope_of c.args.sources.now) c.args.dw_unit.now k c.args.self.now c.self.view_is c.requires.in_order c.requires.unit c.self.invariant c.requires.decided c.deref.result.now c.deref.ensures c.in_err-unit.field-0.0 c.in_err-unit.ensures.gives in
+    let is = faulty g.R.Reader.shares c.args.dw_unit.now c.sources.view_is c.self.view_is c.requires.unit c.self.invariant c.requires.decided c.deref.ensures c.in_err-unit.field-0.0 c.in_err-unit.ensures.gives in
     rw (p.1, p.2) (record { gives = λ ne. is.finds c.args.probe; after = is.found c.args.probe })
 
 pub invariant_of-self : goal.invariant_of-self
 invariant_of-self g c =
     let shares = g.R.Reader.shares in
     let s = c.self.inside in
-    let k : CachedUnit g.row.R.Denot = record { lines = s.lines; entries = s.entries; unit = looked_at_unit s.unit.value } in
     let x = c.in_ok-unit.unit.unit.now in
     let inner = as_scope c.scope_of-scope.result in
-    let v = viewed shares (scope_of c.args.sources.now) c.args.dw_unit.now k c.args.self.now c.self.view_is c.requires.in_order c.requires.unit c.self.invariant c.requires.decided c.deref.result.now c.deref.ensures c.in_ok-unit.unit.dwarf.now x inner c.in_ok-unit.ensures.gives (as_scope c.scope.result) c.scope.ensures.gives c.scope_of-scope.ensures.gives in
+    let v = viewed shares c.args.dw_unit.now c.sources.view_is c.self.view_is c.requires.unit c.self.invariant c.requires.decided c.deref.ensures c.in_ok-unit.unit.dwarf.now x inner c.in_ok-unit.ensures.gives c.scope.ensures.gives c.scope_of-scope.ensures.gives in
     let old = s.entries.functions in
     let mid = c.cache.new.self in
     let cache = c.in_err-cache.ensures.after in
@@ -35,10 +30,9 @@ pub returns-in_err-cache : goal.returns-in_err-cache
 returns-in_err-cache g c =
     let shares = g.R.Reader.shares in
     let s = c.self.inside in
-    let k : CachedUnit g.row.R.Denot = record { lines = s.lines; entries = s.entries; unit = looked_at_unit s.unit.value } in
     let x = c.in_ok-unit.unit.unit.now in
     let inner = as_scope c.scope_of-scope.result in
-    let v = viewed shares (scope_of c.args.sources.now) c.args.dw_unit.now k c.args.self.now c.self.view_is c.requires.in_order c.requires.unit c.self.invariant c.requires.decided c.deref.result.now c.deref.ensures c.in_ok-unit.unit.dwarf.now x inner c.in_ok-unit.ensures.gives (as_scope c.scope.result) c.scope.ensures.gives c.scope_of-scope.ensures.gives in
+    let v = viewed shares c.args.dw_unit.now c.sources.view_is c.self.view_is c.requires.unit c.self.invariant c.requires.decided c.deref.ensures c.in_ok-unit.unit.dwarf.now x inner c.in_ok-unit.ensures.gives c.scope.ensures.gives c.scope_of-scope.ensures.gives in
     let old = s.entries.functions in
     let mid = c.cache.new.self in
     let cache = c.in_err-cache.ensures.after in
@@ -51,10 +45,9 @@ pub invariant_of-self-in-Faulty : goal.invariant_of-self-in-Faulty
 invariant_of-self-in-Faulty g c =
     let shares = g.R.Reader.shares in
     let s = c.self.inside in
-    let k : CachedUnit g.row.R.Denot = record { lines = s.lines; entries = s.entries; unit = looked_at_unit s.unit.value } in
     let x = c.in_ok-unit.unit.unit.now in
     let inner = as_scope c.scope_of-scope.result in
-    let v = viewed shares (scope_of c.args.sources.now) c.args.dw_unit.now k c.args.self.now c.self.view_is c.requires.in_order c.requires.unit c.self.invariant c.requires.decided c.deref.result.now c.deref.ensures c.in_ok-unit.unit.dwarf.now x inner c.in_ok-unit.ensures.gives (as_scope c.scope.result) c.scope.ensures.gives c.scope_of-scope.ensures.gives in
+    let v = viewed shares c.args.dw_unit.now c.sources.view_is c.self.view_is c.requires.unit c.self.invariant c.requires.decided c.deref.ensures c.in_ok-unit.unit.dwarf.now x inner c.in_ok-unit.ensures.gives c.scope.ensures.gives c.scope_of-scope.ensures.gives in
     let old = s.entries.functions in
     let mid = c.cache.new.self in
     let cache = c.in_ok-cache.ensures.after in
@@ -65,10 +58,9 @@ pub returns-in-Faulty : goal.returns-in-Faulty
 returns-in-Faulty g c =
     let shares = g.R.Reader.shares in
     let s = c.self.inside in
-    let k : CachedUnit g.row.R.Denot = record { lines = s.lines; entries = s.entries; unit = looked_at_unit s.unit.value } in
     let x = c.in_ok-unit.unit.unit.now in
     let inner = as_scope c.scope_of-scope.result in
-    let v = viewed shares (scope_of c.args.sources.now) c.args.dw_unit.now k c.args.self.now c.self.view_is c.requires.in_order c.requires.unit c.self.invariant c.requires.decided c.deref.result.now c.deref.ensures c.in_ok-unit.unit.dwarf.now x inner c.in_ok-unit.ensures.gives (as_scope c.scope.result) c.scope.ensures.gives c.scope_of-scope.ensures.gives in
+    let v = viewed shares c.args.dw_unit.now c.sources.view_is c.self.view_is c.requires.unit c.self.invariant c.requires.decided c.deref.ensures c.in_ok-unit.unit.dwarf.now x inner c.in_ok-unit.ensures.gives c.scope.ensures.gives c.scope_of-scope.ensures.gives in
     let old = s.entries.functions in
     let mid = c.cache.new.self in
     let cache = c.in_ok-cache.ensures.after in
@@ -80,10 +72,9 @@ pub invariant_of-self-in-Absent : goal.invariant_of-self-in-Absent
 invariant_of-self-in-Absent g c =
     let shares = g.R.Reader.shares in
     let s = c.self.inside in
-    let k : CachedUnit g.row.R.Denot = record { lines = s.lines; entries = s.entries; unit = looked_at_unit s.unit.value } in
     let x = c.in_ok-unit.unit.unit.now in
     let inner = as_scope c.scope_of-scope.result in
-    let v = viewed shares (scope_of c.args.sources.now) c.args.dw_unit.now k c.args.self.now c.self.view_is c.requires.in_order c.requires.unit c.self.invariant c.requires.decided c.deref.result.now c.deref.ensures c.in_ok-unit.unit.dwarf.now x inner c.in_ok-unit.ensures.gives (as_scope c.scope.result) c.scope.ensures.gives c.scope_of-scope.ensures.gives in
+    let v = viewed shares c.args.dw_unit.now c.sources.view_is c.self.view_is c.requires.unit c.self.invariant c.requires.decided c.deref.ensures c.in_ok-unit.unit.dwarf.now x inner c.in_ok-unit.ensures.gives c.scope.ensures.gives c.scope_of-scope.ensures.gives in
     let old = s.entries.functions in
     let mid = c.cache.new.self in
     let cache = c.in_ok-cache.ensures.after in
@@ -94,10 +85,9 @@ pub returns-in-Absent : goal.returns-in-Absent
 returns-in-Absent g c =
     let shares = g.R.Reader.shares in
     let s = c.self.inside in
-    let k : CachedUnit g.row.R.Denot = record { lines = s.lines; entries = s.entries; unit = looked_at_unit s.unit.value } in
     let x = c.in_ok-unit.unit.unit.now in
     let inner = as_scope c.scope_of-scope.result in
-    let v = viewed shares (scope_of c.args.sources.now) c.args.dw_unit.now k c.args.self.now c.self.view_is c.requires.in_order c.requires.unit c.self.invariant c.requires.decided c.deref.result.now c.deref.ensures c.in_ok-unit.unit.dwarf.now x inner c.in_ok-unit.ensures.gives (as_scope c.scope.result) c.scope.ensures.gives c.scope_of-scope.ensures.gives in
+    let v = viewed shares c.args.dw_unit.now c.sources.view_is c.self.view_is c.requires.unit c.self.invariant c.requires.decided c.deref.ensures c.in_ok-unit.unit.dwarf.now x inner c.in_ok-unit.ensures.gives c.scope.ensures.gives c.scope_of-scope.ensures.gives in
     let old = s.entries.functions in
     let mid = c.cache.new.self in
     let cache = c.in_ok-cache.ensures.after in
@@ -119,10 +109,9 @@ pub invariant_of-self-in_default : goal.invariant_of-self-in_default
 invariant_of-self-in_default g c =
     let shares = g.R.Reader.shares in
     let s = c.self.inside in
-    let k : CachedUnit g.row.R.Denot = record { lines = s.lines; entries = s.entries; unit = looked_at_unit s.unit.value } in
     let x = c.in_ok-unit.unit.unit.now in
     let inner = as_scope c.scope_of-scope.result in
-    let v = viewed shares (scope_of c.args.sources.now) c.args.dw_unit.now k c.args.self.now c.self.view_is c.requires.in_order c.requires.unit c.self.invariant c.requires.decided c.deref.result.now c.deref.ensures c.in_ok-unit.unit.dwarf.now x inner c.in_ok-unit.ensures.gives (as_scope c.scope.result) c.scope.ensures.gives c.scope_of-scope.ensures.gives in
+    let v = viewed shares c.args.dw_unit.now c.sources.view_is c.self.view_is c.requires.unit c.self.invariant c.requires.decided c.deref.ensures c.in_ok-unit.unit.dwarf.now x inner c.in_ok-unit.ensures.gives c.scope.ensures.gives c.scope_of-scope.ensures.gives in
     let old = s.entries.functions in
     let mid = c.cache.new.self in
     let cache = c.in_ok-cache.ensures.after in
@@ -135,10 +124,9 @@ pub returns-in_default : goal.returns-in_default
 returns-in_default g c =
     let shares = g.R.Reader.shares in
     let s = c.self.inside in
-    let k : CachedUnit g.row.R.Denot = record { lines = s.lines; entries = s.entries; unit = looked_at_unit s.unit.value } in
     let x = c.in_ok-unit.unit.unit.now in
     let inner = as_scope c.scope_of-scope.result in
-    let v = viewed shares (scope_of c.args.sources.now) c.args.dw_unit.now k c.args.self.now c.self.view_is c.requires.in_order c.requires.unit c.self.invariant c.requires.decided c.deref.result.now c.deref.ensures c.in_ok-unit.unit.dwarf.now x inner c.in_ok-unit.ensures.gives (as_scope c.scope.result) c.scope.ensures.gives c.scope_of-scope.ensures.gives in
+    let v = viewed shares c.args.dw_unit.now c.sources.view_is c.self.view_is c.requires.unit c.self.invariant c.requires.decided c.deref.ensures c.in_ok-unit.unit.dwarf.now x inner c.in_ok-unit.ensures.gives c.scope.ensures.gives c.scope_of-scope.ensures.gives in
     let old = s.entries.functions in
     let mid = c.cache.new.self in
     let cache = c.in_ok-cache.ensures.after in
@@ -152,10 +140,9 @@ pub invariant_of-self-in_err-read : goal.invariant_of-self-in_err-read
 invariant_of-self-in_err-read g c =
     let shares = g.R.Reader.shares in
     let s = c.self.inside in
-    let k : CachedUnit g.row.R.Denot = record { lines = s.lines; entries = s.entries; unit = looked_at_unit s.unit.value } in
     let x = c.in_ok-unit.unit.unit.now in
     let inner = as_scope c.scope_of-scope.result in
-    let v = viewed shares (scope_of c.args.sources.now) c.args.dw_unit.now k c.args.self.now c.self.view_is c.requires.in_order c.requires.unit c.self.invariant c.requires.decided c.deref.result.now c.deref.ensures c.in_ok-unit.unit.dwarf.now x inner c.in_ok-unit.ensures.gives (as_scope c.scope.result) c.scope.ensures.gives c.scope_of-scope.ensures.gives in
+    let v = viewed shares c.args.dw_unit.now c.sources.view_is c.self.view_is c.requires.unit c.self.invariant c.requires.decided c.deref.ensures c.in_ok-unit.unit.dwarf.now x inner c.in_ok-unit.ensures.gives c.scope.ensures.gives c.scope_of-scope.ensures.gives in
     let old = s.entries.functions in
     let mid = c.cache.new.self in
     let cache = c.in_ok-cache.ensures.after in
@@ -170,10 +157,9 @@ pub returns-in_err-read : goal.returns-in_err-read
 returns-in_err-read g c =
     let shares = g.R.Reader.shares in
     let s = c.self.inside in
-    let k : CachedUnit g.row.R.Denot = record { lines = s.lines; entries = s.entries; unit = looked_at_unit s.unit.value } in
     let x = c.in_ok-unit.unit.unit.now in
     let inner = as_scope c.scope_of-scope.result in
-    let v = viewed shares (scope_of c.args.sources.now) c.args.dw_unit.now k c.args.self.now c.self.view_is c.requires.in_order c.requires.unit c.self.invariant c.requires.decided c.deref.result.now c.deref.ensures c.in_ok-unit.unit.dwarf.now x inner c.in_ok-unit.ensures.gives (as_scope c.scope.result) c.scope.ensures.gives c.scope_of-scope.ensures.gives in
+    let v = viewed shares c.args.dw_unit.now c.sources.view_is c.self.view_is c.requires.unit c.self.invariant c.requires.decided c.deref.ensures c.in_ok-unit.unit.dwarf.now x inner c.in_ok-unit.ensures.gives c.scope.ensures.gives c.scope_of-scope.ensures.gives in
     let old = s.entries.functions in
     let mid = c.cache.new.self in
     let cache = c.in_ok-cache.ensures.after in
@@ -190,10 +176,9 @@ pub invariant_of-self-in_err-inlined : goal.invariant_of-self-in_err-inlined
 invariant_of-self-in_err-inlined g c =
     let shares = g.R.Reader.shares in
     let s = c.self.inside in
-    let k : CachedUnit g.row.R.Denot = record { lines = s.lines; entries = s.entries; unit = looked_at_unit s.unit.value } in
     let x = c.in_ok-unit.unit.unit.now in
     let inner = as_scope c.scope_of-scope.result in
-    let v = viewed shares (scope_of c.args.sources.now) c.args.dw_unit.now k c.args.self.now c.self.view_is c.requires.in_order c.requires.unit c.self.invariant c.requires.decided c.deref.result.now c.deref.ensures c.in_ok-unit.unit.dwarf.now x inner c.in_ok-unit.ensures.gives (as_scope c.scope.result) c.scope.ensures.gives c.scope_of-scope.ensures.gives in
+    let v = viewed shares c.args.dw_unit.now c.sources.view_is c.self.view_is c.requires.unit c.self.invariant c.requires.decided c.deref.ensures c.in_ok-unit.unit.dwarf.now x inner c.in_ok-unit.ensures.gives c.scope.ensures.gives c.scope_of-scope.ensures.gives in
     let old = s.entries.functions in
     let mid = c.cache.new.self in
     let cache = c.in_ok-cache.ensures.after in
@@ -210,10 +195,9 @@ pub returns-in_err-inlined : goal.returns-in_err-inlined
 returns-in_err-inlined g c =
     let shares = g.R.Reader.shares in
     let s = c.self.inside in
-    let k : CachedUnit g.row.R.Denot = record { lines = s.lines; entries = s.entries; unit = looked_at_unit s.unit.value } in
     let x = c.in_ok-unit.unit.unit.now in
     let inner = as_scope c.scope_of-scope.result in
-    let v = viewed shares (scope_of c.args.sources.now) c.args.dw_unit.now k c.args.self.now c.self.view_is c.requires.in_order c.requires.unit c.self.invariant c.requires.decided c.deref.result.now c.deref.ensures c.in_ok-unit.unit.dwarf.now x inner c.in_ok-unit.ensures.gives (as_scope c.scope.result) c.scope.ensures.gives c.scope_of-scope.ensures.gives in
+    let v = viewed shares c.args.dw_unit.now c.sources.view_is c.self.view_is c.requires.unit c.self.invariant c.requires.decided c.deref.ensures c.in_ok-unit.unit.dwarf.now x inner c.in_ok-unit.ensures.gives c.scope.ensures.gives c.scope_of-scope.ensures.gives in
     let old = s.entries.functions in
     let mid = c.cache.new.self in
     let cache = c.in_ok-cache.ensures.after in
@@ -232,10 +216,9 @@ pub invariant_of-self-2 : goal.invariant_of-self-2
 invariant_of-self-2 g c =
     let shares = g.R.Reader.shares in
     let s = c.self.inside in
-    let k : CachedUnit g.row.R.Denot = record { lines = s.lines; entries = s.entries; unit = looked_at_unit s.unit.value } in
     let x = c.in_ok-unit.unit.unit.now in
     let inner = as_scope c.scope_of-scope.result in
-    let v = viewed shares (scope_of c.args.sources.now) c.args.dw_unit.now k c.args.self.now c.self.view_is c.requires.in_order c.requires.unit c.self.invariant c.requires.decided c.deref.result.now c.deref.ensures c.in_ok-unit.unit.dwarf.now x inner c.in_ok-unit.ensures.gives (as_scope c.scope.result) c.scope.ensures.gives c.scope_of-scope.ensures.gives in
+    let v = viewed shares c.args.dw_unit.now c.sources.view_is c.self.view_is c.requires.unit c.self.invariant c.requires.decided c.deref.ensures c.in_ok-unit.unit.dwarf.now x inner c.in_ok-unit.ensures.gives c.scope.ensures.gives c.scope_of-scope.ensures.gives in
     let old = s.entries.functions in
     let mid = c.cache.new.self in
     let cache = c.in_ok-cache.ensures.after in
@@ -252,10 +235,9 @@ pub returns : goal.returns
 returns g c =
     let shares = g.R.Reader.shares in
     let s = c.self.inside in
-    let k : CachedUnit g.row.R.Denot = record { lines = s.lines; entries = s.entries; unit = looked_at_unit s.unit.value } in
     let x = c.in_ok-unit.unit.unit.now in
     let inner = as_scope c.scope_of-scope.result in
-    let v = viewed shares (scope_of c.args.sources.now) c.args.dw_unit.now k c.args.self.now c.self.view_is c.requires.in_order c.requires.unit c.self.invariant c.requires.decided c.deref.result.now c.deref.ensures c.in_ok-unit.unit.dwarf.now x inner c.in_ok-unit.ensures.gives (as_scope c.scope.result) c.scope.ensures.gives c.scope_of-scope.ensures.gives in
+    let v = viewed shares c.args.dw_unit.now c.sources.view_is c.self.view_is c.requires.unit c.self.invariant c.requires.decided c.deref.ensures c.in_ok-unit.unit.dwarf.now x inner c.in_ok-unit.ensures.gives c.scope.ensures.gives c.scope_of-scope.ensures.gives in
     let old = s.entries.functions in
     let mid = c.cache.new.self in
     let cache = c.in_ok-cache.ensures.after in
@@ -273,10 +255,9 @@ pub read-requires-clause-unit : goal.read-requires-clause-unit
 read-requires-clause-unit g c =
     let shares = g.R.Reader.shares in
     let s = c.self.inside in
-    let k : CachedUnit g.row.R.Denot = record { lines = s.lines; entries = s.entries; unit = looked_at_unit s.unit.value } in
     let x = c.in_ok-unit.unit.unit.now in
     let inner = as_scope c.scope_of-scope.result in
-    let v = viewed shares (scope_of c.args.sources.now) c.args.dw_unit.now k c.args.self.now c.self.view_is c.requires.in_order c.requires.unit c.self.invariant c.requires.decided c.deref.result.now c.deref.ensures c.in_ok-unit.unit.dwarf.now x inner c.in_ok-unit.ensures.gives (as_scope c.scope.result) c.scope.ensures.gives c.scope_of-scope.ensures.gives in
+    let v = viewed shares c.args.dw_unit.now c.sources.view_is c.self.view_is c.requires.unit c.self.invariant c.requires.decided c.deref.ensures c.in_ok-unit.unit.dwarf.now x inner c.in_ok-unit.ensures.gives c.scope.ensures.gives c.scope_of-scope.ensures.gives in
     let old = s.entries.functions in
     let mid = c.cache.new.self in
     let cache = c.in_ok-cache.ensures.after in

@@ -1,5 +1,4 @@
 use Rattle.addr2line_units.proofs.Common.{None, Ok, ◌∙◌, subst, ExactlyUnlessOom, read_of_view, verdict}
-use Rattle.addr2line_units.specs.SupScope.{scope_of}
 use Rattle.addr2line_units.proofs.EntriesOwnLemmas.{own_entries}
 use Rattle.addr2line_units.proofs.LoadsAnswerLemmas.{keeps_answered}
 use Rattle.addr2line_units.proofs.ParsesAfterLemmas.{unit_after}
@@ -7,13 +6,13 @@ use Rattle.addr2line_units.proofs.entries.UnitCache.read_functions.Goals as goal
 
 pub returns : goal.returns
 returns g c =
-    let scope = scope_of c.args.sources.now in
+    let scope = c.args.sources.now in
     let u = c.args.dw_unit.now in
     let shares = g.R.Reader.shares in
     let old = c.args.self.now in
     let mid = c.answer.new.self in
     let after = c.in_ok-answer.ensures.after in
-    let right = own_entries scope u old c.requires.in_order c.requires.unit c.is_own.ensures.known in
+    let right = own_entries scope u old c.requires.unit c.is_own.ensures.known in
     let a = keeps_answered shares scope u None (Ok tt) old.entries mid.entries right after.entries in
     let r = c.read_in_view in
     let left = r.ensures.after in

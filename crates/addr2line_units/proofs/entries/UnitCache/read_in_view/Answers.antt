@@ -1,6 +1,4 @@
 use Rattle.addr2line_units.proofs.Common.{were_read, cached_fault, LazyFunctions, ◌≡◌, ◌∙◌, refl, ap, sym, subst, Ok, Err, err_from_is_err_and, as_scope, FunctionTable, Result, Error, ExactlyUnlessOom, ExactlyUnlessOomIf, ReadingDepth, all_read_once, functions_fault, read_of_functions, reading_takes_memory, false≢true, on_ok_weaker}
-use Rattle.addr2line_units.specs.EntriesOwn.{CachedUnit, looked_at_unit}
-use Rattle.addr2line_units.specs.SupScope.{scope_of}
 use Rattle.addr2line_units.specs.declared.parses.ReadingDepth.TheVariants as depths
 use Rattle.addr2line_units.specs.declared.entries.LazyFunctions.TheVariants as lazy
 use Rattle.std.specs.Box.{with_value}
@@ -21,18 +19,15 @@ use Rattle.addr2line_units.proofs.entries.UnitCache.read_in_view.Goals as goal
 pub returns-in_err-unit : goal.returns-in_err-unit
 returns-in_err-unit g c =
     let p = err_from_is_err_and c.from_residual.result c.from_residual.ensures.1 in
-    let s = c.self.inside in
-    let k : CachedUnit g.row.R.Denot = record { lines = s.lines; entries = s.entries; unit = looked_at_unit s.unit.value } in
-    let is = faulty g.R.Reader.shares (scope_of c.args.sources.now) c.args.dw_unit.now k c.args.self.now c.self.view_is c.requires.in_order c.requires.unit c.self.invariant c.requires.decided c.deref.result.now c.deref.ensures c.in_err-unit.field-0.0 c.in_err-unit.ensures.gives in
+    let is = faulty g.R.Reader.shares c.args.dw_unit.now c.sources.view_is c.self.view_is c.requires.unit c.self.invariant c.requires.decided c.deref.ensures c.in_err-unit.field-0.0 c.in_err-unit.ensures.gives in
     rw (p.1, p.2) (record { gives = λ ne. is.reads c.args.depth; after = is.read c.args.depth })
 
 pub invariant_of-self : goal.invariant_of-self
 invariant_of-self g c =
     let s = c.self.inside in
-    let k : CachedUnit g.row.R.Denot = record { lines = s.lines; entries = s.entries; unit = looked_at_unit s.unit.value } in
     let x = c.in_ok-unit.unit.unit.now in
     let inner = as_scope c.scope_of-scope.result in
-    let v = viewed g.R.Reader.shares (scope_of c.args.sources.now) c.args.dw_unit.now k c.args.self.now c.self.view_is c.requires.in_order c.requires.unit c.self.invariant c.requires.decided c.deref.result.now c.deref.ensures c.in_ok-unit.unit.dwarf.now x inner c.in_ok-unit.ensures.gives (as_scope c.scope.result) c.scope.ensures.gives c.scope_of-scope.ensures.gives in
+    let v = viewed g.R.Reader.shares c.args.dw_unit.now c.sources.view_is c.self.view_is c.requires.unit c.self.invariant c.requires.decided c.deref.ensures c.in_ok-unit.unit.dwarf.now x inner c.in_ok-unit.ensures.gives c.scope.ensures.gives c.scope_of-scope.ensures.gives in
     let keeps = unread_after g.R.Reader.shares inner x s.entries.functions c.cache.new.self v.functions c.args.depth c.in_err-cache.field-0.0 c.in_err-cache.ensures.after in
     v.own c.cache.new.self keeps.functions
 
@@ -40,10 +35,9 @@ pub returns-in_err-cache : goal.returns-in_err-cache
 returns-in_err-cache g c =
     let p = err_from_is_err_and c.from_residual-in_err-cache.result c.from_residual-in_err-cache.ensures.1 in
     let s = c.self.inside in
-    let k : CachedUnit g.row.R.Denot = record { lines = s.lines; entries = s.entries; unit = looked_at_unit s.unit.value } in
     let x = c.in_ok-unit.unit.unit.now in
     let inner = as_scope c.scope_of-scope.result in
-    let v = viewed g.R.Reader.shares (scope_of c.args.sources.now) c.args.dw_unit.now k c.args.self.now c.self.view_is c.requires.in_order c.requires.unit c.self.invariant c.requires.decided c.deref.result.now c.deref.ensures c.in_ok-unit.unit.dwarf.now x inner c.in_ok-unit.ensures.gives (as_scope c.scope.result) c.scope.ensures.gives c.scope_of-scope.ensures.gives in
+    let v = viewed g.R.Reader.shares c.args.dw_unit.now c.sources.view_is c.self.view_is c.requires.unit c.self.invariant c.requires.decided c.deref.ensures c.in_ok-unit.unit.dwarf.now x inner c.in_ok-unit.ensures.gives c.scope.ensures.gives c.scope_of-scope.ensures.gives in
     let e = c.in_err-cache.field-0.0 in
     rw (p.1, p.2) (record {
       gives = v.gives c.args.depth (Err e) (unread_gives g.R.Reader.shares inner x s.entries.functions c.cache.new.self v.functions c.args.depth e c.in_err-cache.ensures.after);
@@ -53,20 +47,18 @@ returns-in_err-cache g c =
 pub invariant_of-self-in-Faulty : goal.invariant_of-self-in-Faulty
 invariant_of-self-in-Faulty g c =
     let s = c.self.inside in
-    let k : CachedUnit g.row.R.Denot = record { lines = s.lines; entries = s.entries; unit = looked_at_unit s.unit.value } in
     let x = c.in_ok-unit.unit.unit.now in
     let inner = as_scope c.scope_of-scope.result in
-    let v = viewed g.R.Reader.shares (scope_of c.args.sources.now) c.args.dw_unit.now k c.args.self.now c.self.view_is c.requires.in_order c.requires.unit c.self.invariant c.requires.decided c.deref.result.now c.deref.ensures c.in_ok-unit.unit.dwarf.now x inner c.in_ok-unit.ensures.gives (as_scope c.scope.result) c.scope.ensures.gives c.scope_of-scope.ensures.gives in
+    let v = viewed g.R.Reader.shares c.args.dw_unit.now c.sources.view_is c.self.view_is c.requires.unit c.self.invariant c.requires.decided c.deref.ensures c.in_ok-unit.unit.dwarf.now x inner c.in_ok-unit.ensures.gives c.scope.ensures.gives c.scope_of-scope.ensures.gives in
     let keeps = faulty_after g.R.Reader.shares inner x s.entries.functions c.cache.new.self v.functions c.in_ok-cache.ensures.after c.in-Faulty.error c.in-Faulty.is c.args.depth in
     v.own (lazy.Faulty c.in-Faulty.error) keeps.functions
 
 pub returns-in-Faulty : goal.returns-in-Faulty
 returns-in-Faulty g c =
     let s = c.self.inside in
-    let k : CachedUnit g.row.R.Denot = record { lines = s.lines; entries = s.entries; unit = looked_at_unit s.unit.value } in
     let x = c.in_ok-unit.unit.unit.now in
     let inner = as_scope c.scope_of-scope.result in
-    let v = viewed g.R.Reader.shares (scope_of c.args.sources.now) c.args.dw_unit.now k c.args.self.now c.self.view_is c.requires.in_order c.requires.unit c.self.invariant c.requires.decided c.deref.result.now c.deref.ensures c.in_ok-unit.unit.dwarf.now x inner c.in_ok-unit.ensures.gives (as_scope c.scope.result) c.scope.ensures.gives c.scope_of-scope.ensures.gives in
+    let v = viewed g.R.Reader.shares c.args.dw_unit.now c.sources.view_is c.self.view_is c.requires.unit c.self.invariant c.requires.decided c.deref.ensures c.in_ok-unit.unit.dwarf.now x inner c.in_ok-unit.ensures.gives c.scope.ensures.gives c.scope_of-scope.ensures.gives in
     let e = c.in-Faulty.error in
     record {
       gives = v.gives c.args.depth (Err e) (λ ne. faulty_gives g.R.Reader.shares inner x s.entries.functions c.cache.new.self v.functions c.in_ok-cache.ensures.after e c.in-Faulty.is c.args.depth);
@@ -76,19 +68,17 @@ returns-in-Faulty g c =
 pub invariant_of-self-in-Absent : goal.invariant_of-self-in-Absent
 invariant_of-self-in-Absent g c =
     let s = c.self.inside in
-    let k : CachedUnit g.row.R.Denot = record { lines = s.lines; entries = s.entries; unit = looked_at_unit s.unit.value } in
     let x = c.in_ok-unit.unit.unit.now in
     let inner = as_scope c.scope_of-scope.result in
-    let v = viewed g.R.Reader.shares (scope_of c.args.sources.now) c.args.dw_unit.now k c.args.self.now c.self.view_is c.requires.in_order c.requires.unit c.self.invariant c.requires.decided c.deref.result.now c.deref.ensures c.in_ok-unit.unit.dwarf.now x inner c.in_ok-unit.ensures.gives (as_scope c.scope.result) c.scope.ensures.gives c.scope_of-scope.ensures.gives in
+    let v = viewed g.R.Reader.shares c.args.dw_unit.now c.sources.view_is c.self.view_is c.requires.unit c.self.invariant c.requires.decided c.deref.ensures c.in_ok-unit.unit.dwarf.now x inner c.in_ok-unit.ensures.gives c.scope.ensures.gives c.scope_of-scope.ensures.gives in
     v.own c.cache.new.self (now_right g.R.Reader.shares inner x s.entries.functions c.cache.new.self v.functions c.in_ok-cache.ensures.after)
 
 pub returns-in-Absent : goal.returns-in-Absent
 returns-in-Absent g c =
     let s = c.self.inside in
-    let k : CachedUnit g.row.R.Denot = record { lines = s.lines; entries = s.entries; unit = looked_at_unit s.unit.value } in
     let x = c.in_ok-unit.unit.unit.now in
     let inner = as_scope c.scope_of-scope.result in
-    let v = viewed g.R.Reader.shares (scope_of c.args.sources.now) c.args.dw_unit.now k c.args.self.now c.self.view_is c.requires.in_order c.requires.unit c.self.invariant c.requires.decided c.deref.result.now c.deref.ensures c.in_ok-unit.unit.dwarf.now x inner c.in_ok-unit.ensures.gives (as_scope c.scope.result) c.scope.ensures.gives c.scope_of-scope.ensures.gives in
+    let v = viewed g.R.Reader.shares c.args.dw_unit.now c.sources.view_is c.self.view_is c.requires.unit c.self.invariant c.requires.decided c.deref.ensures c.in_ok-unit.unit.dwarf.now x inner c.in_ok-unit.ensures.gives c.scope.ensures.gives c.scope_of-scope.ensures.gives in
     record {
       gives = v.gives c.args.depth (Ok tt) (none_gives g.R.Reader.shares inner x s.entries.functions c.cache.new.self v.functions c.in_ok-cache.ensures.after c.in-Absent.is c.args.depth);
       after = v.after c.args.depth (Ok tt) c.cache.new.self (subst (λ (f : LazyFunctions g.row.R.Denot). KeepsReadFunctions g.R.Reader.shares c.args.depth inner x (Ok tt) s.entries.functions f) (sym c.in-Absent.is) (none_after g.R.Reader.shares inner x s.entries.functions c.cache.new.self v.functions c.in_ok-cache.ensures.after c.in-Absent.is c.args.depth));
@@ -103,19 +93,17 @@ returns-in-Unread g c = absurd (false≢true (sym (ap were_read c.in-Unread.is) 
 pub invariant_of-self-then-matches : goal.invariant_of-self-then-matches
 invariant_of-self-then-matches g c =
     let s = c.self.inside in
-    let k : CachedUnit g.row.R.Denot = record { lines = s.lines; entries = s.entries; unit = looked_at_unit s.unit.value } in
     let x = c.in_ok-unit.unit.unit.now in
     let inner = as_scope c.scope_of-scope.result in
-    let v = viewed g.R.Reader.shares (scope_of c.args.sources.now) c.args.dw_unit.now k c.args.self.now c.self.view_is c.requires.in_order c.requires.unit c.self.invariant c.requires.decided c.deref.result.now c.deref.ensures c.in_ok-unit.unit.dwarf.now x inner c.in_ok-unit.ensures.gives (as_scope c.scope.result) c.scope.ensures.gives c.scope_of-scope.ensures.gives in
+    let v = viewed g.R.Reader.shares c.args.dw_unit.now c.sources.view_is c.self.view_is c.requires.unit c.self.invariant c.requires.decided c.deref.ensures c.in_ok-unit.unit.dwarf.now x inner c.in_ok-unit.ensures.gives c.scope.ensures.gives c.scope_of-scope.ensures.gives in
     v.own c.cache.new.self (now_right g.R.Reader.shares inner x s.entries.functions c.cache.new.self v.functions c.in_ok-cache.ensures.after)
 
 pub returns-then-matches : goal.returns-then-matches
 returns-then-matches g c =
     let s = c.self.inside in
-    let k : CachedUnit g.row.R.Denot = record { lines = s.lines; entries = s.entries; unit = looked_at_unit s.unit.value } in
     let x = c.in_ok-unit.unit.unit.now in
     let inner = as_scope c.scope_of-scope.result in
-    let v = viewed g.R.Reader.shares (scope_of c.args.sources.now) c.args.dw_unit.now k c.args.self.now c.self.view_is c.requires.in_order c.requires.unit c.self.invariant c.requires.decided c.deref.result.now c.deref.ensures c.in_ok-unit.unit.dwarf.now x inner c.in_ok-unit.ensures.gives (as_scope c.scope.result) c.scope.ensures.gives c.scope_of-scope.ensures.gives in
+    let v = viewed g.R.Reader.shares c.args.dw_unit.now c.sources.view_is c.self.view_is c.requires.unit c.self.invariant c.requires.decided c.deref.ensures c.in_ok-unit.unit.dwarf.now x inner c.in_ok-unit.ensures.gives c.scope.ensures.gives c.scope_of-scope.ensures.gives in
     let depth : c.args.depth ≡ depths.Functions = elim c.match-matches.branch [ in-Functions w ↦ w.in-Functions.is | in_default w ↦ absurd (false≢true (sym w.matches-is ∙ c.if-matches.true)) ] in
     let keeps = mid_after g.R.Reader.shares inner x s.entries.functions c.cache.new.self v.functions c.in_ok-cache.ensures.after in
     rw c.fault.ensures.gives (record {
@@ -126,19 +114,17 @@ returns-then-matches g c =
 pub read_all-requires-clause-unit : goal.read_all-requires-clause-unit
 read_all-requires-clause-unit g c =
     let s = c.self.inside in
-    let k : CachedUnit g.row.R.Denot = record { lines = s.lines; entries = s.entries; unit = looked_at_unit s.unit.value } in
     let x = c.in_ok-unit.unit.unit.now in
     let inner = as_scope c.scope_of-scope.result in
-    let v = viewed g.R.Reader.shares (scope_of c.args.sources.now) c.args.dw_unit.now k c.args.self.now c.self.view_is c.requires.in_order c.requires.unit c.self.invariant c.requires.decided c.deref.result.now c.deref.ensures c.in_ok-unit.unit.dwarf.now x inner c.in_ok-unit.ensures.gives (as_scope c.scope.result) c.scope.ensures.gives c.scope_of-scope.ensures.gives in
+    let v = viewed g.R.Reader.shares c.args.dw_unit.now c.sources.view_is c.self.view_is c.requires.unit c.self.invariant c.requires.decided c.deref.ensures c.in_ok-unit.unit.dwarf.now x inner c.in_ok-unit.ensures.gives c.scope.ensures.gives c.scope_of-scope.ensures.gives in
     subst (λ (t : FunctionTable). AreNamesIn inner x t.names) (sym c.deref_mut.ensures.value) (table_now g.R.Reader.shares inner x s.entries.functions c.cache.new.self v.functions c.in_ok-cache.ensures.after c.in-Read.functions c.in-Read.is).names
 
 pub invariant_of-self-2 : goal.invariant_of-self-2
 invariant_of-self-2 g c =
     let s = c.self.inside in
-    let k : CachedUnit g.row.R.Denot = record { lines = s.lines; entries = s.entries; unit = looked_at_unit s.unit.value } in
     let x = c.in_ok-unit.unit.unit.now in
     let inner = as_scope c.scope_of-scope.result in
-    let v = viewed g.R.Reader.shares (scope_of c.args.sources.now) c.args.dw_unit.now k c.args.self.now c.self.view_is c.requires.in_order c.requires.unit c.self.invariant c.requires.decided c.deref.result.now c.deref.ensures c.in_ok-unit.unit.dwarf.now x inner c.in_ok-unit.ensures.gives (as_scope c.scope.result) c.scope.ensures.gives c.scope_of-scope.ensures.gives in
+    let v = viewed g.R.Reader.shares c.args.dw_unit.now c.sources.view_is c.self.view_is c.requires.unit c.self.invariant c.requires.decided c.deref.ensures c.in_ok-unit.unit.dwarf.now x inner c.in_ok-unit.ensures.gives c.scope.ensures.gives c.scope_of-scope.ensures.gives in
     let shares = g.R.Reader.shares in
     let before = s.entries.functions in
     let mid = c.cache.new.self in
@@ -155,10 +141,9 @@ invariant_of-self-2 g c =
 pub returns : goal.returns
 returns g c =
     let s = c.self.inside in
-    let k : CachedUnit g.row.R.Denot = record { lines = s.lines; entries = s.entries; unit = looked_at_unit s.unit.value } in
     let x = c.in_ok-unit.unit.unit.now in
     let inner = as_scope c.scope_of-scope.result in
-    let v = viewed g.R.Reader.shares (scope_of c.args.sources.now) c.args.dw_unit.now k c.args.self.now c.self.view_is c.requires.in_order c.requires.unit c.self.invariant c.requires.decided c.deref.result.now c.deref.ensures c.in_ok-unit.unit.dwarf.now x inner c.in_ok-unit.ensures.gives (as_scope c.scope.result) c.scope.ensures.gives c.scope_of-scope.ensures.gives in
+    let v = viewed g.R.Reader.shares c.args.dw_unit.now c.sources.view_is c.self.view_is c.requires.unit c.self.invariant c.requires.decided c.deref.ensures c.in_ok-unit.unit.dwarf.now x inner c.in_ok-unit.ensures.gives c.scope.ensures.gives c.scope_of-scope.ensures.gives in
     let shares = g.R.Reader.shares in
     let before = s.entries.functions in
     let mid = c.cache.new.self in

@@ -26,7 +26,7 @@ pub find_frames-found-requires : goal.find_frames-found-requires
 find_frames-found-requires g c =
     let gives = c.scope-scope.ensures.gives in
     let there = unit_got gives c.as_slice.ensures.gives c.args.number c.in-Some.ensures.lookup.0 c.in-Some.ensures.lookup.1 in
-    record { in_order = c.self.invariant.in_order; unit = its_unit c.self.invariant c.args.number there c.index_mut-cache.ensures.value }
+    record { unit = its_unit c.self.invariant c.args.number there c.index_mut-cache.ensures.value }
 
 pub invariant_of-self-in_err-found : goal.invariant_of-self-in_err-found
 invariant_of-self-in_err-found g c =

@@ -1,4 +1,4 @@
-use Rattle.addr2line_units.proofs.Common.{sym, ◌∙◌, ranges_left, scope_of}
+use Rattle.addr2line_units.proofs.Common.{sym, ◌∙◌, ranges_left}
 use Rattle.addr2line_units.proofs.UnitsCachedLemmas.{lines_right}
 use Rattle.addr2line_units.proofs.UnitsStateLemmas.{spans_cached}
 use Rattle.addr2line_units.proofs.units.Units.find_location_range.Goals as goal
@@ -8,5 +8,5 @@ returns g c =
     let s = c.self.inside in
     let parsed = rw (sym c.self.view_is) at c.requires.parsed in
     rw (sym c.self.view_is) (record {
-      gives = c.new.ensures.gives ∙ sym (spans_cached s.sources.dwarf.value c.args.low c.args.high s.sources.units.items s.caches.items (ranges_left c.args.ranges) (lines_right (scope_of s.sources) s.sources.units.items s.caches.items c.self.invariant.caches) parsed);
+      gives = c.new.ensures.gives ∙ sym (spans_cached s.sources.file.sections c.args.low c.args.high s.sources.file.units s.caches.items (ranges_left c.args.ranges) (lines_right s.sources s.sources.file.units s.caches.items c.self.invariant.caches) parsed);
     })

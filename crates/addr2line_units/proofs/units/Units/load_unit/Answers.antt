@@ -9,7 +9,7 @@ returns-in_default g c =
     let s = c.self.inside in
     let given = option_map (λ x. x.value) c.args.sections in
     let none = none_got c.scope-scope.ensures.gives c.as_slice.ensures.gives c.args.token.number c.in_default.ensures.lookup.0 in
-    let unknown = unknown_load s.sources.dwarf.value s.sources.units.items (answers_in s.caches.items) c.args.token.number given none in
+    let unknown = unknown_load s.sources.file.sections s.sources.file.units (answers_in s.caches.items) c.args.token.number given none in
     rw (sym c.self.view_is) (record {
       gives = λ ne. unknown;
       after = none_loaded c.self.invariant c.args.token.number none given s.steps (as_stop s.caches.items s.stop);
@@ -23,7 +23,7 @@ index_mut-cache-requires g c =
 pub answer-answered-requires : goal.answer-answered-requires
 answer-answered-requires g c =
     let there = unit_got c.scope-scope.ensures.gives c.as_slice.ensures.gives c.args.token.number c.in-Some.ensures.lookup.0 c.in-Some.ensures.lookup.1 in
-    record { in_order = c.self.invariant.in_order; unit = its_unit c.self.invariant c.args.token.number there c.index_mut-cache.ensures.value }
+    record { unit = its_unit c.self.invariant c.args.token.number there c.index_mut-cache.ensures.value }
 
 pub invariant_of-self-2 : goal.invariant_of-self-2
 invariant_of-self-2 g c =

@@ -1,4 +1,4 @@
-use Rattle.addr2line_units.proofs.Common.{None, ap, arith, refl, subst, sym, ◌≡◌, OnOk, as_stop, answers_in, load_of_number, scope_of, as_units_state, UnitsState}
+use Rattle.addr2line_units.proofs.Common.{None, ap, arith, refl, subst, sym, ◌≡◌, OnOk, as_stop, answers_in, load_of_number, as_units_state, UnitsState}
 use Rattle.std.specs.Prelude.{IfOk}
 use Rattle.addr2line_units.specs.LoadsListed.{MarksLoad, if_new}
 use Rattle.addr2line_units.proofs.LoadsListingLemmas.{listing_first, load_in}
@@ -11,7 +11,7 @@ pub returns-in_default : goal.returns-in_default
 returns-in_default g c =
     let s = c.self.inside in
     let n = c.args.number in
-    let S = scope_of s.sources in
+    let S = s.sources in
     let cs = s.caches.items in
     let marks = c.args.marks.now.items in
     let none = none_got c.scope-scope.ensures.gives c.as_slice.ensures.gives c.args.number c.in_default.ensures.lookup.0 in
@@ -34,7 +34,7 @@ index_mut-cache-requires g c =
 pub new_load-load-requires : goal.new_load-load-requires
 new_load-load-requires g c =
     let there = unit_got c.scope-scope.ensures.gives c.as_slice.ensures.gives c.args.number c.in-Some.ensures.lookup.0 c.in-Some.ensures.lookup.1 in
-    record { in_order = c.self.invariant.in_order; unit = its_unit c.self.invariant c.args.number there c.index_mut-cache.ensures.value; within = unit_within c.self.invariant c.args.number there }
+    record { unit = its_unit c.self.invariant c.args.number there c.index_mut-cache.ensures.value; within = unit_within c.self.invariant c.args.number there }
 
 pub invariant_of-self-2 : goal.invariant_of-self-2
 invariant_of-self-2 g c =

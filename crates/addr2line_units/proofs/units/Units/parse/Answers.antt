@@ -2,7 +2,7 @@ use Rattle.addr2line_units.proofs.Common.{◌≡◌, ◌≢◌, true, Err, Ok, a
 use Rattle.addr2line_units.specs.UnitsIndex.{sup_read}
 use Rattle.addr2line_units.specs.UnitsIndexed.{IndexState, index_read}
 use Rattle.addr2line_units.proofs.UnitsOfHeadersLemmas.{then_takes}
-use Rattle.addr2line_units.proofs.UnitsNewLemmas.{are_units, index_is, index_sections, sup_fault, units_fault, units_made}
+use Rattle.addr2line_units.proofs.UnitsNewLemmas.{are_units, index_is, index_sections, scope_in_order, sup_fault, units_fault, units_made}
 use Rattle.addr2line_units.proofs.units.Units.parse.Goals as goal
 
 pub returns-in_err-indexed : goal.returns-in_err-indexed
@@ -20,6 +20,16 @@ returns-in_err-sup g c =
     let of = ap (λ (m : IndexState). m.sections) c.indexed.view_is ∙ index_sections d _ units in
     let sup = subst (λ (x : Sections). ((sup_read x.sup).takes_memory g.R.Reader.shares ≡ true → e ≢ OutOfMemory) → (sup_read x.sup).given ≡ Err e) (c.deref.ensures ∙ of) c.in_err-sup.ensures.gives in
     record { gives = rw (p.1, p.2) (λ may. sup_fault d _ _ (sym (index_is d) ∙ units) (sup (λ takes. may (then_takes _ _ _ _ units takes)))) }
+
+pub invariant_of-sources : goal.invariant_of-sources
+invariant_of-sources g c =
+    let s = c.indexed.inside in
+    let d = s.dwarf.value in
+    let of = ap (λ (m : IndexState). m.sections) c.indexed.view_is ∙ index_sections c.args.dwarf.value _ c.in_ok-indexed.ensures.gives in
+    let units = subst (λ x. (index_read x).given ≡ Ok c.in_ok-indexed.indexed) (sym of) c.in_ok-indexed.ensures.gives in
+    let sup = rw c.deref.ensures at c.in_ok-sup.ensures.gives in
+    let sup_is = rw c.deref.ensures at c.in_ok-sup.ensures.dwarf in
+    scope_in_order d s.dw_units.items s.caches.items s.ranges c.in_ok-sup.sup (sym (index_is d) ∙ units ∙ ap (λ m. Ok m) (sym c.indexed.view_is)) sup sup_is c.indexed.invariant
 
 pub invariant_of-units : goal.invariant_of-units
 invariant_of-units g c =

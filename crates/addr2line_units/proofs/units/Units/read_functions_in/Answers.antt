@@ -21,7 +21,7 @@ index_mut-cache-requires g c =
 pub read_functions-read-requires : goal.read_functions-read-requires
 read_functions-read-requires g c =
     let there = unit_got c.scope-scope.ensures.gives c.as_slice.ensures.gives c.args.number c.in-Some.ensures.lookup.0 c.in-Some.ensures.lookup.1 in
-    record { in_order = c.self.invariant.in_order; unit = its_unit c.self.invariant c.args.number there c.index_mut-cache.ensures.value }
+    record { unit = its_unit c.self.invariant c.args.number there c.index_mut-cache.ensures.value }
 
 pub invariant_of-self-2 : goal.invariant_of-self-2
 invariant_of-self-2 g c =

@@ -48,7 +48,7 @@ returns g c =
     let e = c.read_lines.ensures in
     let is = sections_seen c.scope-scope.ensures.gives in
     let own = its_lines i c.args.number there at in
-    let told = subst (λ given. ExactlyUnlessOom (λ _. cached_lines l.lines) r given) (results_are s.sources.dwarf.value u v.lines.lines own) (subst (λ d. ExactlyUnlessOom (λ _. cached_lines l.lines) r (lines_result_or d u v.lines.lines)) is e.gives) in
+    let told = subst (λ given. ExactlyUnlessOom (λ _. cached_lines l.lines) r given) (results_are s.sources.file.sections u v.lines.lines own) (subst (λ d. ExactlyUnlessOom (λ _. cached_lines l.lines) r (lines_result_or d u v.lines.lines)) is e.gives) in
     let a = lines_follow (subst (λ d. AfterLinesOf g.R.Reader.shares d u r v.lines l) is e.after) in
     record {
       gives = subst (λ (y : UnitsState). ExactlyUnlessOom (λ x. x) r (lines_result_at y.scope.file.sections (slice_get y.units c.args.number))) c.self.view_is (read_there i c.args.number s.steps was there at l a.stay (cached_lines l.lines) r told);

@@ -1,5 +1,5 @@
 -- The frames in a unit by its functions and its lines (on specs/EntriesFrames.antt).
-use Rattle.addr2line_units.proofs.Common.{inl, ◌≡◌, ◌≢◌, ◌∙◌, ℕ, ap, sym, refl, subst, not, ◌&&◌, is_ok, is_none, box_value, Bool, true, false, Option, Some, None, option_map, Result, Ok, Err, if◌then◌else◌, Error, OutOfMemory, ◌>>=◌, Sections, UnitRecord, cached_detail, exceeds_inline_room, Location, location_at, location_of_row, Scope, LazyFunctions, LazyLines, LinesCache, EntriesCache, UnitView, ViewState, functions_in_take_memory, lines_take_memory, AreLinesOf, cached_files, is_uncached, no_lines, FoundFunction, found_frames, AreRead, AsksNoMemoryIn, ReadsEntriesOf, StayEntries, has_entries, has_entries_by, StayFunctions, cached_functions, IsViewOf, answer_in, answer_of_view, waits, was_checked, LocationResult, asks_lines_in, frames_by, frames_in, function_in, inlined_of_unit, is_open, ExactlyUnlessOom, ExactlyUnlessOomIf, IfErr, CachedUnit, AreEntriesOf, first_answer_of, is_decided, find_takes_memory, function_at, false≢true, indexed_unit, frames_of_place, verdict, DwLang, FramesResult, StayLines, frames_by_lines}
+use Rattle.addr2line_units.proofs.Common.{inl, ◌≡◌, ◌≢◌, ◌∙◌, ℕ, ap, sym, refl, subst, not, ◌&&◌, is_ok, is_none, box_value, Bool, true, false, Option, Some, None, option_map, Result, Ok, Err, if◌then◌else◌, Error, OutOfMemory, ◌>>=◌, Sections, UnitRecord, cached_detail, exceeds_inline_room, Location, location_at, location_of_row, Scope, LazyFunctions, LazyLines, LinesCache, EntriesCache, UnitView, ViewState, functions_in_take_memory, lines_take_memory, AreLinesOf, cached_files, is_uncached, no_lines, FoundFunction, found_frames, AreRead, AsksNoMemoryIn, ReadsEntriesOf, StayEntries, has_entries, has_entries_by, StayFunctions, cached_functions, IsViewOf, answer_in, answer_of_view, waits, was_checked, LocationResult, asks_lines_in, frames_by, frames_in, function_in, inlined_of_unit, is_open, ExactlyUnlessOom, ExactlyUnlessOomIf, IfErr, CachedUnit, AreEntriesOf, first_answer_of, is_decided, find_takes_memory, function_at, false≢true, indexed_unit, frames_of_place, verdict, DwLang, FramesResult, frames_by_lines}
 use Rattle.addr2line_lines.specs.declared.row.Row.{Row}
 use Rattle.addr2line_lines.specs.Location.{LineTable as Lines}
 use Rattle.addr2line_units.specs.declared.unit.LazyLines.TheVariants as lines

@@ -1,5 +1,5 @@
 -- Where memory is taken for the functions of a view (on specs/EntriesFunctions.antt).
-use Rattle.addr2line_units.proofs.Common.{◌≡◌, ◌∙◌, arith, nat_tests, ℕ, ◌==◌, nat_lt, Bool, true, false, cond, List, [], ◌∷◌, map, length, slice_get, option_map, Option, Some, None, Ok, option_and_then, refl, ap, UnitRecord, all_read_once, FunctionRange, entries_of, once_before, function_offset_at, functions_take_memory, AreListed, CachedFunction, FunctionTable, cached_offset_at, Scope, IsTableOf, place_takes_memory, table_takes_memory}
+use Rattle.addr2line_units.proofs.Common.{◌≡◌, ◌∙◌, arith, nat_tests, ℕ, ◌==◌, nat_lt, Bool, true, false, cond, List, [], ◌∷◌, map, length, slice_get, option_map, Some, None, option_and_then, refl, ap, UnitRecord, all_read_once, FunctionRange, entries_of, once_before, function_offset_at, functions_take_memory, AreListed, CachedFunction, FunctionTable, cached_offset_at, Scope, IsTableOf, place_takes_memory, table_takes_memory}
 use Rattle.std.specs.Prelude.{position}
 use Rattle.addr2line_lines.proofs.FunctionMemory.{functions_take}
 

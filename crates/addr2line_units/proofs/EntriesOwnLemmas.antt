@@ -1,5 +1,5 @@
 -- Whose entries are cached (on specs/EntriesOwn.antt and specs/UnitsCached.antt).
-use Rattle.addr2line_units.proofs.Common.{◌≡◌, ◌∙◌, ap, sym, refl, subst, true, false, Option, Some, None, is_some, IfSome, IfOk, Result, Ok, Err, Error, Sections, UnitRecord, Scope, EntriesCache, ViewState, AreEntriesOf, AreFresh, first_answer_of, AreFunctionsOf, AreLinesOf, IsCacheOf, answer_in, is_decided, verdict_in, was_checked, View, verdict, view_scope}
+use Rattle.addr2line_units.proofs.Common.{◌≡◌, ◌∙◌, ap, sym, refl, subst, true, false, Option, Some, None, is_some, IfSome, IfOk, Result, Ok, Err, Error, Sections, UnitRecord, Scope, EntriesCache, ViewState, AreEntriesOf, AreFresh, first_answer_of, AreFunctionsOf, AreLinesOf, IsCacheOf, is_decided, verdict_in, was_checked, View, verdict, view_scope}
 use Rattle.addr2line_units.specs.declared.unit.ViewState.TheVariants as states
 use Rattle.addr2line_units.specs.UnitAfter.{WasLookedAt}
 use Rattle.addr2line_lines.specs.References.{UnitInScope}

@@ -1,5 +1,5 @@
 -- Nothing that units, their views, lines and functions give is OutOfMemory (on the specs of this crate).
-use Rattle.addr2line_units.proofs.Common.{ℕ, Bool, true, false, if◌then◌else◌, List, [], ◌∷◌, map, is_some, slice_get, Option, Some, None, IfSome, IfOk, Result, Ok, Err, Error, UnknownToken, Range, Costed, free, ◌>>=◌, WasNotRefused, Section, IsByBytes, AreByBytes, step, either, value, fault, moved_fault, fault_of_is, are_joined, not_refused, none_refused, UnitHeaderFields, Sections, SupSections, UnitRecord, unit_record_of, all_headers, entries_of, function_offset_at, LineTable, Location, Scope, UnitArange, OnFault, Stop, Skip, UnitRange, ReadingDepth, aranges_at, aranges_in, by_abbreviations, units_of, IndexedUnit, is_type_unit, is_partial, or_attribute_ranges, listed_unit_ranges, listed_in_unit, unless_faulty, unit_of_header, ranged_units, UnitsState, new_units, asked_by, stop_of, FirstAnswers, View, SplitLoad, split_name_of, first_of, first_unit, answered_view, load_by, load_of_unit, verdict_by, verdict, is_open, decided_answer, view_scope, FoundFunction, FrameRecord, function_from, function_at, FramesResult, function_by, function_in, frames_by, frames_in, LookupStop, FindsNothing, answer_of, frames_of_number, after_fault, asked_frames, or_stop, stop_along, stop_at, details_at, functions_fault, read_of_functions, read_of_view, read_of_unit, read_of_units, unit_of_token, view_fault, load_result, forget_result, LocationResult, lines_of_unit, location_in, or_first_location, first_location, location_of, all_read, spans_or_fault, spans_in, spans_along, spans_of, all_lines, Asks, asked_of_unit, located_frames, frames_by_lines, unit_lines, sup_sections}
+use Rattle.addr2line_units.proofs.Common.{ℕ, Bool, true, false, if◌then◌else◌, List, [], ◌∷◌, map, is_some, slice_get, Option, Some, None, IfSome, IfOk, Result, Ok, Err, Error, UnknownToken, Range, Costed, free, ◌>>=◌, WasNotRefused, Section, IsByBytes, AreByBytes, step, either, value, fault, moved_fault, fault_of_is, are_joined, not_refused, none_refused, UnitHeaderFields, Sections, SupSections, UnitRecord, unit_record_of, all_headers, entries_of, function_offset_at, LineTable, Location, Scope, UnitArange, OnFault, Stop, Skip, UnitRange, ReadingDepth, aranges_at, aranges_in, by_abbreviations, units_of, IndexedUnit, is_type_unit, is_partial, or_attribute_ranges, listed_unit_ranges, listed_in_unit, unless_faulty, unit_of_header, ranged_units, UnitsState, new_units, asked_by, stop_of, FirstAnswers, View, SplitLoad, split_name_of, first_of, first_unit, answered_view, load_by, load_of_unit, verdict_by, verdict, is_open, decided_answer, view_scope, FoundFunction, FrameRecord, function_from, function_at, FramesResult, function_by, function_in, frames_by, frames_in, LookupStop, FindsNothing, answer_of, frames_of_number, after_fault, asked_frames, or_stop, stop_along, stop_at, functions_fault, read_of_functions, read_of_view, read_of_unit, read_of_units, unit_of_token, view_fault, load_result, forget_result, LocationResult, lines_of_unit, location_in, or_first_location, first_location, location_of, all_read, spans_or_fault, spans_in, spans_along, spans_of, all_lines, Asks, asked_of_unit, located_frames, frames_by_lines, unit_lines, sup_sections}
 use Rattle.gimli_read.specs.FaultLaws.{NoneWasRefused}
 use Rattle.gimli_read.specs.Form.{NamedValue}
 use Rattle.gimli.specs.declared.unit.DwoId.{DwoId}

@@ -1,10 +1,8 @@
 -- The cached lines of a unit (on specs/UnitLinesCached.antt and specs/UnitAfter.antt).
-use Rattle.addr2line_units.proofs.Common.{◌≡◌, ◌≢◌, ◌⊎◌, ◌∙◌, ◌≤◌, ◌||◌, not, if◌then◌else◌, inl, inr, ℕ, ap, arith, box_value, Bool, true, false, refl, IfErr, List, Option, None, is_some, Result, Ok, Err, Some, subst, sym, false≢true, DwLang, Error, OutOfMemory, Range, Exactly, ExactlyUnlessOom, ExactlyUnlessOomIf, WasNotRefused, not_refused, ◌>>=◌, Sections, UnitRecord, LineTable, lines_in, location_at, unit_lines, LazyLines, LinesCache, AreLinesOf, StayLines, cached_lines, cached_lines_result, cached_ranges, is_uncached, lines_result, lines_take_memory, IndexedUnit, RangedUnit, has_lines, location_in, steps_in}
-use Rattle.gimli_line.specs.Header.{Program}
-use Rattle.addr2line_units.specs.UnitAfter.{AfterLinesOf, CachesLines, CountsSteps, LacksLines}
-use Rattle.addr2line_units.specs.UnitLinesCached.{FirstLines, as_first_lines, cached_steps, first_lines, lines_or, lines_result_or, location_or, no_lines, unparsed_lines}
+use Rattle.addr2line_units.proofs.Common.{◌≡◌, ◌≢◌, ◌⊎◌, ◌∙◌, ◌≤◌, not, if◌then◌else◌, inl, inr, ℕ, ap, arith, box_value, Bool, true, false, refl, IfErr, List, Option, None, Result, Ok, Err, Some, subst, sym, false≢true, DwLang, Error, OutOfMemory, Range, Exactly, ExactlyUnlessOom, ExactlyUnlessOomIf, WasNotRefused, not_refused, ◌>>=◌, Sections, UnitRecord, LineTable, location_at, unit_lines, LazyLines, LinesCache, AreLinesOf, StayLines, cached_lines, cached_lines_result, is_uncached, lines_result, lines_take_memory, IndexedUnit, RangedUnit, has_lines, location_in, steps_in}
+use Rattle.addr2line_units.specs.UnitAfter.{AfterLinesOf, CachesLines, CountsSteps}
+use Rattle.addr2line_units.specs.UnitLinesCached.{cached_steps, first_lines, lines_or, lines_result_or, location_or, no_lines}
 use Rattle.addr2line_units.specs.UnitsIndexed.{as_ranged_unit}
-use Rattle.addr2line_units.specs.UnitsRanged.{asks_lines, line_ranges}
 use Rattle.addr2line_units.specs.declared.unit.LazyLines.TheVariants.{Unread, Absent, Read, Faulty}
 use Rattle.gimli_read.proofs.FaultLemmas.{memory_or_not}
 use Rattle.addr2line_lines.proofs.FaultLemmas.{unit_lines_are}

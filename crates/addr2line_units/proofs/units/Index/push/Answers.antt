@@ -1,4 +1,4 @@
-use Rattle.addr2line_units.proofs.Common.{◌≡◌, ◌++◌, ◌∷◌, [], Ok, err_from_is_err_and, ◌∙◌, ap, length, map, rules, subst, sym, LinesCache, cached_lines_result, range_of_unit}
+use Rattle.addr2line_units.proofs.Common.{◌≡◌, ◌++◌, ◌∷◌, [], Ok, err_from_is_err_and, ◌∙◌, ap, length, map, rules, sym, LinesCache, cached_lines_result, range_of_unit}
 use Rattle.addr2line_units.specs.UnitLinesCached.{FirstLines, first_lines}
 use Rattle.addr2line_units.specs.UnitsIndexed.{IndexState, appended, as_ranged_unit}
 use Rattle.addr2line_units.proofs.UnitLinesLemmas.{first_are}

@@ -1,4 +1,4 @@
-use Rattle.addr2line_units.proofs.Common.{◌≡◌, ◌≢◌, true, Err, Ok, ap, subst, sym, ◌∙◌, err_from_is_err_and, OutOfMemory, Sections, HaveNewCaches, or_left, new_units}
+use Rattle.addr2line_units.proofs.Common.{◌≡◌, ◌≢◌, true, Err, Ok, ap, subst, sym, ◌∙◌, err_from_is_err_and, OutOfMemory, Sections, or_left, new_units}
 use Rattle.addr2line_units.specs.UnitsIndex.{sup_read}
 use Rattle.addr2line_units.specs.UnitsIndexed.{IndexState, index_read}
 use Rattle.addr2line_units.proofs.UnitsOfHeadersLemmas.{then_takes}

@@ -1,7 +1,7 @@
 -- The cached lines of a unit (on specs/UnitLinesCached.antt and specs/UnitAfter.antt).
 use Rattle.addr2line_units.proofs.Common.{◌≡◌, ◌≢◌, ◌⊎◌, ◌∙◌, ◌≤◌, not, if◌then◌else◌, inl, inr, ℕ, ap, arith, box_value, Bool, true, false, refl, IfErr, List, Option, None, Result, Ok, Err, Some, subst, sym, false≢true, DwLang, Error, OutOfMemory, Range, Exactly, ExactlyUnlessOom, ExactlyUnlessOomIf, WasNotRefused, not_refused, ◌>>=◌, Sections, UnitRecord, LineTable, location_at, unit_lines, LazyLines, LinesCache, AreLinesOf, StayLines, cached_lines, cached_lines_result, is_uncached, lines_result, lines_take_memory, IndexedUnit, RangedUnit, has_lines, location_in, steps_in}
 use Rattle.addr2line_units.specs.UnitAfter.{AfterLinesOf, CachesLines, CountsSteps}
-use Rattle.addr2line_units.specs.UnitLinesCached.{cached_steps, first_lines, lines_or, lines_result_or, location_or, no_lines}
+use Rattle.addr2line_units.specs.UnitLinesCached.{cached_steps, unit_at_first, lines_or, lines_result_or, location_or, no_lines}
 use Rattle.addr2line_units.specs.UnitsIndexed.{as_ranged_unit}
 use Rattle.addr2line_units.specs.declared.unit.LazyLines.TheVariants.{Unread, Absent, Read, Faulty}
 use Rattle.gimli_read.proofs.FaultLemmas.{memory_or_not}
@@ -110,7 +110,7 @@ module _ (d : Sections) (u : UnitRecord) where
     first_by false (Read lines) e = absurd cc
     first_by false (Faulty f) e = absurd cc
 
-    pub first_are : (l : LazyLines) → cached_lines_result l ≡ (first_lines d unit).lines → AreLinesOf d u l × (not (is_uncached l) ≡ has_lines unit)
+    pub first_are : (l : LazyLines) → cached_lines_result l ≡ (unit_at_first d unit).lines → AreLinesOf d u l × (not (is_uncached l) ≡ has_lines unit)
     first_are l e = first_by (has_lines unit) l e
 
 -- lines are cached then, unless memory was refused, and then they are as before

@@ -21,7 +21,8 @@ use Rattle.addr2line_units.specs.LoadsMemory.{answer_takes_memory}
 use Rattle.addr2line_units.specs.declared.unit.UnitView.{UnitView}
 use Rattle.addr2line_units.specs.UnitViewCached.{answer_of_view, was_checked, verdict_in, waits}
 
--- the lines of a unit are cached: those that were, or else those that its bytes give
+-- the language of a unit stays, and its lines are cached, or their fault: those that were, or else
+-- those that its bytes give
 pub record CachesLines (d : Sections) (u : UnitRecord) (old new : LinesCache) : Type 0 where
   pub stay : StayLines old new
   pub lines : cached_lines_result new.lines ≡ lines_result_or d u old.lines
@@ -34,8 +35,8 @@ pub record LacksLines {X : Type 0} (shares : Bool) (u : UnitRecord) (result : Re
   pub takes : lines_take_memory shares u ≡ true
   pub refused : result ≡ Err OutOfMemory
 
--- after the lines of a unit were asked for: they are cached, and a refusal is their fault; or
--- memory was refused
+-- after the lines of a unit were asked for: they are cached, or their fault, which alone is a
+-- refusal then; or memory was refused
 abbrev pub AfterLinesOf : {X : Type 0} → Bool → Sections → UnitRecord → Result X Error → LinesCache
     → LinesCache → Type 0
 AfterLinesOf shares d u result old new =

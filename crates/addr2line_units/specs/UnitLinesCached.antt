@@ -56,24 +56,25 @@ unparsed_lines (Some p) = Unread
 abbrev pub lines_result : Sections → UnitRecord → Result (Option Lines) Error
 lines_result d u = unit_lines d u >>= λ lines. Ok (Some lines)
 
--- of a unit that a context is made of: its language, its lines as they are cached then, or their
--- fault, and the ranges that lead to it
-pub record FirstLines : Type 0 where
+-- what a context has of a unit from the start: its language, its lines or their fault, none before
+-- they are parsed, and the ranges that lead to it
+pub record UnitAtFirst : Type 0 where
   pub language : Option DwLang
   pub lines : Result (Option Lines) Error
   pub ranges : List Range
 
--- the same by its record: lines are parsed where they give the ranges
-abbrev pub first_lines : Sections → RangedUnit → FirstLines
-first_lines d u = record {
+-- the same of a unit with its listed ranges: its lines are parsed where they give the ranges, and
+-- there are none without a line program
+abbrev pub unit_at_first : Sections → RangedUnit → UnitAtFirst
+unit_at_first d u = record {
   language = u.indexed.language;
   lines = if has_lines u then lines_result d u.indexed.unit else Ok None;
   ranges = unit_ranges d u;
 }
 
 -- the same by what is cached
-abbrev pub as_first_lines : LinesCache → List Range → FirstLines
-as_first_lines cache ranges = record {
+abbrev pub as_unit_at_first : LinesCache → List Range → UnitAtFirst
+as_unit_at_first cache ranges = record {
   language = cache.lang;
   lines = cached_lines_result cache.lines;
   ranges = ranges;

@@ -12,7 +12,7 @@ use Rattle.addr2line_units.specs.UnitsRanged.{IndexedUnit, indexed_of, RangedUni
 use Rattle.addr2line_units.specs.IndexAranges.{aranges_in, lists_aranges}
 use Rattle.addr2line_units.specs.UnitsIndex.{sup_read}
 
--- the units of sections, the ranges that lead to them, and of which units the lines are parsed
+-- sections, their units, the ranges that lead to these, and of which units the lines are parsed
 pub record IndexState : Type 0 where
   pub sections : Sections
   pub units : List IndexedUnit

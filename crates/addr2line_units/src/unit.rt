@@ -7,7 +7,7 @@ ghost use Rattle.addr2line_units.specs.UnitsRanged.{is_partial, is_type_unit, li
 ghost use Rattle.addr2line_units.specs.EntriesMemory.{lines_take_memory};
 ghost use Rattle.addr2line_units.specs.Locations.{is_found};
 ghost use Rattle.addr2line_units.specs.IndexAranges.{range_in};
-ghost use Rattle.addr2line_units.specs.UnitLinesCached.{as_first_lines, cached_lines_result, cached_files, cached_steps, cached_ranges, cached_row, first_lines, lines_result, lines_result_or, location_or, cached_lines, is_uncached, unparsed_lines};
+ghost use Rattle.addr2line_units.specs.UnitLinesCached.{as_unit_at_first, cached_lines_result, cached_files, cached_steps, cached_ranges, cached_row, unit_at_first, lines_result, lines_result_or, location_or, cached_lines, is_uncached, unparsed_lines};
 ghost use Rattle.addr2line_units.specs.UnitAfter.{AfterLinesOf, AfterViewAnswer, AfterViewCheck, AfterViewForgetting, CountsSteps};
 ghost use Rattle.addr2line_units.specs.UnitsIndexed.{as_ranged_unit};
 ghost use Rattle.addr2line_units.specs.LoadsMemory.{answer_takes_memory};
@@ -182,7 +182,7 @@ fn sequence_ranges(alloc: Global, lines: &LazyLines) -> Result<Vec<Range>, Error
 // The lines of a unit as they are cached from the start, and the ranges that lead to it: those that
 // are listed, or where there are none those of its line sequences, and none of a partial unit; its
 // lines are parsed only for these, and cached, their fault too. Refused `OutOfMemory` alone, and
-// only then.
+// only where line sequences are asked for.
 pub(crate) fn lines_and_ranges<R: Reader>(
     alloc: Global,
     dwarf: &Dwarf<R>,
@@ -191,8 +191,8 @@ pub(crate) fn lines_and_ranges<R: Reader>(
     listed: Vec<Range>,
 ) -> Result<(LinesCache, Vec<Range>), Error>
     ensures gives { ExactlyUnlessOomIf (asks_lines (as_ranged_unit dw_unit.now lang listed.items))
-        (λ x. as_first_lines x.0 x.1.items) result
-        (Ok (first_lines dwarf.now (as_ranged_unit dw_unit.now lang listed.items))) }
+        (λ x. as_unit_at_first x.0 x.1.items) result
+        (Ok (unit_at_first dwarf.now (as_ranged_unit dw_unit.now lang listed.items))) }
 {
     if !listed.is_empty() || is_partial(dw_unit.header.type_()) {
         let lines = lines_at_first(dw_unit);

@@ -64,7 +64,7 @@ impl<R: Reader> Model for Units<R> {
     ghost invariant = { λ u. AreUnits u.sources u.caches.items u.stop };
 }
 
-// The units of a file as they are read, and the ranges that lead to them.
+// The sections of a file, its units as they are read, and the ranges that lead to these.
 #[derive(Drop)]
 struct IndexedUnits<R: Reader> {
     dwarf: Rc<Dwarf<R>>,
@@ -84,7 +84,7 @@ impl<R: Reader> Model for IndexedUnits<R> {
     ghost invariant = { λ u. HaveNewCaches u.dwarf.value u.dw_units.items u.caches.items };
 }
 
-// The units and ranges that were read so far.
+// Sections, and the units and ranges that were read of them so far.
 #[derive(Drop)]
 struct Index<'d, R: Reader> {
     dwarf: &'d Dwarf<R>,

@@ -1,5 +1,5 @@
 use Rattle.addr2line_units.proofs.Common.{◌≡◌, ◌++◌, ◌∷◌, [], Ok, err_from_is_err_and, ◌∙◌, ap, length, map, rules, sym, LinesCache, cached_lines_result, range_of_unit}
-use Rattle.addr2line_units.specs.UnitLinesCached.{FirstLines, first_lines}
+use Rattle.addr2line_units.specs.UnitLinesCached.{UnitAtFirst, unit_at_first}
 use Rattle.addr2line_units.specs.UnitsIndexed.{IndexState, appended, as_ranged_unit}
 use Rattle.addr2line_units.proofs.UnitLinesLemmas.{first_are}
 use Rattle.addr2line_units.proofs.UnitsLinesLemmas.{as_many, pushed}
@@ -18,7 +18,7 @@ invariant_of-result g c =
     let d = s.dwarf.now in
     let u = c.args.dw_unit in
     let read = ok_is _ _ c.in_ok-lines.ensures.gives in
-    let lines = ap (λ (l : LinesCache). cached_lines_result l.lines) c.new.ensures.gives ∙ sym (ap (λ (f : FirstLines). f.lines) read) in
+    let lines = ap (λ (l : LinesCache). cached_lines_result l.lines) c.new.ensures.gives ∙ sym (ap (λ (f : UnitAtFirst). f.lines) read) in
     rw (c.in_ok-push.ensures.items, c.in_ok-push-2.ensures.items)
     (one_more d s.dw_units.items s.caches.items u c.new.result c.self.invariant (first_are d u c.args.lang c.args.listed.items _ lines).0 c.new.ensures.empty)
 
@@ -30,13 +30,13 @@ returns g c =
     let ranged = as_ranged_unit u c.args.lang c.args.listed.items in
     let before = s.ranges.items in
     let read = ok_is _ _ c.in_ok-lines.ensures.gives in
-    let lines = ap (λ (l : LinesCache). cached_lines_result l.lines) c.new.ensures.gives ∙ sym (ap (λ (f : FirstLines). f.lines) read) in
-    let language = ap (λ (l : LinesCache). l.lang) c.new.ensures.gives ∙ sym (ap (λ (f : FirstLines). f.language) read) in
+    let lines = ap (λ (l : LinesCache). cached_lines_result l.lines) c.new.ensures.gives ∙ sym (ap (λ (f : UnitAtFirst). f.lines) read) in
+    let language = ap (λ (l : LinesCache). l.lang) c.new.ensures.gives ∙ sym (ap (λ (f : UnitAtFirst). f.language) read) in
     let count : c.len.result ≡ length s.caches.items = search rules in
     let ranges =
     c.in_ok-push_ranges.ensures.gives
-    ∙ ap (λ rs. before ++ map (range_of_unit c.len.result) rs) (c.deref.ensures.value ∙ sym (ap (λ (f : FirstLines). f.ranges) read))
-    ∙ ap (λ n. before ++ map (range_of_unit n) (first_lines d ranged).ranges) count in
+    ∙ ap (λ rs. before ++ map (range_of_unit c.len.result) rs) (c.deref.ensures.value ∙ sym (ap (λ (f : UnitAtFirst). f.ranges) read))
+    ∙ ap (λ n. before ++ map (range_of_unit n) (unit_at_first d ranged).ranges) count in
     let more = pushed d s.dw_units.items s.caches.items u c.args.lang c.new.result c.args.listed.items before c.push_ranges.new.unit_ranges.items (as_many d _ _ c.self.invariant.lines)
     language (first_are d u c.args.lang c.args.listed.items _ lines).1 ranges in
     rw (c.in_ok-push.ensures.items, c.in_ok-push-2.ensures.items) (record { gives = ap (λ m. Ok m) (sym (more ∙ ap (λ (m : IndexState). appended m (ranged ∷ [])) c.self.view_is)) })

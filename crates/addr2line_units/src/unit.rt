@@ -162,8 +162,8 @@ fn is_uncached(lines: &LazyLines) -> bool
     matches!(lines, LazyLines::Unread)
 }
 
-// The ranges of the sequences of cached lines. Refused `OutOfMemory` alone, and only where there are
-// some.
+// The ranges of the sequences of cached lines. Refused `OutOfMemory` alone, and only where there
+// are some.
 fn sequence_ranges(alloc: Global, lines: &LazyLines) -> Result<Vec<Range>, Error>
     ensures gives { ExactlyUnlessOomIf (nat_lt 0 (length (cached_ranges lines.now)))
         (λ v. v.items) result (Ok (cached_ranges lines.now)) }

@@ -54,4 +54,4 @@ pub use Rattle.addr2line.specs.RecordedCalls.{given_by, as_call, as_given}
 pub use Rattle.addr2line.specs.OwnedReplies.{as_owned_frame, as_owned_load, as_owned_span, as_reply}
 pub use Rattle.addr2line.specs.SplitFiles.{has_wanted_id, of_file, or_none, split_at_path}
 unfoldable pub use Rattle.addr2line.specs.SplitFiles.{given_by_files, split_by, split_of}
-pub use Rattle.addr2line.specs.WaitingLookups.{count_loads, found_of_context, frames_of_context, unit_of_context}
+pub use Rattle.addr2line.specs.WaitingLookups.{count_loads, found_of_context}

@@ -188,6 +188,10 @@ module _ (ranges : List UnitRange) (u : UnitsState) (i : IsContext ranges u) whe
   pub covers_none : (probe : ℕ) → IsUncovered (as_context u) probe → cover probe ranges ≡ []
   covers_none probe h = ap (cover probe) i.ranges ∙ ap (λ (m : UnitIndex). cover probe m.ranges) (ok_is i.made h.0 (sym i.indexed ∙ h.1)) ∙ h.2
 
+  -- and where none does, they tell so
+  pub uncovered_by : (probe : ℕ) → cover probe ranges ≡ [] → IsUncovered (as_context u) probe
+  uncovered_by probe none = (i.made, i.indexed, subst (λ rs. cover probe rs ≡ []) i.ranges none)
+
   -- where no unit covers the probe nothing is found
   module _ (probe : ℕ) (none : cover probe ranges ≡ []) where
     pub finds_none : {X : Type 0} (see : X → Location) (x : Option X) → first_location d u.units probe (cover probe ranges) ≡ Ok (option_map see x) → x ≡ None

@@ -1,5 +1,5 @@
 -- What specs and contracts of this crate cite of the crates below, handed on. Declares nothing.
-pub use Rattle.gimli_read.specs.Reading.{Exactly, ExactlyUnlessOom, ExactlyUnlessOomIf, IsUnlessOom, WasNotRefused, fault_of, result_map, ◌>>=◌}
+pub use Rattle.gimli_read.specs.Reading.{Exactly, ExactlyUnless, ExactlyUnlessOom, ExactlyUnlessOomIf, IsUnlessOom, WasNotRefused, fault_of, result_map, ◌>>=◌}
 pub use Rattle.gimli_read.specs.Section.{Section}
 pub use Rattle.gimli_read.specs.declared.error.Error.{Error}
 pub use Rattle.gimli_read.specs.declared.error.Error.TheVariants.{OutOfMemory}
@@ -20,7 +20,7 @@ pub use Rattle.addr2line_units.specs.Locations.{LocationResult, all_lines, is_fo
 pub use Rattle.addr2line_units.specs.LocationsParsed.{AllAskFor, AreAllParsed, AreParsed, AreReadyForAll, AsksFor, LeadTo, ParsesOnly, StaysParsed, TakeNone, TakeNoneForAll, parses_no_memory, ready_along}
 pub use Rattle.addr2line_units.specs.UnitsRanged.{IndexedUnit, has_lines, ranged_units, unit_records}
 pub use Rattle.addr2line_units.specs.EntriesStayKnown.{IsReadBy, IsReadyAt, StaysKnown, StaysKnownOf}
-pub use Rattle.addr2line_units.specs.Continuation.{IfLoad, IfOutput, IsOkOutput, SkipsTo, rests}
+pub use Rattle.addr2line_units.specs.Continuation.{GoesOn, IfLoad, IfOutput, IsOkOutput, rests}
 pub use Rattle.addr2line_units.specs.EntriesFrames.{FramesResult, frames_in, function_in}
 unfoldable pub use Rattle.addr2line_units.specs.EntriesFrames.{frames_by_lines}
 pub use Rattle.addr2line_units.specs.UnitsIndex.{UnitIndex, index_units, sup_units}

@@ -5,9 +5,10 @@
 -- parsed; a context that is made has parsed them only where they give a unit its ranges, and a unit
 -- without a line program has its lines, which are none.
 -- Own: of a unit the first answer to its load counts: the sections of a split file, or none.
-use Rattle.std.specs.Prelude.{◌≡◌, ℕ, ◌+◌, ◌<◌, ◌≤◌, Bool, true, List, [], map, Option, None, IfErr, Result, Ok, Err, OnOk, is_ok}
-use Rattle.addr2line.specs.Common.{Error, ◌>>=◌, ExactlyUnlessOom, fault_of, WasNotRefused, Section, Sections, FindsNothing, LookupStop, located_frames, main_scope, stop_along, KnownEntries, NothingKnown, all_lines, is_found, location_of, steps_along, UnitIndex, index_units, sup_units, has_lines, ranged_units, AllAskFor, AreParsed, AreReadyForAll, AsksFor, LeadTo, ParsesOnly, StaysParsed, TakeNone, TakeNoneForAll, holds_along, parses_no_memory, ready_along, cover, cover_range, UnitsState, FirstAnswers, Exactly, AreAllParsed}
+use Rattle.std.specs.Prelude.{◌≡◌, ℕ, ◌+◌, ◌<◌, ◌≤◌, Bool, true, List, [], map, Option, None, option_map, IfErr, IfOk, IsOk, Result, Ok, Err, OnOk, is_ok}
+use Rattle.addr2line.specs.Common.{Error, ◌>>=◌, ExactlyUnless, ExactlyUnlessOom, fault_of, WasNotRefused, Section, Sections, FindsNothing, LookupStop, located_frames, main_scope, stop_along, KnownEntries, NothingKnown, all_lines, is_found, location_of, steps_along, UnitIndex, index_units, sup_units, has_lines, ranged_units, AllAskFor, AreParsed, AreReadyForAll, AsksFor, LeadTo, ParsesOnly, StaysParsed, TakeNone, TakeNoneForAll, holds_along, parses_no_memory, ready_along, cover, cover_range, UnitsState, FirstAnswers, Exactly, AreAllParsed, last_address, spans_of}
 use Rattle.gimli.specs.declared.dwarf.DwarfFileType.TheVariants.{Main}
+use Rattle.addr2line_lines.specs.RangeLocations.{LocatedSpan}
 use Rattle.addr2line_units.specs.declared.index.UnitRange.{UnitRange}
 
 -- the sections, the first answer of each unit, none before it has one, of which units the lines are
@@ -70,6 +71,16 @@ abbrev pub IsUncovered : ContextState → ℕ → Type 0
 IsUncovered c probe = (m : UnitIndex)
     × (index_units c.sections ≡ Ok m) × (cover probe m.ranges ≡ [])
 
+-- a lookup of the location at the probe gives what is given: a location, none, or a fault; or the
+-- fault of a refused growth in its place, where lines that it asks for aren't parsed. Where no unit
+-- covers the probe, as at 2^64 - 1, it gives none
+pub record Locates {E X Y : Type 0} (oom : E) (see : X → Y) (c : ContextState) (probe : ℕ)
+    (result : Result (Option X) E) (given : Result (Option Y) E) : Type 0 where
+  pub found : ExactlyUnless oom (option_map see) result given
+  pub exact : IsReady c probe → Exactly (option_map see) result given
+  pub none : IsUncovered c probe → result ≡ Ok None
+  pub last : probe ≡ last_address → IsUncovered c probe
+
 -- a lookup of a range parses nothing
 abbrev pub IsReadyForRange : ContextState → ℕ → ℕ → Type 0
 IsReadyForRange c low high = (m : UnitIndex) → index_units c.sections ≡ Ok m
@@ -79,6 +90,15 @@ IsReadyForRange c low high = (m : UnitIndex) → index_units c.sections ≡ Ok m
 abbrev pub LocatesRangeNoMemory : Bool → ContextState → ℕ → ℕ → Type 0
 LocatesRangeNoMemory shares c low high = (m : UnitIndex) → index_units c.sections ≡ Ok m
     → TakeNone shares m.units c.parsed (cover_range low high m.ranges)
+
+-- a lookup of a range gives the rows that its addresses meet, with the faults of units in their
+-- places; a refused growth alone refuses it, and not where it takes no memory
+pub record LocatesRange {E X : Type 0} (oom : E) (shares : Bool)
+    (left : X → List (Result LocatedSpan Error)) (c : ContextState) (low high : ℕ)
+    (result : Result X E) : Type 0 where
+  pub found : IfOk result (λ rows. spans_of c.sections low high ≡ Ok (left rows))
+  pub refused : IfErr result (λ e. e ≡ oom)
+  pub exact : LocatesRangeNoMemory shares c low high → IsOk result
 
 -- a parse of all lines parses nothing: they are parsed, up to the first fault
 abbrev pub IsReadyForAll : ContextState → Type 0

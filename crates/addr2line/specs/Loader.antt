@@ -2,13 +2,15 @@
 -- sections.
 -- Own: a lookup gives the frames by the first answers to the loads of units, and by the files at
 -- that call for units without an answer.
-use Rattle.std.specs.Prelude.{◌≡◌, ℕ, true, List, Option, Result}
-use Rattle.addr2line.specs.Common.{Error, result_map, Loading, ObjectFile, FrameRecord}
+use Rattle.std.specs.Prelude.{◌≡◌, ℕ, true, List, [], IfSome, Option, Result, Ok}
+use Rattle.addr2line.specs.Common.{Error, Exactly, result_map, Loading, LoadsUnlessOom, ObjectFile, FrameRecord, Stop, last_address}
 use Rattle.addr2line.specs.declared.compressed.CompressedSections.{CompressedSections}
 use Rattle.addr2line.specs.declared.loader.LoaderOver.{LoaderOver}
-use Rattle.addr2line.specs.Context.{AfterLookupOver, AfterRangeLookup, ContextState}
+use Rattle.addr2line.specs.Context.{AfterLookupOver, AfterRangeLookup, ContextState, IsUncovered}
 use Rattle.addr2line.specs.Files.{Files, ReadFiles, as_read_if_known}
-use Rattle.addr2line.specs.LoadsByFiles.{AfterAnswers, AfterFramesByFiles}
+use Rattle.addr2line.specs.FramesByFiles.{ended_frames_of, frames_by_files}
+use Rattle.addr2line.specs.AfterLookups.{IsKnownFew}
+use Rattle.addr2line.specs.LoadsByFiles.{AfterAnswers, AfterFramesByFiles, WaitsForNone}
 use Rattle.addr2line.specs.SplitFiles.{of_file}
 
 -- what becomes of compressed sections, the files, where they are known, as they are read, the main
@@ -27,6 +29,22 @@ as_loader files l = record {
   object = l.object;
   context = l.context;
 }
+
+-- a lookup of frames at the probe gives those by the loader's files, or their fault, where the
+-- files are known. Where it waits for no answer it gives those of its context, or their fault,
+-- whatever the files are. OutOfMemory may stand in their place, but not where it waits for no
+-- answer, all is known that it asks for and at most 16 inlined functions stand there. Where no unit
+-- covers the probe, as at 2^64 - 1, it gives none, without memory
+pub record FindsFramesByFiles {X : Type 0} (see : X → List FrameRecord) (l : LoaderState)
+    (probe : ℕ) (result : Loading X) : Type 0 where
+  pub by_files : IfSome l.files (λ files. LoadsUnlessOom see result
+      (frames_by_files files l.context.sections l.context.answers probe))
+  pub ended : WaitsForNone l.context probe
+      → LoadsUnlessOom see result (ended_frames_of l.context probe)
+  pub exact : WaitsForNone l.context probe → IsKnownFew Stop l.context probe
+      → Exactly see result (ended_frames_of l.context probe)
+  pub none : IsUncovered l.context probe → Exactly see result (Ok [])
+  pub last : probe ≡ last_address → IsUncovered l.context probe
 
 -- a lookup of frames at the probe has answered the loads that it came to by files: the files, as
 -- they are read, and the main file are the same

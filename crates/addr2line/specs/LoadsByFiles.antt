@@ -3,17 +3,17 @@
 -- Own: the first answer of a unit stays, so a file counts that was there when its unit was first
 -- looked up.
 use Rattle.std.specs.Prelude.{◌≡◌, ◌≢◌, ◌≤◌, ◌⊎◌, ℕ, false, true, List, Option, Some, IfErr, IfSome, Result, Ok, Err}
-use Rattle.addr2line.specs.Common.{◌>>=◌, Error, result_map, Sections, PathNotUtf8, Loading, Stop, FrameRecord, Waits, answer_of, frames_found, is_waiting, StaysParsed, FirstAnswers, SplitLoad, StaysKnownOf}
+use Rattle.addr2line.specs.Common.{◌>>=◌, Error, last_address, result_map, Sections, PathNotUtf8, Loading, Stop, FrameRecord, Waits, answer_of, frames_found, is_waiting, StaysParsed, FirstAnswers, SplitLoad, StaysKnownOf}
 use Rattle.elf.specs.declared.error.LoaderError.{LoaderError}
 use Rattle.elf.specs.declared.error.LoaderError.TheVariants.{OutOfMemory}
 use Rattle.addr2line.specs.declared.compressed.CompressedSections.{CompressedSections}
-use Rattle.addr2line.specs.Context.{ContextState}
+use Rattle.addr2line.specs.Context.{ContextState, IsUncovered}
 use Rattle.addr2line.specs.Files.{ReadFiles}
 use Rattle.addr2line.specs.FramesByFiles.{ended_frames_of, frames_by_files}
 use Rattle.addr2line.specs.History.{Given, answers_given}
 use Rattle.addr2line.specs.Lookups.{IsLoadOf, lookup_stop}
 use Rattle.addr2line.specs.AfterLookups.{IsKnown, IsKnownFew, ReadsAsked, TakesMemory}
-use Rattle.addr2line.specs.SplitFiles.{AreOfSomeFile, HasPathNotUtf8, given_by_files, of_file}
+use Rattle.addr2line.specs.SplitFiles.{AreOfSomeFile, HasPathNotUtf8, RefusesAnswer, given_by_files, of_file}
 
 -- first answers stay
 abbrev pub StayAnswered : FirstAnswers → FirstAnswers → Type 0
@@ -136,3 +136,12 @@ pub record AnswersByFiles (compressed : CompressedSections) (files : Option Read
   pub answers : AfterAnswers compressed files old new
   pub lookup : AfterFramesByFiles probe (result_map (λ _. frames_found new.stop) result) old new
   pub refused : IfErr result (IsFaultByFiles files old probe)
+
+-- the same, where the lookup's own refusal stands inside. Outside stands why an answer is refused:
+-- memory for it, or its path; the lookup waits for that load still. No unit covers 2^64 - 1
+pub record AfterAnsweringLoads (compressed : CompressedSections) (files : Option ReadFiles)
+    (probe : ℕ) (result : Loading (Result (Unit {0}) Error)) (old new : ContextState)
+    : Type 0 where
+  pub by_files : AnswersByFiles compressed files probe (outcome result) old new
+  pub waits : IfErr result (λ e. WaitsForLoad (λ load. RefusesAnswer load e) new probe)
+  pub last : probe ≡ last_address → IsUncovered old probe

@@ -1,13 +1,13 @@
 -- Lookups that may wait, by the context that they are made in.
-use Rattle.std.specs.Prelude.{◌≡◌, ℕ, length, Option, IfErr, Result, Ok}
+use Rattle.std.specs.Prelude.{◌≡◌, ℕ, length, Option, Some, IfErr, Result, Ok}
 use Rattle.std.specs.Borrow.{MutBor}
-use Rattle.addr2line.specs.Common.{Error, OutOfMemory, Sections, OnFault, Stop, Skip, LookupStop, Waits, IfOutput, SplitLoad, View, FramesResult}
+use Rattle.addr2line.specs.Common.{Error, OutOfMemory, ExactlyUnlessOom, Sections, OnFault, Stop, Skip, LookupStop, Waits, IfLoad, IfOutput, IsOkOutput, SplitLoad, View, FramesResult, last_address}
 use Rattle.addr2line_units.specs.declared.continuation.LookupResult.{LookupResult}
 use Rattle.addr2line.specs.AfterAnswering.{SuspendsAgain}
 use Rattle.addr2line.specs.Answers.{answered}
-use Rattle.addr2line.specs.Context.{ContextState}
+use Rattle.addr2line.specs.Context.{ContextState, IsUncovered}
 use Rattle.addr2line.specs.AfterLookups.{Suspends}
-use Rattle.addr2line.specs.Lookups.{IsLoadOf, UnitResult, found_at, frames_value, loads_at, unit_value, with_none}
+use Rattle.addr2line.specs.Lookups.{IsLoadOf, found_at, frames_value, loads_at, with_none}
 use Rattle.addr2line.specs.Skips.{skipped_answers}
 
 -- a lookup of this context at this probe waits for the unit of a number, with this load
@@ -57,14 +57,25 @@ module _ {V : Type 0} (faults : OnFault) (value_of : LookupStop → Option View 
   abbrev pub found_with_none : ContextState → ℕ → Result (Option V) Error
   found_with_none c probe = found_at faults value_of c.sections (with_none c.answers) probe
 
--- an output of a lookup that passes over faults is refused OutOfMemory alone
-abbrev pub IsRefusedAs : {L X D S : Type 0} → OnFault → LookupResult L (Result X Error) D S → Type 0
-IsRefusedAs faults result = faults ≡ Skip → IfOutput result (λ o. IfErr o (λ e. e ≡ OutOfMemory))
+-- what a lookup of a kind comes to: it waits for a load, with such a rest of the lookup; or it has
+-- ended, and gives what is given, or OutOfMemory in its place. One that passes over faults is
+-- refused OutOfMemory alone
+pub record WaitsOrGives {L X V D S : Type 0} (faults : OnFault) (see : X → V)
+    (given : Result (Option V) Error) (result : LookupResult L (Result X Error) D S)
+    (Rest : L → Type 0) : Type 0 where
+  pub load : IfLoad result Rest
+  pub output : IfOutput result (λ o. ExactlyUnlessOom (λ x. Some (see x)) o given)
+  pub refused : faults ≡ Skip → IfOutput result (λ o. IfErr o (λ e. e ≡ OutOfMemory))
+
+-- the same of a lookup that begins in a context: where no unit covers the probe, as at 2^64 - 1, it
+-- waits for nothing and isn't refused
+pub record BeginsLookup {L X V D S : Type 0} (faults : OnFault)
+    (value_of : LookupStop → Option View → V) (see : X → V) (c : ContextState) (probe : ℕ)
+    (result : LookupResult L (Result X Error) D S) (Rest : L → Type 0) : Type 0 where
+  pub comes_to : WaitsOrGives faults see (found_of_context faults value_of c probe) result Rest
+  pub none : IsUncovered c probe → IsOkOutput result
+  pub last : probe ≡ last_address → IsUncovered c probe
 
 -- the frames at the probe in a context
 abbrev pub frames_of_context : ContextState → ℕ → FramesResult
 frames_of_context c probe = found_of_context Stop frames_value c probe
-
--- the sections and the unit at the probe in a context
-abbrev pub unit_of_context : ContextState → ℕ → UnitResult
-unit_of_context c probe = found_of_context Skip unit_value c probe

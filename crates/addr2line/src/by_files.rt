@@ -1,11 +1,9 @@
 //! Lookups of frames where files answer loads.
 
-ghost use Rattle.std.specs.Prelude.{◌≡◌, IfErr};
-ghost use Rattle.addr2line.specs.Common.{result_map, last_address};
-ghost use Rattle.addr2line.specs.Context.{IsUncovered};
+ghost use Rattle.std.specs.Prelude.{◌≡◌};
+ghost use Rattle.addr2line.specs.Common.{result_map};
 ghost use Rattle.addr2line.specs.Files.{as_read_if_known};
-ghost use Rattle.addr2line.specs.LoadsByFiles.{AnswersByFiles, WaitsForLoad, outcome};
-ghost use Rattle.addr2line.specs.SplitFiles.{RefusesAnswer};
+ghost use Rattle.addr2line.specs.LoadsByFiles.{AfterAnsweringLoads};
 
 use crate::compressed::CompressedSections;
 use crate::context::Context;
@@ -39,11 +37,8 @@ pub(crate) fn answer_loads<F: FileSource>(
     ctx: &mut Context<EndianBytes>,
     probe: u64,
 ) -> Result<Result<(), Error>, LoaderError>
-    ensures after { AnswersByFiles compressed (as_read_if_known compressed (F.files files.now))
-        probe (outcome result) ctx.old ctx.new }
-    ensures refused { IfErr result (λ e.
-        WaitsForLoad (λ load. RefusesAnswer load e) ctx.new probe) }
-    ensures last { probe ≡ last_address → IsUncovered ctx.old probe }
+    ensures after { AfterAnsweringLoads compressed
+        (as_read_if_known compressed (F.files files.now)) probe result ctx.old ctx.new }
 {
     let mut next = match ctx.find_frames(probe) {
         LookupResult::Load { continuation } => continuation,

@@ -1,11 +1,11 @@
 //! Contexts: what lookups are made in.
 
-ghost use Rattle.std.specs.Prelude.{◌≡◌, None, IfErr, IfOk, IsOk, Ok, option_map};
-ghost use Rattle.addr2line.specs.Common.{OutOfMemory, Exactly, ExactlyUnlessOom, IsUnlessOom, ExactlyUnlessOomIf, last_address, location_of, spans_of};
+ghost use Rattle.std.specs.Prelude.{◌≡◌, Ok};
+ghost use Rattle.addr2line.specs.Common.{OutOfMemory, IsUnlessOom, ExactlyUnlessOomIf, location_of, spans_of};
 ghost use Rattle.addr2line_lines.specs.LentLocation.{as_location};
 ghost use Rattle.addr2line_units.specs.UnitsIndexed.{context_takes_memory};
 ghost use Rattle.addr2line_units.specs.LocationsLeft.{locations_left};
-ghost use Rattle.addr2line.specs.Context.{main_sections, new_context, lines_of_all, AfterLookupOver, AfterRangeLookup, IsReady, IsUncovered, IsReadyForRange, LocatesRangeNoMemory, AfterParsingLines};
+ghost use Rattle.addr2line.specs.Context.{main_sections, new_context, lines_of_all, AfterLookupOver, AfterRangeLookup, IsReadyForRange, Locates, LocatesRange, AfterParsingLines};
 
 use addr2line_lines::Location;
 use addr2line_units::frames::Asks;
@@ -137,12 +137,8 @@ impl<R: Reader> Context<R> {
     ///
     /// Source: DWARF 5, section 6.2. Own: which of several sequences counts, and which unit.
     pub fn find_location(&mut self, probe: u64) -> Result<Option<Location<'_>>, Error>
-        ensures gives { ExactlyUnlessOom (option_map as_location) result
+        ensures gives { Locates OutOfMemory as_location self.old probe result
             (location_of self.old.sections probe) }
-        ensures exact { IsReady self.old probe → Exactly (option_map as_location) result
-            (location_of self.old.sections probe) }
-        ensures last { probe ≡ last_address → result ≡ Ok None }
-        ensures none { IsUncovered self.old probe → result ≡ Ok None }
         ensures* ends { EndsAs 𝓛 R.row R.Reader self.entry
             (AfterLookupOver R.shares probe result self.old) }
     {
@@ -167,10 +163,7 @@ impl<R: Reader> Context<R> {
         low: u64,
         high: u64,
     ) -> Result<LocationRangeIter<'_, R>, Error>
-        ensures gives { IfOk result (λ rows. spans_of self.old.sections low high
-            ≡ Ok (locations_left rows)) }
-        ensures refused { IfErr result (λ e. e ≡ OutOfMemory) }
-        ensures exact { LocatesRangeNoMemory R.shares self.old low high → IsOk result }
+        ensures gives { LocatesRange OutOfMemory R.shares locations_left self.old low high result }
         ensures* ends { EndsAs 𝓛 R.row R.Reader self.entry
             (AfterRangeLookup low high result self.old) }
     {

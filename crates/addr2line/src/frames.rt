@@ -1,12 +1,10 @@
 //! Lookups of frames, which may wait for split files.
 
-ghost use Rattle.std.specs.Prelude.{◌≡◌, Some};
-ghost use Rattle.addr2line.specs.Common.{ExactlyUnlessOom, Stop, frames_left, last_address, IfLoad, IfOutput, IsOkOutput};
+ghost use Rattle.addr2line.specs.Common.{Stop, frames_left};
 ghost use Rattle.addr2line.specs.Borrowed.{RestsAs};
-ghost use Rattle.addr2line.specs.Context.{IsUncovered};
 ghost use Rattle.addr2line.specs.AfterLookups.{AfterFramesOver};
 ghost use Rattle.addr2line.specs.Lookups.{frames_value};
-ghost use Rattle.addr2line.specs.WaitingLookups.{SuspendsIn, frames_of_context};
+ghost use Rattle.addr2line.specs.WaitingLookups.{BeginsLookup, SuspendsIn};
 
 use crate::context::Context;
 use crate::kinds::{Lent, LookupKind};
@@ -69,14 +67,10 @@ impl<R: Reader> Context<R> {
     /// Source: DWARF 5, sections 2.17, 3.3, 3.1.2 and 7.3.2. Own: which unit counts, and what a
     /// lookup waits for.
     pub fn find_frames(&mut self, probe: u64) -> LookupResult<FramesLookup<'_, R>>
+        ensures gives { BeginsLookup Stop frames_value frames_left self.old probe result
+            (λ c. SuspendsIn Stop self.entry probe c.ctx c.probe c.number c.load) }
         ensures* ends { RestsAs 𝓛 (λ c. c.ctx.ghost_name) R.row R.Reader self.entry result
             (λ o n. AfterFramesOver R.shares Stop probe o self.old n) }
-        ensures left { IfLoad result (λ c.
-            SuspendsIn Stop self.entry probe c.ctx c.probe c.number c.load) }
-        ensures gives { IfOutput result (λ o. ExactlyUnlessOom (λ i. Some (frames_left i)) o
-            (frames_of_context self.old probe)) }
-        ensures last { probe ≡ last_address → IsUncovered self.old probe }
-        ensures none { IsUncovered self.old probe → IsOkOutput result }
     {
         begin(self, probe)
     }

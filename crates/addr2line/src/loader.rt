@@ -1,20 +1,17 @@
 //! Loaders: contexts of ELF files, with their symbols and their split files.
 
-ghost use Rattle.std.specs.Prelude.{◌≡◌, [], Err, IfErr, IfOk, IfSome, IsOk, None, Ok, Option, Some, false, is_some, option_map, true};
-ghost use Rattle.addr2line.specs.Common.{Io, NotElf, Exactly, Loading, LoadsUnlessOom, Sections, SupSections, last_address, Stop, frames_left, location_of, spans_of};
+ghost use Rattle.std.specs.Prelude.{◌≡◌, Err, IfOk, IfSome, None, Option, Some, false, is_some, option_map, true};
+ghost use Rattle.addr2line.specs.Common.{Io, NotElf, Loading, LoadsUnlessOom, Sections, SupSections, frames_left, location_of};
 ghost use Rattle.elf.specs.declared.error.LoaderError.TheVariants.{OutOfMemory};
 ghost use Rattle.elf.specs.Sections.{section_range_at};
 ghost use Rattle.elf.specs.Symbols.{NamedAddress, named_address, symbol_at};
 ghost use Rattle.addr2line_lines.specs.LentLocation.{as_location};
 ghost use Rattle.addr2line_units.specs.LocationsLeft.{locations_left};
 ghost use Rattle.addr2line.specs.declared.compressed.CompressedSections.TheVariants.{Decompressed, Refused};
-ghost use Rattle.addr2line.specs.Context.{IsReady, LocatesRangeNoMemory};
-ghost use Rattle.addr2line.specs.Files.{HasEmptyFile, HasNoFile, as_read, as_read_if_known};
-ghost use Rattle.addr2line.specs.FramesByFiles.{ended_frames_of, frames_by_files};
+ghost use Rattle.addr2line.specs.Context.{Locates, LocatesRange};
+ghost use Rattle.addr2line.specs.Files.{HasEmptyFile, HasNoFile, as_read};
 ghost use Rattle.addr2line.specs.Loaded.{AreSectionsOf, AreSupOfBytes, IsFileOfBytes, IsLoaded, as_sup, context_at, dwarf_at, loaded, main_with_sup, object_at, sup_at};
-ghost use Rattle.addr2line.specs.Loader.{AfterLoads, AfterLocation, AfterLocationRange, as_loader};
-ghost use Rattle.addr2line.specs.LoadsByFiles.{WaitsForNone};
-ghost use Rattle.addr2line.specs.AfterLookups.{IsKnownFew};
+ghost use Rattle.addr2line.specs.Loader.{AfterLoads, AfterLocation, AfterLocationRange, FindsFramesByFiles, as_loader};
 ghost use Rattle.addr2line.specs.SplitFiles.{of_file};
 
 use crate::by_files::answer_loads;
@@ -251,7 +248,7 @@ impl<F: FileSource> LoaderOver<F> {
 
     /// The files that answer loads. Takes no memory.
     pub fn files_mut(&mut self) -> &mut F
-        ensures files { result.now ≡ self.old.files }
+        ensures gives { result.now ≡ self.old.files }
         ensures* ends { LendsFiles 𝓛 F.row self.entry result }
     {
         &mut self.files
@@ -270,11 +267,8 @@ impl<F: FileSource> LoaderOver<F> {
     /// Refused `Dwarf` as that is; may fail with `OutOfMemory` instead. Takes no memory where the
     /// lines that it asks for are parsed, nor where no unit covers `probe`.
     pub fn find_location(&mut self, probe: u64) -> Result<Option<Location<'_>>, LoaderError>
-        ensures gives { LoadsUnlessOom (option_map as_location) result
+        ensures gives { Locates OutOfMemory as_location self.old.context probe result
             (of_file (location_of self.old.context.sections probe)) }
-        ensures exact { IsReady self.old.context probe → Exactly (option_map as_location) result
-            (of_file (location_of self.old.context.sections probe)) }
-        ensures last { probe ≡ last_address → result ≡ Ok None }
         ensures* ends { LoaderEndsAs 𝓛 F.row F.files self.entry
             (AfterLocation probe result (as_loader F.files self.old)) }
     {
@@ -293,10 +287,8 @@ impl<F: FileSource> LoaderOver<F> {
         low: u64,
         high: u64,
     ) -> Result<LocationRangeIter<'_, EndianBytes>, LoaderError>
-        ensures gives { IfOk result (λ rows. spans_of self.old.context.sections low high
-            ≡ Ok (locations_left rows)) }
-        ensures refused { IfErr result (λ e. e ≡ OutOfMemory) }
-        ensures exact { LocatesRangeNoMemory true self.old.context low high → IsOk result }
+        ensures gives { LocatesRange OutOfMemory true locations_left self.old.context low high
+            result }
         ensures* ends { LoaderEndsAs 𝓛 F.row F.files self.entry
             (AfterLocationRange low high result (as_loader F.files self.old)) }
     {
@@ -327,15 +319,7 @@ impl<F: FileSource> LoaderOver<F> {
     /// there. No unit covers 2^64 - 1. Source: DWARF 5, sections 3.1.2 and 7.3.2. Own: the path,
     /// and what counts as none.
     pub fn find_frames(&mut self, probe: u64) -> Result<FrameIter<'_, EndianBytes>, LoaderError>
-        ensures gives { IfSome (as_read_if_known self.old.compressed (F.files self.old.files))
-            (λ read. LoadsUnlessOom frames_left result
-            (frames_by_files read self.old.context.sections self.old.context.answers probe)) }
-        ensures none { WaitsForNone self.old.context probe → LoadsUnlessOom frames_left result
-            (ended_frames_of self.old.context probe) }
-        ensures exact { WaitsForNone self.old.context probe
-            → IsKnownFew Stop self.old.context probe
-            → Exactly frames_left result (ended_frames_of self.old.context probe) }
-        ensures last { probe ≡ last_address → Exactly frames_left result (Ok []) }
+        ensures gives { FindsFramesByFiles frames_left (as_loader F.files self.old) probe result }
         ensures* ends { LoaderEndsAs 𝓛 F.row F.files self.entry
             (AfterLoads frames_left probe result (as_loader F.files self.old)) }
     {

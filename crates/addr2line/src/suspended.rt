@@ -1,14 +1,13 @@
 //! What is left of a lookup that waits for a split file: it goes on, is skipped, or is let go.
 
-ghost use Rattle.std.specs.Prelude.{◌≡◌, ◌<◌, None, Some, IfErr, option_map, true};
-ghost use Rattle.addr2line.specs.Common.{OutOfMemory, ExactlyUnlessOom, Skip, last_address, IfLoad, IfOutput, SkipsTo};
+ghost use Rattle.std.specs.Prelude.{◌≡◌, Some, IfErr, option_map, true};
+ghost use Rattle.addr2line.specs.Common.{OutOfMemory, ExactlyUnlessOom, Skip, GoesOn};
 ghost use Rattle.addr2line.specs.AfterAnswering.{AfterResume};
 ghost use Rattle.addr2line.specs.Borrowed.{RestsAs};
-ghost use Rattle.addr2line.specs.Context.{IsUncovered};
 ghost use Rattle.addr2line.specs.AfterLookups.{AfterFramesOver, IsLent, IsStored};
 ghost use Rattle.addr2line.specs.Lookups.{lookup_stop, waits_for};
 ghost use Rattle.addr2line.specs.Skips.{AfterSkip};
-ghost use Rattle.addr2line.specs.WaitingLookups.{HoldsIn, IsRefusedAs, SuspendsAgainIn, SuspendsIn, count_loads, found_answered, found_of_context, found_skipped, found_with_none};
+ghost use Rattle.addr2line.specs.WaitingLookups.{BeginsLookup, HoldsIn, SuspendsAgainIn, SuspendsIn, WaitsOrGives, count_loads, found_answered, found_of_context, found_skipped, found_with_none};
 
 use crate::context::Context;
 use crate::kinds::{Lent, LookupKind};
@@ -94,19 +93,13 @@ impl<'ctx, R: Reader, K: Lent<'ctx, Context<R>>> LookupContinuation
         ensures* ends { RestsAs 𝓛 (λ c. c.ctx.ghost_name) R.row R.Reader self.entry.ctx result
             (λ o n. AfterResume R.shares K.faults self.entry.probe self.entry.number
             (option_map (λ d. d.value) input) o self.entry.ctx.now n) }
-        ensures left { IfLoad result (λ c. SuspendsAgainIn K.faults self.entry.ctx self.entry.probe
-            self.entry.number (option_map (λ d. d.value) input)
-            c.ctx c.probe c.number c.load) }
-        ensures shorter { IfLoad result (λ c. count_loads c.ctx.now c.probe < count_loads
-            self.entry.ctx.now self.entry.probe) }
-        ensures gives { IfOutput result (λ o. ExactlyUnlessOom (λ f. Some (K.see f)) o
-            (found_answered K.faults K.value_of self.entry.ctx.now self.entry.number
-            (option_map (λ d. d.value) input) self.entry.probe)) }
-        ensures refused { IsRefusedAs K.faults result }
-        ensures none { input ≡ None → (o : _) → SkipsTo (λ c p. ExactlyUnlessOom
-            (λ f. Some (K.see f)) p (found_with_none K.faults K.value_of c.ctx.now c.probe))
-            result o → ExactlyUnlessOom (λ f. Some (K.see f)) o
-            (found_with_none K.faults K.value_of self.entry.ctx.now self.entry.probe) }
+        ensures gives { WaitsOrGives K.faults K.see (found_answered K.faults K.value_of
+            self.entry.ctx.now self.entry.number (option_map (λ d. d.value) input) self.entry.probe)
+            result (λ c. SuspendsAgainIn K.faults self.entry.ctx self.entry.probe self.entry.number
+            (option_map (λ d. d.value) input) c.ctx c.probe c.number c.load) }
+        ensures after { GoesOn self.entry (λ c. count_loads c.ctx.now c.probe)
+            (λ c o. ExactlyUnlessOom (λ f. Some (K.see f)) o
+            (found_with_none K.faults K.value_of c.ctx.now c.probe)) input result }
     {
         let Suspended {
             ctx,
@@ -131,10 +124,8 @@ impl<'ctx, R: Reader, K: Lent<'ctx, Context<R>>, B: Drop> Suspended<'ctx, R, K, 
     pub fn skip(self) -> LookupResult<Suspended<'ctx, R, K, SplitDwarfLoad<R>>>
         ensures* ends { RestsAs 𝓛 (λ c. c.ctx.ghost_name) R.row R.Reader self.entry.ctx result
             (λ o n. AfterSkip R.shares K.faults self.entry.probe o self.entry.ctx.now n) }
-        ensures left { IfLoad result (λ c. ⊥) }
-        ensures gives { IfOutput result (λ o. ExactlyUnlessOom (λ f. Some (K.see f)) o
-            (found_skipped K.faults K.value_of self.entry.ctx.now self.entry.probe)) }
-        ensures refused { IsRefusedAs K.faults result }
+        ensures gives { WaitsOrGives K.faults K.see (found_skipped K.faults K.value_of
+            self.entry.ctx.now self.entry.probe) result (λ c. ⊥) }
     {
         let Suspended {
             ctx,
@@ -159,11 +150,8 @@ fn lend<'ctx, R: Reader, K: Lent<'ctx, Context<R>>>(
     requires refused { K.faults ≡ Skip → IfErr walked (λ e. e ≡ OutOfMemory) }
     ensures* ends { RestsAs 𝓛 (λ c. c.ctx.ghost_name) R.row R.Reader ctx.entry result
         (λ o n. (n ≡ ctx.old) × IsLent walked ctx.old.stop o) }
-    ensures left { IfLoad result (λ c.
-        HoldsIn ctx.entry probe walked c.ctx c.probe c.number c.load) }
-    ensures gives { IfOutput result (λ o. ExactlyUnlessOom (λ f. Some (K.see f)) o
-        (found_of_context K.faults K.value_of ctx.old probe)) }
-    ensures refused { IsRefusedAs K.faults result }
+    ensures gives { WaitsOrGives K.faults K.see (found_of_context K.faults K.value_of ctx.old probe)
+        result (λ c. HoldsIn ctx.entry probe walked c.ctx c.probe c.number c.load) }
 {
     match walked {
         Ok(()) => match ctx.waits_for() {
@@ -193,12 +181,8 @@ pub(crate) fn begin<'ctx, R: Reader, K: Lent<'ctx, Context<R>>>(
 ) -> LookupResult<Suspended<'ctx, R, K, SplitDwarfLoad<R>>>
     ensures* ends { RestsAs 𝓛 (λ c. c.ctx.ghost_name) R.row R.Reader ctx.entry result
         (λ o n. AfterFramesOver R.shares K.faults probe o ctx.old n) }
-    ensures left { IfLoad result (λ c.
-        SuspendsIn K.faults ctx.entry probe c.ctx c.probe c.number c.load) }
-    ensures gives { IfOutput result (λ o. ExactlyUnlessOom (λ f. Some (K.see f)) o
-        (found_of_context K.faults K.value_of ctx.old probe)) }
-    ensures refused { IsRefusedAs K.faults result }
-    ensures last { probe ≡ last_address → IsUncovered ctx.old probe }
+    ensures gives { BeginsLookup K.faults K.value_of K.see ctx.old probe result
+        (λ c. SuspendsIn K.faults ctx.entry probe c.ctx c.probe c.number c.load) }
 {
     let walked = ctx.walk(probe, K::on_fault());
     lend(ctx, probe, walked)

@@ -1,13 +1,12 @@
 //! Lookups of units, which may wait for split files.
 
-ghost use Rattle.std.specs.Prelude.{◌≡◌, IfErr, option_map};
-ghost use Rattle.addr2line.specs.Common.{OutOfMemory, ExactlyUnlessOom, Skip, last_address, IfLoad, IfOutput, IsOkOutput};
-ghost use Rattle.addr2line_units.specs.SupScope.{as_found_unit, as_unit};
+ghost use Rattle.std.specs.Prelude.{option_map};
+ghost use Rattle.addr2line.specs.Common.{Skip};
+ghost use Rattle.addr2line_units.specs.SupScope.{as_unit};
 ghost use Rattle.addr2line.specs.Borrowed.{RestsAs};
-ghost use Rattle.addr2line.specs.Context.{IsUncovered};
 ghost use Rattle.addr2line.specs.AfterLookups.{AfterFramesOver};
 ghost use Rattle.addr2line.specs.Lookups.{unit_value};
-ghost use Rattle.addr2line.specs.WaitingLookups.{SuspendsIn, unit_of_context};
+ghost use Rattle.addr2line.specs.WaitingLookups.{BeginsLookup, SuspendsIn};
 
 use crate::context::Context;
 use crate::kinds::{Lent, LookupKind};
@@ -70,16 +69,10 @@ impl<R: Reader> Context<R> {
     /// Source: DWARF 5, sections 2.17, 3.3, 3.1.2 and 7.3.2. Own: which unit counts, and what a
     /// lookup waits for.
     pub fn find_dwarf_and_unit(&mut self, probe: u64) -> LookupResult<UnitLookup<'_, R>>
+        ensures gives { BeginsLookup Skip unit_value (λ u. option_map as_unit u) self.old probe
+            result (λ c. SuspendsIn Skip self.entry probe c.ctx c.probe c.number c.load) }
         ensures* ends { RestsAs 𝓛 (λ c. c.ctx.ghost_name) R.row R.Reader self.entry result
             (λ o n. AfterFramesOver R.shares Skip probe o self.old n) }
-        ensures left { IfLoad result (λ c.
-            SuspendsIn Skip self.entry probe c.ctx c.probe c.number
-            c.load) }
-        ensures gives { IfOutput result
-            (λ o. ExactlyUnlessOom as_found_unit o (unit_of_context self.old probe)) }
-        ensures refused { IfOutput result (λ o. IfErr o (λ e. e ≡ OutOfMemory)) }
-        ensures last { probe ≡ last_address → IsUncovered self.old probe }
-        ensures none { IsUncovered self.old probe → IsOkOutput result }
     {
         begin(self, probe)
     }

@@ -20,12 +20,12 @@ use Rattle.addr2line_units.specs.LocationsParsed.{StaysParsed, has_parsed, ready
 use Rattle.addr2line_units.specs.UnitsIndex.{index_units}
 use Rattle.addr2line_units.specs.UnitsRanged.{IndexedUnit}
 use Rattle.addr2line.proofs.Facts.{both_more}
-use Rattle.addr2line.proofs.NoLoadLemmas.{last_frames}
-use Rattle.addr2line.specs.Context.{ContextState, IsReady, IsUncovered, Stays}
+use Rattle.elf.specs.declared.error.LoaderError.TheVariants.{OutOfMemory}
+use Rattle.addr2line.specs.Context.{ContextState, IsUncovered, Locates, Stays}
+use Rattle.addr2line.specs.Loader.{FindsFramesByFiles}
 use Rattle.addr2line.specs.Files.{ReadFiles}
 use Rattle.addr2line.specs.FramesByFiles.{ended_frames_of, frames_by_files, stop_frames}
 use Rattle.addr2line.specs.LoadsByFiles.{GivesSameFrames, StayEnded, WaitsForNone}
-use Rattle.addr2line.specs.AfterLookups.{IsKnownFew}
 use Rattle.addr2line.specs.Lookups.{lookup_stop}
 use Rattle.addr2line.specs.SplitFiles.{of_file}
 use Rattle.addr2line_bin.specs.LoaderAnswers.{IsReadyAtAddress, MayFindBy, MayGiveBy, loader_answers}
@@ -115,22 +115,14 @@ by_files : {X : Type 0} (view : X → List FrameRecord) (files : Option ReadFile
 by_files view None c address r h = tt
 by_files view (Some held) c address r h = as_unless view r (frames_by_files held c.sections c.answers address) h
 
--- a lookup gives none where no unit covers the address
-gives_none : {X : Type 0} (view : X → List FrameRecord) (c : ContextState) (address : ℕ) (r : Loading X) → IsUncovered c address → (WaitsForNone c address → IsKnownFew Stop c address → Exactly view r (ended_frames_of c address))
-    → Exactly view r (Ok [])
-gives_none view c address (Ok x) u exact = last_frames address c u (Ok (view x)) exact
-gives_none view c address (Err e) u exact = last_frames address c u (Err e) exact
-
 -- frames, as they are seen
-pub gives_frames : {X : Type 0} (view : X → List FrameRecord) (l : LoaderState) (address : ℕ) (r : Loading X) → IfSome l.files (λ held. LoadsUnlessOom view r (frames_by_files held l.context.sections l.context.answers address))
-    → (WaitsForNone l.context address → LoadsUnlessOom view r (ended_frames_of l.context address)) → (address ≡ last_address → Exactly view r (Ok []))
-    → (WaitsForNone l.context address → IsKnownFew Stop l.context address → Exactly view r (ended_frames_of l.context address)) → MayGiveBy l address (result_map view r)
-gives_frames view l address r h ended last exact = (
-  by_files view l.files l.context address r h,
-  λ w. as_unless view r (ended_frames_of l.context address) (ended w),
+pub gives_frames : {X : Type 0} (view : X → List FrameRecord) (l : LoaderState) (address : ℕ) (r : Loading X) → FindsFramesByFiles view l address r → MayGiveBy l address (result_map view r)
+gives_frames view l address r given = (
+  by_files view l.files l.context address r given.by_files,
+  λ w. as_unless view r (ended_frames_of l.context address) (given.ended w),
   λ bare. elim bare [
-    | inl e ↦ as_exactly view r (Ok []) (last e)
-    | inr u ↦ as_exactly view r (Ok []) (gives_none view l.context address r u exact)
+    | inl e ↦ as_exactly view r (Ok []) (given.none (given.last e))
+    | inr u ↦ as_exactly view r (Ok []) (given.none u)
   ],
 )
 
@@ -140,12 +132,11 @@ exactly_none view (Ok x) given e h = h
 exactly_none view (Err x) given e h = absurd (cc)
 
 -- a lookup finds what it may find
-pub finds : {X : Type 0} (view : X → Location) (c : ContextState) (address : ℕ) (r : Loading (Option X)) → LoadsUnlessOom (option_map view) r (of_file (location_of c.sections address))
-    → (IsReady c address → Exactly (option_map view) r (of_file (location_of c.sections address))) → (address ≡ last_address → r ≡ Ok None) → MayFindBy c address (result_map (option_map view) r)
-finds view c address r gives exact last = (
-  as_unless (option_map view) r (of_file (location_of c.sections address)) gives,
+pub finds : {X : Type 0} (view : X → Location) (c : ContextState) (address : ℕ) (r : Loading (Option X)) → Locates OutOfMemory view c address r (of_file (location_of c.sections address)) → MayFindBy c address (result_map (option_map view) r)
+finds view c address r given = (
+  as_unless (option_map view) r (of_file (location_of c.sections address)) given.found,
   λ ready. elim ready [
-    | inl e ↦ as_exactly (option_map view) r (of_file (location_of c.sections address)) (exactly_none view r (of_file (location_of c.sections address)) (last e) gives)
-    | inr is ↦ as_exactly (option_map view) r (of_file (location_of c.sections address)) (exact is)
+    | inl e ↦ as_exactly (option_map view) r (of_file (location_of c.sections address)) (exactly_none view r (of_file (location_of c.sections address)) (given.none (given.last e)) given.found)
+    | inr is ↦ as_exactly (option_map view) r (of_file (location_of c.sections address)) (given.exact is)
   ],
 )

@@ -1,7 +1,7 @@
 -- What a lookup gives that may wait for a split file (DWARF 5, section 7.3.2): a load with the rest
 -- of the lookup, or its output.
 -- Own: each answer to a load leaves fewer units that wait for one.
-use Rattle.std.specs.Prelude.{◌≡◌, ℕ, suc, IsOk, Result}
+use Rattle.std.specs.Prelude.{◌≡◌, ◌<◌, ℕ, suc, IsOk, Option, None, Result}
 use Rattle.std.specs.Borrow.{Fml, RattleType, MutBor, GName, follows_so}
 use mathlib.Core.Option as maybe
 use Rattle.addr2line_units.specs.declared.continuation.LookupResult.{LookupResult}
@@ -27,6 +27,13 @@ module _ {L O D S : Type 0} where
   abbrev pub SkipsTo : (L → O → Type 0) → LookupResult L O D S → O → Type 0
   SkipsTo skips (Load c) o = skips c o
   SkipsTo skips (Output p) o = p ≡ o
+
+  -- a lookup has gone on with an answer: fewer units wait than before; and after none, whatever
+  -- answering none to each later load may give was to be given before
+  pub record GoesOn (old : L) (left : L → ℕ) (skips : L → O → Type 0) (answer : Option S)
+      (result : LookupResult L O D S) : Type 0 where
+    pub shorter : IfLoad result (λ c. left c < left old)
+    pub none : answer ≡ None → (o : O) → SkipsTo skips result o → skips old o
 
   -- how many loads there may still be, where so many units wait at most
   abbrev pub loads_left : (L → ℕ) → LookupResult L O D S → ℕ

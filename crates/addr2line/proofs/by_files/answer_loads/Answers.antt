@@ -8,16 +8,18 @@ pub returns-in-Output : goal.returns-in-Output
 returns-in-Output g c =
     let files = as_read_if_known c.args.compressed (g.F.FileSource.files c.args.files.now) in
     record {
-      after = ends_at_once c.args.compressed files c.args.probe c.args.ctx.now true c.in-Output.frames _ (search rules) (of_file c.ended.result) (ap of_file c.ended.ensures.gives);
-      refused = tt;
-      last = c.find_frames.ensures.last;
+      after = record {
+        by_files = ends_at_once c.args.compressed files c.args.probe c.args.ctx.now true c.in-Output.frames _ (search rules) (of_file c.ended.result) (ap of_file c.ended.ensures.gives);
+        waits = tt;
+        last = c.find_frames.ensures.gives.last;
+      };
     }
 
 pub loop-sections-init : goal.loop-sections-init
 loop-sections-init g c =
     let files = as_read_if_known c.args.compressed (g.F.FileSource.files c.args.files.now) in
     let next = c.in-Load.continuation in
-    let load = c.in-Load.ensures.left in
+    let load = c.in-Load.ensures.gives.comes_to.load in
     record { name = refl; probe = load.1; so = begins_waiting c.args.compressed files c.args.probe c.args.ctx.now next.number next.load next.ctx.now load.2 }
 
 pub loop-sections-preserved : goal.loop-sections-preserved
@@ -26,7 +28,7 @@ loop-sections-preserved g c =
     let l = c.loop-sections.next in
     let inv = c.loop-sections.invariant in
     let next = c.in-Load-resume.continuation in
-    let load = c.in-Load-resume.ensures.left in
+    let load = c.in-Load-resume.ensures.gives.load in
     let x = option_map (λ d. d.value) c.in-Ok.sections in
     let by = subst (λ s. IfSome files (λ held. given_by_files held s ≡ Ok x)) c.load.ensures.gives (if_seen (as_read c.args.compressed) (λ held. given_by_files held c.load.result.now ≡ Ok x) (g.F.FileSource.files c.args.files.now) c.in-Ok.ensures.gives) in
     let made = subst (λ s. IfSome x (AreOfSomeFile c.args.compressed s)) c.load.ensures.gives (if_seen (λ d. d.value) (AreOfSomeFile c.args.compressed c.load.result.now) c.in-Ok.sections c.in-Ok.ensures.made) in
@@ -46,10 +48,12 @@ returns-in-Output-resume g c =
     let by = subst (λ s. IfSome files (λ held. given_by_files held s ≡ Ok x)) c.load.ensures.gives (if_seen (as_read c.args.compressed) (λ held. given_by_files held c.load.result.now ≡ Ok x) (g.F.FileSource.files c.args.files.now) c.in-Ok.ensures.gives) in
     let made = subst (λ s. IfSome x (AreOfSomeFile c.args.compressed s)) c.load.ensures.gives (if_seen (λ d. d.value) (AreOfSomeFile c.args.compressed c.load.result.now) c.in-Ok.sections c.in-Ok.ensures.made) in
     record {
-      after = ends_resumed c.args.compressed files c.args.probe c.args.ctx.now l.number l.load l.ctx.now inv.so x by made true c.resume.result c.in-Output-resume.frames c.in-Output-resume.is l.probe inv.probe _ c.resume.follows.lender-at-none (search rules) c.resume.follows.holds-at-none
-          (of_file c.ended-in-Output-resume.result) (ap of_file c.ended-in-Output-resume.ensures.gives);
-      refused = tt;
-      last = c.find_frames.ensures.last;
+      after = record {
+        by_files = ends_resumed c.args.compressed files c.args.probe c.args.ctx.now l.number l.load l.ctx.now inv.so x by made true c.resume.result c.in-Output-resume.frames c.in-Output-resume.is l.probe inv.probe _ c.resume.follows.lender-at-none (search rules) c.resume.follows.holds-at-none
+            (of_file c.ended-in-Output-resume.result) (ap of_file c.ended-in-Output-resume.ensures.gives);
+        waits = tt;
+        last = c.find_frames.ensures.gives.last;
+      };
     }
 
 pub returns-in-Err : goal.returns-in-Err
@@ -61,7 +65,9 @@ returns-in-Err g c =
     let by = subst (λ s. IfSome files (λ held. e ≢ OutOfMemory → given_by_files held s ≡ Err e)) c.load.ensures.gives (if_seen (as_read c.args.compressed) (λ held. e ≢ OutOfMemory → given_by_files held c.load.result.now ≡ Err e) (g.F.FileSource.files c.args.files.now) c.in-Err.ensures.gives) in
     let why = subst (λ s. RefusesAnswer s e) c.load.ensures.gives c.in-Err.ensures.refused in
     record {
-      after = given_up c.args.compressed files c.args.probe c.args.ctx.now l.number l.load l.ctx.now inv.so e (elim why [ inl q ↦ inl q.0 | inr q ↦ inr q ]) by _ (search rules);
-      refused = waits_still c.args.compressed files c.args.probe c.args.ctx.now l.number l.load l.ctx.now inv.so (λ load. RefusesAnswer load e) why _ (search rules);
-      last = c.find_frames.ensures.last;
+      after = record {
+        by_files = given_up c.args.compressed files c.args.probe c.args.ctx.now l.number l.load l.ctx.now inv.so e (elim why [ inl q ↦ inl q.0 | inr q ↦ inr q ]) by _ (search rules);
+        waits = waits_still c.args.compressed files c.args.probe c.args.ctx.now l.number l.load l.ctx.now inv.so (λ load. RefusesAnswer load e) why _ (search rules);
+        last = c.find_frames.ensures.gives.last;
+      };
     }

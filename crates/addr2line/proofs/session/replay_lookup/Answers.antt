@@ -11,13 +11,13 @@ returns-in-Output g c =
     let p = c.args.probe in
     let e = c.frames_reply.ensures in
     let all = map as_given c.args.answers.now in
-    record { after = rw c.in-Frames.is (ends_at_once Stop p first all g.R.Reader.shares (frames_replied first.sections p) c.in-Output.frames _ (search rules) c.frames_reply.result (e.gives (lookup_stop Stop first.sections first.answers p) c.in-Output.ensures.gives) e.memory e.refused) }
+    record { after = rw c.in-Frames.is (ends_at_once Stop p first all g.R.Reader.shares (frames_replied first.sections p) c.in-Output.frames _ (search rules) c.frames_reply.result (e.gives (lookup_stop Stop first.sections first.answers p) c.in-Output.ensures.gives.comes_to.output) e.memory e.refused) }
 
 pub loop-answer-init : goal.loop-answer-init
 loop-answer-init g c =
     let first = c.args.context.now in
     let next = c.in-Load.continuation in
-    let load = c.in-Load.ensures.left in
+    let load = c.in-Load.ensures.gives.comes_to.load in
     record {
       name = refl;
       probe = load.1;
@@ -37,7 +37,7 @@ returns-in-Output-resume g c =
     let one = next_shared as_given (λ r. r.value) c.args.answers.now i c.answer-item.result (search rules) c.answer-item.is c.in-Ok-Some.field-0-is c.in-Ok-Some.ensures.gives in
     let left = answered l.ctx.now.sections l.ctx.now.answers l.number x in
     let o = c.in-Output-resume.frames in
-    let out = subst (λ s. ExactlyUnlessOom (λ j. Some (frames_left j)) o (frames_of s left p)) inv.so.sections (subst (λ q. ExactlyUnlessOom (λ j. Some (frames_left j)) o (frames_of l.ctx.now.sections left q)) inv.probe c.in-Output-resume.ensures.gives) in
+    let out = subst (λ s. ExactlyUnlessOom (λ j. Some (frames_left j)) o (frames_of s left p)) inv.so.sections (subst (λ q. ExactlyUnlessOom (λ j. Some (frames_left j)) o (frames_of l.ctx.now.sections left q)) inv.probe c.in-Output-resume.ensures.gives.output) in
     record {
       after = rw c.in-Frames.is (ends_resumed Stop p first (map as_given c.args.answers.now) inv.so x one g.R.Reader.shares (frames_replied first.sections p) c.resume.result o c.in-Output-resume.is l.probe inv.probe _ c.resume.follows.lender-at-none (search rules) c.resume.follows.holds-at-none
           c.frames_reply-in-Output-resume.result (e.gives (lookup_stop Stop first.sections left p) out) e.memory e.refused);
@@ -63,7 +63,7 @@ loop-answer-preserved g c =
     let l = c.loop-answer.next in
     let inv = c.loop-answer.invariant in
     let next = c.in-Load-resume.continuation in
-    let load = c.in-Load-resume.ensures.left in
+    let load = c.in-Load-resume.ensures.gives.load in
     let x = option_map (λ r. r.value) c.in-Ok-Some.input in
     let one = next_shared as_given (λ r. r.value) c.args.answers.now i c.answer-item.result (search rules) c.answer-item.is c.in-Ok-Some.field-0-is c.in-Ok-Some.ensures.gives in
     let again = subst (λ q. SuspendsAgain Stop q l.number x next.number next.load l.ctx.now next.ctx.now) inv.probe load.2 in
@@ -88,13 +88,13 @@ returns-in-Output-find_dwarf_and_unit g c =
     let p = c.args.probe in
     let e = c.unit_reply.ensures in
     let all = map as_given c.args.answers.now in
-    record { after = rw c.in-Unit.is (ends_at_once Skip p first all g.R.Reader.shares (unit_replied first.sections p) c.in-Output-find_dwarf_and_unit.unit _ (search rules) c.unit_reply.result (e.gives (lookup_stop Skip first.sections first.answers p) (unit_of first.sections first.answers p) c.in-Output-find_dwarf_and_unit.ensures.gives (found_waiting Skip unit_value first.sections first.answers p)) e.memory e.refused) }
+    record { after = rw c.in-Unit.is (ends_at_once Skip p first all g.R.Reader.shares (unit_replied first.sections p) c.in-Output-find_dwarf_and_unit.unit _ (search rules) c.unit_reply.result (e.gives (lookup_stop Skip first.sections first.answers p) (unit_of first.sections first.answers p) c.in-Output-find_dwarf_and_unit.ensures.gives.comes_to.output (found_waiting Skip unit_value first.sections first.answers p)) e.memory e.refused) }
 
 pub loop-answer-2-init : goal.loop-answer-2-init
 loop-answer-2-init g c =
     let first = c.args.context.now in
     let next = c.in-Load-find_dwarf_and_unit.continuation in
-    let load = c.in-Load-find_dwarf_and_unit.ensures.left in
+    let load = c.in-Load-find_dwarf_and_unit.ensures.gives.comes_to.load in
     record {
       name = refl;
       probe = load.1;
@@ -114,7 +114,7 @@ returns-in-Output-resume-2 g c =
     let one = next_shared as_given (λ r. r.value) c.args.answers.now i c.answer-item-in-loop-answer-2.result (search rules) c.answer-item-in-loop-answer-2.is c.in-Ok-Some-share_given.field-0-is c.in-Ok-Some-share_given.ensures.gives in
     let left = answered l.ctx.now.sections l.ctx.now.answers l.number x in
     let o = c.in-Output-resume-2.unit in
-    let out = subst (λ s. ExactlyUnlessOom as_found_unit o (unit_of s left p)) inv.so.sections (subst (λ q. ExactlyUnlessOom as_found_unit o (unit_of l.ctx.now.sections left q)) inv.probe c.in-Output-resume-2.ensures.gives) in
+    let out = subst (λ s. ExactlyUnlessOom as_found_unit o (unit_of s left p)) inv.so.sections (subst (λ q. ExactlyUnlessOom as_found_unit o (unit_of l.ctx.now.sections left q)) inv.probe c.in-Output-resume-2.ensures.gives.output) in
     record {
       after = rw c.in-Unit.is (ends_resumed Skip p first (map as_given c.args.answers.now) inv.so x one g.R.Reader.shares (unit_replied first.sections p) c.resume-in-Ok-Some-share_given.result o c.in-Output-resume-2.is l.probe inv.probe _ c.resume-in-Ok-Some-share_given.follows.lender-at-none (search rules) c.resume-in-Ok-Some-share_given.follows.holds-at-none
           c.unit_reply-in-Output-resume-2.result (e.gives (lookup_stop Skip first.sections left p) (unit_of first.sections left p) out (found_waiting Skip unit_value first.sections left p)) e.memory e.refused);
@@ -140,7 +140,7 @@ loop-answer-2-preserved g c =
     let l = c.loop-answer-2.next in
     let inv = c.loop-answer-2.invariant in
     let next = c.in-Load-resume-2.continuation in
-    let load = c.in-Load-resume-2.ensures.left in
+    let load = c.in-Load-resume-2.ensures.gives.load in
     let x = option_map (λ r. r.value) c.in-Ok-Some-share_given.input in
     let one = next_shared as_given (λ r. r.value) c.args.answers.now i c.answer-item-in-loop-answer-2.result (search rules) c.answer-item-in-loop-answer-2.is c.in-Ok-Some-share_given.field-0-is c.in-Ok-Some-share_given.ensures.gives in
     let again = subst (λ q. SuspendsAgain Skip q l.number x next.number next.load l.ctx.now next.ctx.now) inv.probe load.2 in

@@ -11,8 +11,10 @@ returns-in-None g c =
       (refl, (λ _. tt), (refl, (c.in-Ok.is, told_ended ctx.stop (Ok ctx.stop) refl (search rules)))),
       record {
         ends = tt;
-        left = tt;
-        gives = found_lent faults g.K.Lent.value_of ctx c.args.probe (g.K.Lent.see c.found.result) stored (search rules) c.found.ensures.gives;
-        refused = λ _. tt;
+        gives = record {
+          load = tt;
+          output = found_lent faults g.K.Lent.value_of ctx c.args.probe (g.K.Lent.see c.found.result) stored (search rules) c.found.ensures.gives;
+          refused = λ _. tt;
+        };
       },
     )

@@ -10,8 +10,8 @@ returns-in-Output-clause-memory g c = λ raw ended few.
     frames_not_refused g.R.Reader.shares c.args.probe _ c.put_found_frames.result c.in-Output.found c.args.context.now c.find_frames.follows.lender-at-none (c.put_found_frames.ensures.memory raw) (search rules) ended few
 
 pub returns-in-Ok-clause-left : goal.returns-in-Ok-clause-left
-returns-in-Ok-clause-left g c = leaves_waiting c.args.probe _ Waits c.args.context.now _ c.in-Load.continuation.ctx.now (inr refl) (search rules) c.in-Load.ensures.left.2.after
+returns-in-Ok-clause-left g c = leaves_waiting c.args.probe _ Waits c.args.context.now _ c.in-Load.continuation.ctx.now (inr refl) (search rules) c.in-Load.ensures.gives.comes_to.load.2.after
 
 pub returns-in-Err-clause-left : goal.returns-in-Err-clause-left
 returns-in-Err-clause-left g c = leaves_waiting c.args.probe _ c.status_of_error.result c.args.context.now _ c.in-Load.continuation.ctx.now
-    (inl (c.status_of_error.ensures.gives ∙ ap status_of_error c.in-Err.ensures.refused)) (search rules) c.in-Load.ensures.left.2.after
+    (inl (c.status_of_error.ensures.gives ∙ ap status_of_error c.in-Err.ensures.refused)) (search rules) c.in-Load.ensures.gives.comes_to.load.2.after

@@ -1,16 +1,9 @@
-use Rattle.addr2line.proofs.Common.{Some, refl, Stop, frames_left, IsUncovered, frames_value, frames_of_context}
-use Rattle.addr2line.proofs.AfterLemmas.{if_load}
-use Rattle.addr2line.proofs.UncoveredLemmas.{uncovered_ends, uncovered_ok}
+use Rattle.addr2line.proofs.Common.{refl}
 use Rattle.addr2line.proofs.context.Context.find_frames.Goals as goal
 
 pub returns : goal.returns
 returns g c =
-    let old = c.args.self.now in
-    let probe = c.args.probe in
-    let e = c.begin.ensures in
-    let f = c.begin.follows in
-    let ends = λ (u : IsUncovered old probe). uncovered_ends Stop probe old u g.R.Reader.shares (λ i. Some (frames_left i)) (frames_of_context old probe) (uncovered_ok Stop frames_value probe old u) _ c.begin.result
-    (if_load _ _ c.begin.result (λ x h. (x.number, h.2.waits)) e.left) f.holds-at-none e.gives in (
+    let f = c.begin.follows in (
       (refl, f.holds, f.holds-at-none),
-      record { ends = tt; left = e.left; gives = e.gives; last = e.last; none = ends },
+      record { gives = c.begin.ensures.gives; ends = tt },
     )

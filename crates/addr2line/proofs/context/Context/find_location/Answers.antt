@@ -1,7 +1,7 @@
 use Rattle.addr2line.proofs.Common.{[], cover, Err, None, Ok, ap, refl, sym, ◌∙◌, ◌≡◌, err_from_is_err_and}
 use Rattle.addr2line_lines.specs.LentLocation.{as_location}
 use Rattle.addr2line_units.proofs.LocationsWalkLemmas.{location_told}
-use Rattle.addr2line.proofs.ContextLemmas.{after_lookup, covers_none, finds_none, found_stopped, has_no_fault, located_alone, located_context, location_is, ready_told, stored_now, told_uncovered}
+use Rattle.addr2line.proofs.ContextLemmas.{after_lookup, covers_none, finds_none, found_stopped, has_no_fault, located_alone, located_context, location_is, ready_told, stored_now, told_uncovered, uncovered_by}
 use Rattle.addr2line.proofs.context.Context.find_location.Goals as goal
 
 pub invariant_of-self : goal.invariant_of-self
@@ -33,10 +33,12 @@ returns-in_err-walk g c =
         },
       ),
       record {
-        gives = λ n. is ∙ told n;
-        exact = λ ready. is ∙ told (ready_told s.ranges s.units i g.R.Reader.shares c.args.probe (Err x) now e.after ready);
-        last = λ q. absurd (no (sym c.find-ranges.ensures.gives ∙ c.find-ranges.ensures.last q));
-        none = λ q. absurd (no (covers_none s.ranges s.units i c.args.probe q));
+        gives = record {
+          found = λ n. is ∙ told n;
+          exact = λ ready. is ∙ told (ready_told s.ranges s.units i g.R.Reader.shares c.args.probe (Err x) now e.after ready);
+          none = λ q. absurd (no (covers_none s.ranges s.units i c.args.probe q));
+          last = λ q. uncovered_by s.ranges s.units i c.args.probe (sym c.find-ranges.ensures.gives ∙ c.find-ranges.ensures.last q);
+        };
         ends = tt;
       },
     )
@@ -63,10 +65,12 @@ returns g c =
         },
       ),
       record {
-        gives = gives;
-        exact = λ ready. gives;
-        last = λ q. ap (λ l. Ok l) (nothing (sym c.find-ranges.ensures.gives ∙ c.find-ranges.ensures.last q));
-        none = λ q. ap (λ l. Ok l) (nothing (covers_none s.ranges s.units i c.args.probe q));
+        gives = record {
+          found = gives;
+          exact = λ ready. gives;
+          none = λ q. ap (λ l. Ok l) (nothing (covers_none s.ranges s.units i c.args.probe q));
+          last = λ q. uncovered_by s.ranges s.units i c.args.probe (sym c.find-ranges.ensures.gives ∙ c.find-ranges.ensures.last q);
+        };
         ends = tt;
       },
     )

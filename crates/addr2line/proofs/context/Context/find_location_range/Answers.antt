@@ -29,9 +29,11 @@ returns-in_err-cache_lines g c =
     rw (p.1, p.2, sym c.self.view_is) (
       (refl, (λ _. tt), after_range_lookup s.ranges s.units i g.R.Reader.shares c.args.low c.args.high (Err c.in_err-cache_lines.field-0.0) now a (Err c.in_err-cache_lines.field-0.0) (λ told. absurd (told a.refused)) (λ h. h)),
       record {
-        gives = tt;
-        refused = a.refused;
-        exact = λ none. absurd (a.memory (none_more_along shares s.units.units s.units.parsed now.parsed a.lines.parsed rows (at_made s.ranges s.units i (λ x xs rs. TakeNone shares xs s.units.parsed (cover_range c.args.low c.args.high rs)) none)) a.refused);
+        gives = record {
+          found = tt;
+          refused = a.refused;
+          exact = λ none. absurd (a.memory (none_more_along shares s.units.units s.units.parsed now.parsed a.lines.parsed rows (at_made s.ranges s.units i (λ x xs rs. TakeNone shares xs s.units.parsed (cover_range c.args.low c.args.high rs)) none)) a.refused);
+        };
         ends = tt;
       },
     )
@@ -45,9 +47,11 @@ returns g c =
     rw (sym c.self.view_is) (
       (refl, (λ _. tt), after_range_lookup s.ranges s.units i g.R.Reader.shares c.args.low c.args.high (Ok tt) now a (Ok c.cached_rows.result) (λ told parsed. parsed) (λ h. h)),
       record {
-        gives = ap (λ (x : UnitsState). spans_of x.scope.file.sections c.args.low c.args.high) (sym a.lines.same) ∙ c.cached_rows.ensures.gives;
-        refused = tt;
-        exact = λ none. refl;
+        gives = record {
+          found = ap (λ (x : UnitsState). spans_of x.scope.file.sections c.args.low c.args.high) (sym a.lines.same) ∙ c.cached_rows.ensures.gives;
+          refused = tt;
+          exact = λ none. refl;
+        };
         ends = tt;
       },
     )

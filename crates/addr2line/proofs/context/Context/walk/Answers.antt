@@ -1,4 +1,5 @@
-use Rattle.addr2line.proofs.Common.{[], subst, sym, ◌∙◌, ◌≡◌, ExactlyUnlessOom, cover}
+use Rattle.addr2line.proofs.Common.{subst, sym, ◌∙◌, ExactlyUnlessOom, cover}
+use Rattle.addr2line.proofs.ContextLemmas.{uncovered_by}
 use Rattle.addr2line.proofs.LookupLemmas.{after_frames, refused_for_memory, stop_now, walk_alone, walk_memory, walked_context}
 use Rattle.addr2line.proofs.context.Context.walk.Goals as goal
 
@@ -26,5 +27,5 @@ returns-clause-after g c =
       refused = λ passes. refused_for_memory (λ _. now.stop) s.units (cover c.args.probe s.ranges) c.args.faults c.args.probe r passes e.gives;
       memory = walk_memory s.ranges s.units i c.args.faults c.args.probe now g.R.Reader.shares r e.after;
       no_memory = walk_alone s.ranges s.units i c.args.faults c.args.probe now g.R.Reader.shares r e.after;
-      last = λ q. (i.made, i.indexed, subst (λ rs. cover c.args.probe rs ≡ []) i.ranges (sym c.find-ranges.ensures.gives ∙ c.find-ranges.ensures.last q));
+      last = λ q. uncovered_by s.ranges s.units i c.args.probe (sym c.find-ranges.ensures.gives ∙ c.find-ranges.ensures.last q);
     })

@@ -11,16 +11,19 @@ returns-in_err-answer_loads g c =
     let probe = c.args.probe in
     let first = c.args.self.now.context in
     let now = c.answer_loads.new.ctx in
-    let told = c.in_err-answer_loads.ensures.after in
+    let told = c.in_err-answer_loads.ensures.after.by_files in
     let a = told.answers in
     let b = told.lookup in
     rw (p.1, p.2) (
       (refl, (λ _. tt), record { compressed = refl; files = refl; object = refl; context = a; lookup = b }),
       record {
-        gives = told.refused;
-        none = λ w. gives_if_none files probe first now a w _ b;
-        exact = λ w few. gives_exactly files probe first now a w _ b few;
-        last = λ q. last_frames probe first (c.answer_loads.ensures.last q) _ (λ w few. gives_exactly files probe first now a w _ b few);
+        gives = record {
+          by_files = told.refused;
+          ended = λ w. gives_if_none files probe first now a w _ b;
+          exact = λ w few. gives_exactly files probe first now a w _ b few;
+          none = λ u. last_frames probe first u _ (λ w few. gives_exactly files probe first now a w _ b few);
+          last = c.answer_loads.ensures.after.last;
+        };
         ends = tt;
       },
     )
@@ -31,16 +34,19 @@ returns-in-Ok g c =
     let probe = c.args.probe in
     let first = c.args.self.now.context in
     let now = c.answer_loads.new.ctx in
-    let told = rw c.in-Ok.is at c.in_ok-answer_loads.ensures.after in
+    let told = rw c.in-Ok.is at c.in_ok-answer_loads.ensures.after.by_files in
     let a = told.answers in
     let given = Ok (frames_left c.found_frames.result) in
     let b = subst (λ frames. AfterFramesByFiles probe (Ok frames) first now) (sym c.found_frames.ensures.gives) told.lookup in (
       (refl, (λ _. tt), record { compressed = refl; files = refl; object = refl; context = a; lookup = b }),
       record {
-        gives = gives_by_files files probe first now a given b tt;
-        none = λ w. gives_if_none files probe first now a w given b;
-        exact = λ w few. gives_exactly files probe first now a w given b few;
-        last = λ q. last_frames probe first (c.answer_loads.ensures.last q) given (λ w few. gives_exactly files probe first now a w given b few);
+        gives = record {
+          by_files = gives_by_files files probe first now a given b tt;
+          ended = λ w. gives_if_none files probe first now a w given b;
+          exact = λ w few. gives_exactly files probe first now a w given b few;
+          none = λ u. last_frames probe first u given (λ w few. gives_exactly files probe first now a w given b few);
+          last = c.answer_loads.ensures.after.last;
+        };
         ends = tt;
       },
     )
@@ -51,15 +57,18 @@ returns-in-Err g c =
     let probe = c.args.probe in
     let first = c.args.self.now.context in
     let now = c.answer_loads.new.ctx in
-    let told = rw (c.in-Err.is, sym c.from.ensures) at c.in_ok-answer_loads.ensures.after in
+    let told = rw (c.in-Err.is, sym c.from.ensures) at c.in_ok-answer_loads.ensures.after.by_files in
     let a = told.answers in
     let b = told.lookup in (
       (refl, (λ _. tt), record { compressed = refl; files = refl; object = refl; context = a; lookup = b }),
       record {
-        gives = told.refused;
-        none = λ w. gives_if_none files probe first now a w _ b;
-        exact = λ w few. gives_exactly files probe first now a w _ b few;
-        last = λ q. last_frames probe first (c.answer_loads.ensures.last q) _ (λ w few. gives_exactly files probe first now a w _ b few);
+        gives = record {
+          by_files = told.refused;
+          ended = λ w. gives_if_none files probe first now a w _ b;
+          exact = λ w few. gives_exactly files probe first now a w _ b few;
+          none = λ u. last_frames probe first u _ (λ w few. gives_exactly files probe first now a w _ b few);
+          last = c.answer_loads.ensures.after.last;
+        };
         ends = tt;
       },
     )

@@ -10,9 +10,12 @@ returns-in-Ok g c = (
     looked_in_context _ _ _ c.find_location.result _ _ _ (ap of_file (sym c.in-Ok.is)) c.find_location.follows.holds-at-none,
   ),
   record {
-    gives = ap of_file c.in-Ok.ensures.gives;
-    exact = λ ready. ap of_file (c.in-Ok.ensures.exact ready);
-    last = λ q. let found = c.in-Ok.ensures.last q in cc;
+    gives = record {
+      found = ap of_file c.in-Ok.ensures.gives.found;
+      exact = λ ready. ap of_file (c.in-Ok.ensures.gives.exact ready);
+      none = λ u. ap of_file (c.in-Ok.ensures.gives.none u);
+      last = c.in-Ok.ensures.gives.last;
+    };
     ends = tt;
   },
 )
@@ -25,9 +28,12 @@ returns-in-Err g c = (
     looked_in_context _ _ _ c.find_location.result _ _ _ (ap Err c.from.ensures ∙ ap of_file (sym c.in-Err.is)) c.find_location.follows.holds-at-none,
   ),
   record {
-    gives = λ ne. ap of_file (c.in-Err.ensures.gives (no_oom c.in-Err.error (λ q. ne (c.from.ensures ∙ q)))) ∙ ap Err (sym c.from.ensures);
-    exact = λ ready. ap of_file (c.in-Err.ensures.exact ready) ∙ ap Err (sym c.from.ensures);
-    last = λ q. absurd (let no = c.in-Err.ensures.last q in cc);
+    gives = record {
+      found = λ ne. ap of_file (c.in-Err.ensures.gives.found (no_oom c.in-Err.error (λ q. ne (c.from.ensures ∙ q)))) ∙ ap Err (sym c.from.ensures);
+      exact = λ ready. ap of_file (c.in-Err.ensures.gives.exact ready) ∙ ap Err (sym c.from.ensures);
+      none = λ u. absurd (let no = c.in-Err.ensures.gives.none u in cc);
+      last = c.in-Err.ensures.gives.last;
+    };
     ends = tt;
   },
 )

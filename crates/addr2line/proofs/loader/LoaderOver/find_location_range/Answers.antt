@@ -10,7 +10,7 @@ returns-in-Ok g c = (
     (λ _. tt),
     looked_in_context _ _ _ c.find_location_range.result _ _ _ (ap of_file (sym c.in-Ok.is)) c.find_location_range.follows.holds-at-none,
   ),
-  record { gives = c.in-Ok.ensures.gives; refused = tt; exact = λ none. refl; ends = tt },
+  record { gives = record { found = c.in-Ok.ensures.gives.found; refused = tt; exact = λ none. refl }; ends = tt },
 )
 
 pub returns-in-Err : goal.returns-in-Err
@@ -21,9 +21,11 @@ returns-in-Err g c = (
     looked_in_context _ _ _ c.find_location_range.result _ _ _ (ap Err c.from.ensures ∙ ap of_file (sym c.in-Err.is)) c.find_location_range.follows.holds-at-none,
   ),
   record {
-    gives = tt;
-    refused = c.from.ensures ∙ ap loader_error_of c.in-Err.ensures.refused;
-    exact = λ none. absurd (let no = c.in-Err.ensures.exact none in cc);
+    gives = record {
+      found = tt;
+      refused = c.from.ensures ∙ ap loader_error_of c.in-Err.ensures.gives.refused;
+      exact = λ none. absurd (let no = c.in-Err.ensures.gives.exact none in cc);
+    };
     ends = tt;
   },
 )

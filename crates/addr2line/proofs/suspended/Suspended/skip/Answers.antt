@@ -9,12 +9,15 @@ returns g c =
     let probe = c.args.self.probe in
     let old = c.args.self.ctx.now in
     let mid = c.skip_loads-walked.new.self in
+    let told = c.lend.ensures.gives in
     let f = c.lend.follows in (
       (refl, f.holds, skip_after faults probe old mid _ g.R.Reader.shares e.after.skip _ c.lend.result e.after.none f.holds-at-none),
       record {
         ends = tt;
-        left = if_load _ _ c.lend.result (λ x h. never_waits c.skip_loads-walked.result mid.stop x.number e.after.none h.3 h.4) c.lend.ensures.left;
-        gives = outputs_skipped faults probe old mid _ g.R.Reader.shares e.after.skip (found_at faults g.K.Lent.value_of) (λ i. Some (g.K.Lent.see i)) _ c.lend.result f.holds-at-none c.lend.ensures.gives;
-        refused = c.lend.ensures.refused;
+        gives = record {
+          load = if_load _ _ c.lend.result (λ x h. never_waits c.skip_loads-walked.result mid.stop x.number e.after.none h.3 h.4) told.load;
+          output = outputs_skipped faults probe old mid _ g.R.Reader.shares e.after.skip (found_at faults g.K.Lent.value_of) (λ i. Some (g.K.Lent.see i)) _ c.lend.result f.holds-at-none told.output;
+          refused = told.refused;
+        };
       },
     )

@@ -13,24 +13,28 @@ returns-in-Ok g c =
     let mid = c.answer.new.self in
     let a = c.in-Ok.ensures.after.after in
     let r = c.begin.result in
-    let e = c.begin.ensures in
+    let e = c.begin.ensures.gives.comes_to in
     let f = c.begin.follows in
     let gives = subst (λ s. IfOutput r (λ o. ExactlyUnlessOom (λ i. Some (kind.see i)) o (found_at faults kind.value_of s (answered d answers l.number (option_map (λ x. x.value) c.args.input)) l.probe))) a.sections
-    (subst (λ x. IfOutput r (λ o. ExactlyUnlessOom (λ i. Some (kind.see i)) o (found_at faults kind.value_of mid.sections x l.probe))) a.answers e.gives) in (
+    (subst (λ x. IfOutput r (λ o. ExactlyUnlessOom (λ i. Some (kind.see i)) o (found_at faults kind.value_of mid.sections x l.probe))) a.answers e.output) in (
       (refl, f.holds, if_output _ _ r (λ o h. inl (mid, a, h)) f.holds-at-none),
       record {
         ends = tt;
-        left = if_load _ _ r (λ x h. (h.0, h.1, (mid, a, h.2))) e.left;
-        shorter = if_load _ _ r (λ x h. subst (λ p. length (loads_at x.ctx.now.sections x.ctx.now.answers p) < length (loads_at d answers l.probe)) (sym h.1)
-            (subst (λ y. length (loads_at x.ctx.now.sections y l.probe) < length (loads_at d answers l.probe)) (sym h.2.after.answers)
-            (subst (λ s. length (loads_at s mid.answers l.probe) < length (loads_at d answers l.probe)) (sym h.2.after.sections) (a.shorter faults l.probe l.stands)))) e.left;
-        gives = gives;
-        refused = e.refused;
-        none = λ none.
-            let given = ap (λ o. option_map (λ x. x.value) o) none in
-            skip_told faults kind.value_of kind.see d answers l.probe l.number (λ x. x.ctx.now.sections) (λ x. x.ctx.now.answers) (λ x. x.probe) r
-            (if_load _ _ r (λ x h. (h.2.after.sections ∙ a.sections, h.2.after.answers ∙ a.answers ∙ ap (answered d answers l.number) given, h.1)) e.left)
-            (subst (λ x. IfOutput r (λ o. ExactlyUnlessOom (λ i. Some (kind.see i)) o (found_at faults kind.value_of d (answered d answers l.number x) l.probe))) given gives);
+        gives = record {
+          load = if_load _ _ r (λ x h. (h.0, h.1, (mid, a, h.2))) e.load;
+          output = gives;
+          refused = e.refused;
+        };
+        after = record {
+          shorter = if_load _ _ r (λ x h. subst (λ p. length (loads_at x.ctx.now.sections x.ctx.now.answers p) < length (loads_at d answers l.probe)) (sym h.1)
+              (subst (λ y. length (loads_at x.ctx.now.sections y l.probe) < length (loads_at d answers l.probe)) (sym h.2.after.answers)
+              (subst (λ s. length (loads_at s mid.answers l.probe) < length (loads_at d answers l.probe)) (sym h.2.after.sections) (a.shorter faults l.probe l.stands)))) e.load;
+          none = λ none.
+              let given = ap (λ o. option_map (λ x. x.value) o) none in
+              skip_told faults kind.value_of kind.see d answers l.probe l.number (λ x. x.ctx.now.sections) (λ x. x.ctx.now.answers) (λ x. x.probe) r
+              (if_load _ _ r (λ x h. (h.2.after.sections ∙ a.sections, h.2.after.answers ∙ a.answers ∙ ap (answered d answers l.number) given, h.1)) e.load)
+              (subst (λ x. IfOutput r (λ o. ExactlyUnlessOom (λ i. Some (kind.see i)) o (found_at faults kind.value_of d (answered d answers l.number x) l.probe))) given gives);
+        };
       },
     )
 
@@ -45,10 +49,10 @@ returns-in-Err g c =
       (refl, (λ _. tt), resume_refused g.R.Reader.shares faults l.probe l.number _ e l.ctx.now c.answer.new.self a),
       record {
         ends = tt;
-        left = tt;
-        shorter = tt;
-        gives = λ ne. absurd (ne oom);
-        refused = λ _. oom;
-        none = λ none o skips. subst (λ q. ExactlyUnlessOom (λ i. Some (kind.see i)) q (found_at faults kind.value_of l.ctx.now.sections (with_none l.ctx.now.answers) l.probe)) skips (λ ne. absurd (ne oom));
+        gives = record { load = tt; output = λ ne. absurd (ne oom); refused = λ _. oom };
+        after = record {
+          shorter = tt;
+          none = λ none o skips. subst (λ q. ExactlyUnlessOom (λ i. Some (kind.see i)) q (found_at faults kind.value_of l.ctx.now.sections (with_none l.ctx.now.answers) l.probe)) skips (λ ne. absurd (ne oom));
+        };
       },
     )

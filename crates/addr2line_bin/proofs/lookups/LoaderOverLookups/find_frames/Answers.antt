@@ -11,5 +11,5 @@ returns g c =
         (λ _. tt),
         same_after_loads frames_left c.args.probe c.find_frames.result (as_loader files loader) (as_loader files c.find_frames.follows.lender-at-none) c.find_frames.follows.holds-at-none,
       ),
-      record { gives = gives_frames frames_left (as_loader files loader) c.args.probe c.find_frames.result c.find_frames.ensures.gives c.find_frames.ensures.none c.find_frames.ensures.last c.find_frames.ensures.exact; ends = tt },
+      record { gives = gives_frames frames_left (as_loader files loader) c.args.probe c.find_frames.result c.find_frames.ensures.gives; ends = tt },
     )

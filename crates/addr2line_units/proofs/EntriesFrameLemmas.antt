@@ -1,5 +1,5 @@
 -- The frames in a unit by its functions and its lines (on specs/EntriesFrames.antt).
-use Rattle.addr2line_units.proofs.Common.{inl, ◌≡◌, ◌≢◌, ◌∙◌, ℕ, ap, sym, refl, subst, not, ◌&&◌, is_ok, is_none, box_value, Bool, true, false, Option, Some, None, option_map, Result, Ok, Err, if◌then◌else◌, Error, OutOfMemory, ◌>>=◌, Sections, UnitRecord, cached_detail, exceeds_inline_room, Location, location_at, location_of_row, Scope, LazyFunctions, LazyLines, LinesCache, EntriesCache, UnitView, ViewState, functions_in_take_memory, lines_take_memory, AreLinesOf, cached_files, is_uncached, no_lines, FoundFunction, found_frames, AreRead, AsksNoMemoryIn, ReadsEntriesOf, StayEntries, has_entries, has_entries_by, StayFunctions, cached_functions, IsViewOf, answer_in, answer_of_view, waits, was_checked, LocationResult, asks_lines_in, frames_by, frames_in, function_in, inlined_of_unit, is_open, ExactlyUnlessOom, ExactlyUnlessOomIf, IfErr, CachedUnit, AreEntriesOf, first_answer_of, is_decided, find_takes_memory, function_at, false≢true, indexed_unit, frames_of_place, verdict, DwLang, FramesResult, frames_by_lines}
+use Rattle.addr2line_units.proofs.Common.{inl, ◌≤◌, arith, ◌≡◌, ◌≢◌, ◌∙◌, ℕ, ap, sym, refl, subst, not, ◌&&◌, is_ok, is_none, box_value, Bool, true, false, Option, Some, None, option_map, Result, Ok, Err, if◌then◌else◌, Error, OutOfMemory, ◌>>=◌, Sections, UnitRecord, cached_detail, exceeds_inline_room, Location, location_at, location_of_row, Scope, LazyFunctions, LazyLines, LinesCache, EntriesCache, UnitView, ViewState, functions_in_take_memory, lines_take_memory, AreLinesOf, cached_files, is_uncached, no_lines, FoundFunction, found_frames, AreRead, AsksNoMemoryIn, ReadsEntriesOf, StayEntries, has_entries, has_entries_by, StayFunctions, cached_functions, IsViewOf, answer_in, answer_of_view, waits, was_checked, LocationResult, asks_lines_in, frames_by, frames_in, function_in, inlined_of_unit, is_open, ExactlyUnlessOom, ExactlyUnlessOomIf, IfErr, CachedUnit, AreEntriesOf, first_answer_of, is_decided, find_takes_memory, function_at, false≢true, indexed_unit, frames_of_place, verdict, DwLang, FramesResult, frames_by_lines}
 use Rattle.addr2line_lines.specs.declared.row.Row.{Row}
 use Rattle.addr2line_lines.specs.Location.{LineTable as Lines}
 use Rattle.addr2line_units.specs.declared.unit.LazyLines.TheVariants as lines
@@ -169,8 +169,8 @@ module _ {R : Type 0} (shares : Bool) (scope : Scope) (u : UnitRecord) (probe : 
     pub waits_gives : frames_or scope u probe was ≡ Ok None
     waits_gives = open_frames scope u was.lines.lang given answer probe open_now
 
-    pub waits_after : AfterFramesIn shares scope u probe (Ok found.Open) was mid
-    waits_after = record {
+    pub waits_after : (steps : ℕ) → AfterFramesIn shares scope u probe (Ok found.Open) was mid steps steps
+    waits_after steps = record {
       unit = looked.unit;
       lines = inl looked.lines;
       frames = tt;
@@ -184,6 +184,7 @@ module _ {R : Type 0} (shares : Bool) (scope : Scope) (u : UnitRecord) (probe : 
       known = λ _ asks. absurd (false≢true (sym (open_asks scope u was.lines.lang given answer probe open_now) ∙ asks));
       memory = λ _ _ _ _. tt;
       no_memory = λ _ _. tt;
+      raised = omega arith;
     }
 
   -- it doesn't, and the function was looked for
@@ -219,8 +220,8 @@ module _ {R : Type 0} (shares : Bool) (scope : Scope) (u : UnitRecord) (probe : 
       pub no_function_gives : e ≢ OutOfMemory → frames_or scope u probe was ≡ Err e
       no_function_gives ne = fault_frames scope u was.lines.lang given answer probe closed e (before (gives ne))
 
-      pub no_function_after : AfterFramesIn shares scope u probe (Err e) was new
-      no_function_after =
+      pub no_function_after : (steps : ℕ) → AfterFramesIn shares scope u probe (Err e) was new steps steps
+      no_function_after steps =
           let f = found_in.entries in
           record {
             unit = found_in.unit;
@@ -234,6 +235,7 @@ module _ {R : Type 0} (shares : Bool) (scope : Scope) (u : UnitRecord) (probe : 
             memory = λ has _ few _. f.memory has (few_then few);
             no_memory = λ none _. fault_frames scope u was.lines.lang given answer probe closed e (before
                 (function_alone shares scope u (first_answer_of mid.entries) probe new.lines new.entries e (subst (λ a. AsksNoMemoryIn shares scope u a probe new.lines new.entries) (sym check.stay.answer) none) f.memory gives f.no_memory));
+            raised = omega arith;
           }
 
     -- it is found, or there is none
@@ -267,8 +269,8 @@ module _ {R : Type 0} (shares : Bool) (scope : Scope) (u : UnitRecord) (probe : 
         pub no_lines_gives : e ≢ OutOfMemory → frames_or scope u probe was ≡ Err e
         no_lines_gives ne = lines_fault_frames scope u was.lines.lang given answer probe closed (found_in_cache new.entries.functions p) (before gives) e (in_unit ne)
 
-        pub no_lines_after : AfterFramesIn shares scope u probe (Err e) was now
-        no_lines_after = record {
+        pub no_lines_after : {before later : ℕ} → before ≤ later → AfterFramesIn shares scope u probe (Err e) was now before later
+        no_lines_after raised = record {
           unit = found_in.unit;
           lines = lines_left lines_asked;
           frames = tt;
@@ -280,6 +282,7 @@ module _ {R : Type 0} (shares : Bool) (scope : Scope) (u : UnitRecord) (probe : 
           memory = λ has parsed few not_oom. r.memory (parsed asked) not_oom;
           no_memory = λ none not_oom. lines_fault_frames scope u was.lines.lang given answer probe closed (found_in_cache new.entries.functions p) (before gives) e
               (lines_alone shares scope u answer probe l new.entries e (location_or scope.file.sections u probe was.lines.lines) none asked (λ cached. r.memory cached not_oom) in_unit (λ takes. ap (λ (x : Result Lines Error). x >>= λ table. Ok (location_at probe table)) (r.no_memory takes)));
+          raised = raised;
         }
 
       -- the row is found, or there is none
@@ -297,8 +300,8 @@ module _ {R : Type 0} (shares : Bool) (scope : Scope) (u : UnitRecord) (probe : 
         pub here_gives : frames_or scope u probe was ≡ Ok (frames_of_place l new.entries (found.Here p row))
         here_gives = here.1 ∙ ap (λ language. Ok (Some (found_frames (cached_files l.lines) language (found_in_cache new.entries.functions p) (option_map (location_of_row (cached_files l.lines)) row)))) (sym told.stay.language)
 
-        pub here_after : AfterFramesIn shares scope u probe (Ok (found.Here p row)) was now
-        here_after = record {
+        pub here_after : {before later : ℕ} → before ≤ later → AfterFramesIn shares scope u probe (Ok (found.Here p row)) was now before later
+        here_after raised = record {
           unit = found_in.unit;
           lines = lines_left row_asked;
           frames = (f.places, here.0);
@@ -309,6 +312,7 @@ module _ {R : Type 0} (shares : Bool) (scope : Scope) (u : UnitRecord) (probe : 
           known = λ _ asks. told.known;
           memory = λ _ _ _ _. tt;
           no_memory = λ _ _. tt;
+          raised = raised;
         }
 
 -- by lines that are the unit's own these are its frames

@@ -118,7 +118,7 @@ module _ {R : Type 0} {scope : Scope} {cs : List (CachedUnit R)} {last : FramesS
               by (Some stop) q = stop_there now_cs n f stop q found
 
           -- what is known after it
-          module _ {shares : Bool} (e : AfterFramesIn shares scope u probe result c w) (own_entries_now : AreOwnEntries w.unit w.entries) where
+          module _ {shares : Bool} {later : ℕ} (e : AfterFramesIn shares scope u probe result c w steps later) (own_entries_now : AreOwnEntries w.unit w.entries) where
             lines_now : AreLinesOf d u w.lines.lines
             lines_now = left_are e.lines (its_lines i n there at)
 
@@ -157,9 +157,9 @@ module _ {R : Type 0} {scope : Scope} {cs : List (CachedUnit R)} {last : FramesS
                 (sym units_same) (sym answers_same) (stop_right e.frames f is) (asked_ok f is)
                 (λ _. holds_alone (has_frames_at asks probe now_cs n) (asked_by (lookups.Frames faults) probe old n) (known_there (oom_before faults result (subst WasNotRefused (sym is) tt))))
 
-            module _ (now : ℕ) (raised : steps ≤ now) (stop : LookupStop) where
+            module _ (stop : LookupStop) where
               abbrev new : UnitsState
-              new = as_units_state scope now_cs now stop
+              new = as_units_state scope now_cs later stop
 
               all_is : has_all_at probe new n ≡ has_frames_at asks probe now_cs n
               all_is =
@@ -214,7 +214,7 @@ module _ {R : Type 0} {scope : Scope} {cs : List (CachedUnit R)} {last : FramesS
                     | inl same ↦ inl (detail_unchanged cs now_cs offset m same known)
                     | inr x ↦ details_there m x.0 offset known
                   ];
-                  raised = raised;
+                  raised = e.raised;
                 };
                 stop = stored;
                 ready = λ told. all_is ∙ known_there (before told);

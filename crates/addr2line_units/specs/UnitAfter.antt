@@ -4,6 +4,7 @@
 use Rattle.std.specs.Prelude.{◌≡◌, ◌+◌, ◌<◌, ◌≤◌, ℕ, Bool, true, false, List, Option, None, Some, Result, Ok, Err, IfOk, IfErr, IfSome, OnOk, is_some, if◌then◌else◌, ◌⊎◌}
 use Rattle.addr2line_units.specs.Common.{Error, OutOfMemory, WasNotRefused, Sections, UnitRecord, Scope, functions_of, functions_take_memory, ExactlyUnlessOom}
 use Rattle.addr2line_lines.specs.FunctionDetails.{AreUnread}
+use Rattle.addr2line_lines.specs.declared.row.Row.{Row}
 use Rattle.addr2line_units.specs.declared.entries.FunctionPlace.{FunctionPlace}
 use Rattle.addr2line_units.specs.declared.entries.LazyFunctions.{LazyFunctions}
 use Rattle.addr2line_units.specs.EntriesOwn.{CachedUnit, first_answer_of}
@@ -14,7 +15,8 @@ use Rattle.addr2line_units.specs.EntriesCached.{AreFramesIn, AsksNoMemoryIn, Has
 use Rattle.addr2line_units.specs.EntriesFrames.{HasFewInlined, asks_lines_in, function_in}
 use Rattle.addr2line_units.specs.EntriesFunctions.{AreFunctionsOf, ArePlacesIn, cached_functions, were_read}
 use Rattle.addr2line_units.specs.EntriesMemory.{functions_in_take_memory, lines_take_memory}
-use Rattle.addr2line_units.specs.UnitLinesCached.{StayLines, cached_lines_result, is_uncached, lines_or, lines_result_or}
+use Rattle.addr2line_units.specs.Locations.{is_found}
+use Rattle.addr2line_units.specs.UnitLinesCached.{StayLines, cached_lines_result, cached_steps, is_uncached, lines_or, lines_result_or}
 use Rattle.addr2line_units.specs.UnitView.{answered_view, verdict, SplitLoad, load_of_unit}
 use Rattle.addr2line_units.specs.LoadsListed.{MarksUnit, is_marked}
 use Rattle.addr2line_units.specs.LoadsMemory.{answer_takes_memory}
@@ -60,6 +62,15 @@ pub record CountsSteps (most : ℕ) (found : Bool) (old new : ℕ) : Type 0 wher
   pub raised : old ≤ new
   pub counted : found ≡ true → old < new
   pub cost : new ≤ old + most
+
+-- after the row of an address was looked for in a unit: its lines are cached, or their fault, which
+-- alone is a refusal then, or memory was refused; those that are cached were looked at no more often
+-- than a search in them takes, and once at least where a row was found
+pub record AfterRowIn (shares : Bool) (d : Sections) (u : UnitRecord)
+    (result : Result (Option Row) Error) (old new : LinesCache) (old_steps new_steps : ℕ)
+    : Type 0 where
+  pub lines : AfterLinesOf shares d u result old new
+  pub steps : CountsSteps (cached_steps new.lines) (is_found result) old_steps new_steps
 
 -- functions that were just read are those of the view, or their fault, without any detail
 pub record AreNewFunctionsOf {R : Type 0} (scope : Scope) (view : UnitRecord) (f : LazyFunctions R)
@@ -138,9 +149,10 @@ pub record AfterCheck {R : Type 0} (d : Sections) (u : UnitRecord) (old new : En
 -- no other detail is read, and lines only where they are asked for; unless memory was refused all
 -- that is asked for is known, and where it is, and the lines' fault isn't OutOfMemory, memory is
 -- refused for more than 16 inlined functions alone; where nothing of it takes memory either, a
--- refusal is the first fault
+-- refusal is the first fault; lines were looked at no less often than before
 pub record AfterFramesIn {R : Type 0} (shares : Bool) (scope : Scope) (u : UnitRecord) (probe : ℕ)
-    (result : Result UnitFrames Error) (old new : CachedUnit R) : Type 0 where
+    (result : Result UnitFrames Error) (old new : CachedUnit R) (old_steps new_steps : ℕ)
+    : Type 0 where
   pub unit : WasLookedAt scope u new
   pub lines : (new.lines ≡ old.lines) ⊎ CachesLines scope.file.sections u old.lines new.lines
   pub frames : IfOk result (AreFramesIn new.lines new.entries)
@@ -158,6 +170,7 @@ pub record AfterFramesIn {R : Type 0} (shares : Bool) (scope : Scope) (u : UnitR
   pub no_memory : AsksNoMemoryIn shares scope u (first_answer_of old.entries) probe new.lines
       new.entries → WasNotRefused (cached_lines_result new.lines.lines)
       → IfErr result (λ e. frames_or scope u probe old ≡ Err e)
+  pub raised : old_steps ≤ new_steps
 
 -- after an answer to the load of a unit: it was looked at first, and where it waits then, it is
 -- decided by the answer; no functions are read

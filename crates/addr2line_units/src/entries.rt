@@ -154,7 +154,7 @@ pub(crate) enum UnitFrames {
 }
 
 impl<R: Reader> UnitCache<R> {
-    ghost use Rattle.std.specs.Prelude.{◌≡◌, ◌≤◌, true};
+    ghost use Rattle.std.specs.Prelude.{◌≡◌, true};
     ghost use Rattle.addr2line_units.specs.Common.{ExactlyUnlessOom};
     ghost use Rattle.addr2line_units.specs.UnitAfter.{AfterCheck, AfterEntries, AfterFramesIn, AfterFunctionIn};
     ghost use Rattle.addr2line_units.specs.EntriesCached.{frames_of_place, frames_or};
@@ -268,8 +268,7 @@ impl<R: Reader> UnitCache<R> {
         ensures gives { ExactlyUnlessOom (frames_of_place self.new.lines self.new.entries) result
             (frames_or sources.now dw_unit.now probe self.old) }
         ensures after { AfterFramesIn R.shares sources.now dw_unit.now probe result self.old
-            self.new }
-        ensures steps { steps.old ≤ steps.new }
+            self.new steps.old steps.new }
     {
         self.check_split(sources, dw_unit);
         if self.entries.view.is_open() {

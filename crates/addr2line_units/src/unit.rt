@@ -5,10 +5,9 @@ ghost use Rattle.std.specs.Prelude.{◌≡◌, ◌≢◌, true, false, not, map,
 ghost use Rattle.addr2line_units.specs.Common.{Exactly, ExactlyUnlessOom, ExactlyUnlessOomIf, OutOfMemory, Sections, UnitRecord, location_of_row, IsScope, as_scope};
 ghost use Rattle.addr2line_units.specs.UnitsRanged.{is_partial, is_type_unit, listed_unit_ranges, asks_lines, has_lines, ranged_unit, unit_ranges};
 ghost use Rattle.addr2line_units.specs.EntriesMemory.{lines_take_memory};
-ghost use Rattle.addr2line_units.specs.Locations.{is_found};
 ghost use Rattle.addr2line_units.specs.IndexAranges.{range_in};
 ghost use Rattle.addr2line_units.specs.UnitLinesCached.{as_unit_at_first, cached_lines_result, cached_files, cached_steps, cached_ranges, cached_row, unit_at_first, lines_result, lines_result_or, location_or, cached_lines, is_uncached, unparsed_lines};
-ghost use Rattle.addr2line_units.specs.UnitAfter.{AfterLinesOf, AfterViewAnswer, AfterViewCheck, AfterViewForgetting, CountsSteps};
+ghost use Rattle.addr2line_units.specs.UnitAfter.{AfterLinesOf, AfterRowIn, AfterViewAnswer, AfterViewCheck, AfterViewForgetting, CountsSteps};
 ghost use Rattle.addr2line_units.specs.UnitsIndexed.{as_ranged_unit};
 ghost use Rattle.addr2line_units.specs.LoadsMemory.{answer_takes_memory};
 ghost use Rattle.addr2line_units.specs.UnitViewCached.{answer_in, has_view, parts_or_fault, answer_of_view, as_sections, split_file_by, split_file_in, split_unit, unboxed, verdict_in, view_in, waits, was_checked, verdict_or};
@@ -206,7 +205,7 @@ pub(crate) fn lines_and_ranges<R: Reader>(
 // The row of an address in cached lines.
 fn find_cached_row(lines: &LazyLines, steps: &mut Count, probe: u64) -> Option<Row>
     ensures gives { result ≡ cached_row probe lines.now }
-    ensures steps { CountsSteps (cached_steps lines.now) (is_some result) steps.old steps.new }
+    ensures after { CountsSteps (cached_steps lines.now) (is_some result) steps.old steps.new }
 {
     match lines {
         LazyLines::Read(lines) => lines.find_row(steps, probe),
@@ -260,8 +259,7 @@ impl LinesCache {
         ensures gives { ExactlyUnlessOom (option_map (location_of_row (cached_files
             self.new.lines))) result
             (location_or dwarf.now dw_unit.now probe self.old.lines) }
-        ensures after { AfterLinesOf R.shares dwarf.now dw_unit.now result self.old self.new }
-        ensures steps { CountsSteps (cached_steps self.new.lines) (is_found result) steps.old
+        ensures after { AfterRowIn R.shares dwarf.now dw_unit.now result self.old self.new steps.old
             steps.new }
     {
         self.read_lines(alloc, dwarf, dw_unit)?;

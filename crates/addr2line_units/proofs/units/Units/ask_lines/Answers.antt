@@ -32,7 +32,7 @@ invariant_of-self-in_err-row g c =
     let there = unit_got c.scope-scope.ensures.gives c.as_slice.ensures.gives n c.in-Some.ensures.lookup.0 c.in-Some.ensures.lookup.1 in
     let v : CachedUnit g.row.R.Denot = record { lines = c.cache.inside.lines; entries = c.cache.inside.entries; unit = looked_at_unit c.cache.inside.unit.value } in
     let at = subst (λ (y : CachedUnit g.row.R.Denot). y ≡ get_or c.self.inside.caches.items c.args.number y) (sym c.cache.view_is) c.index_mut-cache.ensures.value in
-    let a = lines_follow (subst (λ d. AfterLinesOf g.R.Reader.shares d c.in-Some.dw_unit.now c.find_row.result v.lines c.find_row.new.self) (sections_seen c.scope-scope.ensures.gives) c.find_row.ensures.after) in
+    let a = lines_follow (subst (λ d. AfterLinesOf g.R.Reader.shares d c.in-Some.dw_unit.now c.find_row.result v.lines c.find_row.new.self) (sections_seen c.scope-scope.ensures.gives) c.find_row.ensures.after.lines) in
     units_with_lines i n there at _ (own_after (its_lines i n there at) a) refl refl
 
 pub returns-in_err-row : goal.returns-in_err-row
@@ -53,9 +53,9 @@ returns-in_err-row g c =
     let d = s.sources.file.sections in
     let unit = indexed_unit u v.lines in
     let own = its_lines i n there at in
-    let a = lines_follow (subst (λ d. AfterLinesOf {X = Option Row} g.R.Reader.shares d u (Err x) v.lines l) is e.after) in
+    let a = lines_follow (subst (λ d. AfterLinesOf {X = Option Row} g.R.Reader.shares d u (Err x) v.lines l) is e.after.lines) in
     let fault : (x ≢ OutOfMemory → location_in d c.args.probe (Some unit) ≡ Err x) = (λ ne. sym (location_is d unit v.lines.lines own c.args.probe) ∙ subst (λ d. location_or d u c.args.probe v.lines.lines ≡ Err x) is (e.gives ne)) in
-    let counts = steps_are d unit l.lines (own_after own a) e.steps in
+    let counts = steps_are d unit l.lines (own_after own a) e.after.steps in
     let alone : (lines_take_memory g.R.Reader.shares u ≡ false → location_in d c.args.probe (Some unit) ≡ Err x) = (λ takes. lines_fault d c.args.probe unit x (no_memory_after own a takes)) in
     rw (p.1, p.2) (record {
       gives = λ ne. subst (λ y. stop_at lookups.Location c.args.probe y n ≡ Err x) c.self.view_is (row_fault i n s.steps was there at l a.stay c.args.probe x (fault ne));
@@ -78,7 +78,7 @@ invariant_of-self-2 g c =
     let row = c.in_ok-row.row in
     let d = s.sources.file.sections in
     let own = its_lines i n there at in
-    let a = lines_follow (subst (λ d. AfterLinesOf g.R.Reader.shares d u (Ok row) v.lines l) is e.after) in
+    let a = lines_follow (subst (λ d. AfterLinesOf g.R.Reader.shares d u (Ok row) v.lines l) is e.after.lines) in
     let found = sym (location_is d (indexed_unit u v.lines) v.lines.lines own c.args.probe) ∙ subst (λ d. location_or d u c.args.probe v.lines.lines ≡ Ok (option_map (location_of_row (cached_files l.lines)) row)) is e.gives in
     let right = own_after own a in
     rw c.row_stop.ensures.gives (units_with i n there (record v { lines = l }) (record { lines = right; entries = its_entries i n there at; unit = its_unit i n there at }) (row_lendable i n s.steps was there at l a.stay c.args.probe row right a.known found))
@@ -100,9 +100,9 @@ returns g c =
     let d = s.sources.file.sections in
     let unit = indexed_unit u v.lines in
     let own = its_lines i n there at in
-    let a = lines_follow (subst (λ d. AfterLinesOf g.R.Reader.shares d u (Ok row) v.lines l) is e.after) in
+    let a = lines_follow (subst (λ d. AfterLinesOf g.R.Reader.shares d u (Ok row) v.lines l) is e.after.lines) in
     let found = sym (location_is d unit v.lines.lines own c.args.probe) ∙ subst (λ d. location_or d u c.args.probe v.lines.lines ≡ Ok (option_map (location_of_row (cached_files l.lines)) row)) is e.gives in
-    let counts = steps_are d unit l.lines (own_after own a) e.steps in
+    let counts = steps_are d unit l.lines (own_after own a) e.after.steps in
     rw c.row_stop.ensures.gives (record {
       gives = subst (λ y. stop_at lookups.Location c.args.probe y n ≡ Ok (as_stop (set s.caches.items n (record v { lines = l })) (row_stop n row))) c.self.view_is (row_told i n s.steps was there at l a.stay c.args.probe row found);
       after = rw (sym c.self.view_is) (row_after i n s.steps was there at l a.stay g.R.Reader.shares (Ok row) c.find_row.new.steps a.known (memory_after own a) counts c.args.probe row refl);

@@ -56,9 +56,9 @@ returns-in_err-found g c =
     rw (p.1, p.2) (record {
       gives = λ ne. subst (λ y. stop_at (lookups.Frames c.args.faults) c.args.probe y c.args.number ≡ Err c.in_err-found.field-0.0) c.self.view_is
           (asked_err i c.args.probe c.args.number s.steps was there at w c.args.faults found.result gives _ (sym is) ne);
-      after = rw (sym c.self.view_is) (after_asked i c.args.probe c.args.number s.steps was there at w c.args.faults found.result gives e.after c.is_own.ensures.known found.new.steps e.steps FindsNothing _
+      after = rw (sym c.self.view_is) (after_asked i c.args.probe c.args.number s.steps was there at w c.args.faults found.result gives e.after c.is_own.ensures.known FindsNothing _
           (λ told. oom_before c.args.faults found.result (subst WasNotRefused is told)) (λ told. subst WasNotRefused (sym is) (oom_after c.args.faults found.result told)) refl
-          (refused_alone i c.args.probe c.args.number s.steps was there at w c.args.faults found.result gives e.after c.is_own.ensures.known found.new.steps e.steps FindsNothing c.in_err-found.field-0.0 (sym is)));
+          (refused_alone i c.args.probe c.args.number s.steps was there at w c.args.faults found.result gives e.after c.is_own.ensures.known FindsNothing c.in_err-found.field-0.0 (sym is)));
     })
 
 pub invariant_of-self-2 : goal.invariant_of-self-2
@@ -89,6 +89,6 @@ returns g c =
     record {
       gives = rw c.stop_at.ensures.gives (subst (λ y. stop_at (lookups.Frames c.args.faults) c.args.probe y c.args.number ≡ Ok (as_stop (set s.caches.items c.args.number w) (found_stop c.args.number c.in_ok-found.found))) c.self.view_is
           (asked_ok i c.args.probe c.args.number s.steps was there at w c.args.faults found.result gives _ (sym is)));
-      after = rw (sym c.self.view_is) (after_asked i c.args.probe c.args.number s.steps was there at w c.args.faults found.result gives e.after c.is_own.ensures.known found.new.steps e.steps _ _
+      after = rw (sym c.self.view_is) (after_asked i c.args.probe c.args.number s.steps was there at w c.args.faults found.result gives e.after c.is_own.ensures.known _ _
           (λ told. oom_before c.args.faults found.result (subst WasNotRefused is told)) (λ told. subst WasNotRefused (sym is) (oom_after c.args.faults found.result told)) tt (λ none. tt));
     }

@@ -1,6 +1,5 @@
 -- What a context has and what its sections give (on specs/Context.antt).
-use Rattle.addr2line.proofs.Common.{◌≡◌, ℕ, zero, suc, ◌≤◌, inl, inr, Bool, true, false, List, [], ◌∷◌, length, map, slice_get, Option, Some, None, option_map, Result, Ok, Err, refl, sym, ap, subst, ◌∙◌, arith, ◌+◌, IfErr, OnOk, Error, ◌>>=◌, Exactly, ExactlyUnlessOom, fault_of, WasNotRefused, Sections, UnitRecord, Scope, UnitRange, cover, cover_range, FindsNothing, main_scope, LocationResult, first_location, all_lines, is_found, lines_of_unit, location_in, location_of, steps_along, or_first_location, spans_along, spans_of, AreAllParsed, AreParsed, AsksFor, LeadTo, ParsesOnly, StaysParsed, has_parsed, ready_along, NothingKnown, IndexedUnit, RangedUnit, has_lines, indexed_of, ranged_units, unit_ranges_from, UnitIndex, index_units, sup_units, UnitsState, first_state, new_units, AfterLookup, AfterRangeLookup, ContextState, IsContext, IsReady, IsUncovered, IsReadyForRange, LocatesNoMemory, Stays, lines_of_all, new_context, as_context, has_stopped, ends_lookup, located_frames, location_stop, stop_along, stop_of, holds_along, LookupStop, Waits, Finds, location_found}
-use Rattle.std.specs.Cmp.{both_ways}
+use Rattle.addr2line.proofs.Common.{◌≡◌, ℕ, zero, suc, ◌≤◌, inl, inr, Bool, true, false, List, [], ◌∷◌, map, slice_get, Option, Some, None, option_map, Result, Ok, Err, refl, sym, ap, subst, ◌∙◌, ◌+◌, IfErr, OnOk, Error, ◌>>=◌, Exactly, ExactlyUnlessOom, fault_of, WasNotRefused, Sections, UnitRecord, Scope, UnitRange, cover, cover_range, FindsNothing, main_scope, LocationResult, first_location, all_lines, is_found, lines_of_unit, location_in, location_of, steps_along, or_first_location, spans_along, spans_of, AreAllParsed, AreParsed, AsksFor, LeadTo, ParsesOnly, has_parsed, ready_along, NothingKnown, IndexedUnit, RangedUnit, has_lines, indexed_of, ranged_units, unit_ranges_from, UnitIndex, index_units, sup_units, UnitsState, first_state, new_units, AfterLookup, AfterRangeLookup, ContextState, IsContext, IsReady, IsUncovered, IsReadyForRange, LocatesNoMemory, Stays, lines_of_all, new_context, as_context, has_stopped, ends_lookup, located_frames, location_stop, stop_along, stop_of, holds_along, LookupStop, Waits, Finds, location_found}
 use Rattle.std.specs.Prelude.{is_ok}
 use Rattle.addr2line_lines.specs.Location.{LineTable, Location, location_at}
 use Rattle.addr2line_lines.specs.Rows.{read_all}
@@ -18,15 +17,6 @@ use Rattle.addr2line_lines.proofs.Facts.{ok_is}
 pub exactly_told : {X Y : Type 0} (see : X → Y) (r : Result X Error) (given : Result Y Error) → ExactlyUnlessOom see r given → WasNotRefused r → Exactly see r given
 exactly_told see (Ok x) given g h = g
 exactly_told see (Err e) given g h = g h
-
-same_bools : (p q : List Bool) → length q ≡ length p → StaysParsed p q → StaysParsed q p → q ≡ p
-same_bools [] [] e f h = refl
-same_bools [] (b ∷ q) e f h = absurd (omega (arith, e))
-same_bools (a ∷ p) [] e f h = absurd (omega (arith, e))
-same_bools (a ∷ p) (b ∷ q) e f h = ap (λ x. x ∷ q) (both_ways b a (h 0) (f 0)) ∙ ap (λ xs. a ∷ xs) (same_bools p q (omega (arith, e)) (λ n. f (suc n)) (λ n. h (suc n)))
-
-pub same_if_asked : (asks : ℕ → Type 0) (old new : UnitsState) → left.AfterLines asks old new → ((n : ℕ) → asks n → has_parsed old.parsed n ≡ true) → new.parsed ≡ old.parsed
-same_if_asked asks old new a ready = same_bools old.parsed new.parsed a.many a.parsed (λ n e. elim (a.only n e) [ inl p ↦ p | inr asked ↦ ready n asked ])
 
 -- where a location is found, a lookup has found something
 pub found_stopped : {X : Type 0} (see : X → Location) (x : Option X) (stop : LookupStop) → option_map see x ≡ location_found stop → is_found {X = X} (Ok x) ≡ true → has_stopped stop ≡ true
@@ -156,7 +146,7 @@ module _ (ranges : List UnitRange) (u : UnitsState) (i : IsContext ranges u) whe
       ready = λ told. of_lines asked now a.asked.lines (ready_by now.parsed) (a.ready (f told));
       memory = λ ready. h (a.memory (at_lines asked now a.asked.lines (ready_by now.parsed) ready));
       only = of_made (λ s xs rs. ParsesOnly (AsksFor s.file.sections xs probe (cover probe rs)) u.parsed now.parsed) a.asked.lines.only;
-      same = λ ready. same_if_asked asked u now a.asked.lines (asked_ready d u.units u.parsed probe (cover probe ranges) (at_made (ready_by u.parsed) ready));
+      same = λ ready. a.asked.lines.kept (asked_ready d u.units u.parsed probe (cover probe ranges) (at_made (ready_by u.parsed) ready));
       raised = a.asked.raised;
       counted = λ found. a.asked.counted (k found);
       cost = of_made (λ s xs rs. now.steps ≤ u.steps + steps_along s.file.sections xs (cover probe rs)) a.asked.cost;
@@ -209,7 +199,7 @@ module _ (ranges : List UnitRange) (u : UnitsState) (i : IsContext ranges u) whe
     ready = λ told. of_lines (LeadTo (cover_range low high ranges)) now a.lines (λ s xs rs. AreParsed now.parsed (cover_range low high rs)) (f told a.parsed);
     memory = λ ready. h (a.memory (parsed_none_along shares u.units now.parsed (cover_range low high ranges) (at_lines (LeadTo (cover_range low high ranges)) now a.lines (λ s xs rs. AreParsed now.parsed (cover_range low high rs)) ready)));
     only = of_made (λ s xs rs. ParsesOnly (LeadTo (cover_range low high rs)) u.parsed now.parsed) a.lines.only;
-    same = λ ready. same_if_asked (LeadTo (cover_range low high ranges)) u now a.lines (led_ready u.parsed (cover_range low high ranges) (at_made (λ s xs rs. AreParsed u.parsed (cover_range low high rs)) ready));
+    same = λ ready. a.lines.kept (led_ready u.parsed (cover_range low high ranges) (at_made (λ s xs rs. AreParsed u.parsed (cover_range low high rs)) ready));
     steps = a.steps;
   }
 

@@ -48,7 +48,7 @@ module _ {R : Type 0} {scope : Scope} {cs : List (CachedUnit R)} {last : FramesS
     none_read = ap (lines_result_at d) (no_unit us cs n past)
 
     none_lines : AfterLines (λ k. k ≡ n) old (as_units_state scope cs steps FindsNothing)
-    none_lines = record { same = refl; many = refl; parsed = λ k e. e; only = λ k e. inl e }
+    none_lines = record { same = refl; parsed = λ k e. e; only = λ k e. inl e; kept = λ ready. refl }
 
     pub none_after_row : (shares : Bool) (probe : ℕ) → AfterAsk {X = Unit {0}} shares lookups.Location n probe (Ok tt) old (as_units_state scope cs steps FindsNothing)
     none_after_row shares probe = record {

@@ -1,21 +1,22 @@
 -- Lookups of locations and parses of lines, one unit after another (on specs/UnitsAfter.antt and
 -- specs/UnitsAsked.antt).
-use Rattle.addr2line_units.proofs.Common.{◌≡◌, ◌≢◌, inl, inr, ℕ, ◌+◌, ◌<◌, ◌≤◌, Bool, true, false, List, [], ◌∷◌, drop, length, slice_get, Some, None, Result, Ok, Err, refl, sym, ap, subst, ◌∙◌, arith, AllByRecursion, Error, OutOfMemory, ◌>>=◌, ExactlyUnlessOom, fault_of, Sections, UnitRange, AfterCachingAt, lines_result_at, location_frames, FindsNothing, LookupStop, ends_lookup, located_frames, location_found, or_stop, stop_along, LocationResult, all_lines, first_location, location_in, or_first_location, AllAskFor, AreAllParsed, AreParsed, AsksFor, LeadTo, StaysParsed, has_parsed, parses_no_memory, IndexedUnit, FramesResult, UnitsState, stop_of, Option, reverse, DwLang, InlinedEntry, Location, FoundFunction, found_frames, frames_from, first_frame_location}
+use Rattle.addr2line_units.proofs.Common.{◌≡◌, ◌≢◌, inl, inr, ℕ, suc, slice_get_past, unwrap_or, ◌+◌, ◌<◌, ◌≤◌, Bool, true, false, List, [], ◌∷◌, drop, length, slice_get, Some, None, Result, Ok, Err, refl, sym, ap, subst, ◌∙◌, arith, AllByRecursion, Error, OutOfMemory, ◌>>=◌, ExactlyUnlessOom, fault_of, Sections, UnitRange, AfterCachingAt, lines_result_at, location_frames, FindsNothing, LookupStop, ends_lookup, located_frames, location_found, or_stop, stop_along, LocationResult, all_lines, first_location, location_in, or_first_location, AllAskFor, AreAllParsed, AreParsed, AsksFor, LeadTo, StaysParsed, has_parsed, parses_no_memory, IndexedUnit, FramesResult, UnitsState, stop_of, Option, reverse, DwLang, InlinedEntry, Location, FoundFunction, found_frames, frames_from, first_frame_location}
 use Rattle.addr2line_units.specs.declared.frames.Asks.TheVariants as lookups
 use Rattle.addr2line_units.specs.UnitsAfter.{AfterCaching, AfterLineParse, AfterLines}
-use Rattle.addr2line_units.proofs.UnitsLinesLemmas.{all_parsed, asks_more, lines_end, lines_more, lines_stop, only_more, parsed_below, readable, ready_at_fault}
+use Rattle.addr2line_units.proofs.UnitsLinesLemmas.{asks_more, lines_end, lines_more, lines_stop, only_more, parsed_below, readable, ready_at_fault}
+use Rattle.addr2line_units.proofs.Facts.{at_or_behind}
 
 -- no lines were parsed yet
 pub lines_first : (asks : ℕ → Type 0) (old : UnitsState) → AfterLines asks old (record old { stop = FindsNothing })
-lines_first asks old = record { same = refl; many = refl; parsed = λ n e. e; only = λ n e. inl e }
+lines_first asks old = record { same = refl; parsed = λ n e. e; only = λ n e. inl e; kept = λ ready. refl }
 
 -- those of one more unit
 pub lines_over : (asks : ℕ → Type 0) (k : ℕ) (old mid now : UnitsState) → AfterLines asks old mid → AfterLines (λ n. n ≡ k) mid now → asks k → AfterLines asks old now
 lines_over asks k old mid now a b asked = record {
   same = b.same ∙ ap (λ (s : UnitsState). record s { parsed = now.parsed; steps = now.steps; stop = now.stop }) a.same;
-  many = b.many ∙ a.many;
   parsed = λ n e. b.parsed n (a.parsed n e);
   only = only_more asks old.parsed mid.parsed now.parsed k a.only b.only asked;
+  kept = λ ready. b.kept (λ n is. a.parsed n (ready n (subst asks (sym is) asked))) ∙ a.kept ready;
 }
 
 -- the location that a lookup of a location finds along ranges is the first one
@@ -174,7 +175,10 @@ module _ (shares : Bool) (k : ℕ) (old now : UnitsState) (w : ParsedSoFar k old
   parsed_end = sym w.rest ∙ lines_end old.scope.file.sections old.units k units
 
   all : AreAllParsed now.parsed
-  all = all_parsed now.parsed k (subst (λ m. m ≤ k) (sym w.lines.many) many) w.parsed
+  all n = elim (at_or_behind (suc n) k) [
+    | inl l ↦ w.parsed n (omega (arith, l))
+    | inr l ↦ w.lines.parsed n (ap (λ (o : Option Bool). unwrap_or o true) (slice_get_past old.parsed n (omega (arith, many, l))))
+  ]
 
   pub parsed_end_after : AfterLineParse shares (Ok tt) old now
   parsed_end_after = record {

@@ -1,6 +1,7 @@
 -- The units of a context whose lines are cached one after another (on specs/UnitLinesCached.antt and
 -- specs/LocationsParsed.antt).
-use Rattle.addr2line_units.proofs.Common.{◌≡◌, ℕ, zero, suc, ◌+◌, ◌-◌, ◌≤◌, ◌<◌, Bool, true, false, not, ◌||◌, List, [], ◌∷◌, ◌++◌, length, map, drop, add-one, get_or, Option, Some, None, slice_get, Result, Ok, Err, is_ok, refl, sym, ap, subst, arith, ◌∙◌, inl, inr, drop_of_length-le, set, Error, Range, ◌>>=◌, ExactlyUnlessOom, fault_of, result_map, WasNotRefused, DwLang, Sections, UnitRecord, LineTable, read_all, unit_lines, LazyLines, CachedUnit, UnitRange, IndexedUnit, has_lines, range_of_unit, unit_ranges, all_lines, lines_of_unit, steps_along, steps_in, lines_of_take_memory, AllAskFor, AreParsed, AreReadyForAll, ParsesOnly, StaysParsed, TakeNone, TakeNoneForAll, can_be_read, has_parsed, parses_no_memory, AreLinesOf, HaveLinesOf, StayLines, indexed_unit, indexed_units, is_parsed, is_uncached, lines_result, lines_result_at, lines_at, parsed_units}
+use Rattle.addr2line_units.proofs.Common.{◌≡◌, ℕ, zero, suc, ◌+◌, ◌≤◌, ◌<◌, Bool, true, false, not, ◌||◌, List, [], ◌∷◌, ◌++◌, length, map, drop, add-one, get_or, Option, Some, None, slice_get, Result, Ok, Err, is_ok, refl, sym, ap, subst, arith, ◌∙◌, inl, inr, drop_of_length-le, set, Error, Range, ◌>>=◌, ExactlyUnlessOom, fault_of, result_map, WasNotRefused, DwLang, Sections, UnitRecord, LineTable, read_all, unit_lines, LazyLines, CachedUnit, UnitRange, IndexedUnit, has_lines, range_of_unit, unit_ranges, all_lines, lines_of_unit, steps_along, steps_in, lines_of_take_memory, AllAskFor, AreParsed, AreReadyForAll, ParsesOnly, StaysParsed, TakeNone, TakeNoneForAll, can_be_read, has_parsed, parses_no_memory, AreLinesOf, HaveLinesOf, StayLines, indexed_unit, indexed_units, is_parsed, is_uncached, lines_result, lines_result_at, lines_at, parsed_units}
+use Rattle.std.specs.Cmp.{both_ways}
 use Rattle.std.proofs.Math.Nat.{eq-or-lt_of_le}
 use Rattle.std.proofs.lemmas.Bool.{not-true}
 use Rattle.std.proofs.lemmas.List.{append-nil}
@@ -28,13 +29,6 @@ stay_indexed (u ∷ us) [] (s ∷ ss) a = absurd a
 stay_indexed (u ∷ us) (r ∷ rs) [] a = absurd a
 stay_indexed (u ∷ us) (r ∷ rs) (s ∷ ss) a = ap (λ l. record { unit = u; language = l } ∷ indexed_units us ss) a.0.language ∙ ap (λ xs. indexed_unit u r.lines ∷ xs) (stay_indexed us rs ss a.1)
 
--- there are as many
-pub stay_length : {R : Type 0} (rs ss : List (CachedUnit R)) → StayAllLines rs ss → length ss ≡ length rs
-stay_length [] [] a = refl
-stay_length [] (s ∷ ss) a = absurd a
-stay_length (r ∷ rs) [] a = absurd a
-stay_length (r ∷ rs) (s ∷ ss) a = ap suc (stay_length rs ss a.1)
-
 -- what was parsed stays parsed
 pub stay_parsed : {R : Type 0} (rs ss : List (CachedUnit R)) → StayAllLines rs ss → StaysParsed (parsed_units rs) (parsed_units ss)
 stay_parsed [] [] a n e = e
@@ -42,6 +36,15 @@ stay_parsed [] (s ∷ ss) a n e = absurd a
 stay_parsed (r ∷ rs) [] a n e = absurd a
 stay_parsed (r ∷ rs) (s ∷ ss) a zero e = ap (λ l. not (is_uncached l)) (a.0.lines (not-true (is_uncached r.lines.lines) e)) ∙ e
 stay_parsed (r ∷ rs) (s ∷ ss) a (suc n) e = stay_parsed rs ss a.1 n e
+
+-- where no more are parsed, the same are
+pub same_parsed : {R : Type 0} (rs ss : List (CachedUnit R)) → StayAllLines rs ss → StaysParsed (parsed_units ss) (parsed_units rs) → parsed_units ss ≡ parsed_units rs
+same_parsed [] [] a no_more = refl
+same_parsed [] (s ∷ ss) a no_more = absurd a
+same_parsed (r ∷ rs) [] a no_more = absurd a
+same_parsed (r ∷ rs) (s ∷ ss) a no_more =
+    ap (λ b. b ∷ parsed_units ss) (both_ways (is_parsed s.lines) (is_parsed r.lines) (no_more 0) (stay_parsed (r ∷ rs) (s ∷ ss) a 0))
+    ∙ ap (λ bs. is_parsed r.lines ∷ bs) (same_parsed rs ss a.1 (λ n. no_more (suc n)))
 
 -- beside each unit stand lines
 pub as_many : {R : Type 0} (d : Sections) (us : List UnitRecord) (rs : List (CachedUnit R)) → HaveLinesOf d us rs → length us ≡ length rs
@@ -236,11 +239,6 @@ pub parsed_below : (p : List Bool) (k : ℕ) → ((n : ℕ) → n < k → has_pa
 parsed_below p k before at n h =
     let le : n ≤ k = omega arith in
     elim (eq-or-lt_of_le le) [ inl e ↦ ap (has_parsed p) e ∙ at | inr l ↦ before n l ]
-
-pub all_parsed : (p : List Bool) (k : ℕ) → length p ≤ k → ((n : ℕ) → n < k → has_parsed p n ≡ true) → (n : ℕ) → has_parsed p n ≡ true
-all_parsed [] k le f n = refl
-all_parsed (b ∷ p) k le f zero = f zero (omega arith)
-all_parsed (b ∷ p) k le f (suc n) = all_parsed p (k - 1) (omega arith) (λ m h. f (suc m) (omega arith)) n
 
 -- what is parsed by one more step is parsed by all of them
 pub only_more : (Asked : ℕ → Type 0) (first mid now : List Bool) (k : ℕ) → ParsesOnly Asked first mid → ParsesOnly (λ n. n ≡ k) mid now → Asked k → ParsesOnly Asked first now

@@ -1,6 +1,6 @@
 -- What calls leave of the units of a context, by what is cached of them (on specs/UnitsAfter.antt
 -- and specs/UnitsStored.antt).
-use Rattle.addr2line_units.proofs.Common.{◌≡◌, ◌≢◌, ◌⊎◌, inl, inr, ℕ, zero, suc, ◌<◌, ◌≤◌, ◌&&◌, ◌||◌, ◌++◌, Bool, true, false, not, List, [], ◌∷◌, length, get_or, slice_get, Option, Some, None, option_map, unwrap_or, Result, Ok, Err, refl, sym, ap, subst, ◌∙◌, eqb_tells, length-map, IfErr, OnOk, Error, OutOfMemory, WasNotRefused, Range, Sections, UnitRecord, Scope, unit_lines, FramesStop, UnitRange, ReadingDepth, LazyLines, CachedUnit, has_entries, IsLendable, as_stop, AreLinesOf, HaveLinesOf, cached_spans, indexed_units, is_parsed, is_uncached, lines_at, parsed_units, HaveEntriesOf, answers_in, waits_at, FindsNothing, LookupStop, Waits, answer_of, ends_lookup, holds_along, with_answer, IsReadyFor, known_in, KnownEntries, LearnsNoFunctions, knows_at, forgotten, is_open_at, load_result, spans_along, spans_in, spans_or_fault, AreParsed, ParsesOnly, has_parsed, IndexedUnit, as_units_state, FramesResult, UnitsState, FirstAnswers, SplitLoad, load_of_unit}
+use Rattle.addr2line_units.proofs.Common.{◌≡◌, ◌≢◌, ◌⊎◌, inl, inr, ℕ, zero, suc, ◌<◌, ◌≤◌, ◌&&◌, ◌||◌, ◌++◌, Bool, true, false, not, List, [], ◌∷◌, length, get_or, slice_get, Option, Some, None, option_map, unwrap_or, Result, Ok, Err, refl, sym, ap, subst, ◌∙◌, eqb_tells, IfErr, OnOk, Error, OutOfMemory, WasNotRefused, Range, Sections, UnitRecord, Scope, unit_lines, FramesStop, UnitRange, ReadingDepth, LazyLines, CachedUnit, has_entries, IsLendable, as_stop, AreLinesOf, HaveLinesOf, cached_spans, indexed_units, is_uncached, lines_at, parsed_units, HaveEntriesOf, answers_in, waits_at, FindsNothing, LookupStop, Waits, answer_of, ends_lookup, holds_along, with_answer, IsReadyFor, known_in, KnownEntries, LearnsNoFunctions, knows_at, forgotten, is_open_at, load_result, spans_along, spans_in, spans_or_fault, AreParsed, ParsesOnly, has_parsed, IndexedUnit, as_units_state, FramesResult, UnitsState, FirstAnswers, SplitLoad, load_of_unit}
 use Rattle.std.specs.Prelude.{IfSome, is_some}
 use Rattle.addr2line_units.specs.declared.frames.FramePlace.{FramePlace}
 use Rattle.addr2line_units.specs.declared.frames.FramesStop.TheVariants as stops
@@ -17,7 +17,7 @@ use Rattle.addr2line_units.proofs.EntriesKnownLemmas.{known_is, known_unchanged}
 use Rattle.addr2line_units.proofs.LoadsLemmas.{as_many_answers}
 use Rattle.addr2line_units.proofs.EntriesReadByLemmas.{answered_is_decided, known_is_decided, none_asked}
 use Rattle.addr2line_units.proofs.EntriesStayLemmas.{none_whole, stays_known, whole_is_decided}
-use Rattle.addr2line_units.proofs.UnitsLinesLemmas.{stay_indexed, stay_length, stay_parsed}
+use Rattle.addr2line_units.proofs.UnitsLinesLemmas.{same_parsed, stay_indexed, stay_parsed}
 use Rattle.addr2line_units.proofs.UnitsCaches.{HaveSameEntries, HaveSameLines, StayAllEntries, StayAllLines, decided_at}
 
 -- what is stored that waits for a unit waits for one that waits
@@ -88,9 +88,9 @@ module _ {R : Type 0} (scope : Scope) (held : List (CachedUnit R)) where
       same = ap (λ xs. with_units xs (answers_in now) (known_in now)) (stay_indexed us held now stay)
           ∙ ap (λ xs. with_units (indexed_units us held) xs (known_in now)) (answers_by_entries held now same)
           ∙ ap (λ xs. with_units (indexed_units us held) (answers_in held) xs) (known_by_entries held now same);
-      many = length-map now (λ (c : CachedUnit R). is_parsed c.lines) ∙ stay_length held now stay ∙ sym (length-map held (λ (c : CachedUnit R). is_parsed c.lines));
       parsed = stay_parsed held now stay;
       only = only;
+      kept = λ ready. same_parsed held now stay (λ n e. elim (only n e) [ inl was ↦ was | inr asked ↦ ready n asked ]);
     }
 
   -- after answers to loads, and what is known of entries

@@ -19,18 +19,19 @@ use Rattle.addr2line_units.specs.LoadsMemory.{answer_takes_memory}
 use Rattle.addr2line_units.specs.LoadsLaws.{IsListed, loads_of}
 use Rattle.addr2line_units.specs.Locations.{all_lines, steps_along}
 use Rattle.addr2line_units.specs.ParsesLaws.{IsReached}
-use Rattle.addr2line_units.specs.LocationsParsed.{AllAskFor, AreAllParsed, AreParsed, AreReadyForAll, LeadTo, ParsesOnly, StaysParsed, TakeNone, TakeNoneForAll}
+use Rattle.addr2line_units.specs.LocationsParsed.{AllAskFor, AreAllParsed, AreParsed, AreReadyForAll, LeadTo, ParsesOnly, StaysParsed, TakeNone, TakeNoneForAll, has_parsed}
 use Rattle.addr2line_units.specs.EntriesStayKnown.{IsReadBy, IsReadyAt, StaysKnown}
 use Rattle.addr2line_units.specs.UnitsState.{IsFaultAt, UnitsState, asked_by, has_asked_at, has_asked_few_at, stop_of, takes_none_at}
 use Rattle.addr2line_units.specs.UnitView.{FirstAnswers}
 
 -- nothing is changed but which lines are parsed, how often they were looked at, and what is stored
--- of the last lookup: those stay parsed that were, and no others are but those that are asked for
+-- of the last lookup: those stay parsed that were, and no others are but those that are asked for;
+-- where all of these were, which lines are parsed isn't changed either
 pub record AfterLines (asks : ℕ → Type 0) (old new : UnitsState) : Type 0 where
   pub same : new ≡ record old { parsed = new.parsed; steps = new.steps; stop = new.stop }
-  pub many : length new.parsed ≡ length old.parsed
   pub parsed : StaysParsed old.parsed new.parsed
   pub only : ParsesOnly asks old.parsed new.parsed
+  pub kept : ((n : ℕ) → asks n → has_parsed old.parsed n ≡ true) → new.parsed ≡ old.parsed
 
 -- after the lines of units along ranges were parsed, or after OutOfMemory, where those of a unit
 -- are left that take memory, over readers that share their bytes or don't

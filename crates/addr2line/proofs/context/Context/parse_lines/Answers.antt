@@ -1,7 +1,7 @@
 use Rattle.addr2line.proofs.Common.{ap, subst, sym, ◌∙◌, ExactlyUnlessOom, cover, AllAskFor, AreReadyForAll, ParsesOnly, TakeNoneForAll, UnitsState, as_context}
 use Rattle.std.specs.Prelude.{is_ok}
 use Rattle.addr2line_units.proofs.UnitsLinesLemmas.{none_more_for_all}
-use Rattle.addr2line.proofs.ContextLemmas.{along_ok, at_lines, at_made, exactly_told, lines_are, lines_context, lines_stay, location_is, of_lines, of_made, ready_if_ok, same_if_asked, when_ok}
+use Rattle.addr2line.proofs.ContextLemmas.{along_ok, at_lines, at_made, exactly_told, lines_are, lines_context, lines_stay, location_is, of_lines, of_made, ready_if_ok, when_ok}
 use Rattle.addr2line.proofs.context.Context.parse_lines.Goals as goal
 
 pub invariant_of-self : goal.invariant_of-self
@@ -27,7 +27,7 @@ returns-clause-after g c =
       stays = lines_stay s.ranges s.units i _ now a.lines;
       steps = a.steps;
       only = of_made s.ranges s.units i (λ x xs rs. ParsesOnly (AllAskFor x.file.sections xs) s.units.parsed now.parsed) a.lines.only;
-      same = λ ready. same_if_asked _ s.units now a.lines (at_made s.ranges s.units i (λ x xs rs. AreReadyForAll x.file.sections xs s.units.parsed) ready);
+      same = λ ready. a.lines.kept (at_made s.ranges s.units i (λ x xs rs. AreReadyForAll x.file.sections xs s.units.parsed) ready);
       ready = λ told. of_lines s.ranges s.units i _ now a.lines (λ x xs rs. AreReadyForAll x.file.sections xs now.parsed) (a.ready told);
       memory = λ none. a.memory (at_lines s.ranges s.units i _ now a.lines (λ x xs rs. TakeNoneForAll shares x.file.sections xs now.parsed) none);
       exact = λ none. exactly_told (λ x. x) c.parse_lines.result _ gives

@@ -1,6 +1,6 @@
-use Rattle.addr2line_units.proofs.Common.{◌≡◌, ◌≢◌, true, Err, Ok, ap, subst, sym, ◌∙◌, err_from_is_err_and, OutOfMemory, Sections, or_left, new_units}
+use Rattle.addr2line_units.proofs.Common.{◌≡◌, ◌≢◌, true, Err, ap, subst, sym, ◌∙◌, err_from_is_err_and, OutOfMemory, Sections, or_left}
 use Rattle.addr2line_units.specs.UnitsIndex.{sup_read}
-use Rattle.addr2line_units.specs.UnitsIndexed.{IndexState, index_read}
+use Rattle.addr2line_units.specs.UnitsIndexed.{IndexState}
 use Rattle.addr2line_units.proofs.UnitsOfHeadersLemmas.{then_takes}
 use Rattle.addr2line_units.proofs.UnitsNewLemmas.{are_units, index_is, index_sections, scope_in_order, sup_fault, units_fault, units_made}
 use Rattle.addr2line_units.proofs.units.Units.parse.Goals as goal
@@ -24,31 +24,14 @@ returns-in_err-sup g c =
 pub invariant_of-sources : goal.invariant_of-sources
 invariant_of-sources g c =
     let s = c.indexed.inside in
-    let d = s.dwarf.value in
-    let of = ap (λ (m : IndexState). m.sections) c.indexed.view_is ∙ index_sections c.args.dwarf.value _ c.in_ok-indexed.ensures.gives in
-    let units = subst (λ x. (index_read x).given ≡ Ok c.in_ok-indexed.indexed) (sym of) c.in_ok-indexed.ensures.gives in
-    let sup = rw c.deref.ensures at c.in_ok-sup.ensures.gives in
-    let sup_is = rw c.deref.ensures at c.in_ok-sup.ensures.dwarf in
-    scope_in_order d s.dw_units.items s.caches.items s.ranges c.in_ok-sup.sup (sym (index_is d) ∙ units ∙ ap (λ m. Ok m) (sym c.indexed.view_is)) sup sup_is c.indexed.invariant
+    scope_in_order c.args.dwarf.value s.dwarf.value s.dw_units.items s.caches.items s.ranges c.in_ok-sup.sup c.in_ok-indexed.ensures.gives c.indexed.view_is c.deref.ensures c.in_ok-sup.ensures.gives c.in_ok-sup.ensures.dwarf c.indexed.invariant
 
 pub invariant_of-units : goal.invariant_of-units
 invariant_of-units g c =
     let s = c.indexed.inside in
-    let d = s.dwarf.value in
-    let of = ap (λ (m : IndexState). m.sections) c.indexed.view_is ∙ index_sections c.args.dwarf.value _ c.in_ok-indexed.ensures.gives in
-    let units = subst (λ x. (index_read x).given ≡ Ok c.in_ok-indexed.indexed) (sym of) c.in_ok-indexed.ensures.gives in
-    let sup = rw c.deref.ensures at c.in_ok-sup.ensures.gives in
-    let sup_is = rw c.deref.ensures at c.in_ok-sup.ensures.dwarf in
-    are_units d s.dw_units.items s.caches.items s.ranges c.in_ok-sup.sup (sym (index_is d) ∙ units ∙ ap (λ m. Ok m) (sym c.indexed.view_is)) sup sup_is c.indexed.invariant
+    are_units c.args.dwarf.value s.dwarf.value s.dw_units.items s.caches.items s.ranges c.in_ok-sup.sup c.in_ok-indexed.ensures.gives c.indexed.view_is c.deref.ensures c.in_ok-sup.ensures.gives c.in_ok-sup.ensures.dwarf c.indexed.invariant
 
 pub returns : goal.returns
 returns g c =
     let s = c.indexed.inside in
-    let d = s.dwarf.value in
-    let of = ap (λ (m : IndexState). m.sections) c.indexed.view_is ∙ index_sections c.args.dwarf.value _ c.in_ok-indexed.ensures.gives in
-    let units = subst (λ x. (index_read x).given ≡ Ok c.in_ok-indexed.indexed) (sym of) c.in_ok-indexed.ensures.gives in
-    let sup = rw c.deref.ensures at c.in_ok-sup.ensures.gives in
-    let sup_is = rw c.deref.ensures at c.in_ok-sup.ensures.dwarf in
-    record {
-      gives = rw c.new.ensures.gives (sym (ap new_units of) ∙ units_made d s.dw_units.items s.caches.items s.ranges c.in_ok-sup.sup (sym (index_is d) ∙ units ∙ ap (λ m. Ok m) (sym c.indexed.view_is)) sup sup_is c.indexed.invariant);
-    }
+    record { gives = rw c.new.ensures.gives (units_made c.args.dwarf.value s.dwarf.value s.dw_units.items s.caches.items s.ranges c.in_ok-sup.sup c.in_ok-indexed.ensures.gives c.indexed.view_is c.deref.ensures c.in_ok-sup.ensures.gives c.in_ok-sup.ensures.dwarf c.indexed.invariant) }

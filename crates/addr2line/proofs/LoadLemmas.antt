@@ -85,7 +85,7 @@ module _ (ranges : List UnitRange) (u : UnitsState) (i : IsContext ranges u) whe
     after_parse = record {
       stays = stays_read now a.stays;
       answers = λ told. a.answers told ∙ sym (parsed_is depth);
-      begun = of_made ranges u i (λ s xs rs. (n : ℕ) × left.HasComeTo depth s s.file.units u.answers u.known now.answers now.known n) a.begun;
+      begun = of_made ranges u i (λ s xs rs. (n : ℕ) × left.HasComeTo depth r s s.file.units u.answers u.known now.answers now.known n) a.begun;
       known = of_made ranges u i (λ s xs rs. (probe n : ℕ) → is_open_at s.file.sections s.file.units u.answers n ≡ false → knows_at u.known probe n ≡ true → knows_at now.known probe n ≡ true) a.known;
       whole = of_made ranges u i (λ s xs rs. (needed : ReadingDepth) (n : ℕ) → is_open_at s.file.sections s.file.units u.answers n ≡ false → IsReadyAt needed u.known n → IsReadyAt needed now.known n) a.whole;
       details = a.details;

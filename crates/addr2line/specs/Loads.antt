@@ -119,17 +119,17 @@ IsReadyToRead depth c = (m : UnitIndex) → index_units c.sections ≡ Ok m
     → AreReadyFor depth (main_scope c.sections m) (unit_records m.units) c.answers c.known
 
 -- after a parse of all functions open units are decided by none, up to the first fault; where
--- memory was refused, the parse has come to some unit. What was known of the others stays, of those
--- behind it nothing becomes known, and where functions alone are read no detail does. Unless memory
--- was refused all is known that the parse reads, and where it is, none was refused; where it was
--- before, nothing is changed of what is known and answered
+-- memory was refused, the parse has come to some unit of which something is left to read. What was
+-- known of the others stays, of those behind it nothing becomes known, and where functions alone
+-- are read no detail does. Unless memory was refused all is known that the parse reads, and where
+-- it is, none was refused; where it was before, nothing is changed of what is known and answered
 pub record AfterParse (depth : ReadingDepth) (result : Result (Unit {0}) Error)
     (old new : ContextState) : Type 0 where
   pub stays : StaysRead old new
   pub answers : WasNotRefused result → new.answers ≡ parsed_answers depth old.sections old.answers
   pub begun : (m : UnitIndex) → index_units old.sections ≡ Ok m
-      → (n : ℕ) × HasComeTo depth (main_scope old.sections m) (unit_records m.units) old.answers
-      old.known new.answers new.known n
+      → (n : ℕ) × HasComeTo depth result (main_scope old.sections m) (unit_records m.units)
+      old.answers old.known new.answers new.known n
   pub known : (m : UnitIndex) → index_units old.sections ≡ Ok m → (probe n : ℕ)
       → is_open_at old.sections (unit_records m.units) old.answers n ≡ false
       → knows_at old.known probe n ≡ true → knows_at new.known probe n ≡ true

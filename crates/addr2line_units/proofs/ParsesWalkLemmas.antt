@@ -174,7 +174,7 @@ module _ (shares : Bool) (depth : ReadingDepth) (k : ℕ) (old mid now : UnitsSt
     read_fault_after = record {
       stays = (a given).stays;
       answers = λ ne. one_more ((a given).answers ne) ∙ sym (after_stop depth old.scope us old.answers k e many w.before (fault_there (gives ne)));
-      begun = (k, record { decided = (w.before, begun given); read = still_read given; behind = known_behind given });
+      begun = (k, record { decided = (w.before, begun given); read = still_read given; behind = known_behind given; memory = (a given).memory });
       known = λ probe n shut q. (known_now given n shut).at probe q;
       whole = λ needed n shut q. (known_now given n shut).whole needed q;
       details = details_now given;
@@ -271,7 +271,7 @@ module _ (depth : ReadingDepth) (k : ℕ) (old now : UnitsState) (w : ReadSoFar 
   read_last_after = record {
     stays = w.stays;
     answers = λ _. w.answers ∙ sym (after_end depth old.scope records old.answers k beside past w.before);
-    begun = (k, record { decided = (w.before, inl w.answers); read = w.read; behind = λ n l. w.behind n (omega (arith, l)) });
+    begun = (k, record { decided = (w.before, inl w.answers); read = w.read; behind = λ n l. w.behind n (omega (arith, l)); memory = λ ready. tt });
     known = λ probe n shut q. (w.known n shut).at probe q;
     whole = λ needed n shut q. (w.known n shut).whole needed q;
     details = w.details;

@@ -12,7 +12,7 @@ use Rattle.addr2line_units.specs.declared.index.UnitRange.{UnitRange}
 use Rattle.addr2line_units.specs.declared.parses.ReadingDepth.{ReadingDepth}
 use Rattle.addr2line_units.specs.declared.parses.ReadingDepth.TheVariants as depths
 use Rattle.addr2line_units.specs.FramesLookup.{FindsNothing, LookupAsks, answer_of, asks_lines_of, has_stopped, holds_along, function_offset_of, with_answer}
-use Rattle.addr2line_units.specs.Parses.{AreReadyFor, IsDecidedTo, ReadsNoMemory, answers_after_parse, read_of_units}
+use Rattle.addr2line_units.specs.Parses.{AreReadyFor, IsDecidedTo, IsReadyOf, ReadsNoMemory, answers_after_parse, read_of_units}
 use Rattle.addr2line_units.specs.EntriesKnown.{KnownEntries, LearnsDetailsAt, LearnsNoDetails, LearnsNoFunctions, knows_at}
 use Rattle.addr2line_units.specs.Loads.{NoneOpen, forgotten, is_open_at, load_result}
 use Rattle.addr2line_units.specs.LoadsMemory.{answer_takes_memory}
@@ -200,29 +200,31 @@ pub record AfterPreloadAlong {X : Type 0} (ranges : List UnitRange) (result : Re
   pub refused : IfErr result (λ e. e ≡ OutOfMemory)
 
 -- a parse of functions has come to the unit of a number: those before it are decided, and all that
--- the parse reads of them is known; of those behind it nothing is changed
-pub record HasComeTo (depth : ReadingDepth) (scope : Scope) (us : List UnitRecord)
-    (answers : FirstAnswers) (known : List KnownEntries) (new_answers : FirstAnswers)
-    (new_known : List KnownEntries) (n : ℕ) : Type 0 where
+-- the parse reads of them is known; of those behind it nothing is changed; where memory was
+-- refused, that unit is open, or not all is known that the parse reads of it
+pub record HasComeTo (depth : ReadingDepth) (result : Result (Unit {0}) Error) (scope : Scope)
+    (us : List UnitRecord) (answers : FirstAnswers) (known : List KnownEntries)
+    (new_answers : FirstAnswers) (new_known : List KnownEntries) (n : ℕ) : Type 0 where
   pub decided : IsDecidedTo depth scope us answers new_answers n
   pub read : (m : ℕ) → m < n → IfSome (slice_get new_known m) (IsReadBy depth)
   pub behind : (m : ℕ) → n < m → slice_get new_known m ≡ slice_get known m
+  pub memory : IsReadyOf depth scope us new_answers new_known n → WasNotRefused result
 
 -- after a parse of all functions open units are decided by none, up to the first fault; where
--- memory was refused, the parse has come to some unit. What was known of the others stays, and
--- where functions alone are read no detail becomes known. Unless memory was refused all is known
--- that the parse reads, and where it is, none was refused; where it was before, the result is that
--- of the reading, and nothing is changed of what is known and answered; where nothing that is read
--- takes memory, over readers that share their bytes or don't, a refusal is the first fault. Without
--- a fault all is read, and where details are read and all lines can be, no lookup of frames waits
--- or has a fault
+-- memory was refused, the parse has come to some unit of which something is left to read. What was
+-- known of the others stays, and where functions alone are read no detail becomes known. Unless
+-- memory was refused all is known that the parse reads, and where it is, none was refused; where it
+-- was before, the result is that of the reading, and nothing is changed of what is known and
+-- answered; where nothing that is read takes memory, over readers that share their bytes or don't,
+-- a refusal is the first fault. Without a fault all is read, and where details are read and all
+-- lines can be, no lookup of frames waits or has a fault
 pub record AfterReading (shares : Bool) (depth : ReadingDepth) (result : Result (Unit {0}) Error)
     (old new : UnitsState) : Type 0 where
   pub stays : StayRead old new
   pub answers : WasNotRefused result → new.answers
       ≡ answers_after_parse depth old.scope old.scope.file.units old.answers
-  pub begun : (n : ℕ) × HasComeTo depth old.scope old.scope.file.units old.answers old.known
-      new.answers new.known n
+  pub begun : (n : ℕ) × HasComeTo depth result old.scope old.scope.file.units old.answers
+      old.known new.answers new.known n
   pub known : (probe n : ℕ)
       → is_open_at old.scope.file.sections old.scope.file.units old.answers n ≡ false
       → knows_at old.known probe n ≡ true → knows_at new.known probe n ≡ true

@@ -126,10 +126,10 @@ impl<R: Reader> Units<R> {
     ///
     /// Refused by the first fault of a view, its functions and the details; may fail with
     /// `OutOfMemory` instead, which is never cached: then the units before some unit are decided
-    /// and read, that unit may be decided too, and those behind it are left as they are. Takes no
-    /// memory where of each unit up to the first fault what it reads is cached, that fault too, or
-    /// the functions take none to read; changes nothing where all of it is cached. Source: DWARF 5,
-    /// sections 3.3.1 and 3.3.8.
+    /// and read, of that unit something is left to read, though it may be decided, and those behind
+    /// it are left as they are. Takes no memory where of each unit up to the first fault what it
+    /// reads is cached, that fault too, or the functions take none to read; changes nothing where
+    /// all of it is cached. Source: DWARF 5, sections 3.3.1 and 3.3.8.
     pub fn read_functions(&mut self, depth: ReadingDepth) -> Result<(), Error>
         ensures gives { IsUnlessOom result (read_of_units depth self.old.scope
             self.old.scope.file.units self.old.answers) }

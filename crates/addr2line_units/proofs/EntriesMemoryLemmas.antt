@@ -1,11 +1,13 @@
 -- What is read without memory (on specs/EntriesMemory.antt).
-use Rattle.addr2line_units.proofs.Common.{◌≡◌, ◌≢◌, ◌∙◌, ◌++◌, ℕ, ap, subst, sym, refl, ◌||◌, not, is_none, is_some, Bool, true, false, List, [], ◌∷◌, Option, Some, None, Result, Ok, Err, IfErr, Error, OutOfMemory, ◌>>=◌, ExactlyUnlessOomIf, WasNotRefused, Sections, UnitRecord, all_read_once, FunctionTable, functions_take_memory, LineTable, line_table_of, Scope, read_all, IsFaultAtOnce, lines_in, program_lines, unit_lines, LazyFunctions, any_program_takes_memory, is_fault_at_once, lines_take_memory, AreFunctionsOf, IsTableOf, cached_takes_memory, find_takes_memory, reading_takes_memory, table_takes_memory, lines_result, not_refused}
+use Rattle.addr2line_units.proofs.Common.{◌⊎◌, inl, inr, length, nat_lt, Range, LazyLines, AreLinesOf, cached_ranges, ◌≡◌, ◌≢◌, ◌∙◌, ◌++◌, ℕ, ap, subst, sym, refl, ◌||◌, not, is_none, is_some, Bool, true, false, List, [], ◌∷◌, Option, Some, None, Result, Ok, Err, IfErr, Error, OutOfMemory, ◌>>=◌, ExactlyUnlessOomIf, WasNotRefused, Sections, UnitRecord, all_read_once, FunctionTable, functions_take_memory, LineTable, line_table_of, Scope, read_all, IsFaultAtOnce, lines_in, program_lines, unit_lines, LazyFunctions, any_program_takes_memory, is_fault_at_once, lines_take_memory, AreFunctionsOf, IsTableOf, cached_takes_memory, find_takes_memory, reading_takes_memory, table_takes_memory, lines_result, not_refused}
 use Rattle.std.specs.Prelude.{IfSome}
 use Rattle.gimli_line.specs.declared.row.LineRow.{LineRow}
 use Rattle.gimli_line.specs.Header.{File, Program, header_copy_takes_memory}
 use Rattle.gimli_line.specs.Lines.{lines_of}
 use Rattle.addr2line_lines.specs.FileTexts.{file_texts}
 use Rattle.addr2line_units.specs.declared.entries.LazyFunctions.TheVariants as lazy
+use Rattle.addr2line_units.specs.declared.unit.LazyLines.TheVariants.{Unread, Absent, Read, Faulty}
+use Rattle.addr2line_units.specs.UnitsRanged.{line_ranges}
 use Rattle.addr2line_lines.proofs.FaultLemmas.{unit_lines_are}
 use Rattle.addr2line_units.proofs.EntriesFunctionMemoryLemmas.{details_take, place_takes}
 use Rattle.addr2line_units.proofs.Facts.{or_none}
@@ -67,6 +69,41 @@ module _ {X : Type 0} (shares : Bool) (x : X) where
       → lines_take_memory shares u ≡ false → ⊥
   unfolding lines_take_memory
   lines_took u some exact none = read_of_program u.line_program some exact none
+
+-- lines that have sequences take memory
+module _ (shares : Bool) (d : Sections) (u : UnitRecord) where
+  none_at_once : (p : Program) (files : List File) (rows : List (Result LineRow Error)) → (lines_of p).ahead ≡ files → (lines_of p).left ≡ rows → is_fault_at_once files rows ≡ true → line_ranges (program_lines d u p) ≡ []
+  none_at_once p [] [] a l h = cc
+  none_at_once p [] (Ok row ∷ rows) a l h = cc
+  none_at_once p [] (Err f ∷ []) a l h = ap line_ranges (at_once d u p f l)
+  none_at_once p [] (Err f ∷ row ∷ rows) a l h = cc
+  none_at_once p (file ∷ files) rows a l h = cc
+
+  none_of_program : (o : Option Program) → any_program_takes_memory shares o ≡ false → line_ranges (lines_in d u o) ≡ []
+  none_of_program None none = refl
+  none_of_program (Some p) none =
+      let both = or_none (header_copy_takes_memory shares p.header) (is_fault_at_once (lines_of p).ahead (lines_of p).left) none in
+      none_at_once p (lines_of p).ahead (lines_of p).left refl refl both.1
+
+  none_of_unit : lines_take_memory shares u ≡ false → line_ranges (unit_lines d u) ≡ []
+  unfolding lines_take_memory
+  none_of_unit none = none_of_program u.line_program none
+
+  ranges_are : (l : LazyLines) → AreLinesOf d u l → cached_ranges l ≡ [] ⊎ (cached_ranges l ≡ line_ranges (unit_lines d u))
+  ranges_are Unread own = inl refl
+  ranges_are Absent own = inl refl
+  ranges_are (Read lines) own = inr (ap line_ranges (sym own))
+  ranges_are (Faulty e) own = inl refl
+
+  no_ranges : (l : LazyLines) → AreLinesOf d u l → lines_take_memory shares u ≡ false → cached_ranges l ≡ []
+  no_ranges l own none = elim (ranges_are l own) [ inl e ↦ e | inr e ↦ e ∙ none_of_unit none ]
+
+  pub ranges_take : (l : LazyLines) → AreLinesOf d u l → nat_lt 0 (length (cached_ranges l)) ≡ true → lines_take_memory shares u ≡ true
+  ranges_take l own some = by (lines_take_memory shares u) refl
+    where
+      by : (b : Bool) → lines_take_memory shares u ≡ b → b ≡ true
+      by true e = refl
+      by false e = absurd (let no = subst (λ (rs : List Range). nat_lt 0 (length rs) ≡ true) (no_ranges l own e) some in cc)
 
 -- functions that take no memory take none however many of them are cached
 module _ {R : Type 0} (shares : Bool) (scope : Scope) (view : UnitRecord) (f : LazyFunctions R) (right : AreFunctionsOf scope view f) (none : functions_take_memory shares scope.file.sections view ≡ false) where

@@ -1,7 +1,7 @@
 //! What is cached of one unit but its functions: its lines, and its view, which is where its
 //! entries are read that say what stands at an address.
 
-ghost use Rattle.std.specs.Prelude.{◌≡◌, ◌≢◌, true, false, not, map, Ok, Err, OnOk, IfOk, IfErr, IfSome, IsOk, is_some, length, nat_lt, option_map, None, Some};
+ghost use Rattle.std.specs.Prelude.{◌≡◌, ◌≢◌, ◌&&◌, true, false, not, map, Ok, Err, OnOk, IfOk, IfErr, IfSome, IsOk, is_some, length, nat_lt, option_map, None, Some};
 ghost use Rattle.addr2line_units.specs.Common.{Exactly, ExactlyUnlessOom, ExactlyUnlessOomIf, OutOfMemory, Sections, UnitRecord, location_of_row, IsScope, as_scope};
 ghost use Rattle.addr2line_units.specs.UnitsRanged.{is_partial, is_type_unit, listed_unit_ranges, asks_lines, has_lines, ranged_unit, unit_ranges};
 ghost use Rattle.addr2line_units.specs.EntriesMemory.{lines_take_memory};
@@ -181,7 +181,7 @@ fn sequence_ranges(alloc: Global, lines: &LazyLines) -> Result<Vec<Range>, Error
 // The lines of a unit as they are cached from the start, and the ranges that lead to it: those that
 // are listed, or where there are none those of its line sequences, and none of a partial unit; its
 // lines are parsed only for these, and cached, their fault too. Refused `OutOfMemory` alone, and
-// only where line sequences are asked for.
+// only where line sequences are asked for, and the lines take memory.
 pub(crate) fn lines_and_ranges<R: Reader>(
     alloc: Global,
     dwarf: &Dwarf<R>,
@@ -189,8 +189,8 @@ pub(crate) fn lines_and_ranges<R: Reader>(
     lang: Option<DwLang>,
     listed: Vec<Range>,
 ) -> Result<(LinesCache, Vec<Range>), Error>
-    ensures gives { ExactlyUnlessOomIf (asks_lines (as_ranged_unit dw_unit.now lang listed.items))
-        (λ x. as_unit_at_first x.0 x.1.items) result
+    ensures gives { ExactlyUnlessOomIf (asks_lines (as_ranged_unit dw_unit.now lang listed.items)
+        && lines_take_memory R.shares dw_unit.now) (λ x. as_unit_at_first x.0 x.1.items) result
         (Ok (unit_at_first dwarf.now (as_ranged_unit dw_unit.now lang listed.items))) }
 {
     if !listed.is_empty() || is_partial(dw_unit.header.type_()) {

@@ -1,11 +1,16 @@
 -- Files that are kept by their paths (on specs/KeptFiles.antt).
-use Rattle.addr2line.proofs.Common.{◌≡◌, ℕ, Bool, true, Option, Some, sym, ap, option_map, ◌∙◌, Decides-and, Decides-eqb, Decides-int_eq, ObjectFile}
+use Rattle.addr2line.proofs.Common.{◌≡◌, ℕ, Bool, false, true, List, Option, Some, Result, Ok, Err, refl, sym, ap, is_ok, option_map, ◌∙◌, if◌then◌else◌, Decides-and, Decides-eqb, Decides-int_eq, ObjectFile}
+use Rattle.std.specs.Prelude.{IsErr}
 use Rattle.std.specs.Bool.{Decides}
+use Rattle.std.specs.Str.{bytes_eq}
+use Rattle.std.proofs.lemmas.Slice.Eq.{bytes_eq-Decides}
 use Rattle.addr2line.specs.contracts.files.FileStampPartialEq.TheImpl as stamp_eq
 use Rattle.addr2line.specs.contracts.files.FileTimePartialEq.TheImpl as time_eq
 use Rattle.addr2line.specs.declared.files.FileStamp.{FileStamp}
 use Rattle.addr2line.specs.declared.files.FileTime.{FileTime}
 use Rattle.addr2line.specs.declared.kept_files.KeptFile.{KeptFile}
+use Rattle.addr2line.specs.declared.kept_files.KeptFiles.{KeptFiles}
+use Rattle.addr2line.specs.KeptFiles.{ChangesAt, IsKept, kept_at}
 
 -- a test decides whether it is true
 itself : (b : Bool) → Decides b (b ≡ true)
@@ -32,3 +37,19 @@ found_with kept found stamp is same object = (
   (λ p. sym is ∙ ap (λ s. Some (record { stamp = s; object = found.object })) same ∙ ap (λ o. option_map (λ (x : ObjectFile). record { stamp = stamp; object = x }) o) p),
   λ q. ap (λ o. option_map (λ (k : KeptFile). k.object) o) (is ∙ q),
 )
+
+-- a refused change of what is kept for a path is none
+pub unchanged_at : {A E : Type 0} (r : Result A E) → IsErr r → (path : List ℕ) (file : Option KeptFile) (old new : KeptFiles) → ((other : List ℕ) → kept_at new other ≡ kept_at old other) → ChangesAt path (if is_ok r then file else kept_at old path) old new
+unchanged_at (Ok x) bad path file old new same other = absurd cc
+unchanged_at (Err e) bad path file old new same other = same other ∙ sym (by (bytes_eq path other) (bytes_eq-Decides path other))
+  where
+    by : (b : Bool) → Decides b (path ≡ other) → (if b then kept_at old path else kept_at old other) ≡ kept_at old other
+    by true d = ap (λ p. kept_at old p) (d.0 refl)
+    by false d = refl
+
+-- a file that is kept with a stamp is the only one
+pub kept_stamp : (kept : KeptFiles) (path : List ℕ) (stamp : FileStamp) (object : ObjectFile) → IsKept kept path stamp object → (file : KeptFile) → kept_at kept path ≡ Some file → file.stamp ≡ stamp
+kept_stamp kept path stamp object at file is =
+    let e : Some file ≡ Some (record { stamp = stamp; object = object }) = sym is ∙ at in
+    let same : ◌≡◌ {A = KeptFile} file (record { stamp = stamp; object = object }) = cc in
+    ap (λ (f : KeptFile). f.stamp) same

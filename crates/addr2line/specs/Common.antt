@@ -20,7 +20,7 @@ pub use Rattle.addr2line_units.specs.Locations.{LocationResult, all_lines, is_fo
 pub use Rattle.addr2line_units.specs.LocationsParsed.{AllAskFor, AreAllParsed, AreParsed, AreReadyForAll, AsksFor, LeadTo, ParsesOnly, StaysParsed, TakeNone, TakeNoneForAll, parses_no_memory, ready_along}
 pub use Rattle.addr2line_units.specs.UnitsRanged.{IndexedUnit, has_lines, ranged_units, unit_records}
 pub use Rattle.addr2line_units.specs.EntriesStayKnown.{IsReadBy, IsReadyAt, StaysKnown, StaysKnownOf}
-pub use Rattle.addr2line_units.specs.Continuation.{GoesOn, IfLoad, IfOutput, IsOkOutput, rests}
+pub use Rattle.addr2line_units.specs.Continuation.{Resumes, IfLoad, IfOutput, IsOkOutput, rests}
 pub use Rattle.addr2line_units.specs.EntriesFrames.{FramesResult, frames_in, function_in}
 unfoldable pub use Rattle.addr2line_units.specs.EntriesFrames.{frames_by_lines}
 pub use Rattle.addr2line_units.specs.UnitsIndex.{UnitIndex, index_units, sup_units}

@@ -1,18 +1,27 @@
--- Split files that are kept by their paths.
+-- Split files that are kept by their paths, and answers to loads by them.
 -- Own: a file is kept with a stamp that was asked for before it was read, at most one for each
 -- path, and only where it has answered a load.
-use Rattle.std.specs.Prelude.{◌≡◌, ◌≢◌, ◌⊎◌, ℕ, List, Option, None, Some, Ok, if◌then◌else◌}
+use Rattle.std.specs.Prelude.{◌≡◌, ◌≢◌, ◌⊎◌, ℕ, IfErr, IfOk, IfSome, List, Option, None, Some, Ok, if◌then◌else◌, option_map}
 use Rattle.std.specs.BTreeMap.{get_by_text}
 use Rattle.std.specs.Str.{bytes_eq}
-use Rattle.addr2line.specs.Common.{Sections, Loading, SplitLoad}
+use Rattle.elf.specs.declared.error.LoaderError.TheVariants.{OutOfMemory}
+use Rattle.addr2line.specs.Common.{Sections, Loading, LoadsUnlessOom, ObjectFile, SplitLoad}
 use Rattle.addr2line.specs.declared.compressed.CompressedSections.{CompressedSections}
+use Rattle.addr2line.specs.declared.files.FileStamp.{FileStamp}
 use Rattle.addr2line.specs.declared.kept_files.KeptFile.{KeptFile}
 use Rattle.addr2line.specs.declared.kept_files.KeptFiles.{KeptFiles}
-use Rattle.addr2line.specs.SplitFiles.{Answers, split_path}
+use Rattle.addr2line.specs.FileSections.{split_section}
+use Rattle.addr2line.specs.Files.{Files}
+use Rattle.addr2line.specs.SplitFiles.{Answers, AreOfSomeFile, or_none, split_by, split_path}
 
 -- the file that is kept for a path, with its stamp
 abbrev pub kept_at : KeptFiles → List ℕ → Option KeptFile
 kept_at kept path = get_by_text kept.files path
+
+-- this file is kept for a path with this stamp
+abbrev pub IsKept : KeptFiles → List ℕ → FileStamp → ObjectFile → Type 0
+IsKept kept path stamp object =
+    kept_at kept path ≡ Some (record { stamp = stamp; object = object })
 
 -- this is kept for a path now, and for each other path what was kept before
 abbrev pub ChangesAt : List ℕ → Option KeptFile → KeptFiles → KeptFiles → Type 0
@@ -38,3 +47,30 @@ abbrev pub KeepsAnswer : CompressedSections → SplitLoad → Loading (Option Se
     → KeptFiles → Type 0
 KeepsAnswer compressed load answer old new = elim (split_path load)
     [ None ↦ new ≡ old | Some path ↦ KeepsAnswering compressed load path answer old new ]
+
+-- after a load by the file at a path with a stamp: as after any by the file at a path, and what is
+-- kept for the path has the stamp
+pub record KeepsStamped (compressed : CompressedSections) (load : SplitLoad) (path : List ℕ)
+    (stamp : FileStamp) (answer : Loading (Option Sections)) (old new : KeptFiles)
+    : Type 0 where
+  pub so : KeepsAnswering compressed load path answer old new
+  pub stamped : (file : KeptFile) → kept_at new path ≡ Some file → file.stamp ≡ stamp
+
+-- after a load by files this holds of what was kept and what is; where the files are known nothing
+-- has changed
+pub record KeepsByFiles (files : Option Files) (Keeps : KeptFiles → KeptFiles → Type 0)
+    (old new : KeptFiles) : Type 0 where
+  pub so : Keeps old new
+  pub known : IfSome files (λ _. new ≡ old)
+
+-- a load is answered by the file at a path with a stamp: where one is kept with the stamp, with its
+-- sections, or with none in place of a fault, unless memory is refused; in any case sections are
+-- those of some file, and nothing but memory is refused
+pub record AnswersStamped {X : Type 0} (see : X → Sections) (compressed : CompressedSections)
+    (load : SplitLoad) (path : List ℕ) (stamp : FileStamp) (kept : KeptFiles)
+    (result : Loading (Option X)) : Type 0 where
+  pub found : (object : ObjectFile) → IsKept kept path stamp object
+      → LoadsUnlessOom (option_map see) result
+      (Ok (or_none (split_by (split_section compressed object) load)))
+  pub made : IfOk result (λ found. IfSome found (λ x. AreOfSomeFile compressed load (see x)))
+  pub refused : IfErr result (λ e. e ≡ OutOfMemory)

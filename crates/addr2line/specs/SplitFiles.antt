@@ -4,9 +4,9 @@
 -- name has no split file, and a path that isn't UTF-8 is a fault.
 -- Own: the first unit of the file has to have the identifier that the load has. A file that can't
 -- be read, another one, and a faulty one are answered none.
-use Rattle.std.specs.Prelude.{◌≡◌, ◌≢◌, ◌⊎◌, ◌==◌, ◌++◌, ℕ, Bool, false, List, [], ◌∷◌, Option, Some, None, Result, Ok, Err, if◌then◌else◌, option_and_then, option_map}
+use Rattle.std.specs.Prelude.{◌≡◌, ◌≢◌, ◌⊎◌, ◌==◌, ◌++◌, ℕ, Bool, false, is_ok, IfErr, IfOk, IfSome, List, [], ◌∷◌, Option, Some, None, Result, Ok, Err, if◌then◌else◌, option_and_then, option_map}
 use Rattle.std.specs.Option.{option_map_or}
-use Rattle.addr2line.specs.Common.{Error, ◌>>=◌, Section, Sections, UnitRecord, PathNotUtf8, Loading, ObjectFile, object_file_of, SplitLoad, first_unit}
+use Rattle.addr2line.specs.Common.{Error, ◌>>=◌, Section, Sections, UnitRecord, PathNotUtf8, Loading, LoadsUnlessOom, ObjectFile, object_file_of, SplitLoad, first_unit}
 use Rattle.gimli.specs.declared.dwarf.DwarfFileType.TheVariants.{Dwo}
 use Rattle.gimli.specs.declared.load.SectionId.{SectionId}
 use Rattle.gimli.specs.declared.unit.DwoId.{DwoId}
@@ -112,3 +112,21 @@ HasPathNotUtf8 load = (path : List ℕ) × (split_path load ≡ Some path)
 abbrev pub RefusesAnswer : SplitLoad → LoaderError → Type 0
 RefusesAnswer load e = ((e ≡ OutOfMemory) × (split_path load ≢ None))
     ⊎ ((e ≡ PathNotUtf8) × HasPathNotUtf8 load)
+
+-- a load is answered by files: where they are known with what they give, unless memory is refused;
+-- whatever they are, sections are those of some file, and a refusal is one of which this holds
+pub record AnswersBy {X : Type 0} (see : X → Sections) (compressed : CompressedSections)
+    (load : SplitLoad) (files : Option ReadFiles) (given : ReadFiles → Loading (Option Sections))
+    (Refuses : LoaderError → Type 0) (result : Loading (Option X)) : Type 0 where
+  pub gives : IfSome files (λ held. LoadsUnlessOom (option_map see) result (given held))
+  pub made : IfOk result (λ found. IfSome found (λ x. AreOfSomeFile compressed load (see x)))
+  pub refused : IfErr result Refuses
+
+-- a load is answered by the file at its own path: it is refused where that isn't UTF-8, and without
+-- a path the answer is none; memory is refused only where there is a path
+pub record AnswersTo {X : Type 0} (see : X → Sections) (compressed : CompressedSections)
+    (load : SplitLoad) (files : Option ReadFiles) (result : Loading (Option X)) : Type 0 where
+  pub so : AnswersBy see compressed load files (λ held. given_by_files held load)
+      (RefusesAnswer load) result
+  pub fault : HasPathNotUtf8 load → is_ok result ≡ false
+  pub none : split_path load ≡ None → result ≡ Ok None

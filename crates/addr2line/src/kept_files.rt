@@ -1,8 +1,8 @@
 //! Split files that were read, kept by their paths.
 
-ghost use Rattle.std.specs.Prelude.{◌≡◌, ◌↔◌, ℕ, List, None, OnErr, OnOk, Some, option_map};
+ghost use Rattle.std.specs.Prelude.{◌≡◌, ◌↔◌, ℕ, List, None, Some, if◌then◌else◌, is_ok, option_map};
 ghost use Rattle.addr2line.specs.Common.{ObjectFile};
-ghost use Rattle.addr2line.specs.KeptFiles.{ChangesAt, kept_at};
+ghost use Rattle.addr2line.specs.KeptFiles.{ChangesAt, IsKept, kept_at};
 
 use crate::files::FileStamp;
 use elf::ElfFile;
@@ -37,7 +37,7 @@ impl KeptFiles {
     /// The file that is kept for a path with this very stamp. Takes no memory.
     pub(crate) fn find(&self, path: &str, stamp: FileStamp) -> Option<&ElfFile>
         ensures gives { (object : ObjectFile) → (option_map (λ o. o.now) result ≡ Some object)
-            ↔ (kept_at self.now path.now ≡ Some (record { stamp = stamp; object = object })) }
+            ↔ IsKept self.now path.now stamp object }
     {
         let kept = self.files.get(path)?;
         if kept.stamp == stamp {
@@ -56,10 +56,9 @@ impl KeptFiles {
         stamp: FileStamp,
         object: ElfFile,
     ) -> Result<(), AllocError>
-        ensures after { OnOk result (ChangesAt path.now
-            (Some (record { stamp = stamp; object = object })) self.old self.new) }
-        ensures refused { OnErr result
-            ((path : List ℕ) → kept_at self.new path ≡ kept_at self.old path) }
+        ensures after { ChangesAt path.now (if is_ok result
+            then Some (record { stamp = stamp; object = object })
+            else kept_at self.old path.now) self.old self.new }
     {
         let path = String::from_str(self.alloc, path)?;
         self.files.insert(path, KeptFile { stamp, object })?;

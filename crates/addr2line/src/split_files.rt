@@ -1,15 +1,14 @@
 //! The split files of units, which answer their loads.
 
-ghost use Rattle.std.specs.Prelude.{◌≡◌, false, is_ok, IfErr, IfOk, IfSome, None, Ok, Option, Some, option_map};
-ghost use Rattle.addr2line.specs.Common.{Exactly, result_map, Sections, PathNotUtf8, Loading, LoadsUnlessOom, ObjectFile};
+ghost use Rattle.std.specs.Prelude.{◌≡◌, IfErr, IfOk, IfSome, None, Ok, Option, Some, option_map};
+ghost use Rattle.addr2line.specs.Common.{Exactly, result_map, Sections, PathNotUtf8, Loading, LoadsUnlessOom};
 ghost use Rattle.elf.specs.declared.error.LoaderError.TheVariants.{OutOfMemory};
 ghost use Rattle.elf.specs.FileImage.{image_bytes};
 ghost use Rattle.addr2line.specs.declared.compressed.CompressedSections.TheVariants.{Refused};
 ghost use Rattle.addr2line.specs.FileSections.{split_section};
-ghost use Rattle.addr2line.specs.Files.{as_read};
-ghost use Rattle.addr2line.specs.declared.kept_files.KeptFile.{KeptFile};
-ghost use Rattle.addr2line.specs.KeptFiles.{KeepsAnswer, KeepsAnswering, kept_at};
-ghost use Rattle.addr2line.specs.SplitFiles.{Answers, AreOfSomeFile, HasPathNotUtf8, RefusesAnswer, bytes_or_none, given_by_files, has_wanted_id, is_absolute, is_same_id, or_none, path_in, separated, split_at_path, split_by, split_of, split_path, utf8_path};
+ghost use Rattle.addr2line.specs.Files.{as_read, as_read_if_known};
+ghost use Rattle.addr2line.specs.KeptFiles.{AnswersStamped, KeepsAnswer, KeepsAnswering, KeepsByFiles, KeepsStamped};
+ghost use Rattle.addr2line.specs.SplitFiles.{Answers, AnswersBy, AnswersTo, bytes_or_none, has_wanted_id, is_absolute, is_same_id, or_none, path_in, separated, split_at_path, split_by, split_of, split_path, utf8_path};
 
 use crate::compressed::CompressedSections;
 use crate::file_sections::{
@@ -249,17 +248,10 @@ fn answer_stamped<F: FileSource>(
     path: &str,
     stamp: FileStamp,
 ) -> Result<Option<Rc<Dwarf<EndianBytes>>>, LoaderError>
-    ensures found { (object : ObjectFile)
-        → kept_at kept.old path.now ≡ Some (record { stamp = stamp; object = object })
-        → LoadsUnlessOom (option_map (λ d. d.value)) result
-        (Ok (or_none (split_by (split_section compressed object) load.now))) }
-    ensures made { IfOk result (λ found. IfSome found (λ d.
-        AreOfSomeFile compressed load.now d.value)) }
-    ensures after { KeepsAnswering compressed load.now path.now
+    ensures gives { AnswersStamped (λ d. d.value) compressed load.now path.now stamp kept.old
+        result }
+    ensures after { KeepsStamped compressed load.now path.now stamp
         (result_map (option_map (λ d. d.value)) result) kept.old kept.new }
-    ensures files { (file : KeptFile) → kept_at kept.new path.now ≡ Some file
-        → file.stamp ≡ stamp }
-    ensures refused { IfErr result (λ e. e ≡ OutOfMemory) }
 {
     if let Some(object) = kept.find(path, stamp) {
         return without_fault(read_split_object(alloc, compressed, load, object));
@@ -285,15 +277,11 @@ fn answer_at<F: FileSource>(
     load: &SplitDwarfLoad<EndianBytes>,
     path: &str,
 ) -> Result<Option<Rc<Dwarf<EndianBytes>>>, LoaderError>
-    ensures gives { IfSome (F.files files.now) (λ held.
-        LoadsUnlessOom (option_map (λ d. d.value)) result
-        (Ok (split_at_path (as_read compressed held) load.now path.now))) }
-    ensures made { IfOk result (λ found. IfSome found (λ d.
-        AreOfSomeFile compressed load.now d.value)) }
-    ensures kept { IfSome (F.files files.now) (λ _. kept.new ≡ kept.old) }
-    ensures after { KeepsAnswering compressed load.now path.now
-        (result_map (option_map (λ d. d.value)) result) kept.old kept.new }
-    ensures refused { IfErr result (λ e. e ≡ OutOfMemory) }
+    ensures gives { AnswersBy (λ d. d.value) compressed load.now
+        (as_read_if_known compressed (F.files files.now))
+        (λ held. Ok (split_at_path held load.now path.now)) (λ e. e ≡ OutOfMemory) result }
+    ensures after { KeepsByFiles (F.files files.now) (KeepsAnswering compressed load.now path.now
+        (result_map (option_map (λ d. d.value)) result)) kept.old kept.new }
 {
     // The stamp is asked for before the file is read: one that changes in between has another stamp
     // at the next call.
@@ -316,17 +304,10 @@ pub(crate) fn answer_to<F: FileSource>(
     kept: &mut KeptFiles,
     load: &SplitDwarfLoad<EndianBytes>,
 ) -> Result<Option<Rc<Dwarf<EndianBytes>>>, LoaderError>
-    ensures gives { IfSome (F.files files.now) (λ held.
-        LoadsUnlessOom (option_map (λ d. d.value)) result
-        (given_by_files (as_read compressed held) load.now)) }
-    ensures made { IfOk result (λ found. IfSome found (λ d.
-        AreOfSomeFile compressed load.now d.value)) }
-    ensures refused { IfErr result (RefusesAnswer load.now) }
-    ensures fault { HasPathNotUtf8 load.now → is_ok result ≡ false }
-    ensures none { split_path load.now ≡ None → result ≡ Ok None }
-    ensures kept { IfSome (F.files files.now) (λ _. kept.new ≡ kept.old) }
-    ensures after { KeepsAnswer compressed load.now
-        (result_map (option_map (λ d. d.value)) result) kept.old kept.new }
+    ensures gives { AnswersTo (λ d. d.value) compressed load.now
+        (as_read_if_known compressed (F.files files.now)) result }
+    ensures after { KeepsByFiles (F.files files.now) (KeepsAnswer compressed load.now
+        (result_map (option_map (λ d. d.value)) result)) kept.old kept.new }
 {
     let Some(path) = path_of(alloc, load)? else {
         return Ok(None);

@@ -1,7 +1,7 @@
 //! What is left of a lookup that waits for a split file: it goes on, is skipped, or is let go.
 
 ghost use Rattle.std.specs.Prelude.{◌≡◌, Some, IfErr, option_map, true};
-ghost use Rattle.addr2line.specs.Common.{OutOfMemory, ExactlyUnlessOom, Skip, GoesOn};
+ghost use Rattle.addr2line.specs.Common.{OutOfMemory, ExactlyUnlessOom, Skip, Resumes};
 ghost use Rattle.addr2line.specs.AfterAnswering.{AfterResume};
 ghost use Rattle.addr2line.specs.Borrowed.{RestsAs};
 ghost use Rattle.addr2line.specs.AfterLookups.{AfterFramesOver, IsLent, IsStored};
@@ -97,7 +97,7 @@ impl<'ctx, R: Reader, K: Lent<'ctx, Context<R>>> LookupContinuation
             self.entry.ctx.now self.entry.number (option_map (λ d. d.value) input) self.entry.probe)
             result (λ c. SuspendsAgainIn K.faults self.entry.ctx self.entry.probe self.entry.number
             (option_map (λ d. d.value) input) c.ctx c.probe c.number c.load) }
-        ensures after { GoesOn self.entry (λ c. count_loads c.ctx.now c.probe)
+        ensures after { Resumes self.entry (λ c. count_loads c.ctx.now c.probe)
             (λ c o. ExactlyUnlessOom (λ f. Some (K.see f)) o
             (found_with_none K.faults K.value_of c.ctx.now c.probe)) input result }
     {

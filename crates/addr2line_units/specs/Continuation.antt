@@ -28,9 +28,9 @@ module _ {L O D S : Type 0} where
   SkipsTo skips (Load c) o = skips c o
   SkipsTo skips (Output p) o = p ≡ o
 
-  -- a lookup has gone on with an answer: fewer units wait than before; and after none, whatever
-  -- answering none to each later load may give was to be given before
-  pub record GoesOn (old : L) (left : L → ℕ) (skips : L → O → Type 0) (answer : Option S)
+  -- a lookup resumes with an answer: where it waits again, fewer units wait than before; after none,
+  -- what answering none to each later load may give is what that might give before
+  pub record Resumes (old : L) (left : L → ℕ) (skips : L → O → Type 0) (answer : Option S)
       (result : LookupResult L O D S) : Type 0 where
     pub shorter : IfLoad result (λ c. left c < left old)
     pub none : answer ≡ None → (o : O) → SkipsTo skips result o → skips old o

@@ -1,7 +1,7 @@
 //! Lookups that wait for split files.
 
 ghost use Rattle.std.specs.Prelude.{ℕ};
-ghost use Rattle.addr2line_units.specs.Continuation.{GoesOn, SkipsTo};
+ghost use Rattle.addr2line_units.specs.Continuation.{Resumes, SkipsTo};
 
 /// What a lookup gives: a load that it waits for, with the rest of the lookup, or its output.
 pub enum LookupResult<L: LookupContinuation> {
@@ -40,7 +40,7 @@ pub trait LookupContinuation {
     /// An answer that found no memory wasn't one: the output is refused `OutOfMemory`, and the unit
     /// stays open.
     fn resume(self, input: Option<Self::Sections>) -> LookupResult<Self>
-        ensures after { GoesOn self left skips_to input result };
+        ensures after { Resumes self left skips_to input result };
 }
 
 impl<L: LookupContinuation> LookupResult<L> {

@@ -1,6 +1,6 @@
 -- Split files that are kept by their paths, and answers to loads by them.
--- Own: a file is kept with a stamp that was asked for before it was read, at most one for each
--- path, and only where it has answered a load.
+-- Own: a file is kept with a stamp, at most one for each path, and only where it has answered a
+-- load.
 use Rattle.std.specs.Prelude.{◌≡◌, ◌≢◌, ◌⊎◌, ℕ, IfErr, IfOk, IfSome, List, Option, None, Some, Ok, if◌then◌else◌, option_map}
 use Rattle.std.specs.BTreeMap.{get_by_text}
 use Rattle.std.specs.Str.{bytes_eq}
@@ -53,20 +53,20 @@ KeepsAnswer compressed load answer old new = elim (split_path load)
 pub record KeepsStamped (compressed : CompressedSections) (load : SplitLoad) (path : List ℕ)
     (stamp : FileStamp) (answer : Loading (Option Sections)) (old new : KeptFiles)
     : Type 0 where
-  pub so : KeepsAnswering compressed load path answer old new
+  pub after : KeepsAnswering compressed load path answer old new
   pub stamped : (file : KeptFile) → kept_at new path ≡ Some file → file.stamp ≡ stamp
 
--- after a load by files this holds of what was kept and what is; where the files are known nothing
--- has changed
+-- after a load by files a relation holds of what was kept and what is; where the files are known
+-- nothing has changed
 pub record KeepsByFiles (files : Option Files) (Keeps : KeptFiles → KeptFiles → Type 0)
     (old new : KeptFiles) : Type 0 where
-  pub so : Keeps old new
-  pub known : IfSome files (λ _. new ≡ old)
+  pub after : Keeps old new
+  pub kept : IfSome files (λ _. new ≡ old)
 
--- a load is answered by the file at a path with a stamp: where one is kept with the stamp, with its
--- sections, or with none in place of a fault, unless memory is refused; in any case sections are
--- those of some file, and nothing but memory is refused
-pub record AnswersStamped {X : Type 0} (see : X → Sections) (compressed : CompressedSections)
+-- a load is answered by the file at a path with a stamp: where one is kept with the stamp, with
+-- what it has for the load, none in place of a fault, unless memory is refused; in any case
+-- sections are those of some file, and nothing but memory is refused
+pub record AnswersLoadStamped {X : Type 0} (see : X → Sections) (compressed : CompressedSections)
     (load : SplitLoad) (path : List ℕ) (stamp : FileStamp) (kept : KeptFiles)
     (result : Loading (Option X)) : Type 0 where
   pub found : (object : ObjectFile) → IsKept kept path stamp object

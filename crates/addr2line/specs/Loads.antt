@@ -118,11 +118,12 @@ abbrev pub IsReadyToRead : ReadingDepth → ContextState → Type 0
 IsReadyToRead depth c = (m : UnitIndex) → index_units c.sections ≡ Ok m
     → AreReadyFor depth (main_scope c.sections m) (unit_records m.units) c.answers c.known
 
--- after a parse of all functions open units are decided by none, up to the first fault; where
--- memory was refused, the parse has come to some unit of which something is left to read. What was
--- known of the others stays, of those behind it nothing becomes known, and where functions alone
--- are read no detail does. Unless memory was refused all is known that the parse reads, and where
--- it is, none was refused; where it was before, nothing is changed of what is known and answered
+-- after a parse of all functions open units are decided by none, up to the first fault. The parse
+-- has come to some unit, and where memory was refused something is left to read of that one. What
+-- was known of the others stays, of those behind it nothing becomes known, and where functions
+-- alone are read no detail does. Unless memory was refused all is known that the parse reads, and
+-- where it is, none was refused; where it was before, nothing is changed of what is known and
+-- answered
 pub record AfterParse (depth : ReadingDepth) (result : Result (Unit {0}) Error)
     (old new : ContextState) : Type 0 where
   pub stays : StaysRead old new

@@ -115,18 +115,18 @@ RefusesAnswer load e = ((e ≡ OutOfMemory) × (split_path load ≢ None))
 
 -- a load is answered by files: where they are known with what they give, unless memory is refused;
 -- whatever they are, sections are those of some file, and a refusal is one of which this holds
-pub record AnswersBy {X : Type 0} (see : X → Sections) (compressed : CompressedSections)
+pub record AnswersLoadBy {X : Type 0} (see : X → Sections) (compressed : CompressedSections)
     (load : SplitLoad) (files : Option ReadFiles) (given : ReadFiles → Loading (Option Sections))
     (Refuses : LoaderError → Type 0) (result : Loading (Option X)) : Type 0 where
   pub gives : IfSome files (λ held. LoadsUnlessOom (option_map see) result (given held))
   pub made : IfOk result (λ found. IfSome found (λ x. AreOfSomeFile compressed load (see x)))
   pub refused : IfErr result Refuses
 
--- a load is answered by the file at its own path: it is refused where that isn't UTF-8, and without
--- a path the answer is none; memory is refused only where there is a path
-pub record AnswersTo {X : Type 0} (see : X → Sections) (compressed : CompressedSections)
+-- the same by the file at the load's own path: a refusal is of memory, and only where there is a
+-- path, or of a path that isn't UTF-8, which is always refused; without a path the answer is none
+pub record AnswersLoadByPath {X : Type 0} (see : X → Sections) (compressed : CompressedSections)
     (load : SplitLoad) (files : Option ReadFiles) (result : Loading (Option X)) : Type 0 where
-  pub so : AnswersBy see compressed load files (λ held. given_by_files held load)
+  pub gives : AnswersLoadBy see compressed load files (λ held. given_by_files held load)
       (RefusesAnswer load) result
   pub fault : HasPathNotUtf8 load → is_ok result ≡ false
   pub none : split_path load ≡ None → result ≡ Ok None

@@ -26,8 +26,9 @@ impl<R: Reader> Context<R> {
     /// which is never cached: then the units before some unit are decided and parsed, of that unit
     /// something is left to parse, though it may be decided, and those behind it are left as they
     /// are. Takes no memory where of each unit up to the first fault the functions are cached, that
-    /// fault too, or take none to read: unless readers share their bytes they take none where a view
-    /// has none. So the same call after it gives the same, until a unit is forgotten or answered.
+    /// fault too, or take none to read: unless readers share their bytes they take none where a
+    /// view has none. So the same call after it gives the same, until a unit is forgotten or
+    /// answered.
     ///
     /// Source: DWARF 5, section 3.3.
     pub fn parse_functions(&mut self) -> Result<(), Error>

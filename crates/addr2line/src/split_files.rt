@@ -7,8 +7,8 @@ ghost use Rattle.elf.specs.FileImage.{image_bytes};
 ghost use Rattle.addr2line.specs.declared.compressed.CompressedSections.TheVariants.{Refused};
 ghost use Rattle.addr2line.specs.FileSections.{split_section};
 ghost use Rattle.addr2line.specs.Files.{as_read, as_read_if_known};
-ghost use Rattle.addr2line.specs.KeptFiles.{AnswersStamped, KeepsAnswer, KeepsAnswering, KeepsByFiles, KeepsStamped};
-ghost use Rattle.addr2line.specs.SplitFiles.{Answers, AnswersBy, AnswersTo, bytes_or_none, has_wanted_id, is_absolute, is_same_id, or_none, path_in, separated, split_at_path, split_by, split_of, split_path, utf8_path};
+ghost use Rattle.addr2line.specs.KeptFiles.{AnswersLoadStamped, KeepsAnswer, KeepsAnswering, KeepsByFiles, KeepsStamped};
+ghost use Rattle.addr2line.specs.SplitFiles.{Answers, AnswersLoadBy, AnswersLoadByPath, bytes_or_none, has_wanted_id, is_absolute, is_same_id, or_none, path_in, separated, split_at_path, split_by, split_of, split_path, utf8_path};
 
 use crate::compressed::CompressedSections;
 use crate::file_sections::{
@@ -248,7 +248,7 @@ fn answer_stamped<F: FileSource>(
     path: &str,
     stamp: FileStamp,
 ) -> Result<Option<Rc<Dwarf<EndianBytes>>>, LoaderError>
-    ensures gives { AnswersStamped (λ d. d.value) compressed load.now path.now stamp kept.old
+    ensures gives { AnswersLoadStamped (λ d. d.value) compressed load.now path.now stamp kept.old
         result }
     ensures after { KeepsStamped compressed load.now path.now stamp
         (result_map (option_map (λ d. d.value)) result) kept.old kept.new }
@@ -277,7 +277,7 @@ fn answer_at<F: FileSource>(
     load: &SplitDwarfLoad<EndianBytes>,
     path: &str,
 ) -> Result<Option<Rc<Dwarf<EndianBytes>>>, LoaderError>
-    ensures gives { AnswersBy (λ d. d.value) compressed load.now
+    ensures gives { AnswersLoadBy (λ d. d.value) compressed load.now
         (as_read_if_known compressed (F.files files.now))
         (λ held. Ok (split_at_path held load.now path.now)) (λ e. e ≡ OutOfMemory) result }
     ensures after { KeepsByFiles (F.files files.now) (KeepsAnswering compressed load.now path.now
@@ -304,7 +304,7 @@ pub(crate) fn answer_to<F: FileSource>(
     kept: &mut KeptFiles,
     load: &SplitDwarfLoad<EndianBytes>,
 ) -> Result<Option<Rc<Dwarf<EndianBytes>>>, LoaderError>
-    ensures gives { AnswersTo (λ d. d.value) compressed load.now
+    ensures gives { AnswersLoadByPath (λ d. d.value) compressed load.now
         (as_read_if_known compressed (F.files files.now)) result }
     ensures after { KeepsByFiles (F.files files.now) (KeepsAnswer compressed load.now
         (result_map (option_map (λ d. d.value)) result)) kept.old kept.new }

@@ -28,8 +28,8 @@ module _ {L O D S : Type 0} where
   SkipsTo skips (Load c) o = skips c o
   SkipsTo skips (Output p) o = p ≡ o
 
-  -- a lookup resumes with an answer: where it waits again, fewer units wait than before; after none,
-  -- what answering none to each later load may give is what that might give before
+  -- a lookup resumes with an answer: where it waits again, fewer units wait than before; after
+  -- none, what answering none to each later load may give is what that might give before
   pub record Resumes (old : L) (left : L → ℕ) (skips : L → O → Type 0) (answer : Option S)
       (result : LookupResult L O D S) : Type 0 where
     pub shorter : IfLoad result (λ c. left c < left old)

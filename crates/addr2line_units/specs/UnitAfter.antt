@@ -57,15 +57,16 @@ pub record AfterEntries {R : Type 0} (Leaves : EntriesCache R → EntriesCache R
   pub lines : new.lines ≡ old.lines
   pub entries : Leaves old.entries new.entries
 
--- lines were looked at so often at most, and once at least where something was found
+-- lines were looked at no less often than before, so often at most, and once at least where
+-- something was found
 pub record CountsSteps (most : ℕ) (found : Bool) (old new : ℕ) : Type 0 where
   pub raised : old ≤ new
   pub counted : found ≡ true → old < new
   pub cost : new ≤ old + most
 
--- after the row of an address was looked for in a unit: its lines are cached, or their fault, which
--- alone is a refusal then, or memory was refused; those that are cached were looked at no more often
--- than a search in them takes, and once at least where a row was found
+-- after the row of an address was looked for in a unit: its lines are cached, or their fault, or
+-- memory was refused; those that are cached were looked at no more often than a search in them
+-- takes, and once at least where a row was found
 pub record AfterRowIn (shares : Bool) (d : Sections) (u : UnitRecord)
     (result : Result (Option Row) Error) (old new : LinesCache) (old_steps new_steps : ℕ)
     : Type 0 where

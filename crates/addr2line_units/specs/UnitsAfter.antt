@@ -26,7 +26,7 @@ use Rattle.addr2line_units.specs.UnitView.{FirstAnswers}
 
 -- nothing is changed but which lines are parsed, how often they were looked at, and what is stored
 -- of the last lookup: those stay parsed that were, and no others are but those that are asked for;
--- where all of these were, which lines are parsed isn't changed either
+-- where all that are asked for were parsed before, the same are after
 pub record AfterLines (asks : ℕ → Type 0) (old new : UnitsState) : Type 0 where
   pub same : new ≡ record old { parsed = new.parsed; steps = new.steps; stop = new.stop }
   pub parsed : StaysParsed old.parsed new.parsed
@@ -199,8 +199,9 @@ pub record AfterPreloadAlong {X : Type 0} (ranges : List UnitRange) (result : Re
       → IsOk result
   pub refused : IfErr result (λ e. e ≡ OutOfMemory)
 
--- a parse of functions has come to the unit of a number: those before it are decided, and all that
--- the parse reads of them is known; of those behind it nothing is changed; where memory was
+-- a parse of functions has come to the unit of a number: those before it can be read, are decided,
+-- by none where they were open, and all that the parse reads of them is known. That unit may be
+-- decided by none too, and no other; of those behind it nothing is changed. Where memory was
 -- refused, that unit is open, or not all is known that the parse reads of it
 pub record HasComeTo (depth : ReadingDepth) (result : Result (Unit {0}) Error) (scope : Scope)
     (us : List UnitRecord) (answers : FirstAnswers) (known : List KnownEntries)
@@ -210,9 +211,9 @@ pub record HasComeTo (depth : ReadingDepth) (result : Result (Unit {0}) Error) (
   pub behind : (m : ℕ) → n < m → slice_get new_known m ≡ slice_get known m
   pub memory : IsReadyOf depth scope us new_answers new_known n → WasNotRefused result
 
--- after a parse of all functions open units are decided by none, up to the first fault; where
--- memory was refused, the parse has come to some unit of which something is left to read. What was
--- known of the others stays, and where functions alone are read no detail becomes known. Unless
+-- after a parse of all functions open units are decided by none, up to the first fault. The parse
+-- has come to some unit, and where memory was refused something is left to read of that one. What
+-- was known of the others stays, and where functions alone are read no detail becomes known. Unless
 -- memory was refused all is known that the parse reads, and where it is, none was refused; where it
 -- was before, the result is that of the reading, and nothing is changed of what is known and
 -- answered; where nothing that is read takes memory, over readers that share their bytes or don't,

@@ -247,7 +247,9 @@ impl LinesCache {
         check_lines(&self.lines)
     }
 
-    // The row of an address in the unit, whose lines are read and cached, unless they are.
+    // The row of an address in the unit, whose lines are read and cached, unless they are. Refused
+    // by their fault; may fail with `OutOfMemory` instead, only where they aren't cached and take
+    // memory.
     pub(crate) fn find_row<R: Reader>(
         &mut self,
         alloc: Global,

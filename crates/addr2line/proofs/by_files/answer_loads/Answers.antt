@@ -30,8 +30,8 @@ loop-sections-preserved g c =
     let next = c.in-Load-resume.continuation in
     let load = c.in-Load-resume.ensures.gives.load in
     let x = option_map (λ d. d.value) c.in-Ok.sections in
-    let by = subst (λ s. IfSome files (λ held. given_by_files held s ≡ Ok x)) c.load.ensures.gives c.in-Ok.ensures.gives.so.gives in
-    let made = subst (λ s. IfSome x (AreOfSomeFile c.args.compressed s)) c.load.ensures.gives (if_seen (λ d. d.value) (AreOfSomeFile c.args.compressed c.load.result.now) c.in-Ok.sections c.in-Ok.ensures.gives.so.made) in
+    let by = subst (λ s. IfSome files (λ held. given_by_files held s ≡ Ok x)) c.load.ensures.gives c.in-Ok.ensures.gives.gives.gives in
+    let made = subst (λ s. IfSome x (AreOfSomeFile c.args.compressed s)) c.load.ensures.gives (if_seen (λ d. d.value) (AreOfSomeFile c.args.compressed c.load.result.now) c.in-Ok.sections c.in-Ok.ensures.gives.gives.made) in
     record {
       name = load.0 ∙ inv.name;
       probe = load.1 ∙ inv.probe;
@@ -45,8 +45,8 @@ returns-in-Output-resume g c =
     let l = c.loop-sections.next in
     let inv = c.loop-sections.invariant in
     let x = option_map (λ d. d.value) c.in-Ok.sections in
-    let by = subst (λ s. IfSome files (λ held. given_by_files held s ≡ Ok x)) c.load.ensures.gives c.in-Ok.ensures.gives.so.gives in
-    let made = subst (λ s. IfSome x (AreOfSomeFile c.args.compressed s)) c.load.ensures.gives (if_seen (λ d. d.value) (AreOfSomeFile c.args.compressed c.load.result.now) c.in-Ok.sections c.in-Ok.ensures.gives.so.made) in
+    let by = subst (λ s. IfSome files (λ held. given_by_files held s ≡ Ok x)) c.load.ensures.gives c.in-Ok.ensures.gives.gives.gives in
+    let made = subst (λ s. IfSome x (AreOfSomeFile c.args.compressed s)) c.load.ensures.gives (if_seen (λ d. d.value) (AreOfSomeFile c.args.compressed c.load.result.now) c.in-Ok.sections c.in-Ok.ensures.gives.gives.made) in
     record {
       after = record {
         by_files = ends_resumed c.args.compressed files c.args.probe c.args.ctx.now l.number l.load l.ctx.now inv.so x by made true c.resume.result c.in-Output-resume.frames c.in-Output-resume.is l.probe inv.probe _ c.resume.follows.lender-at-none (search rules) c.resume.follows.holds-at-none
@@ -62,8 +62,8 @@ returns-in-Err g c =
     let l = c.loop-sections.next in
     let inv = c.loop-sections.invariant in
     let e = c.in-Err.error in
-    let by = subst (λ s. IfSome files (λ held. e ≢ OutOfMemory → given_by_files held s ≡ Err e)) c.load.ensures.gives c.in-Err.ensures.gives.so.gives in
-    let why = subst (λ s. RefusesAnswer s e) c.load.ensures.gives c.in-Err.ensures.gives.so.refused in
+    let by = subst (λ s. IfSome files (λ held. e ≢ OutOfMemory → given_by_files held s ≡ Err e)) c.load.ensures.gives c.in-Err.ensures.gives.gives.gives in
+    let why = subst (λ s. RefusesAnswer s e) c.load.ensures.gives c.in-Err.ensures.gives.gives.refused in
     record {
       after = record {
         by_files = given_up c.args.compressed files c.args.probe c.args.ctx.now l.number l.load l.ctx.now inv.so e (elim why [ inl q ↦ inl q.0 | inr q ↦ inr q ]) by _ (search rules);

@@ -1,4 +1,4 @@
-use Rattle.addr2line.proofs.Common.{◌≡◌, Some, Ok, option_map, ap, sym, subst, refl, rules, ◌∙◌, LoadsUnlessOom, ObjectFile, or_none, split_by}
+use Rattle.addr2line.proofs.Common.{◌≡◌, Ok, option_map, ap, sym, subst, refl, rules, ◌∙◌, LoadsUnlessOom, ObjectFile, or_none, split_by}
 use Rattle.addr2line.specs.FileSections.{split_section}
 use Rattle.addr2line.proofs.KeptFileLemmas.{kept_stamp}
 use Rattle.addr2line.proofs.split_files.answer_stamped.Goals as goal
@@ -19,7 +19,7 @@ pub returns-in-Some-clause-after : goal.returns-in-Some-clause-after
 returns-in-Some-clause-after g c =
     let object = c.in-Some.object.now in
     record {
-      so = search rules;
+      after = search rules;
       stamped = kept_stamp c.args.kept.now c.args.path.now c.args.stamp object ((c.in-Some.ensures.gives object).0 refl);
     }
 

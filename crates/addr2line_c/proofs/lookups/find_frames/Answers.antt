@@ -2,6 +2,9 @@ use Rattle.addr2line_c.proofs.Common.{rules, ◌∙◌, ap, inl, inr, refl, Wait
 use Rattle.addr2line_c.proofs.LeftLemmas.{frames_not_refused, leaves_frames, leaves_waiting}
 use Rattle.addr2line_c.proofs.lookups.find_frames.Goals as goal
 
+pub returns-in-Output-clause-gives : goal.returns-in-Output-clause-gives
+returns-in-Output-clause-gives g c = c.put_found_frames.ensures.gives _ c.in-Output.ensures.gives.comes_to.output
+
 pub returns-in-Output-clause-left : goal.returns-in-Output-clause-left
 returns-in-Output-clause-left g c = leaves_frames g.R.Reader.shares c.args.probe _ c.put_found_frames.result c.in-Output.found c.args.context.now _ c.put_found_frames.ensures.whole (search rules)
 

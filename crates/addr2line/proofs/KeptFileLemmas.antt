@@ -10,7 +10,7 @@ use Rattle.addr2line.specs.declared.files.FileStamp.{FileStamp}
 use Rattle.addr2line.specs.declared.files.FileTime.{FileTime}
 use Rattle.addr2line.specs.declared.kept_files.KeptFile.{KeptFile}
 use Rattle.addr2line.specs.declared.kept_files.KeptFiles.{KeptFiles}
-use Rattle.addr2line.specs.KeptFiles.{ChangesAt, IsKept, kept_at}
+use Rattle.addr2line.specs.KeptFiles.{ChangesAt, IsKeptAt, kept_at}
 
 -- a test decides whether it is true
 itself : (b : Bool) → Decides b (b ≡ true)
@@ -48,7 +48,7 @@ unchanged_at (Err e) bad path file old new same other = same other ∙ sym (by (
     by false d = refl
 
 -- a file that is kept with a stamp is the only one
-pub kept_stamp : (kept : KeptFiles) (path : List ℕ) (stamp : FileStamp) (object : ObjectFile) → IsKept kept path stamp object → (file : KeptFile) → kept_at kept path ≡ Some file → file.stamp ≡ stamp
+pub kept_stamp : (kept : KeptFiles) (path : List ℕ) (stamp : FileStamp) (object : ObjectFile) → IsKeptAt kept path stamp object → (file : KeptFile) → kept_at kept path ≡ Some file → file.stamp ≡ stamp
 kept_stamp kept path stamp object at file is =
     let e : Some file ≡ Some (record { stamp = stamp; object = object }) = sym is ∙ at in
     let same : ◌≡◌ {A = KeptFile} file (record { stamp = stamp; object = object }) = cc in

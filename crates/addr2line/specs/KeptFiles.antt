@@ -19,8 +19,8 @@ abbrev pub kept_at : KeptFiles → List ℕ → Option KeptFile
 kept_at kept path = get_by_text kept.files path
 
 -- this file is kept for a path with this stamp
-abbrev pub IsKept : KeptFiles → List ℕ → FileStamp → ObjectFile → Type 0
-IsKept kept path stamp object =
+abbrev pub IsKeptAt : KeptFiles → List ℕ → FileStamp → ObjectFile → Type 0
+IsKeptAt kept path stamp object =
     kept_at kept path ≡ Some (record { stamp = stamp; object = object })
 
 -- this is kept for a path now, and for each other path what was kept before
@@ -69,7 +69,7 @@ pub record KeepsByFiles (files : Option Files) (Keeps : KeptFiles → KeptFiles 
 pub record AnswersLoadStamped {X : Type 0} (see : X → Sections) (compressed : CompressedSections)
     (load : SplitLoad) (path : List ℕ) (stamp : FileStamp) (kept : KeptFiles)
     (result : Loading (Option X)) : Type 0 where
-  pub found : (object : ObjectFile) → IsKept kept path stamp object
+  pub found : (object : ObjectFile) → IsKeptAt kept path stamp object
       → LoadsUnlessOom (option_map see) result
       (Ok (or_none (split_by (split_section compressed object) load)))
   pub made : IfOk result (λ found. IfSome found (λ x. AreOfSomeFile compressed load (see x)))

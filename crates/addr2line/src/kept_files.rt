@@ -2,7 +2,7 @@
 
 ghost use Rattle.std.specs.Prelude.{◌≡◌, ◌↔◌, ℕ, List, None, Some, if◌then◌else◌, is_ok, option_map};
 ghost use Rattle.addr2line.specs.Common.{ObjectFile};
-ghost use Rattle.addr2line.specs.KeptFiles.{ChangesAt, IsKept, kept_at};
+ghost use Rattle.addr2line.specs.KeptFiles.{ChangesAt, IsKeptAt, kept_at};
 
 use crate::files::FileStamp;
 use elf::ElfFile;
@@ -37,7 +37,7 @@ impl KeptFiles {
     /// The file that is kept for a path with this very stamp. Takes no memory.
     pub(crate) fn find(&self, path: &str, stamp: FileStamp) -> Option<&ElfFile>
         ensures gives { (object : ObjectFile) → (option_map (λ o. o.now) result ≡ Some object)
-            ↔ IsKept self.now path.now stamp object }
+            ↔ IsKeptAt self.now path.now stamp object }
     {
         let kept = self.files.get(path)?;
         if kept.stamp == stamp {

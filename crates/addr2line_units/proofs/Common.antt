@@ -1,5 +1,5 @@
 -- What many proofs of this crate cite, handed on. Declares nothing.
-pub use Rattle.std.proofs.Common.{Bool, Box, Err, Global, IfOk, IfSome, List, None, Ok, Option, Result, Some, [], add-one, ap, append-nil, append_assoc, arith, box_value, cond, drop, eqb-true, false, filter, filter_map, find, flat_map, get_or, if◌then◌else◌, inl, inr, is_none, is_ok, is_some, le-leb, leb, leb-true, length, length-append, length-drop, length-take, lt-ltb, ltb, ltb-false, ltb-true, map, min, nat_cmp, nat_le, nat_lt, not, option_and_then, option_map, option_to_list, pos, position, refl, reverse, rules, slice_get, slice_set, subst, suc, sym, take, take-append-drop, true, unwrap_or, zero, ℕ, ⊎_elim, ◌&&◌, ◌*◌, ◌++◌, ◌+◌, ◌-◌, ◌<◌, ◌==◌, ◌||◌, ◌∙◌, ◌∷◌, ◌≡◌, ◌≢◌, ◌≤◌, ◌⊎◌}
+pub use Rattle.std.proofs.Common.{Bool, Box, Err, Global, IfOk, IfSome, List, None, Ok, Option, Result, Some, [], add-one, ap, append-nil, append_assoc, arith, box_value, cond, drop, eqb-true, false, filter, filter_map, find, get_or, if◌then◌else◌, inl, inr, is_none, is_ok, is_some, le-leb, leb, leb-true, length, length-append, length-drop, length-take, lt-ltb, ltb, ltb-false, ltb-true, map, min, nat_cmp, nat_le, nat_lt, not, option_and_then, option_map, option_to_list, pos, position, refl, reverse, rules, slice_get, slice_set, subst, suc, sym, take, take-append-drop, true, unwrap_or, zero, ℕ, ⊎_elim, ◌&&◌, ◌*◌, ◌++◌, ◌+◌, ◌-◌, ◌<◌, ◌==◌, ◌||◌, ◌∙◌, ◌∷◌, ◌≡◌, ◌≢◌, ◌≤◌, ◌⊎◌}
 pub use Rattle.std.proofs.Math.ListN.{drop_of_length-le, set}
 pub use Rattle.std.proofs.lemmas.Bool.{cases_eq, eq-eqb, false≢true, or_left, or_parts, or_right}
 pub use Rattle.std.proofs.lemmas.Bool.Decides.{Decides-eqb, eqb_tells, nat_tests}
@@ -24,6 +24,7 @@ pub use Rattle.gimli_read.specs.declared.constants.DwLang.{DwLang}
 pub use Rattle.gimli_read.specs.declared.error.Error.{Error}
 pub use Rattle.gimli_read.specs.declared.error.Error.TheVariants.{OffsetOutOfBounds, OutOfMemory, UnknownToken}
 pub use Rattle.gimli_read.specs.declared.range.Range.{Range}
+pub use Rattle.gimli.specs.Aranges.{arange_sets_of}
 pub use Rattle.gimli.specs.Header.{UnitHeaderFields}
 pub use Rattle.gimli.specs.Sections.{Sections, SupSections, sup_sections}
 pub use Rattle.gimli.specs.Unit.{UnitRecord, attr_string_of}
@@ -60,7 +61,7 @@ pub use Rattle.addr2line_units.specs.Frames.{FoundFunction, FrameRecord, call_lo
 unfoldable pub use Rattle.addr2line_units.specs.Frames.{function_at}
 pub use Rattle.addr2line_units.specs.FramesLookup.{Finds, FindsNothing, LookupAsks, LookupStop, Waits, after_fault, answer_of, asked_frames, asks_lines_of, ends_lookup, frames_of_number, function_offset_of, functions_of_take_memory, holds_along, inlined_at_number, main_scope, or_stop, readable_view, stop_along, unit_found, view_of_number, with_answer, asked_of_unit, first_frame_location, found_in_unit, has_stopped, located_frames, location_found}
 pub use Rattle.addr2line_units.specs.Parses.{AreKnownToFault, AreReadBefore, AreReadyFor, IsKnownToFault, IsReadyFor, IsReadyOf, ReadsNoMemory, answers_after_parse, first_decided, parse_of_takes_memory, parse_takes_memory, read_of_functions, read_of_number, read_of_unit, read_of_units, read_of_view, unless_fault}
-pub use Rattle.addr2line_units.specs.UnitsOfHeaders.{by_abbreviations, has_abbreviations, put_to, units_of}
+pub use Rattle.addr2line_units.specs.UnitsOfHeaders.{by_abbreviations, first_unit_of, has_abbreviations, put_to, units_of}
 pub use Rattle.addr2line_units.specs.EntriesKnown.{AllKnown, FunctionsKnown, HasFault, HasNoFunctions, IsRead, KnownEntries, KnownFunction, LearnsDetailsAt, LearnsNoDetails, LearnsNoFunctions, NotRead, NothingKnown, is_detail_known, is_known_at, known_function_at, knows_at, knows_detail, knows_detail_at}
 pub use Rattle.addr2line_units.specs.LegacyText.{after_first, ascii_front, elements_by, elements_within, escape_text, joint_text, numbered_char, plain_from, shown_char, without_hash, without_llvm}
 unfoldable pub use Rattle.addr2line_units.specs.LegacyText.{demangled, element_at, element_text, elements_at, elements_text, escape_char, escape_in, legacy_text, spelled_text, suffix_at, without_prefix}
@@ -70,12 +71,12 @@ pub use Rattle.addr2line_units.specs.LocationsParsed.{AllAskFor, AreAllParsed, A
 pub use Rattle.addr2line_units.specs.UnitsRanged.{IndexedUnit, RangedUnit, has_lines, indexed_of, is_partial, is_type_unit, listed_unit_ranges, or_attribute_ranges, range_of_unit, ranged_unit, ranged_units, unit_ranges, unit_ranges_from, unit_records, unless_faulty}
 unfoldable pub use Rattle.addr2line_units.specs.UnitsRanged.{listed_in_unit, unit_of_header}
 pub use Rattle.addr2line_units.specs.UnitsStored.{AreUnits, as_units_state}
-pub use Rattle.addr2line_units.specs.IndexAranges.{aranges_at, aranges_in, is_arange_of, lists_aranges, offset_sooner, range_in, set_aranges, some_lists, unit_arange}
+pub use Rattle.addr2line_units.specs.IndexAranges.{aranges_at, aranges_in, is_arange_of, offset_sooner, range_in, set_aranges, unit_arange}
 pub use Rattle.addr2line_units.specs.EntriesFrames.{FramesResult, frames_in, frames_by, function_by, function_in, function_offset_among, function_offset_by, inlined_of_found}
 unfoldable pub use Rattle.addr2line_units.specs.EntriesFrames.{asks_lines_in, frames_by_lines, function_offset_in, inlined_of_unit}
 pub use Rattle.addr2line_units.specs.RangeIterLeft.{ranges_left}
 pub use Rattle.addr2line_units.specs.UnitsState.{IsFaultAt, UnitsState, asked_by, asks_no_memory_at, first_state, has_all_at, has_few_at, new_units, reads_no_memory_at, stop_of, has_asked_at, has_asked_few_at, takes_none_at}
-pub use Rattle.addr2line_units.specs.UnitView.{FirstAnswers, SplitLoad, View, answered_view, awaited_by, awaited_load, decided_answer, first_of, first_takes_memory, first_unit, first_unit_takes_memory, first_view, is_open, load_by, main_view, parts_of, verdict, verdict_by, view_scope}
+pub use Rattle.addr2line_units.specs.UnitView.{FirstAnswers, SplitLoad, View, answered_view, awaited_by, awaited_load, decided_answer, first_unit, first_view, is_open, load_by, main_view, parts_of, verdict, verdict_by, view_scope}
 unfoldable pub use Rattle.addr2line_units.specs.UnitView.{load_of_unit, split_name_of}
 pub use Rattle.addr2line_units.specs.declared.entries.LazyFunctions.{LazyFunctions}
 pub use Rattle.addr2line_units.specs.EntriesOwn.{CachedUnit}

@@ -1,6 +1,6 @@
 -- The units that references lead to in a context, and what is cached of their entries at first (on
 -- specs/UnitsIndexLaws.antt, specs/FramesLookup.antt and specs/UnitsCached.antt).
-use Rattle.addr2line_units.proofs.Common.{◌≡◌, ◌∙◌, ap, sym, refl, subst, Bool, true, false, List, [], ◌∷◌, ◌++◌, filter_map, map, Option, Some, None, option_map, IfSome, Result, Ok, Err, if◌then◌else◌, DwLang, Error, Range, Costed, free, ◌>>=◌, result_map, UnitHeaderFields, Sections, SupSections, UnitRecord, unit_record_of, all_headers, read_all, AreInOrder, IsFileInOrder, IsScope, Scope, UnitArange, CachedUnit, HaveLinesOf, indexed_units, main_scope, AreFreshOf, HaveCachesOf, answers_in, by_abbreviations, units_of, aranges_in, indexed_of, unit_records, RangedUnit, listed_in_unit, is_type_unit, ranged_units, unit_ranges_from, unit_of_header, unless_faulty, FirstAnswers, sup_sections}
+use Rattle.addr2line_units.proofs.Common.{◌≡◌, ◌∙◌, ap, sym, refl, subst, Bool, true, false, List, [], ◌∷◌, ◌++◌, filter_map, map, Option, Some, None, option_map, IfSome, Result, Ok, Err, if◌then◌else◌, DwLang, Error, Range, Costed, free, ◌>>=◌, result_map, UnitHeaderFields, Sections, SupSections, UnitRecord, unit_record_of, all_headers, read_all, AreInOrder, IsFileInOrder, IsScope, Scope, UnitArange, CachedUnit, HaveLinesOf, indexed_units, main_scope, AreFreshOf, HaveCachesOf, answers_in, by_abbreviations, units_of, arange_sets_of, aranges_in, indexed_of, unit_records, RangedUnit, listed_in_unit, is_type_unit, ranged_units, unit_ranges_from, unit_of_header, unless_faulty, FirstAnswers, sup_sections}
 use Rattle.std.specs.Prelude.{option_to_list}
 use Rattle.std.specs.Result.{result_ok}
 use Rattle.gimli.proofs.HeaderOrder.{headers_in_order}
@@ -74,7 +74,7 @@ module _ {U : Type 0} (read : UnitHeaderFields → Costed (Option U)) where
 
 -- the units of the sections stand in order
 ranged_in_order : (d : Sections) (units : List RangedUnit) → ranged_units d ≡ Ok units → AreInOrder (unit_records (map indexed_of units))
-ranged_in_order d units e = of_aranges (aranges_in d.debug_aranges) e
+ranged_in_order d units e = of_aranges (aranges_in (arange_sets_of d.debug_aranges)).given e
   where
     of_aranges : (r : Result (List UnitArange) Error) → (r >>= λ aranges. (units_of (unit_of_header d aranges) (all_headers d.debug_info)).given) ≡ Ok units → AreInOrder (unit_records (map indexed_of units))
     of_aranges (Err f) k = absurd cc

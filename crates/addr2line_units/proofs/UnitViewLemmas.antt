@@ -1,5 +1,5 @@
 -- The views of units (on specs/UnitView.antt and specs/UnitViewCached.antt).
-use Rattle.addr2line_units.proofs.Common.{◌≡◌, ◌≢◌, ◌∙◌, ℕ, ap, sym, refl, subst, not, ⊎_elim, ◌||◌, Bool, true, false, List, [], ◌∷◌, Option, Some, None, is_some, is_none, option_map, IfSome, IfOk, Result, Ok, Err, if◌then◌else◌, Error, OutOfMemory, ◌>>=◌, fault_of, Section, Sections, UnitHeaderFields, UnitRecord, attr_string_of, unit_record_of, all_headers, IsScope, Scope, UnitView, ViewState, IsViewOf, answer_in, answer_of_view, as_sections, split_file_by, split_file_in, split_unit, unboxed, verdict_in, view_by, waits, SplitLoad, View, answered_view, first_of, first_takes_memory, first_unit, first_unit_takes_memory, first_view, load_by, load_of_unit, main_view, split_name_of, verdict, verdict_by, view_scope, memory_or_not, is_decided, is_open, view_fault, was_checked}
+use Rattle.addr2line_units.proofs.Common.{◌≡◌, ◌≢◌, ◌∙◌, ℕ, ap, sym, refl, subst, not, ⊎_elim, Bool, true, false, List, [], ◌∷◌, Option, Some, None, is_some, is_none, option_map, IfSome, IfOk, Result, Ok, Err, if◌then◌else◌, Error, OutOfMemory, ◌>>=◌, fault_of, Section, Sections, UnitHeaderFields, UnitRecord, attr_string_of, unit_record_of, all_headers, IsScope, Scope, UnitView, ViewState, IsViewOf, answer_in, answer_of_view, as_sections, split_file_by, split_file_in, split_unit, unboxed, verdict_in, view_by, waits, SplitLoad, View, answered_view, first_unit, first_unit_of, first_view, free, or_left, or_right, load_by, load_of_unit, main_view, split_name_of, verdict, verdict_by, view_scope, memory_or_not, is_decided, is_open, view_fault, was_checked}
 use Rattle.gimli_read.specs.declared.value.AttributeValue.{AttributeValue}
 use Rattle.gimli.specs.declared.unit.DwoId.{DwoId}
 use Rattle.gimli.specs.Split.{dwo_name_fault, dwo_name_of, relocated, string_fault_if}
@@ -8,6 +8,7 @@ use Rattle.gimli.proofs.UnitLemmas.{read_takes_memory}
 use Rattle.addr2line_lines.specs.FileTexts.{optional_string}
 use Rattle.addr2line_units.specs.declared.unit.AnsweredLoad.{AnsweredLoad}
 use Rattle.addr2line_units.specs.declared.unit.ViewState.TheVariants as states
+use Rattle.addr2line_units.specs.LoadsMemory.{first_unit_takes_memory, unit_read}
 use Rattle.addr2line_units.specs.UnitAfter.{AfterViewCheck}
 use Rattle.addr2line_units.specs.UnitViewCached.{verdict_or}
 
@@ -109,15 +110,21 @@ view_by_split_unit d main (Some split) = first_by d main split (first_unit split
 
 -- the first unit of sections
 module _ (shares : Bool) (d : Sections) where
+  abbrev takes : List (Result UnitHeaderFields Error) → Bool
+  takes headers = (first_unit_of (unit_read d) headers).takes_memory shares
+
+  abbrev given : List (Result UnitHeaderFields Error) → Result (Option UnitRecord) Error
+  given headers = (first_unit_of (λ header. free (unit_record_of d header)) headers).given
+
   pub first_shared : shares ≡ true → first_unit_takes_memory shares d ≡ true
-  first_shared e = ap (λ b. b || first_takes_memory b d (all_headers d.debug_info)) e
+  first_shared e = by_headers (all_headers d.debug_info)
+    where
+      by_headers : (headers : List (Result UnitHeaderFields Error)) → takes headers ≡ true
+      by_headers [] = e
+      by_headers (header ∷ headers) = or_left _ _ (or_left shares _ e)
 
   pub first_taken : (header : UnitHeaderFields) (rest : List (Result UnitHeaderFields Error)) → all_headers d.debug_info ≡ Ok header ∷ rest → unit_takes_memory shares d header ≡ true → first_unit_takes_memory shares d ≡ true
-  first_taken header rest e h = by_test shares (ap (first_takes_memory shares d) e ∙ h)
-    where
-      by_test : (b : Bool) → first_takes_memory shares d (all_headers d.debug_info) ≡ true → (b || first_takes_memory shares d (all_headers d.debug_info)) ≡ true
-      by_test true k = refl
-      by_test false k = k
+  first_taken header rest e h = ap takes e ∙ or_left _ _ (or_right shares _ h)
 
   -- a first unit that is read had memory taken for it
   pub first_read : (u : UnitRecord) → first_unit d ≡ Ok (Some u) → first_unit_takes_memory shares d ≡ true
@@ -127,16 +134,16 @@ module _ (shares : Bool) (d : Sections) where
       by_record header rest (Err e) all k p = absurd cc
       by_record header rest (Ok x) all k p = first_taken header rest all (read_takes_memory shares d header x k)
 
-      by_headers : (headers : List (Result UnitHeaderFields Error)) → all_headers d.debug_info ≡ headers → first_of d headers ≡ Ok (Some u) → first_unit_takes_memory shares d ≡ true
+      by_headers : (headers : List (Result UnitHeaderFields Error)) → all_headers d.debug_info ≡ headers → given headers ≡ Ok (Some u) → first_unit_takes_memory shares d ≡ true
       by_headers [] all p = absurd cc
       by_headers (Err e ∷ rest) all p = absurd cc
       by_headers (Ok header ∷ rest) all p = by_record header rest (unit_record_of d header) all refl p
 
   pub first_refused : (f : Error) (rest : List (Result UnitHeaderFields Error)) → all_headers d.debug_info ≡ Err f ∷ rest → first_unit d ≡ Err f
-  first_refused f rest e = ap (first_of d) e
+  first_refused f rest e = ap given e
 
   pub first_faulty : (header : UnitHeaderFields) (rest : List (Result UnitHeaderFields Error)) (f : Error) → all_headers d.debug_info ≡ Ok header ∷ rest → unit_record_of d header ≡ Err f → first_unit d ≡ Err f
-  first_faulty header rest f e h = ap (first_of d) e ∙ ap (λ r. r >>= λ (u : UnitRecord). Ok (Some u)) h
+  first_faulty header rest f e h = ap given e ∙ ap (λ r. r >>= λ (u : UnitRecord). Ok (Some u)) h
 
 -- an answer with its split unit has the view that the answer decides for
 pub answered_verdict : {R : Type 0} (d : Sections) (u : UnitRecord) (a : AnsweredLoad R) → unboxed a.unit ≡ split_unit u (as_sections a) → verdict_in d u (states.Answered a) ≡ Some (Some (answered_view d u (as_sections a)))

@@ -1,5 +1,5 @@
 -- The units of a context as they are read (on specs/UnitsState.antt and specs/UnitsStored.antt).
-use Rattle.addr2line_units.proofs.Common.{◌≡◌, ◌++◌, Bool, true, length, nat_lt, or_left, List, [], ◌∷◌, map, Option, Some, None, option_map, Result, Ok, Err, refl, sym, ap, subst, ◌∙◌, Error, ◌>>=◌, Sections, SupSections, UnitRecord, all_headers, FileRecord, IsScope, Scope, UnitArange, UnitRange, CachedUnit, indexed_units, AreLinesOf, HaveNewCaches, answers_in, FindsNothing, main_scope, units_of, known_in, KnownEntries, NothingKnown, IndexedUnit, RangedUnit, indexed_of, ranged_units, unit_of_header, unit_ranges_from, unit_records, AreUnits, as_units_state, aranges_in, UnitsState, first_state, new_units, FirstAnswers, sup_sections}
+use Rattle.addr2line_units.proofs.Common.{◌≡◌, ◌++◌, Bool, true, length, nat_lt, or_left, List, [], ◌∷◌, map, Option, Some, None, option_map, Result, Ok, Err, refl, sym, ap, subst, ◌∙◌, Error, ◌>>=◌, Sections, SupSections, UnitRecord, all_headers, FileRecord, IsScope, Scope, UnitArange, UnitRange, CachedUnit, indexed_units, AreLinesOf, HaveNewCaches, answers_in, FindsNothing, main_scope, units_of, known_in, KnownEntries, NothingKnown, IndexedUnit, RangedUnit, indexed_of, ranged_units, unit_of_header, unit_ranges_from, unit_records, AreUnits, as_units_state, arange_sets_of, aranges_in, UnitsState, first_state, new_units, FirstAnswers, sup_sections}
 use Rattle.addr2line_units.specs.declared.frames.FramesStop.TheVariants as stops
 use Rattle.addr2line_units.specs.declared.sup.SupUnits.{SupUnits}
 use Rattle.addr2line_units.specs.UnitsCached.{IsFresh}
@@ -34,7 +34,7 @@ one_more d us cs u c before lines fresh = record { lines = own_push d us cs u c 
 
 -- the units with their ranges, as the private functions read them
 pub index_is : (d : Sections) → (index_read d).given ≡ (ranged_units d >>= λ units. Ok (index_of d units))
-index_is d = of_aranges (aranges_in d.debug_aranges)
+index_is d = of_aranges (aranges_in (arange_sets_of d.debug_aranges)).given
   where
     units : List UnitArange → Result (List RangedUnit) Error
     units aranges = (units_of (unit_of_header d aranges) (all_headers d.debug_info)).given

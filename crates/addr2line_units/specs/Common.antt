@@ -6,6 +6,7 @@ pub use Rattle.gimli_read.specs.declared.constants.DwLang.{DwLang}
 pub use Rattle.gimli_read.specs.declared.error.Error.{Error}
 pub use Rattle.gimli_read.specs.declared.error.Error.TheVariants.{OutOfMemory, UnknownToken}
 pub use Rattle.gimli_read.specs.declared.range.Range.{Range}
+pub use Rattle.gimli.specs.Aranges.{arange_sets_of}
 pub use Rattle.gimli.specs.Header.{UnitHeaderFields}
 pub use Rattle.gimli.specs.Sections.{Sections, SupSections, sup_sections}
 pub use Rattle.gimli.specs.Unit.{UnitRecord}

@@ -3,7 +3,7 @@
 -- Own: a refused growth alone answers OutOfMemory, so only where a contract allows it beside what
 -- is given.
 use Rattle.std.specs.Prelude.{ℕ, List, Option, IfOk, IfSome}
-use Rattle.addr2line_units.specs.Common.{WasNotRefused, Section, UnitHeaderFields, Sections, SupSections, UnitRecord, Scope}
+use Rattle.addr2line_units.specs.Common.{WasNotRefused, Section, UnitHeaderFields, Sections, SupSections, UnitRecord, Scope, arange_sets_of}
 use Rattle.gimli_read.specs.FaultLaws.{NoneWasRefused}
 use Rattle.addr2line_units.specs.declared.index.UnitArange.{UnitArange}
 use Rattle.addr2line_units.specs.declared.frames.Asks.{Asks}
@@ -26,7 +26,7 @@ use Rattle.addr2line_units.specs.UnitView.{FirstAnswers, answered_view, first_un
 
 -- no unit of a file is, nor what its root entry says, nor all that a context is made of
 pub record IndexIsNotRefused : Type 0 where
-  pub aranges : (s : Section) → WasNotRefused (aranges_in s)
+  pub aranges : (s : Section) → WasNotRefused (aranges_in (arange_sets_of s)).given
   pub attributes : (d : Sections) (u : UnitRecord) → WasNotRefused (unit_attributes d u)
   pub unit : (d : Sections) (aranges : List UnitArange) (header : UnitHeaderFields)
       → WasNotRefused (unit_of_header d aranges header).given

@@ -1,7 +1,21 @@
 -- When an answer to the load of a unit takes memory (DWARF 5, section 7.3.2).
 use Rattle.std.specs.Prelude.{Bool, false, Option, Some, None}
-use Rattle.addr2line_units.specs.Common.{Sections}
-use Rattle.addr2line_units.specs.UnitView.{first_unit_takes_memory}
+use Rattle.addr2line_units.specs.Common.{Costed, Sections, UnitHeaderFields, UnitRecord, unit_record_of, all_headers}
+use Rattle.gimli.specs.UnitMemory.{unit_takes_memory}
+use Rattle.addr2line_units.specs.UnitsOfHeaders.{first_unit_of}
+
+-- the unit of a header, and whether memory may be taken for it
+abbrev pub unit_read : Sections → UnitHeaderFields → Costed UnitRecord
+unit_read d header = record {
+  given = unit_record_of d header;
+  takes_memory = λ shares. unit_takes_memory shares d header;
+}
+
+-- whether memory may be taken for the first unit of sections: where readers share their bytes, or
+-- for the unit of the first header, where that can be read
+abbrev pub first_unit_takes_memory : Bool → Sections → Bool
+first_unit_takes_memory shares d =
+    (first_unit_of (unit_read d) (all_headers d.debug_info)).takes_memory shares
 
 -- whether memory may be taken for an answer: for the first unit of its sections, which is stored,
 -- or to look for one where readers share their bytes

@@ -5,12 +5,12 @@
 -- unit, decide for the main view; else the first unit of the sections counts, its fault too.
 -- Own: the identifier of what is answered isn't compared. Lines and language stay those of the main
 -- unit. References lead to no other unit of a split file.
-use Rattle.std.specs.Prelude.{ℕ, ◌||◌, Bool, true, false, List, [], ◌∷◌, Option, Some, None, is_none, option_map, Result, Ok, Err, if◌then◌else◌}
-use Rattle.addr2line_units.specs.Common.{Error, ◌>>=◌, Section, UnitHeaderFields, Sections, UnitRecord, unit_record_of, all_headers, Scope}
+use Rattle.std.specs.Prelude.{ℕ, Bool, true, false, List, [], Option, Some, None, is_none, option_map, Result, Ok, Err, if◌then◌else◌}
+use Rattle.addr2line_units.specs.Common.{Error, ◌>>=◌, free, Section, Sections, UnitRecord, unit_record_of, all_headers, Scope}
 use Rattle.gimli.specs.declared.unit.DwoId.{DwoId}
 use Rattle.gimli.specs.Split.{dwo_name_of, relocated}
-use Rattle.gimli.specs.UnitMemory.{unit_takes_memory}
 use Rattle.addr2line_lines.specs.FileTexts.{optional_string}
+use Rattle.addr2line_units.specs.UnitsOfHeaders.{first_unit_of}
 
 -- of each unit the first answer to its load, none before it has one: the sections of its split
 -- file, or none
@@ -55,27 +55,9 @@ view_scope scope v =
 unfoldable pub split_name_of : Sections → UnitRecord → Result (Option Section) Error
 split_name_of d u = dwo_name_of u >>= optional_string d u
 
--- the first unit of headers
-abbrev pub first_of : Sections → List (Result UnitHeaderFields Error)
-    → Result (Option UnitRecord) Error
-first_of d [] = Ok None
-first_of d (header ∷ headers) = header >>= unit_record_of d >>= λ u. Ok (Some u)
-
 -- the first unit of sections, none where they have no unit
 abbrev pub first_unit : Sections → Result (Option UnitRecord) Error
-first_unit d = first_of d (all_headers d.debug_info)
-
--- whether memory may be taken for the unit of the first of headers
-abbrev pub first_takes_memory : Bool → Sections → List (Result UnitHeaderFields Error) → Bool
-first_takes_memory shares d [] = false
-first_takes_memory shares d (Ok header ∷ headers) = unit_takes_memory shares d header
-first_takes_memory shares d (Err e ∷ headers) = false
-
--- whether memory may be taken for the first unit of sections: where readers share their bytes, or
--- for the unit of a header that can be read
-abbrev pub first_unit_takes_memory : Bool → Sections → Bool
-first_unit_takes_memory shares d =
-    shares || first_takes_memory shares d (all_headers d.debug_info)
+first_unit d = (first_unit_of (λ h. free (unit_record_of d h)) (all_headers d.debug_info)).given
 
 -- the view of a first unit, if there is one
 abbrev pub first_view : Sections → UnitRecord → Sections → Option UnitRecord → View

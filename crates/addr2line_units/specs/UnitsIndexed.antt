@@ -1,7 +1,7 @@
 -- The units of a context and their ranges as they are read, one after another, as the private
 -- functions see them.
 use Rattle.std.specs.Prelude.{Bool, List, [], ◌++◌, length, map, nat_lt, Option, Ok}
-use Rattle.addr2line_units.specs.Common.{DwLang, Range, Costed, free, Section, UnitHeaderFields, Sections, UnitRecord, all_headers}
+use Rattle.addr2line_units.specs.Common.{DwLang, Range, Costed, free, Section, UnitHeaderFields, Sections, UnitRecord, all_headers, arange_sets_of}
 use Rattle.gimli_read.specs.Costed.{◌>>=◌}
 use Rattle.addr2line_units.specs.declared.index.UnitArange.{UnitArange}
 use Rattle.addr2line_units.specs.declared.index.UnitRange.{UnitRange}
@@ -9,7 +9,7 @@ use Rattle.addr2line_units.specs.EntriesOwn.{CachedUnit}
 use Rattle.addr2line_units.specs.UnitLinesCached.{indexed_units, parsed_units}
 use Rattle.addr2line_units.specs.UnitsOfHeaders.{put_to, units_of}
 use Rattle.addr2line_units.specs.UnitsRanged.{IndexedUnit, indexed_of, RangedUnit, has_lines, unit_ranges_from, unit_of_header}
-use Rattle.addr2line_units.specs.IndexAranges.{aranges_in, lists_aranges}
+use Rattle.addr2line_units.specs.IndexAranges.{aranges_in}
 use Rattle.addr2line_units.specs.UnitsIndex.{sup_read}
 
 -- sections, their units, the ranges that lead to these, and of which units the lines are parsed
@@ -38,8 +38,7 @@ sorted xs = record { given = Ok xs; takes_memory = λ shares. nat_lt 0 (length x
 
 -- the ranges that a section lists for units, as they are read
 abbrev pub aranges_read : Section → Costed (List UnitArange)
-aranges_read s =
-    record { given = aranges_in s; takes_memory = λ shares. lists_aranges s } >>= sorted
+aranges_read s = aranges_in (arange_sets_of s) >>= sorted
 
 -- the units of the sections with the ranges that .debug_aranges lists, or the first fault
 abbrev pub indexed_with : Sections → List UnitArange → Costed IndexState

@@ -1,8 +1,8 @@
--- The units of headers as they are read, one after another, with where memory may be taken for them
--- (DWARF 5, section 7.5.1).
+-- The units of headers as they are read, all of them one after another or the first alone, with where
+-- memory may be taken for them (DWARF 5, section 7.5.1).
 -- Own: a unit is read whole before the next header; the first fault counts. Where readers share
 -- their bytes a second reader of the headers takes memory, even if there is no header.
-use Rattle.std.specs.Prelude.{Bool, List, [], ◌∷◌, ◌++◌, is_ok, Option, option_to_list, Result, Ok}
+use Rattle.std.specs.Prelude.{Bool, List, [], ◌∷◌, ◌++◌, is_ok, Option, Some, None, option_to_list, Result, Ok}
 use Rattle.addr2line_units.specs.Common.{Error, Costed, free, parts_on_the_way, UnitHeaderFields, Sections}
 use Rattle.gimli_read.specs.Costed.{◌>>=◌}
 use Rattle.gimli.specs.Text.{from_offset}
@@ -22,6 +22,13 @@ abbrev pub units_of : {U : Type 0} → (UnitHeaderFields → Costed (Option U))
 units_of read [] = parts_on_the_way (Ok [])
 units_of read (header ∷ headers) = parts_on_the_way header >>= read >>= λ unit.
     units_of read headers >>= λ units. free (Ok (option_to_list unit ++ units))
+
+-- the first unit of headers, none where there is no header, or the fault
+abbrev pub first_unit_of : {U : Type 0} → (UnitHeaderFields → Costed U)
+    → List (Result UnitHeaderFields Error) → Costed (Option U)
+first_unit_of read [] = parts_on_the_way (Ok None)
+first_unit_of read (header ∷ headers) =
+    parts_on_the_way header >>= read >>= λ unit. free (Ok (Some unit))
 
 -- a unit, if it is one that counts, put to what was read before
 abbrev pub put_to : {S U : Type 0} → (S → List U → S) → S → Costed (Option U) → Costed S

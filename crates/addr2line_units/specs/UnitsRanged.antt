@@ -7,7 +7,7 @@
 -- with a range list, or without such ranges, has those of its attributes; where these give none, an
 -- empty list too, those of its line sequences. Lines that can't be read give no ranges.
 use Rattle.std.specs.Prelude.{ℕ, ◌+◌, Bool, true, false, ◌&&◌, ◌||◌, not, List, [], ◌∷◌, ◌++◌, map, is_some, Option, Some, None, Result, Ok, Err, if◌then◌else◌}
-use Rattle.addr2line_units.specs.Common.{Error, DwLang, Range, ◌>>=◌, Costed, free, UnitHeaderFields, Sections, UnitRecord, unit_record_of, all_headers, LineTable, sequence_ranges, unit_lines}
+use Rattle.addr2line_units.specs.Common.{Error, DwLang, Range, ◌>>=◌, Costed, free, UnitHeaderFields, Sections, UnitRecord, unit_record_of, all_headers, arange_sets_of, LineTable, sequence_ranges, unit_lines}
 use Rattle.gimli.specs.declared.unit.UnitType.{UnitType}
 use Rattle.gimli.specs.declared.unit.UnitType.TheVariants.{TypeUnit, Partial, SplitType}
 use Rattle.addr2line_lines.specs.declared.function.RangeAttributes.{RangeAttributes}
@@ -124,5 +124,5 @@ unit_ranges_from d n (u ∷ units) =
 -- the units of the sections that can be read, or the first fault
 abbrev pub ranged_units : Sections → Result (List RangedUnit) Error
 ranged_units d = do
-  aranges ← aranges_in d.debug_aranges
+  aranges ← (aranges_in (arange_sets_of d.debug_aranges)).given
   (units_of (unit_of_header d aranges) (all_headers d.debug_info)).given

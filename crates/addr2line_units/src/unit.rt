@@ -1,17 +1,17 @@
 //! What is cached of one unit but its functions: its lines, and its view, which is where its
 //! entries are read that say what stands at an address.
 
-ghost use Rattle.std.specs.Prelude.{◌≡◌, ◌≢◌, ◌&&◌, true, false, not, map, Ok, Err, OnOk, IfOk, IfErr, IfSome, IsOk, is_some, length, nat_lt, option_map, None, Some};
+ghost use Rattle.std.specs.Prelude.{◌≡◌, ◌&&◌, true, false, not, map, Ok, Err, IfOk, IfSome, is_some, length, nat_lt, option_map, None, Some};
 ghost use Rattle.addr2line_units.specs.Common.{Exactly, ExactlyUnlessOom, ExactlyUnlessOomIf, OutOfMemory, Sections, UnitRecord, location_of_row, IsScope, as_scope};
-ghost use Rattle.addr2line_units.specs.UnitsRanged.{is_partial, is_type_unit, listed_unit_ranges, asks_lines, has_lines, ranged_unit, unit_ranges};
+ghost use Rattle.addr2line_units.specs.UnitsRanged.{is_partial, is_type_unit, listed_unit_ranges, asks_lines, ranged_unit};
 ghost use Rattle.addr2line_units.specs.EntriesMemory.{lines_take_memory};
 ghost use Rattle.addr2line_units.specs.IndexAranges.{range_in};
 ghost use Rattle.addr2line_units.specs.UnitLinesCached.{as_unit_at_first, cached_lines_result, cached_files, cached_steps, cached_ranges, cached_row, unit_at_first, lines_result, lines_result_or, location_or, cached_lines, is_uncached, unparsed_lines};
 ghost use Rattle.addr2line_units.specs.UnitAfter.{AfterLinesOf, AfterRowIn, AfterViewAnswer, AfterViewCheck, AfterViewForgetting, CountsSteps};
 ghost use Rattle.addr2line_units.specs.UnitsIndexed.{as_ranged_unit};
-ghost use Rattle.addr2line_units.specs.LoadsMemory.{answer_takes_memory};
+ghost use Rattle.addr2line_units.specs.LoadsMemory.{answer_takes_memory, first_unit_takes_memory};
 ghost use Rattle.addr2line_units.specs.UnitViewCached.{answer_in, has_view, parts_or_fault, answer_of_view, as_sections, split_file_by, split_file_in, split_unit, unboxed, verdict_in, view_in, waits, was_checked, verdict_or};
-ghost use Rattle.addr2line_units.specs.UnitView.{first_unit, first_unit_takes_memory, load_of_unit, parts_of, split_name_of, verdict, view_scope};
+ghost use Rattle.addr2line_units.specs.UnitView.{first_unit, load_of_unit, parts_of, split_name_of, verdict, view_scope};
 ghost use Rattle.addr2line_units.specs.FramesLookup.{readable_view};
 
 use crate::attributes::read_unit_attributes;

@@ -48,8 +48,8 @@ pub use Rattle.gimli.specs.Unit.{UnitRecord, attr_string_of, program_and_low_pc_
 unfoldable pub use Rattle.gimli.specs.Unit.{completed_record, unit_by, unit_record_of}
 pub use Rattle.addr2line_lines.specs.CachedDetails.{AreDetailsMore, CachedDetails, IsDetailPlace, IsNextPlace, IsOfEntryBetween, IsRefusedThen, between, detail_of, listed_ranges, as_details}
 pub use Rattle.addr2line_lines.specs.CachedNames.{AreNamesIn, AreNamesMore, AreNamesOf, CachedName, GrowNames, IsKnownAs, IsNameOf, IsOneMoreAtMost, KnownNames, as_cached_name, as_names, as_shared, no_names}
-pub use Rattle.addr2line_lines.specs.Details.{Detail, PlacedItem, WholeEntry, detail_at, first_whole, inlined_in, is_in_function, open_after, placed_items, whole_entry_at, with_inlined, with_inlined_entry}
-unfoldable pub use Rattle.addr2line_lines.specs.Details.{stored_detail_at}
+pub use Rattle.addr2line_lines.specs.Details.{Detail, PlacedItem, WholeEntry, first_whole, inlined_in, is_in_function, open_after, placed_items, whole_entry_at, with_inlined, with_inlined_entry}
+unfoldable pub use Rattle.addr2line_lines.specs.Details.{detail_at}
 pub use Rattle.addr2line_lines.specs.FoundFunctions.{AreFoundUnread, AreFunctions, FoundFunctions, IsPlaceIn, IsUnread, found_in, found_more, function_address, function_offsets, function_range_of, item_has_function, item_takes_memory, next_found_at, none_found, as_functions, with_attributes, with_found, with_ranges}
 pub use Rattle.addr2line_lines.specs.FoundInlined.{FoundInlined, IsFoundMore, entry_among, first_found, inlined_address, inlined_more, named_lists, no_inlined, none_inlined, range_among, as_lists, with_inlined_found, with_inlined_ranges}
 pub use Rattle.addr2line_lines.specs.FoundNames.{BeginsAbove, BeginsBy, found_name, is_name_attribute, name_after, as_name_or_origin, as_place, unit_begins_by, with_linkage}
@@ -71,6 +71,8 @@ pub use Rattle.addr2line_lines.specs.Rows.{read_all}
 pub use Rattle.addr2line_lines.specs.Scopes.{as_scope}
 pub use Rattle.addr2line_lines.specs.Segments.{AreApart, AreDisjoint, AreSegments, AreSegmentsBelow, IsSegment, RunningRange, address_begin, address_end, address_function, address_holds, as_running, first_end, running_end, segment_to, shortest_function_at}
 pub use Rattle.addr2line_lines.specs.Sequences.{RowGroup, Sequence, end_of, latest, put_first, row_groups, sequence_in, sequence_of, sequences_of, start_of, stored_row}
+pub use Rattle.addr2line_lines.specs.StoredDetails.{all_inlined_at_cost, inlined_at_cost, stored_detail_at}
+unfoldable pub use Rattle.addr2line_lines.specs.StoredDetails.{detail_at_cost}
 pub use Rattle.addr2line_lines.specs.declared.details.FunctionDetail.{FunctionDetail}
 pub use Rattle.addr2line_lines.specs.declared.function.RangeAttributes.{RangeAttributes}
 pub use Rattle.addr2line_lines.specs.declared.functions.LazyFunction.{LazyFunction}

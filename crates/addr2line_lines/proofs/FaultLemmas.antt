@@ -1,5 +1,5 @@
 -- No reading of a unit's lines, functions or details gives OutOfMemory (on specs/UnitLines.antt, Functions, Details and those that they stand on).
-use Rattle.addr2line_lines.proofs.Common.{ℕ, zero, suc, ◌==◌, ◌&&◌, Bool, true, false, cond, List, [], ◌∷◌, map, Option, Some, None, IfOk, Result, Ok, Err, DW_AT_low_pc, DW_AT_high_pc, DW_AT_ranges, DW_AT_name, Error, NoEntryAtGivenOffset, Range, AttributeValue, Abbrev, Specification, NamedValue, free, ◌>>=◌, Run, Section, File, Header, Program, Entry, Item, items_of, items_at, subtree_of, ranges_at, Sections, UnitRecord, RangeAttributes, read_all, attr_address, no_range_attributes, with_range_attribute, range_attributes_of, ranges_of, all_ranges, attribute_ranges, FunctionRange, is_subprogram, entry_ranges, with_function, functions_of, FileRecord, EntryPlace, Scope, unit_at, entry_in, sup_scope, entry_in_sup, referred, is_linkage_name, is_origin, NameOrOrigin, no_name, with_name_or_origin, linkage_name_of, named_at, entry_specifications, visited, most_visited, name_within, referred_name, or_referred_name, with_name, name_of, InlinedAttributes, InlinedRange, no_inlined_attributes, is_inlined, with_inlined_attribute, inlined_attributes_of, PlacedItem, placed_items, is_in_function, with_inlined, with_inlined_entry, inlined_in, WholeEntry, first_whole, whole_entry_at, detail_at, stored_detail_at}
+use Rattle.addr2line_lines.proofs.Common.{ℕ, zero, suc, ◌==◌, ◌&&◌, Bool, true, false, cond, List, [], ◌∷◌, map, Option, Some, None, IfOk, Result, Ok, Err, DW_AT_low_pc, DW_AT_high_pc, DW_AT_ranges, DW_AT_name, Error, NoEntryAtGivenOffset, Range, AttributeValue, Abbrev, Specification, NamedValue, ◌>>=◌, Run, Section, File, Header, Program, Entry, Item, items_of, items_at, subtree_of, ranges_at, Sections, UnitRecord, RangeAttributes, read_all, attr_address, no_range_attributes, with_range_attribute, range_attributes_of, ranges_of, all_ranges, attribute_ranges, FunctionRange, is_subprogram, entry_ranges, with_function, functions_of, FileRecord, EntryPlace, Scope, unit_at, entry_in, sup_scope, entry_in_sup, referred, is_linkage_name, is_origin, NameOrOrigin, no_name, with_name_or_origin, linkage_name_of, named_at, entry_specifications, visited, most_visited, name_within, referred_name, or_referred_name, with_name, name_of, InlinedAttributes, InlinedRange, no_inlined_attributes, is_inlined, with_inlined_attribute, inlined_attributes_of, PlacedItem, placed_items, is_in_function, with_inlined, with_inlined_entry, inlined_in, WholeEntry, first_whole, whole_entry_at, detail_at}
 use Rattle.gimli_read.specs.declared.value.AttributeValue.TheVariants as values
 use Rattle.gimli_read.specs.Version.{is_before_5}
 use Rattle.gimli_read.proofs.FaultLemmas.{IsByBytes, AreByBytes, step, either, value, fault, moved_fault, result_map_is, fold_run_is, fold_of_is, attribute_is}
@@ -158,20 +158,20 @@ pub inlined_attributes_are : (scope : Scope) (u : UnitRecord) (attributes : List
 inlined_attributes_are scope u attributes =
     taken_in_is (with_inlined_attribute scope u) (with_inlined_attribute_is scope u) no_inlined_attributes attributes
 
-with_inlined_is : (scope : Scope) (u : UnitRecord) (found : List InlinedRange) (x : PlacedItem) → IsByBytes (with_inlined scope u found x).given
+with_inlined_is : (scope : Scope) (u : UnitRecord) (found : List InlinedRange) (x : PlacedItem) → IsByBytes (with_inlined scope u found x)
 with_inlined_is scope u found x = by_entry x.item.entry
   where
-    by_test : (e : Entry) (listed : Bool) → IsByBytes (cond listed (with_inlined_entry scope u found x e) (free (Ok found))).given
+    by_test : (e : Entry) (listed : Bool) → IsByBytes (cond listed (with_inlined_entry scope u found x e) (Ok found))
     by_test e true = step (inlined_attributes_are scope u e.attributes) (λ a. step (attribute_ranges_are scope.file.sections u a.ranges) (λ ranges. value))
     by_test e false = value
 
-    by_entry : (o : Option Entry) → IsByBytes (with_inlined scope u found (record { item = record { offset = x.item.offset; depth = x.item.depth; entry = o }; around = x.around })).given
+    by_entry : (o : Option Entry) → IsByBytes (with_inlined scope u found (record { item = record { offset = x.item.offset; depth = x.item.depth; entry = o }; around = x.around }))
     by_entry None = value
     by_entry (Some e) = by_test e (is_inlined e.abbreviation && is_in_function x)
 
-pub inlined_in_is : (scope : Scope) (u : UnitRecord) (inside : Run Item (Unit {0})) → IsByBytes inside.end → IsByBytes (inlined_in scope u inside).given
+pub inlined_in_is : (scope : Scope) (u : UnitRecord) (inside : Run Item (Unit {0})) → IsByBytes inside.end → IsByBytes (inlined_in scope u inside)
 inlined_in_is scope u inside h =
-    step (fold_run_is (λ found x. (with_inlined scope u found x).given) (with_inlined_is scope u) [] (placed_items [] inside.items) inside.end h) (λ found. value)
+    step (fold_run_is (with_inlined scope u) (with_inlined_is scope u) [] (placed_items [] inside.items) inside.end h) (λ found. value)
 
 -- a whole entry, of which the items inside end by the bytes, and what follows it
 after_first : {A : Type 0} {next : WholeEntry → Result A Error} → ((x : WholeEntry) → IsByBytes x.inside.end → IsByBytes (next x))
@@ -198,7 +198,7 @@ pub items_inside_are : (u : UnitRecord) (offset : ℕ) → IsByBytes (items_insi
 items_inside_are u offset = after_whole (λ x h. value) u offset
 
 pub detail_is : (scope : Scope) (u : UnitRecord) (offset : ℕ) → IsByBytes (detail_at scope u offset)
-unfolding stored_detail_at
+unfolding detail_at
 detail_is scope u offset =
     after_whole (λ x h. step (name_is scope u x.entry.attributes) (λ name. step (inlined_in_is scope u x.inside h) (λ inlined. value))) u offset
 

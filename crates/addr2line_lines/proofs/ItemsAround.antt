@@ -1,5 +1,5 @@
 -- The items around an item (on specs/ItemsAround.antt).
-use Rattle.addr2line_lines.proofs.Common.{◌≡◌, ℕ, zero, suc, ◌+◌, ◌-◌, ◌<◌, ◌≤◌, ◌==◌, Bool, true, false, cond, drop, filter, List, [], ◌∷◌, ◌++◌, length, Option, Some, None, Result, Ok, Err, is_ok, refl, sym, ap, subst, ◌∙◌, arith, ℤ, pos, negsuc, append-nil, append_assoc, length-append, length-drop, nat_lt, ◌&&◌, count_by, int_lt, ◌+ℤ◌, All, AllByRecursion, cons_option, length-filter, All-append, All-from_recursion, All-map, Error, NoEntryAtGivenOffset, OffsetOutOfBounds, UnexpectedEof, Range, Abbrev, free, Reading, ◌>>=◌, Run, cons, fold_run, Section, entry_bytes_from, entry_unit, unit_length, EntryUnit, Entry, Item, depth_after, depth_behind, item_at, items_after, items_at, items_from, items_inside, items_within, offset_of, subtree_of, UnitRecord, Detail, PlacedItem, WholeEntry, detail_at, stored_detail_at, first_whole, inlined_in, is_in_function, open_after, placed_items, whole_entry_at, with_inlined, with_inlined_entry, InlinedRange, inlined_attributes_of, inlined_entry, inlined_ranges, is_inlined, name_of, attribute_ranges, Scope, or_left, text_some}
+use Rattle.addr2line_lines.proofs.Common.{◌≡◌, ℕ, zero, suc, ◌+◌, ◌-◌, ◌<◌, ◌≤◌, ◌==◌, Bool, true, false, cond, drop, filter, List, [], ◌∷◌, ◌++◌, length, Option, Some, None, Result, Ok, Err, is_ok, refl, sym, ap, subst, ◌∙◌, arith, ℤ, pos, negsuc, append-nil, append_assoc, length-append, length-drop, nat_lt, ◌&&◌, count_by, int_lt, ◌+ℤ◌, All, AllByRecursion, cons_option, length-filter, All-append, All-from_recursion, All-map, Error, NoEntryAtGivenOffset, OffsetOutOfBounds, UnexpectedEof, Range, Abbrev, Reading, ◌>>=◌, Run, cons, fold_run, Section, entry_bytes_from, entry_unit, unit_length, EntryUnit, Entry, Item, depth_after, depth_behind, item_at, items_after, items_at, items_from, items_inside, items_within, offset_of, subtree_of, UnitRecord, Detail, PlacedItem, WholeEntry, detail_at, first_whole, inlined_in, is_in_function, open_after, placed_items, whole_entry_at, with_inlined, with_inlined_entry, InlinedRange, inlined_attributes_of, inlined_entry, inlined_ranges, is_inlined, name_of, attribute_ranges, Scope, or_left, text_some}
 use Rattle.std.proofs.Math.Seq.{drop-nil}
 use Rattle.std.specs.Cmp.{both_ways}
 use Rattle.std.specs.Prelude.{find}
@@ -9,7 +9,6 @@ use Rattle.gimli_read.specs.Section.{after as section_after}
 use Rattle.gimli_read.proofs.Steps.{bind_ok, same_value}
 use Rattle.gimli.proofs.ItemTexts.{item_text}
 use Rattle.addr2line_lines.specs.ItemsAround.{DepthsAreNumbers, InsideIsRead, OpenAreAround, abbreviations_of, have_item, inlined_depth, is_inlined_item, items_around, items_inside_at, nearest_inlined}
-use Rattle.addr2line_lines.proofs.WholeEntries.{detail_of}
 use Rattle.addr2line_lines.proofs.Facts.{not_above, not_below, not_itself, or_false}
 
 -- items one after another: each lies at the depth after the one before, and begins after it
@@ -379,13 +378,13 @@ nearest_depth items x y h k e =
     omega arith
 
 module _ (scope : Scope) (u : UnitRecord) (items : List Item) where
-  step_listed : (found more : List InlinedRange) (p : PlacedItem) → IsPlaced items p → All (IsListed items) found → (with_inlined scope u found p).given ≡ Ok more → All (IsListed items) more
+  step_listed : (found more : List InlinedRange) (p : PlacedItem) → IsPlaced items p → All (IsListed items) found → with_inlined scope u found p ≡ Ok more → All (IsListed items) more
   step_listed found more p h all e = by_entry p.item.entry e
     where
       number : count_by is_inlined p.around ≡ inlined_depth p.item.offset items
       number = ap (count_by is_inlined) h.around ∙ same_number (items_around p.item.offset items)
 
-      read : (f : Entry) → (with_inlined_entry scope u found p f).given ≡ Ok more → All (IsListed items) more
+      read : (f : Entry) → with_inlined_entry scope u found p f ≡ Ok more → All (IsListed items) more
       read f e =
           let a = bind_ok (inlined_attributes_of scope u f.attributes) (λ a. attribute_ranges scope.file.sections u a.ranges >>= λ ranges. Ok (found ++ inlined_ranges (count_by is_inlined p.around) p.item.offset a ranges)) more e in
           let r = bind_ok (attribute_ranges scope.file.sections u a.0.ranges) (λ ranges. Ok (found ++ inlined_ranges (count_by is_inlined p.around) p.item.offset a.0 ranges)) more a.2 in
@@ -393,37 +392,41 @@ module _ (scope : Scope) (u : UnitRecord) (items : List Item) where
           subst (All (IsListed items)) same (All-append (IsListed items) found (inlined_ranges (count_by is_inlined p.around) p.item.offset a.0 r.0) all
           (All-map (IsListed items) (λ (x : Range). record { depth = count_by is_inlined p.around; range = x; entry = inlined_entry p.item.offset a.0 }) r.0 (λ k d l. record { depth = number; opens = h.opens })))
 
-      by_test : (b : Bool) (f : Entry) → (cond b (with_inlined_entry scope u found p f) (free (Ok found))).given ≡ Ok more → All (IsListed items) more
+      by_test : (b : Bool) (f : Entry) → cond b (with_inlined_entry scope u found p f) (Ok found) ≡ Ok more → All (IsListed items) more
       by_test true f e = read f e
       by_test false f e = let same : found ≡ more = cc in subst (All (IsListed items)) same all
 
-      by_entry : (o : Option Entry) → (with_inlined scope u found (record { item = record { offset = p.item.offset; depth = p.item.depth; entry = o }; around = p.around })).given ≡ Ok more → All (IsListed items) more
+      by_entry : (o : Option Entry) → (with_inlined scope u found (record { item = record { offset = p.item.offset; depth = p.item.depth; entry = o }; around = p.around })) ≡ Ok more → All (IsListed items) more
       by_entry None e = let same : found ≡ more = cc in subst (All (IsListed items)) same all
       by_entry (Some f) e = by_test (is_inlined f.abbreviation && is_in_function p) f e
 
   fold_listed : (ps : List PlacedItem) (end : Result (Unit {0}) Error) (found more : List InlinedRange) (z : Unit {0}) → AllByRecursion (IsPlaced items) ps → All (IsListed items) found
-      → fold_run (λ b x. (with_inlined scope u b x).given) found ps end ≡ Ok (more, z) → All (IsListed items) more
+      → fold_run (with_inlined scope u) found ps end ≡ Ok (more, z) → All (IsListed items) more
   unfolding fold_run
   fold_listed [] end found more z h all e =
       let a = bind_ok end (λ y. Ok (found, y)) (more, z) e in
       let same : found ≡ more = same_value (found, a.0) (more, z) a.2 in
       subst (All (IsListed items)) same all
   fold_listed (p ∷ ps) end found more z h all e =
-      let a = bind_ok (with_inlined scope u found p).given (λ b. fold_run (λ b x. (with_inlined scope u b x).given) b ps end) (more, z) e in
+      let a = bind_ok with_inlined scope u found p (λ b. fold_run (with_inlined scope u) b ps end) (more, z) e in
       fold_listed ps end a.0 more z h.1 (step_listed found a.0 p h.0 all a.1) a.2
+
+-- the details of a function by its entry and what stands inside
+abbrev detail_inside : Scope → UnitRecord → WholeEntry → Result Detail Error
+detail_inside scope u x = name_of scope u x.entry.attributes >>= λ name. inlined_in scope u x.inside >>= λ inlined. Ok (record { name = name; inlined = inlined })
 
 -- the depth of each listed range is the number of inlined entries around its entry
 pub all_listed : (scope : Scope) (u : UnitRecord) (offset : ℕ) (items : List Item) (detail : Detail) → items_inside_at u offset ≡ Ok items → detail_at scope u offset ≡ Ok detail → All (IsListed items) detail.inlined
-unfolding stored_detail_at
+unfolding detail_at
 all_listed scope u offset items detail e f =
     let a = bind_ok (whole_entry_at u offset) (λ x. Ok x.inside.items) items e in
     let x = a.0 in
     let items_are : x.inside.items ≡ items = (let q = a.2 in cc) in
-    let listed = (inlined_in scope u x.inside).given in
-    let n = bind_ok (name_of scope u x.entry.attributes) (λ name. listed >>= λ inlined. Ok (record { name = name; inlined = inlined })) detail (sym (ap (λ r. r >>= λ y. (detail_of scope u offset y).given) a.1) ∙ f) in
+    let listed = inlined_in scope u x.inside in
+    let n = bind_ok (name_of scope u x.entry.attributes) (λ name. listed >>= λ inlined. Ok (record { name = name; inlined = inlined })) detail (sym (ap (λ r. r >>= detail_inside scope u) a.1) ∙ f) in
     let l = bind_ok listed (λ inlined. Ok (record { name = n.0; inlined = inlined })) detail n.2 in
     let same : ◌≡◌ {A = Detail} (record { name = n.0; inlined = l.0 }) detail = (let q = l.2 in cc) in
-    let r = bind_ok (fold_run (λ b x. (with_inlined scope u b x).given) [] (placed_items [] x.inside.items) x.inside.end) (λ found. Ok found.0) l.0 l.1 in
+    let r = bind_ok (fold_run (with_inlined scope u) [] (placed_items [] x.inside.items) x.inside.end) (λ found. Ok found.0) l.0 l.1 in
     let last : r.0.0 ≡ l.0 = (let q = r.2 in cc) in
     let placed_is = subst (λ xs. AllByRecursion (IsPlaced items) (placed_items [] xs)) (sym items_are) (placed_inside u offset items e) in
     let all = fold_listed scope u items (placed_items [] x.inside.items) x.inside.end [] r.0.0 r.0.1 placed_is (λ k d l. absurd (omega arith)) r.1 in
@@ -446,7 +449,7 @@ none_nearest items x h zero_is = ap (option_map (λ (y : Item). y.offset)) (none
         by_test false rest e = rest e
 
 pub inside_is_read : InsideIsRead
-unfolding stored_detail_at
+unfolding detail_at
 inside_is_read scope u offset detail e =
-    let a = bind_ok (whole_entry_at u offset) (λ y. (detail_of scope u offset y).given) detail e in
+    let a = bind_ok (whole_entry_at u offset) (detail_inside scope u) detail e in
     ap is_ok (ap (λ r. r >>= λ x. Ok x.inside.items) a.1)

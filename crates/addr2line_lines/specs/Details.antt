@@ -2,14 +2,11 @@
 -- Own: the depth of an inlined entry is how many inlined entries of the function are open where it
 -- begins, also of those without a range, which aren't listed. None inside a nested subprogram is
 -- listed; its entries are read all the same, and one that can't be read is a fault.
-use Rattle.std.specs.Prelude.{ℕ, ◌==◌, ◌&&◌, Bool, false, true, List, [], ◌∷◌, ◌++◌, count_by, Option, Some, None, Result, Ok, Err, if◌then◌else◌}
-use Rattle.addr2line_lines.specs.Common.{Error, NoEntryAtGivenOffset, Abbrev, Costed, free, Run, Section, Entry, Item, items_at, subtree_of, UnitRecord}
-use Rattle.gimli_read.specs.Costed.{◌>>=◌}
-use Rattle.gimli_read.specs.Reading as reading
-use Rattle.addr2line_lines.specs.CostedSteps.{fold_at_cost, map_at_cost, stored_if, then_room_if}
+use Rattle.std.specs.Prelude.{ℕ, ◌==◌, ◌&&◌, Bool, List, [], ◌∷◌, ◌++◌, count_by, Option, Some, None, Result, Ok, Err, if◌then◌else◌}
+use Rattle.addr2line_lines.specs.Common.{Error, NoEntryAtGivenOffset, Abbrev, ◌>>=◌, Run, fold_run, Section, Entry, Item, items_at, subtree_of, UnitRecord}
 use Rattle.addr2line_lines.specs.Functions.{is_subprogram}
 use Rattle.addr2line_lines.specs.Names.{name_of}
-use Rattle.addr2line_lines.specs.RangeAttributes.{attribute_ranges, gives_a_range}
+use Rattle.addr2line_lines.specs.RangeAttributes.{attribute_ranges}
 use Rattle.addr2line_lines.specs.References.{Scope}
 use Rattle.addr2line_lines.specs.InlinedEntries.{InlinedRange, is_inlined, inlined_attributes_of, inlined_ranges}
 
@@ -45,34 +42,31 @@ placed_items around (x ∷ xs) =
 abbrev pub is_in_function : PlacedItem → Bool
 is_in_function x = count_by is_subprogram x.around == 0
 
--- the inlined ranges after an inlined entry; its first range that can be read is stored
-abbrev pub with_inlined_entry
-    : Scope → UnitRecord → List InlinedRange → PlacedItem → Entry → Costed (List InlinedRange)
-with_inlined_entry scope u found x e =
-    free (inlined_attributes_of scope u e.attributes) >>= λ a.
-    map_at_cost
-    (λ ranges. found ++ inlined_ranges (count_by is_inlined x.around) x.item.offset a ranges)
-    (stored_if (gives_a_range scope.file.sections u a.ranges)
-    (attribute_ranges scope.file.sections u a.ranges))
+-- the inlined ranges after an inlined entry
+abbrev pub with_inlined_entry : Scope → UnitRecord → List InlinedRange → PlacedItem → Entry
+    → Result (List InlinedRange) Error
+with_inlined_entry scope u found x e = do
+  a ← inlined_attributes_of scope u e.attributes
+  ranges ← attribute_ranges scope.file.sections u a.ranges
+  Ok (found ++ inlined_ranges (count_by is_inlined x.around) x.item.offset a ranges)
 
--- those after one more item, if it is an inlined entry and in no nested subprogram; an entry with
--- children is stored while it is open
-abbrev pub with_inlined
-    : Scope → UnitRecord → List InlinedRange → PlacedItem → Costed (List InlinedRange)
+-- those after one more item, if it is an inlined entry and in no nested subprogram
+abbrev pub with_inlined : Scope → UnitRecord → List InlinedRange → PlacedItem
+    → Result (List InlinedRange) Error
 with_inlined scope u found x = elim x.item.entry [
-  | None ↦ free (Ok found)
-  | Some e ↦ then_room_if e.abbreviation.has_children
-      (if is_inlined e.abbreviation && is_in_function x
+  | None ↦ Ok found
+  | Some e ↦ if is_inlined e.abbreviation && is_in_function x
       then with_inlined_entry scope u found x e
-      else free (Ok found))
+      else Ok found
 ]
 
 -- the ranges of the inlined entries among the items inside a function, in their order, or the first
 -- fault
-abbrev pub inlined_in
-    : Scope → UnitRecord → Run Item (Unit {0}) → Costed (List InlinedRange)
-inlined_in scope u inside = map_at_cost (λ found. found.0)
-    (fold_at_cost (with_inlined scope u) [] (placed_items [] inside.items) inside.end)
+abbrev pub inlined_in : Scope → UnitRecord → Run Item (Unit {0})
+    → Result (List InlinedRange) Error
+inlined_in scope u inside =
+    fold_run (with_inlined scope u) [] (placed_items [] inside.items) inside.end
+    >>= λ found. Ok found.0
 
 -- an entry, and the items inside it
 pub record WholeEntry : Type 0 where
@@ -81,7 +75,7 @@ pub record WholeEntry : Type 0 where
 
 -- the first of items that begin at an offset, whole, which a closing entry isn't
 abbrev pub first_whole : {Z : Type 0} → ℕ → List Item → Result Z Error → Result WholeEntry Error
-first_whole offset [] end = reading.◌>>=◌ end (λ z. Err (NoEntryAtGivenOffset offset))
+first_whole offset [] end = end >>= λ z. Err (NoEntryAtGivenOffset offset)
 first_whole offset (x ∷ items) end = elim x.entry [
   | None ↦ Err (NoEntryAtGivenOffset offset)
   | Some e ↦ Ok (record {
@@ -94,15 +88,10 @@ first_whole offset (x ∷ items) end = elim x.entry [
 abbrev pub whole_entry_at : UnitRecord → ℕ → Result WholeEntry Error
 whole_entry_at u offset = first_whole offset (items_at u offset).items (items_at u offset).end
 
--- the details of the function whose entry begins at an offset of its unit, or the first fault;
--- they are stored
-unfoldable pub stored_detail_at : Scope → UnitRecord → ℕ → Costed Detail
-stored_detail_at scope u offset = do
-  function ← free (whole_entry_at u offset)
-  name ← free (name_of scope u function.entry.attributes)
-  map_at_cost (λ inlined. record { name = name; inlined = inlined })
-      (then_room_if true (inlined_in scope u function.inside))
-
--- the details alone
-abbrev pub detail_at : Scope → UnitRecord → ℕ → Result Detail Error
-detail_at scope u offset = (stored_detail_at scope u offset).given
+-- the details of the function whose entry begins at an offset of its unit, or the first fault
+unfoldable pub detail_at : Scope → UnitRecord → ℕ → Result Detail Error
+detail_at scope u offset = do
+  function ← whole_entry_at u offset
+  name ← name_of scope u function.entry.attributes
+  inlined ← inlined_in scope u function.inside
+  Ok (record { name = name; inlined = inlined })

@@ -12,8 +12,8 @@ abbrev pub bytes_if_some : Option Section → Option (List ℕ)
 bytes_if_some s = option_map (λ (t : Section). t.bytes) s
 
 -- the string of a value, where there is one
-abbrev pub optional_string
-    : Sections → UnitRecord → Option (AttributeValue Section) → Result (Option Section) Error
+abbrev pub optional_string : Sections → UnitRecord → Option (AttributeValue Section)
+    → Result (Option Section) Error
 optional_string d u None = Ok None
 optional_string d u (Some value) = attr_string_of d u value >>= λ text. Ok (Some text)
 
@@ -44,8 +44,8 @@ at_least_one [] = [] ∷ []
 at_least_one (text ∷ texts) = text ∷ texts
 
 -- the texts below version 5: first the unit's own name
-abbrev pub own_name_first
-    : Sections → UnitRecord → Header → List File → Result (List (List ℕ)) Error
+abbrev pub own_name_first : Sections → UnitRecord → Header → List File
+    → Result (List (List ℕ)) Error
 own_name_first d u h files =
     texts_after (own_text (bytes_if_some u.comp_dir) (bytes_if_some u.name) ∷ [])
     (texts_of d u h files)

@@ -3,7 +3,7 @@ use Rattle.std.specs.Prelude.{◌≡◌, ℕ, ◌<◌, ◌||◌, Bool, false, Li
 use Rattle.std.specs.List.{All, AllByRecursion}
 use Rattle.addr2line_lines.specs.Common.{Error, Range, ◌>>=◌, fold_of, EntryUnit, Item, items_of, ranges_at, Sections, UnitRecord}
 use Rattle.gimli_read.specs.declared.value.UnitOffset.{UnitOffset}
-use Rattle.gimli.specs.EntryCursor.{EntryCursor, items_left, next_item_at}
+use Rattle.gimli.specs.EntryCursor.{EntryCursor, next_item_at}
 use Rattle.addr2line_lines.specs.declared.function.RangeAttributes.{RangeAttributes}
 use Rattle.addr2line_lines.specs.declared.functions.FunctionLists.{FunctionLists}
 use Rattle.addr2line_lines.specs.declared.functions.LazyDetail.TheVariants.{Unread}

@@ -1,6 +1,6 @@
 -- The inlined entries of a function and their ranges as they are found, as the private functions
 -- see them.
-use Rattle.std.specs.Prelude.{ℕ, ◌<◌, List, [], ◌∷◌, ◌++◌, drop, map, length, slice_index_or, take, Option, None, option_map, Result, Ok}
+use Rattle.std.specs.Prelude.{ℕ, List, [], ◌∷◌, ◌++◌, map, length, slice_index_or, take, Option, None, option_map, Result, Ok}
 use Rattle.addr2line_lines.specs.Common.{Error, Range, ◌>>=◌, Section, ranges_at, Sections, UnitRecord}
 use Rattle.addr2line_lines.specs.declared.inlined_lists.InlinedLists.{InlinedLists}
 use Rattle.addr2line_lines.specs.declared.function.RangeAttributes.{RangeAttributes}

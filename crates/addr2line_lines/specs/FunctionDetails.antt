@@ -6,10 +6,11 @@ use Rattle.std.specs.List.{AllByRecursion, AllZip}
 use Rattle.addr2line_lines.specs.Common.{Error, OutOfMemory, Costed, free, ◌>>=◌, fault_of, UnitRecord}
 use Rattle.addr2line_lines.specs.CachedNames.{AreNamesMore}
 use Rattle.addr2line_lines.specs.CostedSteps.{on_parts}
-use Rattle.addr2line_lines.specs.Details.{Detail, detail_at, stored_detail_at}
+use Rattle.addr2line_lines.specs.Details.{Detail, detail_at}
 use Rattle.addr2line_lines.specs.Grown.{IsGrown}
 use Rattle.addr2line_lines.specs.References.{Scope}
 use Rattle.addr2line_lines.specs.FunctionTable.{CachedFunction, FunctionTable, AreListed}
+use Rattle.addr2line_lines.specs.StoredDetails.{stored_detail_at}
 
 -- the detail of the function of a place is cached too, and nothing else changes, but that more
 -- inlined entries, and more names of entries that are referred to, stand after those before

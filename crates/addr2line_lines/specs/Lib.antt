@@ -34,6 +34,7 @@ pub mod Names
 pub mod InlinedEntries
 pub mod InlinedChain
 pub mod Details
+pub mod StoredDetails
 pub mod Scopes
 pub mod InlinedOrder
 pub mod ItemsAround

@@ -24,8 +24,8 @@ abbrev pub no_range_attributes : RangeAttributes
 no_range_attributes = record { low_pc = None; high_pc = None; size = None; ranges_offset = None }
 
 -- one more attribute
-unfoldable pub with_range_attribute
-    : Sections → UnitRecord → RangeAttributes → NamedValue → Result RangeAttributes Error
+unfoldable pub with_range_attribute : Sections → UnitRecord → RangeAttributes → NamedValue
+    → Result RangeAttributes Error
 with_range_attribute d u r a =
     if a.name.0 == DW_AT_low_pc.0 then (attr_address d u a.value >>= λ low.
     Ok (record r { low_pc = option_or low r.low_pc }))
@@ -40,8 +40,8 @@ with_range_attribute d u r a =
 
 -- what attributes say, the last of each counting, or the first fault of an index, of an address or
 -- a range list
-abbrev pub range_attributes_of
-    : Sections → UnitRecord → List NamedValue → Result RangeAttributes Error
+abbrev pub range_attributes_of : Sections → UnitRecord → List NamedValue
+    → Result RangeAttributes Error
 range_attributes_of d u attributes =
     taken_in (with_range_attribute d u) (Ok no_range_attributes) attributes
 
@@ -65,8 +65,8 @@ abbrev pub ranges_of : RangeAttributes → List Range
 ranges_of r = elim r.low_pc [ None ↦ [] | Some low ↦ range_to low r.high_pc r.size ]
 
 -- the ranges of the attributes, and the fault after them, if there is one
-abbrev pub range_list_of
-    : Sections → UnitRecord → RangeAttributes → Result (List (Result Range Error)) Error
+abbrev pub range_list_of : Sections → UnitRecord → RangeAttributes
+    → Result (List (Result Range Error)) Error
 range_list_of d u r = elim r.ranges_offset
     [ None ↦ Ok (map Ok (ranges_of r)) | Some offset ↦ ranges_at d u offset ]
 

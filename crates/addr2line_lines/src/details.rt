@@ -4,7 +4,7 @@ ghost use Rattle.std.specs.List.{AllByRecursion};
 ghost use Rattle.std.specs.Prelude.{◌≡◌, ◌<◌, IfErr, IfOk, Ok, OnErr, length, map, option_map, slice_get};
 ghost use Rattle.addr2line_lines.specs.Common.{ExactlyUnlessOomIf, ExactlyAtCost};
 ghost use Rattle.addr2line_lines.specs.CostedSteps.{on_parts};
-ghost use Rattle.addr2line_lines.specs.Details.{stored_detail_at};
+ghost use Rattle.addr2line_lines.specs.StoredDetails.{stored_detail_at};
 ghost use Rattle.addr2line_lines.specs.FoundInlined.{entry_among};
 ghost use Rattle.addr2line_lines.specs.CachedNames.{AreNamesIn};
 ghost use Rattle.addr2line_lines.specs.CachedDetails.{AreDetailsMore, IsDetailPlace, IsNextPlace, IsRefusedThen, cached_chain, detail_of, no_details, as_details};

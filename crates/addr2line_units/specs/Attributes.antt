@@ -30,8 +30,8 @@ language_after language a =
     if a.name.0 == DW_AT_language.0 then option_or (language_of a.value) language else language
 
 -- one more attribute
-unfoldable pub with_unit_attribute
-    : Sections → UnitRecord → UnitAttributes → NamedValue → Result UnitAttributes Error
+unfoldable pub with_unit_attribute : Sections → UnitRecord → UnitAttributes → NamedValue
+    → Result UnitAttributes Error
 with_unit_attribute d u r a =
     with_range_attribute d u r.ranges a >>= λ ranges.
     Ok (record { ranges = ranges; language = language_after r.language a })

@@ -1,5 +1,5 @@
 -- Where memory is taken for the details of a function (on specs/Details.antt).
-use Rattle.addr2line_lines.proofs.Common.{◌≡◌, ℕ, ◌<◌, ◌++◌, true, false, List, [], ◌∷◌, append-nil, length, map, Option, Result, Ok, Err, refl, ap, subst, sym, ◌∙◌, arith, Error, Range, Costed, free, Section, Sections, UnitRecord, RangeAttributes, InlinedFunctionAddress, Detail, WholeEntry, all_inlined_at_cost, detail_at, detail_at_cost, stored_detail_at, whole_entry_at, FoundInlined, inlined_address, with_inlined_ranges, InlinedRange, name_of, attribute_ranges, gives_a_range, Scope, Bool}
+use Rattle.addr2line_lines.proofs.Common.{◌≡◌, ℕ, ◌<◌, ◌++◌, true, false, List, [], ◌∷◌, append-nil, length, map, Option, Result, Ok, Err, refl, ap, subst, sym, ◌∙◌, arith, Error, Range, Costed, free, Section, Sections, UnitRecord, RangeAttributes, InlinedFunctionAddress, Detail, WholeEntry, all_inlined_at_cost, detail_at, stored_detail_at, detail_at_cost, whole_entry_at, FoundInlined, inlined_address, with_inlined_ranges, InlinedRange, name_of, attribute_ranges, gives_a_range, Scope, Bool}
 use Rattle.gimli_read.specs.Reading as reading
 use Rattle.addr2line_lines.specs.CostedSteps.{map_at_cost, then_room_if}
 use Rattle.addr2line_lines.specs.FoundDetails.{detail_found_at}
@@ -10,7 +10,7 @@ use Rattle.addr2line_lines.proofs.WholeEntries.{detail_of}
 
 -- whether memory may be taken for the details of a function, where readers don't share their bytes
 abbrev pub detail_takes_memory : Scope → UnitRecord → ℕ → Bool
-detail_takes_memory scope u offset = (stored_detail_at scope u offset).takes_memory false
+detail_takes_memory scope u offset = (detail_at_cost scope u offset).takes_memory false
 
 -- where ranges are added, the attributes give one
 pub pushed_well : (d : Sections) (u : UnitRecord) (a : RangeAttributes) (depth function : ℕ) (old new : List InlinedFunctionAddress) → with_inlined_ranges d u a depth function old ≡ Ok new → length old < length new → gives_a_range d u a ≡ true
@@ -23,8 +23,8 @@ pushed_well d u a depth function old new e l = by_ranges (attribute_ranges d u a
 
 module _ (scope : Scope) (u : UnitRecord) (offset : ℕ) where
   -- the details are stored
-  detail_takes : TakesIfRead (stored_detail_at scope u offset)
-  unfolding detail_at detail_at_cost
+  detail_takes : TakesIfRead (detail_at_cost scope u offset)
+  unfolding detail_at stored_detail_at
   detail_takes =
       next_takes (free (whole_entry_at u offset)) (detail_of scope u offset) (λ x. next_takes (free (name_of scope u x.entry.attributes)) (named x) (λ name. map_takes (made name) (then_room_if true (all_inlined_at_cost scope u x.inside)) (room_takes (all_inlined_at_cost scope u x.inside))))
     where

@@ -1,5 +1,5 @@
 -- The details of a function are what is found of it (on specs/FoundDetails.antt).
-use Rattle.addr2line_lines.proofs.Common.{◌≡◌, ℕ, ◌+◌, ◌-◌, ◌<◌, nat_lt, ◌≤◌, ◌==◌, ◌&&◌, Bool, true, false, cond, List, [], ◌∷◌, ◌++◌, count_by, map, length, Option, Some, None, Result, Ok, Err, refl, ap, sym, subst, ◌∙◌, arith, length-drop, ℤ, pos, eqb-true, ne_eqb, nat_tests, sum_by-cons, drop-length, Error, OffsetOutOfBounds, Range, Abbrev, NamedValue, rest_of, Costed, free, takes_memory_after, Reading, fold_run, Section, after, entry_bytes_from, unit_length, EntryUnit, attributes_at, Entry, Item, depth_after, items_inside, subtree_of, EntriesLeft, EntryCursor, entries_at, entry_abbreviation_at, items_left, next_item_at, UnitRecord, Kind, Detail, detail_at, is_in_function, open_after, placed_items, all_inlined_at_cost, inlined_at_cost, stored_detail_at, with_inlined_entry, InlinedAttributes, InlinedRange, inlined_attributes_of, inlined_entry, inlined_ranges, is_inlined, FoundInlined, inlined_more, range_among, with_inlined_found, name_after, is_subprogram, name_of, attribute_ranges, gives_a_range, Scope}
+use Rattle.addr2line_lines.proofs.Common.{◌≡◌, ℕ, ◌+◌, ◌-◌, ◌<◌, nat_lt, ◌≤◌, ◌==◌, ◌&&◌, Bool, true, false, cond, List, [], ◌∷◌, ◌++◌, count_by, map, length, Option, Some, None, Result, Ok, Err, refl, ap, sym, subst, ◌∙◌, arith, length-drop, ℤ, pos, eqb-true, ne_eqb, nat_tests, sum_by-cons, drop-length, Error, OffsetOutOfBounds, Range, Abbrev, NamedValue, rest_of, Costed, free, takes_memory_after, Reading, fold_run, Section, after, entry_bytes_from, unit_length, EntryUnit, attributes_at, Entry, Item, depth_after, items_inside, subtree_of, EntriesLeft, EntryCursor, entries_at, entry_abbreviation_at, items_left, next_item_at, UnitRecord, Kind, Detail, detail_at, is_in_function, open_after, placed_items, all_inlined_at_cost, inlined_at_cost, detail_at_cost, with_inlined_entry, InlinedAttributes, InlinedRange, inlined_attributes_of, inlined_entry, inlined_ranges, is_inlined, FoundInlined, inlined_more, range_among, with_inlined_found, name_after, is_subprogram, name_of, attribute_ranges, gives_a_range, Scope}
 use Rattle.gimli_read.specs.declared.constants.TheConstants.DwTag.{DW_TAG_inlined_subroutine, DW_TAG_subprogram}
 use Rattle.gimli_read.specs.Costed.{◌>>=◌}
 use Rattle.gimli_read.specs.Reading as reading
@@ -232,7 +232,7 @@ module _ (scope : Scope) (u : UnitRecord) (offset : ℕ) (found : FoundInlined) 
       by_code (Ok (Some a, t)) q = by_read a t q (attributes_at u.header.encoding a.attributes t.left) refl
 
   -- the details of a function are what is found of it
-  pub detail_agrees : Agrees detail_made IsFrom (stored_detail_at scope u offset) (detail_found_at scope u offset found)
+  pub detail_agrees : Agrees detail_made IsFrom (detail_at_cost scope u offset) (detail_found_at scope u offset found)
   unfolding detail_found_at
   detail_agrees = subst (λ c. AgreesDetail c (detail_found_at scope u offset found)) (sym (detail_is scope u offset)) (by_bytes (entry_bytes_from u.header (Some offset)) refl)
     where
@@ -242,5 +242,5 @@ module _ (scope : Scope) (u : UnitRecord) (offset : ℕ) (found : FoundInlined) 
       by_bytes (Ok s) q = left_agrees s (some_left u.header offset s q)
 
   -- so is a fault
-  pub detail_part : IsPartOf (detail_found_at scope u offset found) (stored_detail_at scope u offset)
+  pub detail_part : IsPartOf (detail_found_at scope u offset found) (detail_at_cost scope u offset)
   detail_part = record { fault = λ e h. subst (AgreesGiven detail_made IsFrom (detail_at scope u offset)) h detail_agrees.given; takes = detail_agrees.takes }

@@ -408,7 +408,7 @@ module _ (scope : Scope) (u : UnitRecord) (items : List Item) where
       let same : found ≡ more = same_value (found, a.0) (more, z) a.2 in
       subst (All (IsListed items)) same all
   fold_listed (p ∷ ps) end found more z h all e =
-      let a = bind_ok with_inlined scope u found p (λ b. fold_run (with_inlined scope u) b ps end) (more, z) e in
+      let a = bind_ok (with_inlined scope u found p) (λ b. fold_run (with_inlined scope u) b ps end) (more, z) e in
       fold_listed ps end a.0 more z h.1 (step_listed found a.0 p h.0 all a.1) a.2
 
 -- the details of a function by its entry and what stands inside

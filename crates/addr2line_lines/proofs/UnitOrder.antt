@@ -16,10 +16,10 @@ header_then (Err e) k = record { by = λ u p. absurd cc }
 header_is : {h : UnitHeaderFields} {v : UnitRecord} → v.header ≡ h → HasHeader h (Ok v)
 header_is {h} {v} e = record { by = λ u p. let same : ◌≡◌ {A = UnitRecord} v u = cc in ap (λ (w : UnitRecord). w.header) (sym same) ∙ e }
 
-completed_header : (d : Sections) (h : UnitHeaderFields) (table : List Abbrev) (root : RootValues) → HasHeader h (completed_record d h table root).given
+completed_header : (d : Sections) (h : UnitHeaderFields) (table : List Abbrev) (root : RootValues) → HasHeader h (completed_record d h table root)
 unfolding completed_record
 completed_header d h table root =
-    header_then ((program_and_low_pc_of d h.encoding (unwrap_or root.addr_base 0) root).given) (λ start. header_is refl)
+    header_then (program_and_low_pc_of d h.encoding (unwrap_or root.addr_base 0) root) (λ start. header_is refl)
 
 -- the unit of a header has it
 pub record_header : (d : Sections) (h : UnitHeaderFields) (u : UnitRecord) → unit_record_of d h ≡ Ok u → u.header ≡ h

@@ -1,6 +1,6 @@
 -- The entry at an offset of its unit and the items inside it, by places among the entries (on
 -- specs/Details.antt).
-use Rattle.addr2line_lines.proofs.Common.{◌≡◌, ℕ, true, [], Option, Some, None, Result, Ok, Err, refl, ap, ◌∙◌, pos, Error, NoEntryAtGivenOffset, Costed, free, ◌>>=◌, Run, Section, entry_bytes_from, entry_unit, EntriesLeft, EntryCursor, entries_at, entries_from, items_left, next_item_at, Entry, Item, items_from, subtree_of, UnitRecord, items_end, items_fault, items_more, Detail, WholeEntry, first_whole, all_inlined_at_cost, detail_at, detail_at_cost, stored_detail_at, whole_entry_at, name_of, Scope}
+use Rattle.addr2line_lines.proofs.Common.{◌≡◌, ℕ, true, [], Option, Some, None, Result, Ok, Err, refl, ap, ◌∙◌, pos, Error, NoEntryAtGivenOffset, Costed, free, ◌>>=◌, Run, Section, entry_bytes_from, entry_unit, EntriesLeft, EntryCursor, entries_at, entries_from, items_left, next_item_at, Entry, Item, items_from, subtree_of, UnitRecord, items_end, items_fault, items_more, Detail, WholeEntry, first_whole, all_inlined_at_cost, detail_at, stored_detail_at, detail_at_cost, whole_entry_at, name_of, Scope}
 use Rattle.gimli_read.specs.Costed as costed
 use Rattle.addr2line_lines.specs.CostedSteps.{map_at_cost, then_room_if}
 
@@ -65,6 +65,6 @@ module _ (scope : Scope) (u : UnitRecord) (offset : ℕ) where
       by_item (Ok next) = by_entry next.1 (item_entry offset next.0)
       by_item (Err e) = refl
 
-  pub detail_is : stored_detail_at scope u offset ≡ costed.◌>>=◌ (free (entries_from u (Some offset))) (λ left. detail_read left (next_item_at left.unit left.cursor))
-  unfolding detail_at detail_at_cost
+  pub detail_is : detail_at_cost scope u offset ≡ costed.◌>>=◌ (free (entries_from u (Some offset))) (λ left. detail_read left (next_item_at left.unit left.cursor))
+  unfolding detail_at stored_detail_at
   detail_is = ap (λ r. costed.◌>>=◌ (free r) detail_of) (whole_is u offset) ∙ nested (entries_from u (Some offset))

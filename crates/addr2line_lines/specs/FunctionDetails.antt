@@ -10,7 +10,7 @@ use Rattle.addr2line_lines.specs.Details.{Detail, detail_at}
 use Rattle.addr2line_lines.specs.Grown.{IsGrown}
 use Rattle.addr2line_lines.specs.References.{Scope}
 use Rattle.addr2line_lines.specs.FunctionTable.{CachedFunction, FunctionTable, AreListed}
-use Rattle.addr2line_lines.specs.StoredDetails.{stored_detail_at}
+use Rattle.addr2line_lines.specs.StoredDetails.{detail_at_cost}
 
 -- the detail of the function of a place is cached too, and nothing else changes, but that more
 -- inlined entries, and more names of entries that are referred to, stand after those before
@@ -92,7 +92,7 @@ read_once scope u None = free (Ok tt)
 read_once scope u (Some f) = record {
   given = fault_of (detail_once scope u f);
   takes_memory = λ shares. not (is_some f.detail)
-      && (on_parts (stored_detail_at scope u f.offset)).takes_memory shares;
+      && (on_parts (detail_at_cost scope u f.offset)).takes_memory shares;
 }
 
 -- the detail of a function is cached, and where it has no fault, so is what follows; or its fault

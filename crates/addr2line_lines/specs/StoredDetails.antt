@@ -1,9 +1,9 @@
 -- The details of a function, with where memory may be taken for them.
 -- Own: the first range of an inlined entry is stored once it can be read, an entry with children
 -- while it is open, and the details once all are read.
-use Rattle.std.specs.Prelude.{ℕ, ◌&&◌, Bool, false, List, [], Some, None}
+use Rattle.std.specs.Prelude.{ℕ, ◌&&◌, Bool, false, true, List, [], Some, None}
 use Rattle.addr2line_lines.specs.Common.{Costed, free, takes_memory_after, Run, Item, UnitRecord}
-use Rattle.gimli_read.specs.Costed.{◌>>=◌}
+use Rattle.gimli_read.specs.Costed.{◌>>=◌, by_stored}
 use Rattle.addr2line_lines.specs.CostedSteps.{fold_at_cost, map_at_cost, stored_if, then_room_if}
 use Rattle.addr2line_lines.specs.Details.{Detail, PlacedItem, detail_at, is_in_function, placed_items, whole_entry_at, with_inlined}
 use Rattle.addr2line_lines.specs.InlinedEntries.{InlinedRange, inlined_attributes_of, is_inlined}
@@ -36,18 +36,15 @@ abbrev pub all_inlined_at_cost : Scope → UnitRecord → Run Item (Unit {0})
 all_inlined_at_cost scope u inside = map_at_cost (λ found. found.0)
     (fold_at_cost (inlined_at_cost scope u) [] (placed_items [] inside.items) inside.end)
 
--- the details of the function whose entry begins at an offset of its unit, by its name and what
--- stands inside it
-unfoldable pub detail_at_cost : Scope → UnitRecord → ℕ → Costed Detail
-detail_at_cost scope u offset = do
+-- what is stored of the function whose entry begins at an offset of its unit: what stands inside
+-- it, and its details
+unfoldable pub stored_detail_at : Scope → UnitRecord → ℕ → Costed Detail
+stored_detail_at scope u offset = do
   function ← free (whole_entry_at u offset)
   name ← free (name_of scope u function.entry.attributes)
   map_at_cost (λ inlined. record { name = name; inlined = inlined })
       (then_room_if true (all_inlined_at_cost scope u function.inside))
 
--- the details, which are stored
-abbrev pub stored_detail_at : Scope → UnitRecord → ℕ → Costed Detail
-stored_detail_at scope u offset = record {
-  given = detail_at scope u offset;
-  takes_memory = λ shares. (detail_at_cost scope u offset).takes_memory shares;
-}
+abbrev pub detail_at_cost : Scope → UnitRecord → ℕ → Costed Detail
+detail_at_cost scope u offset =
+    by_stored (stored_detail_at scope u offset) (detail_at scope u offset)

@@ -4,7 +4,7 @@ ghost use Rattle.std.specs.List.{AllByRecursion};
 ghost use Rattle.std.specs.Prelude.{◌≡◌, ◌<◌, IfErr, IfOk, Ok, OnErr, length, map, option_map, slice_get};
 ghost use Rattle.addr2line_lines.specs.Common.{ExactlyUnlessOomIf, ExactlyAtCost};
 ghost use Rattle.addr2line_lines.specs.CostedSteps.{on_parts};
-ghost use Rattle.addr2line_lines.specs.StoredDetails.{stored_detail_at};
+ghost use Rattle.addr2line_lines.specs.StoredDetails.{detail_at_cost};
 ghost use Rattle.addr2line_lines.specs.FoundInlined.{entry_among};
 ghost use Rattle.addr2line_lines.specs.CachedNames.{AreNamesIn};
 ghost use Rattle.addr2line_lines.specs.CachedDetails.{AreDetailsMore, IsDetailPlace, IsNextPlace, IsRefusedThen, cached_chain, detail_of, no_details, as_details};
@@ -80,7 +80,7 @@ impl<R: Reader> Details<R> {
         requires in_order { IsScope (as_scope scope) }
         requires unit { AreNamesIn (as_scope scope) unit.now self.old.known }
         ensures gives { ExactlyAtCost R.shares (detail_of (as_details R.section self.new)) result
-            (on_parts (stored_detail_at (as_scope scope.entry) unit.now offset.0)) }
+            (on_parts (detail_at_cost (as_scope scope.entry) unit.now offset.0)) }
         ensures kept { AreDetailsMore (as_details R.section self.old)
             (as_details R.section self.new) }
         ensures within { IfOk result (IsDetailPlace (as_details R.section self.new)) }
@@ -135,7 +135,7 @@ impl<R: Reader> Details<R> {
         requires in_order { IsScope (as_scope scope) }
         requires unit { AreNamesIn (as_scope scope) unit.now self.old.known }
         ensures gives { ExactlyAtCost R.shares (detail_of (as_details R.section self.new)) result
-            (on_parts (stored_detail_at (as_scope scope.entry) unit.now offset.0)) }
+            (on_parts (detail_at_cost (as_scope scope.entry) unit.now offset.0)) }
         ensures kept { AreDetailsMore (as_details R.section self.old)
             (as_details R.section self.new) }
         ensures within { IfOk result (IsDetailPlace (as_details R.section self.new)) }

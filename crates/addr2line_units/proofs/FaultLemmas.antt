@@ -1,9 +1,8 @@
 -- Nothing that units, their views, lines and functions give is OutOfMemory (on the specs of this crate).
-use Rattle.addr2line_units.proofs.Common.{ℕ, Bool, true, false, if◌then◌else◌, List, [], ◌∷◌, map, is_some, slice_get, Option, Some, None, IfSome, IfOk, Result, Ok, Err, Error, UnknownToken, Range, Costed, free, ◌>>=◌, WasNotRefused, Section, IsByBytes, AreByBytes, step, either, value, fault, moved_fault, fault_of_is, are_joined, not_refused, none_refused, UnitHeaderFields, Sections, SupSections, UnitRecord, unit_record_of, all_headers, entries_of, function_offset_at, LineTable, Location, Scope, UnitArange, OnFault, Stop, Skip, UnitRange, ReadingDepth, ◌++◌, arange_sets_of, aranges_at, aranges_in, set_aranges, by_abbreviations, units_of, IndexedUnit, is_type_unit, is_partial, or_attribute_ranges, listed_unit_ranges, listed_in_unit, unless_faulty, unit_of_header, ranged_units, UnitsState, new_units, asked_by, stop_of, FirstAnswers, View, SplitLoad, split_name_of, first_unit, first_unit_of, answered_view, load_by, load_of_unit, verdict_by, verdict, is_open, decided_answer, view_scope, FoundFunction, FrameRecord, function_from, function_at, FramesResult, function_by, function_in, frames_by, frames_in, LookupStop, FindsNothing, answer_of, frames_of_number, after_fault, asked_frames, or_stop, stop_along, stop_at, functions_fault, read_of_functions, read_of_view, read_of_unit, read_of_units, unit_of_token, view_fault, load_result, forget_result, LocationResult, lines_of_unit, location_in, or_first_location, first_location, location_of, all_read, spans_or_fault, spans_in, spans_along, spans_of, all_lines, Asks, asked_of_unit, located_frames, frames_by_lines, unit_lines, sup_sections}
+use Rattle.addr2line_units.proofs.Common.{ℕ, List, [], ◌∷◌, map, is_some, slice_get, Option, Some, None, IfSome, IfOk, Result, Ok, Err, Error, UnknownToken, Range, ◌>>=◌, WasNotRefused, Section, IsByBytes, AreByBytes, step, either, value, fault, moved_fault, fault_of_is, are_joined, not_refused, none_refused, UnitHeaderFields, Sections, SupSections, UnitRecord, unit_record_of, all_headers, entries_of, function_offset_at, LineTable, Location, Scope, UnitArange, OnFault, Stop, Skip, UnitRange, ReadingDepth, arange_sets_of, aranges_at, aranges_in, units_of, IndexedUnit, is_type_unit, is_partial, or_attribute_ranges, listed_unit_ranges, listed_in_unit, unless_faulty, unit_of_header, ranged_units, UnitsState, new_units, asked_by, stop_of, FirstAnswers, View, SplitLoad, split_name_of, first_unit, first_unit_of, answered_view, load_by, load_of_unit, verdict_by, verdict, is_open, decided_answer, view_scope, FoundFunction, FrameRecord, function_from, function_at, FramesResult, function_by, function_in, frames_by, frames_in, LookupStop, FindsNothing, answer_of, frames_of_number, after_fault, asked_frames, or_stop, stop_along, stop_at, functions_fault, read_of_functions, read_of_view, read_of_unit, read_of_units, unit_of_token, view_fault, load_result, forget_result, LocationResult, lines_of_unit, location_in, or_first_location, first_location, location_of, all_read, spans_or_fault, spans_in, spans_along, spans_of, all_lines, Asks, asked_of_unit, located_frames, frames_by_lines, unit_lines, sup_sections}
 use Rattle.gimli_read.specs.FaultLaws.{NoneWasRefused}
 use Rattle.gimli_read.specs.Form.{NamedValue}
 use Rattle.gimli.specs.declared.unit.DwoId.{DwoId}
-use Rattle.gimli.specs.Aranges.{ArangeSet}
 use Rattle.gimli.proofs.FaultLemmas.{all_headers_are, arange_sets_are, dwo_name_is, root_attributes_of_are, taken_in_is, unit_record_is}
 use Rattle.addr2line_lines.specs.declared.function.RangeAttributes.{RangeAttributes}
 use Rattle.addr2line_lines.specs.RangeLocations.{LocatedSpan, locations_in_range}
@@ -16,12 +15,8 @@ use Rattle.addr2line_units.specs.Attributes.{no_unit_attributes, with_unit_attri
 use Rattle.addr2line_units.specs.UnitsIndex.{UnitIndex, sup_unit_of_header, sup_units, index_units}
 
 -- ---- the units of a file
-aranges_in_are : (sets : List (Result ArangeSet Error)) → AreByBytes sets → IsByBytes (aranges_in sets).given
-aranges_in_are [] h = value
-aranges_in_are (r ∷ rs) h = step h.0 (λ s. step {A = Unit {0}} (value {x = tt}) (λ room. step (aranges_in_are rs h.1) (λ more. value {x = set_aranges s ++ more})))
-
-pub aranges_are : (s : Section) → IsByBytes (aranges_in (arange_sets_of s)).given
-aranges_are s = aranges_in_are (arange_sets_of s) (arange_sets_are s)
+pub aranges_are : (s : Section) → IsByBytes (aranges_in (arange_sets_of s))
+aranges_are s = step (read_all_is (arange_sets_of s) (arange_sets_are s)) (λ all. value)
 
 with_unit_attribute_is : (d : Sections) (u : UnitRecord) (r : UnitAttributes) (a : NamedValue) → IsByBytes (with_unit_attribute d u r a)
 unfolding with_unit_attribute
@@ -47,17 +42,16 @@ unless_faulty_is : (d : Sections) (aranges : List UnitArange) (r : Result UnitRe
 unless_faulty_is d aranges (Err e) = value
 unless_faulty_is d aranges (Ok u) = step (step (listed_in_unit_is d aranges u) (λ x. value)) (λ x. value)
 
-pub unit_of_header_is : (d : Sections) (aranges : List UnitArange) (h : UnitHeaderFields) → IsByBytes (unit_of_header d aranges h).given
+pub unit_of_header_is : (d : Sections) (aranges : List UnitArange) (h : UnitHeaderFields) → IsByBytes (unit_of_header d aranges h)
 unfolding unit_of_header
-unit_of_header_is d aranges h = at (is_type_unit h.unit_type)
-  where
-    at : (b : Bool) → IsByBytes (if b then free (Ok None) else by_abbreviations d h (unless_faulty d aranges (unit_record_of d h))).given
-    at true = value
-    at false = unless_faulty_is d aranges (unit_record_of d h)
+unit_of_header_is d aranges h = either (is_type_unit h.unit_type) value (unless_faulty_is d aranges (unit_record_of d h))
 
-units_are : {U : Type 0} (read : UnitHeaderFields → Costed (Option U)) → ((h : UnitHeaderFields) → IsByBytes (read h).given) → (headers : List (Result UnitHeaderFields Error)) → AreByBytes headers → IsByBytes (units_of read headers).given
-units_are read k [] h = value
-units_are read k (r ∷ rs) h = step (step h.0 k) (λ unit. step (units_are read k rs h.1) (λ units. value))
+units_each : {U : Type 0} (read : UnitHeaderFields → Result (Option U) Error) → ((h : UnitHeaderFields) → IsByBytes (read h)) → (headers : List (Result UnitHeaderFields Error)) → AreByBytes headers → AreByBytes (map (λ h. h >>= read) headers)
+units_each read k [] h = tt
+units_each read k (r ∷ rs) h = (step h.0 k, units_each read k rs h.1)
+
+units_are : {U : Type 0} (read : UnitHeaderFields → Result (Option U) Error) → ((h : UnitHeaderFields) → IsByBytes (read h)) → (headers : List (Result UnitHeaderFields Error)) → AreByBytes headers → IsByBytes (units_of read headers)
+units_are read k headers h = step (read_all_is (map (λ r. r >>= read) headers) (units_each read k headers h)) (λ units. value)
 
 pub ranged_units_are : (d : Sections) → IsByBytes (ranged_units d)
 ranged_units_are d = step (aranges_are d.debug_aranges) (λ aranges. units_are (unit_of_header d aranges) (unit_of_header_is d aranges) (all_headers d.debug_info) (all_headers_are d.debug_info))
@@ -138,7 +132,7 @@ pub split_name_is : (d : Sections) (u : UnitRecord) → IsByBytes (split_name_of
 unfolding split_name_of
 split_name_is d u = step (dwo_name_is u) (λ v. optional_string_is d u v)
 
-first_unit_of_is : (d : Sections) (headers : List (Result UnitHeaderFields Error)) → AreByBytes headers → IsByBytes (first_unit_of (λ header. free (unit_record_of d header)) headers).given
+first_unit_of_is : (d : Sections) (headers : List (Result UnitHeaderFields Error)) → AreByBytes headers → IsByBytes (first_unit_of (unit_record_of d) headers)
 first_unit_of_is d [] h = value
 first_unit_of_is d (r ∷ rs) h = step (step h.0 (λ header. unit_record_is d header)) (λ u. value)
 

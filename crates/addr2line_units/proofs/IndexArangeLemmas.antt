@@ -1,5 +1,6 @@
 -- The ranges that `.debug_aranges` lists, in order, and set by set (on specs/IndexAranges.antt).
-use Rattle.addr2line_units.proofs.Common.{ℕ, ◌≡◌, ◌≤◌, Bool, true, false, cond, not, ◌&&◌, ◌==◌, nat_cmp, leb, ltb, zero, suc, List, [], ◌∷◌, length, take, drop, arith, ◌∙◌, ap, sym, refl, filter, AllByRecursion, IsPartitionPoint, ties, nat_tests, ranks_by, filter_agree, in_order, IsInOrder, in_order_ties, UnitArange, is_arange_of, offset_sooner, ◌++◌, Costed, Err, Error, Ok, Result, aranges_in, append_assoc, free, nat_lt, or_left, or_right, set_aranges, subst}
+use Rattle.addr2line_units.proofs.Common.{ℕ, ◌≡◌, ◌≤◌, Bool, true, false, cond, not, ◌&&◌, ◌==◌, nat_cmp, leb, ltb, zero, suc, List, [], ◌∷◌, length, take, drop, arith, ◌∙◌, ap, sym, refl, filter, AllByRecursion, IsPartitionPoint, ties, nat_tests, ranks_by, filter_agree, in_order, IsInOrder, in_order_ties, UnitArange, is_arange_of, offset_sooner, ◌++◌, Costed, Err, Error, Ok, Result, aranges_at_cost, append_assoc, free, nat_lt, or_left, or_right, set_aranges, subst, result_map, read_all, aranges_in}
+use Rattle.std.specs.Prelude.{flat_map}
 use Rattle.gimli.specs.Aranges.{ArangeSet}
 use Rattle.gimli_read.specs.Costed.{◌>>=◌}
 use Rattle.gimli_read.specs.Reading as reading
@@ -91,17 +92,28 @@ up_to_point offset (x ∷ xs) (suc n) le all h =
 -- the ranges of the first set that is left, and those of the sets after it
 module _ (shares : Bool) (before : List UnitArange) (left rest : List (Result ArangeSet Error)) (s : ArangeSet) (is : left ≡ Ok s ∷ rest) where
   abbrev all : List UnitArange → List (Result ArangeSet Error) → Costed (List UnitArange)
-  all items sets = aranges_in sets >>= λ more. free (Ok (items ++ more))
+  all items sets = aranges_at_cost sets >>= λ more. free (Ok (items ++ more))
 
   pub set_takes : nat_lt 0 (length (set_aranges s)) ≡ true → (all before left).takes_memory shares ≡ true
   set_takes e = ap (λ sets. (all before sets).takes_memory shares) is ∙ or_left _ _ (or_left _ _ e)
 
   pub set_step : IsRestOf shares (all (before ++ set_aranges s) rest) (all before left)
   set_step = subst (λ sets. IsRestOf shares (all (before ++ set_aranges s) rest) (all before sets)) (sym is) (record {
-    gives = by (aranges_in rest).given;
+    gives = by (aranges_at_cost rest).given;
     takes = λ t. or_left _ _ (or_right (nat_lt 0 (length (set_aranges s))) _ (or_left _ _ (made_takes _ _ t)));
   })
     where
       by : (r : Result (List UnitArange) Error) → reading.◌>>=◌ r (λ more. Ok ((before ++ set_aranges s) ++ more)) ≡ reading.◌>>=◌ (reading.◌>>=◌ r (λ more. Ok (set_aranges s ++ more))) (λ more. Ok (before ++ more))
       by (Ok more) = ap (λ xs. Ok xs) (append_assoc before (set_aranges s) more)
       by (Err e) = refl
+
+-- ranges that are read set by set are those of the sets
+pub aranges_given : (sets : List (Result ArangeSet Error)) → (aranges_at_cost sets).given ≡ aranges_in sets
+aranges_given [] = refl
+aranges_given (Err e ∷ sets) = refl
+aranges_given (Ok s ∷ sets) =
+    ap (λ r. reading.◌>>=◌ r (λ more. Ok (set_aranges s ++ more))) (aranges_given sets) ∙ of_all (read_all sets)
+  where
+    of_all : (r : Result (List ArangeSet) Error) → reading.◌>>=◌ (reading.◌>>=◌ r (λ all. Ok (flat_map set_aranges all))) (λ more. Ok (set_aranges s ++ more)) ≡ reading.◌>>=◌ (result_map (λ xs. s ∷ xs) r) (λ all. Ok (flat_map set_aranges all))
+    of_all (Ok all) = refl
+    of_all (Err e) = refl

@@ -1,10 +1,9 @@
 -- The units that references lead to in a context, and what is cached of their entries at first (on
 -- specs/UnitsIndexLaws.antt, specs/FramesLookup.antt and specs/UnitsCached.antt).
-use Rattle.addr2line_units.proofs.Common.{◌≡◌, ◌∙◌, ap, sym, refl, subst, Bool, true, false, List, [], ◌∷◌, ◌++◌, filter_map, map, Option, Some, None, option_map, IfSome, Result, Ok, Err, if◌then◌else◌, DwLang, Error, Range, Costed, free, ◌>>=◌, result_map, UnitHeaderFields, Sections, SupSections, UnitRecord, unit_record_of, all_headers, read_all, AreInOrder, IsFileInOrder, IsScope, Scope, UnitArange, CachedUnit, HaveLinesOf, indexed_units, main_scope, AreFreshOf, HaveCachesOf, answers_in, by_abbreviations, units_of, arange_sets_of, aranges_in, indexed_of, unit_records, RangedUnit, listed_in_unit, is_type_unit, ranged_units, unit_ranges_from, unit_of_header, unless_faulty, FirstAnswers, sup_sections}
-use Rattle.std.specs.Prelude.{option_to_list}
+use Rattle.addr2line_units.proofs.Common.{◌≡◌, ◌∙◌, ap, sym, refl, subst, Bool, true, false, List, [], ◌∷◌, ◌++◌, map, Option, Some, None, option_map, IfSome, Result, Ok, Err, if◌then◌else◌, DwLang, Error, Range, ◌>>=◌, UnitHeaderFields, Sections, SupSections, UnitRecord, unit_record_of, all_headers, AreInOrder, IsFileInOrder, IsScope, Scope, UnitArange, CachedUnit, HaveLinesOf, indexed_units, main_scope, AreFreshOf, HaveCachesOf, answers_in, units_of, arange_sets_of, aranges_in, indexed_of, unit_records, RangedUnit, listed_in_unit, is_type_unit, ranged_units, unit_ranges_from, unit_of_header, unless_faulty, FirstAnswers, sup_sections}
 use Rattle.std.specs.Result.{result_ok}
 use Rattle.gimli.proofs.HeaderOrder.{headers_in_order}
-use Rattle.addr2line_lines.proofs.UnitOrder.{kept_in_order, record_header, units_read}
+use Rattle.addr2line_lines.proofs.UnitOrder.{kept_in_order, record_header}
 use Rattle.addr2line_units.specs.UnitsIndex.{UnitIndex, index_units, sup_unit_of_header, sup_units}
 use Rattle.addr2line_lines.specs.References.{UnitInScope}
 use Rattle.addr2line_units.specs.UnitsCached.{AreOfUnit, IsFresh}
@@ -24,16 +23,16 @@ module _ (d : Sections) (aranges : List UnitArange) (h : UnitHeaderFields) (x : 
   of_record (Err f) e k = absurd cc
   of_record (Ok u) e k = of_given u (record_header d h u e) (listed_in_unit d aranges u) k
 
-  by_type : (b : Bool) → (if b then free (Ok None) else by_abbreviations d h (unless_faulty d aranges (unit_record_of d h))).given ≡ Ok (Some x) → x.indexed.unit.header ≡ h
+  by_type : (b : Bool) → (if b then Ok None else unless_faulty d aranges (unit_record_of d h)) ≡ Ok (Some x) → x.indexed.unit.header ≡ h
   by_type true k = absurd cc
   by_type false k = of_record (unit_record_of d h) refl k
 
-  ranged_header : (unit_of_header d aranges h).given ≡ Ok (Some x) → x.indexed.unit.header ≡ h
+  ranged_header : unit_of_header d aranges h ≡ Ok (Some x) → x.indexed.unit.header ≡ h
   unfolding unit_of_header
   ranged_header k = by_type (is_type_unit h.unit_type) k
 
 -- so has one of a supplementary file
-sup_header : (d : Sections) (h : UnitHeaderFields) (u : UnitRecord) → (sup_unit_of_header d h).given ≡ Ok (Some u) → u.header ≡ h
+sup_header : (d : Sections) (h : UnitHeaderFields) (u : UnitRecord) → sup_unit_of_header d h ≡ Ok (Some u) → u.header ≡ h
 sup_header d h u k = of_record (unit_record_of d h) refl k
   where
     of_record : (r : Result UnitRecord Error) → unit_record_of d h ≡ r → ◌≡◌ {A = Result (Option UnitRecord) Error} (Ok (result_ok r)) (Ok (Some u)) → u.header ≡ h
@@ -51,36 +50,14 @@ map_same : (us : List UnitRecord) → map (λ u. u) us ≡ us
 map_same [] = refl
 map_same (u ∷ us) = ap (λ (vs : List UnitRecord). u ∷ vs) (map_same us)
 
--- the units of headers without the memory that they take
-module _ {U : Type 0} (read : UnitHeaderFields → Costed (Option U)) where
-  abbrev kept : Result (List (Option U)) Error → Result (List U) Error
-  kept units = units >>= λ us. Ok (filter_map (λ u. u) us)
-
-  all_given : (headers : List (Result UnitHeaderFields Error)) → (units_of read headers).given ≡ units_read (λ h. (read h).given) headers
-  all_given [] = refl
-  all_given (Err e ∷ headers) = refl
-  all_given (Ok h ∷ headers) =
-      ap (λ q. (read h).given >>= λ unit. q >>= λ us. Ok (option_to_list unit ++ us)) (all_given headers)
-      ∙ of_unit (read h).given (map (λ x. x >>= λ y. (read y).given) headers)
-    where
-      of_both : (u : Option U) (q : Result (List (Option U)) Error) → (kept q >>= λ us. Ok (option_to_list u ++ us)) ≡ kept (result_map (λ us. u ∷ us) q)
-      of_both u (Err e) = refl
-      of_both None (Ok us) = refl
-      of_both (Some u) (Ok us) = refl
-
-      of_unit : (r : Result (Option U) Error) (rs : List (Result (Option U) Error)) → (r >>= λ unit. kept (read_all rs) >>= λ us. Ok (option_to_list unit ++ us)) ≡ kept (read_all (r ∷ rs))
-      of_unit (Err e) rs = refl
-      of_unit (Ok u) rs = of_both u (read_all rs)
-
 -- the units of the sections stand in order
 ranged_in_order : (d : Sections) (units : List RangedUnit) → ranged_units d ≡ Ok units → AreInOrder (unit_records (map indexed_of units))
-ranged_in_order d units e = of_aranges (aranges_in (arange_sets_of d.debug_aranges)).given e
+ranged_in_order d units e = of_aranges (aranges_in (arange_sets_of d.debug_aranges)) e
   where
-    of_aranges : (r : Result (List UnitArange) Error) → (r >>= λ aranges. (units_of (unit_of_header d aranges) (all_headers d.debug_info)).given) ≡ Ok units → AreInOrder (unit_records (map indexed_of units))
+    of_aranges : (r : Result (List UnitArange) Error) → (r >>= λ aranges. units_of (unit_of_header d aranges) (all_headers d.debug_info)) ≡ Ok units → AreInOrder (unit_records (map indexed_of units))
     of_aranges (Err f) k = absurd cc
     of_aranges (Ok aranges) k = subst (λ (us : List UnitRecord). AreInOrder us) (records_of units)
-        (kept_in_order (λ (u : RangedUnit). u.indexed.unit) (λ h. (unit_of_header d aranges h).given) (ranged_header d aranges) (all_headers d.debug_info) units (headers_in_order d.debug_info)
-        (sym (all_given (unit_of_header d aranges) (all_headers d.debug_info)) ∙ k))
+        (kept_in_order (λ (u : RangedUnit). u.indexed.unit) (unit_of_header d aranges) (ranged_header d aranges) (all_headers d.debug_info) units (headers_in_order d.debug_info) k)
 
 -- so do those of the supplementary file, if there is one
 sup_in_order : (sup : Option SupSections) (units : List UnitRecord) → sup_units sup ≡ Ok units → AreInOrder units
@@ -89,8 +66,7 @@ sup_in_order None units e = subst (λ (us : List UnitRecord). AreInOrder us) (no
     no_units : ◌≡◌ {A = Result (List UnitRecord) Error} (Ok []) (Ok units) → [] ≡ units
     no_units k = cc
 sup_in_order (Some s) units e = subst (λ (us : List UnitRecord). AreInOrder us) (map_same units)
-    (kept_in_order (λ u. u) (λ h. (sup_unit_of_header (sup_sections s) h).given) (sup_header (sup_sections s)) (all_headers s.debug_info) units (headers_in_order s.debug_info)
-    (sym (all_given (sup_unit_of_header (sup_sections s)) (all_headers s.debug_info)) ∙ e))
+    (kept_in_order (λ u. u) (sup_unit_of_header (sup_sections s)) (sup_header (sup_sections s)) (all_headers s.debug_info) units (headers_in_order s.debug_info) e)
 
 -- the units of a context stand in order, and those of the supplementary file
 module _ (d : Sections) (m : UnitIndex) where

@@ -1,5 +1,5 @@
 -- The views of units (on specs/UnitView.antt and specs/UnitViewCached.antt).
-use Rattle.addr2line_units.proofs.Common.{◌≡◌, ◌≢◌, ◌∙◌, ℕ, ap, sym, refl, subst, not, ⊎_elim, Bool, true, false, List, [], ◌∷◌, Option, Some, None, is_some, is_none, option_map, IfSome, IfOk, Result, Ok, Err, if◌then◌else◌, Error, OutOfMemory, ◌>>=◌, fault_of, Section, Sections, UnitHeaderFields, UnitRecord, attr_string_of, unit_record_of, all_headers, IsScope, Scope, UnitView, ViewState, IsViewOf, answer_in, answer_of_view, as_sections, split_file_by, split_file_in, split_unit, unboxed, verdict_in, view_by, waits, SplitLoad, View, answered_view, first_unit, first_unit_of, first_view, free, or_left, or_right, load_by, load_of_unit, main_view, split_name_of, verdict, verdict_by, view_scope, memory_or_not, is_decided, is_open, view_fault, was_checked}
+use Rattle.addr2line_units.proofs.Common.{◌≡◌, ◌≢◌, ◌∙◌, ℕ, ap, sym, refl, subst, not, ⊎_elim, Bool, true, false, List, [], ◌∷◌, Option, Some, None, is_some, is_none, option_map, IfSome, IfOk, Result, Ok, Err, if◌then◌else◌, Error, OutOfMemory, ◌>>=◌, fault_of, Section, Sections, UnitHeaderFields, UnitRecord, attr_string_of, unit_record_of, all_headers, IsScope, Scope, UnitView, ViewState, IsViewOf, answer_in, answer_of_view, as_sections, split_file_by, split_file_in, split_unit, unboxed, verdict_in, view_by, waits, SplitLoad, View, answered_view, first_unit, first_unit_of, first_view, or_left, or_right, load_by, load_of_unit, main_view, split_name_of, verdict, verdict_by, view_scope, memory_or_not, is_decided, is_open, view_fault, was_checked}
 use Rattle.gimli_read.specs.declared.value.AttributeValue.{AttributeValue}
 use Rattle.gimli.specs.declared.unit.DwoId.{DwoId}
 use Rattle.gimli.specs.Split.{dwo_name_fault, dwo_name_of, relocated, string_fault_if}
@@ -8,7 +8,7 @@ use Rattle.gimli.proofs.UnitLemmas.{read_takes_memory}
 use Rattle.addr2line_lines.specs.FileTexts.{optional_string}
 use Rattle.addr2line_units.specs.declared.unit.AnsweredLoad.{AnsweredLoad}
 use Rattle.addr2line_units.specs.declared.unit.ViewState.TheVariants as states
-use Rattle.addr2line_units.specs.LoadsMemory.{first_unit_takes_memory, unit_read}
+use Rattle.addr2line_units.specs.LoadsMemory.{first_at_cost, first_unit_takes_memory, unit_read}
 use Rattle.addr2line_units.specs.UnitAfter.{AfterViewCheck}
 use Rattle.addr2line_units.specs.UnitViewCached.{verdict_or}
 
@@ -111,10 +111,10 @@ view_by_split_unit d main (Some split) = first_by d main split (first_unit split
 -- the first unit of sections
 module _ (shares : Bool) (d : Sections) where
   abbrev takes : List (Result UnitHeaderFields Error) → Bool
-  takes headers = (first_unit_of (unit_read d) headers).takes_memory shares
+  takes headers = (first_at_cost (unit_read d) headers).takes_memory shares
 
   abbrev given : List (Result UnitHeaderFields Error) → Result (Option UnitRecord) Error
-  given headers = (first_unit_of (λ header. free (unit_record_of d header)) headers).given
+  given headers = first_unit_of (unit_record_of d) headers
 
   pub first_shared : shares ≡ true → first_unit_takes_memory shares d ≡ true
   first_shared e = by_headers (all_headers d.debug_info)

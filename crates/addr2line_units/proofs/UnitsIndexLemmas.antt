@@ -1,16 +1,18 @@
 -- The units of a context as they are read (on specs/UnitsRanged.antt and specs/UnitsIndex.antt and
 -- specs/UnitsIndexed.antt).
-use Rattle.addr2line_units.proofs.Common.{◌≡◌, ◌≢◌, ◌+◌, ℕ, suc, Bool, true, false, is_ok, if◌then◌else◌, ◌<◌, subst, arith, List, [], ◌∷◌, ◌++◌, length, map, drop, Option, Some, None, Result, Ok, Err, refl, sym, ap, ◌∙◌, nat_lt, length-map, map-append, option_to_list, put_to, Error, OffsetOutOfBounds, OutOfMemory, Section, after, Costed, ExactlyUnlessOom, free, or_left, UnitHeaderFields, Sections, UnitRecord, unit_by, unit_record_of, UnitArange, UnitRange, IndexedUnit, indexed_of, RangedUnit, has_lines, is_type_unit, range_of_unit, ranged_unit, unit_ranges_from, unit_of_header, unit_ranges, unless_faulty, by_abbreviations, has_abbreviations}
+use Rattle.addr2line_units.proofs.Common.{◌≡◌, ◌≢◌, ◌+◌, ℕ, suc, Bool, true, false, is_ok, if◌then◌else◌, ◌<◌, subst, arith, List, [], ◌∷◌, ◌++◌, length, map, drop, Option, Some, None, Result, Ok, Err, refl, sym, ap, ◌∙◌, nat_lt, length-map, map-append, option_to_list, put_to, Error, OffsetOutOfBounds, OutOfMemory, Section, after, Costed, ExactlyUnlessOom, or_left, UnitHeaderFields, Sections, UnitRecord, unit_by, unit_record_of, UnitArange, UnitRange, IndexedUnit, indexed_of, RangedUnit, has_lines, is_type_unit, range_of_unit, ranged_unit, unit_ranges_from, unit_of_header, unit_ranges, unless_faulty, has_abbreviations, unit_at_cost, free}
 use Rattle.std.proofs.lemmas.Bool.{true_from_ne_false}
 use Rattle.std.specs.Result.{result_ok}
 use Rattle.std.proofs.lemmas.List.{append-nil, append_assoc, length-append}
 use Rattle.gimli_read.specs.Abbrev.{table_at}
-use Rattle.gimli_read.specs.Costed.{ExactlyAtCost}
+use Rattle.gimli_read.specs.Costed.{ExactlyAtCost, room_if}
 use Rattle.gimli_read.specs.Reading as reading
 use Rattle.gimli_read.specs.Yields.{next_given}
 use Rattle.gimli.specs.CachedTables.{CachedTables, cached_unit_takes_memory, is_cached}
 use Rattle.gimli.specs.Text.{from_offset}
+use Rattle.gimli.specs.UnitMemory.{stored_unit_by}
 use Rattle.addr2line_units.specs.UnitsIndexed.{IndexState, appended, with_header}
+use Rattle.addr2line_units.specs.UnitsMemory.{stored_unit_of}
 
 -- what was left, by what a call gave of it
 module _ {X : Type 0} where
@@ -99,14 +101,14 @@ module _ (d : Sections) (h : UnitHeaderFields) (outside : has_abbreviations d h 
 
   pub no_record : unit_record_of d h ≡ Err OffsetOutOfBounds
   unfolding unit_record_of unit_by
-  no_record = ap (λ r. (unit_by d h (reading.◌>>=◌ r table_at)).given) outside_is
+  no_record = ap (λ r. unit_by d h (reading.◌>>=◌ r table_at)) outside_is
 
   pub nothing_taken : (shares : Bool) (cache : CachedTables) → cache.dwarf ≡ d → cached_unit_takes_memory shares cache h ≡ false
-  unfolding unit_by
+  unfolding stored_unit_by
   nothing_taken shares cache same = of_bool (is_cached h.debug_abbrev_offset cache) (from_offset h.debug_abbrev_offset cache.dwarf.debug_abbrev) (ap (λ (s : Sections). from_offset h.debug_abbrev_offset s.debug_abbrev) same ∙ outside_is)
     where
-      of_bool : (b : Bool) (r : Result Section Error) → r ≡ Err OffsetOutOfBounds → (if b then (unit_by cache.dwarf h (reading.◌>>=◌ r table_at)).takes_memory shares else is_ok r) ≡ false
-      of_bool true r e = ap (λ x. (unit_by cache.dwarf h (reading.◌>>=◌ x table_at)).takes_memory shares) e
+      of_bool : (b : Bool) (r : Result Section Error) → r ≡ Err OffsetOutOfBounds → (if b then (stored_unit_by cache.dwarf h (reading.◌>>=◌ r table_at)).takes_memory shares else is_ok r) ≡ false
+      of_bool true r e = ap (λ x. (stored_unit_by cache.dwarf h (reading.◌>>=◌ x table_at)).takes_memory shares) e
       of_bool false r e = ap is_ok e
 
 -- a unit for which memory was taken, or whose record is read, has abbreviations
@@ -126,27 +128,27 @@ module _ (d : Sections) (h : UnitHeaderFields) where
   pub where_found : (u : UnitRecord) → ◌≡◌ {A = Result (Option UnitRecord) Error} (Ok (result_ok (unit_record_of d h))) (Ok (Some u)) → has_abbreviations d h ≡ true
   where_found u e = unless_outside (λ outside. let other : ◌≡◌ {A = Result (Option UnitRecord) Error} (Ok None) (Ok (Some u)) = sym (ap (λ r. Ok (result_ok r)) (no_record d h outside)) ∙ e in cc)
 
-  pub takes_unit : (shares : Bool) (aranges : List UnitArange) → is_type_unit h.unit_type ≡ false → has_abbreviations d h ≡ true → (unit_of_header d aranges h).takes_memory shares ≡ true
-  unfolding unit_of_header
-  takes_unit shares aranges e k = ap (λ b. (if b then free (Ok None) else by_abbreviations d h (unless_faulty d aranges (unit_record_of d h))).takes_memory shares) e ∙ k
+  pub takes_unit : (shares : Bool) (aranges : List UnitArange) → is_type_unit h.unit_type ≡ false → has_abbreviations d h ≡ true → (unit_at_cost d aranges h).takes_memory shares ≡ true
+  unfolding stored_unit_of
+  takes_unit shares aranges e k = ap (λ b. (if b then free (Ok tt) else room_if (has_abbreviations d h)).takes_memory shares) e ∙ k
 
-  pub where_kept : (shares : Bool) (aranges : List UnitArange) (u : RangedUnit) → (unit_of_header d aranges h).given ≡ Ok (Some u) → (unit_of_header d aranges h).takes_memory shares ≡ true
-  unfolding unit_of_header
+  pub where_kept : (shares : Bool) (aranges : List UnitArange) (u : RangedUnit) → unit_of_header d aranges h ≡ Ok (Some u) → (unit_at_cost d aranges h).takes_memory shares ≡ true
+  unfolding unit_of_header stored_unit_of
   where_kept shares aranges u e = of_bool (is_type_unit h.unit_type) e
     where
-      read : Bool → Costed (Option RangedUnit)
-      read b = if b then free (Ok None) else by_abbreviations d h (unless_faulty d aranges (unit_record_of d h))
+      read : Bool → Result (Option RangedUnit) Error
+      read b = if b then Ok None else unless_faulty d aranges (unit_record_of d h)
 
-      of_bool : (b : Bool) → (read b).given ≡ Ok (Some u) → (read b).takes_memory shares ≡ true
+      of_bool : (b : Bool) → read b ≡ Ok (Some u) → (if b then free (Ok tt) else room_if (has_abbreviations d h)).takes_memory shares ≡ true
       of_bool true k = absurd cc
       of_bool false k = unless_outside (λ outside. let none : ◌≡◌ {A = Result (Option RangedUnit) Error} (Ok None) (Ok (Some u)) = sym (ap (unless_faulty d aranges) (no_record d h outside)) ∙ k in cc)
 
-  pub kept_fault : (aranges : List UnitArange) (u : UnitRecord) (f : Error) → is_type_unit h.unit_type ≡ false → unit_record_of d h ≡ Ok u → ranged_unit d aranges u ≡ Err f → (unit_of_header d aranges h).given ≡ Err f
+  pub kept_fault : (aranges : List UnitArange) (u : UnitRecord) (f : Error) → is_type_unit h.unit_type ≡ false → unit_record_of d h ≡ Ok u → ranged_unit d aranges u ≡ Err f → unit_of_header d aranges h ≡ Err f
   unfolding unit_of_header
-  kept_fault aranges u f e rec k = ap (λ b. (if b then free (Ok None) else by_abbreviations d h (unless_faulty d aranges (unit_record_of d h))).given) e ∙ ap (unless_faulty d aranges) rec ∙ ap (λ r. reading.◌>>=◌ r (λ x. Ok (Some x))) k
+  kept_fault aranges u f e rec k = ap (λ b. if b then Ok None else unless_faulty d aranges (unit_record_of d h)) e ∙ ap (unless_faulty d aranges) rec ∙ ap (λ r. reading.◌>>=◌ r (λ x. Ok (Some x))) k
 
 -- the unit of a header that isn't passed over was added, or memory was refused
-pub header_gives : {X : Type 0} (m : IndexState) (shares : Bool) (aranges : List UnitArange) (h : UnitHeaderFields) (unit : RangedUnit) (see : X → IndexState) (result : Result X Error) → (unit_of_header m.sections aranges h).given ≡ Ok (Some unit)
+pub header_gives : {X : Type 0} (m : IndexState) (shares : Bool) (aranges : List UnitArange) (h : UnitHeaderFields) (unit : RangedUnit) (see : X → IndexState) (result : Result X Error) → unit_of_header m.sections aranges h ≡ Ok (Some unit)
     → ExactlyUnlessOom see result (Ok (appended m (unit ∷ []))) → ExactlyAtCost shares see result (with_header aranges m h)
 header_gives m shares aranges h unit see (Ok x) read gives = ap (λ r. reading.◌>>=◌ r (λ u. Ok (appended m (option_to_list u)))) read ∙ gives
 header_gives m shares aranges h unit see (Err e) read gives = λ may. absurd (let no = gives (may (or_left _ _ (where_kept m.sections h shares aranges unit read))) in cc)

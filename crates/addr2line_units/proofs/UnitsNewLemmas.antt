@@ -1,5 +1,6 @@
 -- The units of a context as they are read (on specs/UnitsState.antt and specs/UnitsStored.antt).
-use Rattle.addr2line_units.proofs.Common.{◌≡◌, ◌++◌, Bool, true, length, nat_lt, or_left, List, [], ◌∷◌, map, Option, Some, None, option_map, Result, Ok, Err, refl, sym, ap, subst, ◌∙◌, Error, ◌>>=◌, Sections, SupSections, UnitRecord, all_headers, FileRecord, IsScope, Scope, UnitArange, UnitRange, CachedUnit, indexed_units, AreLinesOf, HaveNewCaches, answers_in, FindsNothing, main_scope, units_of, known_in, KnownEntries, NothingKnown, IndexedUnit, RangedUnit, indexed_of, ranged_units, unit_of_header, unit_ranges_from, unit_records, AreUnits, as_units_state, arange_sets_of, aranges_in, UnitsState, first_state, new_units, FirstAnswers, sup_sections}
+use Rattle.addr2line_units.proofs.Common.{◌≡◌, ◌++◌, Bool, true, length, nat_lt, or_left, List, [], ◌∷◌, map, Option, Some, None, option_map, Result, Ok, Err, refl, sym, ap, subst, ◌∙◌, Error, ◌>>=◌, Sections, SupSections, UnitRecord, all_headers, FileRecord, IsScope, Scope, UnitArange, UnitRange, CachedUnit, indexed_units, AreLinesOf, HaveNewCaches, answers_in, FindsNothing, main_scope, units_at_cost, known_in, KnownEntries, NothingKnown, IndexedUnit, RangedUnit, indexed_of, ranged_units, unit_at_cost, unit_ranges_from, unit_records, AreUnits, as_units_state, arange_sets_of, UnitsState, first_state, new_units, FirstAnswers, sup_sections, units_of, aranges_in, ◌≢◌, OutOfMemory}
+use Rattle.addr2line_units.specs.UnitsRanged.{unit_of_header}
 use Rattle.addr2line_units.specs.declared.frames.FramesStop.TheVariants as stops
 use Rattle.addr2line_units.specs.declared.sup.SupUnits.{SupUnits}
 use Rattle.addr2line_units.specs.UnitsCached.{IsFresh}
@@ -7,7 +8,9 @@ use Rattle.addr2line_units.specs.UnitsIndexed.{IndexState, aranges_read, index_o
 use Rattle.addr2line_units.specs.SupScope.{scope_in}
 use Rattle.addr2line_units.specs.UnitsIndex.{UnitIndex, index_units, sup_units}
 use Rattle.addr2line_units.proofs.UnitsLinesLemmas.{own_push}
-use Rattle.addr2line_units.proofs.UnitsOfHeadersLemmas.{then_takes}
+use Rattle.addr2line_units.specs.UnitsMemory.{sup_at_cost}
+use Rattle.addr2line_units.proofs.IndexArangeLemmas.{aranges_given}
+use Rattle.addr2line_units.proofs.UnitsOfHeadersLemmas.{sup_given, then_takes, units_given}
 use Rattle.addr2line_units.proofs.EntriesKnownLemmas.{nothing_known}
 use Rattle.addr2line_units.proofs.SupScopeLemmas.{fresh_caches, fresh_push, main_scope_in_order, no_answers, records_beside}
 use Rattle.addr2line_lines.proofs.Facts.{ok_is}
@@ -34,22 +37,19 @@ one_more d us cs u c before lines fresh = record { lines = own_push d us cs u c 
 
 -- the units with their ranges, as the private functions read them
 pub index_is : (d : Sections) → (index_read d).given ≡ (ranged_units d >>= λ units. Ok (index_of d units))
-index_is d = of_aranges (aranges_in (arange_sets_of d.debug_aranges)).given
+index_is d = ap (λ r. (r >>= λ xs. Ok xs) >>= λ xs. (indexed_with d xs).given >>= λ index. Ok index) (aranges_given (arange_sets_of d.debug_aranges)) ∙ of_aranges (aranges_in (arange_sets_of d.debug_aranges))
   where
-    units : List UnitArange → Result (List RangedUnit) Error
-    units aranges = (units_of (unit_of_header d aranges) (all_headers d.debug_info)).given
+    of_units : (r q : Result (List RangedUnit) Error) → r ≡ q → ((r >>= λ us. Ok (index_of d us)) >>= λ index. Ok index) ≡ (q >>= λ us. Ok (index_of d us))
+    of_units (Ok us) q e = ap (λ (x : Result (List RangedUnit) Error). x >>= λ us. Ok (index_of d us)) e
+    of_units (Err f) q e = ap (λ (x : Result (List RangedUnit) Error). x >>= λ us. Ok (index_of d us)) e
 
-    of_units : (r : Result (List RangedUnit) Error) → ((r >>= λ us. Ok (index_of d us)) >>= λ index. Ok index) ≡ (r >>= λ us. Ok (index_of d us))
-    of_units (Ok us) = refl
-    of_units (Err e) = refl
-
-    of_aranges : (r : Result (List UnitArange) Error) → ((r >>= λ xs. Ok xs) >>= λ aranges. (units aranges >>= λ us. Ok (index_of d us)) >>= λ index. Ok index) ≡ ((r >>= λ aranges. units aranges) >>= λ us. Ok (index_of d us))
-    of_aranges (Ok aranges) = of_units (units aranges)
+    of_aranges : (r : Result (List UnitArange) Error) → ((r >>= λ xs. Ok xs) >>= λ xs. (indexed_with d xs).given >>= λ index. Ok index) ≡ ((r >>= λ aranges. units_of (unit_of_header d aranges) (all_headers d.debug_info)) >>= λ us. Ok (index_of d us))
+    of_aranges (Ok aranges) = of_units (units_at_cost (unit_at_cost d aranges) (all_headers d.debug_info)).given (units_of (unit_of_header d aranges) (all_headers d.debug_info)) (units_given (unit_at_cost d aranges) (all_headers d.debug_info))
     of_aranges (Err e) = refl
 
 -- they are of these sections
 pub indexed_sections : (d : Sections) (aranges : List UnitArange) (m : IndexState) → (indexed_with d aranges).given ≡ Ok m → m.sections ≡ d
-indexed_sections d aranges m e = by (units_of (unit_of_header d aranges) (all_headers d.debug_info)).given e
+indexed_sections d aranges m e = by (units_at_cost (unit_at_cost d aranges) (all_headers d.debug_info)).given e
   where
     by : (r : Result (List RangedUnit) Error) → (r >>= λ units. Ok (index_of d units)) ≡ Ok m → m.sections ≡ d
     by (Ok units) h = ap (λ (x : IndexState). x.sections) (sym (ok_is (index_of d units) m h))
@@ -88,9 +88,17 @@ module _ {R : Type 0} (first d : Sections) (us : List UnitRecord) (cs : List (Ca
     index_takes shares some =
         then_takes _ _ _ _ aranges_there (then_takes _ _ _ _ units_there (or_left _ _ (subst (λ (rs : List UnitRange). nat_lt 0 (length rs) ≡ true) (ap (λ (x : IndexState). x.ranges) is) some)))
 
+-- a fault of units that are read with the ranges is one of the index
+pub index_fault : (shares : Bool) (first : Sections) (aranges : List UnitArange) (e : Error) {of_aranges of_units : Sections} → of_aranges ≡ first → (aranges_read of_aranges.debug_aranges).given ≡ Ok aranges → of_units ≡ first
+    → (((indexed_with of_units aranges).takes_memory shares ≡ true → e ≢ OutOfMemory) → (indexed_with of_units aranges).given ≡ Err e) → ((index_read first).takes_memory shares ≡ true → e ≢ OutOfMemory) → (index_read first).given ≡ Err e
+index_fault shares first aranges e of read is refused may =
+    let there = subst (λ (x : Sections). (aranges_read x.debug_aranges).given ≡ Ok aranges) of read in
+    ap (λ r. r >>= λ xs. (indexed_with first xs).given >>= λ index. Ok index) there
+    ∙ ap (λ (r : Result IndexState Error). r >>= λ index. Ok index) (subst (λ x. ((indexed_with x aranges).takes_memory shares ≡ true → e ≢ OutOfMemory) → (indexed_with x aranges).given ≡ Err e) is refused (λ takes. may (then_takes _ _ _ _ there (or_left _ _ takes))))
+
 -- units that are made of the index of sections and of the units of the supplementary file
 module _ {R : Type 0} (first d : Sections) (us : List UnitRecord) (cs : List (CachedUnit R)) (ranges : List UnitRange) (sup : SupUnits R) {m : IndexState} {seen : Sections} (given : (index_read first).given ≡ Ok m) (is : index_state d us cs ranges ≡ m)
-    (same : seen ≡ d) (sup_given : sup_units seen.sup ≡ Ok sup.units.items) (sup_dwarf : sup.dwarf ≡ option_map sup_sections seen.sup) (new : HaveNewCaches d us cs) where
+    (same : seen ≡ d) (sup_read : (sup_at_cost seen.sup).given ≡ Ok sup.units.items) (sup_dwarf : sup.dwarf ≡ option_map sup_sections seen.sup) (new : HaveNewCaches d us cs) where
   of : d ≡ first
   of = ap (λ (x : IndexState). x.sections) is ∙ index_sections first m given
 
@@ -98,7 +106,7 @@ module _ {R : Type 0} (first d : Sections) (us : List UnitRecord) (cs : List (Ca
   e = sym (index_is d) ∙ subst (λ x. (index_read x).given ≡ Ok m) (sym of) given ∙ ap (λ x. Ok x) (sym is)
 
   f : sup_units d.sup ≡ Ok sup.units.items
-  f = subst (λ (x : Sections). sup_units x.sup ≡ Ok sup.units.items) same sup_given
+  f = subst (λ (x : Sections). sup_units x.sup ≡ Ok sup.units.items) same (sym (sup_given seen.sup) ∙ sup_read)
 
   sup_is : sup.dwarf ≡ option_map sup_sections d.sup
   sup_is = subst (λ (x : Sections). sup.dwarf ≡ option_map sup_sections x.sup) same sup_dwarf
@@ -183,14 +191,14 @@ module _ {R : Type 0} (first d : Sections) (us : List UnitRecord) (cs : List (Ca
       of_units (Err x) h = absurd cc
 
 -- a fault of the supplementary file refuses the units
-pub sup_fault : (d : Sections) (i : IndexState) (f : Error) → (ranged_units d >>= λ units. Ok (index_of d units)) ≡ Ok i → sup_units d.sup ≡ Err f → new_units d ≡ Err f
+pub sup_fault : (d : Sections) (i : IndexState) (f : Error) → (ranged_units d >>= λ units. Ok (index_of d units)) ≡ Ok i → (sup_at_cost d.sup).given ≡ Err f → new_units d ≡ Err f
 sup_fault d i f e h = of_units (ranged_units d) e
   where
     state : List RangedUnit → List UnitRecord → Result (UnitsState × List UnitRange) Error
     state units s = Ok (first_state d units s, unit_ranges_from d 0 units)
 
     of_units : (r : Result (List RangedUnit) Error) → (r >>= λ units. Ok (index_of d units)) ≡ Ok i → (r >>= λ units. sup_units d.sup >>= λ s. state units s) ≡ Err f
-    of_units (Ok units) k = ap (λ (r : Result (List UnitRecord) Error). r >>= λ s. state units s) h
+    of_units (Ok units) k = ap (λ (r : Result (List UnitRecord) Error). r >>= λ s. state units s) (sym (sup_given d.sup) ∙ h)
     of_units (Err x) k = absurd cc
 
 -- a fault of a unit does

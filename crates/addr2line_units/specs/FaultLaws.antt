@@ -26,10 +26,10 @@ use Rattle.addr2line_units.specs.UnitView.{FirstAnswers, answered_view, first_un
 
 -- no unit of a file is, nor what its root entry says, nor all that a context is made of
 pub record IndexIsNotRefused : Type 0 where
-  pub aranges : (s : Section) → WasNotRefused (aranges_in (arange_sets_of s)).given
+  pub aranges : (s : Section) → WasNotRefused (aranges_in (arange_sets_of s))
   pub attributes : (d : Sections) (u : UnitRecord) → WasNotRefused (unit_attributes d u)
   pub unit : (d : Sections) (aranges : List UnitArange) (header : UnitHeaderFields)
-      → WasNotRefused (unit_of_header d aranges header).given
+      → WasNotRefused (unit_of_header d aranges header)
   pub ranged : (d : Sections) → WasNotRefused (ranged_units d)
   pub sup : (sup : Option SupSections) → WasNotRefused (sup_units sup)
   pub index : (d : Sections) → WasNotRefused (index_units d)

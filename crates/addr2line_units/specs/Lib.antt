@@ -11,6 +11,7 @@ pub mod IndexCover
 pub mod IndexLeastBegins
 pub mod UnitsRanged
 pub mod UnitsIndex
+pub mod UnitsMemory
 pub mod UnitsIndexLaws
 pub mod Locations
 pub mod LocationsParsed

@@ -1,8 +1,8 @@
 -- When an answer to the load of a unit takes memory (DWARF 5, section 7.3.2).
-use Rattle.std.specs.Prelude.{Bool, false, Option, Some, None}
-use Rattle.addr2line_units.specs.Common.{Costed, Sections, UnitHeaderFields, UnitRecord, unit_record_of, all_headers}
+use Rattle.std.specs.Prelude.{Bool, false, List, [], ◌∷◌, Option, Some, None, Result, Ok}
+use Rattle.addr2line_units.specs.Common.{Costed, Error, free, parts_on_the_way, Sections, UnitHeaderFields, UnitRecord, unit_record_of, all_headers}
 use Rattle.gimli.specs.UnitMemory.{unit_takes_memory}
-use Rattle.addr2line_units.specs.UnitsOfHeaders.{first_unit_of}
+use Rattle.gimli_read.specs.Costed.{◌>>=◌}
 
 -- the unit of a header, and whether memory may be taken for it
 abbrev pub unit_read : Sections → UnitHeaderFields → Costed UnitRecord
@@ -11,11 +11,18 @@ unit_read d header = record {
   takes_memory = λ shares. unit_takes_memory shares d header;
 }
 
+-- the first unit of headers
+abbrev pub first_at_cost : {U : Type 0} → (UnitHeaderFields → Costed U)
+    → List (Result UnitHeaderFields Error) → Costed (Option U)
+first_at_cost read [] = parts_on_the_way (Ok None)
+first_at_cost read (header ∷ headers) =
+    parts_on_the_way header >>= read >>= λ unit. free (Ok (Some unit))
+
 -- whether memory may be taken for the first unit of sections: where readers share their bytes, or
 -- for the unit of the first header, where that can be read
 abbrev pub first_unit_takes_memory : Bool → Sections → Bool
 first_unit_takes_memory shares d =
-    (first_unit_of (unit_read d) (all_headers d.debug_info)).takes_memory shares
+    (first_at_cost (unit_read d) (all_headers d.debug_info)).takes_memory shares
 
 -- whether memory may be taken for an answer: for the first unit of its sections, which is stored,
 -- or to look for one where readers share their bytes

@@ -6,7 +6,7 @@
 -- Own: the identifier of what is answered isn't compared. Lines and language stay those of the main
 -- unit. References lead to no other unit of a split file.
 use Rattle.std.specs.Prelude.{ℕ, Bool, true, false, List, [], Option, Some, None, is_none, option_map, Result, Ok, Err, if◌then◌else◌}
-use Rattle.addr2line_units.specs.Common.{Error, ◌>>=◌, free, Section, Sections, UnitRecord, unit_record_of, all_headers, Scope}
+use Rattle.addr2line_units.specs.Common.{Error, ◌>>=◌, Section, Sections, UnitRecord, unit_record_of, all_headers, Scope}
 use Rattle.gimli.specs.declared.unit.DwoId.{DwoId}
 use Rattle.gimli.specs.Split.{dwo_name_of, relocated}
 use Rattle.addr2line_lines.specs.FileTexts.{optional_string}
@@ -57,7 +57,7 @@ split_name_of d u = dwo_name_of u >>= optional_string d u
 
 -- the first unit of sections, none where they have no unit
 abbrev pub first_unit : Sections → Result (Option UnitRecord) Error
-first_unit d = (first_unit_of (λ h. free (unit_record_of d h)) (all_headers d.debug_info)).given
+first_unit d = first_unit_of (unit_record_of d) (all_headers d.debug_info)
 
 -- the view of a first unit, if there is one
 abbrev pub first_view : Sections → UnitRecord → Sections → Option UnitRecord → View

@@ -6,9 +6,9 @@
 -- Own: in the supplementary file every unit whose record can be read counts.
 use Rattle.std.specs.Prelude.{List, [], map, Option, Some, None, Result, Ok}
 use Rattle.std.specs.Result.{result_ok}
-use Rattle.addr2line_units.specs.Common.{Error, ◌>>=◌, Costed, free, UnitHeaderFields, Sections, SupSections, sup_sections, UnitRecord, unit_record_of, all_headers}
+use Rattle.addr2line_units.specs.Common.{Error, ◌>>=◌, UnitHeaderFields, Sections, SupSections, sup_sections, UnitRecord, unit_record_of, all_headers}
 use Rattle.addr2line_units.specs.declared.index.UnitRange.{UnitRange}
-use Rattle.addr2line_units.specs.UnitsOfHeaders.{by_abbreviations, units_of}
+use Rattle.addr2line_units.specs.UnitsOfHeaders.{units_of}
 use Rattle.addr2line_units.specs.UnitsRanged.{IndexedUnit, indexed_of, unit_ranges_from, ranged_units}
 
 -- what a context is made of
@@ -18,17 +18,13 @@ pub record UnitIndex : Type 0 where
   pub sup_units : List UnitRecord
 
 -- the unit of a header of the supplementary file, none where its record is faulty
-abbrev pub sup_unit_of_header : Sections → UnitHeaderFields → Costed (Option UnitRecord)
-sup_unit_of_header d h = by_abbreviations d h (Ok (result_ok (unit_record_of d h)))
+abbrev pub sup_unit_of_header : Sections → UnitHeaderFields → Result (Option UnitRecord) Error
+sup_unit_of_header d h = Ok (result_ok (unit_record_of d h))
 
--- the units of the supplementary file as they are read, or the first fault
-abbrev pub sup_read : Option SupSections → Costed (List UnitRecord)
-sup_read None = free (Ok [])
-sup_read (Some s) = units_of (sup_unit_of_header (sup_sections s)) (all_headers s.debug_info)
-
--- these units, or the fault
+-- the units of the supplementary file, or the first fault
 abbrev pub sup_units : Option SupSections → Result (List UnitRecord) Error
-sup_units sup = (sup_read sup).given
+sup_units None = Ok []
+sup_units (Some s) = units_of (sup_unit_of_header (sup_sections s)) (all_headers s.debug_info)
 
 -- what a context of the sections is made of, or why it is refused
 abbrev pub index_units : Sections → Result UnitIndex Error

@@ -7,14 +7,14 @@
 -- with a range list, or without such ranges, has those of its attributes; where these give none, an
 -- empty list too, those of its line sequences. Lines that can't be read give no ranges.
 use Rattle.std.specs.Prelude.{ℕ, ◌+◌, Bool, true, false, ◌&&◌, ◌||◌, not, List, [], ◌∷◌, ◌++◌, map, is_some, Option, Some, None, Result, Ok, Err, if◌then◌else◌}
-use Rattle.addr2line_units.specs.Common.{Error, DwLang, Range, ◌>>=◌, Costed, free, UnitHeaderFields, Sections, UnitRecord, unit_record_of, all_headers, arange_sets_of, LineTable, sequence_ranges, unit_lines}
+use Rattle.addr2line_units.specs.Common.{Error, DwLang, Range, ◌>>=◌, UnitHeaderFields, Sections, UnitRecord, unit_record_of, all_headers, arange_sets_of, LineTable, sequence_ranges, unit_lines}
 use Rattle.gimli.specs.declared.unit.UnitType.{UnitType}
 use Rattle.gimli.specs.declared.unit.UnitType.TheVariants.{TypeUnit, Partial, SplitType}
 use Rattle.addr2line_lines.specs.declared.function.RangeAttributes.{RangeAttributes}
 use Rattle.addr2line_lines.specs.RangeAttributes.{attribute_ranges}
 use Rattle.addr2line_units.specs.declared.index.UnitArange.{UnitArange}
 use Rattle.addr2line_units.specs.declared.index.UnitRange.{UnitRange}
-use Rattle.addr2line_units.specs.UnitsOfHeaders.{by_abbreviations, units_of}
+use Rattle.addr2line_units.specs.UnitsOfHeaders.{units_of}
 use Rattle.addr2line_units.specs.IndexAranges.{aranges_at, aranges_in}
 use Rattle.addr2line_units.specs.Attributes.{unit_attributes}
 
@@ -84,10 +84,10 @@ unless_faulty d aranges (Ok u) = ranged_unit d aranges u >>= λ x. Ok (Some x)
 
 -- the unit of a header, none where it is passed over
 unfoldable pub unit_of_header : Sections → List UnitArange → UnitHeaderFields
-    → Costed (Option RangedUnit)
+    → Result (Option RangedUnit) Error
 unit_of_header d aranges h =
-    if is_type_unit h.unit_type then free (Ok None)
-    else by_abbreviations d h (unless_faulty d aranges (unit_record_of d h))
+    if is_type_unit h.unit_type then Ok None
+    else unless_faulty d aranges (unit_record_of d h)
 
 -- whether the line sequences of a unit give its ranges
 abbrev pub asks_lines : RangedUnit → Bool
@@ -124,5 +124,5 @@ unit_ranges_from d n (u ∷ units) =
 -- the units of the sections that can be read, or the first fault
 abbrev pub ranged_units : Sections → Result (List RangedUnit) Error
 ranged_units d = do
-  aranges ← (aranges_in (arange_sets_of d.debug_aranges)).given
-  (units_of (unit_of_header d aranges) (all_headers d.debug_info)).given
+  aranges ← aranges_in (arange_sets_of d.debug_aranges)
+  units_of (unit_of_header d aranges) (all_headers d.debug_info)

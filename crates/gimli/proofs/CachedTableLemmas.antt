@@ -4,6 +4,7 @@ use Rattle.std.specs.Ordering.{nat_cmp}
 use Rattle.std.specs.BTreeMap.{BTreeMap, get, keys, is_at}
 use Rattle.std.proofs.lemmas.Map.Made.{is_some-lookup}
 use Rattle.gimli_read.specs.Abbrev.{table_at}
+use Rattle.gimli.specs.UnitMemory.{stored_unit_by}
 
 -- a table is found where its offset is among the keys
 pub found_is_cached : {T : Type 0} (tables : BTreeMap ℕ T) (cache : CachedTables) (offset : ℕ) → keys tables ≡ cache.offsets → is_some (get nat_cmp tables offset) ≡ is_cached offset cache
@@ -28,44 +29,44 @@ cached_still {T} old new offset t h q k =
 -- memory for a unit whose table is cached
 takes_cached : (shares : Bool) (cache : CachedTables) (header : UnitHeaderFields) (table : Result (List Abbrev) Error)
     → is_cached header.debug_abbrev_offset cache ≡ true → table_from header.debug_abbrev_offset cache.dwarf.debug_abbrev ≡ table
-    → cached_unit_takes_memory shares cache header ≡ (unit_by cache.dwarf header table).takes_memory shares
+    → cached_unit_takes_memory shares cache header ≡ (stored_unit_by cache.dwarf header table).takes_memory shares
 takes_cached shares cache header table h k =
-    ap (λ b. cond b ((unit_by cache.dwarf header (table_from header.debug_abbrev_offset cache.dwarf.debug_abbrev)).takes_memory shares) (is_ok (from_offset header.debug_abbrev_offset cache.dwarf.debug_abbrev))) h
-    ∙ ap (λ t. (unit_by cache.dwarf header t).takes_memory shares) k
+    ap (λ b. cond b ((stored_unit_by cache.dwarf header (table_from header.debug_abbrev_offset cache.dwarf.debug_abbrev)).takes_memory shares) (is_ok (from_offset header.debug_abbrev_offset cache.dwarf.debug_abbrev))) h
+    ∙ ap (λ t. (stored_unit_by cache.dwarf header t).takes_memory shares) k
 
 -- memory for a unit whose table is not cached
 takes_uncached : (shares : Bool) (cache : CachedTables) (header : UnitHeaderFields) (rest : Result Section Error)
     → is_cached header.debug_abbrev_offset cache ≡ false → from_offset header.debug_abbrev_offset cache.dwarf.debug_abbrev ≡ rest
     → cached_unit_takes_memory shares cache header ≡ is_ok rest
 takes_uncached shares cache header rest h k =
-    ap (λ b. cond b ((unit_by cache.dwarf header (table_from header.debug_abbrev_offset cache.dwarf.debug_abbrev)).takes_memory shares) (is_ok (from_offset header.debug_abbrev_offset cache.dwarf.debug_abbrev))) h
+    ap (λ b. cond b ((stored_unit_by cache.dwarf header (table_from header.debug_abbrev_offset cache.dwarf.debug_abbrev)).takes_memory shares) (is_ok (from_offset header.debug_abbrev_offset cache.dwarf.debug_abbrev))) h
     ∙ ap is_ok k
 
 unit_is_by : (cache : CachedTables) (header : UnitHeaderFields) (table : Result (List Abbrev) Error) → table_from header.debug_abbrev_offset cache.dwarf.debug_abbrev ≡ table
-    → unit_record_of cache.dwarf header ≡ (unit_by cache.dwarf header table).given
+    → unit_record_of cache.dwarf header ≡ unit_by cache.dwarf header table
 unfolding unit_record_of
-unit_is_by cache header table h = ap (λ t. (unit_by cache.dwarf header t).given) h
+unit_is_by cache header table h = ap (λ t. unit_by cache.dwarf header t) h
 
-unit_by_fault : (cache : CachedTables) (header : UnitHeaderFields) (e : Error) → (unit_by cache.dwarf header (Err e)).given ≡ Err e
+unit_by_fault : (cache : CachedTables) (header : UnitHeaderFields) (e : Error) → unit_by cache.dwarf header (Err e) ≡ Err e
 unfolding unit_by
 unit_by_fault cache header e = refl
 
 -- a unit whose table is cached
 pub unit_cached : (shares : Bool) (cache : CachedTables) (header : UnitHeaderFields) (table : Result (List Abbrev) Error) (r : Result UnitRecord Error)
     → is_cached header.debug_abbrev_offset cache ≡ true → table_from header.debug_abbrev_offset cache.dwarf.debug_abbrev ≡ table
-    → ExactlyUnlessOomIf ((unit_by cache.dwarf header table).takes_memory shares) (λ u. u) r (unit_by cache.dwarf header table).given
+    → ExactlyUnlessOomIf ((stored_unit_by cache.dwarf header table).takes_memory shares) (λ u. u) r (unit_by cache.dwarf header table)
     → ExactlyUnlessOomIf (cached_unit_takes_memory shares cache header) (λ u. u) r (unit_record_of cache.dwarf header)
 unit_cached shares cache header table r h k u =
-    given_as (cached_unit_takes_memory shares cache header) ((unit_by cache.dwarf header table).takes_memory shares) r (unit_record_of cache.dwarf header) (unit_by cache.dwarf header table).given
+    given_as (cached_unit_takes_memory shares cache header) ((stored_unit_by cache.dwarf header table).takes_memory shares) r (unit_record_of cache.dwarf header) (unit_by cache.dwarf header table)
     (λ p. takes_cached shares cache header table h k ∙ p) (unit_is_by cache header table k) u
 
 -- a unit whose table is read
 pub unit_read : (shares : Bool) (cache : CachedTables) (header : UnitHeaderFields) (rest : Section) (table : Result (List Abbrev) Error) (r : Result UnitRecord Error)
     → is_cached header.debug_abbrev_offset cache ≡ false → from_offset header.debug_abbrev_offset cache.dwarf.debug_abbrev ≡ Ok rest → table_at rest ≡ table
-    → ExactlyUnlessOomIf ((unit_by cache.dwarf header table).takes_memory shares) (λ u. u) r (unit_by cache.dwarf header table).given
+    → ExactlyUnlessOomIf ((stored_unit_by cache.dwarf header table).takes_memory shares) (λ u. u) r (unit_by cache.dwarf header table)
     → ExactlyUnlessOomIf (cached_unit_takes_memory shares cache header) (λ u. u) r (unit_record_of cache.dwarf header)
 unit_read shares cache header rest table r h k l u =
-    given_as (cached_unit_takes_memory shares cache header) ((unit_by cache.dwarf header table).takes_memory shares) r (unit_record_of cache.dwarf header) (unit_by cache.dwarf header table).given
+    given_as (cached_unit_takes_memory shares cache header) ((stored_unit_by cache.dwarf header table).takes_memory shares) r (unit_record_of cache.dwarf header) (unit_by cache.dwarf header table)
     (λ _. takes_uncached shares cache header (Ok rest) h k) (unit_is_by cache header table (ap (λ (s : Result Section Error). s >>= table_at) k ∙ l)) u
 
 -- memory for a table

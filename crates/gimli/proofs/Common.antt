@@ -45,5 +45,5 @@ pub use Rattle.gimli.specs.TakenAttributes.{taken_after, taken_in}
 pub use Rattle.gimli.specs.Text.{from_offset, indexed_string, string_length_at, string_takes_memory, sup_string_at}
 unfoldable pub use Rattle.gimli.specs.Text.{indexed_number, string_at, string_of}
 pub use Rattle.gimli.specs.Unit.{UnitRecord, address_from, attr_string_of, line_program_of, low_pc_of, readable_string, table_from}
-unfoldable pub use Rattle.gimli.specs.Unit.{completed_record, unit_by, unit_record_of}
+unfoldable pub use Rattle.gimli.specs.Unit.{completed_record, program_and_low_pc_of, unit_by, unit_record_of}
 pub use Rattle.gimli.specs.UnitsLeft.{all_headers, gives_header, headers_left}

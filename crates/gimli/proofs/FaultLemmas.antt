@@ -1,5 +1,5 @@
 -- Nothing that units, entries, strings, addresses and ranges give is OutOfMemory (on the specs of this crate).
-use Rattle.gimli.proofs.Common.{ℕ, zero, suc, ◌+◌, ◌-◌, ◌*◌, ◌==◌, not, Bool, true, false, cond, List, [], ◌∷◌, length, Option, Some, None, Result, Ok, Err, nat_lt, ℤ, pos, int_lt, IfOk, Encoding, Format, Error, UnexpectedEof, OffsetOutOfBounds, ExpectedString, NoSupplementary, UnknownVersion, UnknownUnitType, UnknownAbbreviation, MissingUnitDie, UnknownRangeListEntry, UnsupportedAddressSize, UnsupportedSegmentSize, AttributeValue, Section, after, is_unknown, is_before_5, Reading, ◌>>=◌, refused_if, address_at, fits_u64, is_address_size, offset_size, uleb128_at, Run, cons, run_of, NamedValue, Abbrev, with_code, Sections, SupSections, taken_in, from_offset, string_at, string_length_at, indexed_number, indexed_string, sup_string_at, string_of, UnitHeaderFields, unit_type_of, unit_type_at, dwo_id_at, signature_at, type_fields_at, fields_5_at, fields_4_at, header_fields_at, unit_header_at, next_header_at, headers_left, all_headers, EntryUnit, known_abbreviation, entry_code_at, root_specifications, root_attributes, EntryCursor, entry_abbreviation_at, next_item_at, entries_from, Item, depth_after, entry_of_code, entry_at, item_at, items_after, items_within, items_from, items_of, items_at, items_inside, subtree_of, UnitRecord, address_from, low_pc_of, line_program_of, completed_record, unit_by, table_from, unit_record_of, attr_string_of, arange_fields_at, arange_set_at, next_set_at, arange_sets_of, next_pair_at, pair_size, indexed_address, range_of_entry, with_range_first, ranges_of_entries, ranges_from, range_lists_of, ranges_at}
+use Rattle.gimli.proofs.Common.{ℕ, zero, suc, ◌+◌, ◌-◌, ◌*◌, ◌==◌, not, Bool, true, false, cond, List, [], ◌∷◌, length, Option, Some, None, Result, Ok, Err, nat_lt, ℤ, pos, int_lt, IfOk, Encoding, Format, Error, UnexpectedEof, OffsetOutOfBounds, ExpectedString, NoSupplementary, UnknownVersion, UnknownUnitType, UnknownAbbreviation, MissingUnitDie, UnknownRangeListEntry, UnsupportedAddressSize, UnsupportedSegmentSize, AttributeValue, Section, after, is_unknown, is_before_5, Reading, ◌>>=◌, refused_if, address_at, fits_u64, is_address_size, offset_size, uleb128_at, Run, cons, run_of, NamedValue, Abbrev, with_code, Sections, SupSections, taken_in, from_offset, string_at, string_length_at, indexed_number, indexed_string, sup_string_at, string_of, UnitHeaderFields, unit_type_of, unit_type_at, dwo_id_at, signature_at, type_fields_at, fields_5_at, fields_4_at, header_fields_at, unit_header_at, next_header_at, headers_left, all_headers, EntryUnit, known_abbreviation, entry_code_at, root_specifications, root_attributes, EntryCursor, entry_abbreviation_at, next_item_at, entries_from, Item, depth_after, entry_of_code, entry_at, item_at, items_after, items_within, items_from, items_of, items_at, items_inside, subtree_of, UnitRecord, address_from, low_pc_of, line_program_of, completed_record, program_and_low_pc_of, unit_by, table_from, unit_record_of, attr_string_of, arange_fields_at, arange_set_at, next_set_at, arange_sets_of, next_pair_at, pair_size, indexed_address, range_of_entry, with_range_first, ranges_of_entries, ranges_from, range_lists_of, ranges_at}
 use Rattle.gimli_read.specs.declared.constants.TheConstants.{CLOSING_CODE}
 use Rattle.gimli_read.specs.declared.range.Range.{Range}
 use Rattle.gimli_read.specs.declared.value.AttributeValue.TheVariants as values
@@ -225,15 +225,15 @@ pub low_pc_is : (d : Sections) (e : Encoding) (base : ℕ) (v : Option AddressVa
 low_pc_is d e base None = value
 low_pc_is d e base (Some v) = address_from_is d e base v
 
-pub line_program_of_is : (d : Sections) (e : Encoding) (offset : Option ℕ) → IsByBytes (line_program_of d e offset).given
+pub line_program_of_is : (d : Sections) (e : Encoding) (offset : Option ℕ) → IsByBytes (line_program_of d e offset)
 line_program_of_is d e None = value
 line_program_of_is d e (Some offset) = step (from_offset_is offset d.debug_line) (λ rest. step (line_program_is e.address_size rest) (λ program. value))
 
-pub completed_record_is : (d : Sections) (header : UnitHeaderFields) (table : List Abbrev) (root : RootValues) → IsByBytes (completed_record d header table root).given
-unfolding completed_record
+pub completed_record_is : (d : Sections) (header : UnitHeaderFields) (table : List Abbrev) (root : RootValues) → IsByBytes (completed_record d header table root)
+unfolding completed_record program_and_low_pc_of
 completed_record_is d header table root = step (step (line_program_of_is d header.encoding root.stmt_list) (λ program. step (low_pc_is d header.encoding _ root.low_pc) (λ low. value))) (λ read. value)
 
-pub unit_by_is : (d : Sections) (header : UnitHeaderFields) (read : Result (List Abbrev) Error) → IsByBytes read → IsByBytes (unit_by d header read).given
+pub unit_by_is : (d : Sections) (header : UnitHeaderFields) (read : Result (List Abbrev) Error) → IsByBytes read → IsByBytes (unit_by d header read)
 unfolding unit_by
 unit_by_is d header read h = step h (λ table. step (root_values_are header.encoding table header.entries) (λ root. completed_record_is d header table root))
 

@@ -61,13 +61,13 @@ read_root_takes_memory e rest entries table root h k = at (abbreviation_at [] re
 -- what a unit is whose root entry is read, and that memory may be taken for it
 pub unit_is : (d : Sections) (header : UnitHeaderFields) (shares : Bool) (rest : Section) (table : List Abbrev) (root : RootValues)
     → from_offset header.debug_abbrev_offset d.debug_abbrev ≡ Ok rest → table_at rest ≡ Ok table → root_values_of header.encoding table header.entries ≡ Ok root
-    → (unit_takes_memory shares d header ≡ true) × (unit_record_of d header ≡ (completed_record d header table root).given)
+    → (unit_takes_memory shares d header ≡ true) × (unit_record_of d header ≡ completed_record d header table root)
 unfolding unit_record_of unit_by
 unit_is d header shares rest table root h k l = (
   ap (abbreviations_take_memory shares) h ∙ or_right shares (has_front rest) (read_root_takes_memory header.encoding rest header.entries table root k l),
-  ap (λ (r : Result Section Error). (r >>= table_at) >>= λ t. root_values_of header.encoding t header.entries >>= λ v. (completed_record d header t v).given) h
-      ∙ ap (λ (r : Result (List Abbrev) Error). r >>= λ t. root_values_of header.encoding t header.entries >>= λ v. (completed_record d header t v).given) k
-      ∙ ap (λ (r : Result RootValues Error). r >>= λ v. (completed_record d header table v).given) l,
+  ap (λ (r : Result Section Error). (r >>= table_at) >>= λ t. root_values_of header.encoding t header.entries >>= λ v. completed_record d header t v) h
+      ∙ ap (λ (r : Result (List Abbrev) Error). r >>= λ t. root_values_of header.encoding t header.entries >>= λ v. completed_record d header t v) k
+      ∙ ap (λ (r : Result RootValues Error). r >>= λ v. completed_record d header table v) l,
 )
 
 -- so memory may be taken for a unit that is read
@@ -76,16 +76,16 @@ unfolding unit_record_of unit_by
 read_takes_memory shares d header u h = by_rest (from_offset header.debug_abbrev_offset d.debug_abbrev) refl h
   where
     by_root : (rest : Section) (table : List Abbrev) (r : Result RootValues Error) → from_offset header.debug_abbrev_offset d.debug_abbrev ≡ Ok rest → table_at rest ≡ Ok table → root_values_of header.encoding table header.entries ≡ r
-        → (r >>= λ v. (completed_record d header table v).given) ≡ Ok u → unit_takes_memory shares d header ≡ true
+        → (r >>= λ v. completed_record d header table v) ≡ Ok u → unit_takes_memory shares d header ≡ true
     by_root rest table (Err e) a b c p = absurd cc
     by_root rest table (Ok root) a b c p = (unit_is d header shares rest table root a b c).0
 
     by_table : (rest : Section) (r : Result (List Abbrev) Error) → from_offset header.debug_abbrev_offset d.debug_abbrev ≡ Ok rest → table_at rest ≡ r
-        → (r >>= λ t. root_values_of header.encoding t header.entries >>= λ v. (completed_record d header t v).given) ≡ Ok u → unit_takes_memory shares d header ≡ true
+        → (r >>= λ t. root_values_of header.encoding t header.entries >>= λ v. completed_record d header t v) ≡ Ok u → unit_takes_memory shares d header ≡ true
     by_table rest (Err e) a b p = absurd cc
     by_table rest (Ok table) a b p = by_root rest table (root_values_of header.encoding table header.entries) a b refl p
 
     by_rest : (r : Result Section Error) → from_offset header.debug_abbrev_offset d.debug_abbrev ≡ r
-        → ((r >>= table_at) >>= λ t. root_values_of header.encoding t header.entries >>= λ v. (completed_record d header t v).given) ≡ Ok u → unit_takes_memory shares d header ≡ true
+        → ((r >>= table_at) >>= λ t. root_values_of header.encoding t header.entries >>= λ v. completed_record d header t v) ≡ Ok u → unit_takes_memory shares d header ≡ true
     by_rest (Err e) a p = absurd cc
     by_rest (Ok rest) a p = by_table rest (table_at rest) a refl p

@@ -12,7 +12,8 @@ use Rattle.gimli.specs.Common.{Error, Abbrev, Section}
 use Rattle.gimli.specs.Header.{UnitHeaderFields}
 use Rattle.gimli.specs.Sections.{Sections}
 use Rattle.gimli.specs.Text.{from_offset}
-use Rattle.gimli.specs.Unit.{table_from, unit_by}
+use Rattle.gimli.specs.Unit.{table_from}
+use Rattle.gimli.specs.UnitMemory.{stored_unit_by}
 
 -- the sections of a file, the offsets of the tables that are cached, and for how many more
 -- abbreviations and attributes there is room
@@ -61,6 +62,6 @@ AreTablesOf see s tables =
 abbrev pub cached_unit_takes_memory : Bool → CachedTables → UnitHeaderFields → Bool
 cached_unit_takes_memory shares cache header =
     if is_cached header.debug_abbrev_offset cache
-    then (unit_by cache.dwarf header
+    then (stored_unit_by cache.dwarf header
     (table_from header.debug_abbrev_offset cache.dwarf.debug_abbrev)).takes_memory shares
     else is_ok (from_offset header.debug_abbrev_offset cache.dwarf.debug_abbrev)

@@ -34,7 +34,7 @@ pub record UnitsAreNotRefused : Type 0 where
   pub headers : (s : Section) → NoneWasRefused (all_headers s)
   pub table : (offset : ℕ) (s : Section) → WasNotRefused (table_from offset s)
   pub line_program : (d : Sections) (encoding : Encoding) (offset : Option ℕ)
-      → WasNotRefused (line_program_of d encoding offset).given
+      → WasNotRefused (line_program_of d encoding offset)
   pub unit : (d : Sections) (header : UnitHeaderFields) → WasNotRefused (unit_record_of d header)
   pub split_name : (u : UnitRecord) → WasNotRefused (dwo_name_of u)
   pub split_name_fault : (d : Sections) (u : UnitRecord) → WasNotRefused (dwo_name_fault d u)

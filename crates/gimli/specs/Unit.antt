@@ -2,15 +2,14 @@
 -- Own: bases begin at 0; in a version 5 unit of a split file at the end of the table's header.
 -- Own: the record is faulty by its abbreviations, its root entry, its line program's header, or the
 -- index of its low_pc, in this order. A name or a directory that can't be read counts as none.
-use Rattle.std.specs.Prelude.{ℕ, true, List, option_map, option_and_then, Option, Some, None, Result, Ok, unwrap_or, if◌then◌else◌}
+use Rattle.std.specs.Prelude.{ℕ, List, option_map, option_and_then, Option, Some, None, Result, Ok, unwrap_or, if◌then◌else◌}
 use Rattle.std.specs.Result.{result_ok}
 use Rattle.gimli.specs.Common.{Error, Encoding, Format, AttributeValue, Section, is_5, Abbrev}
 use Rattle.gimli_read.specs.declared.endian.Format.TheVariants.{Dwarf32, Dwarf64}
-use Rattle.gimli_read.specs.Reading as reading
-use Rattle.gimli_read.specs.Costed.{Costed, ◌>>=◌, free, parts, parts_on_the_way, room_if}
+use Rattle.gimli_read.specs.Reading.{◌>>=◌}
 use Rattle.gimli_read.specs.Abbrev.{table_at}
 use Rattle.gimli_line.specs.Header.{Program}
-use Rattle.gimli_line.specs.Stored.{line_program_at}
+use Rattle.gimli_line.specs.Program.{line_program_at}
 use Rattle.gimli.specs.declared.constants.TheConstants.{STR_OFFSETS_HEADER_32, STR_OFFSETS_HEADER_64, RNGLISTS_HEADER_32, RNGLISTS_HEADER_64}
 use Rattle.gimli.specs.declared.dwarf.DwarfFileType.{DwarfFileType}
 use Rattle.gimli.specs.declared.dwarf.DwarfFileType.TheVariants.{Main, Dwo}
@@ -57,13 +56,12 @@ low_pc_of d encoding base None = Ok 0
 low_pc_of d encoding base (Some value) = address_from d encoding base value
 
 -- the line program at the offset that stmt_list gives, if it gives one
-abbrev pub line_program_of : Sections → Encoding → Option ℕ → Costed (Option Program)
-line_program_of d encoding None = free (Ok None)
+abbrev pub line_program_of : Sections → Encoding → Option ℕ → Result (Option Program) Error
+line_program_of d encoding None = Ok None
 line_program_of d encoding (Some offset) = do
-  rest ← parts (from_offset offset d.debug_line)
+  rest ← from_offset offset d.debug_line
   program ← line_program_at encoding.address_size rest
-  box ← room_if true
-  free (Ok (Some program))
+  Ok (Some program)
 
 -- the string of a value, none where it can't be read
 abbrev pub readable_string : Sections → Format → ℕ → Option (AttributeValue Section)
@@ -83,17 +81,16 @@ name_and_directory_of d format base root =
     (readable_string d format base root.name, readable_string d format base root.comp_dir)
 
 -- the line program and the low_pc that a root entry's values lead to
-abbrev pub program_and_low_pc_of : Sections → Encoding → ℕ → RootValues
-    → Costed (Option Program × ℕ)
+unfoldable pub program_and_low_pc_of : Sections → Encoding → ℕ → RootValues
+    → Result (Option Program × ℕ) Error
 program_and_low_pc_of d encoding addr_base root = do
   program ← line_program_of d encoding root.stmt_list
-  low_pc ← free (low_pc_of d encoding addr_base root.low_pc)
-  free (Ok (program, low_pc))
+  low_pc ← low_pc_of d encoding addr_base root.low_pc
+  Ok (program, low_pc)
 
--- the unit of a header, whose root entry has these values; the last memory is for one more user of
--- its abbreviations, and for texts in shared bytes
+-- the unit of a header, whose root entry has these values
 unfoldable pub completed_record : Sections → UnitHeaderFields → List Abbrev → RootValues
-    → Costed UnitRecord
+    → Result UnitRecord Error
 completed_record d header table root =
     let str_offsets_base =
     unwrap_or root.str_offsets_base
@@ -102,8 +99,7 @@ completed_record d header table root =
     let texts = name_and_directory_of d header.encoding.format str_offsets_base root in
     do
       read ← program_and_low_pc_of d header.encoding addr_base root
-      user ← room_if true
-      free (Ok (record {
+      Ok (record {
         header = header;
         abbreviations = table;
         name = texts.0;
@@ -115,24 +111,24 @@ completed_record d header table root =
             (first_base RNGLISTS_HEADER_32 RNGLISTS_HEADER_64 d.file_type header.encoding);
         dwo_id = dwo_id_of header.dwo_id root.dwo_id;
         line_program = read.0;
-      }))
+      })
 
 -- the unit of a header, whose table is read
 unfoldable pub unit_by : Sections → UnitHeaderFields → Result (List Abbrev) Error
-    → Costed UnitRecord
+    → Result UnitRecord Error
 unit_by d header read = do
-  table ← free read
-  root ← parts_on_the_way (root_values_of header.encoding table header.entries)
+  table ← read
+  root ← root_values_of header.encoding table header.entries
   completed_record d header table root
 
 -- the table at an offset
 abbrev pub table_from : ℕ → Section → Result (List Abbrev) Error
-table_from offset s = reading.◌>>=◌ (from_offset offset s) table_at
+table_from offset s = from_offset offset s >>= table_at
 
 -- the unit of a header
 unfoldable pub unit_record_of : Sections → UnitHeaderFields → Result UnitRecord Error
 unit_record_of d header =
-    (unit_by d header (table_from header.debug_abbrev_offset d.debug_abbrev)).given
+    unit_by d header (table_from header.debug_abbrev_offset d.debug_abbrev)
 
 -- the string that a value of an attribute of a unit stands for
 abbrev pub attr_string_of : Sections → UnitRecord → AttributeValue Section → Result Section Error

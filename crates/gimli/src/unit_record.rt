@@ -5,8 +5,8 @@ ghost use Rattle.gimli_read.specs.HeldBytes.{holds_bytes};
 ghost use Rattle.gimli_read.specs.Costed.{ExactlyAtCost};
 ghost use Rattle.gimli.specs.Common.{Exactly, ExactlyUnlessOomFor, ExactlyUnlessOomIf, as_value};
 ghost use Rattle.gimli.specs.Split.{dwo_name_fault, dwo_name_of, relocated};
-ghost use Rattle.gimli.specs.Unit.{first_base, low_pc_of, line_program_of, name_and_directory_of, program_and_low_pc_of, readable_string, dwo_id_of, completed_record, unit_record_of};
-ghost use Rattle.gimli.specs.UnitMemory.{gives_bytes_if, gives_some, unit_takes_memory};
+ghost use Rattle.gimli.specs.Unit.{first_base, low_pc_of, name_and_directory_of, readable_string, dwo_id_of, unit_record_of};
+ghost use Rattle.gimli.specs.UnitMemory.{gives_bytes_if, gives_some, line_program_at_cost, program_and_low_pc_at_cost, record_at_cost, unit_takes_memory};
 
 use crate::constants::{
     RNGLISTS_HEADER_32, RNGLISTS_HEADER_64, STR_OFFSETS_HEADER_32, STR_OFFSETS_HEADER_64,
@@ -113,6 +113,7 @@ fn read_low_pc<R: Reader>(
 // The line program at an offset. A call of its own, so that a unit without one doesn't clear what
 // it is stored in. The box comes last, so that a header with a fault takes no memory for one.
 #[inline(never)]
+#[tactic(auto, unfolding(crate::specs::UnitMemory::stored_line_program_of))]
 fn read_program_at<R: Reader>(
     alloc: Global,
     dwarf: &Dwarf<R>,
@@ -120,7 +121,7 @@ fn read_program_at<R: Reader>(
     offset: u64,
 ) -> Result<Option<Box<IncompleteLineProgram<R>>>, Error>
     ensures gives { ExactlyAtCost R.shares (option_map box_value) result
-        (line_program_of dwarf.now encoding (Some offset)) }
+        (line_program_at_cost dwarf.now encoding (Some offset)) }
 {
     let rest = read_from(&dwarf.debug_line.section, offset)?;
     let program = read_line_program(alloc, rest, encoding.address_size)?;
@@ -128,6 +129,7 @@ fn read_program_at<R: Reader>(
 }
 
 // The line program at the offset that stmt_list gives, if it gives one.
+#[tactic(auto, unfolding(crate::specs::UnitMemory::stored_line_program_of))]
 fn read_program<R: Reader>(
     alloc: Global,
     dwarf: &Dwarf<R>,
@@ -135,7 +137,7 @@ fn read_program<R: Reader>(
     stmt_list: Option<u64>,
 ) -> Result<Option<Box<IncompleteLineProgram<R>>>, Error>
     ensures gives { ExactlyAtCost R.shares (option_map box_value) result
-        (line_program_of dwarf.now encoding stmt_list) }
+        (line_program_at_cost dwarf.now encoding stmt_list) }
 {
     match stmt_list {
         Some(offset) => read_program_at(alloc, dwarf, encoding, offset),
@@ -177,6 +179,7 @@ fn dwo_id_of(in_header: Option<DwoId>, given: Option<u64>) -> Option<DwoId>
 }
 
 // The line program, and then the address of low_pc.
+#[tactic(auto, unfolding(crate::specs::Unit::program_and_low_pc_of))]
 fn read_program_and_low_pc<R: Reader>(
     alloc: Global,
     dwarf: &Dwarf<R>,
@@ -185,7 +188,7 @@ fn read_program_and_low_pc<R: Reader>(
     root: &RootAttributes<R>,
 ) -> Result<(Option<Box<IncompleteLineProgram<R>>>, u64), Error>
     ensures gives { ExactlyAtCost R.shares (λ x. (option_map box_value x.0, x.1)) result
-        (program_and_low_pc_of dwarf.now encoding addr_base root.now) }
+        (program_and_low_pc_at_cost dwarf.now encoding addr_base root.now) }
 {
     let line_program = read_program(alloc, dwarf, encoding, root.stmt_list)?;
     let low_pc = read_low_pc(dwarf, encoding, addr_base, root.low_pc)?;
@@ -214,7 +217,7 @@ fn read_name_and_directory<R: Reader>(
 /// Refused by its line program's header, then by the index of its low_pc. `OutOfMemory` only where
 /// the record has no fault, or the program's offset is in its section and readers share their
 /// bytes, the header's tables have something to store, or the header has no fault.
-#[tactic(auto, unfolding(crate::specs::Unit::completed_record))]
+#[tactic(auto, unfolding(crate::specs::Unit::completed_record, crate::specs::UnitMemory::stored_record_of))]
 pub(crate) fn complete<R: Reader>(
     alloc: Global,
     dwarf: &Dwarf<R>,
@@ -223,7 +226,7 @@ pub(crate) fn complete<R: Reader>(
     root: RootAttributes<R>,
 ) -> Result<Unit<R>, Error>
     ensures gives { ExactlyAtCost R.shares (λ u. u) result
-        (completed_record dwarf.now header abbreviations.now.value root) }
+        (record_at_cost dwarf.now header abbreviations.now.value root) }
 {
     let encoding = header.encoding;
     let file_type = dwarf.file_type;

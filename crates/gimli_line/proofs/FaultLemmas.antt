@@ -6,8 +6,9 @@ use Rattle.gimli_read.specs.declared.value.AttributeValue.{AttributeValue}
 use Rattle.gimli_read.specs.Version.{is_before_4, is_before_5, is_unknown}
 use Rattle.gimli_read.proofs.FaultLemmas.{IsByBytes, AreByBytes, step, either, value, fault, test, moved_fault, mapped_is, run_of_is, collected_is, fixed_is, signed_byte_is, address_size_is, address_is, offset_is, split_is, null_terminated_is, initial_length_is, uleb128_is, sleb128_is, value_is}
 use Rattle.gimli_line.specs.declared.entry_tables.EntryFormat.{EntryFormat}
-use Rattle.gimli_line.specs.Stored.{formats_at, entry_front_at, entry_table_at, old_tables_at, new_tables_at, tables_at, line_program_at}
-use Rattle.gimli_line.specs.Program.{program_address_size_at, nonzero_at, operations_at, numbers_at, unit_fields_at, line_header_fields_at}
+use Rattle.gimli_line.specs.EntryTables.{formats_at, entry_front_at, entry_table_at}
+use Rattle.gimli_line.specs.Program.{program_address_size_at, nonzero_at, operations_at, numbers_at, unit_fields_at, line_header_fields_at, line_program_at}
+use Rattle.gimli_line.specs.Tables.{old_tables_at, new_tables_at, tables_at}
 use Rattle.gimli_line.specs.Steps.{step_registers as step_of}
 
 -- ---- instructions
@@ -118,7 +119,7 @@ pub format_is : (s : Section) → IsByBytes (format_at s)
 unfolding format_at
 format_is s = step (uleb128_is s) (λ type. step (uleb128_is type.1) (λ form. value))
 
-pub formats_are : (s : Section) → IsByBytes (formats_at s).given
+pub formats_are : (s : Section) → IsByBytes (formats_at s)
 unfolding formats_at
 formats_are s = step (fixed_is 1 s) (λ count. times_are format_is count.0 count.1)
 
@@ -136,13 +137,13 @@ unfolding formatted_entry_at
 entry_is e formats s =
     step (values_are e formats no_entry s) (λ entry. step (filed_is entry.0.path_name entry.0.directory_index) (λ file. value))
 
-pub entry_front_is : (s : Section) → IsByBytes (entry_front_at s).given
+pub entry_front_is : (s : Section) → IsByBytes (entry_front_at s)
 unfolding entry_front_at
 entry_front_is s =
     step (formats_are s) (λ formats. step (uleb128_is formats.1) (λ count.
     step (test (not (count.0 == 0) && not (is_sound_format formats.0)) BadLineHeader (λ p. cc)) (λ u. value)))
 
-pub entry_table_is : (e : Encoding) (s : Section) → IsByBytes (entry_table_at e s).given
+pub entry_table_is : (e : Encoding) (s : Section) → IsByBytes (entry_table_at e s)
 unfolding entry_table_at
 entry_table_is e s = step (entry_front_is s) (λ front. times_are (entry_is e front.0.formats) front.0.count front.1)
 
@@ -155,21 +156,21 @@ unfolding file_at
 file_is s =
     step (null_terminated_is s) (λ path. either (length path.0.bytes == 0) value (step (file_with_path_is path.0 path.1) (λ file. value)))
 
-pub old_tables_are : (s : Section) → IsByBytes (old_tables_at s).given
+pub old_tables_are : (s : Section) → IsByBytes (old_tables_at s)
 unfolding old_tables_at
 old_tables_are s =
     step (collected_is (run_of directory_at s) (run_of_is directory_at directory_is s)) (λ directories.
     step (collected_is (run_of file_at directories.1) (run_of_is file_at file_is directories.1)) (λ files. value))
 
-pub new_tables_are : (e : Encoding) (s : Section) → IsByBytes (new_tables_at e s).given
+pub new_tables_are : (e : Encoding) (s : Section) → IsByBytes (new_tables_at e s)
 unfolding new_tables_at
 new_tables_are e s = step (entry_table_is e s) (λ directories. step (entry_table_is e directories.1) (λ files. value))
 
-pub tables_are : (e : Encoding) (s : Section) → IsByBytes (tables_at e s).given
+pub tables_are : (e : Encoding) (s : Section) → IsByBytes (tables_at e s)
 unfolding tables_at
 tables_are e s = at (is_before_5 e.version)
   where
-    at : (b : Bool) → IsByBytes (cond b (old_tables_at s) (new_tables_at e s)).given
+    at : (b : Bool) → IsByBytes (cond b (old_tables_at s) (new_tables_at e s))
     at true = old_tables_are s
     at false = new_tables_are e s
 
@@ -209,7 +210,7 @@ unfolding line_header_fields_at
 line_header_fields_are unit_size s =
     step (initial_length_is s) (λ length. step (split_is length.0.0 length.1) (λ unit. unit_fields_are unit_size length.0.1 unit.0))
 
-pub line_program_is : (unit_size : ℕ) (s : Section) → IsByBytes (line_program_at unit_size s).given
+pub line_program_is : (unit_size : ℕ) (s : Section) → IsByBytes (line_program_at unit_size s)
 unfolding line_program_at
 line_program_is unit_size s =
     step (line_header_fields_are unit_size s) (λ fields. step (tables_are fields.encoding fields.tables) (λ tables. value))

@@ -1,5 +1,5 @@
 -- What specs and contracts of this crate cite of the crates below, handed on. Declares nothing.
-pub use Rattle.gimli_read.specs.Costed.{Costed, CostedReading, ExactlyAtCost, ReadsAtCost, free, parts, room_if}
+pub use Rattle.gimli_read.specs.Costed.{Costed, CostedReading, ExactlyAtCost, ReadsAtCost, by_stored, free, parts, room_if}
 pub use Rattle.gimli_read.specs.Form.{constant_of, as_value}
 unfoldable pub use Rattle.gimli_read.specs.Form.{value_at}
 pub use Rattle.gimli_read.specs.Leb128.{sleb128_at, uleb128_at}

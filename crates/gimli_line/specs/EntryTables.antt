@@ -4,7 +4,7 @@
 -- Own: a directory index of no constant form is 0; of several the last counts.
 use Rattle.std.specs.Option.{unwrap_or}
 use Rattle.std.specs.Prelude.{ℕ, zero, suc, ◌==◌, ◌&&◌, not, Bool, List, [], ◌∷◌, count_by, Option, Some, None, Result, Ok, Err, if◌then◌else◌}
-use Rattle.gimli_line.specs.Common.{Error, BadLineHeader, Encoding, Section, Reading, ◌>>=◌, uleb128_at, value_at, constant_of}
+use Rattle.gimli_line.specs.Common.{Error, BadLineHeader, Encoding, Section, Reading, ◌>>=◌, refused_if, fixed_at, uleb128_at, value_at, constant_of}
 use Rattle.gimli_read.specs.declared.value.AttributeValue.{AttributeValue}
 use Rattle.gimli_read.specs.StringForm.{is_string_form}
 use Rattle.gimli_line.specs.declared.constants.TheConstants.{DW_LNCT_path, DW_LNCT_directory_index}
@@ -77,3 +77,21 @@ formatted_entry_at e formats s = do
 pub record EntryFront : Type 0 where
   pub formats : List EntryFormat
   pub count : ℕ
+
+-- a count of one byte, and as many formats
+unfoldable pub formats_at : Section → Reading (List EntryFormat)
+formats_at s = fixed_at 1 s >>= λ count. times format_at count.0 count.1
+
+-- what stands before the entries of a table
+unfoldable pub entry_front_at : Section → Reading EntryFront
+entry_front_at s = do
+  formats ← formats_at s
+  count ← uleb128_at formats.1
+  sound ← refused_if (not (count.0 == 0) && not (is_sound_format formats.0)) BadLineHeader
+  Ok (record { formats = formats.0; count = count.0 }, count.1)
+
+-- formats, a count, and as many entries
+unfoldable pub entry_table_at : Encoding → Section → Reading (List File)
+entry_table_at e s = do
+  front ← entry_front_at s
+  times (formatted_entry_at e front.0.formats) front.0.count front.1

@@ -8,20 +8,19 @@ use Rattle.gimli_read.specs.FaultLaws.{NoneWasRefused}
 use Rattle.gimli_line.specs.Header.{Header, Program}
 use Rattle.gimli_line.specs.Lines.{lines_of}
 use Rattle.gimli_line.specs.Opcode.{coded_instruction_at, instruction_at, instructions_of}
-use Rattle.gimli_line.specs.Program.{line_header_fields_at}
-use Rattle.gimli_line.specs.Stored.{entry_table_at, line_program_at, tables_at}
-use Rattle.gimli_line.specs.Tables.{directory_at, file_at}
+use Rattle.gimli_line.specs.EntryTables.{entry_table_at}
+use Rattle.gimli_line.specs.Program.{line_header_fields_at, line_program_at}
+use Rattle.gimli_line.specs.Tables.{directory_at, file_at, tables_at}
 use Rattle.gimli_line.specs.Taking.{fault_after}
 
 -- no reading of a header, of its tables or of what stands in them does
 pub record HeadersAreNotRefused : Type 0 where
   pub directory : (s : Section) → WasNotRefused (directory_at s)
   pub file : (s : Section) → WasNotRefused (file_at s)
-  pub entries : (encoding : Encoding) (s : Section)
-      → WasNotRefused (entry_table_at encoding s).given
-  pub tables : (encoding : Encoding) (s : Section) → WasNotRefused (tables_at encoding s).given
+  pub entries : (encoding : Encoding) (s : Section) → WasNotRefused (entry_table_at encoding s)
+  pub tables : (encoding : Encoding) (s : Section) → WasNotRefused (tables_at encoding s)
   pub fields : (unit_size : ℕ) (s : Section) → WasNotRefused (line_header_fields_at unit_size s)
-  pub program : (unit_size : ℕ) (s : Section) → WasNotRefused (line_program_at unit_size s).given
+  pub program : (unit_size : ℕ) (s : Section) → WasNotRefused (line_program_at unit_size s)
 
 -- no reading of an instruction does, nor what follows those that can be read
 pub record InstructionsAreNotRefused : Type 0 where

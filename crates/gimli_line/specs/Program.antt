@@ -1,9 +1,11 @@
--- The header of a line program up to its tables (DWARF 5, section 6.2.4).
+-- A line program: its header and the bytes of its opcodes (DWARF 5, section 6.2.4).
 -- Own: versions 2 to 4 have the unit's address size. A zero that may not be is BadLineHeader.
 use Rattle.std.specs.Prelude.{ℕ, ◌-◌, ◌==◌, not, Result, Ok, if◌then◌else◌}
 use Rattle.gimli_line.specs.Common.{Error, UnknownVersion, UnsupportedAddressSize, UnsupportedSegmentSize, BadLineHeader, Encoding, Section, is_unknown, is_before_4, is_before_5, Reading, ◌>>=◌, refused_if, fixed_at, signed_byte_at, offset_at, split_at, initial_length_at, is_address_size, address_size_at}
 use Rattle.gimli_read.specs.declared.endian.Format.{Format}
 use Rattle.gimli_line.specs.declared.encoding.LineEncoding.{LineEncoding}
+use Rattle.gimli_line.specs.Header.{Program}
+use Rattle.gimli_line.specs.Tables.{tables_at}
 
 -- the address size: of the unit below version 5, else of the header, with a segment selector size
 -- of 0
@@ -83,3 +85,19 @@ line_header_fields_at unit_size s = do
   length ← initial_length_at s
   unit ← split_at length.0.0 length.1
   unit_fields_at unit_size length.0.1 unit.0
+
+-- the line program that begins here, in a unit with this address size
+unfoldable pub line_program_at : ℕ → Section → Result Program Error
+line_program_at unit_size s = do
+  fields ← line_header_fields_at unit_size s
+  tables ← tables_at fields.encoding fields.tables
+  Ok (record {
+    header = record {
+      encoding = fields.encoding;
+      line_encoding = fields.line_encoding;
+      standard_opcode_lengths = fields.standard_opcode_lengths;
+      include_directories = tables.0.include_directories;
+      file_names = tables.0.file_names;
+    };
+    program = fields.program;
+  })

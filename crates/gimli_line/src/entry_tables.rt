@@ -3,7 +3,7 @@
 ghost use Rattle.std.specs.Prelude.{◌≡◌, ◌==◌, not, false, true, count_by, length, map, Ok};
 ghost use Rattle.gimli_line.specs.Common.{ExactlyUnlessOomIf, ReadsUnlessOomIf, Reads, ExactlyAtCost, as_value};
 ghost use Rattle.gimli_line.specs.EntryTables.{format_at, is_path, is_bad_path, is_sound_format, no_entry, with_value, values_at, formatted_entry_at};
-ghost use Rattle.gimli_line.specs.Stored.{stored_times, formats_at, entry_front_at, entry_table_at};
+ghost use Rattle.gimli_line.specs.Stored.{stored_times, formats_at_cost, front_at_cost, table_at_cost};
 
 use crate::constants::{DW_LNCT_directory_index, DW_LNCT_path};
 use crate::header::FileEntry;
@@ -69,10 +69,10 @@ fn read_times_format<R: Reader>(
 }
 
 // Reads a count, and as many formats.
-#[tactic(auto, unfolding(crate::specs::Stored::formats_at))]
+#[tactic(auto, unfolding(crate::specs::EntryTables::formats_at, crate::specs::Stored::stored_formats_at))]
 fn read_formats<R: Reader>(alloc: Global, input: &mut R) -> Result<Vec<EntryFormat>, Error>
     ensures gives { ExactlyAtCost R.shares (λ v. (v.items, R.section input.new)) result
-        (formats_at (R.section input.old)) }
+        (formats_at_cost (R.section input.old)) }
 {
     let count = input.read_u8()?;
     read_times_format(alloc, count, input)
@@ -184,11 +184,11 @@ fn read_entries<R: Reader>(
 }
 
 // What stands before the entries of a table: what the values of each are, and how many there are.
-#[tactic(auto, unfolding(crate::specs::Stored::entry_front_at))]
+#[tactic(auto, unfolding(crate::specs::EntryTables::entry_front_at))]
 fn read_front<R: Reader>(alloc: Global, input: &mut R) -> Result<(Vec<EntryFormat>, u64), Error>
     ensures gives { ExactlyAtCost R.shares
         (λ x. (record { formats = x.0.items; count = x.1 }, R.section input.new)) result
-        (entry_front_at (R.section input.old)) }
+        (front_at_cost (R.section input.old)) }
 {
     let formats = read_formats(alloc, input)?;
     let count = input.read_uleb128()?;
@@ -200,14 +200,14 @@ fn read_front<R: Reader>(alloc: Global, input: &mut R) -> Result<(Vec<EntryForma
 
 /// Reads a table of version 5: directories or files. Takes memory only where bytes are shared, or
 /// the table has a format that can be read.
-#[tactic(auto, unfolding(crate::specs::Stored::entry_table_at))]
+#[tactic(auto, unfolding(crate::specs::EntryTables::entry_table_at, crate::specs::Stored::stored_table_at))]
 pub(crate) fn read_table<R: Reader>(
     alloc: Global,
     encoding: Encoding,
     input: &mut R,
 ) -> Result<Vec<FileEntry<R>>, Error>
     ensures gives { ExactlyAtCost R.shares (λ v. (v.items, R.section input.new)) result
-        (entry_table_at encoding (R.section input.old)) }
+        (table_at_cost encoding (R.section input.old)) }
 {
     let (formats, count) = read_front(alloc, input)?;
     read_entries(alloc, encoding, &formats, count, input)

@@ -3,7 +3,7 @@
 ghost use Rattle.std.specs.Option.{option_map};
 ghost use Rattle.std.specs.Prelude.{◌≡◌, is_ok, map};
 ghost use Rattle.gimli_line.specs.Common.{ExactlyUnlessOomFor, ReadsUnlessOomIf, as_value, ExactlyAtCost, ReadsAtCost};
-ghost use Rattle.gimli_line.specs.Stored.{stored_run, old_tables_at, new_tables_at, tables_at};
+ghost use Rattle.gimli_line.specs.Stored.{stored_run, old_tables_at_cost, new_tables_at_cost, tables_at_cost};
 ghost use Rattle.gimli_line.specs.Tables.{directory_at, file_at};
 
 use crate::entry_tables::{paths_of, read_table};
@@ -90,9 +90,10 @@ fn read_files<R: Reader>(alloc: Global, input: &mut R) -> Result<Vec<FileEntry<R
 }
 
 // The tables of versions 2 to 4.
-#[tactic(auto, unfolding(crate::specs::Stored::old_tables_at))]
+#[tactic(auto, unfolding(crate::specs::Tables::old_tables_at, crate::specs::Stored::stored_old_tables_at))]
 fn read_old_tables<R: Reader>(alloc: Global, input: &mut R) -> Result<HeaderTables<R>, Error>
-    ensures gives { ReadsAtCost R.shares R.section input.old input.new result old_tables_at }
+    ensures gives { ReadsAtCost R.shares R.section input.old input.new result
+        old_tables_at_cost }
 {
     let include_directories = read_directories(alloc, input)?;
     let file_names = read_files(alloc, input)?;
@@ -103,14 +104,14 @@ fn read_old_tables<R: Reader>(alloc: Global, input: &mut R) -> Result<HeaderTabl
 }
 
 // The tables of version 5.
-#[tactic(auto, unfolding(crate::specs::Stored::new_tables_at))]
+#[tactic(auto, unfolding(crate::specs::Tables::new_tables_at, crate::specs::Stored::stored_new_tables_at))]
 fn read_new_tables<R: Reader>(
     alloc: Global,
     encoding: Encoding,
     input: &mut R,
 ) -> Result<HeaderTables<R>, Error>
     ensures gives { ReadsAtCost R.shares R.section input.old input.new result
-        (new_tables_at encoding) }
+        (new_tables_at_cost encoding) }
 {
     let directories = read_table(alloc, encoding, input)?;
     let file_names = read_table(alloc, encoding, input)?;
@@ -122,14 +123,14 @@ fn read_new_tables<R: Reader>(
 
 /// Reads the tables of a header. Takes memory only where bytes are shared, or a table has something
 /// to be stored.
-#[tactic(auto, unfolding(crate::specs::Stored::tables_at))]
+#[tactic(auto, unfolding(crate::specs::Tables::tables_at, crate::specs::Stored::stored_tables_at))]
 pub(crate) fn read_tables<R: Reader>(
     alloc: Global,
     encoding: Encoding,
     input: &mut R,
 ) -> Result<HeaderTables<R>, Error>
     ensures gives { ReadsAtCost R.shares R.section input.old input.new result
-        (tables_at encoding) }
+        (tables_at_cost encoding) }
 {
     if encoding.version < DWARF_5 {
         return read_old_tables(alloc, input);

@@ -37,6 +37,10 @@ parts_on_the_way given = record { given = given; takes_memory = λ shares. share
 abbrev pub room_if : Bool → Costed (Unit {0})
 room_if needed = record { given = Ok tt; takes_memory = λ shares. needed }
 
+-- what is given, with the memory of what is stored on the way to it
+abbrev pub by_stored : {A B : Type 0} → Costed A → Result B Error → Costed B
+by_stored stored given = record { given = given; takes_memory = stored.takes_memory }
+
 -- whether memory is taken after a reading, where it has no fault
 abbrev pub takes_memory_after : {E A : Type 0} → Result A E → (A → Bool) → Bool
 takes_memory_after (Ok x) takes = takes x

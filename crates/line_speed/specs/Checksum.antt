@@ -8,7 +8,7 @@ use Rattle.gimli_read.specs.Number.{initial_length_at, skipped_at}
 use Rattle.gimli_read.specs.Run.{run_of, fold_of}
 use Rattle.gimli_line.specs.Header.{Program}
 use Rattle.gimli_line.specs.Lines.{lines_of}
-use Rattle.gimli_line.specs.Stored.{line_program_at}
+use Rattle.gimli_line.specs.Program.{line_program_at}
 use Rattle.gimli_line.specs.declared.row.LineRow.{LineRow}
 
 -- by 64 bits
@@ -45,7 +45,7 @@ unfoldable pub program_at : Section → Reading (Option Program)
 program_at s = if length s.bytes == 0 then Ok (None, s) else do
   length ← initial_length_at s
   rest ← skipped_at length.0.0 length.1
-  program ← (line_program_at 8 s).given
+  program ← line_program_at 8 s
   Ok (Some program, rest.1)
 
 -- a sum with the rows of a program

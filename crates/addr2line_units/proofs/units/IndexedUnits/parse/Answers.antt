@@ -1,7 +1,12 @@
 use Rattle.addr2line_units.proofs.Common.{◌∙◌, err_from_is_err_and}
-use Rattle.addr2line_units.proofs.UnitsNewLemmas.{caches_of_first, index_given, index_takes}
+use Rattle.addr2line_units.proofs.UnitsNewLemmas.{caches_of_first, index_fault, index_given, index_takes}
 use Rattle.addr2line_units.proofs.units.IndexedUnits.parse.Goals as goal
 use Rattle.addr2line_lines.proofs.Facts.{ok_is}
+
+pub returns-in_err-dw_units : goal.returns-in_err-dw_units
+returns-in_err-dw_units g c =
+    let p = err_from_is_err_and c.from_residual-in_err-dw_units.result c.from_residual-in_err-dw_units.ensures.1 in
+    record { gives = rw (p.1, p.2) (index_fault g.R.Reader.shares c.args.dwarf.value _ _ (c.behind-dwarf.view_is ∙ c.deref.ensures) c.in_ok-aranges.ensures.gives c.deref-2.ensures c.in_err-dw_units.ensures.gives) }
 
 pub returns-in_err-ranges : goal.returns-in_err-ranges
 returns-in_err-ranges g c =

@@ -71,7 +71,7 @@ pub use Rattle.addr2line_lines.specs.Rows.{read_all}
 pub use Rattle.addr2line_lines.specs.Scopes.{as_scope}
 pub use Rattle.addr2line_lines.specs.Segments.{AreApart, AreDisjoint, AreSegments, AreSegmentsBelow, IsSegment, RunningRange, address_begin, address_end, address_function, address_holds, as_running, first_end, running_end, segment_to, shortest_function_at}
 pub use Rattle.addr2line_lines.specs.Sequences.{RowGroup, Sequence, end_of, latest, put_first, row_groups, sequence_in, sequence_of, sequences_of, start_of, stored_row}
-pub use Rattle.addr2line_lines.specs.StoredDetails.{all_inlined_at_cost, inlined_at_cost, detail_at_cost}
+pub use Rattle.addr2line_lines.specs.StoredDetails.{inlined_in_at_cost, with_inlined_at_cost, detail_at_cost}
 unfoldable pub use Rattle.addr2line_lines.specs.StoredDetails.{stored_detail_at}
 pub use Rattle.addr2line_lines.specs.declared.details.FunctionDetail.{FunctionDetail}
 pub use Rattle.addr2line_lines.specs.declared.function.RangeAttributes.{RangeAttributes}

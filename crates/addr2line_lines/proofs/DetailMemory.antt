@@ -1,5 +1,5 @@
--- Where memory is taken for the details of a function (on specs/Details.antt).
-use Rattle.addr2line_lines.proofs.Common.{◌≡◌, ℕ, ◌<◌, ◌++◌, true, false, List, [], ◌∷◌, append-nil, length, map, Option, Result, Ok, Err, refl, ap, subst, sym, ◌∙◌, arith, Error, Range, Costed, free, Section, Sections, UnitRecord, RangeAttributes, InlinedFunctionAddress, Detail, WholeEntry, all_inlined_at_cost, detail_at, stored_detail_at, detail_at_cost, whole_entry_at, FoundInlined, inlined_address, with_inlined_ranges, InlinedRange, name_of, attribute_ranges, gives_a_range, Scope, Bool}
+-- Where memory is taken for the details of a function (on specs/StoredDetails.antt).
+use Rattle.addr2line_lines.proofs.Common.{◌≡◌, ℕ, ◌<◌, ◌++◌, true, false, List, [], ◌∷◌, append-nil, length, map, Option, Result, Ok, Err, refl, ap, subst, sym, ◌∙◌, arith, Error, Range, Costed, free, Section, Sections, UnitRecord, RangeAttributes, InlinedFunctionAddress, Detail, WholeEntry, inlined_in_at_cost, detail_at, stored_detail_at, detail_at_cost, whole_entry_at, FoundInlined, inlined_address, with_inlined_ranges, InlinedRange, name_of, attribute_ranges, gives_a_range, Scope, Bool}
 use Rattle.gimli_read.specs.Reading as reading
 use Rattle.addr2line_lines.specs.CostedSteps.{map_at_cost, then_room_if}
 use Rattle.addr2line_lines.specs.FoundDetails.{detail_found_at}
@@ -26,13 +26,13 @@ module _ (scope : Scope) (u : UnitRecord) (offset : ℕ) where
   detail_takes : TakesIfRead (detail_at_cost scope u offset)
   unfolding detail_at stored_detail_at
   detail_takes =
-      next_takes (free (whole_entry_at u offset)) (detail_of scope u offset) (λ x. next_takes (free (name_of scope u x.entry.attributes)) (named x) (λ name. map_takes (made name) (then_room_if true (all_inlined_at_cost scope u x.inside)) (room_takes (all_inlined_at_cost scope u x.inside))))
+      next_takes (free (whole_entry_at u offset)) (detail_of scope u offset) (λ x. next_takes (free (name_of scope u x.entry.attributes)) (named x) (λ name. map_takes (made name) (then_room_if true (inlined_in_at_cost scope u x.inside)) (room_takes (inlined_in_at_cost scope u x.inside))))
     where
       made : Option Section → List InlinedRange → Detail
       made name inlined = record { name = name; inlined = inlined }
 
       named : WholeEntry → Option Section → Costed Detail
-      named x name = map_at_cost (made name) (then_room_if true (all_inlined_at_cost scope u x.inside))
+      named x name = map_at_cost (made name) (then_room_if true (inlined_in_at_cost scope u x.inside))
 
   -- so memory may be taken where they are found
   pub found_takes : (found : FoundInlined) (x : Option Section × FoundInlined) → (detail_found_at scope u offset found).given ≡ Ok x → detail_takes_memory scope u offset ≡ true

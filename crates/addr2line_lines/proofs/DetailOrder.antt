@@ -1,5 +1,5 @@
 -- The details of a function are what is found of it (on specs/FoundDetails.antt).
-use Rattle.addr2line_lines.proofs.Common.{◌≡◌, ℕ, ◌+◌, ◌-◌, ◌<◌, nat_lt, ◌≤◌, ◌==◌, ◌&&◌, Bool, true, false, cond, List, [], ◌∷◌, ◌++◌, count_by, map, length, Option, Some, None, Result, Ok, Err, refl, ap, sym, subst, ◌∙◌, arith, length-drop, ℤ, pos, eqb-true, ne_eqb, nat_tests, sum_by-cons, drop-length, Error, OffsetOutOfBounds, Range, Abbrev, NamedValue, rest_of, Costed, free, takes_memory_after, Reading, fold_run, Section, after, entry_bytes_from, unit_length, EntryUnit, attributes_at, Entry, Item, depth_after, items_inside, subtree_of, EntriesLeft, EntryCursor, entries_at, entry_abbreviation_at, items_left, next_item_at, UnitRecord, Kind, Detail, detail_at, is_in_function, open_after, placed_items, all_inlined_at_cost, inlined_at_cost, detail_at_cost, with_inlined_entry, InlinedAttributes, InlinedRange, inlined_attributes_of, inlined_entry, inlined_ranges, is_inlined, FoundInlined, inlined_more, range_among, with_inlined_found, name_after, is_subprogram, name_of, attribute_ranges, gives_a_range, Scope}
+use Rattle.addr2line_lines.proofs.Common.{◌≡◌, ℕ, ◌+◌, ◌-◌, ◌<◌, nat_lt, ◌≤◌, ◌==◌, ◌&&◌, Bool, true, false, cond, List, [], ◌∷◌, ◌++◌, count_by, map, length, Option, Some, None, Result, Ok, Err, refl, ap, sym, subst, ◌∙◌, arith, length-drop, ℤ, pos, eqb-true, ne_eqb, nat_tests, sum_by-cons, drop-length, Error, OffsetOutOfBounds, Range, Abbrev, NamedValue, rest_of, Costed, free, takes_memory_after, Reading, fold_run, Section, after, entry_bytes_from, unit_length, EntryUnit, attributes_at, Entry, Item, depth_after, items_inside, subtree_of, EntriesLeft, EntryCursor, entries_at, entry_abbreviation_at, items_left, next_item_at, UnitRecord, Kind, Detail, detail_at, is_in_function, open_after, placed_items, inlined_in_at_cost, with_inlined_at_cost, detail_at_cost, with_inlined_entry, InlinedAttributes, InlinedRange, inlined_attributes_of, inlined_entry, inlined_ranges, is_inlined, FoundInlined, inlined_more, range_among, with_inlined_found, name_after, is_subprogram, name_of, attribute_ranges, gives_a_range, Scope}
 use Rattle.gimli_read.specs.declared.constants.TheConstants.DwTag.{DW_TAG_inlined_subroutine, DW_TAG_subprogram}
 use Rattle.gimli_read.specs.Costed.{◌>>=◌}
 use Rattle.gimli_read.specs.Reading as reading
@@ -117,7 +117,7 @@ module _ (scope : Scope) (u : UnitRecord) (before n : ℕ) where
 
   -- one more item
   item_agrees : (up : List Abbrev) (offset : ℕ) (depth : ℤ) (o : Option Entry) (found : FoundInlined) → AreFrom before n found
-      → Agrees (λ (m : FoundAround). found_ranges_from n m.found) (AreFromAround (open_after up (record { offset = offset; depth = depth; entry = o }))) (inlined_at_cost scope u (found_ranges_from n found) (record { item = record { offset = offset; depth = depth; entry = o }; around = up }))
+      → Agrees (λ (m : FoundAround). found_ranges_from n m.found) (AreFromAround (open_after up (record { offset = offset; depth = depth; entry = o }))) (with_inlined_at_cost scope u (found_ranges_from n found) (record { item = record { offset = offset; depth = depth; entry = o }; around = up }))
       (with_item_found scope u (record { found = found; around = map kind_of up }) (record { offset = offset; depth = depth; entry = o }))
   item_agrees up offset depth None found all =
       record { given = (refl, record { found = all; around = closed_is up (record { offset = offset; depth = depth; entry = None }) refl }); takes = λ shares t. t }
@@ -127,24 +127,24 @@ module _ (scope : Scope) (u : UnitRecord) (before n : ℕ) where
       (λ more q. (refl, record { found = q; around = opened_is up e.abbreviation }))
 
   fold_agrees : (items : List Item) (end : Result (Unit {0}) Error) (up : List Abbrev) (found : FoundInlined) → AreFrom before n found
-      → Agrees (λ (m : FoundAround × Unit {0}). (found_ranges_from n m.0.found, m.1)) (λ m. AreFrom before n m.0.found) (fold_at_cost (inlined_at_cost scope u) (found_ranges_from n found) (placed_items up items) end)
+      → Agrees (λ (m : FoundAround × Unit {0}). (found_ranges_from n m.0.found, m.1)) (λ m. AreFrom before n m.0.found) (fold_at_cost (with_inlined_at_cost scope u) (found_ranges_from n found) (placed_items up items) end)
       (fold_at_cost (with_item_found scope u) (record { found = found; around = map kind_of up }) items end)
   unfolding fold_run
   fold_agrees [] (Ok z) up found all = record { given = (refl, all); takes = λ shares t. t }
   fold_agrees [] (Err e) up found all = record { given = refl; takes = λ shares t. t }
   fold_agrees (x ∷ xs) end up found all =
-      agrees_then (λ ranges. fold_at_cost (inlined_at_cost scope u) ranges (placed_items (open_after up x) xs) end) (λ more. fold_at_cost (with_item_found scope u) more xs end)
+      agrees_then (λ ranges. fold_at_cost (with_inlined_at_cost scope u) ranges (placed_items (open_after up x) xs) end) (λ more. fold_at_cost (with_item_found scope u) more xs end)
       (item_agrees up x.offset x.depth x.entry found all) (by_step (λ more. fold_agrees xs end (open_after up x) more))
     where
       AgreesRest : FoundInlined → FoundAround → Type 0
-      AgreesRest found more = Agrees (λ (m : FoundAround × Unit {0}). (found_ranges_from n m.0.found, m.1)) (λ m. AreFrom before n m.0.found) (fold_at_cost (inlined_at_cost scope u) (found_ranges_from n found) (placed_items (open_after up x) xs) end)
+      AgreesRest found more = Agrees (λ (m : FoundAround × Unit {0}). (found_ranges_from n m.0.found, m.1)) (λ m. AreFrom before n m.0.found) (fold_at_cost (with_inlined_at_cost scope u) (found_ranges_from n found) (placed_items (open_after up x) xs) end)
           (fold_at_cost (with_item_found scope u) more xs end)
 
       by_step : ((more : FoundInlined) → AreFrom before n more → AgreesRest more (record { found = more; around = map kind_of (open_after up x) })) → (more : FoundAround) → AreFromAround (open_after up x) more → AgreesRest more.found more
       by_step rest more q = subst (λ k. AgreesRest more.found (record { found = more.found; around = k })) (sym q.around) (rest more.found q.found)
 
   inside_agrees : (unit : EntryUnit) (c : EntryCursor) (found : FoundInlined) → AreFrom before n found → let inside = items_inside (pos 0) c.depth (items_left unit c).items (items_left unit c).end in
-      AgreesInlined before n (map_at_cost (λ f. f.0) (fold_at_cost (inlined_at_cost scope u) (found_ranges_from n found) (placed_items [] inside.items) inside.end)) (inside_found scope u unit c (record { found = found; around = [] }))
+      AgreesInlined before n (map_at_cost (λ f. f.0) (fold_at_cost (with_inlined_at_cost scope u) (found_ranges_from n found) (placed_items [] inside.items) inside.end)) (inside_found scope u unit c (record { found = found; around = [] }))
   inside_agrees unit c found all =
       let inside = items_inside (pos 0) c.depth (items_left unit c).items (items_left unit c).end in
       agrees_map (λ f. f.0) (λ more. more.0.found) (fold_agrees inside.items inside.end [] found all) (λ more q. (refl, q))
@@ -186,7 +186,7 @@ module _ (scope : Scope) (u : UnitRecord) (offset : ℕ) (found : FoundInlined) 
   by_inside name c d h = agrees_map (λ inlined. record { name = name; inlined = inlined }) (λ more. (name, more)) (room_more true h) (λ more q. (refl, q))
 
   -- what stands inside a function whose entry was read
-  inlined_agrees : (unit : EntryUnit) (x : Item) (c : EntryCursor) → x.depth ≡ pos 0 → c.depth ≡ depth_after x → AgreesInlined before n (all_inlined_at_cost scope u (subtree_of x (items_left unit c))) (inside_found scope u unit c (record { found = found; around = [] }))
+  inlined_agrees : (unit : EntryUnit) (x : Item) (c : EntryCursor) → x.depth ≡ pos 0 → c.depth ≡ depth_after x → AgreesInlined before n (inlined_in_at_cost scope u (subtree_of x (items_left unit c))) (inside_found scope u unit c (record { found = found; around = [] }))
   inlined_agrees unit x c d e =
       subst (λ z. AgreesInlined before n (inlined_of [] z (depth_after x)) (inside_found scope u unit c (record { found = found; around = [] }))) (sym d)
       (subst (λ z. AgreesInlined before n (inlined_of [] (pos 0) z) (inside_found scope u unit c (record { found = found; around = [] }))) e
@@ -196,7 +196,7 @@ module _ (scope : Scope) (u : UnitRecord) (offset : ℕ) (found : FoundInlined) 
       inlined_of : List InlinedRange → ℤ → ℤ → Costed (List InlinedRange)
       inlined_of xs d now =
           let inside = items_inside d now (items_left unit c).items (items_left unit c).end in
-          map_at_cost (λ f. f.0) (fold_at_cost (inlined_at_cost scope u) xs (placed_items [] inside.items) inside.end)
+          map_at_cost (λ f. f.0) (fold_at_cost (with_inlined_at_cost scope u) xs (placed_items [] inside.items) inside.end)
 
   abbrev found_of : EntriesLeft → Result (Option Abbrev × EntryCursor) Error → Costed (Option Section × FoundInlined)
   found_of left r = free r >>= λ code. free (abbreviation_of offset code.0) >>= λ a. function_found_at scope u left.unit code.1 found a
@@ -210,7 +210,7 @@ module _ (scope : Scope) (u : UnitRecord) (offset : ℕ) (found : FoundInlined) 
       left = entries_at u.header u.abbreviations s
 
       named_item : (x : Item) (c : EntryCursor) → x.depth ≡ pos 0 → c.depth ≡ depth_after x → (r : Result (Option Section) Error)
-          → AgreesDetail (free r >>= λ name. map_at_cost (λ inlined. record { name = name; inlined = inlined }) (then_room_if true (all_inlined_at_cost scope u (subtree_of x (items_left left.unit c)))))
+          → AgreesDetail (free r >>= λ name. map_at_cost (λ inlined. record { name = name; inlined = inlined }) (then_room_if true (inlined_in_at_cost scope u (subtree_of x (items_left left.unit c)))))
           (free r >>= λ name. map_at_cost (λ more. (name, more)) (inside_found scope u left.unit c (record { found = found; around = [] })))
       named_item x c d e r = agrees_after r _ _ (λ name. by_inside name _ _ (inlined_agrees left.unit x c d e))
 

@@ -4,6 +4,7 @@ use Rattle.std.specs.Prelude.{filter_map}
 use Rattle.gimli.specs.Header.{UnitHeaderFields}
 use Rattle.gimli.specs.HeaderOrder.{AreHeadersInOrder, BeginFrom}
 use Rattle.gimli.specs.Record.{RootValues, root_values_of}
+use Rattle.addr2line_lines.specs.UnitsOfHeaders.{units_of}
 
 -- a unit that is read has its header
 record HasHeader (h : UnitHeaderFields) (r : Result UnitRecord Error) : Type 0 where
@@ -26,17 +27,13 @@ pub record_header : (d : Sections) (h : UnitHeaderFields) (u : UnitRecord) → u
 unfolding unit_record_of unit_by
 record_header d h u e = (header_then (table_from h.debug_abbrev_offset d.debug_abbrev) (λ table. header_then (root_values_of h.encoding table h.entries) (λ root. completed_header d h table root))).by u e
 
--- the units that are read, of which some are passed over
-abbrev pub units_read : {U : Type 0} → (UnitHeaderFields → Result (Option U) Error) → List (Result UnitHeaderFields Error) → Result (List U) Error
-units_read read headers = read_all (map (λ h. h >>= read) headers) >>= λ units. Ok (filter_map (λ u. u) units)
-
 -- a unit in front of others, if it isn't passed over
 abbrev with_unit : {U : Type 0} → Result (Option U) Error → Result (List U) Error → Result (List U) Error
 with_unit (Err e) more = Err e
 with_unit (Ok None) more = more
 with_unit (Ok (Some u)) more = more >>= λ us. Ok (u ∷ us)
 
-units_step : {U : Type 0} (read : UnitHeaderFields → Result (Option U) Error) (h : UnitHeaderFields) (rest : List (Result UnitHeaderFields Error)) → units_read read (Ok h ∷ rest) ≡ with_unit (read h) (units_read read rest)
+units_step : {U : Type 0} (read : UnitHeaderFields → Result (Option U) Error) (h : UnitHeaderFields) (rest : List (Result UnitHeaderFields Error)) → units_of read (Ok h ∷ rest) ≡ with_unit (read h) (units_of read rest)
 units_step {U} read h rest = at (read h) (map (λ x. x >>= read) rest)
   where
     kept : List (Option U) → Result (List U) Error
@@ -63,7 +60,7 @@ more_units : {U : Type 0} (u : U) (us units : List U) → ◌≡◌ {A = Result 
 more_units u us units e = cc
 
 begin_kept : {U : Type 0} (place : U → UnitRecord) (read : UnitHeaderFields → Result (Option U) Error) → ((h : UnitHeaderFields) (x : U) → read h ≡ Ok (Some x) → (place x).header ≡ h)
-    → (n : ℕ) (headers : List (Result UnitHeaderFields Error)) (units : List U) → BeginFrom n headers → units_read read headers ≡ Ok units → All (BeginsFrom n) (map place units)
+    → (n : ℕ) (headers : List (Result UnitHeaderFields Error)) (units : List U) → BeginFrom n headers → units_of read headers ≡ Ok units → All (BeginsFrom n) (map place units)
 begin_kept place read has n [] units b e = subst (λ us. All (BeginsFrom n) (map place us)) (no_units units e) (λ k d l. absurd (omega arith))
 begin_kept place read has n (Err f ∷ rest) units b e = absurd cc
 begin_kept {U} place read has n (Ok h ∷ rest) units b e = at (λ us. begin_kept place read has n rest us b.1) (read h) refl (sym (units_step read h rest) ∙ e)
@@ -75,14 +72,14 @@ begin_kept {U} place read has n (Ok h ∷ rest) units b e = at (λ us. begin_kep
         subst (λ vs. All (BeginsFrom n) (map place vs)) (more_units x us units e) (All-cons (BeginsFrom n) (place x) (map place us) (omega arith) (ih us refl))
     more x k (Err f) ih e = absurd cc
 
-    at : ((us : List U) → units_read read rest ≡ Ok us → All (BeginsFrom n) (map place us)) → (r : Result (Option U) Error) → read h ≡ r → with_unit r (units_read read rest) ≡ Ok units → All (BeginsFrom n) (map place units)
+    at : ((us : List U) → units_of read rest ≡ Ok us → All (BeginsFrom n) (map place us)) → (r : Result (Option U) Error) → read h ≡ r → with_unit r (units_of read rest) ≡ Ok units → All (BeginsFrom n) (map place units)
     at ih (Err f) k e = absurd cc
     at ih (Ok None) k e = ih units e
-    at ih (Ok (Some x)) k e = more x k (units_read read rest) ih e
+    at ih (Ok (Some x)) k e = more x k (units_of read rest) ih e
 
 -- units that are read from headers in order stand in order
 pub kept_in_order : {U : Type 0} (place : U → UnitRecord) (read : UnitHeaderFields → Result (Option U) Error) → ((h : UnitHeaderFields) (x : U) → read h ≡ Ok (Some x) → (place x).header ≡ h)
-    → (headers : List (Result UnitHeaderFields Error)) (units : List U) → AreHeadersInOrder headers → units_read read headers ≡ Ok units → AreInOrder (map place units)
+    → (headers : List (Result UnitHeaderFields Error)) (units : List U) → AreHeadersInOrder headers → units_of read headers ≡ Ok units → AreInOrder (map place units)
 kept_in_order place read has [] units b e = subst (λ us. AreInOrder (map place us)) (no_units units e) tt
 kept_in_order place read has (Err f ∷ rest) units b e = absurd cc
 kept_in_order {U} place read has (Ok h ∷ rest) units b e =
@@ -95,8 +92,8 @@ kept_in_order {U} place read has (Ok h ∷ rest) units b e =
         subst (λ vs. AreInOrder (map place vs)) (more_units x us units e) (ends, ih us refl)
     more x k (Err f) ih later e = absurd cc
 
-    at : ((us : List U) → units_read read rest ≡ Ok us → AreInOrder (map place us)) → ((n : ℕ) (us : List U) → BeginFrom n rest → units_read read rest ≡ Ok us → All (BeginsFrom n) (map place us))
-        → (r : Result (Option U) Error) → read h ≡ r → with_unit r (units_read read rest) ≡ Ok units → AreInOrder (map place units)
+    at : ((us : List U) → units_of read rest ≡ Ok us → AreInOrder (map place us)) → ((n : ℕ) (us : List U) → BeginFrom n rest → units_of read rest ≡ Ok us → All (BeginsFrom n) (map place us))
+        → (r : Result (Option U) Error) → read h ≡ r → with_unit r (units_of read rest) ≡ Ok units → AreInOrder (map place units)
     at ih later (Err f) k e = absurd cc
     at ih later (Ok None) k e = ih units e
-    at ih later (Ok (Some x)) k e = more x k (units_read read rest) ih (λ us. later (h.offset.0 + unit_length h) us b.0) e
+    at ih later (Ok (Some x)) k e = more x k (units_of read rest) ih (λ us. later (h.offset.0 + unit_length h) us b.0) e

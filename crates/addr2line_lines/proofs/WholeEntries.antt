@@ -1,6 +1,6 @@
 -- The entry at an offset of its unit and the items inside it, by places among the entries (on
--- specs/Details.antt).
-use Rattle.addr2line_lines.proofs.Common.{◌≡◌, ℕ, true, [], Option, Some, None, Result, Ok, Err, refl, ap, ◌∙◌, pos, Error, NoEntryAtGivenOffset, Costed, free, ◌>>=◌, Run, Section, entry_bytes_from, entry_unit, EntriesLeft, EntryCursor, entries_at, entries_from, items_left, next_item_at, Entry, Item, items_from, subtree_of, UnitRecord, items_end, items_fault, items_more, Detail, WholeEntry, first_whole, all_inlined_at_cost, detail_at, stored_detail_at, detail_at_cost, whole_entry_at, name_of, Scope}
+-- specs/Details.antt and specs/StoredDetails.antt).
+use Rattle.addr2line_lines.proofs.Common.{◌≡◌, ℕ, true, [], Option, Some, None, Result, Ok, Err, refl, ap, ◌∙◌, pos, Error, NoEntryAtGivenOffset, Costed, free, ◌>>=◌, Run, Section, entry_bytes_from, entry_unit, EntriesLeft, EntryCursor, entries_at, entries_from, items_left, next_item_at, Entry, Item, items_from, subtree_of, UnitRecord, items_end, items_fault, items_more, Detail, WholeEntry, first_whole, inlined_in_at_cost, detail_at, stored_detail_at, detail_at_cost, whole_entry_at, name_of, Scope}
 use Rattle.gimli_read.specs.Costed as costed
 use Rattle.addr2line_lines.specs.CostedSteps.{map_at_cost, then_room_if}
 
@@ -46,7 +46,7 @@ whole_is u offset = by_bytes (entry_bytes_from u.header (Some offset))
 module _ (scope : Scope) (u : UnitRecord) (offset : ℕ) where
   -- the details of a function, of which the item at a place is the entry
   abbrev pub detail_of : WholeEntry → Costed Detail
-  detail_of x = costed.◌>>=◌ (free (name_of scope u x.entry.attributes)) (λ name. map_at_cost (λ inlined. record { name = name; inlined = inlined }) (then_room_if true (all_inlined_at_cost scope u x.inside)))
+  detail_of x = costed.◌>>=◌ (free (name_of scope u x.entry.attributes)) (λ name. map_at_cost (λ inlined. record { name = name; inlined = inlined }) (then_room_if true (inlined_in_at_cost scope u x.inside)))
 
   abbrev pub detail_read : EntriesLeft → Result (Option Item × EntryCursor) Error → Costed Detail
   detail_read left r = costed.◌>>=◌ (free r) (λ next. costed.◌>>=◌ (free (item_entry offset next.0)) (λ x. detail_of (record { entry = x.1; inside = subtree_of x.0 (items_left left.unit next.1) })))

@@ -30,6 +30,7 @@ pub mod Sweep
 pub mod Functions
 pub mod FoundFunctions
 pub mod References
+pub mod UnitsOfHeaders
 pub mod Names
 pub mod InlinedEntries
 pub mod InlinedChain

@@ -1,4 +1,5 @@
--- The details of a function, with where memory may be taken for them.
+-- Where memory may be taken for the details of a function: `stored_detail_at` is what is stored on
+-- the way to them, and only its memory counts; with it `detail_at` is `detail_at_cost`.
 -- Own: the first range of an inlined entry is stored once it can be read, an entry with children
 -- while it is open, and the details once all are read.
 use Rattle.std.specs.Prelude.{ℕ, ◌&&◌, Bool, false, true, List, [], Some, None}
@@ -24,17 +25,17 @@ has_inlined scope u x = elim x.item.entry [
       (λ a. gives_a_range scope.file.sections u a.ranges)
 ]
 
--- the inlined ranges after one more item
-abbrev pub inlined_at_cost : Scope → UnitRecord → List InlinedRange → PlacedItem
+-- the inlined ranges after one more item, with the memory for it
+abbrev pub with_inlined_at_cost : Scope → UnitRecord → List InlinedRange → PlacedItem
     → Costed (List InlinedRange)
-inlined_at_cost scope u found x = then_room_if (opens_entries x.item)
+with_inlined_at_cost scope u found x = then_room_if (opens_entries x.item)
     (stored_if (has_inlined scope u x) (with_inlined scope u found x))
 
--- those of the items inside a function
-abbrev pub all_inlined_at_cost : Scope → UnitRecord → Run Item (Unit {0})
+-- those of the items inside a function, with the memory for them
+abbrev pub inlined_in_at_cost : Scope → UnitRecord → Run Item (Unit {0})
     → Costed (List InlinedRange)
-all_inlined_at_cost scope u inside = map_at_cost (λ found. found.0)
-    (fold_at_cost (inlined_at_cost scope u) [] (placed_items [] inside.items) inside.end)
+inlined_in_at_cost scope u inside = map_at_cost (λ found. found.0)
+    (fold_at_cost (with_inlined_at_cost scope u) [] (placed_items [] inside.items) inside.end)
 
 -- what is stored of the function whose entry begins at an offset of its unit: what stands inside
 -- it, and its details
@@ -43,8 +44,9 @@ stored_detail_at scope u offset = do
   function ← free (whole_entry_at u offset)
   name ← free (name_of scope u function.entry.attributes)
   map_at_cost (λ inlined. record { name = name; inlined = inlined })
-      (then_room_if true (all_inlined_at_cost scope u function.inside))
+      (then_room_if true (inlined_in_at_cost scope u function.inside))
 
+-- the details, with the memory for them
 abbrev pub detail_at_cost : Scope → UnitRecord → ℕ → Costed Detail
 detail_at_cost scope u offset =
     by_stored (stored_detail_at scope u offset) (detail_at scope u offset)

@@ -4,7 +4,7 @@ use Rattle.std.specs.Prelude.{flat_map}
 use Rattle.gimli.specs.Aranges.{ArangeSet}
 use Rattle.gimli_read.specs.Costed.{◌>>=◌}
 use Rattle.gimli_read.specs.Reading as reading
-use Rattle.addr2line_units.proofs.UnitsOfHeadersLemmas.{IsRestOf, made_takes}
+use Rattle.addr2line_units.proofs.UnitsMemoryLemmas.{IsRestOf, made_takes}
 use Rattle.std.proofs.lemmas.Map.Keys.{ge_from_not_lt}
 use Rattle.std.specs.Cmp.{IsStrictWeakOrder}
 use Rattle.std.specs.Ordering.{is_lt}

@@ -9,7 +9,7 @@ pub mod LegacyPlain
 pub mod LegacyProofs
 pub mod AttributesLemmas
 pub mod IndexArangeLemmas
-pub mod UnitsOfHeadersLemmas
+pub mod UnitsMemoryLemmas
 pub mod UnitsIndexLemmas
 pub mod UnitsLinesLemmas
 pub mod UnitLinesLemmas

@@ -10,7 +10,7 @@ use Rattle.addr2line_units.specs.UnitsIndex.{UnitIndex, index_units, sup_units}
 use Rattle.addr2line_units.proofs.UnitsLinesLemmas.{own_push}
 use Rattle.addr2line_units.specs.UnitsMemory.{sup_at_cost}
 use Rattle.addr2line_units.proofs.IndexArangeLemmas.{aranges_given}
-use Rattle.addr2line_units.proofs.UnitsOfHeadersLemmas.{sup_given, then_takes, units_given}
+use Rattle.addr2line_units.proofs.UnitsMemoryLemmas.{sup_given, then_takes, units_given}
 use Rattle.addr2line_units.proofs.EntriesKnownLemmas.{nothing_known}
 use Rattle.addr2line_units.proofs.SupScopeLemmas.{fresh_caches, fresh_push, main_scope_in_order, no_answers, records_beside}
 use Rattle.addr2line_lines.proofs.Facts.{ok_is}

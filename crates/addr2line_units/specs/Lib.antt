@@ -3,7 +3,6 @@ pub mod LegacyElements
 pub mod LegacyName
 pub mod LegacyText
 pub mod LegacyLaws
-pub mod UnitsOfHeaders
 pub mod IndexAranges
 pub mod Attributes
 pub mod AttributesWanted

@@ -10,7 +10,7 @@ use Rattle.addr2line_units.specs.Common.{Error, ◌>>=◌, Section, Sections, Un
 use Rattle.gimli.specs.declared.unit.DwoId.{DwoId}
 use Rattle.gimli.specs.Split.{dwo_name_of, relocated}
 use Rattle.addr2line_lines.specs.FileTexts.{optional_string}
-use Rattle.addr2line_units.specs.UnitsOfHeaders.{first_unit_of}
+use Rattle.addr2line_lines.specs.UnitsOfHeaders.{first_unit_of}
 
 -- of each unit the first answer to its load, none before it has one: the sections of its split
 -- file, or none

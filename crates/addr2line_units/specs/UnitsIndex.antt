@@ -8,7 +8,7 @@ use Rattle.std.specs.Prelude.{List, [], map, Option, Some, None, Result, Ok}
 use Rattle.std.specs.Result.{result_ok}
 use Rattle.addr2line_units.specs.Common.{Error, ◌>>=◌, UnitHeaderFields, Sections, SupSections, sup_sections, UnitRecord, unit_record_of, all_headers}
 use Rattle.addr2line_units.specs.declared.index.UnitRange.{UnitRange}
-use Rattle.addr2line_units.specs.UnitsOfHeaders.{units_of}
+use Rattle.addr2line_lines.specs.UnitsOfHeaders.{units_of}
 use Rattle.addr2line_units.specs.UnitsRanged.{IndexedUnit, indexed_of, unit_ranges_from, ranged_units}
 
 -- what a context is made of

@@ -14,7 +14,7 @@ use Rattle.addr2line_lines.specs.declared.function.RangeAttributes.{RangeAttribu
 use Rattle.addr2line_lines.specs.RangeAttributes.{attribute_ranges}
 use Rattle.addr2line_units.specs.declared.index.UnitArange.{UnitArange}
 use Rattle.addr2line_units.specs.declared.index.UnitRange.{UnitRange}
-use Rattle.addr2line_units.specs.UnitsOfHeaders.{units_of}
+use Rattle.addr2line_lines.specs.UnitsOfHeaders.{units_of}
 use Rattle.addr2line_units.specs.IndexAranges.{aranges_at, aranges_in}
 use Rattle.addr2line_units.specs.Attributes.{unit_attributes}
 

@@ -10,7 +10,8 @@ use Rattle.gimli.specs.Sections.{Sections}
 use Rattle.gimli.specs.Unit.{UnitRecord, unit_record_of}
 use Rattle.addr2line_lines.specs.References.{AreInOrder}
 use Rattle.addr2line_lines.specs.Rows.{read_all}
-use Rattle.addr2line_lines.proofs.UnitOrder.{units_read, kept_in_order, record_header}
+use Rattle.addr2line_lines.specs.UnitsOfHeaders.{units_of}
+use Rattle.addr2line_lines.proofs.UnitOrder.{kept_in_order, record_header}
 
 abbrev pub Headers : Type 0
 Headers = List (Result UnitHeaderFields Error)
@@ -47,7 +48,7 @@ read_of d h = unit_record_of d h >>= λ u. Ok (Some u)
 
 -- the units of all headers are these and those of the headers that are left
 abbrev pub AreReadUpTo : Sections → Headers → List UnitRecord → Headers → Type 0
-AreReadUpTo d all units left = (us : List UnitRecord) → units_read (read_of d) left ≡ Ok us → units_read (read_of d) all ≡ Ok (units ++ us)
+AreReadUpTo d all units left = (us : List UnitRecord) → units_of (read_of d) left ≡ Ok us → units_of (read_of d) all ≡ Ok (units ++ us)
 
 same_headers : (xs ys : Headers) → ◌≡◌ {A = Result Headers Error} (Ok xs) (Ok ys) → xs ≡ ys
 same_headers xs ys e = cc
@@ -67,7 +68,7 @@ one_more : (u : UnitRecord) (q : Result (List (Option UnitRecord)) Error) (us : 
 one_more u (Ok xs) us e = ap (λ (vs : List UnitRecord). Ok (u ∷ vs)) (same_units (filter_map (λ x. x) xs) us e)
 one_more u (Err f) us e = absurd cc
 
-read_step : (d : Sections) (h : UnitHeaderFields) (u : UnitRecord) (rest : Headers) (us : List UnitRecord) → unit_record_of d h ≡ Ok u → units_read (read_of d) rest ≡ Ok us → units_read (read_of d) (Ok h ∷ rest) ≡ Ok (u ∷ us)
+read_step : (d : Sections) (h : UnitHeaderFields) (u : UnitRecord) (rest : Headers) (us : List UnitRecord) → unit_record_of d h ≡ Ok u → units_of (read_of d) rest ≡ Ok us → units_of (read_of d) (Ok h ∷ rest) ≡ Ok (u ∷ us)
 read_step d h u rest us k e = rw k (one_more u (read_all (map (λ x. x >>= read_of d) rest)) us e)
 
 append_assoc : (xs : List UnitRecord) (u : UnitRecord) (us : List UnitRecord) → (xs ++ u ∷ []) ++ us ≡ xs ++ u ∷ us
@@ -86,7 +87,7 @@ map_same (x ∷ xs) = ap (λ (ys : List UnitRecord). x ∷ ys) (map_same xs)
 pub read_more : (d : Sections) (all : Headers) (units : List UnitRecord) (left rest : Headers) (h : UnitHeaderFields) (u : UnitRecord)
     → next_given left ≡ given (Some h) rest → unit_record_of d h ≡ Ok u → AreReadUpTo d all units left → AreReadUpTo d all (units ++ u ∷ []) rest
 read_more d all units left rest h u n k before us e =
-    let there = subst (λ (xs : Headers). units_read (read_of d) xs ≡ Ok (u ∷ us)) (sym (first_given left h rest n)) (read_step d h u rest us k e) in
+    let there = subst (λ (xs : Headers). units_of (read_of d) xs ≡ Ok (u ∷ us)) (sym (first_given left h rest n)) (read_step d h u rest us k e) in
     before (u ∷ us) there ∙ ap (λ (vs : List UnitRecord). Ok vs) (sym (append_assoc units u us))
 
 has_header : (d : Sections) (h : UnitHeaderFields) (x : UnitRecord) → read_of d h ≡ Ok (Some x) → x.header ≡ h
@@ -102,6 +103,6 @@ has_header d h x e = at (unit_record_of d h) refl e
 -- the units of headers in order stand in order
 pub read_in_order : (d : Sections) (all : Headers) (units : List UnitRecord) (left rest : Headers) → AreHeadersInOrder all → next_given left ≡ given None rest → AreReadUpTo d all units left → AreInOrder units
 read_in_order d all units left rest b n read =
-    let ended = subst (λ (xs : Headers). units_read (read_of d) xs ≡ Ok []) (sym (none_given left rest n)) refl in
+    let ended = subst (λ (xs : Headers). units_of (read_of d) xs ≡ Ok []) (sym (none_given left rest n)) refl in
     let whole = read [] ended ∙ ap (λ (vs : List UnitRecord). Ok vs) (append_none units) in
     subst (λ (vs : List UnitRecord). AreInOrder vs) (map_same units) (kept_in_order (λ u. u) (read_of d) (has_header d) all units b whole)

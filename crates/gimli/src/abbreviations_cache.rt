@@ -7,7 +7,7 @@ ghost use Rattle.gimli.specs.Common.{ExactlyUnlessOomIf, OutOfMemory};
 ghost use Rattle.gimli_read.specs.Abbrev.{table_at};
 ghost use Rattle.gimli.specs.Text.{from_offset};
 ghost use Rattle.gimli.specs.Unit.{table_from, unit_record_of};
-ghost use Rattle.gimli.specs.UnitMemory.{unit_at_cost};
+ghost use Rattle.gimli.specs.UnitMemory.{unit_by_at_cost};
 ghost use Rattle.gimli.specs.CachedTables.{empty_cache, is_cached, StaysCached, CachesTable, as_table, room_after, cached_unit_takes_memory};
 
 use crate::dwarf::Dwarf;
@@ -72,7 +72,7 @@ fn read_unit<R: Reader>(
     table: &Result<Rc<Abbreviations>, Error>,
 ) -> Result<Unit<R>, Error>
     ensures gives { ExactlyAtCost R.shares (λ u. u) result
-        (unit_at_cost dwarf.now header (as_table (λ a. a.value) table.now)) }
+        (unit_by_at_cost dwarf.now header (as_table (λ a. a.value) table.now)) }
 {
     let abbreviations = match table {
         Ok(abbreviations) => abbreviations,

@@ -6,7 +6,7 @@ ghost use Rattle.gimli_read.specs.Costed.{ExactlyAtCost};
 ghost use Rattle.gimli.specs.Common.{Exactly, ExactlyUnlessOomFor, ExactlyUnlessOomIf, as_value};
 ghost use Rattle.gimli.specs.Split.{dwo_name_fault, dwo_name_of, relocated};
 ghost use Rattle.gimli.specs.Unit.{first_base, low_pc_of, name_and_directory_of, readable_string, dwo_id_of, unit_record_of};
-ghost use Rattle.gimli.specs.UnitMemory.{gives_bytes_if, gives_some, line_program_at_cost, program_and_low_pc_at_cost, record_at_cost, unit_takes_memory};
+ghost use Rattle.gimli.specs.UnitMemory.{gives_bytes_if, gives_some, line_program_of_at_cost, program_and_low_pc_of_at_cost, completed_record_at_cost, unit_takes_memory};
 
 use crate::constants::{
     RNGLISTS_HEADER_32, RNGLISTS_HEADER_64, STR_OFFSETS_HEADER_32, STR_OFFSETS_HEADER_64,
@@ -121,7 +121,7 @@ fn read_program_at<R: Reader>(
     offset: u64,
 ) -> Result<Option<Box<IncompleteLineProgram<R>>>, Error>
     ensures gives { ExactlyAtCost R.shares (option_map box_value) result
-        (line_program_at_cost dwarf.now encoding (Some offset)) }
+        (line_program_of_at_cost dwarf.now encoding (Some offset)) }
 {
     let rest = read_from(&dwarf.debug_line.section, offset)?;
     let program = read_line_program(alloc, rest, encoding.address_size)?;
@@ -137,7 +137,7 @@ fn read_program<R: Reader>(
     stmt_list: Option<u64>,
 ) -> Result<Option<Box<IncompleteLineProgram<R>>>, Error>
     ensures gives { ExactlyAtCost R.shares (option_map box_value) result
-        (line_program_at_cost dwarf.now encoding stmt_list) }
+        (line_program_of_at_cost dwarf.now encoding stmt_list) }
 {
     match stmt_list {
         Some(offset) => read_program_at(alloc, dwarf, encoding, offset),
@@ -188,7 +188,7 @@ fn read_program_and_low_pc<R: Reader>(
     root: &RootAttributes<R>,
 ) -> Result<(Option<Box<IncompleteLineProgram<R>>>, u64), Error>
     ensures gives { ExactlyAtCost R.shares (λ x. (option_map box_value x.0, x.1)) result
-        (program_and_low_pc_at_cost dwarf.now encoding addr_base root.now) }
+        (program_and_low_pc_of_at_cost dwarf.now encoding addr_base root.now) }
 {
     let line_program = read_program(alloc, dwarf, encoding, root.stmt_list)?;
     let low_pc = read_low_pc(dwarf, encoding, addr_base, root.low_pc)?;
@@ -217,7 +217,7 @@ fn read_name_and_directory<R: Reader>(
 /// Refused by its line program's header, then by the index of its low_pc. `OutOfMemory` only where
 /// the record has no fault, or the program's offset is in its section and readers share their
 /// bytes, the header's tables have something to store, or the header has no fault.
-#[tactic(auto, unfolding(crate::specs::Unit::completed_record, crate::specs::UnitMemory::stored_record_of))]
+#[tactic(auto, unfolding(crate::specs::Unit::completed_record, crate::specs::UnitMemory::stored_completed_record))]
 pub(crate) fn complete<R: Reader>(
     alloc: Global,
     dwarf: &Dwarf<R>,
@@ -226,7 +226,7 @@ pub(crate) fn complete<R: Reader>(
     root: RootAttributes<R>,
 ) -> Result<Unit<R>, Error>
     ensures gives { ExactlyAtCost R.shares (λ u. u) result
-        (record_at_cost dwarf.now header abbreviations.now.value root) }
+        (completed_record_at_cost dwarf.now header abbreviations.now.value root) }
 {
     let encoding = header.encoding;
     let file_type = dwarf.file_type;

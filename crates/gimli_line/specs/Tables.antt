@@ -27,7 +27,7 @@ pub record Tables : Type 0 where
   pub include_directories : List (AttributeValue Section)
   pub file_names : List File
 
--- the tables of versions 2 to 4: directories up to the end, and files
+-- the tables of versions 2 to 4: directories and files, each list up to an empty text
 unfoldable pub old_tables_at : Section → Reading Tables
 old_tables_at s = do
   directories ← collected (run_of directory_at s)

@@ -3,7 +3,7 @@
 ghost use Rattle.std.specs.Prelude.{◌≡◌, ◌==◌, not, false, true, count_by, length, map, Ok};
 ghost use Rattle.gimli_line.specs.Common.{ExactlyUnlessOomIf, ReadsUnlessOomIf, Reads, ExactlyAtCost, as_value};
 ghost use Rattle.gimli_line.specs.EntryTables.{format_at, is_path, is_bad_path, is_sound_format, no_entry, with_value, values_at, formatted_entry_at};
-ghost use Rattle.gimli_line.specs.Stored.{stored_times, formats_at_cost, front_at_cost, table_at_cost};
+ghost use Rattle.gimli_line.specs.Stored.{stored_times, formats_at_cost, entry_front_at_cost, entry_table_at_cost};
 
 use crate::constants::{DW_LNCT_directory_index, DW_LNCT_path};
 use crate::header::FileEntry;
@@ -188,7 +188,7 @@ fn read_entries<R: Reader>(
 fn read_front<R: Reader>(alloc: Global, input: &mut R) -> Result<(Vec<EntryFormat>, u64), Error>
     ensures gives { ExactlyAtCost R.shares
         (λ x. (record { formats = x.0.items; count = x.1 }, R.section input.new)) result
-        (front_at_cost (R.section input.old)) }
+        (entry_front_at_cost (R.section input.old)) }
 {
     let formats = read_formats(alloc, input)?;
     let count = input.read_uleb128()?;
@@ -200,14 +200,14 @@ fn read_front<R: Reader>(alloc: Global, input: &mut R) -> Result<(Vec<EntryForma
 
 /// Reads a table of version 5: directories or files. Takes memory only where bytes are shared, or
 /// the table has a format that can be read.
-#[tactic(auto, unfolding(crate::specs::EntryTables::entry_table_at, crate::specs::Stored::stored_table_at))]
+#[tactic(auto, unfolding(crate::specs::EntryTables::entry_table_at, crate::specs::Stored::stored_entry_table_at))]
 pub(crate) fn read_table<R: Reader>(
     alloc: Global,
     encoding: Encoding,
     input: &mut R,
 ) -> Result<Vec<FileEntry<R>>, Error>
     ensures gives { ExactlyAtCost R.shares (λ v. (v.items, R.section input.new)) result
-        (table_at_cost encoding (R.section input.old)) }
+        (entry_table_at_cost encoding (R.section input.old)) }
 {
     let (formats, count) = read_front(alloc, input)?;
     read_entries(alloc, encoding, &formats, count, input)

@@ -3,7 +3,7 @@
 ghost use Rattle.std.specs.Prelude.{◌≡◌, ◌<◌, true, IfOk};
 ghost use Rattle.gimli_line.specs.Common.{Exactly, ExactlyUnlessOomIf, Reads, fault_of, is_address_size, ExactlyAtCost};
 ghost use Rattle.gimli_line.specs.Program.{program_address_size_at, nonzero_at, operations_at, numbers_at, unit_fields_at, line_header_fields_at};
-ghost use Rattle.gimli_line.specs.Stored.{program_at_cost};
+ghost use Rattle.gimli_line.specs.Stored.{line_program_at_cost};
 
 use crate::encoding::LineEncoding;
 use crate::header::LineProgramHeader;
@@ -177,14 +177,14 @@ fn check_header_fields(unit_size: u8, bytes: &[u8], endian: RunTimeEndian) -> Re
 /// and for a faulty format of a table, and `UnknownForm`. May fail with `OutOfMemory` instead where
 /// all fields before the tables are sound, and bytes are shared or a directory, a file or a format
 /// of the tables can be read. Source: DWARF 5, section 6.2.4.
-#[tactic(auto, unfolding(crate::specs::Program::line_program_at, crate::specs::Stored::stored_program_at))]
+#[tactic(auto, unfolding(crate::specs::Program::line_program_at, crate::specs::Stored::stored_line_program_at))]
 pub fn read_line_program<R: Reader>(
     alloc: Global,
     input: R,
     address_size: u8,
 ) -> Result<IncompleteLineProgram<R>, Error>
     ensures gives { ExactlyAtCost R.shares (λ p. p) result
-        (program_at_cost address_size (R.section input)) }
+        (line_program_at_cost address_size (R.section input)) }
 {
     // A part of shared bytes takes memory, so the fields are looked at in borrowed bytes first.
     check_header_fields(address_size, input.to_slice(), input.endian())?;

@@ -1,5 +1,5 @@
--- What is given, and whether memory may be taken on the way to it, as one value: the steps stand
--- once, and both are read off.
+-- What is given, and whether memory may be taken on the way to it, as one value, and clauses that
+-- read both off.
 -- Own: of the steps of a `do` each takes its memory only where those before it have no fault.
 use Rattle.std.specs.Prelude.{◌&&◌, ◌||◌, Bool, false, is_ok, Result, Ok, Err}
 use Rattle.gimli_read.specs.declared.error.Error.{Error}

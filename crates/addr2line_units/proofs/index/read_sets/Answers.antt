@@ -1,6 +1,6 @@
 use Rattle.addr2line_units.proofs.Common.{err_from_is_err_and}
 use Rattle.addr2line_units.proofs.IndexArangeLemmas.{set_step, set_takes}
-use Rattle.addr2line_units.proofs.UnitsOfHeadersLemmas.{rest_of_rest}
+use Rattle.addr2line_units.proofs.UnitsMemoryLemmas.{rest_of_rest}
 use Rattle.addr2line_units.proofs.UnitsIndexLemmas.{given_some}
 use Rattle.addr2line_units.proofs.index.read_sets.Goals as goal
 

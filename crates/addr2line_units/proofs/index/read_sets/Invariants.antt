@@ -1,6 +1,6 @@
 use Rattle.addr2line_units.proofs.Common.{◌++◌, Ok, free, length, arange_sets_of, aranges_at_cost}
 use Rattle.gimli_read.specs.Costed.{◌>>=◌}
-use Rattle.addr2line_units.proofs.UnitsOfHeadersLemmas.{IsRestOf}
+use Rattle.addr2line_units.proofs.UnitsMemoryLemmas.{IsRestOf}
 use Rattle.addr2line_units.proofs.index.read_sets.Given as goal
 
 abbrev pub invariant-loop-aranges : goal.invariant-loop-aranges

@@ -2,7 +2,7 @@ use Rattle.addr2line_units.proofs.Common.{Ok, ap, rules, sym, ◌++◌, ◌∙�
 use Rattle.std.proofs.lemmas.List.{append_assoc}
 use Rattle.gimli_read.specs.Costed.{◌>>=◌}
 use Rattle.addr2line_units.specs.UnitsMemory.{sup_unit_at_cost}
-use Rattle.addr2line_units.proofs.UnitsOfHeadersLemmas.{fault_of_rest, put_to_nothing, rest_of_rest, shared_take, unit_fault, unit_step}
+use Rattle.addr2line_units.proofs.UnitsMemoryLemmas.{fault_of_rest, put_to_nothing, rest_of_rest, shared_take, unit_fault, unit_step}
 use Rattle.addr2line_units.proofs.UnitsIndexLemmas.{given_fault, given_some, shorter}
 use Rattle.addr2line_units.proofs.sup.read_sup_units.Goals as goal
 

@@ -1,7 +1,7 @@
 use Rattle.addr2line_units.proofs.Common.{◌≡◌, ◌++◌, Ok, length, free, all_headers, units_at_cost}
 use Rattle.gimli_read.specs.Costed.{◌>>=◌}
 use Rattle.addr2line_units.specs.UnitsMemory.{sup_unit_at_cost}
-use Rattle.addr2line_units.proofs.UnitsOfHeadersLemmas.{IsRestOf}
+use Rattle.addr2line_units.proofs.UnitsMemoryLemmas.{IsRestOf}
 use Rattle.addr2line_units.proofs.sup.read_sup_units.Given as goal
 
 abbrev pub invariant-loop-units : goal.invariant-loop-units

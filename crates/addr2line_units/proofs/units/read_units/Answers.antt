@@ -1,7 +1,7 @@
 use Rattle.addr2line_units.proofs.Common.{Ok, Err, OutOfMemory, ◌≢◌, true, ap, refl, rules, subst, sym, ◌∙◌, ◌≡◌, err_from_is_err_and, free, all_headers, units_at_cost, unit_at_cost, or_left, put_to}
 use Rattle.gimli_read.specs.Costed.{◌>>=◌}
 use Rattle.addr2line_units.specs.UnitsIndexed.{IndexState, appended, indexed_with}
-use Rattle.addr2line_units.proofs.UnitsOfHeadersLemmas.{IsRestOf, fault_of_rest, rest_of_rest, shared_take, unit_fault, unit_step}
+use Rattle.addr2line_units.proofs.UnitsMemoryLemmas.{IsRestOf, fault_of_rest, rest_of_rest, shared_take, unit_fault, unit_step}
 use Rattle.addr2line_units.proofs.UnitsIndexLemmas.{appended_more, appended_none, given_fault, given_none, given_some, header_sections, shorter}
 use Rattle.addr2line_units.proofs.units.read_units.Goals as goal
 

@@ -1,7 +1,7 @@
 use Rattle.addr2line_units.proofs.Common.{◌≡◌, Ok, length, free, units_at_cost, unit_at_cost}
 use Rattle.gimli_read.specs.Costed.{◌>>=◌}
 use Rattle.addr2line_units.specs.UnitsIndexed.{appended, indexed_with}
-use Rattle.addr2line_units.proofs.UnitsOfHeadersLemmas.{IsRestOf}
+use Rattle.addr2line_units.proofs.UnitsMemoryLemmas.{IsRestOf}
 use Rattle.addr2line_units.proofs.units.read_units.Given as goal
 
 abbrev pub invariant-loop-index : goal.invariant-loop-index

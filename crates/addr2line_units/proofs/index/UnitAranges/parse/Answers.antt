@@ -1,5 +1,5 @@
 use Rattle.addr2line_units.proofs.Common.{◌≡◌, false, refl, true, err_from_is_err_and}
-use Rattle.addr2line_units.proofs.UnitsOfHeadersLemmas.{then_takes}
+use Rattle.addr2line_units.proofs.UnitsMemoryLemmas.{then_takes}
 use Rattle.addr2line_units.proofs.Facts.{some_there}
 use Rattle.addr2line_units.proofs.index.UnitAranges.parse.Goals as goal
 

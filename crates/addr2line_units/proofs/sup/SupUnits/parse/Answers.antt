@@ -1,6 +1,6 @@
 use Rattle.addr2line_units.proofs.Common.{Err, Ok, Result, Some, ap, option_map, sym, ◌∙◌, ◌≡◌, err_from_is_err_and, Error, Sections, all_headers, units_at_cost, sup_sections}
 use Rattle.addr2line_units.specs.UnitsMemory.{sup_at_cost, sup_unit_at_cost}
-use Rattle.addr2line_units.proofs.UnitsOfHeadersLemmas.{shared_take}
+use Rattle.addr2line_units.proofs.UnitsMemoryLemmas.{shared_take}
 use Rattle.addr2line_units.proofs.sup.SupUnits.parse.Goals as goal
 use Rattle.addr2line_lines.proofs.Facts.{ok_is}
 

@@ -1,7 +1,7 @@
 use Rattle.addr2line_units.proofs.Common.{◌≡◌, ◌≢◌, true, Err, ap, subst, sym, ◌∙◌, err_from_is_err_and, OutOfMemory, Sections, or_left}
 use Rattle.addr2line_units.specs.UnitsMemory.{sup_at_cost}
 use Rattle.addr2line_units.specs.UnitsIndexed.{IndexState}
-use Rattle.addr2line_units.proofs.UnitsOfHeadersLemmas.{then_takes}
+use Rattle.addr2line_units.proofs.UnitsMemoryLemmas.{then_takes}
 use Rattle.addr2line_units.proofs.UnitsNewLemmas.{are_units, index_is, index_sections, scope_in_order, sup_fault, units_fault, units_made}
 use Rattle.addr2line_units.proofs.units.Units.parse.Goals as goal
 

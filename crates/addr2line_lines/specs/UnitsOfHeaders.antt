@@ -1,7 +1,8 @@
 -- The units of headers: all of them, and the first (DWARF 5, section 7.5.1).
 -- Own: the first fault counts, of a header or of its unit, in the order of the headers.
 use Rattle.std.specs.Prelude.{List, [], ◌∷◌, filter_map, map, Option, Some, None, Result, Ok}
-use Rattle.addr2line_units.specs.Common.{Error, ◌>>=◌, UnitHeaderFields}
+use Rattle.addr2line_lines.specs.Common.{Error, ◌>>=◌}
+use Rattle.gimli.specs.Header.{UnitHeaderFields}
 use Rattle.addr2line_lines.specs.Rows.{read_all}
 
 -- the units of headers, of which some may be passed over, or the first fault

@@ -1,5 +1,5 @@
 -- Steps with the memory that they take, and the units of headers, one after another (on
--- specs/UnitsOfHeaders.antt, specs/UnitsMemory.antt and gimli_read/specs/Costed.antt).
+-- specs/UnitsMemory.antt, UnitsOfHeaders of addr2line_lines and Costed of gimli_read).
 use Rattle.addr2line_units.proofs.Common.{◌≡◌, ◌≢◌, ◌∙◌, ◌||◌, Bool, true, false, List, [], ◌∷◌, ◌++◌, Option, option_to_list, Result, Ok, Err, refl, sym, ap, subst, Error, OutOfMemory, Costed, free, takes_memory_after, UnitHeaderFields, put_to, units_at_cost, or_left, filter_map, map, None, Some, result_map, read_all, units_of, SupSections, sup_sections, all_headers}
 use Rattle.std.proofs.Math.Bool.{or-true}
 use Rattle.gimli_read.specs.Costed.{◌>>=◌}

@@ -61,7 +61,7 @@ pub use Rattle.addr2line_units.specs.Frames.{FoundFunction, FrameRecord, call_lo
 unfoldable pub use Rattle.addr2line_units.specs.Frames.{function_at}
 pub use Rattle.addr2line_units.specs.FramesLookup.{Finds, FindsNothing, LookupAsks, LookupStop, Waits, after_fault, answer_of, asked_frames, asks_lines_of, ends_lookup, frames_of_number, function_offset_of, functions_of_take_memory, holds_along, inlined_at_number, main_scope, or_stop, readable_view, stop_along, unit_found, view_of_number, with_answer, asked_of_unit, first_frame_location, found_in_unit, has_stopped, located_frames, location_found}
 pub use Rattle.addr2line_units.specs.Parses.{AreKnownToFault, AreReadBefore, AreReadyFor, IsKnownToFault, IsReadyFor, IsReadyOf, ReadsNoMemory, answers_after_parse, first_decided, parse_of_takes_memory, parse_takes_memory, read_of_functions, read_of_number, read_of_unit, read_of_units, read_of_view, unless_fault}
-pub use Rattle.addr2line_units.specs.UnitsMemory.{aranges_at_cost, has_abbreviations, put_to, unit_at_cost, units_at_cost}
+pub use Rattle.addr2line_units.specs.UnitsMemory.{aranges_in_at_cost, has_abbreviations, put_to, stored_aranges_in, stored_units_of, unit_of_header_at_cost, units_of_at_cost}
 pub use Rattle.addr2line_lines.specs.UnitsOfHeaders.{first_unit_of, units_of}
 pub use Rattle.addr2line_units.specs.EntriesKnown.{AllKnown, FunctionsKnown, HasFault, HasNoFunctions, IsRead, KnownEntries, KnownFunction, LearnsDetailsAt, LearnsNoDetails, LearnsNoFunctions, NotRead, NothingKnown, is_detail_known, is_known_at, known_function_at, knows_at, knows_detail, knows_detail_at}
 pub use Rattle.addr2line_units.specs.LegacyText.{after_first, ascii_front, elements_by, elements_within, escape_text, joint_text, numbered_char, plain_from, shown_char, without_hash, without_llvm}

@@ -1,5 +1,5 @@
 -- The ranges that `.debug_aranges` lists, in order, and set by set (on specs/IndexAranges.antt).
-use Rattle.addr2line_units.proofs.Common.{ℕ, ◌≡◌, ◌≤◌, Bool, true, false, cond, not, ◌&&◌, ◌==◌, nat_cmp, leb, ltb, zero, suc, List, [], ◌∷◌, length, take, drop, arith, ◌∙◌, ap, sym, refl, filter, AllByRecursion, IsPartitionPoint, ties, nat_tests, ranks_by, filter_agree, in_order, IsInOrder, in_order_ties, UnitArange, is_arange_of, offset_sooner, ◌++◌, Costed, Err, Error, Ok, Result, aranges_at_cost, append_assoc, free, nat_lt, or_left, or_right, set_aranges, subst, result_map, read_all, aranges_in}
+use Rattle.addr2line_units.proofs.Common.{ℕ, ◌≡◌, ◌≤◌, Bool, true, false, cond, not, ◌&&◌, ◌==◌, nat_cmp, leb, ltb, zero, suc, List, [], ◌∷◌, length, take, drop, arith, ◌∙◌, ap, sym, refl, filter, AllByRecursion, IsPartitionPoint, ties, nat_tests, ranks_by, filter_agree, in_order, IsInOrder, in_order_ties, UnitArange, is_arange_of, offset_sooner, ◌++◌, Costed, Err, Error, Ok, Result, stored_aranges_in, append_assoc, free, nat_lt, or_left, or_right, set_aranges, subst, result_map, read_all, aranges_in}
 use Rattle.std.specs.Prelude.{flat_map}
 use Rattle.gimli.specs.Aranges.{ArangeSet}
 use Rattle.gimli_read.specs.Costed.{◌>>=◌}
@@ -92,14 +92,14 @@ up_to_point offset (x ∷ xs) (suc n) le all h =
 -- the ranges of the first set that is left, and those of the sets after it
 module _ (shares : Bool) (before : List UnitArange) (left rest : List (Result ArangeSet Error)) (s : ArangeSet) (is : left ≡ Ok s ∷ rest) where
   abbrev all : List UnitArange → List (Result ArangeSet Error) → Costed (List UnitArange)
-  all items sets = aranges_at_cost sets >>= λ more. free (Ok (items ++ more))
+  all items sets = stored_aranges_in sets >>= λ more. free (Ok (items ++ more))
 
   pub set_takes : nat_lt 0 (length (set_aranges s)) ≡ true → (all before left).takes_memory shares ≡ true
   set_takes e = ap (λ sets. (all before sets).takes_memory shares) is ∙ or_left _ _ (or_left _ _ e)
 
   pub set_step : IsRestOf shares (all (before ++ set_aranges s) rest) (all before left)
   set_step = subst (λ sets. IsRestOf shares (all (before ++ set_aranges s) rest) (all before sets)) (sym is) (record {
-    gives = by (aranges_at_cost rest).given;
+    gives = by (stored_aranges_in rest).given;
     takes = λ t. or_left _ _ (or_right (nat_lt 0 (length (set_aranges s))) _ (or_left _ _ (made_takes _ _ t)));
   })
     where
@@ -108,7 +108,7 @@ module _ (shares : Bool) (before : List UnitArange) (left rest : List (Result Ar
       by (Err e) = refl
 
 -- ranges that are read set by set are those of the sets
-pub aranges_given : (sets : List (Result ArangeSet Error)) → (aranges_at_cost sets).given ≡ aranges_in sets
+pub aranges_given : (sets : List (Result ArangeSet Error)) → (stored_aranges_in sets).given ≡ aranges_in sets
 aranges_given [] = refl
 aranges_given (Err e ∷ sets) = refl
 aranges_given (Ok s ∷ sets) =

@@ -8,7 +8,7 @@ use Rattle.gimli.proofs.UnitLemmas.{read_takes_memory}
 use Rattle.addr2line_lines.specs.FileTexts.{optional_string}
 use Rattle.addr2line_units.specs.declared.unit.AnsweredLoad.{AnsweredLoad}
 use Rattle.addr2line_units.specs.declared.unit.ViewState.TheVariants as states
-use Rattle.addr2line_units.specs.LoadsMemory.{first_at_cost, first_unit_takes_memory, unit_read}
+use Rattle.addr2line_units.specs.LoadsMemory.{stored_first_unit_of, first_unit_takes_memory, unit_read}
 use Rattle.addr2line_units.specs.UnitAfter.{AfterViewCheck}
 use Rattle.addr2line_units.specs.UnitViewCached.{verdict_or}
 
@@ -111,7 +111,7 @@ view_by_split_unit d main (Some split) = first_by d main split (first_unit split
 -- the first unit of sections
 module _ (shares : Bool) (d : Sections) where
   abbrev takes : List (Result UnitHeaderFields Error) → Bool
-  takes headers = (first_at_cost (unit_read d) headers).takes_memory shares
+  takes headers = (stored_first_unit_of (unit_read d) headers).takes_memory shares
 
   abbrev given : List (Result UnitHeaderFields Error) → Result (Option UnitRecord) Error
   given headers = first_unit_of (unit_record_of d) headers

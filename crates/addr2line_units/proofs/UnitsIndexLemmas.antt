@@ -1,6 +1,6 @@
 -- The units of a context as they are read (on specs/UnitsRanged.antt and specs/UnitsIndex.antt and
 -- specs/UnitsIndexed.antt).
-use Rattle.addr2line_units.proofs.Common.{◌≡◌, ◌≢◌, ◌+◌, ℕ, suc, Bool, true, false, is_ok, if◌then◌else◌, ◌<◌, subst, arith, List, [], ◌∷◌, ◌++◌, length, map, drop, Option, Some, None, Result, Ok, Err, refl, sym, ap, ◌∙◌, nat_lt, length-map, map-append, option_to_list, put_to, Error, OffsetOutOfBounds, OutOfMemory, Section, after, Costed, ExactlyUnlessOom, or_left, UnitHeaderFields, Sections, UnitRecord, unit_by, unit_record_of, UnitArange, UnitRange, IndexedUnit, indexed_of, RangedUnit, has_lines, is_type_unit, range_of_unit, ranged_unit, unit_ranges_from, unit_of_header, unit_ranges, unless_faulty, has_abbreviations, unit_at_cost, free}
+use Rattle.addr2line_units.proofs.Common.{◌≡◌, ◌≢◌, ◌+◌, ℕ, suc, Bool, true, false, is_ok, if◌then◌else◌, ◌<◌, subst, arith, List, [], ◌∷◌, ◌++◌, length, map, drop, Option, Some, None, Result, Ok, Err, refl, sym, ap, ◌∙◌, nat_lt, length-map, map-append, option_to_list, put_to, Error, OffsetOutOfBounds, OutOfMemory, Section, after, Costed, ExactlyUnlessOom, or_left, UnitHeaderFields, Sections, UnitRecord, unit_by, unit_record_of, UnitArange, UnitRange, IndexedUnit, indexed_of, RangedUnit, has_lines, is_type_unit, range_of_unit, ranged_unit, unit_ranges_from, unit_of_header, unit_ranges, unless_faulty, has_abbreviations, unit_of_header_at_cost, free}
 use Rattle.std.proofs.lemmas.Bool.{true_from_ne_false}
 use Rattle.std.specs.Result.{result_ok}
 use Rattle.std.proofs.lemmas.List.{append-nil, append_assoc, length-append}
@@ -12,7 +12,7 @@ use Rattle.gimli.specs.CachedTables.{CachedTables, cached_unit_takes_memory, is_
 use Rattle.gimli.specs.Text.{from_offset}
 use Rattle.gimli.specs.UnitMemory.{stored_unit_by}
 use Rattle.addr2line_units.specs.UnitsIndexed.{IndexState, appended, with_header}
-use Rattle.addr2line_units.specs.UnitsMemory.{stored_unit_of}
+use Rattle.addr2line_units.specs.UnitsMemory.{stored_unit_of_header}
 
 -- what was left, by what a call gave of it
 module _ {X : Type 0} where
@@ -128,12 +128,12 @@ module _ (d : Sections) (h : UnitHeaderFields) where
   pub where_found : (u : UnitRecord) → ◌≡◌ {A = Result (Option UnitRecord) Error} (Ok (result_ok (unit_record_of d h))) (Ok (Some u)) → has_abbreviations d h ≡ true
   where_found u e = unless_outside (λ outside. let other : ◌≡◌ {A = Result (Option UnitRecord) Error} (Ok None) (Ok (Some u)) = sym (ap (λ r. Ok (result_ok r)) (no_record d h outside)) ∙ e in cc)
 
-  pub takes_unit : (shares : Bool) (aranges : List UnitArange) → is_type_unit h.unit_type ≡ false → has_abbreviations d h ≡ true → (unit_at_cost d aranges h).takes_memory shares ≡ true
-  unfolding stored_unit_of
+  pub takes_unit : (shares : Bool) (aranges : List UnitArange) → is_type_unit h.unit_type ≡ false → has_abbreviations d h ≡ true → (unit_of_header_at_cost d aranges h).takes_memory shares ≡ true
+  unfolding stored_unit_of_header
   takes_unit shares aranges e k = ap (λ b. (if b then free (Ok tt) else room_if (has_abbreviations d h)).takes_memory shares) e ∙ k
 
-  pub where_kept : (shares : Bool) (aranges : List UnitArange) (u : RangedUnit) → unit_of_header d aranges h ≡ Ok (Some u) → (unit_at_cost d aranges h).takes_memory shares ≡ true
-  unfolding unit_of_header stored_unit_of
+  pub where_kept : (shares : Bool) (aranges : List UnitArange) (u : RangedUnit) → unit_of_header d aranges h ≡ Ok (Some u) → (unit_of_header_at_cost d aranges h).takes_memory shares ≡ true
+  unfolding unit_of_header stored_unit_of_header
   where_kept shares aranges u e = of_bool (is_type_unit h.unit_type) e
     where
       read : Bool → Result (Option RangedUnit) Error

@@ -1,6 +1,5 @@
 -- The units of a context as they are read (on specs/UnitsState.antt and specs/UnitsStored.antt).
-use Rattle.addr2line_units.proofs.Common.{◌≡◌, ◌++◌, Bool, true, length, nat_lt, or_left, List, [], ◌∷◌, map, Option, Some, None, option_map, Result, Ok, Err, refl, sym, ap, subst, ◌∙◌, Error, ◌>>=◌, Sections, SupSections, UnitRecord, all_headers, FileRecord, IsScope, Scope, UnitArange, UnitRange, CachedUnit, indexed_units, AreLinesOf, HaveNewCaches, answers_in, FindsNothing, main_scope, units_at_cost, known_in, KnownEntries, NothingKnown, IndexedUnit, RangedUnit, indexed_of, ranged_units, unit_at_cost, unit_ranges_from, unit_records, AreUnits, as_units_state, arange_sets_of, UnitsState, first_state, new_units, FirstAnswers, sup_sections, units_of, aranges_in, ◌≢◌, OutOfMemory}
-use Rattle.addr2line_units.specs.UnitsRanged.{unit_of_header}
+use Rattle.addr2line_units.proofs.Common.{◌≡◌, ◌++◌, Bool, true, length, nat_lt, or_left, List, [], ◌∷◌, map, Option, Some, None, option_map, Result, Ok, Err, refl, sym, ap, subst, ◌∙◌, Error, ◌>>=◌, Sections, SupSections, UnitRecord, all_headers, FileRecord, IsScope, Scope, UnitArange, UnitRange, CachedUnit, indexed_units, AreLinesOf, HaveNewCaches, answers_in, FindsNothing, main_scope, units_of, known_in, KnownEntries, NothingKnown, IndexedUnit, RangedUnit, indexed_of, ranged_units, unit_of_header, unit_ranges_from, unit_records, AreUnits, as_units_state, arange_sets_of, aranges_in, UnitsState, first_state, new_units, FirstAnswers, sup_sections, ◌≢◌, OutOfMemory}
 use Rattle.addr2line_units.specs.declared.frames.FramesStop.TheVariants as stops
 use Rattle.addr2line_units.specs.declared.sup.SupUnits.{SupUnits}
 use Rattle.addr2line_units.specs.UnitsCached.{IsFresh}
@@ -8,9 +7,7 @@ use Rattle.addr2line_units.specs.UnitsIndexed.{IndexState, aranges_read, index_o
 use Rattle.addr2line_units.specs.SupScope.{scope_in}
 use Rattle.addr2line_units.specs.UnitsIndex.{UnitIndex, index_units, sup_units}
 use Rattle.addr2line_units.proofs.UnitsLinesLemmas.{own_push}
-use Rattle.addr2line_units.specs.UnitsMemory.{sup_at_cost}
-use Rattle.addr2line_units.proofs.IndexArangeLemmas.{aranges_given}
-use Rattle.addr2line_units.proofs.UnitsMemoryLemmas.{sup_given, then_takes, units_given}
+use Rattle.addr2line_units.proofs.UnitsMemoryLemmas.{then_takes}
 use Rattle.addr2line_units.proofs.EntriesKnownLemmas.{nothing_known}
 use Rattle.addr2line_units.proofs.SupScopeLemmas.{fresh_caches, fresh_push, main_scope_in_order, no_answers, records_beside}
 use Rattle.addr2line_lines.proofs.Facts.{ok_is}
@@ -37,19 +34,22 @@ one_more d us cs u c before lines fresh = record { lines = own_push d us cs u c 
 
 -- the units with their ranges, as the private functions read them
 pub index_is : (d : Sections) → (index_read d).given ≡ (ranged_units d >>= λ units. Ok (index_of d units))
-index_is d = ap (λ r. (r >>= λ xs. Ok xs) >>= λ xs. (indexed_with d xs).given >>= λ index. Ok index) (aranges_given (arange_sets_of d.debug_aranges)) ∙ of_aranges (aranges_in (arange_sets_of d.debug_aranges))
+index_is d = of_aranges (aranges_in (arange_sets_of d.debug_aranges))
   where
-    of_units : (r q : Result (List RangedUnit) Error) → r ≡ q → ((r >>= λ us. Ok (index_of d us)) >>= λ index. Ok index) ≡ (q >>= λ us. Ok (index_of d us))
-    of_units (Ok us) q e = ap (λ (x : Result (List RangedUnit) Error). x >>= λ us. Ok (index_of d us)) e
-    of_units (Err f) q e = ap (λ (x : Result (List RangedUnit) Error). x >>= λ us. Ok (index_of d us)) e
+    units : List UnitArange → Result (List RangedUnit) Error
+    units aranges = units_of (unit_of_header d aranges) (all_headers d.debug_info)
 
-    of_aranges : (r : Result (List UnitArange) Error) → ((r >>= λ xs. Ok xs) >>= λ xs. (indexed_with d xs).given >>= λ index. Ok index) ≡ ((r >>= λ aranges. units_of (unit_of_header d aranges) (all_headers d.debug_info)) >>= λ us. Ok (index_of d us))
-    of_aranges (Ok aranges) = of_units (units_at_cost (unit_at_cost d aranges) (all_headers d.debug_info)).given (units_of (unit_of_header d aranges) (all_headers d.debug_info)) (units_given (unit_at_cost d aranges) (all_headers d.debug_info))
+    of_units : (r : Result (List RangedUnit) Error) → ((r >>= λ us. Ok (index_of d us)) >>= λ index. Ok index) ≡ (r >>= λ us. Ok (index_of d us))
+    of_units (Ok us) = refl
+    of_units (Err e) = refl
+
+    of_aranges : (r : Result (List UnitArange) Error) → ((r >>= λ xs. Ok xs) >>= λ aranges. (units aranges >>= λ us. Ok (index_of d us)) >>= λ index. Ok index) ≡ ((r >>= λ aranges. units aranges) >>= λ us. Ok (index_of d us))
+    of_aranges (Ok aranges) = of_units (units aranges)
     of_aranges (Err e) = refl
 
 -- they are of these sections
 pub indexed_sections : (d : Sections) (aranges : List UnitArange) (m : IndexState) → (indexed_with d aranges).given ≡ Ok m → m.sections ≡ d
-indexed_sections d aranges m e = by (units_at_cost (unit_at_cost d aranges) (all_headers d.debug_info)).given e
+indexed_sections d aranges m e = by (units_of (unit_of_header d aranges) (all_headers d.debug_info)) e
   where
     by : (r : Result (List RangedUnit) Error) → (r >>= λ units. Ok (index_of d units)) ≡ Ok m → m.sections ≡ d
     by (Ok units) h = ap (λ (x : IndexState). x.sections) (sym (ok_is (index_of d units) m h))
@@ -98,7 +98,7 @@ index_fault shares first aranges e of read is refused may =
 
 -- units that are made of the index of sections and of the units of the supplementary file
 module _ {R : Type 0} (first d : Sections) (us : List UnitRecord) (cs : List (CachedUnit R)) (ranges : List UnitRange) (sup : SupUnits R) {m : IndexState} {seen : Sections} (given : (index_read first).given ≡ Ok m) (is : index_state d us cs ranges ≡ m)
-    (same : seen ≡ d) (sup_read : (sup_at_cost seen.sup).given ≡ Ok sup.units.items) (sup_dwarf : sup.dwarf ≡ option_map sup_sections seen.sup) (new : HaveNewCaches d us cs) where
+    (same : seen ≡ d) (sup_given : sup_units seen.sup ≡ Ok sup.units.items) (sup_dwarf : sup.dwarf ≡ option_map sup_sections seen.sup) (new : HaveNewCaches d us cs) where
   of : d ≡ first
   of = ap (λ (x : IndexState). x.sections) is ∙ index_sections first m given
 
@@ -106,7 +106,7 @@ module _ {R : Type 0} (first d : Sections) (us : List UnitRecord) (cs : List (Ca
   e = sym (index_is d) ∙ subst (λ x. (index_read x).given ≡ Ok m) (sym of) given ∙ ap (λ x. Ok x) (sym is)
 
   f : sup_units d.sup ≡ Ok sup.units.items
-  f = subst (λ (x : Sections). sup_units x.sup ≡ Ok sup.units.items) same (sym (sup_given seen.sup) ∙ sup_read)
+  f = subst (λ (x : Sections). sup_units x.sup ≡ Ok sup.units.items) same sup_given
 
   sup_is : sup.dwarf ≡ option_map sup_sections d.sup
   sup_is = subst (λ (x : Sections). sup.dwarf ≡ option_map sup_sections x.sup) same sup_dwarf
@@ -191,14 +191,14 @@ module _ {R : Type 0} (first d : Sections) (us : List UnitRecord) (cs : List (Ca
       of_units (Err x) h = absurd cc
 
 -- a fault of the supplementary file refuses the units
-pub sup_fault : (d : Sections) (i : IndexState) (f : Error) → (ranged_units d >>= λ units. Ok (index_of d units)) ≡ Ok i → (sup_at_cost d.sup).given ≡ Err f → new_units d ≡ Err f
+pub sup_fault : (d : Sections) (i : IndexState) (f : Error) → (ranged_units d >>= λ units. Ok (index_of d units)) ≡ Ok i → sup_units d.sup ≡ Err f → new_units d ≡ Err f
 sup_fault d i f e h = of_units (ranged_units d) e
   where
     state : List RangedUnit → List UnitRecord → Result (UnitsState × List UnitRange) Error
     state units s = Ok (first_state d units s, unit_ranges_from d 0 units)
 
     of_units : (r : Result (List RangedUnit) Error) → (r >>= λ units. Ok (index_of d units)) ≡ Ok i → (r >>= λ units. sup_units d.sup >>= λ s. state units s) ≡ Err f
-    of_units (Ok units) k = ap (λ (r : Result (List UnitRecord) Error). r >>= λ s. state units s) (sym (sup_given d.sup) ∙ h)
+    of_units (Ok units) k = ap (λ (r : Result (List UnitRecord) Error). r >>= λ s. state units s) h
     of_units (Err x) k = absurd cc
 
 -- a fault of a unit does

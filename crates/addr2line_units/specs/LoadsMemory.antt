@@ -11,18 +11,18 @@ unit_read d header = record {
   takes_memory = λ shares. unit_takes_memory shares d header;
 }
 
--- the first unit of headers
-abbrev pub first_at_cost : {U : Type 0} → (UnitHeaderFields → Costed U)
+-- what is stored on the way to the first unit of headers
+abbrev pub stored_first_unit_of : {U : Type 0} → (UnitHeaderFields → Costed U)
     → List (Result UnitHeaderFields Error) → Costed (Option U)
-first_at_cost read [] = parts_on_the_way (Ok None)
-first_at_cost read (header ∷ headers) =
+stored_first_unit_of read [] = parts_on_the_way (Ok None)
+stored_first_unit_of read (header ∷ headers) =
     parts_on_the_way header >>= read >>= λ unit. free (Ok (Some unit))
 
 -- whether memory may be taken for the first unit of sections: where readers share their bytes, or
 -- for the unit of the first header, where that can be read
 abbrev pub first_unit_takes_memory : Bool → Sections → Bool
 first_unit_takes_memory shares d =
-    (first_at_cost (unit_read d) (all_headers d.debug_info)).takes_memory shares
+    (stored_first_unit_of (unit_read d) (all_headers d.debug_info)).takes_memory shares
 
 -- whether memory may be taken for an answer: for the first unit of its sections, which is stored,
 -- or to look for one where readers share their bytes

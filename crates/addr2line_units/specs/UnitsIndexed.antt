@@ -8,7 +8,7 @@ use Rattle.addr2line_units.specs.declared.index.UnitRange.{UnitRange}
 use Rattle.addr2line_units.specs.EntriesOwn.{CachedUnit}
 use Rattle.addr2line_units.specs.UnitLinesCached.{indexed_units, parsed_units}
 use Rattle.addr2line_units.specs.UnitsRanged.{IndexedUnit, indexed_of, RangedUnit, has_lines, unit_ranges_from}
-use Rattle.addr2line_units.specs.UnitsMemory.{aranges_at_cost, put_to, sup_at_cost, unit_at_cost, units_at_cost}
+use Rattle.addr2line_units.specs.UnitsMemory.{aranges_in_at_cost, put_to, sup_units_at_cost, unit_of_header_at_cost, units_of_at_cost}
 
 -- sections, their units, the ranges that lead to these, and of which units the lines are parsed
 pub record IndexState : Type 0 where
@@ -36,11 +36,11 @@ sorted xs = record { given = Ok xs; takes_memory = λ shares. nat_lt 0 (length x
 
 -- the ranges that a section lists for units, as they are read
 abbrev pub aranges_read : Section → Costed (List UnitArange)
-aranges_read s = aranges_at_cost (arange_sets_of s) >>= sorted
+aranges_read s = aranges_in_at_cost (arange_sets_of s) >>= sorted
 
 -- the units of the sections with the ranges that .debug_aranges lists, or the first fault
 abbrev pub indexed_with : Sections → List UnitArange → Costed IndexState
-indexed_with d aranges = units_at_cost (unit_at_cost d aranges) (all_headers d.debug_info)
+indexed_with d aranges = units_of_at_cost (unit_of_header_at_cost d aranges) (all_headers d.debug_info)
     >>= λ units. free (Ok (index_of d units))
 
 -- the units of the sections, or the first fault
@@ -61,7 +61,7 @@ appended m units = record m {
 
 -- what was read, and the unit of one more header behind it, unless that is passed over
 abbrev pub with_header : List UnitArange → IndexState → UnitHeaderFields → Costed IndexState
-with_header aranges m h = put_to appended m (unit_at_cost m.sections aranges h)
+with_header aranges m h = put_to appended m (unit_of_header_at_cost m.sections aranges h)
 
 -- what was read of sections, by the units, what is cached of them, and the ranges
 abbrev pub index_state : {R : Type 0} → Sections → List UnitRecord → List (CachedUnit R)
@@ -80,4 +80,4 @@ as_ranged_unit dw_unit lang listed =
 
 -- whether memory may be taken for all that a context has
 abbrev pub context_takes_memory : Bool → Sections → Bool
-context_takes_memory shares d = (index_read d >>= λ index. sup_at_cost d.sup).takes_memory shares
+context_takes_memory shares d = (index_read d >>= λ index. sup_units_at_cost d.sup).takes_memory shares

@@ -9,7 +9,7 @@ ghost use Rattle.addr2line_units.specs.UnitsIndexed.{aranges_read};
 ghost use Rattle.addr2line_lines.specs.InOrder.{in_order};
 ghost use Rattle.addr2line_lines.specs.LastAddress.{last_address};
 ghost use Rattle.addr2line_units.specs.IndexAranges.{is_arange_of, offset_sooner, set_aranges};
-ghost use Rattle.addr2line_units.specs.UnitsMemory.{aranges_at_cost};
+ghost use Rattle.addr2line_units.specs.UnitsMemory.{aranges_in_at_cost};
 ghost use Rattle.addr2line_units.specs.IndexLeastBegins.{EndFits, is_between, with_least_begins};
 ghost use Rattle.addr2line_units.specs.IndexCover.{cover, cover_range, ends_sooner};
 ghost use Rattle.addr2line_units.specs.RangeIterLeft.{ranges_left};
@@ -69,7 +69,7 @@ fn push_set(aranges: &mut Vec<UnitArange>, set: &ArangeHeader<EndianSlice<'_>>) 
 // The ranges of all sets, in their order.
 fn read_sets<R: Reader>(alloc: Global, section: &DebugAranges<R>) -> Result<Vec<UnitArange>, Error>
     ensures gives { ExactlyAtCost R.shares (λ a. a.items) result
-        (aranges_at_cost (arange_sets_of (R.section section.now.section))) }
+        (aranges_in_at_cost (arange_sets_of (R.section section.now.section))) }
 {
     let mut aranges = Vec::new(alloc);
     let mut sets = section.headers();

@@ -2,7 +2,7 @@
 
 ghost use Rattle.std.specs.Prelude.{◌≡◌, ◌++◌, [], IfErr, IfOk, None, Ok, option_map};
 ghost use Rattle.addr2line_units.specs.Common.{OutOfMemory, ExactlyAtCost, ExactlyUnlessOomIf, all_headers, sup_sections};
-ghost use Rattle.addr2line_units.specs.UnitsMemory.{put_to, sup_at_cost, sup_unit_at_cost, units_at_cost};
+ghost use Rattle.addr2line_units.specs.UnitsMemory.{put_to, sup_units_at_cost, sup_unit_of_header_at_cost, units_of_at_cost};
 
 use gimli::read::{Error, Reader};
 use gimli::{
@@ -49,7 +49,7 @@ fn read_sup_unit<R: Reader>(
     header: UnitHeader<R>,
 ) -> Result<Option<Unit<R>>, Error>
     ensures gives { ExactlyAtCost R.shares (λ u. u) result
-        (sup_unit_at_cost abbreviations.old.dwarf header) }
+        (sup_unit_of_header_at_cost abbreviations.old.dwarf header) }
     ensures refused { IfErr result (λ e. e ≡ OutOfMemory) }
     ensures dwarf { abbreviations.new.dwarf ≡ abbreviations.old.dwarf }
 {
@@ -68,7 +68,7 @@ fn push_sup_unit<R: Reader>(
     units: &mut Vec<Unit<R>>,
 ) -> Result<(), Error>
     ensures gives { ExactlyAtCost R.shares (λ _. units.new.items) result
-        (put_to (◌++◌) units.old.items (sup_unit_at_cost abbreviations.old.dwarf header)) }
+        (put_to (◌++◌) units.old.items (sup_unit_of_header_at_cost abbreviations.old.dwarf header)) }
     ensures dwarf { abbreviations.new.dwarf ≡ abbreviations.old.dwarf }
     ensures refused { IfErr result (λ e. e ≡ OutOfMemory) }
 {
@@ -81,7 +81,7 @@ fn push_sup_unit<R: Reader>(
 // The units of a supplementary file whose record can be read.
 fn read_sup_units<R: Reader>(alloc: Global, dwarf: &Dwarf<R>) -> Result<Vec<Unit<R>>, Error>
     ensures gives { ExactlyAtCost R.shares (λ v. v.items) result
-        (units_at_cost (sup_unit_at_cost dwarf.now) (all_headers dwarf.now.debug_info)) }
+        (units_of_at_cost (sup_unit_of_header_at_cost dwarf.now) (all_headers dwarf.now.debug_info)) }
 {
     let mut headers = dwarf.units()?;
     let mut abbreviations = AbbreviationsCache::new(alloc, dwarf);
@@ -111,7 +111,7 @@ impl<R: Reader> SupUnits<R> {
     /// no memory where there is no supplementary file. Source: DWARF 5, sections 3.1 and 7.3.6.
     pub fn parse(alloc: Global, dwarf: &Dwarf<R>) -> Result<SupUnits<R>, Error>
         ensures gives { ExactlyAtCost R.shares (λ s. s.units.items) result
-            (sup_at_cost dwarf.now.sup) }
+            (sup_units_at_cost dwarf.now.sup) }
         ensures dwarf { IfOk result (λ s. s.dwarf ≡ option_map sup_sections dwarf.now.sup) }
     {
         let Some(sup) = &dwarf.sup else {

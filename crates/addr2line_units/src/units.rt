@@ -4,7 +4,7 @@ ghost use Rattle.std.specs.Prelude.{◌≡◌, ◌++◌, [], ◌∷◌, IfErr, I
 ghost use Rattle.addr2line_units.specs.Common.{OutOfMemory, ExactlyAtCost, ExactlyUnlessOom, ExactlyUnlessOomIf, as_scope};
 ghost use Rattle.addr2line_units.specs.UnitsIndexed.{appended, context_takes_memory, index_read, indexed_with, no_index, as_ranged_unit, with_header};
 ghost use Rattle.addr2line_units.specs.UnitsRanged.{range_of_unit};
-ghost use Rattle.addr2line_units.specs.UnitsMemory.{unit_at_cost};
+ghost use Rattle.addr2line_units.specs.UnitsMemory.{unit_of_header_at_cost};
 ghost use Rattle.addr2line_units.specs.UnitsState.{new_units};
 
 use crate::entries::UnitCache;
@@ -106,7 +106,7 @@ impl<'d, R: Reader> Model for Index<'d, R> {
 }
 
 // The unit of a header, its language, and its listed ranges; none where it is passed over.
-#[tactic(auto, unfolding(crate::specs::UnitsRanged::unit_of_header, crate::specs::UnitsMemory::stored_unit_of))]
+#[tactic(auto, unfolding(crate::specs::UnitsRanged::unit_of_header, crate::specs::UnitsMemory::stored_unit_of_header))]
 fn read_unit<R: Reader>(
     alloc: Global,
     dwarf: &Dwarf<R>,
@@ -118,7 +118,7 @@ fn read_unit<R: Reader>(
     ensures dwarf { abbreviations.new.dwarf ≡ dwarf.now }
     ensures gives { ExactlyAtCost R.shares
         (option_map (λ x. as_ranged_unit x.0 x.1 x.2.items)) result
-        (unit_at_cost dwarf.now aranges.now header) }
+        (unit_of_header_at_cost dwarf.now aranges.now header) }
 {
     if is_type_unit(header.type_()) {
         return Ok(None);

@@ -1,8 +1,12 @@
-use Rattle.addr2line_units.proofs.Common.{err_from_is_err_and}
-use Rattle.addr2line_units.proofs.IndexArangeLemmas.{set_step, set_takes}
-use Rattle.addr2line_units.proofs.UnitsMemoryLemmas.{rest_of_rest}
+use Rattle.addr2line_units.proofs.Common.{arange_sets_of, err_from_is_err_and}
+use Rattle.addr2line_units.proofs.IndexArangeLemmas.{aranges_given, set_step, set_takes}
+use Rattle.addr2line_units.proofs.UnitsMemoryLemmas.{put_to_nothing, rest_of_plain, rest_of_rest}
 use Rattle.addr2line_units.proofs.UnitsIndexLemmas.{given_some}
 use Rattle.addr2line_units.proofs.index.read_sets.Goals as goal
+
+pub loop-aranges-init : goal.loop-aranges-init
+loop-aranges-init g c =
+    record { left = rw (c.headers-sets.ensures.gives, c.new-aranges.ensures.items) (rest_of_rest (put_to_nothing g.R.Reader.shares _) (rest_of_plain g.R.Reader.shares _ _ (aranges_given (arange_sets_of (g.R.Reader.section c.args.section.now.section))))) }
 
 pub loop-aranges-preserved : goal.loop-aranges-preserved
 loop-aranges-preserved g c =

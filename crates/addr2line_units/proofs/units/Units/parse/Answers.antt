@@ -1,5 +1,5 @@
 use Rattle.addr2line_units.proofs.Common.{◌≡◌, ◌≢◌, true, Err, ap, subst, sym, ◌∙◌, err_from_is_err_and, OutOfMemory, Sections, or_left}
-use Rattle.addr2line_units.specs.UnitsMemory.{sup_at_cost}
+use Rattle.addr2line_units.specs.UnitsMemory.{sup_units_at_cost}
 use Rattle.addr2line_units.specs.UnitsIndexed.{IndexState}
 use Rattle.addr2line_units.proofs.UnitsMemoryLemmas.{then_takes}
 use Rattle.addr2line_units.proofs.UnitsNewLemmas.{are_units, index_is, index_sections, scope_in_order, sup_fault, units_fault, units_made}
@@ -18,7 +18,7 @@ returns-in_err-sup g c =
     let e = c.in_err-sup.field-0.0 in
     let units = c.in_ok-indexed.ensures.gives in
     let of = ap (λ (m : IndexState). m.sections) c.indexed.view_is ∙ index_sections d _ units in
-    let sup = subst (λ (x : Sections). ((sup_at_cost x.sup).takes_memory g.R.Reader.shares ≡ true → e ≢ OutOfMemory) → (sup_at_cost x.sup).given ≡ Err e) (c.deref.ensures ∙ of) c.in_err-sup.ensures.gives in
+    let sup = subst (λ (x : Sections). ((sup_units_at_cost x.sup).takes_memory g.R.Reader.shares ≡ true → e ≢ OutOfMemory) → (sup_units_at_cost x.sup).given ≡ Err e) (c.deref.ensures ∙ of) c.in_err-sup.ensures.gives in
     record { gives = rw (p.1, p.2) (λ may. sup_fault d _ _ (sym (index_is d) ∙ units) (sup (λ takes. may (then_takes _ _ _ _ units takes)))) }
 
 pub invariant_of-sources : goal.invariant_of-sources

@@ -1,4 +1,5 @@
--- The ranges that `.debug_aranges` lists, in order, and set by set (on specs/IndexAranges.antt).
+-- The ranges that `.debug_aranges` lists, in order, and set by set (on specs/IndexAranges.antt
+-- and specs/UnitsMemory.antt).
 use Rattle.addr2line_units.proofs.Common.{ℕ, ◌≡◌, ◌≤◌, Bool, true, false, cond, not, ◌&&◌, ◌==◌, nat_cmp, leb, ltb, zero, suc, List, [], ◌∷◌, length, take, drop, arith, ◌∙◌, ap, sym, refl, filter, AllByRecursion, IsPartitionPoint, ties, nat_tests, ranks_by, filter_agree, in_order, IsInOrder, in_order_ties, UnitArange, is_arange_of, offset_sooner, ◌++◌, Costed, Err, Error, Ok, Result, stored_aranges_in, append_assoc, free, nat_lt, or_left, or_right, set_aranges, subst, result_map, read_all, aranges_in}
 use Rattle.std.specs.Prelude.{flat_map}
 use Rattle.gimli.specs.Aranges.{ArangeSet}

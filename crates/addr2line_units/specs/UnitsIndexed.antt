@@ -40,7 +40,8 @@ aranges_read s = aranges_in_at_cost (arange_sets_of s) >>= sorted
 
 -- the units of the sections with the ranges that .debug_aranges lists, or the first fault
 abbrev pub indexed_with : Sections → List UnitArange → Costed IndexState
-indexed_with d aranges = units_of_at_cost (unit_of_header_at_cost d aranges) (all_headers d.debug_info)
+indexed_with d aranges =
+    units_of_at_cost (unit_of_header_at_cost d aranges) (all_headers d.debug_info)
     >>= λ units. free (Ok (index_of d units))
 
 -- the units of the sections, or the first fault
@@ -80,4 +81,5 @@ as_ranged_unit dw_unit lang listed =
 
 -- whether memory may be taken for all that a context has
 abbrev pub context_takes_memory : Bool → Sections → Bool
-context_takes_memory shares d = (index_read d >>= λ index. sup_units_at_cost d.sup).takes_memory shares
+context_takes_memory shares d =
+    (index_read d >>= λ index. sup_units_at_cost d.sup).takes_memory shares

@@ -1,8 +1,8 @@
 -- Where memory may be taken for units by their headers, and for the ranges of .debug_aranges:
 -- `stored_x` is what is stored on the way to the reading x, and only its memory counts; with it x is
 -- `x_at_cost`.
--- Own: a unit is read whole before the next header, and takes memory where its abbreviations begin
--- in their section, but none of a type unit in the main file. Where readers share their bytes a second
+-- Own: a unit is read whole before the next header. It takes memory where its abbreviations begin in
+-- their section; a type unit of the main file takes none. Where readers share their bytes a second
 -- reader of the headers takes memory, even if there is no header. The ranges of each set are stored.
 use Rattle.std.specs.Prelude.{Bool, List, [], ◌∷◌, ◌++◌, is_ok, length, nat_lt, Option, Some, None, option_to_list, Result, Ok, if◌then◌else◌}
 use Rattle.addr2line_units.specs.Common.{Error, Costed, free, parts_on_the_way, UnitHeaderFields, Sections, SupSections, sup_sections, UnitRecord, all_headers}
@@ -15,7 +15,7 @@ use Rattle.addr2line_units.specs.IndexAranges.{aranges_in, set_aranges}
 use Rattle.addr2line_units.specs.UnitsIndex.{sup_unit_of_header, sup_units}
 use Rattle.addr2line_units.specs.UnitsRanged.{RangedUnit, is_type_unit, unit_of_header}
 
--- the ranges of sets, one set after another
+-- what is stored of the ranges of sets, one set after another
 abbrev pub stored_aranges_in : List (Result ArangeSet Error) → Costed (List UnitArange)
 stored_aranges_in [] = free (Ok [])
 stored_aranges_in (set ∷ sets) = do
@@ -32,7 +32,7 @@ aranges_in_at_cost sets = by_stored (stored_aranges_in sets) (aranges_in sets)
 abbrev pub has_abbreviations : Sections → UnitHeaderFields → Bool
 has_abbreviations d h = is_ok (from_offset h.debug_abbrev_offset d.debug_abbrev)
 
--- the unit of a header, but nothing of a type unit
+-- what is stored of the unit of a header: nothing where it is a type unit
 unfoldable pub stored_unit_of_header : Sections → UnitHeaderFields → Costed (Unit {0})
 stored_unit_of_header d h =
     if is_type_unit h.unit_type then free (Ok tt) else room_if (has_abbreviations d h)
@@ -48,7 +48,7 @@ abbrev pub sup_unit_of_header_at_cost : Sections → UnitHeaderFields → Costed
 sup_unit_of_header_at_cost d h =
     by_stored (room_if (has_abbreviations d h)) (sup_unit_of_header d h)
 
--- the units of headers, one after another
+-- what is stored of the units of headers, one after another
 abbrev pub stored_units_of : {U : Type 0} → (UnitHeaderFields → Costed (Option U))
     → List (Result UnitHeaderFields Error) → Costed (List U)
 stored_units_of read [] = parts_on_the_way (Ok [])
@@ -65,7 +65,7 @@ units_of_at_cost read headers =
 abbrev pub put_to : {S U : Type 0} → (S → List U → S) → S → Costed (Option U) → Costed S
 put_to put before read = read >>= λ unit. free (Ok (put before (option_to_list unit)))
 
--- the units of the supplementary file
+-- what is stored of the units of the supplementary file
 abbrev pub stored_sup_units : Option SupSections → Costed (List UnitRecord)
 stored_sup_units None = free (Ok [])
 stored_sup_units (Some s) =

@@ -68,7 +68,8 @@ fn push_sup_unit<R: Reader>(
     units: &mut Vec<Unit<R>>,
 ) -> Result<(), Error>
     ensures gives { ExactlyAtCost R.shares (λ _. units.new.items) result
-        (put_to (◌++◌) units.old.items (sup_unit_of_header_at_cost abbreviations.old.dwarf header)) }
+        (put_to (◌++◌) units.old.items
+        (sup_unit_of_header_at_cost abbreviations.old.dwarf header)) }
     ensures dwarf { abbreviations.new.dwarf ≡ abbreviations.old.dwarf }
     ensures refused { IfErr result (λ e. e ≡ OutOfMemory) }
 {
@@ -81,7 +82,8 @@ fn push_sup_unit<R: Reader>(
 // The units of a supplementary file whose record can be read.
 fn read_sup_units<R: Reader>(alloc: Global, dwarf: &Dwarf<R>) -> Result<Vec<Unit<R>>, Error>
     ensures gives { ExactlyAtCost R.shares (λ v. v.items) result
-        (units_of_at_cost (sup_unit_of_header_at_cost dwarf.now) (all_headers dwarf.now.debug_info)) }
+        (units_of_at_cost (sup_unit_of_header_at_cost dwarf.now)
+        (all_headers dwarf.now.debug_info)) }
 {
     let mut headers = dwarf.units()?;
     let mut abbreviations = AbbreviationsCache::new(alloc, dwarf);

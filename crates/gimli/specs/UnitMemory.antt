@@ -38,8 +38,8 @@ abbrev pub unit_takes_memory : Bool → Sections → UnitHeaderFields → Bool
 unit_takes_memory shares d header =
     abbreviations_take_memory shares (from_offset header.debug_abbrev_offset d.debug_abbrev)
 
--- the line program at the offset that stmt_list gives: the bytes from there on, the program, and a
--- box
+-- what is stored of the line program at the offset that stmt_list gives: the bytes from there on,
+-- the program, and a box
 unfoldable pub stored_line_program_of : Sections → Encoding → Option ℕ → Costed (Unit {0})
 stored_line_program_of d encoding None = free (Ok tt)
 stored_line_program_of d encoding (Some offset) =
@@ -58,8 +58,8 @@ program_and_low_pc_of_at_cost d encoding addr_base root =
     by_stored (stored_line_program_of d encoding root.stmt_list)
     (program_and_low_pc_of d encoding addr_base root)
 
--- the unit of a header, whose root entry has these values: its line program, then one more user of
--- its abbreviations, and texts in shared bytes
+-- what is stored of the unit of a header, whose root entry has these values: its line program, then
+-- one more user of its abbreviations, and texts in shared bytes
 unfoldable pub stored_completed_record : Sections → UnitHeaderFields → RootValues
     → Costed (Unit {0})
 stored_completed_record d header root =
@@ -72,7 +72,7 @@ abbrev pub completed_record_at_cost : Sections → UnitHeaderFields → List Abb
 completed_record_at_cost d header table root =
     by_stored (stored_completed_record d header root) (completed_record d header table root)
 
--- the unit of a header, whose table is read: its root entry, and the rest
+-- what is stored of the unit of a header, whose table is read: its root entry, and the rest
 unfoldable pub stored_unit_by : Sections → UnitHeaderFields → Result (List Abbrev) Error
     → Costed UnitRecord
 stored_unit_by d header read = free read >>= λ table.

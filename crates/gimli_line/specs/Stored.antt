@@ -1,6 +1,6 @@
--- Where memory may be taken for the tables of a line program's header, and for a line program:
--- `stored_x` is what is stored on the way to the reading x, and only its memory counts; with it x is
--- `x_at_cost`.
+-- Where memory may be taken for the tables of a line program's header, and for a line program. Of
+-- a table, tables or a program, `stored_x` is what is stored on the way to the reading x, and only its
+-- memory counts; with it x is `x_at_cost`.
 -- Own: a table takes memory where something of it can be read: a directory, a file, or what an
 -- entry's values are. Where readers share their bytes, so does each part that may have some.
 use Rattle.std.specs.Prelude.{ℕ, ◌==◌, ◌&&◌, ◌||◌, not, Bool, true, false, is_ok, is_some, List, length, Option, Ok, Err, if◌then◌else◌}
@@ -37,7 +37,7 @@ stored_run part s = record {
   takes_memory = λ shares. shares || gives_one (part s);
 }
 
--- formats: as many as their count says
+-- what is stored of formats: as many as their count says
 unfoldable pub stored_formats_at : Section → CostedReading (List EntryFormat)
 stored_formats_at s =
     free (fixed_at 1 s) >>= λ count. stored_times false format_at count.0 count.1
@@ -50,7 +50,7 @@ formats_at_cost s = by_stored (stored_formats_at s) (formats_at s)
 abbrev pub entry_front_at_cost : Section → CostedReading EntryFront
 entry_front_at_cost s = by_stored (stored_formats_at s) (entry_front_at s)
 
--- a table of version 5: what stands before its entries, and these
+-- what is stored of a table of version 5: what stands before its entries, and these
 unfoldable pub stored_entry_table_at : Encoding → Section → CostedReading (List File)
 stored_entry_table_at e s = entry_front_at_cost s >>= λ front.
     stored_times true (formatted_entry_at e front.0.formats) front.0.count front.1
@@ -59,7 +59,7 @@ stored_entry_table_at e s = entry_front_at_cost s >>= λ front.
 abbrev pub entry_table_at_cost : Encoding → Section → CostedReading (List File)
 entry_table_at_cost e s = by_stored (stored_entry_table_at e s) (entry_table_at e s)
 
--- the tables of versions 2 to 4: directories and files
+-- what is stored of the tables of versions 2 to 4: directories and files
 unfoldable pub stored_old_tables_at : Section → CostedReading (List File)
 stored_old_tables_at s =
     stored_run directory_at s >>= λ directories. stored_run file_at directories.1
@@ -68,7 +68,8 @@ stored_old_tables_at s =
 abbrev pub old_tables_at_cost : Section → CostedReading Tables
 old_tables_at_cost s = by_stored (stored_old_tables_at s) (old_tables_at s)
 
--- the tables of version 5: directories, files, and the paths of the directories once more
+-- what is stored of the tables of version 5: directories, files, and the paths of the directories
+-- once more
 unfoldable pub stored_new_tables_at : Encoding → Section → CostedReading (List File)
 stored_new_tables_at e s = entry_table_at_cost e s >>= λ directories.
     entry_table_at_cost e directories.1 >>= λ files.
@@ -78,7 +79,7 @@ stored_new_tables_at e s = entry_table_at_cost e s >>= λ directories.
 abbrev pub new_tables_at_cost : Encoding → Section → CostedReading Tables
 new_tables_at_cost e s = by_stored (stored_new_tables_at e s) (new_tables_at e s)
 
--- the tables of a version
+-- what is stored of the tables of a version
 unfoldable pub stored_tables_at : Encoding → Section → CostedReading (List File)
 stored_tables_at e s =
     if is_before_5 e.version then stored_old_tables_at s else stored_new_tables_at e s
@@ -87,7 +88,7 @@ stored_tables_at e s =
 abbrev pub tables_at_cost : Encoding → Section → CostedReading Tables
 tables_at_cost e s = by_stored (stored_tables_at e s) (tables_at e s)
 
--- a line program: the parts of its header that hold bytes, and its tables
+-- what is stored of a line program: the parts of its header that hold bytes, and its tables
 unfoldable pub stored_line_program_at : ℕ → Section → CostedReading Tables
 stored_line_program_at unit_size s = parts (line_header_fields_at unit_size s) >>= λ fields.
     tables_at_cost fields.encoding fields.tables
